@@ -1,0 +1,4 @@
+-- What the contracts of this crate cite.
+pub mod Span
+pub mod Charges
+pub mod Clock
