@@ -1,0 +1,62 @@
+-- What the calls of a keeper do to its table.
+use Rattle.std.specs.Prelude.{◌≡◌, ℕ, ⊤, Bool, true, false, List, Some, None, Err, Result}
+use Rattle.std.specs.declared.option.Option.{Option}
+use Rattle.std.specs.FinMap as map
+use Rattle.edge_traits.specs.Faults.{Plan}
+use Rattle.edge_traits.specs.Pairs.{Table, Pairs}
+use Rattle.edge_traits.specs.declared.keeper.Kept.{Kept}
+use Rattle.edge_traits.specs.declared.keeper.Kept.TheVariants.{Done, Failed, Memory}
+use Rattle.edge_traits.specs.declared.keeper.KeeperFail.{KeeperFail}
+use Rattle.edge_traits.specs.declared.keeper.KeeperFail.TheVariants as fail
+
+-- a table that is told becomes what the change makes of it
+abbrev pub Becomes : Option Table → Option Table → (Table → Table) → Type 0
+Becomes None new change = ⊤
+Becomes (Some old) None change = ⊥
+Becomes (Some old) (Some new) change = new ≡ change old
+
+-- a table that is told stays as it was
+abbrev pub Stays : Option Table → Option Table → Type 0
+Stays old new = Becomes old new (λ table. table)
+
+-- the record stands under its key, and all else is as before; or nothing changed
+abbrev pub HasPut : Option Table → Option Table → List ℕ → List ℕ → Kept → Type 0
+HasPut old new key bytes Done = Becomes old new (λ table. map.insert table key bytes)
+HasPut old new key bytes Failed = Stays old new
+HasPut old new key bytes Memory = Stays old new
+
+-- nothing stands under the key, and all else is as before; or nothing changed
+abbrev pub HasRemoved : Option Table → Option Table → List ℕ → Kept → Type 0
+HasRemoved old new key Done = Becomes old new (λ table. map.remove table key)
+HasRemoved old new key Failed = Stays old new
+HasRemoved old new key Memory = Stays old new
+
+-- the pairs are all of a table that is told, in ascending order of key
+abbrev pub AreAllOf : Option Table → Pairs → Type 0
+AreAllOf None pairs = ⊤
+AreAllOf (Some table) pairs = pairs ≡ map.entries table
+
+-- the fact holds where the call failed
+abbrev pub OnKeepFailed : Kept → Type 0 → Type 0
+OnKeepFailed Failed P = P
+OnKeepFailed answer P = Unit {0}
+
+-- the fact holds where the load failed
+abbrev pub OnLoadFailed : {A : Type 0} → Result A KeeperFail → Type 0 → Type 0
+OnLoadFailed (Err fail.Failed) P = P
+OnLoadFailed answer P = Unit {0}
+
+-- whether a call failed
+abbrev pub keep_failed : Kept → Bool
+keep_failed Failed = true
+keep_failed answer = false
+
+-- whether a load failed
+abbrev pub load_failed : {A : Type 0} → Result A KeeperFail → Bool
+load_failed (Err fail.Failed) = true
+load_failed answer = false
+
+-- a keeper in memory: its pairs in ascending order of key, and its plan of faults
+pub record Shelf : Type 0 where
+  pub pairs : Pairs
+  pub plan : Plan

@@ -1,0 +1,32 @@
+-- What a write does to the bytes that a sink was written.
+use Rattle.std.specs.Prelude.{ℕ, Bool, true, false, List, take}
+use Rattle.std.specs.declared.option.Option.{Option}
+use Rattle.std.specs.Io.KnownBytes.{Appends}
+use Rattle.edge_traits.specs.Faults.{Plan}
+use Rattle.edge_traits.specs.declared.sink.Sent.{Sent}
+use Rattle.edge_traits.specs.declared.sink.Sent.TheVariants.{All, Failed, Memory}
+
+-- what was written grew by a front of the bytes
+abbrev pub AppendsFront : Option (List ℕ) → Option (List ℕ) → List ℕ → Type 0
+AppendsFront old new bytes = (n : ℕ) × Appends old new (take n bytes)
+
+-- what was written grew by all the bytes, or by a front of them where the write failed or met want of memory
+abbrev pub Wrote : Option (List ℕ) → Option (List ℕ) → List ℕ → Sent → Type 0
+Wrote old new bytes All = Appends old new bytes
+Wrote old new bytes Failed = AppendsFront old new bytes
+Wrote old new bytes Memory = AppendsFront old new bytes
+
+-- the fact holds where the write failed
+abbrev pub OnWriteFailed : Sent → Type 0 → Type 0
+OnWriteFailed Failed P = P
+OnWriteFailed answer P = Unit {0}
+
+-- whether a write failed
+abbrev pub write_failed : Sent → Bool
+write_failed Failed = true
+write_failed answer = false
+
+-- a sink in memory: what it was written, and its plan of faults
+pub record Slate : Type 0 where
+  pub written : List ℕ
+  pub plan : Plan

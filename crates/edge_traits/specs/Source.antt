@@ -1,0 +1,34 @@
+-- What a read does to the bytes that a source has left.
+use Rattle.std.specs.Prelude.{ℕ, ◌<◌, ◌≤◌, Bool, true, false, List, length, take}
+use Rattle.std.specs.declared.option.Option.{Option}
+use Rattle.std.specs.Io.KnownBytes.{Consumes, Keeps, IsAtEnd}
+use Rattle.edge_traits.specs.Faults.{Plan}
+use Rattle.edge_traits.specs.declared.source.Got.{Got}
+use Rattle.edge_traits.specs.declared.source.Got.TheVariants.{Bytes, End, Failed}
+
+-- what is left lost the bytes that the buffer now begins with; the end comes only where nothing is left
+abbrev pub Took : Option (List ℕ) → Option (List ℕ) → Got → List ℕ → Type 0
+Took old new (Bytes n) buf = (0 < n) × (n ≤ length buf) × Consumes old new (take n buf)
+Took old new End buf = Keeps old new × IsAtEnd new
+Took old new Failed buf = Keeps old new
+
+-- the fact holds where the read failed
+abbrev pub OnReadFailed : Got → Type 0 → Type 0
+OnReadFailed Failed P = P
+OnReadFailed answer P = Unit {0}
+
+-- whether a read failed
+abbrev pub read_failed : Got → Bool
+read_failed Failed = true
+read_failed answer = false
+
+-- the fact holds of the number of bytes that were given
+abbrev pub IfBytes : Got → (ℕ → Type 0) → Type 0
+IfBytes (Bytes n) P = P n
+IfBytes answer P = Unit {0}
+
+-- a source in memory: what it has left, the most that one read gives, and its plan of faults
+pub record Stock : Type 0 where
+  pub left : List ℕ
+  pub cut : ℕ
+  pub plan : Plan

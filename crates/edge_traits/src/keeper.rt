@@ -1,0 +1,82 @@
+//! Where records are kept between two runs.
+
+use memory::{Duplicate, NoMemory};
+use std::marker::Model;
+
+/// A record and the key under which it is kept. Contracts see the pair of the two lists of bytes.
+#[derive(Debug, Drop)]
+pub struct Pair {
+    pub key: Vec<u8>,
+    pub bytes: Vec<u8>,
+}
+
+impl Model for Pair {
+    ghost use Rattle.std.specs.Prelude.{List, ℕ};
+
+    ghost Value = { List ℕ × List ℕ };
+
+    ghost view = { λ pair. (pair.key.items, pair.bytes.items) };
+}
+
+impl Duplicate for Pair {
+    fn duplicate(&self) -> Result<Pair, NoMemory> {
+        Ok(Pair {
+            key: self.key.clone()?,
+            bytes: self.bytes.clone()?,
+        })
+    }
+}
+
+/// What became of a change of the table.
+#[derive(Clone, Copy, Debug, PartialEq, Eq)]
+pub enum Kept {
+    /// The change was made.
+    Done,
+    /// A fault, which the object counted; the table is as before.
+    Failed,
+    /// Want of memory; the table is as before.
+    Memory,
+}
+
+/// Why a table couldn't be loaded.
+#[derive(Clone, Copy, Debug, PartialEq, Eq)]
+pub enum KeeperFail {
+    /// A fault, which the object counted.
+    Failed,
+    /// Want of memory.
+    Memory,
+}
+
+/// A table of records under keys. An object that tells its `table` changes it by nothing but what it answers
+/// `Done`; its count of `faults` never falls.
+pub trait Keeper {
+    ghost use Rattle.std.specs.Prelude.{ℕ, ◌≤◌, IfOk};
+    ghost use Rattle.std.specs.declared.option.Option.{Option};
+    ghost use Rattle.edge_traits.specs.Faults.{Rose};
+    ghost use Rattle.edge_traits.specs.Pairs.{Table, IsAscending};
+    ghost use Rattle.edge_traits.specs.Keeper.{HasPut, HasRemoved, AreAllOf, Stays, OnKeepFailed, OnLoadFailed};
+
+    ghost table: { Self → Option Table };
+
+    ghost faults: { Self → ℕ };
+
+    /// Puts the record under the key, in place of the one that is there.
+    fn put(&mut self, key: &[u8], bytes: &[u8]) -> Kept
+        ensures put { HasPut (table self.old) (table self.new) key.now bytes.now result }
+        ensures cause { OnKeepFailed result (Rose (faults self.old) (faults self.new)) }
+        ensures counted { faults self.old ≤ faults self.new };
+
+    /// Takes away the record under the key, if there is one.
+    fn remove(&mut self, key: &[u8]) -> Kept
+        ensures removed { HasRemoved (table self.old) (table self.new) key.now result }
+        ensures cause { OnKeepFailed result (Rose (faults self.old) (faults self.new)) }
+        ensures counted { faults self.old ≤ faults self.new };
+
+    /// Gives all pairs in ascending order of key.
+    fn load(&mut self) -> Result<Vec<Pair>, KeeperFail>
+        ensures all { IfOk result (λ pairs. AreAllOf (table self.old) pairs.items) }
+        ensures ascending { IfOk result (λ pairs. IsAscending pairs.items) }
+        ensures unchanged { Stays (table self.old) (table self.new) }
+        ensures cause { OnLoadFailed result (Rose (faults self.old) (faults self.new)) }
+        ensures counted { faults self.old ≤ faults self.new };
+}

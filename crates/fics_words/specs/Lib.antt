@@ -1,0 +1,4 @@
+pub mod Handle
+pub mod Line
+pub mod Number
+pub mod Refusal

@@ -1,0 +1,22 @@
+//! The words that every part of the server shares: refusals with their numbers and names, failures, handles
+//! of players, lines of text, decimals, accounts and seats.
+//!
+//! The contract: a reader gives a value exactly where its grammar has one, and the value stands for the very
+//! bytes that were read; a refusal has one number and one name; a call that takes memory answers its error
+//! for want of memory alone.
+#![tactic(auto)]
+
+mod account;
+mod fail;
+mod handle;
+mod line;
+mod number;
+mod refusal;
+
+pub use account::{Account, Digest, Seat};
+pub use fail::Fail;
+pub use handle::{Handle, HandleKey};
+pub use line::Line;
+pub use memory::{Duplicate, NoMemory};
+pub use number::{read_number, write_number};
+pub use refusal::Refusal;
