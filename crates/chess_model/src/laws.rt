@@ -1,0 +1,42 @@
+//! What the definitions of the rules mean, in the words of the game. Each call does nothing: its contract is the law.
+
+ghost use Rattle.chess_model.specs.Laws.{EachSquareIsKnown, AttackGoesBothWays, RightsNeverComeBack, CountsQuietMoves, NoMenAreMade, LegalListsGrow};
+ghost use Rattle.chess_model.specs.Examples.{WorkedExamples};
+
+/// What an allowed half-move does to each square: the man that moves or comes stands on its target, the squares that
+/// are left or taken on are empty, and every other square is as before.
+pub fn each_square_is_known()
+    ensures { EachSquareIsKnown }
+{}
+
+/// A square is attacked exactly where some kind of man, put on it with the other colour, would strike an attacking
+/// man of that kind.
+pub fn attack_goes_both_ways()
+    ensures { AttackGoesBothWays }
+{}
+
+/// A castling right that has gone never comes back.
+pub fn rights_never_come_back()
+    ensures { RightsNeverComeBack }
+{}
+
+/// The quiet count is 0 after a pawn's move, a capture or a drop, and grows by 1 after any other half-move.
+pub fn quiet_moves_are_counted()
+    ensures { CountsQuietMoves }
+{}
+
+/// No allowed half-move makes men: those on the board and in its two hands don't grow in number.
+pub fn no_men_are_made()
+    ensures { NoMenAreMade }
+{}
+
+/// A legal list of half-moves stays legal with an allowed half-move at its end and without its last one.
+pub fn legal_lists_grow()
+    ensures { LegalListsGrow }
+{
+}
+
+/// What the definitions give in positions that everybody knows.
+pub fn worked_examples()
+    ensures { WorkedExamples }
+{}

@@ -1,0 +1,10 @@
+//! Tests of the crates of the rules, one file a subject. There is nothing else here: what is tested stands in the
+//! crates below, and a crate with tests is proved twice.
+#![tactic(auto)]
+
+#[cfg(test)]
+mod chess_words;
+#[cfg(test)]
+mod counted;
+#[cfg(test)]
+mod played;
