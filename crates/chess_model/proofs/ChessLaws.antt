@@ -1,5 +1,5 @@
 -- Proofs of the laws in specs/Laws.antt.
-use Rattle.std.proofs.Common.{arith, ◌≡◌, ◌≢◌, ℕ, ◌+◌, ◌-◌, ◌<◌, ◌≤◌, ◌⊎◌, ◌++◌, ◌∷◌, [], List, Bool, true, false, ◌&&◌, not, cond, IsTrue, IsSome, is_none, is_some, length, max, reverse, take_while, refl, sym, ap, subst, ◌∙◌, inl, inr, Option, Some, None, slice_set, append_assoc}
+use Rattle.std.proofs.Common.{arith, ◌≡◌, ◌≢◌, ℕ, ◌+◌, ◌-◌, ◌<◌, ◌≤◌, ◌⊎◌, ◌++◌, ◌∷◌, [], List, Bool, true, false, ◌&&◌, not, cond, is_some, length, max, reverse, take_while, refl, sym, ap, subst, ◌∙◌, inl, inr, Option, Some, None, slice_set, append_assoc}
 use Rattle.std.proofs.lemmas.Bool.{cases_order}
 use Rattle.std.proofs.lemmas.List.{length-set, get_or-set_other, get_or-set_same, reverse-append, append-nil}
 use Rattle.std.proofs.lemmas.List.Sums.{take_while-cons}
@@ -16,15 +16,13 @@ use Rattle.chess_model.specs.declared.variant.Variant.TheVariants.{Chess}
 use Rattle.chess_model.specs.Squares.{file_of, rank_of, square_at, files_apart, ranks_apart, distance, toward, along}
 use Rattle.chess_model.specs.Placement.{Placement, man_at, opposite, unpromoted, array_of, king_home, rook_home, king_end, rook_end}
 use Rattle.chess_model.specs.Reach.{IsForward, IsStraight, IsDiagonal, IsStep, Clear, IsOpen, Strikes}
-use Rattle.chess_model.specs.Attacked.{StrikesAs, StrikesFrom, IsAttacked}
+use Rattle.chess_model.specs.Attacked.{StrikesAs, IsAttacked}
 use Rattle.chess_model.specs.MoveList.{HalfMove, Played, is_pawn, moves_of, place_after, place_from, taken, taking_square, landed, history}
 use Rattle.chess_model.specs.RightsAndCounts.{right_stands, keeps_right, is_quiet, quiet_count}
 use Rattle.chess_model.specs.Census.{all_men}
-use Rattle.chess_model.specs.Position.{Position, position_after, Stands}
-use Rattle.chess_model.specs.Allowed.{Allowed}
-use Rattle.chess_model.specs.Next.{next}
-use Rattle.chess_model.specs.Laws.{MovesOneMan, MovesKingAndRook, PutsOneMan, ChangesSquares, MeetsOwnKind, IsIrreversible, CountsQuietMoves, EachSquareIsKnown, AttackGoesBothWays, RightsNeverComeBack, NoMenAreMade}
-use Rattle.chess_model.proofs.MoreMoves.{one, last_played, history-same, history-other, right_stands-append}
+use Rattle.chess_model.specs.Position.{Position}
+use Rattle.chess_model.specs.Laws.{MovesOneMan, MovesKingAndRook, MeetsOwnKind, IsIrreversible, CountsQuietMoves, EachSquareIsKnown, AttackGoesBothWays, RightsNeverComeBack, NoMenAreMade}
+use Rattle.chess_model.proofs.MoreMoves.{last_played, history-same, history-other, right_stands-append}
 use Rattle.chess_model.proofs.StandsAfter.{Stands-next}
 use Rattle.chess_model.proofs.NoMoreMen.{all_men-next, length-place_after, taking_square-lt, taking_square-differs, origin, homes}
 

@@ -1,6 +1,6 @@
 -- One more half-move at the end of a list: the list's settings, and what is said of them, grow by one step.
-use Rattle.std.proofs.Common.{arith, ◌≡◌, ◌≢◌, ℕ, ◌+◌, ◌-◌, ◌≤◌, Bool, true, false, ◌&&◌, cond, nat_eq, min, List, [], ◌∷◌, ◌++◌, map, filter, length, reverse, refl, sym, ap, subst, ◌∙◌, eq-eqb, add-zero, Option, Some, None, sum_by, count_by, take_while}
-use Rattle.std.specs.List.{list_all, last_or}
+use Rattle.std.proofs.Common.{arith, ◌≡◌, ◌≢◌, ℕ, ◌+◌, ◌-◌, ◌≤◌, Bool, true, false, ◌&&◌, cond, nat_eq, min, List, [], ◌∷◌, ◌++◌, map, filter, length, reverse, refl, sym, ap, ◌∙◌, eq-eqb, add-zero, Option, Some, count_by, take_while}
+use Rattle.std.specs.List.{last_or}
 use Rattle.std.proofs.Math.Bool.{and-true}
 use Rattle.std.proofs.lemmas.Bool.{ne_eqb}
 use Rattle.std.proofs.lemmas.List.{map-append, reverse-append, append-nil}
@@ -10,15 +10,14 @@ use Rattle.std.proofs.lemmas.List.Sums.{take_while-cons, sum_by_push}
 use Rattle.chess_model.specs.declared.man.Colour.{Colour}
 use Rattle.chess_model.specs.declared.man.Colour.TheVariants.{White, Black}
 use Rattle.chess_model.specs.declared.man.Kind.{Kind}
-use Rattle.chess_model.specs.declared.man.Kind.TheVariants.{Pawn, Knight, Bishop, Rook, Queen, King}
+use Rattle.chess_model.specs.declared.man.Kind.TheVariants.{Pawn, Knight, Bishop, Rook, Queen}
 use Rattle.chess_model.specs.declared.moves.Move.{Move}
-use Rattle.chess_model.specs.declared.hand.Hand.{Hand}
 use Rattle.chess_model.specs.declared.variant.Variant.{Variant}
 use Rattle.chess_model.specs.declared.variant.Variant.TheVariants.{Chess, Crazyhouse, Bughouse}
 use Rattle.chess_model.specs.Placement.{Placement, opposite, array_of}
 use Rattle.chess_model.specs.MoveList.{HalfMove, Played, moves_of, place_after, settings, place_from, side_from, history}
 use Rattle.chess_model.specs.RightsAndCounts.{keeps_right, right_stands, rights_after, passed_over, push_after, is_quiet, quiet_count}
-use Rattle.chess_model.specs.Holdings.{captures, loses, drops, other_board, gained, spent, hand_of, hand_after}
+use Rattle.chess_model.specs.Holdings.{captures, loses, drops, other_board, gained, spent, hand_after}
 use Rattle.chess_model.specs.Next.{next_rights, next_quiet, gain, next_hand}
 
 -- the half-move m of board b, alone

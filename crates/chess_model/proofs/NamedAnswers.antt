@@ -1,5 +1,5 @@
 -- How a word with a kind and a target is answered, from what was found on the squares.
-use Rattle.std.proofs.Common.{arith, ◌≡◌, ◌≢◌, ℕ, ◌+◌, ◌<◌, ◌≤◌, ◌⊎◌, refl, sym, ap, subst, ◌∙◌, inl, inr}
+use Rattle.std.proofs.Common.{arith, ◌≡◌, ◌≢◌, ℕ, ◌+◌, ◌<◌, ◌≤◌, refl, sym, ap, subst, ◌∙◌, inl, inr}
 use Rattle.std.proofs.lemmas.Bool.{cases_order}
 use Rattle.chess_model.specs.declared.moves.Move.{Move}
 use Rattle.chess_model.specs.declared.moves.Rejection.{Rejection}
@@ -7,7 +7,7 @@ use Rattle.chess_model.specs.declared.moves.Rejection.TheVariants.{Ambiguous, Le
 use Rattle.chess_model.specs.declared.answer.NamedWord.{NamedWord}
 use Rattle.chess_model.specs.Position.{Position}
 use Rattle.chess_model.specs.Allowed.{IsMove, IsSafeAfter, Allowed}
-use Rattle.chess_model.specs.Answer.{IsChoice, IsAnswer, HasNoPiece, IsAmbiguous, LeavesKingBy, Applies, place_of, IsRefusal}
+use Rattle.chess_model.specs.Answer.{IsChoice, IsAnswer, HasNoPiece, IsAmbiguous, Applies, place_of, IsRefusal}
 use Rattle.chess_model.specs.NamedWords.{word_of, move_from, IsOrigin, IsChoiceFrom, IsExposedFrom}
 
 -- a choice for the word is one from some square

@@ -1,8 +1,7 @@
 -- No half-move makes men: what stands on the board and in the hands grows by none.
-use Rattle.std.proofs.Common.{arith, ◌≡◌, ◌≢◌, ℕ, ◌+◌, ◌-◌, ◌*◌, ◌<◌, ◌≤◌, ◌⊎◌, Bool, true, false, ◌&&◌, not, cond, is_some, IsSome, is_none, List, length, refl, sym, ap, subst, ◌∙◌, inl, inr, Option, Some, None, slice_set, nat_eq, get_or-set_other}
+use Rattle.std.proofs.Common.{arith, ◌≡◌, ◌≢◌, ℕ, ◌+◌, ◌-◌, ◌<◌, ◌≤◌, Bool, true, false, ◌&&◌, not, cond, is_some, is_none, length, refl, sym, ap, subst, inl, inr, Option, Some, None, slice_set, nat_eq, get_or-set_other}
 use Rattle.std.proofs.lemmas.Bool.{eqb-false}
 use Rattle.std.proofs.lemmas.List.{length-set}
-use Rattle.std.proofs.lemmas.Grind.{common_steps}
 use Rattle.std.proofs.lemmas.List.Sums.{sum_by-set}
 use Rattle.chess_model.specs.declared.man.Colour.{Colour}
 use Rattle.chess_model.specs.declared.man.Colour.TheVariants.{White, Black}

@@ -1,6 +1,5 @@
 -- The next position is that of the list with the half-move at its end.
 use Rattle.std.proofs.Common.{arith, ◌≡◌, ℕ, ◌+◌, ◌<◌, ◌≤◌, Bool, true, false, ◌&&◌, cond, List, ◌++◌, min, refl, sym, ap, subst, ◌∙◌}
-use Rattle.std.proofs.lemmas.Grind.{common_steps}
 use Rattle.chess_model.specs.declared.man.Colour.{Colour}
 use Rattle.chess_model.specs.declared.man.Colour.TheVariants.{White, Black}
 use Rattle.chess_model.specs.declared.man.Kind.{Kind}
@@ -14,7 +13,7 @@ use Rattle.chess_model.specs.MoveList.{HalfMove, Played, moves_of, place_from, s
 use Rattle.chess_model.specs.RightsAndCounts.{rights_after, push_after, quiet_count}
 use Rattle.chess_model.specs.Holdings.{same_colour, same_kind, drops, count_in, gained, spent, hand_after}
 use Rattle.chess_model.specs.Position.{Position, position_after, Stands, hand_of_side}
-use Rattle.chess_model.specs.Allowed.{Allowed, CanDrop}
+use Rattle.chess_model.specs.Allowed.{Allowed}
 use Rattle.chess_model.specs.Next.{gain, next}
 use Rattle.chess_model.proofs.MoreMoves.{one, last_played, moves_of-same, place_from-append, side_from-append, history-same, rights_after-append, push_after-append, quiet_count-append, spent-append, gained-append, hand_after-append}
 

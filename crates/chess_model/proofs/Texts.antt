@@ -1,5 +1,5 @@
 -- What the fields of a `MoveText` keep once a text has been copied over twelve zeros.
-use Rattle.std.proofs.Common.{arith, ◌≡◌, ℕ, ◌-◌, ◌≤◌, List, ◌++◌, length, take, drop, replicate, refl, sym, subst, length-append, ◌∙◌}
+use Rattle.std.proofs.Common.{arith, ℕ, List, ◌++◌, length, drop, replicate, sym, subst, length-append, ◌∙◌}
 use Rattle.std.proofs.Math.Seq.{take-append_seam, drop-append_seam}
 use Rattle.std.proofs.lemmas.List.{drop-replicate}
 use Rattle.chess_model.specs.MoveText.{IsMoveText}

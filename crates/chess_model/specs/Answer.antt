@@ -1,9 +1,8 @@
 -- What a written move word stands for in a position, and why it may have no answer: this server's own rules.
-use Rattle.std.specs.Prelude.{◌≡◌, ◌≢◌, ℕ, ◌+◌, ◌<◌, Bool, true, false, ◌&&◌, nat_eq, nat_lt, if◌then◌else◌, Option, Some, None, IsSome, unwrap_or, ⊤}
+use Rattle.std.specs.Prelude.{◌≡◌, ◌≢◌, ℕ, ◌+◌, ◌<◌, Bool, true, false, ◌&&◌, nat_eq, if◌then◌else◌, Option, Some, None, IsSome, unwrap_or, ⊤}
 use Rattle.chess_model.specs.declared.man.Colour.{Colour}
-use Rattle.chess_model.specs.declared.man.Colour.TheVariants.{White, Black}
 use Rattle.chess_model.specs.declared.man.Kind.{Kind}
-use Rattle.chess_model.specs.declared.man.Kind.TheVariants.{Pawn, Knight, Bishop, Rook, Queen, King}
+use Rattle.chess_model.specs.declared.man.Kind.TheVariants.{Pawn, Queen, King}
 use Rattle.chess_model.specs.declared.man.Man.{Man}
 use Rattle.chess_model.specs.declared.moves.Move.{Move}
 use Rattle.chess_model.specs.declared.moves.Move.TheVariants as move
@@ -12,7 +11,7 @@ use Rattle.chess_model.specs.declared.moves.MoveWord.TheVariants as word
 use Rattle.chess_model.specs.declared.moves.Rejection.{Rejection}
 use Rattle.chess_model.specs.declared.moves.Rejection.TheVariants.{Ambiguous, LeavesKing, CastleForbidden, NoDrops, NotInHand, Occupied, EndRank, NoPiece, CannotReach}
 use Rattle.chess_model.specs.Squares.{file_of, rank_of}
-use Rattle.chess_model.specs.Placement.{Placement, man_at, IsHeldBy, IsHeldAs, last_rank, king_home}
+use Rattle.chess_model.specs.Placement.{man_at, IsHeldBy, IsHeldAs, last_rank, king_home}
 use Rattle.chess_model.specs.Holdings.{count_in, same_colour, same_kind}
 use Rattle.chess_model.specs.Position.{Position, hand_of_side}
 use Rattle.chess_model.specs.Allowed.{HasDrops, MayDropOn, IsMove, IsSafeAfter, Allowed}

@@ -1,16 +1,14 @@
 -- Worked examples: what the definitions give in positions that everybody knows.
-use Rattle.std.specs.Prelude.{◌≡◌, ℕ, Bool, true, false, List, [], ◌∷◌, map, Option, Some, None}
+use Rattle.std.specs.Prelude.{◌≡◌, ℕ, true, false, List, [], ◌∷◌, map, Some, None}
 use Rattle.chess_model.specs.declared.man.Colour.TheVariants.{White, Black}
-use Rattle.chess_model.specs.declared.man.Kind.TheVariants.{Pawn, Knight, Bishop, Rook, Queen, King}
+use Rattle.chess_model.specs.declared.man.Kind.TheVariants.{Pawn, Rook, Queen, King}
 use Rattle.chess_model.specs.declared.moves.Move.{Move}
-use Rattle.chess_model.specs.declared.moves.Move.TheVariants.{Plain, Castle, Drop}
+use Rattle.chess_model.specs.declared.moves.Move.TheVariants.{Plain, Castle}
 use Rattle.chess_model.specs.declared.variant.Variant.TheVariants.{Chess, Crazyhouse, Bughouse}
 use Rattle.chess_model.specs.Placement.{Placement, man_at, unpromoted, array_of}
 use Rattle.chess_model.specs.MoveList.{HalfMove, place_from, history}
 use Rattle.chess_model.specs.RightsAndCounts.{right_stands, push_after, quiet_count}
 use Rattle.chess_model.specs.Holdings.{count_in, hand_after}
-use Rattle.chess_model.specs.Position.{position_after}
-use Rattle.chess_model.specs.Answer.{castling_of}
 
 -- a plain move without promotion
 abbrev pub go : ℕ → ℕ → Move

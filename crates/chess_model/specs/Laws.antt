@@ -1,5 +1,5 @@
 -- What the definitions mean square by square and half-move by half-move, in the words of the game.
-use Rattle.std.specs.Prelude.{◌≡◌, ◌≢◌, ℕ, ◌+◌, ◌≤◌, ◌<◌, ◌⊎◌, ◌↔◌, ◌++◌, ◌∷◌, [], List, Bool, true, false, IsTrue, IsSome, length, Option, Some, None, ⊤}
+use Rattle.std.specs.Prelude.{◌≡◌, ◌≢◌, ℕ, ◌+◌, ◌≤◌, ◌<◌, ◌⊎◌, ◌↔◌, ◌++◌, ◌∷◌, [], List, Bool, true, IsTrue, IsSome, length, Option, Some, None, ⊤}
 use Rattle.chess_model.specs.declared.man.Colour.{Colour}
 use Rattle.chess_model.specs.declared.man.Kind.{Kind}
 use Rattle.chess_model.specs.declared.moves.Move.{Move}
@@ -87,6 +87,6 @@ NoMenAreMade = (p : Position) (T : List HalfMove) (b : ℕ) (m : Move) → Stand
 pub record LegalListsGrow : Type 0 where
   pub none : (v : Variant) → IsLegal v []
   pub grows : (v : Variant) (T : List HalfMove) (h : HalfMove) → IsLegal v T → Allowed (position_after v T h.board) h.what →
-    IsLegal v (T ++ h ∷ [])
+      IsLegal v (T ++ h ∷ [])
   pub shrinks : (v : Variant) (T : List HalfMove) (h : HalfMove) → IsLegal v (T ++ h ∷ []) → IsLegal v T
   pub last : (v : Variant) (T : List HalfMove) (h : HalfMove) → IsLegal v (T ++ h ∷ []) → Allowed (position_after v T h.board) h.what

@@ -1,7 +1,7 @@
 -- Half-moves, lists of them for one or two boards, and the placements that they lead to (FIDE Laws 3.1, 3.7, 3.8).
-use Rattle.std.specs.Prelude.{◌≡◌, ℕ, ◌-◌, Bool, true, false, ◌&&◌, nat_eq, not, is_none, if◌then◌else◌, List, [], ◌∷◌, map, filter, Option, Some, None, slice_set}
+use Rattle.std.specs.Prelude.{ℕ, Bool, true, false, ◌&&◌, nat_eq, not, is_none, if◌then◌else◌, List, [], ◌∷◌, map, filter, Option, Some, None, slice_set}
 use Rattle.chess_model.specs.declared.man.Colour.{Colour}
-use Rattle.chess_model.specs.declared.man.Colour.TheVariants.{White, Black}
+use Rattle.chess_model.specs.declared.man.Colour.TheVariants.{White}
 use Rattle.chess_model.specs.declared.man.Kind.{Kind}
 use Rattle.chess_model.specs.declared.man.Kind.TheVariants.{Pawn, Knight, Bishop, Rook, Queen, King}
 use Rattle.chess_model.specs.declared.man.Man.{Man}

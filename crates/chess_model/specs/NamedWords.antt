@@ -1,6 +1,5 @@
 -- The origins that a word with a kind and a target may have.
-use Rattle.std.specs.Prelude.{◌≡◌, ℕ, ◌<◌, Option}
-use Rattle.chess_model.specs.declared.man.Kind.{Kind}
+use Rattle.std.specs.Prelude.{ℕ}
 use Rattle.chess_model.specs.declared.moves.Move.{Move}
 use Rattle.chess_model.specs.declared.moves.Move.TheVariants as move
 use Rattle.chess_model.specs.declared.moves.MoveWord.{MoveWord}

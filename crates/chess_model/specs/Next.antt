@@ -1,5 +1,5 @@
 -- The position after one more half-move of its board, from the position before it.
-use Rattle.std.specs.Prelude.{ℕ, ◌+◌, ◌-◌, Bool, true, false, ◌&&◌, min, cond, if◌then◌else◌}
+use Rattle.std.specs.Prelude.{ℕ, ◌+◌, ◌-◌, true, false, ◌&&◌, min, cond, if◌then◌else◌}
 use Rattle.chess_model.specs.declared.man.Colour.{Colour}
 use Rattle.chess_model.specs.declared.man.Colour.TheVariants.{White, Black}
 use Rattle.chess_model.specs.declared.man.Kind.{Kind}
@@ -12,7 +12,7 @@ use Rattle.chess_model.specs.Placement.{Placement, opposite}
 use Rattle.chess_model.specs.MoveList.{Played, place_after}
 use Rattle.chess_model.specs.RightsAndCounts.{keeps_right, passed_over, is_quiet}
 use Rattle.chess_model.specs.Holdings.{captures, drops, count_in, hand_of}
-use Rattle.chess_model.specs.Position.{Position, hand_of_side}
+use Rattle.chess_model.specs.Position.{Position}
 
 -- what is left of the rights
 abbrev pub next_rights : Variant → Rights → Colour → Move → Rights

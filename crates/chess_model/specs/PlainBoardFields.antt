@@ -1,5 +1,5 @@
 -- What the fields of a `PlainBoard` keep.
-use Rattle.std.specs.Prelude.{◌≡◌, ℕ, ◌+◌, ◌≤◌, length}
+use Rattle.std.specs.Prelude.{◌≡◌, ◌+◌, ◌≤◌, length}
 use Rattle.chess_model.specs.declared.plain_board.PlainBoard.TheInside.{Inside}
 use Rattle.chess_model.specs.Census.{men_on, men_in}
 

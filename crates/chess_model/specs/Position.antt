@@ -1,5 +1,5 @@
 -- What a board shows of the list of half-moves that led to it.
-use Rattle.std.specs.Prelude.{◌≡◌, ℕ, ◌≤◌, min, Option, List, []}
+use Rattle.std.specs.Prelude.{◌≡◌, ℕ, ◌≤◌, min, Option, List}
 use Rattle.chess_model.specs.declared.man.Colour.{Colour}
 use Rattle.chess_model.specs.declared.man.Colour.TheVariants.{White, Black}
 use Rattle.chess_model.specs.declared.man.Kind.{Kind}

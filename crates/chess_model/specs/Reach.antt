@@ -4,7 +4,6 @@ use Rattle.chess_model.specs.declared.man.Colour.{Colour}
 use Rattle.chess_model.specs.declared.man.Colour.TheVariants.{White, Black}
 use Rattle.chess_model.specs.declared.man.Kind.{Kind}
 use Rattle.chess_model.specs.declared.man.Kind.TheVariants.{Pawn, Knight, Bishop, Rook, Queen, King}
-use Rattle.chess_model.specs.declared.man.Man.{Man}
 use Rattle.chess_model.specs.Squares.{rank_of, files_apart, ranks_apart, distance, along}
 use Rattle.chess_model.specs.Placement.{Placement, man_at, opposite, IsHeldBy, second_rank}
 

@@ -1,5 +1,5 @@
 -- The geometry of the board: files, ranks and the squares between two squares (FIDE Laws 2.1 and 2.4).
-use Rattle.std.specs.Prelude.{◌≡◌, ℕ, ◌+◌, ◌-◌, ◌*◌, ◌/◌, ◌%◌, min, max}
+use Rattle.std.specs.Prelude.{ℕ, ◌+◌, ◌-◌, ◌*◌, ◌/◌, ◌%◌, min, max}
 use Rattle.std.specs.Int.{abs_diff}
 
 -- the file of a square, 0 for a to 7 for h

@@ -33,8 +33,7 @@ pub fn no_men_are_made()
 /// A legal list of half-moves stays legal with an allowed half-move at its end and without its last one.
 pub fn legal_lists_grow()
     ensures { LegalListsGrow }
-{
-}
+{}
 
 /// What the definitions give in positions that everybody knows.
 pub fn worked_examples()

@@ -1,4 +1,4 @@
-use Rattle.std.proofs.Common.{rules, ℕ, below_more}
+use Rattle.std.proofs.Common.{rules, below_more}
 use Rattle.chess_model.specs.Squares.{along}
 use Rattle.chess_model.specs.Attacked.{IsAttacked}
 use Rattle.chess_model.proofs.allowed.is_unattacked_way.Goals as goal

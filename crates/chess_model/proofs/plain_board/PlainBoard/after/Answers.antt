@@ -1,5 +1,4 @@
 use Rattle.chess_model.proofs.StandsAfter.{Stands-next}
-use Rattle.chess_model.proofs.NoMoreMen.{men_on-plain}
 use Rattle.chess_model.proofs.plain_board.PlainBoard.after.Goals as goal
 
 pub returns-clause-stands : goal.returns-clause-stands

@@ -1,4 +1,4 @@
-use Rattle.std.proofs.Common.{arith, ◌≡◌, ◌≤◌, length, ap, sym, subst, ◌∙◌}
+use Rattle.std.proofs.Common.{arith, ◌≤◌, length, ap, sym, subst, ◌∙◌}
 use Rattle.chess_model.specs.Position.{Position}
 use Rattle.chess_model.specs.Census.{men_on, men_in, all_men}
 use Rattle.chess_model.specs.Allowed.{Allowed}
