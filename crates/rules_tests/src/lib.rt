@@ -3,7 +3,11 @@
 #![tactic(auto)]
 
 #[cfg(test)]
+mod boards;
+#[cfg(test)]
 mod chess_words;
+#[cfg(test)]
+mod clocks;
 #[cfg(test)]
 mod counted;
 #[cfg(test)]

@@ -1,0 +1,42 @@
+-- What a board keeps is kept by one allowed half-move more.
+use Rattle.std.proofs.Common.{◌≡◌, ℕ, List, [], ◌∷◌, ◌++◌, map, Option, refl, sym, ap, subst, ◌∙◌}
+use Rattle.std.proofs.lemmas.List.{map-append}
+use Rattle.chess_model.specs.declared.man.Colour.{Colour}
+use Rattle.chess_model.specs.declared.man.Colour.TheVariants.{White, Black}
+use Rattle.chess_model.specs.declared.moves.Move.{Move}
+use Rattle.chess_model.specs.declared.variant.Terms.{Terms}
+use Rattle.chess_model.specs.MoveList.{HalfMove}
+use Rattle.chess_model.specs.Position.{Position, Stands}
+use Rattle.chess_model.specs.Allowed.{Allowed, IsLegal}
+use Rattle.clock_ledger.specs.declared.charges.Charge.{Charge}
+use Rattle.clock_ledger.specs.Clock.{Ledger}
+use Rattle.game_board.specs.declared.played.Played.{Played}
+use Rattle.game_board.specs.Board.{Board, half_move, half_moves, turn_after, position_of}
+use Rattle.game_board.specs.Charges.{charge_to, charges_of, clock_of}
+use Rattle.game_board.proofs.Charged.{charges_from-append}
+use Rattle.game_board.proofs.Legal.{IsLegal-append}
+
+half_moves-append : (list : List Played) (p : Played) → half_moves (list ++ p ∷ []) ≡ half_moves list ++ half_move p ∷ []
+half_moves-append list p = map-append half_move list (p ∷ [])
+
+pub Stands-grown : (p q : Position) (b : Board) (m : Move) (charge : Option Charge) →
+    ((T : List HalfMove) (n : ℕ) → Stands p T n → Stands q (T ++ record { board = n; what = m } ∷ []) n) →
+    Stands p (half_moves b.list) 1 → Stands q (half_moves (b.list ++ record { what = m; charge = charge } ∷ [])) 1
+Stands-grown p q b m charge grows stands =
+    subst (λ (T : List HalfMove). Stands q T 1) (sym (half_moves-append b.list (record { what = m; charge = charge })))
+    (grows (half_moves b.list) 1 stands)
+
+pub IsLegal-grown : (b : Board) (m : Move) (charge : Option Charge) → IsLegal b.terms.variant (half_moves b.list) → Allowed (position_of b) m →
+    IsLegal b.terms.variant (half_moves (b.list ++ record { what = m; charge = charge } ∷ []))
+unfolding position_of
+IsLegal-grown b m charge legal allowed =
+    subst (λ (T : List HalfMove). IsLegal b.terms.variant T) (sym (half_moves-append b.list (record { what = m; charge = charge })))
+    (IsLegal-append b.terms.variant (half_moves b.list) (record { board = 1; what = m }) legal allowed)
+
+-- a clock with one charge more is the clock of the longer list
+pub clock_of-append : (t : Terms) (c mover : Colour) (list : List Played) (p : Played) (k : Ledger) → k ≡ clock_of t c list → turn_after list ≡ mover →
+    record k { charges = k.charges ++ charge_to c mover p.charge } ≡ clock_of t c (list ++ p ∷ [])
+clock_of-append t c mover list p k same turn =
+    ap (λ (l : Ledger). record l { charges = l.charges ++ charge_to c mover p.charge }) same
+    ∙ ap (λ (cs : List Charge). record { minutes = t.minutes; increment = t.increment; charges = cs })
+    (ap (λ (d : Colour). charges_of c list ++ charge_to c d p.charge) (sym turn) ∙ sym (charges_from-append c White list p))

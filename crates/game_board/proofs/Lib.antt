@@ -1,0 +1,6 @@
+pub mod Charged
+pub mod Grown
+pub mod LastPlayed
+pub mod Legal
+pub mod Sides
+pub mod Turns

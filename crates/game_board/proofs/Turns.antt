@@ -1,0 +1,32 @@
+-- The position and the turn that a list of half-moves gives.
+use Rattle.std.proofs.Common.{◌≡◌, List, [], ◌∷◌, ◌++◌, map, refl, ap, ◌∙◌, sym}
+use Rattle.chess_model.specs.declared.man.Colour.{Colour}
+use Rattle.chess_model.specs.declared.man.Colour.TheVariants.{White, Black}
+use Rattle.chess_model.specs.declared.moves.Move.{Move}
+use Rattle.chess_model.specs.Placement.{opposite}
+use Rattle.chess_model.specs.MoveList.{HalfMove, moves_of, side_from}
+use Rattle.chess_model.specs.Position.{Position, position_after, Stands}
+use Rattle.game_board.specs.declared.played.Played.{Played}
+use Rattle.game_board.specs.Board.{Board, half_move, half_moves, turn_after, to_move, position_of}
+
+-- all half-moves of a game on one board are that board's
+pub moves_of-half_moves : (list : List Played) → moves_of 1 (half_moves list) ≡ map (λ p. p.what) list
+moves_of-half_moves [] = refl
+moves_of-half_moves (p ∷ ps) = ap (λ ms. p.what ∷ ms) (moves_of-half_moves ps)
+
+-- the slow board that stands for the list is the position on the board
+pub position_of-stands : (q : Position) (b : Board) → Stands q (half_moves b.list) 1 → q.variant ≡ b.terms.variant → q ≡ position_of b
+unfolding position_of
+position_of-stands q b s e = s.same ∙ ap (λ v. position_after v (half_moves b.list) 1) e
+
+pub to_move-position_of : (b : Board) → (position_of b).to_move ≡ to_move b
+unfolding position_of
+to_move-position_of b = ap (side_from White) (moves_of-half_moves b.list)
+
+pub to_move-stands : (q : Position) (b : Board) → Stands q (half_moves b.list) 1 → q.variant ≡ b.terms.variant → q.to_move ≡ to_move b
+to_move-stands q b s e = ap (λ (p : Position). p.to_move) (position_of-stands q b s e) ∙ to_move-position_of b
+
+-- one half-move more hands the turn to the other colour
+pub side_from-append : (c : Colour) (ms : List Move) (m : Move) → side_from c (ms ++ m ∷ []) ≡ opposite (side_from c ms)
+side_from-append c [] m = refl
+side_from-append c (n ∷ ns) m = side_from-append (opposite c) ns m

@@ -1,0 +1,10 @@
+use Rattle.std.proofs.Common.{ap, ◌∙◌}
+use Rattle.game_board.specs.Board.{Board, position_of}
+use Rattle.game_board.proofs.Turns.{position_of-stands}
+use Rattle.game_board.proofs.game_board.GameBoard.position.Goals as goal
+
+pub returns : goal.returns
+returns c =
+    let i = c.self.inside in
+    position_of-stands i.position (record { terms = i.terms; list = i.list; begin = i.begin; played = i.played }) c.self.invariant.stands c.self.invariant.variant
+    ∙ ap position_of c.self.view_is

@@ -1,0 +1,27 @@
+use Rattle.std.proofs.Common.{◌≡◌, List, [], length, ap, ◌∙◌, sym, subst, All, IfSome, arith}
+use Rattle.chess_model.specs.declared.man.Colour.TheVariants.{White, Black}
+use Rattle.chess_model.specs.Position.{Stands}
+use Rattle.chess_model.specs.Allowed.{IsLegal}
+use Rattle.clock_ledger.specs.Charges.{IsChargeable}
+use Rattle.game_board.specs.declared.played.Played.{Played}
+use Rattle.game_board.specs.Board.{half_moves}
+use Rattle.game_board.specs.BoardFace.{last_shown}
+use Rattle.game_board.specs.Charges.{clock_of}
+use Rattle.game_board.proofs.Legal.{IsLegal-empty}
+use Rattle.game_board.proofs.game_board.GameBoard.start.Goals as goal
+
+pub invariant_of-result : goal.invariant_of-result
+invariant_of-result c =
+    let none : [] ≡ c.in_ok-new.field-0 = sym c.in_ok-new.ensures in
+    record {
+      stands = subst (λ (l : List Played). Stands c.start.result (half_moves l) 1) none (c.start.ensures.stands 1);
+      variant = c.start.ensures.variant;
+      legal = subst (λ (l : List Played). IsLegal c.args.terms.variant (half_moves l)) none (IsLegal-empty c.args.terms.variant);
+      white = c.in_ok-start.ensures ∙ ap (clock_of c.args.terms White) none;
+      black = c.in_ok-start-2.ensures ∙ ap (clock_of c.args.terms Black) none;
+      sound = subst (All (λ (p : Played). IfSome p.charge IsChargeable)) none (λ k d h. absurd (omega arith));
+      last = ap (last_shown c.args.terms.variant) none;
+      counted = omega (arith, ap length none);
+      most = omega arith;
+      moment = c.requires;
+    }

@@ -1,0 +1,11 @@
+use Rattle.std.proofs.Common.{ap, ◌∙◌}
+use Rattle.game_board.specs.Board.{Board, to_move}
+use Rattle.game_board.proofs.Turns.{to_move-stands}
+use Rattle.game_board.proofs.game_board.GameBoard.to_move.Goals as goal
+
+pub returns : goal.returns
+returns c =
+    let i = c.self.inside in
+    c.to_move.ensures
+    ∙ to_move-stands i.position (record { terms = i.terms; list = i.list; begin = i.begin; played = i.played }) c.self.invariant.stands c.self.invariant.variant
+    ∙ ap to_move c.self.view_is

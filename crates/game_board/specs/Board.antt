@@ -1,0 +1,47 @@
+-- What contracts see of a game on one board: its half-moves with their charges, and the counts beside them.
+use Rattle.std.specs.Prelude.{ℕ, Bool, nat_lt, List, length, map}
+use Rattle.chess_model.specs.declared.man.Colour.{Colour}
+use Rattle.chess_model.specs.declared.man.Colour.TheVariants.{White, Black}
+use Rattle.chess_model.specs.declared.variant.Terms.{Terms}
+use Rattle.chess_model.specs.MoveList.{HalfMove, side_from}
+use Rattle.chess_model.specs.Position.{Position, position_after}
+use Rattle.game_board.specs.declared.played.Played.{Played}
+
+-- a game on one board
+pub record Board : Type 0 where
+  pub terms : Terms
+  -- the half-moves from the start, each with its charge where it has one
+  pub list : List Played
+  -- the moment, in milliseconds, from which the player to move is thinking
+  pub begin : ℕ
+  -- how many half-moves were played on the board
+  pub played : ℕ
+
+-- a half-move of a game on one board, which has the number 1
+abbrev pub half_move : Played → HalfMove
+half_move p = record { board = 1; what = p.what }
+
+-- the half-moves of a game
+abbrev pub half_moves : List Played → List HalfMove
+half_moves list = map half_move list
+
+-- whose turn it is after these half-moves; White begins, and the colours take turns (FIDE 1.1)
+abbrev pub turn_after : List Played → Colour
+turn_after list = side_from White (map (λ p. p.what) list)
+
+-- the colour that is to move
+abbrev pub to_move : Board → Colour
+to_move b = turn_after b.list
+
+-- the position on the board
+unfoldable pub position_of : Board → Position
+position_of b = position_after b.terms.variant (half_moves b.list) 1
+
+-- how many half-moves stand before the first one of a colour
+abbrev pub half_moves_before : Colour → ℕ
+half_moves_before White = 0
+half_moves_before Black = 1
+
+-- whether a colour has made a half-move
+abbrev pub has_moved : Colour → List Played → Bool
+has_moved c list = nat_lt (half_moves_before c) (length list)

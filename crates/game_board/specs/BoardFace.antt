@@ -1,0 +1,37 @@
+-- What a printed board shows of a game: the position, the last half-move and the time that it took.
+use Rattle.std.specs.Prelude.{ℕ, ◌-◌, List, length, take, Option, Some, None, slice_get, option_and_then}
+use Rattle.std.specs.Option.{option_map}
+use Rattle.chess_model.specs.declared.face.Face.{Face}
+use Rattle.chess_model.specs.declared.states.Shown.{Shown}
+use Rattle.chess_model.specs.declared.variant.Variant.{Variant}
+use Rattle.chess_model.specs.Position.{position_after}
+use Rattle.clock_ledger.specs.declared.charges.Charge.{Charge}
+use Rattle.clock_ledger.specs.Charges.{amount}
+use Rattle.move_writer.specs.Face.{face_of, plain_shown_of}
+use Rattle.game_board.specs.declared.played.Played.{Played}
+use Rattle.game_board.specs.Board.{Board, half_moves, position_of}
+
+-- the last half-move, if there is one
+abbrev pub last_played : List Played → Option Played
+last_played list = slice_get list (length list - 1)
+
+-- the half-moves before the last one
+abbrev pub before_last : List Played → List Played
+before_last list = take (length list - 1) list
+
+-- what is shown of the last half-move: it is read in the position before it
+abbrev pub last_shown : Variant → List Played → Option Shown
+last_shown v list = option_map (λ p. plain_shown_of (position_after v (half_moves (before_last list)) 1) p.what) (last_played list)
+
+-- all that a printed board shows of a game, names and clocks aside
+unfoldable pub board_face : Board → Face
+board_face b = face_of (position_of b) (length b.list) (last_shown b.terms.variant b.list)
+
+-- what a charge amounts to, in milliseconds; no charge is nothing
+abbrev pub charged_time : Option Charge → ℕ
+charged_time None = 0
+charged_time (Some c) = amount c
+
+-- the time that the last half-move is charged with
+abbrev pub time_taken : List Played → ℕ
+time_taken list = charged_time (option_and_then (λ p. p.charge) (last_played list))

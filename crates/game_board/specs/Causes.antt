@@ -1,0 +1,33 @@
+-- Refusals in their order, and answers that yield to them.
+use Rattle.std.specs.Prelude.{Bool, cond, List, [], ◌∷◌, Option, Some, None, Result, Ok, Err}
+use Rattle.fics_words.specs.declared.refusal.Refusal.{Refusal}
+use Rattle.fics_words.specs.declared.refusal.Refusal.TheVariants as refusal
+use Rattle.chess_model.specs.declared.moves.Rejection.{Rejection}
+use Rattle.chess_model.specs.declared.moves.Rejection.TheVariants as rejection
+
+-- the refusal of the first cause that holds, in a list of causes with their refusals
+abbrev pub first_cause : List (Bool × Refusal) → Option Refusal
+first_cause [] = None
+first_cause (c ∷ cs) = cond c.0 (Some c.1) (first_cause cs)
+
+-- an answer, where nothing refuses it
+abbrev pub answered : {T : Type 0} → Option Refusal → Result T Refusal → Result T Refusal
+answered None answer = answer
+answered (Some r) answer = Err r
+
+-- the refusal of a word that has no move
+abbrev pub refusal_of : Rejection → Refusal
+refusal_of rejection.Ambiguous = refusal.Ambiguous
+refusal_of rejection.LeavesKing = refusal.LeavesKing
+refusal_of rejection.CastleForbidden = refusal.CastleForbidden
+refusal_of rejection.NoDrops = refusal.NoDrops
+refusal_of rejection.NotInHand = refusal.NotInHand
+refusal_of rejection.Occupied = refusal.Occupied
+refusal_of rejection.EndRank = refusal.EndRank
+refusal_of rejection.NoPiece = refusal.NoPiece
+refusal_of rejection.CannotReach = refusal.CannotReach
+
+-- the answer of the rules, with its refusal in the words of the server
+abbrev pub in_words : {T : Type 0} → Result T Rejection → Result T Refusal
+in_words (Ok m) = Ok m
+in_words (Err r) = Err (refusal_of r)

@@ -1,0 +1,25 @@
+-- What every board keeps.
+use Rattle.std.specs.Prelude.{◌≡◌, ℕ, ◌≤◌, ◌^◌, length, IfSome, All}
+use Rattle.chess_model.specs.declared.man.Colour.TheVariants.{White, Black}
+use Rattle.chess_model.specs.Position.{Stands}
+use Rattle.chess_model.specs.Allowed.{IsLegal}
+use Rattle.game_board.specs.declared.game_board.GameBoard.TheInside.{Inside}
+use Rattle.game_board.specs.Board.{half_moves}
+use Rattle.clock_ledger.specs.Charges.{IsChargeable}
+use Rattle.game_board.specs.Charges.{clock_of}
+use Rattle.game_board.specs.BoardFace.{last_shown}
+
+pub record IsKept (g : Inside) : Type 0 where
+  -- the slow board stands for the list, in which each half-move was allowed
+  pub stands : Stands g.position (half_moves g.list) 1
+  pub variant : g.position.variant ≡ g.terms.variant
+  pub legal : IsLegal g.terms.variant (half_moves g.list)
+  -- the clocks have the charges of the list
+  pub white : g.white ≡ clock_of g.terms White g.list
+  pub black : g.black ≡ clock_of g.terms Black g.list
+  pub sound : All (λ p. IfSome p.charge IsChargeable) g.list
+  -- what is shown of the last half-move
+  pub last : g.last ≡ last_shown g.terms.variant g.list
+  pub counted : length g.list ≤ g.played
+  pub most : g.played ≤ 1200
+  pub moment : g.begin ≤ 2 ^ 48

@@ -1,0 +1,58 @@
+-- What a move word does to a board.
+use Rattle.std.specs.Prelude.{ℕ, ◌+◌, ◌==◌, ◌&&◌, not, if◌then◌else◌, List, [], ◌∷◌, ◌++◌, Option, Some, None, Result, Ok, Err}
+use Rattle.chess_model.specs.declared.man.Colour.{Colour}
+use Rattle.chess_model.specs.declared.man.Man.{Man}
+use Rattle.chess_model.specs.declared.moves.Move.{Move}
+use Rattle.chess_model.specs.declared.moves.MoveWord.{MoveWord}
+use Rattle.chess_model.specs.MoveList.{taken}
+use Rattle.chess_model.specs.Holdings.{same_colour}
+use Rattle.fics_words.specs.declared.refusal.Refusal.{Refusal}
+use Rattle.fics_words.specs.declared.refusal.Refusal.TheVariants.{NotYourTurn, TooManyMoves}
+use Rattle.clock_ledger.specs.declared.charges.Charge.{Charge}
+use Rattle.game_board.specs.declared.played.Played.{Played}
+use Rattle.game_board.specs.Board.{Board, to_move, position_of, has_moved}
+use Rattle.game_board.specs.Causes.{first_cause, answered, in_words}
+use Rattle.game_board.specs.Charges.{is_timed}
+use Rattle.game_board.specs.WordAnswer.{word_answer}
+
+-- how many half-moves may be played on a board
+abbrev pub most_played : ℕ
+most_played = 1200
+
+-- why a colour may make no half-move now
+abbrev pub move_refused : Board → Colour → Option Refusal
+move_refused b c = first_cause ((not (same_colour c (to_move b)), NotYourTurn) ∷ (b.played == most_played, TooManyMoves) ∷ [])
+
+-- the half-move that a word of a colour stands for now, or the refusal
+unfoldable pub move_answer : Board → Colour → MoveWord → Result Move Refusal
+move_answer b c w = answered (move_refused b c) (in_words (word_answer (position_of b) w))
+
+-- the charge of the next half-move, where it is made at that moment: the first one of each colour has none
+abbrev pub next_charge : Board → ℕ → Option Charge
+next_charge b moment =
+    if is_timed b.terms && has_moved (to_move b) b.list
+    then Some (record { begin = b.begin; end = moment; client = None })
+    else None
+
+-- the board after a half-move at that moment
+abbrev pub with_half_move : Board → Move → ℕ → Board
+with_half_move b m moment = record {
+  terms = b.terms;
+  list = b.list ++ record { what = m; charge = next_charge b moment } ∷ [];
+  begin = moment;
+  played = b.played + 1;
+}
+
+-- the man that a half-move captures
+abbrev pub captured : Board → Move → Option Man
+captured b m = taken (position_of b).men m
+
+-- the reply to a word: the captured man, or the refusal
+abbrev pub play_reply : Board → Result Move Refusal → Result (Option Man) Refusal
+play_reply b (Ok m) = Ok (captured b m)
+play_reply b (Err r) = Err r
+
+-- the board after a word: one half-move more, or as it was
+abbrev pub play_after : Board → ℕ → Result Move Refusal → Board
+play_after b moment (Ok m) = with_half_move b m moment
+play_after b moment (Err r) = b

@@ -1,0 +1,379 @@
+ghost use Rattle.std.specs.Prelude.{◌≡◌, Option, ◌<◌, ◌≤◌, ◌+◌, ◌^◌, [], ◌++◌, ◌∷◌, IfOk, OnOk, OnErr, IfSome, length, option_and_then};
+ghost use Rattle.std.specs.Option.{option_to_list};
+ghost use Rattle.chess_model.specs.Position.{Stands};
+ghost use Rattle.clock_ledger.specs.declared.charges.Charge.{Charge};
+ghost use Rattle.clock_ledger.specs.Charges.{IsChargeable};
+ghost use Rattle.game_board.specs.Charges.{charge_to};
+ghost use Rattle.chess_model.specs.Holdings.{same_colour};
+ghost use Rattle.game_board.specs.Flag.{is_bare, has_only_king};
+ghost use Rattle.chess_model.specs.Allowed.{Allowed, IsLegal};
+
+use crate::causes::{answer_of, captured_by};
+use crate::played::Played;
+use chess_model::{Colour, Face, Kind, Man, Move, MoveWord, PlainBoard, Shown, Terms, Variant};
+use clock_ledger::{Charge, ClockLedger};
+use collections::Roomy;
+use fics_words::Refusal;
+use memory::NoMemory;
+use move_writer::{face, plain_shown};
+use std::alloc::Global;
+use std::marker::Model;
+
+/// How many half-moves may be played on one board.
+pub const MOST_PLAYED: u16 = 1200;
+
+/// A game on one board with its clocks, from the start.
+#[derive(Debug, Drop)]
+pub struct GameBoard {
+    terms: Terms,
+    position: PlainBoard,
+    list: Roomy<Played, 1200>,
+    /// What a printed board shows of the last half-move.
+    last: Option<Shown>,
+    white: ClockLedger,
+    black: ClockLedger,
+    begin: u64,
+    played: u16,
+}
+
+impl Model for GameBoard {
+    ghost use Rattle.game_board.specs.Board.{Board};
+
+    ghost Value = { Board };
+
+    ghost use Rattle.game_board.specs.Kept.{IsKept};
+
+    ghost view = { λ g. record { terms = g.terms; list = g.list; begin = g.begin; played = g.played } };
+
+    ghost invariant = { IsKept };
+}
+
+impl GameBoard {
+    ghost use Rattle.game_board.specs.Board.{to_move, position_of, has_moved, half_moves};
+    ghost use Rattle.game_board.specs.BoardFace.{board_face, last_played, time_taken};
+    ghost use Rattle.game_board.specs.Charges.{clock_of, is_timed};
+    ghost use Rattle.game_board.specs.Play.{move_answer, next_charge, with_half_move, play_reply, play_after};
+    ghost use Rattle.game_board.specs.Flag.{flag_answer, running, has_fallen, cannot_win};
+
+    /// A game at its start, whose first player begins to think at `moment`. Room for all its half-moves and charges
+    /// is taken here, and no later call takes memory.
+    pub fn start(alloc: Global, terms: Terms, moment: u64) -> Result<GameBoard, NoMemory>
+        requires { moment ≤ 2 ^ 48 }
+        ensures { IfOk result (λ b. b ≡ record { terms = terms; list = []; begin = moment; played = 0 }) }
+    {
+        Ok(GameBoard {
+            terms,
+            position: PlainBoard::start(terms.variant),
+            list: Roomy::new(alloc)?,
+            last: None,
+            white: ClockLedger::start(alloc, terms.minutes, terms.increment)?,
+            black: ClockLedger::start(alloc, terms.minutes, terms.increment)?,
+            begin: moment,
+            played: 0,
+        })
+    }
+
+    /// What the players agreed on.
+    pub fn terms(&self) -> Terms
+        ensures { result ≡ self.now.terms }
+    {
+        self.terms
+    }
+
+    /// The half-moves from the start, with their charges. Each was allowed after those before it.
+    pub fn list(&self) -> &[Played]
+        ensures list { result.now ≡ self.now.list }
+        ensures legal { IsLegal self.now.terms.variant (half_moves self.now.list) }
+    {
+        self.list.as_slice()
+    }
+
+    /// The colour that is to move.
+    pub fn to_move(&self) -> Colour
+        ensures { result ≡ to_move self.now }
+    {
+        self.position.to_move()
+    }
+
+    /// How many half-moves were played on the board.
+    pub fn played(&self) -> u16
+        ensures value { result ≡ self.now.played }
+        ensures most { self.now.played ≤ 1200 }
+    {
+        self.played
+    }
+
+    /// The moment, in milliseconds, from which the player to move is thinking.
+    pub fn begin(&self) -> u64
+        ensures value { result ≡ self.now.begin }
+        ensures most { self.now.begin ≤ 2 ^ 48 }
+    {
+        self.begin
+    }
+
+    /// The clock of a colour. It doesn't count time that is running.
+    pub fn ledger(&self, colour: Colour) -> &ClockLedger
+        ensures { result.now ≡ clock_of self.now.terms colour self.now.list }
+    {
+        match colour {
+            Colour::White => &self.white,
+            Colour::Black => &self.black,
+        }
+    }
+
+    /// The position on the board.
+    pub fn position(&self) -> &PlainBoard
+        ensures { result.now ≡ position_of self.now }
+    {
+        &self.position
+    }
+
+    /// What a printed board shows of the game, names and clocks aside.
+    pub fn face(&self) -> Face
+        ensures { result ≡ board_face self.now }
+    {
+        face(self.position(), self.list.len() as u16, self.last.as_ref())
+    }
+
+    /// The time that the last half-move is charged with, in milliseconds; 0 where it has no charge.
+    pub fn time_taken(&self) -> u64
+        ensures { result ≡ time_taken self.now.list }
+    {
+        match self.last_charge() {
+            Some(charge) => charge.amount(),
+            None => 0,
+        }
+    }
+
+    /// The charge of the last half-move, if it has one.
+    fn last_charge(&self) -> Option<Charge>
+        ensures value { result ≡ option_and_then (λ p. p.charge) (last_played self.now.list) }
+        ensures sound { IfSome result IsChargeable }
+    {
+        let last = self.list.as_slice().last()?;
+        last.charge
+    }
+
+    /// Whether it is that colour's turn.
+    fn is_turn_of(&self, colour: Colour) -> bool
+        ensures { result ≡ same_colour colour (to_move self.now) }
+    {
+        is_same_colour(colour, self.to_move())
+    }
+
+    /// Whether that colour has made a half-move.
+    fn has_moved(&self, colour: Colour) -> bool
+        ensures { result ≡ has_moved colour self.now.list }
+    {
+        match colour {
+            Colour::White => self.list.len() > 0,
+            Colour::Black => self.list.len() > 1,
+        }
+    }
+
+    /// Whether the game is played with clocks.
+    fn is_timed(&self) -> bool
+        ensures { result ≡ is_timed self.now.terms }
+    {
+        self.white.timed()
+    }
+
+    /// The charge of a half-move that is made now.
+    fn next_charge(&self, moment: u64) -> Option<Charge>
+        ensures { result ≡ next_charge self.now moment }
+    {
+        if !self.is_timed() || !self.has_moved(self.to_move()) {
+            return None;
+        }
+        Some(Charge {
+            begin: self.begin,
+            end: moment,
+            client: None,
+        })
+    }
+
+    /// The half-move that a word of a colour stands for now, or the refusal.
+    #[tactic(auto, unfolding(crate::specs::Play::move_answer))]
+    fn resolve(&self, colour: Colour, word: &MoveWord) -> Result<Move, Refusal>
+        ensures answer { result ≡ move_answer self.now colour word.now }
+        ensures allowed { IfOk result (Allowed (position_of self.now)) }
+        ensures room { OnOk result (self.now.played < 1200) }
+    {
+        if !self.is_turn_of(colour) {
+            return Err(Refusal::NotYourTurn);
+        }
+        if self.played == MOST_PLAYED {
+            return Err(Refusal::TooManyMoves);
+        }
+        answer_of(self.position(), word)
+    }
+
+    /// The position after an allowed half-move, whatever its charge.
+    fn next_position(&self, what: &Move) -> PlainBoard
+        requires { Allowed (position_of self.now) what.now }
+        ensures stands { (charge : Option Charge) → Stands result (half_moves (self.now.list ++ record { what = what.now; charge = charge } ∷ [])) 1 }
+        ensures variant { result.variant ≡ self.now.terms.variant }
+        ensures legal { (charge : Option Charge) → IsLegal self.now.terms.variant (half_moves (self.now.list ++ record { what = what.now; charge = charge } ∷ [])) }
+    {
+        let made = *what;
+        self.position.after(made)
+    }
+
+    /// Makes an allowed half-move.
+    fn make(&mut self, what: &Move, moment: u64)
+        requires allowed { Allowed (position_of self.old) what.now }
+        requires room { self.old.played < 1200 }
+        requires order { self.old.begin ≤ moment }
+        requires moment { moment ≤ 2 ^ 48 }
+        ensures { self.new ≡ with_half_move self.old what.now moment }
+    {
+        let charge = self.next_charge(moment);
+        let shown = plain_shown(self.position(), what);
+        let next = self.next_position(what);
+        let mover = self.to_move();
+        charge_clocks(&mut self.white, &mut self.black, mover, charge);
+        self.position = next;
+        self.last = Some(shown);
+        self.list.push(Played {
+            what: *what,
+            charge,
+        });
+        self.begin = moment;
+        self.played += 1;
+    }
+
+    /// Plays a word of `colour` at `moment`, in milliseconds, and gives the man that the half-move captures. Refuses
+    /// with `NotYourTurn`, then `TooManyMoves` at 1,200 half-moves, then as the rules answer the word; a refusal
+    /// changes nothing.
+    pub fn play(
+        &mut self,
+        colour: Colour,
+        word: &MoveWord,
+        moment: u64,
+    ) -> Result<Option<Man>, Refusal>
+        requires order { self.old.begin ≤ moment }
+        requires moment { moment ≤ 2 ^ 48 }
+        ensures reply { result ≡ play_reply self.old (move_answer self.old colour word.now) }
+        ensures after { self.new ≡ play_after self.old moment (move_answer self.old colour word.now) }
+        ensures unchanged { OnErr result (self.new ≡ self.old) }
+    {
+        let what = self.resolve(colour, word)?;
+        let captured = captured_by(self.position(), &what);
+        self.make(&what, moment);
+        Ok(captured)
+    }
+
+    /// Calls the flag on the opponent of `caller` at `moment`, in milliseconds: gives the winner, or None for a draw.
+    /// Refuses with `NotFallen` where the opponent has time left, the running time counted.
+    #[tactic(auto, unfolding(crate::specs::Flag::flag_answer))]
+    pub fn flag(&self, caller: Colour, moment: u64) -> Result<Option<Colour>, Refusal>
+        requires order { self.now.begin ≤ moment }
+        requires moment { moment ≤ 2 ^ 48 }
+        ensures { result ≡ flag_answer self.now caller moment }
+    {
+        if !self.has_fallen(caller.opposite(), moment) {
+            return Err(Refusal::NotFallen);
+        }
+        if self.cannot_win(caller, moment) {
+            return Ok(None);
+        }
+        Ok(Some(caller))
+    }
+
+    /// The time that is running against a colour.
+    fn running(&self, colour: Colour, moment: u64) -> u64
+        requires { self.now.begin ≤ moment }
+        ensures value { result ≡ running self.now colour moment }
+        ensures most { result ≤ moment }
+    {
+        if self.is_turn_of(colour) && self.has_moved(colour) {
+            moment - self.begin
+        } else {
+            0
+        }
+    }
+
+    /// Whether a colour's clock has fallen.
+    fn has_fallen(&self, colour: Colour, moment: u64) -> bool
+        requires order { self.now.begin ≤ moment }
+        requires moment { moment ≤ 2 ^ 48 }
+        ensures { result ≡ has_fallen self.now colour moment }
+    {
+        if !self.is_timed() {
+            return false;
+        }
+        self.ledger(colour).remaining() <= self.running(colour, moment) as i64
+    }
+
+    /// Whether the caller of a flag can't win by it.
+    fn cannot_win(&self, caller: Colour, moment: u64) -> bool
+        requires order { self.now.begin ≤ moment }
+        requires moment { moment ≤ 2 ^ 48 }
+        ensures { result ≡ cannot_win self.now caller moment }
+    {
+        if self.has_fallen(caller, moment) {
+            return true;
+        }
+        match self.terms.variant {
+            Variant::Chess => has_only_king(self.position(), caller),
+            Variant::Crazyhouse => false,
+            Variant::Bughouse => false,
+        }
+    }
+}
+
+/// Whether no man, a man of the other colour or a king stands there.
+fn is_bare(colour: Colour, man: &Option<Man>) -> bool
+    ensures { result ≡ is_bare colour man.now }
+{
+    match man {
+        None => true,
+        Some(man) => !is_same_colour(man.colour, colour) || matches!(man.kind, Kind::King),
+    }
+}
+
+fn is_same_colour(a: Colour, b: Colour) -> bool
+    ensures { result ≡ same_colour a b }
+{
+    match a {
+        Colour::White => matches!(b, Colour::White),
+        Colour::Black => matches!(b, Colour::Black),
+    }
+}
+
+/// Whether a colour has only a king.
+fn has_only_king(position: &PlainBoard, colour: Colour) -> bool
+    ensures { result ≡ has_only_king position.now.men colour }
+{
+    position.men().iter().all(|man| is_bare(colour, man))
+}
+
+/// Records a charge on the clock of the colour that moved, where there is one.
+fn charge_clocks(
+    white: &mut ClockLedger,
+    black: &mut ClockLedger,
+    mover: Colour,
+    charge: Option<Charge>,
+)
+    requires white_room { mover ≡ Colour.White → length white.old.charges < 600 }
+    requires black_room { mover ≡ Colour.Black → length black.old.charges < 600 }
+    requires sound { IfSome charge IsChargeable }
+    ensures white { white.new ≡ record white.old { charges = white.old.charges ++ charge_to Colour.White mover charge } }
+    ensures black { black.new ≡ record black.old { charges = black.old.charges ++ charge_to Colour.Black mover charge } }
+{
+    match mover {
+        Colour::White => charge_clock(white, charge),
+        Colour::Black => charge_clock(black, charge),
+    }
+}
+
+/// Records a charge, where there is one.
+fn charge_clock(clock: &mut ClockLedger, charge: Option<Charge>)
+    requires room { length clock.old.charges < 600 }
+    requires sound { IfSome charge IsChargeable }
+    ensures { clock.new ≡ record clock.old { charges = clock.old.charges ++ option_to_list charge } }
+{
+    if let Some(charge) = charge {
+        clock.charge(charge);
+    }
+}

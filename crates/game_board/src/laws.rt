@@ -1,0 +1,39 @@
+//! What the definitions mean for players, as calls that do nothing: what each ensures is the law.
+ghost use Rattle.std.specs.Prelude.{◌≡◌, ◌≢◌, ◌<◌, ◌++◌, ◌∷◌, [], ◌↔◌, Ok, Err};
+ghost use Rattle.std.specs.Option.{option_to_list};
+ghost use Rattle.chess_model.specs.declared.man.Colour.{Colour};
+ghost use Rattle.chess_model.specs.declared.moves.Move.{Move};
+ghost use Rattle.chess_model.specs.Placement.{opposite};
+ghost use Rattle.chess_model.specs.Answer.{IsAnswer};
+ghost use Rattle.game_board.specs.Board.{to_move, turn_after, position_of};
+ghost use Rattle.game_board.specs.Charges.{charges_of};
+ghost use Rattle.game_board.specs.Play.{move_answer};
+ghost use Rattle.game_board.specs.WordAnswer.{IsWordAnswer, word_answer};
+
+use crate::game_board::GameBoard;
+use crate::played::Played;
+use chess_model::{Colour, MoveWord, PlainBoard};
+use fics_words::Refusal;
+
+/// The charges of the colours follow the list of half-moves: there are none at the start, and a half-move adds its
+/// charge to the colour whose turn it was, and nothing to the other.
+pub fn charges_follow_the_list(list: &[Played], next: &Played)
+    ensures start { (c : Colour) → charges_of c [] ≡ [] }
+    ensures own { (c : Colour) → turn_after list.now ≡ c → charges_of c (list.now ++ next.now ∷ []) ≡ charges_of c list.now ++ option_to_list next.now.charge }
+    ensures other { (c : Colour) → turn_after list.now ≡ opposite c → charges_of c (list.now ++ next.now ∷ []) ≡ charges_of c list.now }
+{}
+
+/// The answer to a word is the one of the rules: the allowed move that alone matches it, or the first refusal that
+/// applies.
+pub fn words_are_answered_by_the_rules(position: &PlainBoard, word: &MoveWord)
+    ensures { IsWordAnswer position.now word.now (word_answer position.now word.now) }
+{}
+
+/// A board with room takes from the colour to move exactly the words that have an answer by the rules, and takes
+/// nothing from the other colour.
+pub fn play_takes_exactly_the_answers(board: &GameBoard, colour: Colour, word: &MoveWord)
+    ensures own { to_move board.now ≡ colour → board.now.played < 1200 →
+        (m : Move) → (move_answer board.now colour word.now ≡ Ok m) ↔ IsAnswer (position_of board.now) word.now m }
+    ensures other { to_move board.now ≢ colour → move_answer board.now colour word.now ≡ Err Refusal.NotYourTurn }
+    ensures full { to_move board.now ≡ colour → board.now.played ≡ 1200 → move_answer board.now colour word.now ≡ Err Refusal.TooManyMoves }
+{}

@@ -1,0 +1,19 @@
+//! A game on one board with its clocks.
+//!
+//! A `GameBoard` is seen as its list of half-moves, each with its charge, and the moment from which the player to
+//! move is thinking. It keeps a position and two clocks, so that no call grows with the game. The contract: `play`
+//! takes exactly the words that the rules of chess give a half-move, charges the thinking time to the clock of
+//! whoever moved, and changes nothing where it refuses; `flag` answers by the clocks with the running time counted.
+#![tactic(auto)]
+
+mod causes;
+mod game_board;
+mod laws;
+mod played;
+
+pub use clock_ledger::{Charge, ClockLedger};
+pub use game_board::{GameBoard, MOST_PLAYED};
+pub use laws::{
+    charges_follow_the_list, play_takes_exactly_the_answers, words_are_answered_by_the_rules,
+};
+pub use played::Played;

@@ -1,0 +1,5 @@
+pub mod Face
+pub mod Letters
+pub mod Pretty
+pub mod Unbroken
+pub mod Verbose

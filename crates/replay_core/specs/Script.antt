@@ -1,0 +1,41 @@
+-- The lines of a replay script, which say what comes from whom and when: this server's own grammar.
+use Rattle.std.specs.Prelude.{ℕ, ◌^◌, ◌<◌, ◌≤◌, List, [], ◌∷◌, codes, decimal}
+use Rattle.std.specs.List.{join_with_byte}
+use Rattle.fics_words.specs.Line.{IsLine}
+use Rattle.replay_core.specs.Words.{blank}
+use Rattle.replay_core.specs.declared.script.ScriptEvent.{ScriptEvent}
+use Rattle.replay_core.specs.declared.script.ScriptEvent.TheVariants.{Connect, Cut, Quiet, Plain, Stamped, Ack}
+use Rattle.replay_core.specs.declared.script.ScriptLine.{ScriptLine}
+
+-- a client's clock in milliseconds, which starts again at 10,000,000
+abbrev pub IsStamp : ℕ → Type 0
+IsStamp stamp = stamp < 10000000
+
+-- what can come from a session
+abbrev pub IsEvent : ScriptEvent → Type 0
+IsEvent Connect = Unit {0}
+IsEvent Cut = Unit {0}
+IsEvent Quiet = Unit {0}
+IsEvent (Plain text) = IsLine text
+IsEvent (Stamped stamp text) = IsStamp stamp × IsLine text
+IsEvent (Ack stamp) = IsStamp stamp
+
+-- moments are milliseconds, and a script has up to 64 sessions
+pub record IsScriptLine (line : ScriptLine) : Type 0 where
+  pub moment : line.moment ≤ 2 ^ 48
+  pub first : 1 ≤ line.session
+  pub last : line.session ≤ 64
+  pub event : IsEvent line.event
+
+-- how an event is written
+abbrev pub event_text : ScriptEvent → List ℕ
+event_text Connect = codes "+"
+event_text Cut = codes "-"
+event_text Quiet = codes "?"
+event_text (Plain text) = join_with_byte blank (codes ">" ∷ text ∷ [])
+event_text (Stamped stamp text) = join_with_byte blank (codes "*" ∷ decimal stamp ∷ text ∷ [])
+event_text (Ack stamp) = join_with_byte blank (codes "!" ∷ decimal stamp ∷ [])
+
+-- the one way in which a line is written: the moment, the session and the event, with one blank between them
+abbrev pub script_text : ScriptLine → List ℕ
+script_text line = join_with_byte blank (decimal line.moment ∷ decimal line.session ∷ event_text line.event ∷ [])

@@ -1,0 +1,23 @@
+//! The replay script: an evening of the server, written down line by line.
+//!
+//! A script may begin with a seat line, which says who plays what at the start. Each other line says what comes from
+//! one session at one moment.
+//!
+//! - The contract of the readers: `read_script` and `read_seat` give a value exactly where the line is the one text of a
+//!   value in range, so no line has two readings (`one_reading`).
+//! - The rule on the order of the lines stands in `specs/Order.antt`: a session connects once, before all else that comes
+//!   from it, nothing comes from it once it has left, and moments never fall. `Progress` is told one line after another,
+//!   and says of the next whether it may come.
+#![tactic(auto)]
+
+mod laws;
+mod order;
+mod script;
+mod seat_line;
+mod words;
+
+pub use fics_words::{Duplicate, NoMemory};
+pub use laws::{one_reading, order_by_steps, order_of_two};
+pub use order::Progress;
+pub use script::{ScriptEvent, ScriptLine, read_script};
+pub use seat_line::{SeatLine, read_seat};

@@ -1,0 +1,10 @@
+use Rattle.std.proofs.Common.{ℕ, List, ◌∙◌, sym, subst}
+use Rattle.std.specs.Prelude.{IsTrue}
+use Rattle.std.specs.List.{list_all}
+use Rattle.chess_model.specs.MoveText.{is_printable}
+use Rattle.style12_writer.proofs.Printed.{printable-decimal}
+use Rattle.style12_writer.proofs.draft.Draft.number.Goals as goal
+
+pub text-requires : goal.text-requires
+text-requires c =
+    subst (λ (text : List ℕ). IsTrue (list_all is_printable text)) (sym (c.as_bytes.ensures.value ∙ c.format.ensures.text)) (printable-decimal _)

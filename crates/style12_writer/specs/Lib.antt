@@ -1,0 +1,5 @@
+pub mod Board
+pub mod Clocks
+pub mod EndLine
+pub mod Line12
+pub mod Spaced

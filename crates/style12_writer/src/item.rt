@@ -1,0 +1,47 @@
+//! What waits for the viewers of a game.
+use crate::view::BoardView;
+use chess_model::{Colour, Why};
+use collections::Listed;
+use fics_words::{Duplicate, Line, NoMemory};
+
+/// Lines, seen as their list.
+pub type LineList = Listed<Line>;
+
+/// Items, seen as their list.
+pub type ItemList = Listed<Item>;
+
+/// One thing that the viewers of a game are told.
+#[derive(Debug, Drop)]
+pub enum Item {
+    /// A board line.
+    Board(BoardView),
+    /// A line of text.
+    Talk(Line),
+    /// The line of a game's end, by what `end_line` takes.
+    End {
+        view: BoardView,
+        why: Why,
+        winner: Option<Colour>,
+        own: bool,
+    },
+}
+
+impl Duplicate for Item {
+    fn duplicate(&self) -> Result<Item, NoMemory> {
+        Ok(match self {
+            Item::Board(view) => Item::Board(*view),
+            Item::Talk(line) => Item::Talk(line.duplicate()?),
+            Item::End {
+                view,
+                why,
+                winner,
+                own,
+            } => Item::End {
+                view: *view,
+                why: *why,
+                winner: *winner,
+                own: *own,
+            },
+        })
+    }
+}

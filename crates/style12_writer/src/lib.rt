@@ -1,0 +1,17 @@
+//! The lines that show a game to a player's client: the board line of FICS style 12 and the line of a game's end.
+//!
+//! The contract: `line12` writes exactly the 31 fields that `specs/Line12.antt` names, between single blanks, and
+//! `end_line` the text of `specs/EndLine.antt`, for every view. Both answer `NoMemory` for want of memory alone.
+#![tactic(auto)]
+
+mod board;
+mod draft;
+mod end;
+mod item;
+mod line;
+mod view;
+
+pub use end::{end_line, is_decisive};
+pub use item::{Item, ItemList, LineList};
+pub use line::{line12, line12_fields};
+pub use view::{BoardView, Viewer};

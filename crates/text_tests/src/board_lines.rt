@@ -1,0 +1,194 @@
+//! Board lines of games that are played.
+
+use crate::games::{Game, played, untimed};
+use chess_model::{State, Variant};
+use std::test::Fail;
+use style12_writer::{BoardView, Viewer, line12};
+
+const OBSERVER: Viewer = Viewer {
+    relation: 0,
+    flip: false,
+};
+
+/// Chess games between White and Black, and the line of their last position as an observer sees it.
+const CHESS: [(&str, &str); 14] = [
+    (
+        "",
+        "<12> rnbqkbnr pppppppp -------- -------- -------- -------- PPPPPPPP RNBQKBNR W -1 1 1 1 1 0 1 White Black 0 0 0 39 39 0 0 1 none (0:00) none 0",
+    ),
+    (
+        "e2e4",
+        "<12> rnbqkbnr pppppppp -------- -------- ----P--- -------- PPPP-PPP RNBQKBNR B 4 1 1 1 1 0 1 White Black 0 0 0 39 39 0 0 1 P/e2-e4 (0:00) e4 0",
+    ),
+    // a single step is no double push
+    (
+        "h2h3",
+        "<12> rnbqkbnr pppppppp -------- -------- -------- -------P PPPPPPP- RNBQKBNR B -1 1 1 1 1 0 1 White Black 0 0 0 39 39 0 0 1 P/h2-h3 (0:00) h3 0",
+    ),
+    // the file of a double push stands for one half-move alone
+    (
+        "a2a4 h7h5",
+        "<12> rnbqkbnr ppppppp- -------- -------p P------- -------- -PPPPPPP RNBQKBNR W 7 1 1 1 1 0 1 White Black 0 0 0 39 39 0 0 2 P/h7-h5 (0:00) h5 0",
+    ),
+    (
+        "a2a4 h7h5 b1c3",
+        "<12> rnbqkbnr ppppppp- -------- -------p P------- --N----- -PPPPPPP R-BQKBNR B -1 1 1 1 1 1 1 White Black 0 0 0 39 39 0 0 2 N/b1-c3 (0:00) Nb1c3 0",
+    ),
+    (
+        "e2e4 d7d5 e4d5 d8d5",
+        "<12> rnb-kbnr ppp-pppp -------- ---q---- -------- -------- PPPP-PPP RNBQKBNR W -1 1 1 1 1 0 1 White Black 0 0 0 38 38 0 0 3 Q/d8-d5 (0:00) Qd8xd5 0",
+    ),
+    (
+        "e2e4 a7a6 e4e5 d7d5",
+        "<12> rnbqkbnr -pp-pppp p------- ---pP--- -------- -------- PPPP-PPP RNBQKBNR W 3 1 1 1 1 0 1 White Black 0 0 0 39 39 0 0 3 P/d7-d5 (0:00) d5 0",
+    ),
+    // en passant
+    (
+        "e2e4 a7a6 e4e5 d7d5 e5d6",
+        "<12> rnbqkbnr -pp-pppp p--P---- -------- -------- -------- PPPP-PPP RNBQKBNR B -1 1 1 1 1 0 1 White Black 0 0 0 39 38 0 0 3 P/e5-d6 (0:00) exd6 0",
+    ),
+    // the king's move takes both rights away
+    (
+        "e2e4 e7e5 e1e2",
+        "<12> rnbqkbnr pppp-ppp -------- ----p--- ----P--- -------- PPPPKPPP RNBQ-BNR B -1 0 0 1 1 1 1 White Black 0 0 0 39 39 0 0 2 K/e1-e2 (0:00) Ke1e2 0",
+    ),
+    // a rook's move takes one away, and its way back doesn't give it again
+    (
+        "a2a4 a7a5 a1a2 a8a7 a2a1",
+        "<12> -nbqkbnr rppppppp -------- p------- P------- -------- -PPPPPPP RNBQKBNR B -1 1 0 1 0 3 1 White Black 0 0 0 39 39 0 0 3 R/a2-a1 (0:00) Ra2a1 0",
+    ),
+    (
+        "g1f3 g8f6 g2g3 g7g6 f1g2 f8g7 O-O",
+        "<12> rnbqk--r ppppppbp -----np- -------- -------- -----NP- PPPPPPBP RNBQ-RK- B -1 0 0 1 1 3 1 White Black 0 0 0 39 39 0 0 4 o-o (0:00) O-O 0",
+    ),
+    (
+        "g1f3 g8f6 g2g3 g7g6 f1g2 f8g7 O-O O-O",
+        "<12> rnbq-rk- ppppppbp -----np- -------- -------- -----NP- PPPPPPBP RNBQ-RK- W -1 0 0 0 0 4 1 White Black 0 0 0 39 39 0 0 5 o-o (0:00) O-O 0",
+    ),
+    (
+        "d2d4 d7d5 b1c3 b8c6 c1f4 c8f5 d1d2 d8d7 O-O-O",
+        "<12> r---kbnr pppqpppp --n----- ---p-b-- ---P-B-- --N----- PPPQPPPP --KR-BNR B -1 0 0 1 1 7 1 White Black 0 0 0 39 39 0 0 5 o-o-o (0:00) O-O-O 0",
+    ),
+    // a promoted queen counts 9
+    (
+        "a2a4 b7b5 a4b5 a7a6 b5a6 h7h6 a6a7 h6h5 a7b8q",
+        "<12> rQbqkbnr --ppppp- -------- -------p -------- -------- -PPPPPPP RNBQKBNR B -1 1 1 1 1 0 1 White Black 0 0 0 47 34 0 0 5 P/a7-b8=Q (0:00) axb8=Q 0",
+    ),
+];
+
+#[test]
+fn shows_chess(rt: HostRuntime) -> Result<(), Fail> {
+    for (words, text) in CHESS {
+        let game = played(Variant::Chess, words).ok_or("a move that isn't allowed")?;
+        let view = untimed(game.face(), "White", "Black").ok_or("names")?;
+        let line = line12(rt.alloc(), &view, OBSERVER)?;
+        assert_eq!(rt; line.bytes(), text.as_bytes());
+    }
+    Ok(())
+}
+
+#[test]
+fn shows_a_drop(rt: HostRuntime) -> Result<(), Fail> {
+    let game = played(Variant::Crazyhouse, "e2e4 d7d5 e4d5 b8c6 P@e4").ok_or("a game")?;
+    let view = untimed(game.face(), "White", "Black").ok_or("names")?;
+    let line = line12(rt.alloc(), &view, OBSERVER)?;
+    // White has a ninth pawn on the board
+    let text =
+        "<12> r-bqkbnr ppp-pppp --n----- ---P---- ----P--- -------- PPPP-PPP RNBQKBNR B -1 1 1 1 1 0 1 White Black 0 0 0 40 38 0 0 3 P/@@-e4 (0:00) P@e4 0";
+    assert_eq!(rt; line.bytes(), text.as_bytes());
+    Ok(())
+}
+
+/// The same game, its last half-move with the short text's marks.
+fn shown_as(game: &Game, by_file: bool, after: State) -> Game {
+    let mut marked = *game;
+    if let Some(shown) = &mut marked.last {
+        shown.by_file = by_file;
+        shown.by_rank = false;
+        shown.after = after;
+    }
+    marked
+}
+
+fn timed(
+    view: BoardView,
+    minutes: u16,
+    increment: u16,
+    remaining: [i64; 2],
+    taken: u64,
+) -> BoardView {
+    BoardView {
+        minutes,
+        increment,
+        remaining,
+        taken,
+        ..view
+    }
+}
+
+#[test]
+fn shows_marks(rt: HostRuntime) -> Result<(), Fail> {
+    let knights = played(Variant::Chess, "d2d4 d7d5 g1f3 g8f6 b1d2").ok_or("a game")?;
+    let knights = shown_as(&knights, true, State::Going);
+    let view = untimed(knights.face(), "White", "Black").ok_or("names")?;
+    let line = line12(rt.alloc(), &view, OBSERVER)?;
+    let text =
+        "<12> rnbqkb-r ppp-pppp -----n-- ---p---- ---P---- -----N-- PPPNPPPP R-BQKB-R B -1 1 1 1 1 3 1 White Black 0 0 0 39 39 0 0 3 N/b1-d2 (0:00) Nbd2 0";
+    assert_eq!(rt; line.bytes(), text.as_bytes());
+    let mate = played(Variant::Chess, "f2f3 e7e5 g2g4 d8h4").ok_or("a game")?;
+    let mate = shown_as(&mate, false, State::Mate);
+    let view = untimed(mate.face(), "White", "Black").ok_or("names")?;
+    let line = line12(rt.alloc(), &view, OBSERVER)?;
+    let text =
+        "<12> rnb-kbnr pppp-ppp -------- ----p--- ------Pq -----P-- PPPPP--P RNBQKBNR W -1 1 1 1 1 1 1 White Black 0 0 0 39 39 0 0 3 Q/d8-h4 (0:00) Qh4# 0";
+    assert_eq!(rt; line.bytes(), text.as_bytes());
+    Ok(())
+}
+
+#[test]
+fn shows_clocks_and_viewers(rt: HostRuntime) -> Result<(), Fail> {
+    let start = played(Variant::Chess, "").ok_or("a game")?;
+    let view = untimed(start.face(), "Alice", "Bob").ok_or("names")?;
+    let view = timed(view, 5, 0, [300_000, 300_000], 0);
+    let bob = Viewer {
+        relation: -1,
+        flip: true,
+    };
+    let line = line12(rt.alloc(), &view, bob)?;
+    let text =
+        "<12> rnbqkbnr pppppppp -------- -------- -------- -------- PPPPPPPP RNBQKBNR W -1 1 1 1 1 0 1 Alice Bob -1 5 0 39 39 300 300 1 none (0:00) none 1";
+    assert_eq!(rt; line.bytes(), text.as_bytes());
+
+    let takes = played(Variant::Bughouse, "e2e4 d7d5 e4d5").ok_or("a game")?;
+    let view = untimed(takes.face(), "Ann", "Ben").ok_or("names")?;
+    let view = timed(view, 2, 0, [119_000, 120_000], 1_000);
+    let ann = Viewer {
+        relation: -1,
+        flip: false,
+    };
+    let line = line12(rt.alloc(), &view, ann)?;
+    let text =
+        "<12> rnbqkbnr ppp-pppp -------- ---P---- -------- -------- PPPP-PPP RNBQKBNR B -1 1 1 1 1 0 1 Ann Ben -1 2 0 39 38 119 120 2 P/e4-d5 (0:01) exd5 0";
+    assert_eq!(rt; line.bytes(), text.as_bytes());
+
+    let knight = played(Variant::Chess, "e2e4 e7e5 g1f3").ok_or("a game")?;
+    let view = untimed(knight.face(), "Ann", "Ben").ok_or("names")?;
+    let view = timed(view, 2, 12, [128_000, 120_000], 4_000);
+    let ben = Viewer {
+        relation: 1,
+        flip: true,
+    };
+    let line = line12(rt.alloc(), &view, ben)?;
+    let text =
+        "<12> rnbqkbnr pppp-ppp -------- ----p--- ----P--- -----N-- PPPP-PPP RNBQKB-R B -1 1 1 1 1 1 1 Ann Ben 1 2 12 39 39 128 120 2 N/g1-f3 (0:04) Ng1f3 1";
+    assert_eq!(rt; line.bytes(), text.as_bytes());
+
+    let unmarked = shown_as(&knight, false, State::Going);
+    let view = untimed(unmarked.face(), "Ann", "Ben").ok_or("names")?;
+    let view = timed(view, 2, 12, [128_000, 120_000], 4_000);
+    let line = line12(rt.alloc(), &view, ann)?;
+    let text =
+        "<12> rnbqkbnr pppp-ppp -------- ----p--- ----P--- -----N-- PPPP-PPP RNBQKB-R B -1 1 1 1 1 1 1 Ann Ben -1 2 12 39 39 128 120 2 N/g1-f3 (0:04) Nf3 0";
+    assert_eq!(rt; line.bytes(), text.as_bytes());
+    Ok(())
+}
