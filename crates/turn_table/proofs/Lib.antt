@@ -1,0 +1,9 @@
+pub mod Among
+pub mod Owing
+pub mod Beginning
+pub mod Taking
+pub mod Committing
+pub mod Giving
+pub mod Passing
+pub mod Keeping
+pub mod Ends
