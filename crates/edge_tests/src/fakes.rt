@@ -65,19 +65,16 @@ fn never_fails_with_an_empty_list(rt: HostRuntime) -> Result<(), Fail> {
     let mut source = MemSource::new(bytes, 1, Vec::new(rt.alloc()));
     let mut sink = MemSink::new(rt.alloc(), Vec::new(rt.alloc()));
     let mut buf = [0; 8];
-    let mut gave = 0;
     for _ in 0..100 {
         match source.read(&mut buf) {
             Got::Bytes(n) => {
                 assert_eq!(rt; n, 1);
-                gave += 1;
                 assert_eq!(rt; sink.write(&buf[..1]), Sent::All);
             }
             Got::End => {}
             Got::Failed => assert!(rt; false, "a fault"),
         }
     }
-    assert_eq!(rt; gave, 3);
     assert_eq!(rt; sink.written(), b"xyz".as_slice());
     Ok(())
 }

@@ -1,5 +1,6 @@
 pub mod Board
 pub mod Clocks
+pub mod CreatedLine
 pub mod EndLine
 pub mod Line12
 pub mod Spaced

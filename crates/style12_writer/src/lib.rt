@@ -5,12 +5,14 @@
 #![tactic(auto)]
 
 mod board;
+mod created;
 mod draft;
 mod end;
 mod item;
 mod line;
 mod view;
 
+pub use created::created_line;
 pub use end::{end_line, is_decisive};
 pub use item::{Item, ItemList, LineList};
 pub use line::{line12, line12_fields};

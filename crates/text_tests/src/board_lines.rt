@@ -1,9 +1,9 @@
 //! Board lines of games that are played.
 
-use crate::games::{Game, played, untimed};
+use crate::games::{Game, line_of, played, untimed};
 use chess_model::{State, Variant};
 use std::test::Fail;
-use style12_writer::{BoardView, Viewer, line12};
+use style12_writer::{BoardView, Viewer};
 
 const OBSERVER: Viewer = Viewer {
     relation: 0,
@@ -81,7 +81,7 @@ fn shows_chess(rt: HostRuntime) -> Result<(), Fail> {
     for (words, text) in CHESS {
         let game = played(Variant::Chess, words).ok_or("a move that isn't allowed")?;
         let view = untimed(game.face(), "White", "Black").ok_or("names")?;
-        let line = line12(rt.alloc(), &view, OBSERVER)?;
+        let line = line_of(rt.alloc(), &view, OBSERVER)?;
         assert_eq!(rt; line.bytes(), text.as_bytes());
     }
     Ok(())
@@ -91,7 +91,7 @@ fn shows_chess(rt: HostRuntime) -> Result<(), Fail> {
 fn shows_a_drop(rt: HostRuntime) -> Result<(), Fail> {
     let game = played(Variant::Crazyhouse, "e2e4 d7d5 e4d5 b8c6 P@e4").ok_or("a game")?;
     let view = untimed(game.face(), "White", "Black").ok_or("names")?;
-    let line = line12(rt.alloc(), &view, OBSERVER)?;
+    let line = line_of(rt.alloc(), &view, OBSERVER)?;
     // White has a ninth pawn on the board
     let text =
         "<12> r-bqkbnr ppp-pppp --n----- ---P---- ----P--- -------- PPPP-PPP RNBQKBNR B -1 1 1 1 1 0 1 White Black 0 0 0 40 38 0 0 3 P/@@-e4 (0:00) P@e4 0";
@@ -131,14 +131,14 @@ fn shows_marks(rt: HostRuntime) -> Result<(), Fail> {
     let knights = played(Variant::Chess, "d2d4 d7d5 g1f3 g8f6 b1d2").ok_or("a game")?;
     let knights = shown_as(&knights, true, State::Going);
     let view = untimed(knights.face(), "White", "Black").ok_or("names")?;
-    let line = line12(rt.alloc(), &view, OBSERVER)?;
+    let line = line_of(rt.alloc(), &view, OBSERVER)?;
     let text =
         "<12> rnbqkb-r ppp-pppp -----n-- ---p---- ---P---- -----N-- PPPNPPPP R-BQKB-R B -1 1 1 1 1 3 1 White Black 0 0 0 39 39 0 0 3 N/b1-d2 (0:00) Nbd2 0";
     assert_eq!(rt; line.bytes(), text.as_bytes());
     let mate = played(Variant::Chess, "f2f3 e7e5 g2g4 d8h4").ok_or("a game")?;
     let mate = shown_as(&mate, false, State::Mate);
     let view = untimed(mate.face(), "White", "Black").ok_or("names")?;
-    let line = line12(rt.alloc(), &view, OBSERVER)?;
+    let line = line_of(rt.alloc(), &view, OBSERVER)?;
     let text =
         "<12> rnb-kbnr pppp-ppp -------- ----p--- ------Pq -----P-- PPPPP--P RNBQKBNR W -1 1 1 1 1 1 1 White Black 0 0 0 39 39 0 0 3 Q/d8-h4 (0:00) Qh4# 0";
     assert_eq!(rt; line.bytes(), text.as_bytes());
@@ -146,7 +146,7 @@ fn shows_marks(rt: HostRuntime) -> Result<(), Fail> {
 }
 
 #[test]
-fn shows_clocks_and_viewers(rt: HostRuntime) -> Result<(), Fail> {
+fn shows_viewers(rt: HostRuntime) -> Result<(), Fail> {
     let start = played(Variant::Chess, "").ok_or("a game")?;
     let view = untimed(start.face(), "Alice", "Bob").ok_or("names")?;
     let view = timed(view, 5, 0, [300_000, 300_000], 0);
@@ -154,7 +154,7 @@ fn shows_clocks_and_viewers(rt: HostRuntime) -> Result<(), Fail> {
         relation: -1,
         flip: true,
     };
-    let line = line12(rt.alloc(), &view, bob)?;
+    let line = line_of(rt.alloc(), &view, bob)?;
     let text =
         "<12> rnbqkbnr pppppppp -------- -------- -------- -------- PPPPPPPP RNBQKBNR W -1 1 1 1 1 0 1 Alice Bob -1 5 0 39 39 300 300 1 none (0:00) none 1";
     assert_eq!(rt; line.bytes(), text.as_bytes());
@@ -166,11 +166,15 @@ fn shows_clocks_and_viewers(rt: HostRuntime) -> Result<(), Fail> {
         relation: -1,
         flip: false,
     };
-    let line = line12(rt.alloc(), &view, ann)?;
+    let line = line_of(rt.alloc(), &view, ann)?;
     let text =
         "<12> rnbqkbnr ppp-pppp -------- ---P---- -------- -------- PPPP-PPP RNBQKBNR B -1 1 1 1 1 0 1 Ann Ben -1 2 0 39 38 119 120 2 P/e4-d5 (0:01) exd5 0";
     assert_eq!(rt; line.bytes(), text.as_bytes());
+    Ok(())
+}
 
+#[test]
+fn shows_clocks(rt: HostRuntime) -> Result<(), Fail> {
     let knight = played(Variant::Chess, "e2e4 e7e5 g1f3").ok_or("a game")?;
     let view = untimed(knight.face(), "Ann", "Ben").ok_or("names")?;
     let view = timed(view, 2, 12, [128_000, 120_000], 4_000);
@@ -178,7 +182,7 @@ fn shows_clocks_and_viewers(rt: HostRuntime) -> Result<(), Fail> {
         relation: 1,
         flip: true,
     };
-    let line = line12(rt.alloc(), &view, ben)?;
+    let line = line_of(rt.alloc(), &view, ben)?;
     let text =
         "<12> rnbqkbnr pppp-ppp -------- ----p--- ----P--- -----N-- PPPP-PPP RNBQKB-R B -1 1 1 1 1 1 1 Ann Ben 1 2 12 39 39 128 120 2 N/g1-f3 (0:04) Ng1f3 1";
     assert_eq!(rt; line.bytes(), text.as_bytes());
@@ -186,7 +190,11 @@ fn shows_clocks_and_viewers(rt: HostRuntime) -> Result<(), Fail> {
     let unmarked = shown_as(&knight, false, State::Going);
     let view = untimed(unmarked.face(), "Ann", "Ben").ok_or("names")?;
     let view = timed(view, 2, 12, [128_000, 120_000], 4_000);
-    let line = line12(rt.alloc(), &view, ann)?;
+    let ann = Viewer {
+        relation: -1,
+        flip: false,
+    };
+    let line = line_of(rt.alloc(), &view, ann)?;
     let text =
         "<12> rnbqkbnr pppp-ppp -------- ----p--- ----P--- -----N-- PPPP-PPP RNBQKB-R B -1 1 1 1 1 1 1 Ann Ben -1 2 12 39 39 128 120 2 N/g1-f3 (0:04) Nf3 0";
     assert_eq!(rt; line.bytes(), text.as_bytes());

@@ -2,8 +2,10 @@
 
 use crate::games::{played, untimed};
 use chess_model::{Colour, Variant, Why};
+use fics_words::Line;
+use std::alloc::Global;
 use std::test::Fail;
-use style12_writer::{end_line, is_decisive};
+use style12_writer::{BoardView, end_line, is_decisive};
 
 const WHITE: Option<Colour> = Some(Colour::White);
 
@@ -112,15 +114,26 @@ const OTHER: [(Why, Option<Colour>, &str); 6] = [
     ),
 ];
 
+/// The line of an end, if a winner is given exactly where somebody won.
+fn ended(
+    alloc: Global,
+    board: &BoardView,
+    why: Why,
+    winner: Option<Colour>,
+    own: bool,
+) -> Result<Line, Fail> {
+    if winner.is_some() != is_decisive(why) {
+        return Err("a winner without a win, or a win without a winner".into());
+    }
+    Ok(end_line(alloc, board, why, winner, own)?)
+}
+
 #[test]
 fn tells_why(rt: HostRuntime) -> Result<(), Fail> {
     let game = played(Variant::Chess, "").ok_or("a game")?;
     let board = untimed(game.face(), "Alice", "Bob").ok_or("names")?;
     for (why, winner, text) in OWN {
-        if winner.is_some() != is_decisive(why) {
-            return Err("a winner without a win, or a win without a winner".into());
-        }
-        let line = end_line(rt.alloc(), &board, why, winner, true)?;
+        let line = ended(rt.alloc(), &board, why, winner, true)?;
         assert_eq!(rt; line.bytes(), text.as_bytes());
     }
     Ok(())
@@ -132,10 +145,7 @@ fn tells_the_partners(rt: HostRuntime) -> Result<(), Fail> {
     let mut board = untimed(game.face(), "Cat", "Dan").ok_or("names")?;
     board.game = 2;
     for (why, winner, text) in OTHER {
-        if winner.is_some() != is_decisive(why) {
-            return Err("a winner without a win, or a win without a winner".into());
-        }
-        let line = end_line(rt.alloc(), &board, why, winner, false)?;
+        let line = ended(rt.alloc(), &board, why, winner, false)?;
         assert_eq!(rt; line.bytes(), text.as_bytes());
     }
     Ok(())
@@ -146,7 +156,7 @@ fn tells_the_longest(rt: HostRuntime) -> Result<(), Fail> {
     let game = played(Variant::Chess, "").ok_or("a game")?;
     let mut board = untimed(game.face(), "Abcdefghijklmnopq", "Qponmlkjihgfedcba").ok_or("names")?;
     board.game = 65_535;
-    let line = end_line(rt.alloc(), &board, Why::Left, BLACK, true)?;
+    let line = ended(rt.alloc(), &board, Why::Left, BLACK, true)?;
     let text =
         "{Game 65535 (Abcdefghijklmnopq vs. Qponmlkjihgfedcba) Abcdefghijklmnopq forfeits by disconnection} 0-1";
     assert_eq!(rt; line.bytes(), text.as_bytes());

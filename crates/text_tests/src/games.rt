@@ -1,9 +1,10 @@
 //! Games that the tests play, and what is shown of them.
 
 use chess_model::{Face, Kind, Move, PlainBoard, Shown, Square, Variant};
-use fics_words::Handle;
+use fics_words::{Handle, Line, NoMemory};
 use move_writer::{face, plain_shown};
-use style12_writer::BoardView;
+use std::alloc::Global;
+use style12_writer::{BoardView, Viewer, line12};
 
 /// The board after some half-moves, how many there were, and how the last one is shown.
 #[derive(Clone, Copy)]
@@ -81,6 +82,11 @@ pub fn square(file: u8, rank: u8) -> Option<Square> {
         return None;
     }
     Square::of(8 * (rank - b'1') + (file - b'a'))
+}
+
+/// The line of a board, of which the tests know no more than what they read in it.
+pub fn line_of(alloc: Global, view: &BoardView, who: Viewer) -> Result<Line, NoMemory> {
+    line12(alloc, view, who)
 }
 
 /// A board of an untimed game 1 of these players.

@@ -1,9 +1,9 @@
 //! The times of a board line, and its greatest and least numbers.
 
-use crate::games::{played, untimed};
+use crate::games::{line_of, played, untimed};
 use chess_model::Variant;
 use std::test::Fail;
-use style12_writer::{Viewer, line12};
+use style12_writer::Viewer;
 
 /// White's and Black's remaining time and the time taken, in milliseconds, and what the line has from White's time on.
 const TIMES: [([i64; 2], u64, &str); 10] = [
@@ -44,7 +44,7 @@ fn shows_times(rt: HostRuntime) -> Result<(), Fail> {
     for (remaining, taken, end) in TIMES {
         view.remaining = remaining;
         view.taken = taken;
-        let line = line12(rt.alloc(), &view, observer)?;
+        let line = line_of(rt.alloc(), &view, observer)?;
         let text = format!(in rt.alloc(); "{before}{end}")?;
         assert_eq!(rt; line.bytes(), text.as_bytes());
     }
@@ -74,7 +74,7 @@ fn shows_the_greatest_numbers(rt: HostRuntime) -> Result<(), Fail> {
             relation,
             flip: true,
         };
-        let line = line12(rt.alloc(), &view, viewer)?;
+        let line = line_of(rt.alloc(), &view, viewer)?;
         assert_eq!(rt; line.bytes(), text.as_bytes());
     }
     Ok(())

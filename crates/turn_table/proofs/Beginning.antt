@@ -149,7 +149,10 @@ module _ {P A R : Type 0} (c : Core P A R) where
           newest = inl refl;
         } in
         let kept : Rule c opening (moved c opening s s.words s.homes id w) (renamed c opening n n.log n.holder) = stays c opening s n id v s.words s.homes w n.log n.holder rule at live owes in
-        let same : set s.words word (get_or s.words word 0) ≡ s.words = set-get_or s.words word 0 in
-        (w, keeps, tt, (renamed c opening n n.log n.holder, subst (λ (ws : List ℕ). Rule c opening (moved c opening s ws s.homes id w) (renamed c opening n n.log n.holder)) (sym same) kept),
-          (refl, refl, look s n id v rule at live, subst (λ (xs : List P). c.first a < length xs) (sym f.same_opening) first_there))
-
+        let same : set s.words word (get_or s.words word 0) ≡ s.words = set-get_or s.words word 0 in (
+          w,
+          keeps,
+          tt,
+          (renamed c opening n n.log n.holder, subst (λ (ws : List ℕ). Rule c opening (moved c opening s ws s.homes id w) (renamed c opening n n.log n.holder)) (sym same) kept),
+          (refl, refl, look s n id v rule at live, subst (λ (xs : List P). c.first a < length xs) (sym f.same_opening) first_there),
+        )

@@ -74,45 +74,45 @@ module _ {P A R : Type 0} (c : Core P A R) (law : Lawful c) (opening : List P) w
     others_stay k ne = ap (λ xs. slice_get xs k) after_is ∙ leaves_others c now v.number a k (⊎_elim
         (λ e. ne (ap n.holder e ∙ now_f.holds_own (c.first a) p all_out.first))
         (λ e. ⊎_elim
-            (λ t. let d : None ≡ Some k = sym t.0 ∙ (sym second_is ∙ e) in absurd cc)
-            (λ t. let d : Some t.0 ≡ Some k = sym t.2 ∙ (sym second_is ∙ e) in let z : t.0 ≡ k = cc in ne (ap n.holder (sym z) ∙ now_f.holds_own t.0 t.1 t.4))
-            facts))
+        (λ t. let d : None ≡ Some k = sym t.0 ∙ (sym second_is ∙ e) in absurd cc)
+        (λ t. let d : Some t.0 ≡ Some k = sym t.2 ∙ (sym second_is ∙ e) in let z : t.0 ≡ k = cc in ne (ap n.holder (sym z) ∙ now_f.holds_own t.0 t.1 t.4))
+        facts))
 
     -- each part that the view holds has the value that the act leaves
     held_value : (k : ℕ) (q : P) → In (k, q) v.held → slice_get (state c opening log') k ≡ Some (left_by c v.number a p o (k, q)).1
     held_value k q h =
         let among : (k ≡ c.first a) ⊎ (c.second p v.number a ≡ Some k) = now_f.only_parts a p all_out.flies all_out.pending all_out.first k (now_f.allowed k q h) in
         ap (λ xs. slice_get xs k) after_is ∙ ⊎_elim
-            (λ t.
-                let kf : k ≡ c.first a = ⊎_elim (λ e. e) (λ e. absurd (let d : None ≡ Some k = sym t.0 ∙ e in cc)) among in
-                let there : c.first a < length now = slice_get_length now (c.first a) p first_value in
-                ap (λ xs. slice_get xs k) (after_alone c now v.number a p first_value t.0)
-                ∙ (ap (slice_get (set now (c.first a) (c.one p None v.number a))) kf
-                ∙ (get_set_same now (c.first a) (c.one p None v.number a) there
-                ∙ (ap (λ x. Some (c.one p x v.number a)) (sym t.1)
-                ∙ ap (λ b. Some (cond b (c.one p o v.number a) (second_left c v.number a p o q))) (sym (eq-eqb k (c.first a) kf))))))
-            (λ t.
-                let there : c.first a < length now = slice_get_length now (c.first a) p first_value in
-                let second_value : slice_get now t.0 ≡ Some t.1 = now_f.named t.0 t.1 t.4 in
-                let second_there : t.0 < length now = slice_get_length now t.0 t.1 second_value in
-                let x : P = c.one p (Some t.1) v.number a in
-                let y : P = c.two p t.1 v.number a in
-                let len : length (set now (c.first a) x) ≡ length now = length-set now (c.first a) x in
-                ap (λ xs. slice_get xs k) (after_together c now v.number a p t.1 t.0 first_value t.2 second_value)
-                ∙ split_on k (c.first a)
-                    (λ kf.
-                        ap (slice_get (set (set now (c.first a) x) t.0 y)) kf
-                        ∙ (get_set_else (set now (c.first a) x) t.0 (c.first a) y (λ e. t.5 (sym e))
-                        ∙ (get_set_same now (c.first a) x there
-                        ∙ (ap (λ z. Some (c.one p z v.number a)) (sym t.3)
-                        ∙ ap (λ b. Some (cond b (c.one p o v.number a) (second_left c v.number a p o q))) (sym (eq-eqb k (c.first a) kf))))))
-                    (λ ne.
-                        let ks : k ≡ t.0 = ⊎_elim (λ e. absurd (ne e)) (λ e. let d : Some t.0 ≡ Some k = sym t.2 ∙ e in cc) among in
-                        ap (slice_get (set (set now (c.first a) x) t.0 y)) ks
-                        ∙ (get_set_same (set now (c.first a) x) t.0 y (omega arith)
-                        ∙ (ap (λ z. Some (second_left c v.number a p z q)) (sym t.3)
-                        ∙ ap (λ b. Some (cond b (c.one p o v.number a) (second_left c v.number a p o q))) (sym (ne_eqb k (c.first a) ne))))))
-            facts
+        (λ t.
+        let kf : k ≡ c.first a = ⊎_elim (λ e. e) (λ e. absurd (let d : None ≡ Some k = sym t.0 ∙ e in cc)) among in
+        let there : c.first a < length now = slice_get_length now (c.first a) p first_value in
+        ap (λ xs. slice_get xs k) (after_alone c now v.number a p first_value t.0)
+        ∙ (ap (slice_get (set now (c.first a) (c.one p None v.number a))) kf
+        ∙ (get_set_same now (c.first a) (c.one p None v.number a) there
+        ∙ (ap (λ x. Some (c.one p x v.number a)) (sym t.1)
+        ∙ ap (λ b. Some (cond b (c.one p o v.number a) (second_left c v.number a p o q))) (sym (eq-eqb k (c.first a) kf))))))
+        (λ t.
+        let there : c.first a < length now = slice_get_length now (c.first a) p first_value in
+        let second_value : slice_get now t.0 ≡ Some t.1 = now_f.named t.0 t.1 t.4 in
+        let second_there : t.0 < length now = slice_get_length now t.0 t.1 second_value in
+        let x : P = c.one p (Some t.1) v.number a in
+        let y : P = c.two p t.1 v.number a in
+        let len : length (set now (c.first a) x) ≡ length now = length-set now (c.first a) x in
+        ap (λ xs. slice_get xs k) (after_together c now v.number a p t.1 t.0 first_value t.2 second_value)
+        ∙ split_on k (c.first a)
+        (λ kf.
+        ap (slice_get (set (set now (c.first a) x) t.0 y)) kf
+        ∙ (get_set_else (set now (c.first a) x) t.0 (c.first a) y (λ e. t.5 (sym e))
+        ∙ (get_set_same now (c.first a) x there
+        ∙ (ap (λ z. Some (c.one p z v.number a)) (sym t.3)
+        ∙ ap (λ b. Some (cond b (c.one p o v.number a) (second_left c v.number a p o q))) (sym (eq-eqb k (c.first a) kf))))))
+        (λ ne.
+        let ks : k ≡ t.0 = ⊎_elim (λ e. absurd (ne e)) (λ e. let d : Some t.0 ≡ Some k = sym t.2 ∙ e in cc) among in
+        ap (slice_get (set (set now (c.first a) x) t.0 y)) ks
+        ∙ (get_set_same (set now (c.first a) x) t.0 y (omega arith)
+        ∙ (ap (λ z. Some (second_left c v.number a p z q)) (sym t.3)
+        ∙ ap (λ b. Some (cond b (c.one p o v.number a) (second_left c v.number a p o q))) (sym (ne_eqb k (c.first a) ne))))))
+        facts
 
     abbrev w : View P A R
     w = done c v a p o log'
@@ -154,9 +154,9 @@ module _ {P A R : Type 0} (c : Core P A R) (law : Lawful c) (opening : List P) w
       all_held = λ e k h. ⊎_elim
           (λ d. let g : Holds w (c.first a) = ((left_by c v.number a p o (c.first a, p)).1, map_in (left_by c v.number a p o) (c.first a, p) v.held all_out.first) in subst (Holds w) (sym d) g)
           (λ d. ⊎_elim
-              (λ t. absurd (let z : None ≡ Some k = sym t.0 ∙ d in cc))
-              (λ t. let z : t.0 ≡ k = let y : Some t.0 ≡ Some k = sym t.2 ∙ d in cc in let g : Holds w t.0 = ((left_by c v.number a p o (t.0, t.1)).1, map_in (left_by c v.number a p o) (t.0, t.1) v.held t.4) in subst (Holds w) z g)
-              facts)
+          (λ t. absurd (let z : None ≡ Some k = sym t.0 ∙ d in cc))
+          (λ t. let z : t.0 ≡ k = let y : Some t.0 ≡ Some k = sym t.2 ∙ d in cc in let g : Holds w t.0 = ((left_by c v.number a p o (t.0, t.1)).1, map_in (left_by c v.number a p o) (t.0, t.1) v.held t.4) in subst (Holds w) z g)
+          facts)
           (now_f.only_parts a p all_out.flies all_out.pending all_out.first k h);
       has_numbers = now_f.has_numbers;
       were_drawn = now_f.were_drawn;
@@ -238,4 +238,3 @@ module _ {P A R : Type 0} (c : Core P A R) (law : Lawful c) (opening : List P) w
       let w : View P A R = done c v a p o log in
       let kept = stays c opening s n id v (set s.words (length opening) ((slice_index s.words (length opening) + 1) % 2 ^ 64)) s.homes w log n.holder rule at live (done_owes s n id v rule at live a p o all_out) in
       (w, keeps, tt, (renamed c opening n log n.holder, kept), λ a' p' o' others. other_told s n id v rule at live a p o all_out a' p' o' others me.1)
-

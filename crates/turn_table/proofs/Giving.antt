@@ -99,8 +99,10 @@ module _ {P A R : Type 0} (c : Core P A R) (law : Lawful c) (opening : List P) w
           (λ e. absurd (let a : None ≡ Some j = sym (at_one_same n.holder k None m e) ∙ h in cc))
           (λ d. (sym (at_one_else n.holder k None m d) ∙ h, get_or-set_other s.words k m 0 0 d));
       free = λ m r h. split_on m k
-          (λ e. (ap (λ i. get_or (set s.words k 0) i 0) e ∙ get_or-set_same s.words k 0 0 (let t = give_there in let y = rule.words_there in omega arith),
-              λ q g. ap (get_elem? (set s.homes k (some (Some p)))) e ∙ give_home q (ap (slice_get (state c opening n.log)) (sym e) ∙ g)))
+          (λ e. (
+            ap (λ i. get_or (set s.words k 0) i 0) e ∙ get_or-set_same s.words k 0 0 (let t = give_there in let y = rule.words_there in omega arith),
+            λ q g. ap (get_elem? (set s.homes k (some (Some p)))) e ∙ give_home q (ap (slice_get (state c opening n.log)) (sym e) ∙ g),
+          ))
           (λ d. let old = rule.free m r (sym (at_one_else n.holder k None m d) ∙ h) in (get_or-set_other s.words k m 0 0 d ∙ old.0, λ q g. set_else s.homes k m (some (Some p)) d ∙ old.1 q g));
       mine = λ m r h. split_on m k
           (λ e. absurd (let a : None ≡ Some id = sym (at_one_same n.holder k None m e) ∙ h in cc))

@@ -38,7 +38,7 @@ module _ {P : Type 0} where
   topped_more last before k p (x ∷ []) may t few allowed not_held = (refl, t, λ e. not_held x.1 (inl (λ i. ((e ∙ sym t) i, x.1))))
   topped_more last before k p (x ∷ y ∷ []) may t few allowed not_held =
       absurd (pigeon may k x.0 y.0 few (allowed k p (inl refl)) (allowed x.0 x.1 (inr (inl refl))) (allowed y.0 y.1 (inr (inr (inl refl))))
-          (λ e. not_held x.1 (inl (λ i. (e i, x.1)))) (λ e. not_held y.1 (inr (inl (λ i. (e i, y.1))))) (λ e. t.2 (sym t.0 ∙ (e ∙ t.1))))
+      (λ e. not_held x.1 (inl (λ i. (e i, x.1)))) (λ e. not_held y.1 (inr (inl (λ i. (e i, y.1))))) (λ e. t.2 (sym t.0 ∙ (e ∙ t.1))))
   topped_more last before k p (x ∷ y ∷ z ∷ zs) may t few allowed not_held = absurd t
 
   dropped : (k : ℕ) (x : ℕ × P) (xs : List (ℕ × P)) → x.0 ≡ k → let_go k (x ∷ xs) ≡ let_go k xs
@@ -96,15 +96,18 @@ module _ {P A R : Type 0} (c : Core P A R) (slots number splits : ℕ) where
     pub sound_begun : (a : A) (m' : Sat c) → m.0.held ≡ [] → BeginsAct c m a m' → Sound slots number splits last before m'
     sound_begun a m' empty told =
         let w : View P A R = begun c m.0 a m'.0.seen in
-        along last before m'.0 w m'.1 m.1 told.0 told.1
-            (record {
-              alive = p0.alive;
-              sized = p0.sized;
-              slots_out = p0.slots_out;
-              order = p0.order;
-              may_there = λ k h. ⊎_elim (λ e. let d : c.first a < length m.0.opening = told.3 in let z = p0.sized in omega arith) (λ h. absurd h) h;
-              held_there = p0.held_there;
-            }, sound.1, sound.2)
+        along last before m'.0 w m'.1 m.1 told.0 told.1 (
+          record {
+            alive = p0.alive;
+            sized = p0.sized;
+            slots_out = p0.slots_out;
+            order = p0.order;
+            may_there = λ k h. ⊎_elim (λ e. let d : c.first a < length m.0.opening = told.3 in let z = p0.sized in omega arith) (λ h. absurd h) h;
+            held_there = p0.held_there;
+          },
+          sound.1,
+          sound.2,
+        )
 
     pub sound_took : (k : ℕ) (p : P) (m' : Sat c) → In k m.0.may → (Holds m.0 k → ⊥) → TookPart c m k p m' → Sound slots number splits k last m'
     sound_took k p m' may not_held told =
@@ -113,45 +116,54 @@ module _ {P A R : Type 0} (c : Core P A R) (slots number splits : ℕ) where
         let few : length w.may ≤ 2 = subst (λ (u : View P A R). length u.may ≤ 2) t.view t.few in
         let allowed : (j : ℕ) (q : P) → In (j, q) w.held → In j w.may = subst (λ (u : View P A R). (j : ℕ) (q : P) → In (j, q) u.held → In j u.may) t.view t.allowed in
         let there : (j : ℕ) → In j w.may → j < length m.0.opening = subst (λ (u : View P A R). (j : ℕ) → In j u.may → j < length m.0.opening) t.view t.there in
-        along k last m'.0 w m'.1 ((k, None) ∷ m.1) t.view told.1
-            (record {
-              alive = p0.alive;
-              sized = p0.sized;
-              slots_out = ap (λ zs. (k, None) ∷ zs) p0.slots_out;
-              order = topped_more last before k p m.0.held w.may p0.order few allowed (λ q h. not_held (q, h));
-              may_there = λ j h. let d = there j h in let z = p0.sized in omega arith;
-              held_there = λ j q h. let d = there j (allowed j q h) in let z = p0.sized in omega arith;
-            }, sound.1, sound.2)
+        along k last m'.0 w m'.1 ((k, None) ∷ m.1) t.view told.1 (
+          record {
+            alive = p0.alive;
+            sized = p0.sized;
+            slots_out = ap (λ zs. (k, None) ∷ zs) p0.slots_out;
+            order = topped_more last before k p m.0.held w.may p0.order few allowed (λ q h. not_held (q, h));
+            may_there = λ j h. let d = there j h in let z = p0.sized in omega arith;
+            held_there = λ j q h. let d = there j (allowed j q h) in let z = p0.sized in omega arith;
+          },
+          sound.1,
+          sound.2,
+        )
 
     pub sound_busy : (k : ℕ) (m' : Sat c) → FindsBusy c m k m' → Sound slots number splits last before m'
     sound_busy k m' told =
         along last before m'.0 (tried m.0 k) m'.1 m.1 told.0 told.1
-            (record { alive = p0.alive; sized = p0.sized; slots_out = p0.slots_out; order = p0.order; may_there = p0.may_there; held_there = p0.held_there }, sound.1, sound.2)
+        (record { alive = p0.alive; sized = p0.sized; slots_out = p0.slots_out; order = p0.order; may_there = p0.may_there; held_there = p0.held_there }, sound.1, sound.2)
 
     pub sound_done : (a : A) (p : P) (o : Option P) (m' : Sat c) → CommitsAct c m a p o m' → Sound slots number splits last before m'
     sound_done a p o m' told =
         let f : ℕ × P → ℕ × P = left_by c m.0.number a p o in
-        along last before m'.0 (done c m.0 a p o m'.0.seen) m'.1 m.1 told.view told.slots
-            (record {
-              alive = p0.alive;
-              sized = p0.sized;
-              slots_out = p0.slots_out ∙ sym (out_map f (λ x. refl) m.0.held);
-              order = topped_map last before f (λ x. refl) m.0.held p0.order;
-              may_there = p0.may_there;
-              held_there = λ k q h. let r = in_map f (k, q) m.0.held h in let d : k ≡ r.0.0 = ap (λ (z : ℕ × P). z.0) r.2 in let b = p0.held_there r.0.0 r.0.1 r.1 in omega arith;
-            }, sound.1, sound.2)
+        along last before m'.0 (done c m.0 a p o m'.0.seen) m'.1 m.1 told.view told.slots (
+          record {
+            alive = p0.alive;
+            sized = p0.sized;
+            slots_out = p0.slots_out ∙ sym (out_map f (λ x. refl) m.0.held);
+            order = topped_map last before f (λ x. refl) m.0.held p0.order;
+            may_there = p0.may_there;
+            held_there = λ k q h. let r = in_map f (k, q) m.0.held h in let d : k ≡ r.0.0 = ap (λ (z : ℕ × P). z.0) r.2 in let b = p0.held_there r.0.0 r.0.1 r.1 in omega arith;
+          },
+          sound.1,
+          sound.2,
+        )
 
     pub sound_given : (next k : ℕ) (m' : Sat c) → Topped next before (let_go k m.0.held) → m'.0 ≡ given m.0 k → m'.1 ≡ map out (let_go k m.0.held) → Sound slots number splits next before m'
     sound_given next k m' order e d =
-        along next before m'.0 (given m.0 k) m'.1 (map out (let_go k m.0.held)) e d
-            (record {
-              alive = p0.alive;
-              sized = p0.sized;
-              slots_out = refl;
-              order = order;
-              may_there = λ j h. p0.may_there j (kept_was (λ x. not (eqb x k)) j m.0.may h).0;
-              held_there = λ j q h. p0.held_there j q (kept_was (λ x. not (eqb x.0 k)) (j, q) m.0.held h).0;
-            }, sound.1, sound.2)
+        along next before m'.0 (given m.0 k) m'.1 (map out (let_go k m.0.held)) e d (
+          record {
+            alive = p0.alive;
+            sized = p0.sized;
+            slots_out = refl;
+            order = order;
+            may_there = λ j h. p0.may_there j (kept_was (λ x. not (eqb x k)) j m.0.may h).0;
+            held_there = λ j q h. p0.held_there j q (kept_was (λ x. not (eqb x.0 k)) (j, q) m.0.held h).0;
+          },
+          sound.1,
+          sound.2,
+        )
 
     pub sound_divided : (more : ℕ) → more ≡ splits + 1 → Sound slots number more last before (divided m.0, m.1)
     sound_divided more e =

@@ -98,7 +98,7 @@ module _ {P A R : Type 0} (c : Core P A R) (opening : List P) where
     newest_after id' u there alive whole (inl e) = (id, w, set_here s.views id w id_there, owes.alive, e)
     newest_after id' u there alive whole (inr e) = split_on id' id
         (λ d. let vu : some v ≡ some u = sym at ∙ (ap (get_elem? s.views) (sym d) ∙ there) in let same : v ≡ u = some-injective v u vu in
-            (id, w, set_here s.views id w id_there, owes.alive, e.0 ∙ (ap (λ (z : View P A R). z.seen) same ∙ (whole ∙ sym e.1))))
+        (id, w, set_here s.views id w id_there, owes.alive, e.0 ∙ (ap (λ (z : View P A R). z.seen) same ∙ (whole ∙ sym e.1))))
         (λ ne. (id', u, set_else s.views id id' w ne ∙ there, alive, whole ∙ sym e.1))
 
     -- the rule stays

@@ -158,20 +158,23 @@ module _ {P A R : Type 0} (c : Core P A R) (law : Lawful c) (opening : List P) w
       counted = rule.counted;
       legal = rule.legal;
       free = rule.free;
-      held = λ k j r h. let old = rule.held k j r h in (old.0, split_on j id
-          (λ e. let same : old.1.0 ≡ v = here j old.1.0 e old.1.1 in (divided v, ap (get_elem? (set s.views id (divided v) ++ split_from v ∷ [])) e ∙ own_at, subst (λ (x : View P A R). Holds x k) same old.1.2))
-          (λ ne. (old.1.0, else_at j old.1.0 ne old.1.1, old.1.2)));
+      held = λ k j r h. let old = rule.held k j r h in (
+        old.0,
+        split_on j id
+            (λ e. let same : old.1.0 ≡ v = here j old.1.0 e old.1.1 in (divided v, ap (get_elem? (set s.views id (divided v) ++ split_from v ∷ [])) e ∙ own_at, subst (λ (x : View P A R). Holds x k) same old.1.2))
+            (λ ne. (old.1.0, else_at j old.1.0 ne old.1.1, old.1.2)),
+      );
       fits = λ j u there alive. ⊎_elim
           (λ t. subst (λ (x : View P A R). Fits c opening after j x) t.1 (subst (λ i. Fits c opening after i (divided v)) (sym t.0) own_fits))
           (⊎_elim
-              (λ t. old_fits j u (rule.fits j u t.1 alive) (λ e. t.0 (numbers_apart s n rule j id u v t.1 at alive live 0 (inl (sym e)) (inl (sym first)))))
-              (λ t. subst (λ (x : View P A R). Fits c opening after j x) t.1 (subst (λ i. Fits c opening after i (split_from v)) (sym t.0) new_fits)))
+          (λ t. old_fits j u (rule.fits j u t.1 alive) (λ e. t.0 (numbers_apart s n rule j id u v t.1 at alive live 0 (inl (sym e)) (inl (sym first)))))
+          (λ t. subst (λ (x : View P A R). Fits c opening after j x) t.1 (subst (λ i. Fits c opening after i (split_from v)) (sym t.0) new_fits)))
           (cases j u there);
       spent_holds_none = λ j u there dead. ⊎_elim
           (λ t. absurd (let a : v.live ≡ u.live = ap (λ (x : View P A R). x.live) t.1 in let e : true ≡ false = sym live ∙ (a ∙ dead) in cc))
           (⊎_elim
-              (λ t. rule.spent_holds_none j u t.1 dead)
-              (λ t. absurd (let a : true ≡ u.live = ap (λ (x : View P A R). x.live) t.1 in let e : true ≡ false = a ∙ dead in cc)))
+          (λ t. rule.spent_holds_none j u t.1 dead)
+          (λ t. absurd (let a : true ≡ u.live = ap (λ (x : View P A R). x.live) t.1 in let e : true ≡ false = a ∙ dead in cc)))
           (cases j u there);
       newest = let old = rule.newest in split_on old.0 id
           (λ e. let same : old.1 ≡ v = here old.0 old.1 e old.2 in (id, divided v, own_at, live, ap (λ (x : View P A R). x.seen) (sym same) ∙ old.4))
@@ -245,8 +248,8 @@ module _ {P A R : Type 0} (c : Core P A R) (law : Lawful c) (opening : List P) w
       joined_calls = λ j h. ⊎_elim
           (f1.joined_calls j)
           (⊎_elim
-              (λ e. let d : j.number ≡ w.number = ap (λ (x : Joined A R). x.number) e in let g : j.calls ≡ w.made = ap (λ (x : Joined A R). x.calls) e in ap (λ m. calls_of m n.log) d ∙ (f2.own_calls ∙ sym g))
-              (f2.joined_calls j))
+          (λ e. let d : j.number ≡ w.number = ap (λ (x : Joined A R). x.number) e in let g : j.calls ≡ w.made = ap (λ (x : Joined A R). x.calls) e in ap (λ m. calls_of m n.log) d ∙ (f2.own_calls ∙ sym g))
+          (f2.joined_calls j))
           (in_append j v.joined (as_joined w ∷ w.joined) h);
       counts_drawn = f1.counts_drawn;
     }
@@ -305,28 +308,31 @@ module _ {P A R : Type 0} (c : Core P A R) (law : Lawful c) (opening : List P) w
       counted = rule.counted;
       legal = rule.legal;
       free = rule.free;
-      held = λ k j r h. let old = rule.held k j r h in (old.0, split_on j other
-          (λ e. absurd (none_held c w empty_w k (subst (λ (x : View P A R). Holds x k) (at_one_place j other old.1.0 w e old.1.1 at_w) old.1.2)))
-          (λ d. split_on j id
-              (λ e. absurd (none_held c v empty k (subst (λ (x : View P A R). Holds x k) (at_one_place j id old.1.0 v e old.1.1 at) old.1.2)))
-              (λ e. (old.1.0, third_at j old.1.0 d e old.1.1, old.1.2))));
+      held = λ k j r h. let old = rule.held k j r h in (
+        old.0,
+        split_on j other
+            (λ e. absurd (none_held c w empty_w k (subst (λ (x : View P A R). Holds x k) (at_one_place j other old.1.0 w e old.1.1 at_w) old.1.2)))
+            (λ d. split_on j id
+            (λ e. absurd (none_held c v empty k (subst (λ (x : View P A R). Holds x k) (at_one_place j id old.1.0 v e old.1.1 at) old.1.2)))
+            (λ e. (old.1.0, third_at j old.1.0 d e old.1.1, old.1.2))),
+      );
       fits = λ j u there alive. ⊎_elim
           (λ t. absurd (let a : false ≡ u.live = ap (λ (x : View P A R). x.live) t.1 in let e : false ≡ true = a ∙ alive in cc))
           (⊎_elim
-              (λ t. subst (λ (x : View P A R). Fits c opening joint j x) t.1 (subst (λ i. Fits c opening joint i both) (sym t.0) both_fits))
-              (λ t. else_fits j u t.0 (rule.fits j u t.2 alive)))
+          (λ t. subst (λ (x : View P A R). Fits c opening joint j x) t.1 (subst (λ i. Fits c opening joint i both) (sym t.0) both_fits))
+          (λ t. else_fits j u t.0 (rule.fits j u t.2 alive)))
           (join_cases j u there);
       spent_holds_none = λ j u there dead. ⊎_elim
           (λ t. ap (λ (x : View P A R). x.held) (sym t.1))
           (⊎_elim
-              (λ t. absurd (let a : v.live ≡ u.live = ap (λ (x : View P A R). x.live) t.1 in let e : true ≡ false = sym live ∙ (a ∙ dead) in cc))
-              (λ t. rule.spent_holds_none j u t.2 dead))
+          (λ t. absurd (let a : v.live ≡ u.live = ap (λ (x : View P A R). x.live) t.1 in let e : true ≡ false = sym live ∙ (a ∙ dead) in cc))
+          (λ t. rule.spent_holds_none j u t.2 dead))
           (join_cases j u there);
       newest = let old = rule.newest in split_on old.0 other
           (λ e. let same : old.1 ≡ w = at_one_place old.0 other old.1 w e old.2 at_w in (id, both, both_at, live, longer_second (ap (λ (x : View P A R). x.seen) (sym same) ∙ old.4)))
           (λ d. split_on old.0 id
-              (λ e. let same : old.1 ≡ v = at_one_place old.0 id old.1 v e old.2 at in (id, both, both_at, live, longer_first (ap (λ (x : View P A R). x.seen) (sym same) ∙ old.4)))
-              (λ e. (old.0, old.1, third_at old.0 old.1 d e old.2, old.3, old.4)));
+          (λ e. let same : old.1 ≡ v = at_one_place old.0 id old.1 v e old.2 at in (id, both, both_at, live, longer_first (ap (λ (x : View P A R). x.seen) (sym same) ∙ old.4)))
+          (λ e. (old.0, old.1, third_at old.0 old.1 d e old.2, old.3, old.4)));
       undrawn = rule.undrawn;
     }
 
@@ -370,20 +376,22 @@ module _ {P A R : Type 0} (c : Core P A R) (law : Lawful c) (opening : List P) w
         differ = (λ h. h, tt);
         joined_calls = λ j h. absurd h;
         counts_drawn = λ e. refl;
-      } in
-      (n, record {
-        words_there = long;
-        slots_there = ap (λ (xs : List (Option P)). length (map some xs)) is ∙ (length_map some (map Some opening) ∙ length_map Some opening);
-        opens_whole = whole;
-        counted = zeros (length opening);
-        legal = tt;
-        free = λ k r e. (zeros k, λ p h. ap (λ (xs : List (Option P)). get_elem? (map some xs) k) is ∙ homes_of opening k p h);
-        held = λ k id r e. absurd cc;
-        fits = λ j u there alive. let t = only_view (newcomer opening) u j there in subst (λ (x : View P A R). Fits c opening n j x) t.1 (subst (λ i. Fits c opening n i (newcomer opening)) (sym t.0) first);
-        spent_holds_none = λ j u there dead. ap (λ (x : View P A R). x.held) (sym (only_view (newcomer opening) u j there).1);
-        newest = (0, newcomer opening, refl, refl, refl);
-        undrawn = λ m far. refl;
-      })
+      } in (
+        n,
+        record {
+          words_there = long;
+          slots_there = ap (λ (xs : List (Option P)). length (map some xs)) is ∙ (length_map some (map Some opening) ∙ length_map Some opening);
+          opens_whole = whole;
+          counted = zeros (length opening);
+          legal = tt;
+          free = λ k r e. (zeros k, λ p h. ap (λ (xs : List (Option P)). get_elem? (map some xs) k) is ∙ homes_of opening k p h);
+          held = λ k id r e. absurd cc;
+          fits = λ j u there alive. let t = only_view (newcomer opening) u j there in subst (λ (x : View P A R). Fits c opening n j x) t.1 (subst (λ i. Fits c opening n i (newcomer opening)) (sym t.0) first);
+          spent_holds_none = λ j u there dead. ap (λ (x : View P A R). x.held) (sym (only_view (newcomer opening) u j there).1);
+          newest = (0, newcomer opening, refl, refl, refl);
+          undrawn = λ m far. refl;
+        },
+      )
 
   -- the table when it closes, and only the first pass is live
   pub record Closes (v : View P A R) (slots : List (Option P)) : Type 0 where
@@ -405,29 +413,29 @@ module _ {P A R : Type 0} (c : Core P A R) (law : Lawful c) (opening : List P) w
       let drawn : v.splits ≡ n.drawn = g.counts_drawn first in
       -- another live view's number was split, so it was joined
       let alone : (j : ℕ) (u : View P A R) → get_elem? s.views j ≡ some u → u.live ≡ true → j ≡ id = λ j u there alive.
-        let h : u.number ≤ n.drawn = (rule.fits j u there alive).were_drawn u.number (inl refl) in
-        split_on u.number 0
-          (λ e. numbers_apart s n rule j id u v there at alive live 0 (inl (sym e)) (inl (sym first)))
-          (λ ne. numbers_apart s n rule j id u v there at alive live u.number (inl refl) (inr (all_joined u.number (omega arith) (omega arith)))) in
+      let h : u.number ≤ n.drawn = (rule.fits j u there alive).were_drawn u.number (inl refl) in
+      split_on u.number 0
+      (λ e. numbers_apart s n rule j id u v there at alive live 0 (inl (sym e)) (inl (sym first)))
+      (λ ne. numbers_apart s n rule j id u v there at alive live u.number (inl refl) (inr (all_joined u.number (omega arith) (omega arith)))) in
       let seen_all : v.seen ≡ n.log =
-        let old = rule.newest in
-        let here : old.0 ≡ id = alone old.0 old.1 old.2 old.3 in
-        let same : old.1 ≡ v = some-injective old.1 v (sym old.2 ∙ (ap (get_elem? s.views) here ∙ at)) in
-        ap (λ (x : View P A R). x.seen) (sym same) ∙ old.4 in
+      let old = rule.newest in
+      let here : old.0 ≡ id = alone old.0 old.1 old.2 old.3 in
+      let same : old.1 ≡ v = some-injective old.1 v (sym old.2 ∙ (ap (get_elem? s.views) here ∙ at)) in
+      ap (λ (x : View P A R). x.seen) (sym same) ∙ old.4 in
       let nobody : (k : ℕ) → k < length opening → n.holder k ≡ None = λ k r. ⊎_elim (λ e. e)
-        (λ t. absurd (let old = (rule.held k t.0 r t.1).1 in ⊎_elim
-          (λ alive. let here : t.0 ≡ id = alone t.0 old.0 old.1 alive in let same : old.0 ≡ v = some-injective old.0 v (sym old.1 ∙ (ap (get_elem? s.views) here ∙ at)) in none_held c v empty k (subst (λ (x : View P A R). Holds x k) same old.2))
-          (λ dead. none_held c old.0 (rule.spent_holds_none t.0 old.0 old.1 dead) k old.2)
-          (bool_cases old.0.live)))
-        (some_or_none (n.holder k)) in
+      (λ t. absurd (let old = (rule.held k t.0 r t.1).1 in ⊎_elim
+      (λ alive. let here : t.0 ≡ id = alone t.0 old.0 old.1 alive in let same : old.0 ≡ v = some-injective old.0 v (sym old.1 ∙ (ap (get_elem? s.views) here ∙ at)) in none_held c v empty k (subst (λ (x : View P A R). Holds x k) same old.2))
+      (λ dead. none_held c old.0 (rule.spent_holds_none t.0 old.0 old.1 dead) k old.2)
+      (bool_cases old.0.live)))
+      (some_or_none (n.holder k)) in
       record {
         same_opening = g.same_opening;
         legal = subst (Legal c opening) (sym seen_all) rule.legal;
         long = sym last.3 ∙ rule.slots_there;
         parts = λ k p e.
-          let d : slice_get (state c opening n.log) k ≡ Some p = ap (λ es. slice_get (state c opening es) k) (sym seen_all) ∙ e in
-          let r : k < length opening = let h = slice_get_length (state c opening n.log) k p d in let l : length (state c opening n.log) ≡ length opening = length_state c opening n.log in omega arith in
-          last.4 k (Some p) ((rule.free k r (nobody k r)).1 p d);
+            let d : slice_get (state c opening n.log) k ≡ Some p = ap (λ es. slice_get (state c opening es) k) (sym seen_all) ∙ e in
+            let r : k < length opening = let h = slice_get_length (state c opening n.log) k p d in let l : length (state c opening n.log) ≡ length opening = length_state c opening n.log in omega arith in
+            last.4 k (Some p) ((rule.free k r (nobody k r)).1 p d);
         own = ap (calls_of 0) seen_all ∙ (ap (λ m. calls_of m n.log) (sym first) ∙ g.own_calls);
         joined = λ j h. ap (calls_of j.number) seen_all ∙ g.joined_calls j h;
         others = λ m far. ap (calls_of m) seen_all ∙ rule.undrawn m (omega arith);

@@ -60,8 +60,8 @@ module _ {P A R : Type 0} (c : Core P A R) (law : Lawful c) (opening : List P) w
       take_few = ⊎_elim
           (λ none_flies. let e : second_by c k p v.flight v.number ≡ [] = second_none c k p v.flight v.number (λ a e d. let q : None ≡ Some a = sym none_flies ∙ e in cc) in subst (λ (ks : List ℕ). length ks ≤ 2) (sym (ap (λ (ks : List ℕ). v.may ++ ks) e ∙ append-nil v.may)) f.few)
           (λ t. split_on k (c.first t.0)
-              (λ d. let e : v.may ≡ c.first t.0 ∷ [] = alone t.0 t.1 d in let l : length v.may ≡ 1 = ap length e in let m : length (second_by c k p v.flight v.number) ≤ 1 = second_short c k p v.flight v.number in let q : length (v.may ++ second_by c k p v.flight v.number) ≡ length v.may + length (second_by c k p v.flight v.number) = length-append v.may (second_by c k p v.flight v.number) in omega arith)
-              (λ d. let e : second_by c k p v.flight v.number ≡ [] = second_none c k p v.flight v.number (λ a g h. let q : Some a ≡ Some t.0 = sym g ∙ t.1 in let z : a ≡ t.0 = cc in d (h ∙ ap c.first z)) in subst (λ (ks : List ℕ). length ks ≤ 2) (sym (ap (λ (ks : List ℕ). v.may ++ ks) e ∙ append-nil v.may)) f.few))
+          (λ d. let e : v.may ≡ c.first t.0 ∷ [] = alone t.0 t.1 d in let l : length v.may ≡ 1 = ap length e in let m : length (second_by c k p v.flight v.number) ≤ 1 = second_short c k p v.flight v.number in let q : length (v.may ++ second_by c k p v.flight v.number) ≡ length v.may + length (second_by c k p v.flight v.number) = length-append v.may (second_by c k p v.flight v.number) in omega arith)
+          (λ d. let e : second_by c k p v.flight v.number ≡ [] = second_none c k p v.flight v.number (λ a g h. let q : Some a ≡ Some t.0 = sym g ∙ t.1 in let z : a ≡ t.0 = cc in d (h ∙ ap c.first z)) in subst (λ (ks : List ℕ). length ks ≤ 2) (sym (ap (λ (ks : List ℕ). v.may ++ ks) e ∙ append-nil v.may)) f.few))
           (flight_cases c v.flight)
 
       take_allowed : (j : ℕ) (q : P) → In (j, q) (taken c v k p n.log).held → In j (taken c v k p n.log).may
@@ -71,7 +71,7 @@ module _ {P A R : Type 0} (c : Core P A R) (law : Lawful c) (opening : List P) w
       take_there : (j : ℕ) → In j (taken c v k p n.log).may → j < length opening
       take_there j h = ⊎_elim (f.there j)
           (λ t. let at_first : slice_get (state c opening n.log) (c.first t.0) ≡ Some p = ap (slice_get (state c opening n.log)) (sym t.2) ∙ value in
-              subst (λ m. j < m) (count c law opening s n id v rule at live) (law.second_in (state c opening n.log) v.number t.0 p j (whole c law opening s n id v rule at live) (f.may_fly t.0 t.1) at_first t.3).0)
+          subst (λ m. j < m) (count c law opening s n id v rule at live) (law.second_in (state c opening n.log) v.number t.0 p j (whole c law opening s n id v rule at live) (f.may_fly t.0 t.1) at_first t.3).0)
           (may_cases j h)
 
       take_own : (j : ℕ) (q : P) → In (j, q) (taken c v k p n.log).held → at_one n.holder k (Some id) j ≡ Some id
@@ -92,13 +92,13 @@ module _ {P A R : Type 0} (c : Core P A R) (law : Lawful c) (opening : List P) w
           let kf : c.first a ≡ k = pair_first (c.first a) k q p d in
           let qp : q ≡ p = pair_second (c.first a) k q p d in
           ⊎_elim (λ old. inl (only_one (c.first a) v.may j (alone a e (sym kf)) old))
-              (λ t. let z : a ≡ t.0 = let y : Some a ≡ Some t.0 = sym e ∙ t.1 in cc in inr ((λ i. c.second (qp i) v.number (z i)) ∙ t.3))
-              (may_cases j h)
+          (λ t. let z : a ≡ t.0 = let y : Some a ≡ Some t.0 = sym e ∙ t.1 in cc in inr ((λ i. c.second (qp i) v.number (z i)) ∙ t.3))
+          (may_cases j h)
       take_only_parts a q e (inr d) j h =
           let ne : k ≢ c.first a = λ x. unheld_here (subst (Holds v) (sym x) (q, d)) in
           ⊎_elim (λ old. f.only_parts a q e pending d j old)
-              (λ t. absurd (let y : Some a ≡ Some t.0 = sym e ∙ t.1 in let z : a ≡ t.0 = cc in ne (t.2 ∙ sym (ap c.first z))))
-              (may_cases j h)
+          (λ t. absurd (let y : Some a ≡ Some t.0 = sym e ∙ t.1 in let z : a ≡ t.0 = cc in ne (t.2 ∙ sym (ap c.first z))))
+          (may_cases j h)
 
       take_fits : Fits c opening (renamed c opening n n.log (at_one n.holder k (Some id))) id (taken c v k p n.log)
       take_fits = record {
@@ -211,18 +211,25 @@ module _ {P A R : Type 0} (c : Core P A R) (law : Lawful c) (opening : List P) w
         let home : get_elem? s.homes k ≡ some (some (Some p)) = (rule.free k r nobody).1 p value in
         let w : View P A R = taken c v k p n.log in
         let owes = take_owes s n id v rule at live k p may unheld_here nobody value in
-        let kept = stays c opening s n id v (set s.words k 1) (set s.homes k none) w n.log (at_one n.holder k (Some id)) rule at live owes in
-        (w, takes k (Some p), home, (renamed c opening n n.log (at_one n.holder k (Some id)), kept),
-          (p, record {
-            view = refl;
-            slot = refl;
-            looks = look c law opening s n id v rule at live;
-            value = subst (λ (xs : List P). slice_get (state c xs n.log) k ≡ Some p) (sym g.same_opening) value;
-            held = subst (λ (xs : List P). (j : ℕ) (q : P) → In (j, q) w.held → slice_get (state c xs n.log) j ≡ Some q) (sym g.same_opening) (take_named s n id v rule at live k p may unheld_here nobody value);
-            few = take_few s n id v rule at live k p may unheld_here nobody value;
-            allowed = take_allowed s n id v rule at live k p may unheld_here nobody value;
-            there = λ j h. subst (λ (xs : List P). j < length xs) (sym g.same_opening) (take_there s n id v rule at live k p may unheld_here nobody value j h);
-          }))
+        let kept = stays c opening s n id v (set s.words k 1) (set s.homes k none) w n.log (at_one n.holder k (Some id)) rule at live owes in (
+          w,
+          takes k (Some p),
+          home,
+          (renamed c opening n n.log (at_one n.holder k (Some id)), kept),
+          (
+            p,
+            record {
+              view = refl;
+              slot = refl;
+              looks = look c law opening s n id v rule at live;
+              value = subst (λ (xs : List P). slice_get (state c xs n.log) k ≡ Some p) (sym g.same_opening) value;
+              held = subst (λ (xs : List P). (j : ℕ) (q : P) → In (j, q) w.held → slice_get (state c xs n.log) j ≡ Some q) (sym g.same_opening) (take_named s n id v rule at live k p may unheld_here nobody value);
+              few = take_few s n id v rule at live k p may unheld_here nobody value;
+              allowed = take_allowed s n id v rule at live k p may unheld_here nobody value;
+              there = λ j h. subst (λ (xs : List P). j < length xs) (sym g.same_opening) (take_there s n id v rule at live k p may unheld_here nobody value j h);
+            },
+          ),
+        )
 
     take_miss : slice_index s.words k ≢ 0 → TakeGoal false
     take_miss nz =
@@ -232,9 +239,13 @@ module _ {P A R : Type 0} (c : Core P A R) (law : Lawful c) (opening : List P) w
         let r : k < length opening = (rule.fits id v at live).there k may in
         let w : View P A R = tried v k in
         let kept = stays c opening s n id v s.words s.homes w n.log n.holder rule at live (try_owes s n id v rule at live k) in
-        let same : set s.words k (get_or s.words k 0) ≡ s.words = set-get_or s.words k 0 in
-        (w, keeps, tt, (renamed c opening n n.log n.holder, subst (λ (ws : List ℕ). Rule c opening (moved c opening s ws s.homes id w) (renamed c opening n n.log n.holder)) (sym same) kept),
-          (busy_one s n id v rule at live k r nz, (refl, refl)))
+        let same : set s.words k (get_or s.words k 0) ≡ s.words = set-get_or s.words k 0 in (
+          w,
+          keeps,
+          tt,
+          (renamed c opening n n.log n.holder, subst (λ (ws : List ℕ). Rule c opening (moved c opening s ws s.homes id w) (renamed c opening n n.log n.holder)) (sym same) kept),
+          (busy_one s n id v rule at live k r nz, (refl, refl)),
+        )
 
     take_either : TakeGoal (eqb (slice_index s.words k) 0)
     take_either = split_on (slice_index s.words k) 0
@@ -243,7 +254,6 @@ module _ {P A R : Type 0} (c : Core P A R) (law : Lawful c) (opening : List P) w
 
   pub takes_turn : (id : ℕ) (me : Sat c) → me.0.live ≡ true → (k : ℕ) → In k me.0.may → (Holds me.0 k → ⊥) → (slots : ℕ) → slots ≡ length opening → Allows (Ruled c opening) slots id me k (λ n. either (eqb n 0) 1 n) (Takes c (step slots k 0 1 none) me)
   takes_turn id me live k may nh slots is s ruled there at bound = take_either id me live k may nh slots is s ruled at
-
 
 module _ {P A R : Type 0} (c : Core P A R) where
   -- what a try told, by the number that it found

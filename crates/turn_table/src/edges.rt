@@ -62,7 +62,9 @@ pub fn emptied<P: Drop>(mut closed: Closed<Option<P>, Global>, mut room: Vec<P>)
 {
     let count = closed.slot_count();
     for k in 0..count {
-        let Some(part) = closed.take(k) else { unreachable!() };
+        let Some(part) = closed.take(k) else {
+            unreachable!()
+        };
         room.push_reserved(part);
     }
     closed.free();

@@ -30,11 +30,7 @@ pub fn begin<S: Served, M: Meant<S::Act>>(
 }
 
 /// Tries the turn of a part once. Where it was free, the part comes with it.
-pub fn try_take<S: Served>(
-    table: &Stand<S>,
-    seat: &mut Token<S>,
-    part: usize,
-) -> Option<S::Part>
+pub fn try_take<S: Served>(table: &Stand<S>, seat: &mut Token<S>, part: usize) -> Option<S::Part>
     requires table { IsAt seat.old.table_id table.now.table_id (length table.now.key.value.items) }
     requires alive { seat.old.me.0.live ≡ true }
     requires may { In part seat.old.me.0.may }

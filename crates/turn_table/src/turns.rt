@@ -7,11 +7,10 @@ ghost use Rattle.turn_table.specs.declared.view.Joined.{Joined};
 ghost use Rattle.turn_table.specs.Views.{In, Holds, HoldsState, Looks, begun, taken, tried, AllOut, done, given, divided, split_from, joined_with, newcomer};
 ghost use Rattle.turn_table.specs.Passes.{busy_more, with_busy, AllJoined, Committed};
 
-use crate::edges;
 use crate::law::{Joining, Law, Opening, Slot, Splitting};
 use crate::pass::Pass;
-use crate::steps;
 use crate::view::View;
+use crate::{edges, steps};
 use atomic_table::Table;
 use histories::Served;
 use memory::NoMemory;
@@ -44,10 +43,7 @@ impl<S: Served> Model for Turns<S> {
 impl<S: Served> Turns<S> {
     /// Puts parts behind turns, and gives the first pass. There are 1 to 255 parts. Answers `NoMemory` for want of memory
     /// alone; no other call of a table takes memory.
-    pub fn new(
-        alloc: Global,
-        parts: Vec<S::Part>,
-    ) -> Result<(Turns<S>, Pass<S>), NoMemory>
+    pub fn new(alloc: Global, parts: Vec<S::Part>) -> Result<(Turns<S>, Pass<S>), NoMemory>
         requires some { 0 < vec_len parts }
         requires few { vec_len parts ≤ 255 }
         requires whole { S.core.whole parts.items }
@@ -161,10 +157,7 @@ impl<S: Served> Turns<S> {
         ensures new { result.view ≡ split_from pass.old.view }
     {
         pass.splits += 1;
-        let seat = self
-            .table
-            .shared
-            .split_seat::<Splitting>(&mut pass.seat);
+        let seat = self.table.shared.split_seat::<Splitting>(&mut pass.seat);
         Pass {
             seat,
             number: pass.splits,
@@ -185,9 +178,7 @@ impl<S: Served> Turns<S> {
         ensures joined { pass.new.view ≡ joined_with pass.old.view other.view }
     {
         let Pass { seat, .. } = other;
-        self.table
-            .shared
-            .join_seat::<Joining>(&mut pass.seat, seat);
+        self.table.shared.join_seat::<Joining>(&mut pass.seat, seat);
     }
 
     /// Gives the parts back, once every pass that was split was joined into the first one, which holds no part. They are

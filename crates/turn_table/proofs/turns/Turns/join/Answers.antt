@@ -11,14 +11,18 @@ join_seat-requires g c =
     let here = ap (λ s. s.home) c.pass.view_is ∙ (c.requires.here.0 ∙ sym c.self.view_is) in
     let other_here = ap (λ s. s.home) c.other.view_is ∙ (c.requires.here.1 ∙ sym c.self.view_is) in
     let idle = ap (λ s. s.view.held) c.pass.view_is ∙ c.requires.idle in
-    let other_idle = ap (λ s. s.view.held) c.other.view_is ∙ c.requires.other_idle in
-    (here, other_here, no_slot g.S.Served.core q.seat.table_id.slots q.number q.splits q.last q.before q.seat.me c.other.invariant other_idle, omega (arith, c.self.invariant.0),
-        joins g.S.Served.core g.S.Served.lawful c.self.inside.table.shared.key.value.items p.seat.id p.seat.me.0 q.seat.id q.seat.me.0 c.pass.invariant.0.alive c.other.invariant.0.alive idle other_idle)
+    let other_idle = ap (λ s. s.view.held) c.other.view_is ∙ c.requires.other_idle in (
+      here,
+      other_here,
+      no_slot g.S.Served.core q.seat.table_id.slots q.number q.splits q.last q.before q.seat.me c.other.invariant other_idle,
+      omega (arith, c.self.invariant.0),
+      joins g.S.Served.core g.S.Served.lawful c.self.inside.table.shared.key.value.items p.seat.id p.seat.me.0 q.seat.id q.seat.me.0 c.pass.invariant.0.alive c.other.invariant.0.alive idle other_idle,
+    )
 
 pub invariant_of-pass : goal.invariant_of-pass
 invariant_of-pass g c =
     let p = c.pass.inside in
     let e = c.join_seat.ensures in
     subst (λ (n : ℕ). Sound n p.number p.splits p.last p.before c.join_seat.new.seat.me) (ap (λ z. z.slots) (sym e.0))
-        (subst (λ me. Sound p.seat.table_id.slots p.number p.splits p.last p.before me) (sym e.2)
-            (sound_joined g.S.Served.core p.seat.table_id.slots p.number p.splits p.last p.before p.seat.me c.pass.invariant c.other.inside.seat.me.0))
+    (subst (λ me. Sound p.seat.table_id.slots p.number p.splits p.last p.before me) (sym e.2)
+    (sound_joined g.S.Served.core p.seat.table_id.slots p.number p.splits p.last p.before p.seat.me c.pass.invariant c.other.inside.seat.me.0))

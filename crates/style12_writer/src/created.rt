@@ -1,0 +1,59 @@
+//! The line of a game's beginning.
+ghost use Rattle.std.specs.Prelude.{◌≡◌, ◌+◌, ◌≤◌, ◌++◌, IfOk, OnOk, length};
+ghost use Rattle.chess_model.specs.VariantWord.{word_of};
+ghost use Rattle.style12_writer.specs.CreatedLine.{created_text, terms_text};
+
+use crate::draft::Draft;
+use chess_model::{Terms, Variant};
+use fics_words::{Handle, Line};
+use memory::NoMemory;
+use std::alloc::Global;
+
+/// The line that tells that a game begins, `{Game G (W vs. B) Creating M I V match.}`.
+pub fn created_line(
+    alloc: Global,
+    game: u16,
+    white: &Handle,
+    black: &Handle,
+    terms: &Terms,
+) -> Result<Line, NoMemory>
+    ensures { IfOk result (λ line. line ≡ created_text game white.now black.now terms.now) }
+{
+    let mut line = Draft::new(alloc);
+    line.text(b"{Game ")?;
+    line.number(u64::from(game))?;
+    line.text(b" (")?;
+    line.name(white)?;
+    line.text(b" vs. ")?;
+    line.name(black)?;
+    line.text(b") Creating ")?;
+    put_terms(&mut line, terms)?;
+    line.text(b" match.}")?;
+    Ok(line.finish())
+}
+
+/// Appends the minutes, the increment and the variant.
+fn put_terms(line: &mut Draft, terms: &Terms) -> Result<(), NoMemory>
+    ensures text { OnOk result (line.new ≡ line.old ++ terms_text terms.now) }
+    ensures most { OnOk result (length line.new ≤ length line.old + 60) }
+{
+    line.number(u64::from(terms.minutes))?;
+    line.text(b" ")?;
+    line.number(u64::from(terms.increment))?;
+    line.text(b" ")?;
+    put_variant(line, terms.variant)?;
+    Ok(())
+}
+
+/// Appends the name of a variant.
+fn put_variant(line: &mut Draft, variant: Variant) -> Result<(), NoMemory>
+    ensures text { OnOk result (line.new ≡ line.old ++ word_of variant) }
+    ensures most { OnOk result (length line.new ≤ length line.old + 10) }
+{
+    match variant {
+        Variant::Chess => line.text(b"chess")?,
+        Variant::Crazyhouse => line.text(b"crazyhouse")?,
+        Variant::Bughouse => line.text(b"bughouse")?,
+    }
+    Ok(())
+}
