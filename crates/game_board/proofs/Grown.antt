@@ -1,8 +1,8 @@
 -- What a board keeps is kept by one allowed half-move more.
-use Rattle.std.proofs.Common.{◌≡◌, ℕ, List, [], ◌∷◌, ◌++◌, map, Option, refl, sym, ap, subst, ◌∙◌}
+use Rattle.std.proofs.Common.{◌≡◌, ℕ, List, [], ◌∷◌, ◌++◌, Option, sym, ap, subst, ◌∙◌}
 use Rattle.std.proofs.lemmas.List.{map-append}
 use Rattle.chess_model.specs.declared.man.Colour.{Colour}
-use Rattle.chess_model.specs.declared.man.Colour.TheVariants.{White, Black}
+use Rattle.chess_model.specs.declared.man.Colour.TheVariants.{White}
 use Rattle.chess_model.specs.declared.moves.Move.{Move}
 use Rattle.chess_model.specs.declared.variant.Terms.{Terms}
 use Rattle.chess_model.specs.MoveList.{HalfMove}

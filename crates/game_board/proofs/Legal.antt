@@ -1,8 +1,8 @@
 -- A legal list stays legal by one allowed half-move more.
-use Rattle.std.proofs.Common.{◌≡◌, ℕ, ◌⊎◌, inl, inr, List, [], ◌∷◌, ◌++◌, refl, sym, ap, subst, ◌∙◌}
+use Rattle.std.proofs.Common.{◌≡◌, ◌⊎◌, inl, inr, List, [], ◌∷◌, ◌++◌, refl, sym, subst}
 use Rattle.chess_model.specs.declared.variant.Variant.{Variant}
 use Rattle.chess_model.specs.MoveList.{HalfMove}
-use Rattle.chess_model.specs.Position.{Position, position_after}
+use Rattle.chess_model.specs.Position.{position_after}
 use Rattle.chess_model.specs.Allowed.{Allowed, IsLegal}
 
 not_empty : {X : Type 0} (xs ys : List X) (y : X) → [] ≡ xs ++ y ∷ ys → ⊥

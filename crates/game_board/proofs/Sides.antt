@@ -1,5 +1,5 @@
 -- The test of colours, and what each answer of a board means by it.
-use Rattle.std.proofs.Common.{◌≡◌, ◌≢◌, ◌==◌, ◌<◌, Bool, true, false, not, List, [], ◌∷◌, Option, Some, None, Result, Ok, Err, refl, ap, ◌∙◌, sym, arith}
+use Rattle.std.proofs.Common.{◌≡◌, ◌≢◌, ◌==◌, ◌<◌, true, false, not, [], ◌∷◌, Option, Some, None, Result, Ok, Err, refl, ap, ◌∙◌, arith}
 use Rattle.std.specs.Option.{option_to_list}
 use Rattle.std.proofs.lemmas.Bool.Decides.{nat_tests}
 use Rattle.chess_model.specs.declared.man.Colour.{Colour}
@@ -9,7 +9,6 @@ use Rattle.chess_model.specs.declared.moves.Rejection.{Rejection}
 use Rattle.chess_model.specs.Placement.{opposite}
 use Rattle.chess_model.specs.Holdings.{same_colour}
 use Rattle.clock_ledger.specs.declared.charges.Charge.{Charge}
-use Rattle.fics_words.specs.declared.refusal.Refusal.{Refusal}
 use Rattle.fics_words.specs.declared.refusal.Refusal.TheVariants.{NotYourTurn, TooManyMoves}
 use Rattle.game_board.specs.Board.{Board, to_move}
 use Rattle.game_board.specs.Causes.{first_cause, in_words}

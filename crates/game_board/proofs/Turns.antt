@@ -1,13 +1,13 @@
 -- The position and the turn that a list of half-moves gives.
-use Rattle.std.proofs.Common.{◌≡◌, List, [], ◌∷◌, ◌++◌, map, refl, ap, ◌∙◌, sym}
+use Rattle.std.proofs.Common.{◌≡◌, List, [], ◌∷◌, ◌++◌, map, refl, ap, ◌∙◌}
 use Rattle.chess_model.specs.declared.man.Colour.{Colour}
-use Rattle.chess_model.specs.declared.man.Colour.TheVariants.{White, Black}
+use Rattle.chess_model.specs.declared.man.Colour.TheVariants.{White}
 use Rattle.chess_model.specs.declared.moves.Move.{Move}
 use Rattle.chess_model.specs.Placement.{opposite}
-use Rattle.chess_model.specs.MoveList.{HalfMove, moves_of, side_from}
+use Rattle.chess_model.specs.MoveList.{moves_of, side_from}
 use Rattle.chess_model.specs.Position.{Position, position_after, Stands}
 use Rattle.game_board.specs.declared.played.Played.{Played}
-use Rattle.game_board.specs.Board.{Board, half_move, half_moves, turn_after, to_move, position_of}
+use Rattle.game_board.specs.Board.{Board, half_moves, to_move, position_of}
 
 -- all half-moves of a game on one board are that board's
 pub moves_of-half_moves : (list : List Played) → moves_of 1 (half_moves list) ≡ map (λ p. p.what) list

@@ -1,8 +1,8 @@
 -- The charges of a colour in a list of half-moves, and the clocks that they give.
-use Rattle.std.specs.Prelude.{ℕ, List, [], ◌∷◌, ◌++◌, if◌then◌else◌, Bool, Option, ℤ}
+use Rattle.std.specs.Prelude.{List, [], ◌∷◌, ◌++◌, if◌then◌else◌, Bool, Option, ℤ}
 use Rattle.std.specs.Option.{option_to_list}
 use Rattle.chess_model.specs.declared.man.Colour.{Colour}
-use Rattle.chess_model.specs.declared.man.Colour.TheVariants.{White, Black}
+use Rattle.chess_model.specs.declared.man.Colour.TheVariants.{White}
 use Rattle.chess_model.specs.declared.variant.Terms.{Terms}
 use Rattle.chess_model.specs.Placement.{opposite}
 use Rattle.chess_model.specs.Holdings.{same_colour}

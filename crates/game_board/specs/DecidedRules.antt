@@ -1,6 +1,6 @@
 -- The rules of chess are decidable: of each fact there is a proof or a refutation.
-use Rattle.std.specs.Prelude.{◌≡◌, ◌≢◌, ℕ, ◌<◌, ◌≤◌, ◌+◌, ◌⊎◌, Bool, true, false, IsTrue, IsSome, List, Option, Some, None, refl, ⊤}
-use Rattle.std.proofs.Common.{inl, inr, arith, sym, ap, ◌∙◌, suc, zero}
+use Rattle.std.specs.Prelude.{◌≡◌, ℕ, ◌<◌, ◌+◌, ◌⊎◌, Bool, IsTrue, IsSome, Option, Some, None, refl}
+use Rattle.std.proofs.Common.{inl, inr, sym, ap, ◌∙◌, suc, zero}
 use Rattle.chess_model.specs.declared.man.Colour.{Colour}
 use Rattle.chess_model.specs.declared.man.Colour.TheVariants.{White, Black}
 use Rattle.chess_model.specs.declared.man.Kind.{Kind}

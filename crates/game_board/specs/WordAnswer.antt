@@ -1,5 +1,5 @@
 -- The answer to a move word as a function of the position and the word: there is exactly one, by the rules of chess_model.
-use Rattle.std.specs.Prelude.{◌≡◌, ◌≢◌, ℕ, ◌<◌, ◌≤◌, ◌⊎◌, Bool, true, false, IsSome, Option, Some, None, Result, Ok, Err, MatchResult, refl, ⊤}
+use Rattle.std.specs.Prelude.{◌≡◌, ◌≢◌, ℕ, ◌<◌, ◌≤◌, Option, Some, None, Result, Ok, Err, MatchResult, refl}
 use Rattle.std.proofs.Common.{inl, inr, arith, sym, ap, subst, ◌∙◌, suc, zero}
 use Rattle.chess_model.specs.declared.man.Kind.{Kind}
 use Rattle.chess_model.specs.declared.moves.Move.{Move}
@@ -14,7 +14,7 @@ use Rattle.chess_model.specs.Holdings.{count_in}
 use Rattle.chess_model.specs.Position.{Position, hand_of_side}
 use Rattle.chess_model.specs.Allowed.{HasDrops, MayDropOn, IsMove, IsSafeAfter, Allowed}
 use Rattle.chess_model.specs.Answer.{IsAsGiven, IsNamed, promotion_of, coordinate_move, castling_of, Matches, IsChoice, IsAnswer, IsCastlingWord, IsDropWith, HasNoPiece, IsAmbiguous, LeavesKingBy, Applies, place_of, IsRefusal}
-use Rattle.game_board.specs.Decisions.{Decision, both, either, not_so, follows, through, same_number, less, each_below, some_below, IsLeast, least}
+use Rattle.game_board.specs.Decisions.{Decision, both, not_so, through, same_number, less, each_below, some_below, IsLeast, least}
 use Rattle.game_board.specs.DecidedRules.{nothing, something, held_by, held_as, has_drops, may_drop_on, is_move, is_safe_after, is_allowed}
 
 as_given : (given : Option ℕ) (n : ℕ) → Decision (IsAsGiven given n)

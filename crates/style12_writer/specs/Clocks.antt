@@ -1,4 +1,4 @@
--- The times of a style 12 line. Remaining time is whole seconds, truncated towards zero; both are this server's profile.
+-- The times of a style 12 line. That they are whole seconds, cut towards zero, is this server's profile.
 use Rattle.std.specs.Prelude.{◌≡◌, ℕ, ◌+◌, ◌/◌, ◌%◌, ℤ, pos, negsuc, neg_ℤ, suc, List, [], ◌∷◌, ◌++◌, codes, decimal, refl}
 use Rattle.std.specs.Fmt.{digits}
 

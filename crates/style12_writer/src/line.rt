@@ -30,6 +30,7 @@ pub fn line12(alloc: Global, v: &BoardView, who: Viewer) -> Result<Line, NoMemor
     Ok(line.finish())
 }
 
+/// Appends the fields of the game and its terms.
 #[tactic(auto, unfolding(crate::specs::Line12::game_fields))]
 fn put_game(line: &mut Draft, v: &BoardView, who: Viewer) -> Result<(), NoMemory>
     ensures text { OnOk result (line.new ≡ line.old ++ spaced (game_fields v.now who)) }
@@ -44,6 +45,7 @@ fn put_game(line: &mut Draft, v: &BoardView, who: Viewer) -> Result<(), NoMemory
     Ok(())
 }
 
+/// Appends the fields of what the players have.
 #[tactic(auto, unfolding(crate::specs::Line12::strength_fields))]
 fn put_strengths(line: &mut Draft, v: &BoardView) -> Result<(), NoMemory>
     ensures text { OnOk result (line.new ≡ line.old ++ spaced (strength_fields v.now)) }
@@ -56,6 +58,7 @@ fn put_strengths(line: &mut Draft, v: &BoardView) -> Result<(), NoMemory>
     Ok(())
 }
 
+/// Appends the fields of the moves, and the board's orientation.
 #[tactic(auto, unfolding(crate::specs::Line12::move_fields))]
 fn put_moves(line: &mut Draft, v: &BoardView, who: Viewer) -> Result<(), NoMemory>
     ensures text { OnOk result (line.new ≡ line.old ++ spaced (move_fields v.now who)) }

@@ -2,7 +2,6 @@ use Rattle.std.proofs.Common.{ap, ◌∙◌, ◌++◌}
 use Rattle.std.proofs.lemmas.List.{append-nil}
 use Rattle.chess_model.specs.declared.man.Colour.{Colour}
 use Rattle.chess_model.specs.declared.man.Colour.TheVariants.{White}
-use Rattle.clock_ledger.specs.declared.charges.Charge.{Charge}
 use Rattle.game_board.specs.Charges.{charge_to, charges_of}
 use Rattle.game_board.proofs.Charged.{charges_from-append}
 use Rattle.game_board.proofs.Sides.{charge_to-own, charge_to-other}

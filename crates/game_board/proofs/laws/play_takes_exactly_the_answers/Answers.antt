@@ -1,4 +1,4 @@
-use Rattle.std.proofs.Common.{◌≡◌, Option, Result, Ok, ap, ◌∙◌, sym, subst}
+use Rattle.std.proofs.Common.{Option, Result, Ok, ap, ◌∙◌, sym, subst}
 use Rattle.chess_model.specs.declared.moves.Move.{Move}
 use Rattle.chess_model.specs.declared.moves.Rejection.{Rejection}
 use Rattle.fics_words.specs.declared.refusal.Refusal.{Refusal}

@@ -1,4 +1,4 @@
-use Rattle.std.proofs.Common.{◌≡◌, ℕ, Option, length, option_copied, ap, ◌∙◌, sym}
+use Rattle.std.proofs.Common.{◌≡◌, ℕ, Option, length, option_copied, ap, ◌∙◌}
 use Rattle.chess_model.specs.declared.states.Shown.{Shown}
 use Rattle.chess_model.specs.Position.{Position}
 use Rattle.move_writer.specs.Face.{face_of}

@@ -1,4 +1,4 @@
-use Rattle.std.proofs.Common.{ap, ◌∙◌, sym, subst, List}
+use Rattle.std.proofs.Common.{ap, ◌∙◌, sym, subst}
 use Rattle.chess_model.specs.Position.{Position, Stands}
 use Rattle.chess_model.specs.Allowed.{Allowed, IsLegal}
 use Rattle.game_board.specs.Board.{Board, half_moves, position_of}

@@ -1,0 +1,10 @@
+//! Tests of the desks, one file a subject. There is nothing else here: what is tested stands in the crates below, and a
+//! crate with tests is proved twice.
+#![tactic(auto)]
+
+#[cfg(test)]
+mod played;
+#[cfg(test)]
+mod refused;
+#[cfg(test)]
+mod table;

@@ -1,0 +1,9 @@
+pub mod Completeness
+pub mod Feeding
+pub mod MoveWords
+pub mod Names
+pub mod Parts
+pub mod Pieces
+pub mod Rounds
+pub mod Sending
+pub mod Turns

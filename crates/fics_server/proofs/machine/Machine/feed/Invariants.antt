@@ -1,0 +1,9 @@
+use Rattle.std.proofs.Common.{◌≤◌, ◌+◌, ◌++◌, ℕ, List, take}
+use Rattle.fics_server.specs.Progress.{Progress}
+use Rattle.fics_server.proofs.machine.Machine.feed.Given as goal
+
+abbrev pub invariant-loop-byte : goal.invariant-loop-byte
+invariant-loop-byte l = record {
+  count : l.self.number ≤ l.initial.self.number + l.byte-index;
+  fed : (taken base : List ℕ) → Progress taken l.initial.self (base ++ l.initial.out.items) → Progress (taken ++ take l.byte-index l.piece) l.self (base ++ l.out.items);
+}

@@ -1,0 +1,9 @@
+pub mod Ends
+pub mod Game
+pub mod Lines
+pub mod MoveForm
+pub mod Progress
+pub mod Reading
+pub mod Standing
+pub mod Transcript
+pub mod Words

@@ -1,0 +1,93 @@
+-- What contracts see of a desk: it is vacant, or a game is played at it.
+use Rattle.std.specs.Prelude.{ℕ, ◌+◌, ◌-◌, ◌*◌, ◌==◌, Bool, max, if◌then◌else◌, List, [], drop, length, is_some, Option, Some, None}
+use Rattle.std.specs.List.{find}
+use Rattle.std.specs.Option.{option_map, option_and_then, option_map_or}
+use Rattle.chess_model.specs.declared.man.Colour.{Colour}
+use Rattle.chess_model.specs.declared.man.Colour.TheVariants.{White, Black}
+use Rattle.chess_model.specs.declared.variant.Terms.{Terms}
+use Rattle.fics_words.specs.declared.account.Seat.{Seat}
+use Rattle.style12_writer.specs.declared.item.Item.{Item}
+use Rattle.game_board.specs.Board.{Board}
+use Rattle.linked_desk.specs.declared.cursor.Cursor.{Cursor}
+use Rattle.linked_desk.specs.declared.ended.Ended.{Ended}
+
+-- a game at a desk
+pub record GameState : Type 0 where
+  pub serial : ℕ
+  pub white : Seat
+  pub black : Seat
+  pub board : Board
+  -- what the viewers are told, the oldest first
+  pub feed : List Item
+  pub viewers : List Cursor
+  -- the moment of the last act, in milliseconds
+  pub last : ℕ
+  pub ended : Option Ended
+
+-- a desk
+pub record DeskState : Type 0 where
+  pub number : ℕ
+  pub game : Option GameState
+
+-- the number of the game at a desk
+abbrev pub game_number : ℕ → ℕ
+game_number desk = 2 * desk - 1
+
+-- the colour that a session plays
+abbrev pub colour_of : GameState → ℕ → Option Colour
+colour_of g session =
+    if g.white.session == session then Some White
+    else if g.black.session == session then Some Black
+    else None
+
+-- the cursor of a session
+abbrev pub cursor_of : GameState → ℕ → Option Cursor
+cursor_of g session = find (λ c. c.session == session) g.viewers
+
+-- whether a session is a viewer of the game
+abbrev pub is_watching : GameState → ℕ → Bool
+is_watching g session = is_some (cursor_of g session)
+
+-- the items past a cursor
+abbrev pub past : List Item → Option Cursor → List Item
+past feed None = []
+past feed (Some c) = drop c.seen feed
+
+-- the items that a session hasn't been given yet
+abbrev pub ahead_of : GameState → ℕ → List Item
+ahead_of g session = past g.feed (cursor_of g session)
+
+-- an act's moment counts as no earlier than that of the last act
+abbrev pub moment_at : GameState → ℕ → ℕ
+moment_at g moment = max g.last moment
+
+-- the serial of the game at a desk
+abbrev pub serial_of : DeskState → Option ℕ
+serial_of d = option_map (λ (g : GameState). g.serial) d.game
+
+-- how the game at a desk ended
+abbrev pub end_of : DeskState → Option Ended
+end_of d = option_and_then (λ (g : GameState). g.ended) d.game
+
+-- how many viewers the game at a desk has
+abbrev pub viewer_count : DeskState → ℕ
+viewer_count d = option_map_or (λ (g : GameState). length g.viewers) d.game 0
+
+-- the items at a desk that a session hasn't been given yet
+abbrev pub items_for : DeskState → ℕ → List Item
+items_for d session = option_map_or (λ (g : GameState). ahead_of g session) d.game []
+
+-- who plays at a desk: what a list of the games in use has to say of it
+pub record Occupant : Type 0 where
+  pub serial : ℕ
+  pub terms : Terms
+  pub white : Seat
+  pub black : Seat
+
+-- who plays a game
+abbrev pub occupant : GameState → Occupant
+occupant g = record { serial = g.serial; terms = g.board.terms; white = g.white; black = g.black }
+
+-- who plays at a desk, if it isn't vacant
+abbrev pub occupant_of : DeskState → Option Occupant
+occupant_of d = option_map occupant d.game

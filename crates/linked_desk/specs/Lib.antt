@@ -1,0 +1,9 @@
+pub mod Acts
+pub mod Causes
+pub mod Desk
+pub mod Ends
+pub mod Kept
+pub mod Moves
+pub mod Seating
+pub mod Views
+pub mod Visits

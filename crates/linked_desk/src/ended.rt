@@ -1,0 +1,11 @@
+use chess_model::{Colour, Why};
+
+/// How a game ended.
+#[derive(Clone, Copy, Debug, PartialEq, Eq)]
+pub struct Ended {
+    pub why: Why,
+    /// The board on which it ended.
+    pub board: u8,
+    /// Who won, or None for a draw and for a game without a result.
+    pub winner: Option<Colour>,
+}

@@ -1,0 +1,123 @@
+//! The game at a desk.
+ghost use Rattle.std.specs.Prelude.{◌≡◌, drop};
+
+use crate::cursor::{Cursor, OfSession};
+use crate::ended::Ended;
+use chess_model::Colour;
+use collections::{Listed, Reserved, find};
+use fics_words::Seat;
+use game_board::GameBoard;
+use std::alloc::Global;
+use std::marker::Model;
+use style12_writer::Item;
+
+/// How many items the end of a game may add to the feed. The feed has this room while the game runs.
+pub(crate) const ROOM_TO_END: usize = 4;
+
+/// A game at a desk: the players, the board, the feed and its viewers.
+#[derive(Drop)]
+pub(crate) struct Game {
+    pub(crate) alloc: Global,
+    pub(crate) serial: u64,
+    pub(crate) white: Seat,
+    pub(crate) black: Seat,
+    pub(crate) board: GameBoard,
+    pub(crate) feed: Reserved<Item>,
+    pub(crate) viewers: Listed<Cursor>,
+    pub(crate) last: u64,
+    pub(crate) ended: Option<Ended>,
+}
+
+impl Model for Game {
+    ghost use Rattle.linked_desk.specs.Desk.{GameState};
+
+    ghost Value = { GameState };
+
+    ghost use Rattle.linked_desk.specs.Kept.{IsKept};
+
+    ghost view = { λ g. record {
+      serial = g.serial;
+      white = g.white;
+      black = g.black;
+      board = g.board;
+      feed = g.feed.items;
+      viewers = g.viewers;
+      last = g.last;
+      ended = g.ended;
+    } };
+
+    ghost invariant = { IsKept };
+}
+
+impl Game {
+    ghost use Rattle.linked_desk.specs.Desk.{colour_of, is_watching, ahead_of};
+
+    /// The number under which the game was started.
+    pub(crate) fn serial(&self) -> u64
+        ensures { result ≡ self.now.serial }
+    {
+        self.serial
+    }
+
+    /// The board.
+    pub(crate) fn board(&self) -> &GameBoard
+        ensures { result.now ≡ self.now.board }
+    {
+        &self.board
+    }
+
+    /// How the game ended, or None while it runs.
+    pub(crate) fn ended(&self) -> Option<Ended>
+        ensures { result ≡ self.now.ended }
+    {
+        self.ended
+    }
+
+    /// The viewers, each with its place in the feed.
+    pub(crate) fn viewers(&self) -> &[Cursor]
+        ensures { result.now ≡ self.now.viewers }
+    {
+        self.viewers.as_slice()
+    }
+
+    /// The colour that a session plays.
+    pub(crate) fn colour_of(&self, session: u32) -> Option<Colour>
+        ensures { result ≡ colour_of self.now session }
+    {
+        if self.white.session == session {
+            return Some(Colour::White);
+        }
+        if self.black.session == session {
+            return Some(Colour::Black);
+        }
+        None
+    }
+
+    /// Whether a session is a viewer of the game.
+    pub(crate) fn is_watching(&self, session: u32) -> bool
+        ensures { result ≡ is_watching self.now session }
+    {
+        find(self.viewers.as_slice(), &OfSession(session)).is_some()
+    }
+
+    /// The items past the cursor of a session, none where it is no viewer.
+    pub(crate) fn ahead(&self, session: u32) -> &[Item]
+        ensures { result.now ≡ ahead_of self.now session }
+    {
+        match find(self.viewers.as_slice(), &OfSession(session)) {
+            Some(cursor) => past(self.feed.as_slice(), cursor.seen),
+            None => &[],
+        }
+    }
+}
+
+/// The items from a place on.
+fn past(feed: &[Item], seen: usize) -> &[Item]
+    ensures { result.now ≡ drop seen feed.now }
+{
+    if seen < feed.len() {
+        &feed[seen..]
+    } else {
+        &[]
+    }
+}

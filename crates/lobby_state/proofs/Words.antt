@@ -1,0 +1,92 @@
+-- The line of a challenge is a line: it is printable and short.
+use Rattle.std.proofs.Common.{◌≡◌, ℕ, ◌+◌, ◌<◌, ◌≤◌, ◌^◌, Bool, true, List, ◌++◌, Option, None, Some, length, codes, decimal, refl, subst, inl, inr, arith, rules, tests, length-append, ◌&&◌, leb}
+use Rattle.std.specs.Prelude.{All}
+use Rattle.std.specs.Char.{IsAsciiAlphabetic}
+use Rattle.std.specs.List.{list_all}
+use Rattle.std.proofs.lemmas.Fmt.{decimal_is_IsNumeral, length-decimal-le}
+use Rattle.std.proofs.lemmas.Str.Parse.{digit_at}
+use Rattle.std.proofs.lemmas.List.{get_or_default}
+use Rattle.std.proofs.lemmas.List.Elements.{All-append}
+use Rattle.std.proofs.lemmas.List.Sums.{AllPass-from_list_all}
+use Rattle.chess_model.specs.declared.man.Colour.{Colour}
+use Rattle.chess_model.specs.declared.man.Colour.TheVariants.{White, Black}
+use Rattle.chess_model.specs.declared.variant.Terms.{Terms}
+use Rattle.chess_model.specs.declared.variant.Variant.{Variant}
+use Rattle.chess_model.specs.declared.variant.Variant.TheVariants.{Chess, Crazyhouse, Bughouse}
+use Rattle.chess_model.specs.VariantWord.{word_of}
+use Rattle.fics_words.specs.Handle.{IsHandle}
+use Rattle.fics_words.specs.Line.{IsLine, IsPrintable}
+use Rattle.lobby_state.specs.Match.{challenge_words, colour_words}
+
+-- at most so many bytes, all of them printable
+pub record IsPrinted (most : ℕ) (text : List ℕ) : Type 0 where
+  pub short : length text ≤ most
+  pub shows : All IsPrintable text
+
+IsPrinted-append : (m n : ℕ) (front back : List ℕ) → IsPrinted m front → IsPrinted n back → IsPrinted (m + n) (front ++ back)
+IsPrinted-append m n front back f b = record {
+  short = omega (arith, length-append front back, f.short, b.short);
+  shows = All-append IsPrintable front back f.shows b.shows;
+}
+
+abbrev in_range : ℕ → Bool
+in_range byte = leb 32 byte && leb byte 126
+
+in_range-holds : (byte : ℕ) → in_range byte ≡ true → IsPrintable byte
+in_range-holds byte h = (search (rules, tests), search (rules, tests))
+
+IsPrinted-from_test : (most : ℕ) (text : List ℕ) → length text ≤ most → list_all in_range text ≡ true → IsPrinted most text
+IsPrinted-from_test most text short h = record {
+  short = short;
+  shows = λ k d inside. in_range-holds _ (AllPass-from_list_all in_range text h k d inside);
+}
+
+IsPrintable-digit : (byte : ℕ) → (48 ≤ byte) × (byte ≤ 57) → IsPrintable byte
+IsPrintable-digit byte h = (omega arith, omega arith)
+
+IsPrinted-decimal : (n : ℕ) → n < 2 ^ 16 → IsPrinted 5 (decimal n)
+IsPrinted-decimal n small = record {
+  short = length-decimal-le 5 n (omega arith) (omega arith) (omega arith);
+  shows = λ k d inside.
+      let fits : n < 2 ^ 64 = omega arith in
+      subst IsPrintable (get_or_default (decimal n) k 0 d inside)
+      (IsPrintable-digit _ (digit_at (decimal n) k (decimal_is_IsNumeral n fits).0.1 inside));
+}
+
+IsPrintable-letter : (byte : ℕ) → IsAsciiAlphabetic byte → IsPrintable byte
+IsPrintable-letter byte (inl upper) = (omega (arith, upper), omega (arith, upper))
+IsPrintable-letter byte (inr lower) = (omega (arith, lower), omega (arith, lower))
+
+IsPrinted-handle : (name : List ℕ) → IsHandle name → IsPrinted 17 name
+IsPrinted-handle name h = record { short = h.1; shows = λ k d inside. IsPrintable-letter _ (h.2 k d inside) }
+
+IsPrinted-variant : (variant : Variant) → IsPrinted 10 (word_of variant)
+IsPrinted-variant Chess = IsPrinted-from_test 10 (word_of Chess) (omega arith) refl
+IsPrinted-variant Crazyhouse = IsPrinted-from_test 10 (word_of Crazyhouse) (omega arith) refl
+IsPrinted-variant Bughouse = IsPrinted-from_test 10 (word_of Bughouse) (omega arith) refl
+
+IsPrinted-colour : (colour : Option Colour) → IsPrinted 6 (colour_words colour)
+IsPrinted-colour None = IsPrinted-from_test 6 (colour_words None) (omega arith) refl
+IsPrinted-colour (Some White) = IsPrinted-from_test 6 (colour_words (Some White)) (omega arith) refl
+IsPrinted-colour (Some Black) = IsPrinted-from_test 6 (colour_words (Some Black)) (omega arith) refl
+
+IsPrinted-blank : IsPrinted 1 (codes " ")
+IsPrinted-blank = IsPrinted-from_test 1 (codes " ") (omega arith) refl
+
+IsPrinted-front : IsPrinted 11 (codes "Challenge: ")
+IsPrinted-front = IsPrinted-from_test 11 (codes "Challenge: ") (omega arith) refl
+
+pub IsPrinted-challenge_words : (name : List ℕ) (terms : Terms) → IsHandle name → terms.minutes < 2 ^ 16 → terms.increment < 2 ^ 16
+    → IsPrinted 57 (challenge_words name terms)
+IsPrinted-challenge_words name terms h minutes increment =
+    let join = IsPrinted-append in
+    join 51 6 _ _ (join 41 10 _ _ (join 40 1 _ _ (join 35 5 _ _ (join 34 1 _ _ (join 29 5 _ _ (join 28 1 _ _
+    (join 11 17 _ _ IsPrinted-front (IsPrinted-handle name h)) IsPrinted-blank) (IsPrinted-decimal terms.minutes minutes))
+    IsPrinted-blank) (IsPrinted-decimal terms.increment increment)) IsPrinted-blank) (IsPrinted-variant terms.variant))
+    (IsPrinted-colour terms.colour)
+
+pub IsLine-challenge_words : (name : List ℕ) (terms : Terms) → IsHandle name → terms.minutes < 2 ^ 16 → terms.increment < 2 ^ 16
+    → IsLine (challenge_words name terms)
+IsLine-challenge_words name terms h minutes increment =
+    let printed = IsPrinted-challenge_words name terms h minutes increment in
+    (omega (arith, printed.short), printed.shows)

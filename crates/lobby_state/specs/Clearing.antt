@@ -1,0 +1,23 @@
+-- Clear: a player leaves the place at a desk whose game has ended, and the desk is freed by the last one. This
+-- server's own.
+use Rattle.std.specs.Prelude.{ℕ, ◌-◌, map, None, slice_set}
+use Rattle.lobby_state.specs.declared.member.Member.{Member}
+use Rattle.lobby_state.specs.Change.{change_first}
+use Rattle.lobby_state.specs.Lobby.{LobbyState, is_session}
+use Rattle.lobby_state.specs.Places.{without_desk}
+
+-- the member without a place at this desk
+abbrev pub off_desk : ℕ → Member → Member
+off_desk desk member = record member { places = without_desk desk member.places }
+
+-- the lobby where the session has no place at the desk, which is still in use
+abbrev pub freed : LobbyState → ℕ → ℕ → LobbyState
+freed lobby session desk =
+    record lobby { members = change_first (is_session session) (off_desk desk) lobby.members }
+
+-- the lobby where the desk is free, and nobody has a place there
+abbrev pub cleared : LobbyState → ℕ → LobbyState
+cleared lobby desk = record lobby {
+  members = map (off_desk desk) lobby.members;
+  games = slice_set lobby.games (desk - 1) None;
+}

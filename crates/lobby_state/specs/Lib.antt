@@ -1,0 +1,14 @@
+pub mod Causes
+pub mod Change
+pub mod Places
+pub mod PlaceFields
+pub mod Seats
+pub mod Lobby
+pub mod Enter
+pub mod Match
+pub mod Visits
+pub mod Seating
+pub mod Clearing
+pub mod Acts
+pub mod Planned
+pub mod WellFormed

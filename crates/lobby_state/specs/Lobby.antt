@@ -1,0 +1,99 @@
+-- A lobby: who is in the hall, which challenges stand, and which desks are in use. This server's own.
+use Rattle.std.specs.Prelude.{ℕ, ◌-◌, ◌^◌, ◌==◌, Bool, not, ◌&&◌, ◌||◌, List, [], length, replicate, Option, None, Some, is_none, bytes_eq, slice_get}
+use Rattle.std.specs.List.{find, position}
+use Rattle.fics_words.specs.Handle.{key_of}
+use Rattle.lobby_state.specs.declared.challenge.Challenge.{Challenge}
+use Rattle.lobby_state.specs.declared.game.Game.{Game}
+use Rattle.lobby_state.specs.declared.member.Member.{Member}
+use Rattle.lobby_state.specs.Places.{PlaceList, no_places}
+
+-- the members in the order in which they entered; the challenges in the order in which they were made; for each
+-- desk from 1 on the game for which it is in use; and how many games were started, which is the last serial
+pub record LobbyState : Type 0 where
+  pub members : List Member
+  pub challenges : List Challenge
+  pub games : List (Option Game)
+  pub started : ℕ
+
+-- the most members that the hall holds
+abbrev pub most_members : ℕ
+most_members = 256
+
+-- the most lines that wait for a member
+abbrev pub most_lines : ℕ
+most_lines = 512
+
+-- the most games that are ever started, which keeps serials below 2^64
+abbrev pub most_games : ℕ
+most_games = 2 ^ 62
+
+-- the number of desks
+abbrev pub desks : ℕ
+desks = 128
+
+-- a lobby at its opening: nobody is there, and each desk is free
+abbrev pub opening : LobbyState
+opening = record { members = []; challenges = []; games = replicate desks None; started = 0 }
+
+-- the member is the one of this session
+abbrev pub is_session : ℕ → Member → Bool
+is_session session member = member.session == session
+
+-- the member has the handle with this key
+abbrev pub has_handle : List ℕ → Member → Bool
+has_handle key member = bytes_eq (key_of member.name) key
+
+-- the member goes by the handle with this key, and can be named, since it isn't going
+abbrev pub is_named : List ℕ → Member → Bool
+is_named key member = has_handle key member && not member.going
+
+-- the member has a place
+abbrev pub has_place : Member → Bool
+has_place member = not (length member.places.rows == 0)
+
+-- the member of the session, if it has entered
+abbrev pub member_of : LobbyState → ℕ → Option Member
+member_of lobby session = find (is_session session) lobby.members
+
+-- the member that the handle names, if there is one
+abbrev pub named : LobbyState → List ℕ → Option Member
+named lobby key = find (is_named key) lobby.members
+
+-- the member that has the handle with this key, going or not
+abbrev pub holder_of : LobbyState → List ℕ → Option Member
+holder_of lobby key = find (has_handle key) lobby.members
+
+-- the places of a member, and none of nobody
+abbrev pub places_in : Option Member → PlaceList
+places_in None = no_places
+places_in (Some member) = member.places
+
+-- the lines that wait for a member, and none for nobody
+abbrev pub lines_in : Option Member → List (List ℕ)
+lines_in None = []
+lines_in (Some member) = member.waiting
+
+-- the places of the session: none where it isn't a member
+abbrev pub places_of : LobbyState → ℕ → PlaceList
+places_of lobby session = places_in (member_of lobby session)
+
+-- the lines that wait for the session: none where it isn't a member
+abbrev pub waiting_of : LobbyState → ℕ → List (List ℕ)
+waiting_of lobby session = lines_in (member_of lobby session)
+
+-- the challenge is by this session or to it
+abbrev pub concerns : ℕ → Challenge → Bool
+concerns session challenge = (challenge.from == session) || (challenge.to == session)
+
+-- where the least free desk stands in the list of desks; its number is one more
+abbrev pub free_slot : LobbyState → Option ℕ
+free_slot lobby = position is_none lobby.games
+
+-- what a slot that is there holds
+abbrev pub game_in : Option (Option Game) → Option Game
+game_in None = None
+game_in (Some game) = game
+
+-- the game for which the desk is in use, if it is
+abbrev pub game_at : LobbyState → ℕ → Option Game
+game_at lobby desk = game_in (slice_get lobby.games (desk - 1))

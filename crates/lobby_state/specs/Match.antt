@@ -1,0 +1,83 @@
+-- Match: a member challenges another to a game. This server's own.
+use Rattle.std.specs.Prelude.{ℕ, ◌==◌, Bool, true, false, not, ◌&&◌, ◌||◌, nat_le, List, [], ◌∷◌, ◌++◌, length, Option, None, Some, is_none, Result, codes, decimal}
+use Rattle.std.specs.List.{filter}
+use Rattle.chess_model.specs.declared.man.Colour.{Colour}
+use Rattle.chess_model.specs.declared.man.Colour.TheVariants.{White, Black}
+use Rattle.chess_model.specs.declared.variant.Terms.{Terms}
+use Rattle.chess_model.specs.declared.variant.Variant.{Variant}
+use Rattle.chess_model.specs.declared.variant.Variant.TheVariants.{Chess, Crazyhouse, Bughouse}
+use Rattle.chess_model.specs.VariantWord.{word_of}
+use Rattle.fics_words.specs.declared.refusal.Refusal.{Refusal}
+use Rattle.fics_words.specs.declared.refusal.Refusal.TheVariants.{NotIn, NoSuchPlayer, BadOpponent, Playing, NoPartner, QueueFull}
+use Rattle.lobby_state.specs.declared.acts.LobbyReply.{LobbyReply}
+use Rattle.lobby_state.specs.declared.acts.LobbyReply.TheVariants.{Done}
+use Rattle.lobby_state.specs.declared.challenge.Challenge.{Challenge}
+use Rattle.lobby_state.specs.declared.member.Member.{Member}
+use Rattle.lobby_state.specs.Causes.{first_cause, answered, unless}
+use Rattle.lobby_state.specs.Change.{change_first, holds}
+use Rattle.lobby_state.specs.Lobby.{LobbyState, most_lines, is_session, is_named, has_place, member_of, named}
+
+-- the colour that the challenger asks for, behind a blank; nothing where it asks for none
+abbrev pub colour_words : Option Colour → List ℕ
+colour_words None = []
+colour_words (Some White) = codes " white"
+colour_words (Some Black) = codes " black"
+
+-- the line that a challenge sends: who challenges, the minutes, the increment in seconds, the variant, the colour
+abbrev pub challenge_words : List ℕ → Terms → List ℕ
+challenge_words name terms =
+    codes "Challenge: " ++ name ++ codes " " ++ decimal terms.minutes ++ codes " " ++ decimal terms.increment ++
+    codes " " ++ word_of terms.variant ++ colour_words terms.colour
+
+-- bughouse is played by pairs of partners, and nobody has a partner yet
+abbrev pub needs_partners : Variant → Bool
+needs_partners Chess = false
+needs_partners Crazyhouse = false
+needs_partners Bughouse = true
+
+-- no more lines can wait for the member
+abbrev pub is_full : Member → Bool
+is_full member = nat_le most_lines (length member.waiting)
+
+-- the causes for which a challenge is refused, in their order
+abbrev pub match_refused : LobbyState → ℕ → List ℕ → Terms → Option Refusal
+match_refused lobby session to terms =
+    let other = named lobby to in
+    first_cause (
+    (is_none (member_of lobby session), NotIn) ∷
+    (is_none other, NoSuchPlayer) ∷
+    (holds (is_session session) other, BadOpponent) ∷
+    (holds has_place (member_of lobby session) || holds has_place other, Playing) ∷
+    (needs_partners terms.variant, NoPartner) ∷
+    (holds is_full other, QueueFull) ∷ [])
+
+-- the answer to a challenge
+abbrev pub match_answer : LobbyState → ℕ → List ℕ → Terms → Result LobbyReply Refusal
+match_answer lobby session to terms = answered (match_refused lobby session to terms) Done
+
+-- the member with one more line that waits for it
+abbrev pub with_line : List ℕ → Member → Member
+with_line line member = record member { waiting = member.waiting ++ line ∷ [] }
+
+-- the two challenges are by the same player to the same player
+abbrev pub is_same_pair : Challenge → Challenge → Bool
+is_same_pair new old = (old.from == new.from) && (old.to == new.to)
+
+-- the challenges with a new one last; an older one by the same player to the same player goes
+abbrev pub with_challenge : Challenge → List Challenge → List Challenge
+with_challenge new challenges = filter (λ old. not (is_same_pair new old)) challenges ++ new ∷ []
+
+-- the lobby where the first of two members has challenged the second
+abbrev pub challenged : LobbyState → Option Member → Option Member → List ℕ → Terms → LobbyState
+challenged lobby None other to terms = lobby
+challenged lobby (Some caller) None to terms = lobby
+challenged lobby (Some caller) (Some other) to terms = record lobby {
+  members = change_first (is_named to) (with_line (challenge_words caller.name terms)) lobby.members;
+  challenges = with_challenge (record { from = caller.session; to = other.session; terms = terms }) lobby.challenges;
+}
+
+-- the lobby after a Match
+abbrev pub matched : LobbyState → ℕ → List ℕ → Terms → LobbyState
+matched lobby session to terms =
+    unless (match_refused lobby session to terms) lobby
+    (challenged lobby (member_of lobby session) (named lobby to) to terms)

@@ -1,0 +1,51 @@
+-- What holds of a lobby at all times, from its opening on. This server's own.
+use Rattle.std.specs.Prelude.{◌≡◌, ◌≢◌, ℕ, ◌-◌, ◌≤◌, List, length, map, All, Contains, Option, None, Some, slice_get}
+use Rattle.std.specs.List.{AllPairs}
+use Rattle.fics_words.specs.Handle.{key_of}
+use Rattle.fics_words.specs.declared.account.Seat.{Seat}
+use Rattle.lobby_state.specs.declared.challenge.Challenge.{Challenge}
+use Rattle.lobby_state.specs.declared.game.Game.{Game}
+use Rattle.lobby_state.specs.declared.member.Member.{Member}
+use Rattle.lobby_state.specs.declared.place.Place.{Place}
+use Rattle.lobby_state.specs.Acts.{IsDesk}
+use Rattle.lobby_state.specs.Lobby.{LobbyState, desks}
+use Rattle.lobby_state.specs.Seats.{seat_list}
+
+-- the sessions of the members
+abbrev pub sessions_of : List Member → List ℕ
+sessions_of members = map (λ member. member.session) members
+
+-- the challenge is by one member to another
+pub record IsBetweenMembers (sessions : List ℕ) (challenge : Challenge) : Type 0 where
+  pub from : Contains sessions challenge.from
+  pub to : Contains sessions challenge.to
+  pub differ : challenge.from ≢ challenge.to
+
+-- the place is a seat of this session's, at a desk in use under that serial
+pub record IsSeatOf (games : List (Option Game)) (session : ℕ) (place : Place) : Type 0 where
+  pub desk : IsDesk place.desk
+  pub game : Game
+  pub in_use : slice_get games (place.desk - 1) ≡ Some (Some game)
+  pub serial : game.serial ≡ place.serial
+  pub seat : Seat
+  pub sits : slice_get (seat_list game.seats) place.seat ≡ Some seat
+  pub theirs : seat.session ≡ session
+
+-- each place of the member is such a seat
+abbrev pub HasSeats : List (Option Game) → Member → Type 0
+HasSeats games member = All (IsSeatOf games member.session) member.places.rows
+
+-- the game, if there is one, has one of the serials that were given out
+abbrev pub IsStarted : ℕ → Option Game → Type 0
+IsStarted started None = Unit {0}
+IsStarted started (Some game) = (1 ≤ game.serial) × (game.serial ≤ started)
+
+-- no two members have one session, and no two one handle; each challenge is by one member to another; there are 128
+-- desks, and each game has a serial that was given out; and each place of a member is a seat of its own in such a game
+pub record IsWellFormed (lobby : LobbyState) : Type 0 where
+  pub sessions : AllPairs (λ one another. one.session ≢ another.session) lobby.members
+  pub handles : AllPairs (λ one another. key_of one.name ≢ key_of another.name) lobby.members
+  pub challenges : All (IsBetweenMembers (sessions_of lobby.members)) lobby.challenges
+  pub games : length lobby.games ≡ desks
+  pub serials : All (IsStarted lobby.started) lobby.games
+  pub places : All (HasSeats lobby.games) lobby.members

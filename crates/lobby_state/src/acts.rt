@@ -1,0 +1,59 @@
+use crate::places::Places;
+use crate::seats::Seats;
+use chess_model::Terms;
+use collections::Listed;
+use fics_words::{Handle, HandleKey, Line};
+
+/// An act that needs the lobby alone.
+#[derive(Clone, Copy, Debug, PartialEq, Eq)]
+pub enum LobbyAct {
+    /// The session comes in under this handle.
+    Enter { name: Handle },
+    /// The member challenges another to a game.
+    Match { to: HandleKey, terms: Terms },
+    /// Asks for the member's places.
+    Where,
+    /// Takes the lines that wait for the member, and asks for its places.
+    Fetch,
+    /// The member begins to leave: its challenges go, and it can't be named from then on.
+    Going,
+    /// The member is gone.
+    Bye,
+}
+
+/// What a lobby act is answered.
+#[derive(Debug, Drop, PartialEq, Eq)]
+pub enum LobbyReply {
+    Done,
+    /// The session is in, under this handle.
+    Entered(Handle),
+    Places(Places),
+    Waiting { lines: Listed<Line>, places: Places },
+}
+
+/// An act that needs the lobby and a desk.
+#[derive(Clone, Copy, Debug, PartialEq, Eq)]
+pub enum PairAct {
+    /// Accepts the challenge of the player with this handle, or without one the oldest challenge.
+    Accept(Option<HandleKey>),
+    /// Gives up the place at a desk whose game has ended, and frees the desk where nobody looks on any more.
+    Clear { desk: u8, serial: u64 },
+}
+
+/// What a pair act is to do, as the lobby alone decides it. The desk is 1 to 128.
+#[derive(Clone, Copy, Debug, PartialEq, Eq)]
+pub enum Plan {
+    /// A game starts.
+    Seat {
+        desk: u8,
+        serial: u64,
+        terms: Terms,
+        seats: Seats,
+    },
+    /// The session gives up its place.
+    Clear {
+        by: u32,
+        desk: u8,
+        serial: u64,
+    },
+}

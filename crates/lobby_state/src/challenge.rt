@@ -1,0 +1,71 @@
+//! The challenges that stand.
+ghost use Rattle.std.specs.Prelude.{◌≡◌, ◌<◌, not};
+ghost use Rattle.lobby_state.specs.Lobby.{concerns};
+ghost use Rattle.lobby_state.specs.Match.{is_same_pair, with_challenge};
+ghost use Rattle.lobby_state.specs.Seating.{concerns_seated};
+
+use crate::seats::Seats;
+use chess_model::Terms;
+use collections::{Reserved, Test};
+
+/// A challenge that stands: by which session, to which, and to which game.
+#[derive(Clone, Copy, Debug, PartialEq, Eq)]
+pub struct Challenge {
+    pub from: u32,
+    pub to: u32,
+    pub terms: Terms,
+}
+
+impl Challenge {
+    /// Whether the challenge is by this session or to it.
+    pub(crate) fn concerns(&self, session: u32) -> bool
+        ensures { result ≡ concerns session self.now }
+    {
+        self.from == session || self.to == session
+    }
+}
+
+/// A challenge that isn't by the same player to the same player as this one.
+#[derive(Clone, Copy)]
+struct OfOthers(Challenge);
+
+impl Test<Challenge> for OfOthers {
+    ghost passes = { λ test challenge. not (is_same_pair test.0 challenge) };
+
+    fn passes(&self, challenge: &Challenge) -> bool {
+        !(challenge.from == self.0.from && challenge.to == self.0.to)
+    }
+}
+
+/// A challenge that isn't by this session nor to it.
+#[derive(Clone, Copy)]
+pub(crate) struct Without(pub(crate) u32);
+
+impl Test<Challenge> for Without {
+    ghost passes = { λ test challenge. not (concerns test.0 challenge) };
+
+    fn passes(&self, challenge: &Challenge) -> bool {
+        !challenge.concerns(self.0)
+    }
+}
+
+/// A challenge that isn't by nor to one of two players.
+#[derive(Clone, Copy)]
+pub(crate) struct WithoutBoth(pub(crate) Seats);
+
+impl Test<Challenge> for WithoutBoth {
+    ghost passes = { λ test challenge. not (concerns_seated test.0 challenge) };
+
+    fn passes(&self, challenge: &Challenge) -> bool {
+        !(challenge.concerns(self.0.white.session) || challenge.concerns(self.0.black.session))
+    }
+}
+
+/// Puts a challenge behind the others, in place of an older one by the same player to the same player.
+pub(crate) fn put_challenge(challenges: &mut Reserved<Challenge>, challenge: Challenge)
+    requires { 0 < challenges.old.room }
+    ensures { challenges.new.items ≡ with_challenge challenge challenges.old.items }
+{
+    challenges.retain(&OfOthers(challenge));
+    challenges.push(challenge);
+}

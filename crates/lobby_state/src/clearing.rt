@@ -1,0 +1,39 @@
+//! Clear: a player leaves the place at a desk whose game has ended, and the desk is freed by the last one.
+ghost use Rattle.std.specs.Prelude.{◌≡◌};
+ghost use Rattle.lobby_state.specs.Acts.{IsDesk};
+ghost use Rattle.lobby_state.specs.Clearing.{cleared, freed, off_desk};
+
+use crate::lobby::Lobby;
+use crate::member::{Member, OfSession, change_first};
+use collections::Change;
+
+/// The end of a member's place at this desk.
+#[derive(Clone, Copy)]
+struct GetUp(u8);
+
+impl Change<Member> for GetUp {
+    ghost changed = { λ from member. off_desk from.0 member };
+
+    fn change(&self, member: &mut Member) {
+        member.places = member.places.without(self.0);
+    }
+}
+
+impl Lobby {
+    /// The session has no place at the desk any more, which is still in use.
+    pub(crate) fn free(&mut self, session: u32, desk: u8)
+        ensures { self.new ≡ freed self.old session desk }
+    {
+        change_first(&mut self.members, &OfSession(session), &GetUp(desk));
+    }
+
+    /// The desk is free, and nobody has a place there any more.
+    pub(crate) fn clear(&mut self, desk: u8)
+        requires { IsDesk desk }
+        ensures { self.new ≡ cleared self.old desk }
+    {
+        self.members.change_each(&GetUp(desk));
+        let slot = self.games.item_mut(desk as usize - 1);
+        *slot = None;
+    }
+}

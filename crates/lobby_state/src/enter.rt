@@ -1,0 +1,32 @@
+//! Enter: a session comes in under a handle.
+ghost use Rattle.std.specs.Prelude.{◌≡◌, OnErr};
+ghost use Rattle.lobby_state.specs.Causes.{Gives, OnAnswer};
+ghost use Rattle.lobby_state.specs.Enter.{enter_answer, entered};
+
+use crate::acts::LobbyReply;
+use crate::lobby::Lobby;
+use crate::member::Member;
+use fics_words::{Fail, Handle, Refusal};
+
+/// The most members that the hall holds.
+const MOST_MEMBERS: usize = 256;
+
+impl Lobby {
+    /// The session becomes a member. The causes of a refusal, in order: there are 256 members; this session has
+    /// entered, or a member has the handle.
+    pub(crate) fn enter(&mut self, session: u32, name: Handle) -> Result<LobbyReply, Fail>
+        ensures reply { Gives (enter_answer self.old session name) result }
+        ensures after { OnAnswer result (self.new ≡ entered self.old session name) }
+        ensures err { OnErr result (self.new ≡ self.old) }
+    {
+        if self.members.len() >= MOST_MEMBERS {
+            return Err(Fail::Refused(Refusal::HallFull));
+        }
+        if self.member(session).is_some() || self.with_handle(name.key()).is_some() {
+            return Err(Fail::Refused(Refusal::HandleTaken));
+        }
+        let newcomer = Member::newcomer(self.alloc, session, name);
+        self.members.push(newcomer)?;
+        Ok(LobbyReply::Entered(name))
+    }
+}

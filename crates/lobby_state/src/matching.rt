@@ -1,0 +1,89 @@
+//! Match: a member challenges another to a game.
+ghost use Rattle.std.specs.Prelude.{◌≡◌, IfOk, OnErr};
+ghost use Rattle.lobby_state.specs.Causes.{Gives, OnAnswer};
+ghost use Rattle.lobby_state.specs.Match.{challenge_words, match_answer, matched};
+
+use crate::acts::LobbyReply;
+use crate::challenge::{Challenge, put_challenge};
+use crate::lobby::Lobby;
+use crate::member::add_line;
+use chess_model::{Colour, Terms, Variant, variant_word};
+use fics_words::{Fail, Handle, HandleKey, Line, NoMemory, Refusal, write_number};
+use std::alloc::Global;
+
+/// The most lines that wait for a member.
+const MOST_LINES: usize = 512;
+
+impl Lobby {
+    /// The session challenges the named player. The causes of a refusal, in order: the session isn't a member; nobody
+    /// has the handle, or that member is going; it is the session itself; one of the two has a place; the game needs
+    /// partners; 512 lines wait for the other.
+    pub(crate) fn challenge(
+        &mut self,
+        session: u32,
+        to: HandleKey,
+        terms: Terms,
+    ) -> Result<LobbyReply, Fail>
+        ensures reply { Gives (match_answer self.old session to terms) result }
+        ensures after { OnAnswer result (self.new ≡ matched self.old session to terms) }
+        ensures err { OnErr result (self.new ≡ self.old) }
+    {
+        let Some(caller) = self.member(session) else {
+            return Err(Fail::Refused(Refusal::NotIn));
+        };
+        let Some(other) = self.named(to) else {
+            return Err(Fail::Refused(Refusal::NoSuchPlayer));
+        };
+        if other.session == session {
+            return Err(Fail::Refused(Refusal::BadOpponent));
+        }
+        if caller.has_place() || other.has_place() {
+            return Err(Fail::Refused(Refusal::Playing));
+        }
+        if matches!(terms.variant, Variant::Bughouse) {
+            return Err(Fail::Refused(Refusal::NoPartner));
+        }
+        if other.waiting.len() >= MOST_LINES {
+            return Err(Fail::Refused(Refusal::QueueFull));
+        }
+        let challenge = Challenge {
+            from: caller.session,
+            to: other.session,
+            terms,
+        };
+        let line = challenge_line(self.alloc, caller.name, terms)?;
+        self.challenges.reserve(1)?;
+        add_line(&mut self.members, to, line)?;
+        put_challenge(&mut self.challenges, challenge);
+        Ok(LobbyReply::Done)
+    }
+}
+
+/// The line that a challenge sends, `Challenge: H M I V C`: who challenges, the minutes, the increment in seconds, the
+/// variant, and the colour where the challenger asks for one.
+fn challenge_line(alloc: Global, name: Handle, terms: Terms) -> Result<Line, NoMemory>
+    ensures { IfOk result (λ line. line ≡ challenge_words name terms) }
+{
+    let text = challenge_text(alloc, name.letters(), terms)?;
+    Ok(Line::from_bytes(text))
+}
+
+/// The bytes of that line, for a challenger with these letters.
+fn challenge_text(alloc: Global, letters: &[u8], terms: Terms) -> Result<Vec<u8>, NoMemory>
+    ensures { IfOk result (λ text. text.items ≡ challenge_words letters.now terms) }
+{
+    let mut text = Vec::from_slice(alloc, b"Challenge: ")?;
+    text.extend_from_slice(letters)?;
+    text.push(b' ')?;
+    write_number(&mut text, u64::from(terms.minutes))?;
+    text.push(b' ')?;
+    write_number(&mut text, u64::from(terms.increment))?;
+    text.push(b' ')?;
+    text.extend_from_slice(variant_word(terms.variant).bytes())?;
+    match terms.colour {
+        Some(Colour::White) => text.extend_from_slice(b" white")?,
+        Some(Colour::Black) => text.extend_from_slice(b" black")?,
+        None => {}
+    }
+    Ok(text)
+}

@@ -1,0 +1,114 @@
+//! The members, and the changes of one of them.
+ghost use Rattle.std.specs.Prelude.{◌≡◌, ◌↔◌, IsTrue, OnOk, OnErr, true};
+ghost use Rattle.std.specs.List.{find};
+ghost use Rattle.lobby_state.specs.Change.{change_first};
+ghost use Rattle.lobby_state.specs.Enter.{newcomer};
+ghost use Rattle.lobby_state.specs.Lobby.{is_session, is_named, has_place, lines_in};
+ghost use Rattle.lobby_state.specs.Match.{with_line};
+ghost use Rattle.lobby_state.specs.Visits.{emptied};
+
+use crate::places::Places;
+use collections::{Change, Listed, Test, position};
+use fics_words::{Handle, HandleKey, Line, NoMemory};
+use std::alloc::Global;
+
+/// Somebody who is in the hall.
+#[derive(Debug, Drop)]
+pub struct Member {
+    pub session: u32,
+    pub name: Handle,
+    /// Whether the member leaves, and can't be named any more.
+    pub going: bool,
+    pub places: Places,
+    /// The lines that wait for the member, the oldest first.
+    pub waiting: Listed<Line>,
+}
+
+impl Member {
+    /// One who comes in.
+    pub(crate) fn newcomer(alloc: Global, session: u32, name: Handle) -> Member
+        ensures { result ≡ newcomer session name }
+    {
+        Member {
+            session,
+            name,
+            going: false,
+            places: Places::none(),
+            waiting: Listed::new(alloc),
+        }
+    }
+
+    /// Whether the member has a place.
+    pub(crate) fn has_place(&self) -> bool
+        ensures { result ≡ has_place self.now }
+    {
+        !self.places.rows().is_empty()
+    }
+}
+
+/// The member of this session.
+#[derive(Clone, Copy)]
+pub(crate) struct OfSession(pub(crate) u32);
+
+impl Test<Member> for OfSession {
+    ghost passes = { λ test member. is_session test.0 member };
+
+    fn passes(&self, member: &Member) -> bool {
+        member.session == self.0
+    }
+}
+
+/// The member that this key names.
+#[derive(Clone, Copy)]
+pub(crate) struct Named(pub(crate) HandleKey);
+
+impl Test<Member> for Named {
+    ghost passes = { λ test member. is_named test.0 member };
+
+    fn passes(&self, member: &Member) -> bool {
+        member.name.key() == self.0 && !member.going
+    }
+}
+
+/// Changes the first member that passes the test, if any does.
+#[tactic(auto, using(crate::proofs::First::the_first))]
+pub(crate) fn change_first<P: Test<Member>, C: Change<Member>>(
+    members: &mut Listed<Member>,
+    test: &P,
+    change: &C,
+)
+    ensures { members.new ≡ change_first (P.passes test.now) (C.changed change.now) members.old }
+{
+    if let Some(place) = position(members, test) {
+        change.change(members.item_mut(place));
+    }
+}
+
+/// Puts a line behind those that wait for the member that the key names.
+pub(crate) fn add_line(
+    members: &mut Listed<Member>,
+    to: HandleKey,
+    line: Line,
+) -> Result<(), NoMemory>
+    ensures ok { OnOk result (members.new ≡ change_first (is_named to) (with_line line) members.old) }
+    ensures err { OnErr result (members.new ≡ members.old) }
+{
+    let Some(place) = position(members, &Named(to)) else {
+        return Ok(());
+    };
+    let member = members.item_mut(place);
+    member.waiting.push(line)?;
+    Ok(())
+}
+
+/// Takes the lines that wait for the session.
+pub(crate) fn take_lines(alloc: Global, members: &mut Listed<Member>, session: u32) -> Listed<Line>
+    ensures lines { result ≡ lines_in (find (is_session session) members.old) }
+    ensures emptied { members.new ≡ change_first (is_session session) emptied members.old }
+{
+    let Some(place) = position(members, &OfSession(session)) else {
+        return Listed::new(alloc);
+    };
+    let member = members.item_mut(place);
+    member.waiting.take()
+}

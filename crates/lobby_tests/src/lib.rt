@@ -1,0 +1,13 @@
+//! Tests of the lobby: each refusal that its acts have, and a happy path of each act. The expected answers are those
+//! of the rules of the server, and the expected lines are written out by hand.
+//!
+//! A test is a table of steps with what each has to answer. The steps are carried out by functions without contracts,
+//! so a test is proved quickly: what it shows is shown by running it.
+#![tactic(auto)]
+
+#[cfg(test)]
+mod paths;
+#[cfg(test)]
+mod refusals;
+#[cfg(test)]
+mod steps;

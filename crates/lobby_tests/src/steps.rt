@@ -1,0 +1,261 @@
+//! Steps of a lobby, each with its expected answer.
+
+use chess_model::{Colour, Terms, Variant};
+use fics_words::{Fail, Handle, HandleKey, NoMemory, Refusal};
+use lobby_state::{Lobby, LobbyAct, LobbyReply, PairAct, Places, Plan};
+use std::alloc::Global;
+
+/// Chess of 2 minutes and 12 seconds, without a named colour.
+pub const CHESS: Terms = Terms {
+    minutes: 2,
+    increment: 12,
+    variant: Variant::Chess,
+    colour: None,
+};
+
+/// Crazyhouse of 3 minutes, in which the challenger asks for Black.
+pub const HOUSE: Terms = Terms {
+    minutes: 3,
+    increment: 0,
+    variant: Variant::Crazyhouse,
+    colour: Some(Colour::Black),
+};
+
+/// Bughouse of 5 minutes.
+pub const PAIRS: Terms = Terms {
+    minutes: 5,
+    increment: 0,
+    variant: Variant::Bughouse,
+    colour: None,
+};
+
+/// The number that stands for no refusal.
+pub const DONE: u8 = 0;
+
+/// The number that stands for want of memory, or for an answer of another kind than the step has.
+const STRANGE: u8 = 255;
+
+/// A step: the session that makes it, what it does, and what it has to answer; a number is that of the refusal.
+#[derive(Clone, Copy)]
+pub enum Step {
+    Enter(u32, [u8; 3], u8),
+    Match(u32, [u8; 3], Terms, u8),
+    /// Asks for the plan of an acceptance, and doesn't carry it out.
+    Ask(u32, Option<[u8; 3]>, u8),
+    /// Accepts the oldest challenge: the desk, the serial and White's session.
+    Start(u32, u8, u64, u32),
+    /// Clears a desk, which is vacant afterwards or not.
+    Clear(u32, u8, u64, bool),
+    /// Takes so many lines.
+    Fetch(u32, usize),
+    /// Has this line in its queue at the place.
+    Line(u32, usize, &'static [u8]),
+    /// Has so many places, and the present one is this seat of this desk.
+    Seated(u32, usize, u8, u8),
+    /// Whether the desk is in use.
+    InUse(u8, bool),
+    Going(u32),
+    Bye(u32),
+}
+
+/// The place of the first step that answers otherwise, if one does.
+pub fn first_failing(lobby: &mut Lobby, steps: &[Step]) -> Option<usize> {
+    for (place, step) in steps.iter().enumerate() {
+        if !is_as_expected(lobby, step) {
+            return Some(place);
+        }
+    }
+    None
+}
+
+fn is_as_expected(lobby: &mut Lobby, step: &Step) -> bool {
+    match step {
+        Step::Enter(session, name, number) => entering(lobby, *session, name) == *number,
+        Step::Match(session, to, terms, number) => {
+            challenging(lobby, *session, to, *terms) == *number
+        }
+        Step::Ask(session, name, number) => asking(lobby, *session, *name) == *number,
+        Step::Start(session, desk, serial, white) => {
+            starts(lobby, *session, *desk, *serial, *white)
+        }
+        Step::Clear(session, desk, serial, cleared) => {
+            clears(lobby, *session, *desk, *serial, *cleared)
+        }
+        Step::Fetch(session, count) => fetches(lobby, *session, *count),
+        Step::Line(session, place, text) => has_line(lobby, *session, *place, text),
+        Step::Seated(session, count, desk, seat) => sits(lobby, *session, *count, *desk, *seat),
+        Step::InUse(desk, expected) => is_in_use(lobby, *desk) == *expected,
+        Step::Going(session) => leaves(lobby, *session, &LobbyAct::Going),
+        Step::Bye(session) => leaves(lobby, *session, &LobbyAct::Bye),
+    }
+}
+
+/// A lobby at its opening.
+pub fn hall(alloc: Global) -> Result<Lobby, NoMemory> {
+    Lobby::new(alloc)
+}
+
+/// A handle of three letters for each number below 676.
+pub fn numbered(n: u32) -> [u8; 3] {
+    [b'a' + (n / 26 % 26) as u8, b'a' + (n % 26) as u8, b'x']
+}
+
+/// The number of the refusal of an answer.
+fn number_of(answer: &Result<LobbyReply, Fail>) -> u8 {
+    match answer {
+        Ok(_) => DONE,
+        Err(Fail::Refused(refusal)) => refusal.number(),
+        Err(Fail::Memory) => STRANGE,
+    }
+}
+
+/// Enters, and is answered with the handle or a refusal.
+pub fn entering(lobby: &mut Lobby, session: u32, letters: &[u8]) -> u8 {
+    let Some(name) = Handle::read(letters) else {
+        return STRANGE;
+    };
+    let answer = lobby.act(session, 0, &LobbyAct::Enter { name });
+    if let Ok(reply) = &answer {
+        if !is_entered(reply, letters) {
+            return STRANGE;
+        }
+    }
+    number_of(&answer)
+}
+
+fn is_entered(reply: &LobbyReply, letters: &[u8]) -> bool {
+    match reply {
+        LobbyReply::Entered(name) => name.letters() == letters,
+        _ => false,
+    }
+}
+
+fn key_of(letters: &[u8]) -> Option<HandleKey> {
+    match Handle::read(letters) {
+        Some(name) => Some(name.key()),
+        None => None,
+    }
+}
+
+/// Challenges the player with this handle.
+pub fn challenging(lobby: &mut Lobby, session: u32, to: &[u8], terms: Terms) -> u8 {
+    let Some(to) = key_of(to) else {
+        return STRANGE;
+    };
+    let answer = lobby.act(session, 0, &LobbyAct::Match { to, terms });
+    if let Ok(reply) = &answer {
+        if !matches!(reply, LobbyReply::Done) {
+            return STRANGE;
+        }
+    }
+    number_of(&answer)
+}
+
+fn planned(lobby: &Lobby, session: u32, act: &PairAct) -> Result<Plan, Refusal> {
+    if let PairAct::Clear { desk, .. } = act {
+        if *desk < 1 || *desk > 128 {
+            return Err(Refusal::NoSuchGame);
+        }
+    }
+    lobby.plan(session, act)
+}
+
+/// Asks for the plan of an acceptance.
+pub fn asking(lobby: &Lobby, session: u32, name: Option<[u8; 3]>) -> u8 {
+    let key = match name {
+        Some(letters) => key_of(&letters),
+        None => None,
+    };
+    match planned(lobby, session, &PairAct::Accept(key)) {
+        Ok(_) => DONE,
+        Err(refusal) => refusal.number(),
+    }
+}
+
+/// Carries out the plan of an act, if it has one.
+fn carried_out(lobby: &mut Lobby, session: u32, act: &PairAct, cleared: bool) -> Option<Plan> {
+    if let PairAct::Clear { desk, .. } = act {
+        if *desk < 1 || *desk > 128 {
+            return None;
+        }
+    }
+    let Ok(plan) = lobby.plan(session, act) else {
+        return None;
+    };
+    lobby.commit(&plan, cleared);
+    Some(plan)
+}
+
+/// Accepts the oldest challenge, and says whether this game starts.
+pub fn starts(lobby: &mut Lobby, session: u32, desk: u8, serial: u64, white: u32) -> bool {
+    match carried_out(lobby, session, &PairAct::Accept(None), false) {
+        Some(
+            Plan::Seat {
+                desk: at,
+                serial: under,
+                seats,
+                ..
+            },
+        ) => at == desk && under == serial && seats.white.session == white,
+        _ => false,
+    }
+}
+
+fn clears(lobby: &mut Lobby, session: u32, desk: u8, serial: u64, cleared: bool) -> bool {
+    carried_out(lobby, session, &PairAct::Clear { desk, serial }, cleared).is_some()
+}
+
+/// Takes the lines that wait, and says whether they are so many, and those of which a copy was made before.
+fn fetches(lobby: &mut Lobby, session: u32, count: usize) -> bool {
+    let Ok(ahead) = lobby.waiting_copy(session) else {
+        return false;
+    };
+    match lobby.act(session, 0, &LobbyAct::Fetch) {
+        Ok(LobbyReply::Waiting { lines, .. }) => {
+            lines == ahead && lines.len() == count && lobby.waiting(session).is_empty()
+        }
+        _ => false,
+    }
+}
+
+fn has_line(lobby: &Lobby, session: u32, place: usize, text: &[u8]) -> bool {
+    match lobby.waiting(session).get(place) {
+        Some(line) => line.bytes() == text,
+        None => false,
+    }
+}
+
+fn sits(lobby: &mut Lobby, session: u32, count: usize, desk: u8, seat: u8) -> bool {
+    match lobby.act(session, 0, &LobbyAct::Where) {
+        Ok(reply) => tells_seat(&reply, count, desk, seat),
+        Err(_) => false,
+    }
+}
+
+fn tells_seat(reply: &LobbyReply, count: usize, desk: u8, seat: u8) -> bool {
+    match reply {
+        LobbyReply::Places(places) => have_seat(places, count, desk, seat),
+        _ => false,
+    }
+}
+
+fn have_seat(places: &Places, count: usize, desk: u8, seat: u8) -> bool {
+    if places.rows().len() != count {
+        return false;
+    }
+    match places.present() {
+        Some(place) => place.desk == desk && place.seat == seat,
+        None => count == 0,
+    }
+}
+
+fn is_in_use(lobby: &Lobby, desk: u8) -> bool {
+    if desk < 1 || desk > 128 {
+        return false;
+    }
+    lobby.game(desk).is_some()
+}
+
+fn leaves(lobby: &mut Lobby, session: u32, act: &LobbyAct) -> bool {
+    lobby.act(session, 0, act).is_ok()
+}

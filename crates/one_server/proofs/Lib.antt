@@ -1,0 +1,5 @@
+pub mod Stepping
+pub mod Serving
+pub mod Copying
+pub mod Clocks
+pub mod Opens

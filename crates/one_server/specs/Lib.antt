@@ -1,0 +1,13 @@
+pub mod Desks
+pub mod Acts
+pub mod Plans
+pub mod Whole
+pub mod House
+pub mod KeptForTwo
+pub mod KeptWhole
+pub mod Lawful
+pub mod Copies
+pub mod Server
+pub mod Running
+pub mod Laws
+pub mod Lent

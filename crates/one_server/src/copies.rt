@@ -1,0 +1,109 @@
+//! Copies of what an act will answer, made before the act, so that want of memory for them changes nothing.
+ghost use Rattle.std.specs.Prelude.{◌≡◌, IfOk, length};
+ghost use Rattle.lobby_state.specs.Lobby.{desks};
+ghost use Rattle.one_server.specs.Acts.{FitsAct};
+ghost use Rattle.one_server.specs.Copies.{AreOf, LinesFor, ItemsFor};
+
+use crate::act::Act;
+use crate::reply::Reply;
+use fics_words::Duplicate;
+use linked_desk::{Desk, DeskAct, Item, ItemList};
+use lobby_state::{Lobby, LobbyAct};
+use memory::NoMemory;
+use std::alloc::Global;
+use style12_writer::LineList;
+
+/// Copies of the lines and of the items that an act will answer; empty where it answers none.
+#[derive(Drop)]
+pub(crate) struct Copies {
+    pub(crate) lines: LineList,
+    pub(crate) items: ItemList,
+}
+
+impl Copies {
+    /// The copies for an act.
+    pub(crate) fn ahead(
+        alloc: Global,
+        lobby: &Lobby,
+        tables: &[Desk],
+        session: u32,
+        act: &Act,
+    ) -> Result<Copies, NoMemory>
+        requires fits { FitsAct act.now }
+        requires count { length tables.now ≡ desks }
+        ensures lines { IfOk result (λ copies. LinesFor lobby.now session act.now copies.lines) }
+        ensures items { IfOk result (λ copies. ItemsFor tables.now session act.now copies.items) }
+    {
+        let lines = lines_ahead(alloc, lobby, session, act)?;
+        let items = items_ahead(alloc, tables, session, act)?;
+        Ok(Copies { lines, items })
+    }
+
+    /// A reply equal to this one, made of the copies of what it lists.
+    pub(crate) fn twin(self, reply: &Reply) -> Reply
+        requires { AreOf self reply.now }
+        ensures { result ≡ reply.now }
+    {
+        let Copies { lines, items } = self;
+        match reply {
+            Reply::Refused(cause) => Reply::Refused(*cause),
+            Reply::Done => Reply::Done,
+            Reply::Entered(name) => Reply::Entered(*name),
+            Reply::Places(places) => Reply::Places(*places),
+            Reply::Waiting { places, .. } => Reply::Waiting {
+                lines,
+                places: *places,
+            },
+            Reply::Items { over, .. } => Reply::Items { items, over: *over },
+            Reply::Started => Reply::Started,
+            Reply::Kept => Reply::Kept,
+            Reply::Freed => Reply::Freed,
+            Reply::Cleared => Reply::Cleared,
+        }
+    }
+}
+
+/// The lines that an act will answer.
+fn lines_ahead(alloc: Global, lobby: &Lobby, session: u32, act: &Act) -> Result<LineList, NoMemory>
+    ensures { IfOk result (λ lines. LinesFor lobby.now session act.now lines) }
+{
+    match act {
+        Act::Lobby(LobbyAct::Fetch) => lobby.waiting_copy(session),
+        _ => Ok(LineList::new(alloc)),
+    }
+}
+
+/// The items that an act will answer.
+fn items_ahead(
+    alloc: Global,
+    tables: &[Desk],
+    session: u32,
+    act: &Act,
+) -> Result<ItemList, NoMemory>
+    requires fits { FitsAct act.now }
+    requires count { length tables.now ≡ desks }
+    ensures { IfOk result (λ items. ItemsFor tables.now session act.now items) }
+{
+    match act {
+        Act::Desk {
+            desk,
+            act: DeskAct::Fetch,
+            ..
+        } => {
+            let table = &tables[*desk as usize - 1];
+            copied(alloc, table.ahead(session))
+        }
+        _ => Ok(ItemList::new(alloc)),
+    }
+}
+
+/// Copies of items.
+fn copied(alloc: Global, items: &[Item]) -> Result<ItemList, NoMemory>
+    ensures { IfOk result (λ list. list ≡ items.now) }
+{
+    let mut list = ItemList::new(alloc);
+    for item in items {
+        list.push(item.duplicate()?)?;
+    }
+    Ok(list)
+}

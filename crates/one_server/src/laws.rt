@@ -1,0 +1,38 @@
+//! What holds in every state of every legal history, as calls that do nothing: what each ensures is the law.
+ghost use Rattle.histories.specs.Laws.{LeavesOthers, RepliesLocally, ChangesLocally, RepliesCommute, StatesCommute};
+ghost use Rattle.lobby_state.specs.Lobby.{LobbyState, opening};
+ghost use Rattle.one_server.specs.House.{house};
+ghost use Rattle.one_server.specs.Laws.{HoldsInEachState, ListsItsDesks, SeatsItsMembers, ShowsItsLedgers};
+ghost use Rattle.one_server.specs.Whole.{IsOpening, IsWhole, opened};
+
+use crate::house::House;
+use histories::{acts_commute, acts_locally};
+
+/// An act leaves every part that isn't its own as it was, its reply and what it leaves follow from its own parts alone,
+/// and two acts without a common part may be made in either order.
+pub fn acts_keep_to_their_parts()
+    ensures others { LeavesOthers house }
+    ensures replies { RepliesLocally house }
+    ensures changes { ChangesLocally house }
+    ensures replies_commute { RepliesCommute house }
+    ensures states_commute { StatesCommute house }
+{
+    acts_locally::<House>();
+    acts_commute::<House>();
+}
+
+/// A server opens with an empty lobby, and each of its states is whole: the lobby lists a desk as in use exactly where
+/// it isn't vacant, and then with its serial, terms and seats; and each member's place is a seat of a desk in use
+/// under that serial.
+pub fn every_state_agrees()
+    ensures empty { IsOpening opening }
+    ensures opens { (lobby : LobbyState) → IsOpening lobby → IsWhole (opened lobby) }
+    ensures whole { HoldsInEachState IsWhole }
+    ensures desks { HoldsInEachState ListsItsDesks }
+    ensures members { HoldsInEachState SeatsItsMembers }
+{}
+
+/// In every state each clock is its ledger's sum.
+pub fn every_clock_is_its_ledger()
+    ensures { HoldsInEachState ShowsItsLedgers }
+{}

@@ -1,0 +1,97 @@
+//! The parts that an act is lent, and its step on them, for whoever keeps the parts apart.
+ghost use Rattle.std.specs.Prelude.{◌≡◌, None, Some, IfOk, OnOk, OnErr};
+ghost use Rattle.one_server.specs.declared.part.Part.TheVariants.{Lobby as TheLobby};
+ghost use Rattle.one_server.specs.Acts.{IsEvent, FitsAct, first_part, second_part};
+ghost use Rattle.one_server.specs.House.{house_answer, house_one, house_two};
+ghost use Rattle.one_server.specs.Lent.{IsFirstOf, AreBothOf};
+
+use crate::act::{Act, Timed};
+use crate::act_step::desk_of;
+use crate::part::Part;
+use crate::reply::Reply;
+use crate::steps::{desk_step, lobby_step, pair_step};
+use lobby_state::Lobby;
+use memory::NoMemory;
+use std::alloc::Global;
+
+/// The number of an act's first part: the desk of a desk act, and else 0, the lobby's.
+pub fn first_part(act: &Act) -> u8
+    ensures { result ≡ first_part act.now }
+{
+    match act {
+        Act::Lobby(_) => 0,
+        Act::Desk { desk, .. } => *desk,
+        Act::Pair(_) => 0,
+    }
+}
+
+/// The number of an act's second part: the desk of the plan that the lobby has for a pair act.
+pub fn second_part(lobby: &Lobby, session: u32, act: &Act) -> Option<u8>
+    requires { FitsAct act.now }
+    ensures { result ≡ second_part (TheLobby lobby.now) session act.now }
+{
+    let Act::Pair(act) = act else {
+        return None;
+    };
+    match lobby.plan(session, act) {
+        Ok(plan) => Some(desk_of(&plan)),
+        Err(_) => None,
+    }
+}
+
+/// Makes an act that has one part on that part. Want of memory changes nothing.
+pub fn alone(one: &mut Part, session: u32, timed: &Timed) -> Result<Reply, NoMemory>
+    requires event { IsEvent timed.now }
+    requires first { IsFirstOf one.old timed.now.act }
+    requires single { second_part one.old session timed.now.act ≡ None }
+    ensures reply { IfOk result (λ r. r ≡ house_answer one.old None session timed.now.moment timed.now.act) }
+    ensures after { OnOk result (one.new ≡ house_one one.old None session timed.now.moment timed.now.act) }
+    ensures err { OnErr result (one.new ≡ one.old) }
+{
+    match one {
+        Part::Lobby(lobby) => match &timed.act {
+            Act::Lobby(act) => lobby_step(lobby, session, timed.moment, act),
+            Act::Pair(act) => match lobby.plan(session, act) {
+                Err(cause) => Ok(Reply::Refused(cause)),
+                Ok(_) => unreachable!(),
+            },
+            Act::Desk { .. } => unreachable!(),
+        },
+        Part::Desk(desk) => match &timed.act {
+            Act::Desk { serial, act, .. } => desk_step(desk, session, timed.moment, *serial, act),
+            Act::Lobby(_) => unreachable!(),
+            Act::Pair(_) => unreachable!(),
+        },
+    }
+}
+
+/// Makes an act that has two parts on the lobby and the desk of its plan. Want of memory changes nothing.
+pub fn together(
+    alloc: Global,
+    one: &mut Part,
+    two: &mut Part,
+    session: u32,
+    timed: &Timed,
+) -> Result<Reply, NoMemory>
+    requires event { IsEvent timed.now }
+    requires both { AreBothOf one.old two.old session timed.now.act }
+    ensures reply { IfOk result (λ r. r ≡ house_answer one.old (Some two.old) session timed.now.moment timed.now.act) }
+    ensures one { OnOk result (one.new ≡ house_one one.old (Some two.old) session timed.now.moment timed.now.act) }
+    ensures two { OnOk result (two.new ≡ house_two one.old two.old session timed.now.moment timed.now.act) }
+    ensures err_one { OnErr result (one.new ≡ one.old) }
+    ensures err_two { OnErr result (two.new ≡ two.old) }
+{
+    let Part::Lobby(lobby) = one else {
+        unreachable!();
+    };
+    let Part::Desk(desk) = two else {
+        unreachable!();
+    };
+    let Act::Pair(act) = &timed.act else {
+        unreachable!();
+    };
+    let Ok(plan) = lobby.plan(session, act) else {
+        unreachable!();
+    };
+    pair_step(alloc, lobby, desk, timed.moment, &plan)
+}

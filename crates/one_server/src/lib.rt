@@ -1,0 +1,32 @@
+//! The server of one thread: acts, their steps, legal histories, and what runs a session.
+//!
+//! A state is 129 parts: the lobby, and the desks 1 to 128. An act is lent the lobby, or its desk, or both where the
+//! lobby's plan names a desk; its reply and the new parts follow from these parts, the session and the act alone
+//! (`specs/House.antt`). The contract: `OneServer` answers each act as that step does in the state of the history so
+//! far, and keeps that history, which is legal; `Runner` says what a session may know of whatever runs its acts, this
+//! server or a hall of threads.
+#![tactic(auto)]
+
+mod act;
+mod act_step;
+mod copies;
+mod house;
+mod laws;
+mod lent;
+mod part;
+mod reply;
+mod runner;
+mod seat;
+mod server;
+mod steps;
+
+pub use act::{Act, Timed};
+pub use house::House;
+pub use laws::{acts_keep_to_their_parts, every_clock_is_its_ledger, every_state_agrees};
+pub use lent::{alone, first_part, second_part, together};
+pub use part::Part;
+pub use reply::Reply;
+pub use runner::Runner;
+pub use seat::OneSeat;
+pub use server::OneServer;
+pub use steps::{desk_step, lobby_step, pair_step};

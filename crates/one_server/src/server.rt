@@ -1,0 +1,122 @@
+//! The server of one thread.
+ghost use Rattle.std.specs.Prelude.{◌≡◌, ◌≤◌, ◌++◌, ◌∷◌, [], Some, IfOk, OnErr, slice_get};
+ghost use Rattle.lobby_state.specs.Acts.{IsDesk};
+ghost use Rattle.lobby_state.specs.Lobby.{desks};
+ghost use Rattle.one_server.specs.Whole.{vacant_from};
+
+use crate::act::{Act, Timed};
+use crate::act_step::act_step;
+use crate::copies::Copies;
+use crate::reply::Reply;
+use collections::Listed;
+use histories::Entry;
+use linked_desk::Desk;
+use lobby_state::{DESKS, Lobby};
+use memory::NoMemory;
+use std::alloc::Global;
+use std::marker::Model;
+use std::snapshot::Snapshot;
+
+/// One lobby and 128 desks, with the whole history of the acts that were made. Contracts see the opening state and that
+/// history; the parts at present are its state.
+#[derive(Drop)]
+pub struct OneServer {
+    alloc: Global,
+    opening: Snapshot<Lobby>,
+    lobby: Lobby,
+    tables: Listed<Desk>,
+    log: Vec<Entry<Timed, Reply>>,
+}
+
+impl Model for OneServer {
+    ghost use Rattle.one_server.specs.Server.{ServerState, IsServed};
+    ghost use Rattle.one_server.specs.Whole.{opened};
+
+    ghost Value = { ServerState };
+
+    ghost view = { λ s. record { opening = opened s.opening.value; log = s.log.items } };
+
+    ghost invariant = { λ s. IsServed (opened s.opening.value) s.log.items s.lobby s.tables };
+}
+
+impl OneServer {
+    ghost use Rattle.histories.specs.History.{entry, Legal};
+    ghost use Rattle.one_server.specs.declared.part.Part.TheVariants.{Lobby as TheLobby, Desk as ADesk};
+    ghost use Rattle.one_server.specs.Acts.{IsEvent};
+    ghost use Rattle.one_server.specs.House.{house};
+    ghost use Rattle.one_server.specs.Server.{parts_in};
+    ghost use Rattle.one_server.specs.Whole.{IsOpening, IsWhole, opened};
+
+    /// A server that opens with this lobby and vacant desks. It isn't made for want of memory alone.
+    pub fn new(alloc: Global, lobby: Lobby) -> Result<OneServer, NoMemory>
+        requires { IsOpening lobby }
+        ensures { IfOk result (λ server. server ≡ record { opening = opened lobby; log = [] }) }
+    {
+        let tables = vacant_tables(alloc)?;
+        Ok(OneServer {
+            alloc,
+            opening: Snapshot::of(&lobby),
+            lobby,
+            tables,
+            log: Vec::new(alloc),
+        })
+    }
+
+    /// Makes an act of a session at `moment`, in milliseconds. What it is answered is the reply of the step in the
+    /// state of the history before it, and the history grows by exactly this entry. Want of memory gives no reply and
+    /// changes nothing.
+    pub fn run(&mut self, session: u32, moment: u64, act: Act) -> Result<Reply, NoMemory>
+        requires { IsEvent (record { moment = moment; act = act }) }
+        ensures ok { IfOk result (λ reply. self.new ≡ record self.old { log = self.old.log ++ entry session (record { moment = moment; act = act }) reply ∷ [] }) }
+        ensures legal { Legal house self.new.opening self.new.log }
+        ensures err { OnErr result (self.new ≡ self.old) }
+    {
+        self.log.reserve(1)?;
+        let alloc = self.alloc;
+        let copies = Copies::ahead(alloc, &self.lobby, &self.tables, session, &act)?;
+        let timed = Timed { moment, act };
+        let reply = act_step(alloc, &mut self.lobby, &mut self.tables, session, &timed)?;
+        let twin = copies.twin(&reply);
+        self.log.push_reserved(Entry {
+            session,
+            act: timed,
+            reply: twin,
+        });
+        Ok(reply)
+    }
+
+    /// The lobby at present.
+    pub fn lobby(&self) -> &Lobby
+        ensures { slice_get (parts_in self.now) 0 ≡ Some (TheLobby result.now) }
+    {
+        &self.lobby
+    }
+
+    /// The desk of that number, 1 to 128, at present.
+    pub fn desk(&self, number: u8) -> &Desk
+        requires { IsDesk number }
+        ensures { slice_get (parts_in self.now) number ≡ Some (ADesk result.now) }
+    {
+        &self.tables[number as usize - 1]
+    }
+
+    /// The whole history, the oldest entry first.
+    pub fn history(&self) -> &[Entry<Timed, Reply>]
+        ensures history { result.now ≡ self.now.log }
+        ensures legal { Legal house self.now.opening self.now.log }
+        ensures opening { IsWhole self.now.opening }
+    {
+        self.log.as_slice()
+    }
+}
+
+/// The desks 1 to 128, all of them vacant.
+fn vacant_tables(alloc: Global) -> Result<Listed<Desk>, NoMemory>
+    ensures { IfOk result (λ tables. tables ≡ vacant_from 1 desks) }
+{
+    let mut tables = Listed::new(alloc);
+    for slot in 0..DESKS {
+        tables.push(Desk::vacant(slot as u8 + 1))?;
+    }
+    Ok(tables)
+}

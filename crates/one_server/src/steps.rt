@@ -1,0 +1,113 @@
+//! The three kinds of step: on the lobby alone, on a desk alone, and on both.
+ghost use Rattle.std.specs.Prelude.{◌≡◌, ◌≤◌, ◌^◌, IfOk, OnOk, OnErr};
+ghost use Rattle.linked_desk.specs.Acts.{desk_answer, desk_after};
+ghost use Rattle.lobby_state.specs.Acts.{IsDesk, lobby_answer, lobby_after, desk_of};
+ghost use Rattle.one_server.specs.Acts.{lobby_reply, desk_reply};
+ghost use Rattle.one_server.specs.Desks.{has_ended, is_left};
+ghost use Rattle.one_server.specs.Plans.{CanCarry, plan_reply, plan_lobby, plan_desk};
+
+use crate::reply::Reply;
+use fics_words::Fail;
+use linked_desk::{Desk, DeskAct};
+use lobby_state::{Lobby, LobbyAct, Plan};
+use memory::NoMemory;
+use std::alloc::Global;
+
+/// Makes an act that needs the lobby alone. Want of memory changes nothing.
+pub fn lobby_step(
+    lobby: &mut Lobby,
+    session: u32,
+    moment: u64,
+    act: &LobbyAct,
+) -> Result<Reply, NoMemory>
+    ensures reply { IfOk result (λ reply. reply ≡ lobby_reply (lobby_answer lobby.old session act.now)) }
+    ensures after { OnOk result (lobby.new ≡ lobby_after lobby.old session act.now) }
+    ensures err { OnErr result (lobby.new ≡ lobby.old) }
+{
+    match lobby.act(session, moment, act) {
+        Ok(reply) => Ok(Reply::from(reply)),
+        Err(Fail::Refused(cause)) => Ok(Reply::Refused(cause)),
+        Err(Fail::Memory) => Err(NoMemory),
+    }
+}
+
+/// Makes an act at the game of that serial that needs its desk alone. Want of memory changes nothing.
+pub fn desk_step(
+    desk: &mut Desk,
+    session: u32,
+    moment: u64,
+    serial: u64,
+    act: &DeskAct,
+) -> Result<Reply, NoMemory>
+    requires { moment ≤ 2 ^ 48 }
+    ensures reply { IfOk result (λ reply. reply ≡ desk_reply (desk_answer desk.old session moment serial act.now)) }
+    ensures after { OnOk result (desk.new ≡ desk_after desk.old session moment serial act.now) }
+    ensures err { OnErr result (desk.new ≡ desk.old) }
+{
+    match desk.act(session, moment, serial, act) {
+        Ok(reply) => Ok(Reply::from(reply)),
+        Err(Fail::Refused(cause)) => Ok(Reply::Refused(cause)),
+        Err(Fail::Memory) => Err(NoMemory),
+    }
+}
+
+/// Carries out a plan with its lobby and its desk: a game starts there, or the caller gives up its place. Want of
+/// memory, which a game's start alone can meet, changes neither.
+pub fn pair_step(
+    alloc: Global,
+    lobby: &mut Lobby,
+    desk: &mut Desk,
+    moment: u64,
+    plan: &Plan,
+) -> Result<Reply, NoMemory>
+    requires moment { moment ≤ 2 ^ 48 }
+    requires number { IsDesk (desk_of plan.now) }
+    requires ready { CanCarry plan.now desk.old }
+    ensures reply { IfOk result (λ reply. reply ≡ plan_reply plan.now desk.old) }
+    ensures lobby { OnOk result (lobby.new ≡ plan_lobby lobby.old plan.now desk.old) }
+    ensures desk { OnOk result (desk.new ≡ plan_desk plan.now desk.old moment) }
+    ensures err_lobby { OnErr result (lobby.new ≡ lobby.old) }
+    ensures err_desk { OnErr result (desk.new ≡ desk.old) }
+{
+    match plan {
+        Plan::Seat {
+            serial,
+            terms,
+            seats,
+            ..
+        } => {
+            desk.seat(alloc, *serial, *terms, seats.white, seats.black, moment)?;
+            lobby.commit(plan, true);
+            Ok(Reply::Started)
+        }
+        Plan::Clear { serial, .. } => {
+            if !has_ended(desk, *serial) {
+                return Ok(Reply::Kept);
+            }
+            let left = is_left(desk);
+            lobby.commit(plan, left);
+            if !left {
+                return Ok(Reply::Freed);
+            }
+            desk.clear();
+            Ok(Reply::Cleared)
+        }
+    }
+}
+
+/// Whether the game of that serial stands at the desk and has ended.
+fn has_ended(desk: &Desk, serial: u64) -> bool
+    ensures { result ≡ has_ended desk.now serial }
+{
+    let Some(present) = desk.serial() else {
+        return false;
+    };
+    present == serial && desk.ended().is_some()
+}
+
+/// Whether nobody looks on at the desk any more.
+fn is_left(desk: &Desk) -> bool
+    ensures { result ≡ is_left desk.now }
+{
+    desk.viewers() == 0
+}

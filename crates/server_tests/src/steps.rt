@@ -1,0 +1,251 @@
+//! Steps of a server, each with its expected reply.
+
+use chess_model::{Colour, Kind, MoveWord, Square, Terms, Variant};
+use fics_words::{Fail, Handle, NoMemory, Refusal};
+use linked_desk::DeskAct;
+use lobby_state::{Lobby, LobbyAct, PairAct};
+use one_server::{Act, OneServer, Reply};
+use std::alloc::Global;
+
+/// What a reply says, in short.
+#[derive(Clone, Copy, Debug, PartialEq, Eq)]
+pub enum Said {
+    Refused(u8),
+    Done,
+    Entered,
+    /// So many places.
+    Places(usize),
+    /// So many lines and so many places.
+    Waiting(usize, usize),
+    /// So many items, and whether nothing more will come.
+    Items(usize, bool),
+    Started,
+    Kept,
+    Freed,
+    Cleared,
+}
+
+/// What a session does. Desk acts and Clears are for desk 1.
+#[derive(Clone, Copy, Debug)]
+pub enum Does {
+    Enter([u8; 3]),
+    /// Challenges this player to a game of 2 minutes and 12 seconds with White.
+    Match([u8; 3], Variant),
+    Where,
+    Lines,
+    Going,
+    Bye,
+    Accept(Option<[u8; 3]>),
+    /// Clears desk 1 of the game of that serial.
+    Clear(u64),
+    /// Moves from a square to another, in the game of that serial.
+    Move(u64, u8, u8),
+    /// Moves a knight to a square, without naming its origin.
+    Knight(u64, u8),
+    /// Castles short.
+    Castle(u64),
+    /// Drops a pawn on e4.
+    Drop(u64),
+    Resign(u64),
+    Flag(u64),
+    Items(u64),
+    Leave(u64),
+}
+
+/// A step: the moment in milliseconds, the session, what it does, and what it has to be replied.
+#[derive(Clone, Copy, Debug)]
+pub struct Step(pub u32, pub u32, pub Does, pub Said);
+
+/// A server with an empty lobby.
+#[tactic(auto, using(one_server::proofs::Opens::opening_is))]
+pub fn server(alloc: Global) -> Result<OneServer, NoMemory> {
+    OneServer::new(alloc, Lobby::new(alloc)?)
+}
+
+/// The place of the first step that is replied otherwise, if one is.
+pub fn first_failing(server: &mut OneServer, steps: &[Step]) -> Option<usize> {
+    for (place, step) in steps.iter().enumerate() {
+        if !is_as_expected(server, step) {
+            return Some(place);
+        }
+    }
+    None
+}
+
+/// How many acts were made.
+pub fn made(server: &OneServer) -> usize {
+    server.history().len()
+}
+
+fn is_as_expected(server: &mut OneServer, step: &Step) -> bool {
+    match replied(server, step.1, step.0, step.2) {
+        Ok(said) => said == step.3,
+        Err(_) => false,
+    }
+}
+
+fn replied(server: &mut OneServer, session: u32, moment: u32, does: Does) -> Result<Said, Fail> {
+    match does {
+        Does::Enter(name) => entering(server, session, &name),
+        Does::Match(to, variant) => challenging(server, session, &to, variant),
+        Does::Accept(name) => accepting(server, session, moment, name),
+        Does::Clear(serial) => clearing(server, session, serial),
+        Does::Where => visiting(server, session, LobbyAct::Where),
+        Does::Lines => visiting(server, session, LobbyAct::Fetch),
+        Does::Going => visiting(server, session, LobbyAct::Going),
+        Does::Bye => visiting(server, session, LobbyAct::Bye),
+        _ => at_desk(server, session, moment, does),
+    }
+}
+
+fn at_desk(server: &mut OneServer, session: u32, moment: u32, does: Does) -> Result<Said, Fail> {
+    match does {
+        Does::Resign(serial) => playing(server, session, moment, serial, DeskAct::Resign),
+        Does::Flag(serial) => playing(server, session, moment, serial, DeskAct::Flag),
+        Does::Items(serial) => playing(server, session, moment, serial, DeskAct::Fetch),
+        Does::Leave(serial) => playing(server, session, moment, serial, DeskAct::Leave),
+        _ => moving(server, session, moment, does),
+    }
+}
+
+fn moving(server: &mut OneServer, session: u32, moment: u32, does: Does) -> Result<Said, Fail> {
+    let (serial, word) = match does {
+        Does::Move(serial, from, to) => (serial, word(from, to)?),
+        Does::Knight(serial, to) => (serial, knight_to(to)?),
+        Does::Castle(serial) => (serial, MoveWord::Castle { long: false }),
+        Does::Drop(serial) => (serial, pawn_drop()?),
+        _ => return Err(Fail::Memory),
+    };
+    playing(server, session, moment, serial, DeskAct::Move { word })
+}
+
+fn entering(server: &mut OneServer, session: u32, name: &[u8; 3]) -> Result<Said, Fail> {
+    let name = handle(name)?;
+    let reply = server.run(session, 0, Act::Lobby(LobbyAct::Enter { name }))?;
+    Ok(said(&reply))
+}
+
+fn challenging(
+    server: &mut OneServer,
+    session: u32,
+    to: &[u8; 3],
+    variant: Variant,
+) -> Result<Said, Fail> {
+    let to = handle(to)?.key();
+    let terms = Terms {
+        minutes: 2,
+        increment: 12,
+        variant,
+        colour: Some(Colour::White),
+    };
+    let reply = server.run(session, 0, Act::Lobby(LobbyAct::Match { to, terms }))?;
+    Ok(said(&reply))
+}
+
+fn visiting(server: &mut OneServer, session: u32, act: LobbyAct) -> Result<Said, Fail> {
+    let plain = match act {
+        LobbyAct::Where => Act::Lobby(LobbyAct::Where),
+        LobbyAct::Fetch => Act::Lobby(LobbyAct::Fetch),
+        LobbyAct::Going => Act::Lobby(LobbyAct::Going),
+        LobbyAct::Bye => Act::Lobby(LobbyAct::Bye),
+        _ => return Err(Fail::Memory),
+    };
+    let reply = server.run(session, 0, plain)?;
+    Ok(said(&reply))
+}
+
+fn accepting(
+    server: &mut OneServer,
+    session: u32,
+    moment: u32,
+    name: Option<[u8; 3]>,
+) -> Result<Said, Fail> {
+    let key = match name {
+        Some(name) => Some(handle(&name)?.key()),
+        None => None,
+    };
+    let reply = server.run(session, u64::from(moment), Act::Pair(PairAct::Accept(key)))?;
+    Ok(said(&reply))
+}
+
+fn clearing(server: &mut OneServer, session: u32, serial: u64) -> Result<Said, Fail> {
+    let reply = server.run(session, 0, Act::Pair(PairAct::Clear { desk: 1, serial }))?;
+    Ok(said(&reply))
+}
+
+fn playing(
+    server: &mut OneServer,
+    session: u32,
+    moment: u32,
+    serial: u64,
+    act: DeskAct,
+) -> Result<Said, Fail> {
+    let reply = server.run(
+        session,
+        u64::from(moment),
+        Act::Desk {
+            desk: 1,
+            serial,
+            act,
+        },
+    )?;
+    Ok(said(&reply))
+}
+
+fn said(reply: &Reply) -> Said {
+    match reply {
+        Reply::Refused(cause) => Said::Refused(cause.number()),
+        Reply::Done => Said::Done,
+        Reply::Entered(_) => Said::Entered,
+        Reply::Places(places) => Said::Places(places.rows().len()),
+        Reply::Waiting { lines, places } => Said::Waiting(lines.len(), places.rows().len()),
+        Reply::Items { items, over } => Said::Items(items.len(), *over),
+        Reply::Started => Said::Started,
+        Reply::Kept => Said::Kept,
+        Reply::Freed => Said::Freed,
+        Reply::Cleared => Said::Cleared,
+    }
+}
+
+fn handle(name: &[u8; 3]) -> Result<Handle, Fail> {
+    match Handle::read(name) {
+        Some(handle) => Ok(handle),
+        None => Err(Fail::Refused(Refusal::BadHandle)),
+    }
+}
+
+fn square(number: u8) -> Result<Square, Fail> {
+    match Square::of(number) {
+        Some(square) => Ok(square),
+        None => Err(Fail::Refused(Refusal::BadArguments)),
+    }
+}
+
+fn word(from: u8, to: u8) -> Result<MoveWord, Fail> {
+    let from = square(from)?;
+    let to = square(to)?;
+    Ok(MoveWord::Coordinate {
+        from,
+        to,
+        promo: None,
+    })
+}
+
+fn knight_to(to: u8) -> Result<MoveWord, Fail> {
+    let to = square(to)?;
+    Ok(MoveWord::Named {
+        kind: Kind::Knight,
+        file: None,
+        rank: None,
+        to,
+        promo: None,
+    })
+}
+
+fn pawn_drop() -> Result<MoveWord, Fail> {
+    let to = square(28)?;
+    Ok(MoveWord::Drop {
+        kind: Kind::Pawn,
+        to,
+    })
+}
