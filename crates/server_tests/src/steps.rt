@@ -122,7 +122,7 @@ fn moving(server: &mut OneServer, session: u32, moment: u32, does: Does) -> Resu
 fn entering(server: &mut OneServer, session: u32, name: &[u8; 3]) -> Result<Said, Fail> {
     let name = handle(name)?;
     let reply = server.run(session, 0, Act::Lobby(LobbyAct::Enter { name }))?;
-    Ok(said(&reply))
+    Ok(in_short(&reply))
 }
 
 fn challenging(
@@ -139,7 +139,7 @@ fn challenging(
         colour: Some(Colour::White),
     };
     let reply = server.run(session, 0, Act::Lobby(LobbyAct::Match { to, terms }))?;
-    Ok(said(&reply))
+    Ok(in_short(&reply))
 }
 
 fn visiting(server: &mut OneServer, session: u32, act: LobbyAct) -> Result<Said, Fail> {
@@ -151,7 +151,7 @@ fn visiting(server: &mut OneServer, session: u32, act: LobbyAct) -> Result<Said,
         _ => return Err(Fail::Memory),
     };
     let reply = server.run(session, 0, plain)?;
-    Ok(said(&reply))
+    Ok(in_short(&reply))
 }
 
 fn accepting(
@@ -165,12 +165,12 @@ fn accepting(
         None => None,
     };
     let reply = server.run(session, u64::from(moment), Act::Pair(PairAct::Accept(key)))?;
-    Ok(said(&reply))
+    Ok(in_short(&reply))
 }
 
 fn clearing(server: &mut OneServer, session: u32, serial: u64) -> Result<Said, Fail> {
     let reply = server.run(session, 0, Act::Pair(PairAct::Clear { desk: 1, serial }))?;
-    Ok(said(&reply))
+    Ok(in_short(&reply))
 }
 
 fn playing(
@@ -189,10 +189,10 @@ fn playing(
             act,
         },
     )?;
-    Ok(said(&reply))
+    Ok(in_short(&reply))
 }
 
-fn said(reply: &Reply) -> Said {
+fn in_short(reply: &Reply) -> Said {
     match reply {
         Reply::Refused(cause) => Said::Refused(cause.number()),
         Reply::Done => Said::Done,
