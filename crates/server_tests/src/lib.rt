@@ -8,6 +8,8 @@
 #[cfg(test)]
 mod games;
 #[cfg(test)]
+mod limits;
+#[cfg(test)]
 mod refusals;
 #[cfg(test)]
 mod steps;

@@ -112,7 +112,7 @@ fn of_words(rt: HostRuntime) -> Result<(), Fail> {
         Step(0, 1, Does::Match(*b"Ben", Variant::Chess), Said::Done),
         Step(0, 2, Does::Accept(None), Said::Started),
         Step(0, 1, Does::Castle(1), Said::Refused(3)),
-        Step(0, 1, Does::Drop(1), Said::Refused(4)),
+        Step(0, 1, Does::Drop(1, 28), Said::Refused(4)),
         Step(0, 1, Does::Move(1, 12, 28), Said::Done),
         Step(0, 2, Does::Move(1, 52, 36), Said::Done),
         Step(0, 1, Does::Move(1, 5, 33), Said::Done),
@@ -145,7 +145,7 @@ fn of_a_full_hall(rt: HostRuntime) -> Result<(), Fail> {
 }
 
 /// A name of three letters, another one for each number below 676.
-fn name_of(number: u32) -> [u8; 3] {
+pub fn name_of(number: u32) -> [u8; 3] {
     [b'x', letter(number / 26), letter(number % 26)]
 }
 

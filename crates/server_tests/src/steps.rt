@@ -44,8 +44,8 @@ pub enum Does {
     Knight(u64, u8),
     /// Castles short.
     Castle(u64),
-    /// Drops a pawn on e4.
-    Drop(u64),
+    /// Drops a pawn on a square.
+    Drop(u64, u8),
     Resign(u64),
     Flag(u64),
     Items(u64),
@@ -113,7 +113,7 @@ fn moving(server: &mut OneServer, session: u32, moment: u32, does: Does) -> Resu
         Does::Move(serial, from, to) => (serial, word(from, to)?),
         Does::Knight(serial, to) => (serial, knight_to(to)?),
         Does::Castle(serial) => (serial, MoveWord::Castle { long: false }),
-        Does::Drop(serial) => (serial, pawn_drop()?),
+        Does::Drop(serial, to) => (serial, pawn_drop(to)?),
         _ => return Err(Fail::Memory),
     };
     playing(server, session, moment, serial, DeskAct::Move { word })
@@ -242,8 +242,8 @@ fn knight_to(to: u8) -> Result<MoveWord, Fail> {
     })
 }
 
-fn pawn_drop() -> Result<MoveWord, Fail> {
-    let to = square(28)?;
+fn pawn_drop(to: u8) -> Result<MoveWord, Fail> {
+    let to = square(to)?;
     Ok(MoveWord::Drop {
         kind: Kind::Pawn,
         to,
