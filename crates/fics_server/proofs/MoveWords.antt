@@ -1,9 +1,9 @@
 -- Reading a move word is the way back from its spelling.
 use Rattle.std.proofs.Common.{◌≡◌, ℕ, ◌+◌, ◌-◌, ◌*◌, ◌/◌, ◌%◌, ◌<◌, ◌≤◌, Bool, true, false, cond, List, [], ◌∷◌, ◌++◌, refl, sym, ap, subst, ◌∙◌, arith, Some, None, inl, inr}
-use Rattle.std.specs.Prelude.{◌⊎◌, ◌&&◌, ◌==◌, Option, IfSome, codes}
+use Rattle.std.specs.Prelude.{◌&&◌, ◌==◌, Option, IfSome}
 use Rattle.std.proofs.lemmas.Bool.{eqb-true}
 use Rattle.std.proofs.lemmas.Bool.Decides.{nat_tests}
-use Rattle.chess_model.specs.Squares.{square_at, file_of, rank_of}
+use Rattle.chess_model.specs.Squares.{square_at}
 use Rattle.move_writer.specs.Letters.{square_text}
 use Rattle.fics_server.specs.MoveForm.{is_between, square_of, both_of, squares_of, Spells}
 use Rattle.fics_server.specs.declared.squares.Squares.{Squares}

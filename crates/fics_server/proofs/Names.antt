@@ -1,6 +1,6 @@
 -- The names of the two players are handles.
-use Rattle.std.proofs.Common.{◌≡◌, ℕ, ◌≤◌, List, [], ◌∷◌, length, arith, inl, inr}
-use Rattle.std.specs.Prelude.{All, codes}
+use Rattle.std.proofs.Common.{ℕ, ◌≤◌, [], ◌∷◌, arith, inl, inr}
+use Rattle.std.specs.Prelude.{codes}
 use Rattle.std.specs.Char.{IsAsciiAlphabetic}
 use Rattle.std.proofs.lemmas.List.Elements.{All-nil, All-cons}
 use Rattle.fics_words.specs.Handle.{IsHandle}

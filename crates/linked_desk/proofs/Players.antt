@@ -1,16 +1,15 @@
 -- Each act leaves the serial, the terms and the players of a game as they are.
-use Rattle.std.proofs.Common.{◌≡◌, ℕ, ◌==◌, Bool, true, false, if◌then◌else◌, List, Option, Some, None, Result, Ok, Err, is_ok, is_some, is_none, refl, ap}
+use Rattle.std.proofs.Common.{◌≡◌, ℕ, ◌==◌, Bool, true, false, if◌then◌else◌, Option, Some, None, Result, Ok, Err, refl, ap}
 use Rattle.chess_model.specs.declared.man.Colour.{Colour}
 use Rattle.chess_model.specs.declared.moves.Move.{Move}
 use Rattle.fics_words.specs.declared.refusal.Refusal.{Refusal}
 use Rattle.linked_desk.specs.declared.acts.DeskAct.{DeskAct}
 use Rattle.linked_desk.specs.declared.acts.DeskAct.TheVariants as act
-use Rattle.linked_desk.specs.declared.ended.Ended.{Ended}
 use Rattle.linked_desk.specs.Causes.{unless}
-use Rattle.linked_desk.specs.Desk.{GameState, DeskState, Occupant, occupant, occupant_of, colour_of}
+use Rattle.linked_desk.specs.Desk.{GameState, occupant, occupant_of, colour_of}
 use Rattle.linked_desk.specs.Moves.{over_refused, seat_move, moved}
-use Rattle.linked_desk.specs.Ends.{ended_by, resignation, forfeit, resigned, seat_flag, flagged, forfeited, left}
-use Rattle.linked_desk.specs.Visits.{fetch_refused, viewers_after, fetched}
+use Rattle.linked_desk.specs.Ends.{ended_by, resignation, forfeit, resigned, seat_flag, flagged, forfeited}
+use Rattle.linked_desk.specs.Visits.{fetch_refused, fetched}
 use Rattle.linked_desk.specs.Acts.{game_after, after_at}
 
 -- a change that a refusal may stop keeps what the change keeps

@@ -1,5 +1,5 @@
 -- What contracts see of a desk: it is vacant, or a game is played at it.
-use Rattle.std.specs.Prelude.{ℕ, ◌+◌, ◌-◌, ◌*◌, ◌==◌, Bool, max, if◌then◌else◌, List, [], drop, length, is_some, Option, Some, None}
+use Rattle.std.specs.Prelude.{ℕ, ◌-◌, ◌*◌, ◌==◌, Bool, max, if◌then◌else◌, List, [], drop, length, is_some, Option, Some, None}
 use Rattle.std.specs.List.{find}
 use Rattle.std.specs.Option.{option_map, option_and_then, option_map_or}
 use Rattle.chess_model.specs.declared.man.Colour.{Colour}

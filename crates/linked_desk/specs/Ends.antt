@@ -1,5 +1,5 @@
 -- The ends of a game that players bring about: resigning, a called flag, and leaving.
-use Rattle.std.specs.Prelude.{ℕ, ◌++◌, ◌∷◌, [], ◌==◌, true, not, Option, Some, None, Result, Ok, Err, List}
+use Rattle.std.specs.Prelude.{ℕ, ◌==◌, true, not, Option, Some, None, Result, Ok, Err, List}
 use Rattle.std.specs.List.{filter}
 use Rattle.chess_model.specs.declared.man.Colour.{Colour}
 use Rattle.chess_model.specs.declared.why.Why.TheVariants.{Resigned, Flag, FlagDraw, Left}

@@ -1,5 +1,5 @@
 -- A move at a desk.
-use Rattle.std.specs.Prelude.{ℕ, ◌∷◌, [], is_ok, is_some, if◌then◌else◌, Option, Some, None, Result, Ok, Err}
+use Rattle.std.specs.Prelude.{ℕ, ◌∷◌, [], is_ok, is_some, if◌then◌else◌, Option, Some, None, Result, Err}
 use Rattle.chess_model.specs.declared.man.Colour.{Colour}
 use Rattle.chess_model.specs.declared.moves.Move.{Move}
 use Rattle.chess_model.specs.declared.moves.MoveWord.{MoveWord}

@@ -1,5 +1,5 @@
 -- How a game begins at a desk.
-use Rattle.std.specs.Prelude.{ℕ, List, [], ◌∷◌, Option, Some, None}
+use Rattle.std.specs.Prelude.{ℕ, [], ◌∷◌, Some, None}
 use Rattle.chess_model.specs.declared.variant.Terms.{Terms}
 use Rattle.fics_words.specs.declared.account.Seat.{Seat}
 use Rattle.style12_writer.specs.declared.item.Item.TheVariants as item

@@ -1,5 +1,5 @@
 -- What is shown of a game: its board line, and the feed with one item more.
-use Rattle.std.specs.Prelude.{ℕ, List, [], ◌∷◌, ◌++◌}
+use Rattle.std.specs.Prelude.{ℕ, [], ◌∷◌, ◌++◌}
 use Rattle.chess_model.specs.declared.man.Colour.TheVariants.{White, Black}
 use Rattle.fics_words.specs.declared.account.Seat.{Seat}
 use Rattle.style12_writer.specs.declared.item.Item.{Item}

@@ -1,5 +1,5 @@
 -- A clock is its ledger's sum.
-use Rattle.std.proofs.Common.{◌≡◌, ℕ, ◌+◌, ◌*◌, Bool, true, false, if◌then◌else◌, length, refl}
+use Rattle.std.proofs.Common.{◌≡◌, ◌+◌, ◌*◌, Bool, true, false, if◌then◌else◌, length, refl}
 use Rattle.std.specs.Prelude.{ℤ, pos, ◌-ℤ◌, IsTrue}
 use Rattle.std.specs.List.{sum_by}
 use Rattle.chess_model.specs.declared.man.Colour.{Colour}

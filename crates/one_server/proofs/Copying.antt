@@ -1,6 +1,5 @@
 -- Copies that were made ahead are of what the act is answered.
-use Rattle.std.proofs.Common.{◌≡◌, ℕ, ◌==◌, ◌-◌, Bool, true, false, cond, List, if◌then◌else◌, refl, sym, ap, subst, ◌∙◌}
-use Rattle.std.specs.List.{slice_get}
+use Rattle.std.proofs.Common.{◌≡◌, ℕ, ◌==◌, Bool, true, false, cond, List, if◌then◌else◌, refl, sym, subst, ◌∙◌}
 use Rattle.std.specs.declared.option.Option.{Option}
 use Rattle.std.specs.declared.option.Option.TheVariants.{None, Some}
 use Rattle.std.specs.declared.result.Result.{Result}
@@ -15,13 +14,12 @@ use Rattle.linked_desk.specs.declared.acts.DeskReply.{DeskReply}
 use Rattle.linked_desk.specs.declared.acts.DeskReply.TheVariants.{Done as DeskDone, Items as DeskItems}
 use Rattle.linked_desk.specs.Acts.{desk_answer, game_answer, missing_answer, answer_at}
 use Rattle.linked_desk.specs.Causes.{replying}
-use Rattle.linked_desk.specs.Desk.{GameState, DeskState, ahead_of, colour_of, items_for}
+use Rattle.linked_desk.specs.Desk.{GameState, DeskState, ahead_of, colour_of}
 use Rattle.linked_desk.specs.Ends.{resign_refused, seat_flag}
 use Rattle.linked_desk.specs.Moves.{seat_move}
 use Rattle.linked_desk.specs.Visits.{fetch_refused}
 use Rattle.lobby_state.specs.declared.acts.LobbyAct.{LobbyAct}
 use Rattle.lobby_state.specs.declared.acts.LobbyAct.TheVariants.{Enter, Match, Where, Fetch, Going, Bye}
-use Rattle.lobby_state.specs.declared.acts.LobbyReply.{LobbyReply}
 use Rattle.lobby_state.specs.declared.acts.LobbyReply.TheVariants.{Done as LobbyDone, Entered as LobbyEntered}
 use Rattle.lobby_state.specs.declared.acts.Plan.{Plan}
 use Rattle.lobby_state.specs.declared.acts.Plan.TheVariants.{Seat, Clear}

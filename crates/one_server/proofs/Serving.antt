@@ -1,17 +1,16 @@
 -- A server of one thread stays the state of its history, by one entry more.
-use Rattle.std.proofs.Common.{◌≡◌, ℕ, ◌+◌, ◌-◌, ◌≤◌, zero, suc, List, [], ◌∷◌, ◌++◌, length, map, replicate, ◌<◌, refl, ap, sym, subst, ◌∙◌, arith, append_assoc, append-nil}
+use Rattle.std.proofs.Common.{◌≡◌, ℕ, ◌+◌, ◌-◌, zero, suc, List, [], ◌∷◌, ◌++◌, length, map, replicate, ◌<◌, refl, ap, sym, subst, ◌∙◌, arith}
 use Rattle.std.specs.List.{slice_get}
 use Rattle.std.specs.declared.option.Option.{Option}
 use Rattle.std.specs.declared.option.Option.TheVariants.{None, Some}
-use Rattle.std.specs.Prelude.{All}
 use Rattle.std.specs.Option.{option_map}
 use Rattle.std.proofs.lemmas.List.{length-map}
 use Rattle.std.proofs.lemmas.Option.{slice_get-map}
 use Rattle.std.proofs.lemmas.List.Elements.{All-nil}
 use Rattle.histories.specs.Core.{reply, after}
 use Rattle.histories.specs.declared.entry.Entry.{Entry}
-use Rattle.histories.specs.History.{entry, state, Legal, calls_of}
-use Rattle.histories.proofs.Histories.{grows_legally, steps_once, stays_whole, calls_own, prefix_refl}
+use Rattle.histories.specs.History.{entry}
+use Rattle.histories.proofs.Histories.{grows_legally, steps_once, stays_whole}
 use Rattle.lobby_state.specs.declared.game.Game.{Game}
 use Rattle.lobby_state.specs.Lobby.{LobbyState, desks}
 use Rattle.linked_desk.specs.Desk.{DeskState}
@@ -20,13 +19,12 @@ use Rattle.one_server.specs.declared.part.Part.{Part}
 use Rattle.one_server.specs.declared.reply.Reply.{Reply}
 use Rattle.one_server.specs.Acts.{IsEvent}
 use Rattle.one_server.specs.House.{house}
-use Rattle.one_server.specs.Running.{Log, Ran, Unmade}
-use Rattle.one_server.specs.Server.{ServerState, IsServed}
-use Rattle.one_server.specs.Desks.{vacant, game_of}
+use Rattle.one_server.specs.Server.{IsServed}
+use Rattle.one_server.specs.Desks.{vacant}
 use Rattle.one_server.specs.declared.part.Part.TheVariants.{Lobby as TheLobby, Desk as ADesk}
 use Rattle.one_server.specs.Plans.{AreForTwo}
 use Rattle.lobby_state.specs.declared.challenge.Challenge.{Challenge}
-use Rattle.one_server.specs.Whole.{AreAllForTwo, IsListed, IsInPlace, IsOpening, IsWhole, parts_of, vacant_from, opened}
+use Rattle.one_server.specs.Whole.{AreAllForTwo, IsInPlace, IsOpening, IsWhole, parts_of, vacant_from, opened}
 use Rattle.one_server.specs.Lawful.{house_lawful}
 
 -- the parts of a server are whole

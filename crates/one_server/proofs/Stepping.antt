@@ -1,5 +1,5 @@
 -- A step on the lobby and the desks is the server's step on the list of its parts.
-use Rattle.std.proofs.Common.{◌≡◌, ◌≢◌, ℕ, ◌+◌, ◌-◌, ◌<◌, ◌≤◌, zero, suc, List, [], ◌∷◌, length, map, set, refl, ap, sym, subst, ◌∙◌, arith}
+use Rattle.std.proofs.Common.{◌≡◌, ℕ, ◌+◌, ◌-◌, ◌≤◌, zero, suc, List, ◌∷◌, length, map, set, refl, ap, sym, subst, ◌∙◌, arith}
 use Rattle.std.specs.List.{slice_get}
 use Rattle.std.specs.Option.{option_map}
 use Rattle.std.specs.declared.option.Option.{Option}
@@ -14,7 +14,7 @@ use Rattle.histories.proofs.Parts.{get_within}
 use Rattle.histories.proofs.Steps.{after_alone, after_together, reply_alone, reply_together}
 use Rattle.linked_desk.specs.declared.acts.DeskAct.{DeskAct}
 use Rattle.linked_desk.specs.Acts.{desk_answer, desk_after}
-use Rattle.linked_desk.specs.Desk.{GameState, DeskState, occupant, occupant_of}
+use Rattle.linked_desk.specs.Desk.{GameState, DeskState, occupant}
 use Rattle.lobby_state.specs.declared.acts.LobbyAct.{LobbyAct}
 use Rattle.lobby_state.specs.declared.acts.PairAct.{PairAct}
 use Rattle.lobby_state.specs.declared.acts.Plan.{Plan}
@@ -38,7 +38,7 @@ use Rattle.one_server.specs.House.{house, pair_reply, pair_lobby, pair_desk}
 use Rattle.one_server.specs.Plans.{CanCarry, plan_reply, plan_lobby, plan_desk}
 use Rattle.one_server.specs.Whole.{IsListed, IsWhole, parts_of}
 use Rattle.one_server.specs.KeptForTwo.{SeatsForTwo, for_two-plan_of}
-use Rattle.one_server.specs.KeptWhole.{first_is, formed_is, two_is, place_is}
+use Rattle.one_server.specs.KeptWhole.{formed_is, two_is, place_is}
 
 -- the desk with a number stands at its place in the list of parts
 pub part_there : (lobby : LobbyState) (tables : List DeskState) (number : ℕ) (desk : DeskState) → 1 ≤ number → slice_get tables (number - 1) ≡ Some desk

@@ -1,5 +1,5 @@
 -- Each challenge that stands is to a game of two players, and so is each game that a plan starts.
-use Rattle.std.proofs.Common.{◌≡◌, ◌≢◌, ℕ, ◌+◌, ◌<◌, zero, suc, Bool, true, false, not, cond, ◌||◌, is_none, List, [], ◌∷◌, ◌++◌, length, get_or, filter, refl, ap, sym, subst, ◌∙◌, inl, inr, arith}
+use Rattle.std.proofs.Common.{◌≡◌, ◌≢◌, ℕ, ◌+◌, Bool, true, false, not, cond, ◌||◌, is_none, List, [], ◌∷◌, filter, refl, subst, inl, inr}
 use Rattle.std.specs.Prelude.{All, IfOk}
 use Rattle.std.specs.List.{find}
 use Rattle.std.specs.declared.option.Option.{Option}
@@ -23,10 +23,10 @@ use Rattle.lobby_state.specs.declared.member.Member.{Member}
 use Rattle.lobby_state.specs.Acts.{lobby_after, plan_of, committed}
 use Rattle.lobby_state.specs.Causes.{first_cause, unless}
 use Rattle.lobby_state.specs.Change.{holds}
-use Rattle.lobby_state.specs.Enter.{enter_refused, entered, with_newcomer}
-use Rattle.lobby_state.specs.Lobby.{LobbyState, concerns, is_session, has_place, member_of, named, free_slot, most_games}
-use Rattle.lobby_state.specs.Match.{needs_partners, match_refused, matched, challenged, with_challenge, is_same_pair, is_full}
-use Rattle.lobby_state.specs.Seating.{offer_from, offer_of, desk_plan, game_plan, offer_plan, acceptance, accept_plan, concerns_seated, seats_of}
+use Rattle.lobby_state.specs.Enter.{enter_refused, with_newcomer}
+use Rattle.lobby_state.specs.Lobby.{LobbyState, concerns, is_session, has_place, member_of, named, free_slot}
+use Rattle.lobby_state.specs.Match.{needs_partners, match_refused, challenged, is_same_pair, is_full}
+use Rattle.lobby_state.specs.Seating.{offer_from, offer_of, desk_plan, game_plan, acceptance, concerns_seated, seats_of}
 use Rattle.lobby_state.proofs.Lists.{All-filter_passing, find-step}
 use Rattle.one_server.specs.Plans.{AreForTwo}
 use Rattle.one_server.specs.Whole.{AreAllForTwo}

@@ -1,12 +1,12 @@
 -- A whole state stays whole where its lobby or one of its desks is written anew as an act does it.
-use Rattle.std.proofs.Common.{◌≡◌, ◌≢◌, ℕ, ◌+◌, ◌-◌, ◌<◌, ◌≤◌, ◌⊎◌, zero, suc, List, [], ◌∷◌, length, set, refl, ap, sym, subst, ◌∙◌, inl, inr, arith, length-set}
+use Rattle.std.proofs.Common.{◌≡◌, ◌≢◌, ℕ, ◌-◌, ◌<◌, ◌≤◌, ◌⊎◌, zero, suc, List, [], ◌∷◌, length, set, refl, ap, sym, subst, ◌∙◌, inl, inr, arith, length-set}
 use Rattle.std.specs.List.{slice_get}
 use Rattle.std.specs.declared.option.Option.{Option}
-use Rattle.std.specs.declared.option.Option.TheVariants.{None, Some}
+use Rattle.std.specs.declared.option.Option.TheVariants.{Some}
 use Rattle.histories.proofs.Parts.{get_set_same, get_set_else, get_within, slice_get_length}
 use Rattle.lobby_state.specs.declared.game.Game.{Game}
 use Rattle.lobby_state.specs.Acts.{IsDesk}
-use Rattle.lobby_state.specs.Lobby.{LobbyState, desks}
+use Rattle.lobby_state.specs.Lobby.{LobbyState}
 use Rattle.lobby_state.specs.WellFormed.{IsWellFormed}
 use Rattle.linked_desk.specs.Desk.{DeskState}
 use Rattle.one_server.specs.declared.part.Part.{Part}

@@ -1,15 +1,14 @@
 -- The server of one lobby and 128 desks keeps the laws of a server of parts: each act finds its parts, and leaves a
 -- whole state.
-use Rattle.std.proofs.Common.{◌≡◌, ◌≢◌, ℕ, ◌+◌, ◌-◌, ◌<◌, ◌≤◌, Bool, true, false, cond, ◌&&◌, List, length, set, refl, ap, sym, subst, ◌∙◌, arith}
+use Rattle.std.proofs.Common.{◌≡◌, ◌≢◌, ℕ, ◌<◌, Bool, true, false, cond, ◌&&◌, List, length, set, refl, ap, sym, subst, ◌∙◌, arith}
 use Rattle.std.specs.List.{slice_get}
 use Rattle.std.specs.Option.{option_map}
-use Rattle.std.specs.declared.option.Option.{Option}
 use Rattle.std.specs.declared.option.Option.TheVariants.{None, Some}
 use Rattle.std.specs.declared.result.Result.{Result}
 use Rattle.std.specs.declared.result.Result.TheVariants.{Ok, Err}
 use Rattle.fics_words.specs.declared.refusal.Refusal.{Refusal}
 use Rattle.histories.specs.Core.{Lawful, after}
-use Rattle.histories.proofs.Parts.{get_set_same, get_set_else, get_within}
+use Rattle.histories.proofs.Parts.{get_set_else}
 use Rattle.histories.proofs.Steps.{after_alone, after_together}
 use Rattle.linked_desk.specs.declared.acts.DeskAct.{DeskAct}
 use Rattle.linked_desk.specs.Acts.{desk_after}
@@ -18,9 +17,8 @@ use Rattle.linked_desk.proofs.Players.{occupant-after_at}
 use Rattle.lobby_state.specs.declared.acts.Plan.{Plan}
 use Rattle.lobby_state.specs.declared.acts.Plan.TheVariants.{Seat, Clear}
 use Rattle.lobby_state.specs.declared.acts.PairAct.{PairAct}
-use Rattle.lobby_state.specs.declared.acts.LobbyAct.{LobbyAct}
 use Rattle.lobby_state.specs.Acts.{IsDesk, NamesDesk, lobby_after, plan_of, desk_of, committed}
-use Rattle.lobby_state.specs.Lobby.{LobbyState, desks}
+use Rattle.lobby_state.specs.Lobby.{LobbyState}
 use Rattle.lobby_state.specs.Planned.{IsPlanned}
 use Rattle.lobby_state.specs.WellFormed.{IsWellFormed}
 use Rattle.lobby_state.proofs.WellFormed.{IsWellFormed-lobby_after, games-lobby_after}
@@ -30,13 +28,13 @@ use Rattle.one_server.specs.declared.act.Act.TheVariants.{Lobby, Desk, Pair}
 use Rattle.one_server.specs.declared.act.Timed.{Timed}
 use Rattle.one_server.specs.declared.part.Part.{Part}
 use Rattle.one_server.specs.declared.part.Part.TheVariants.{Lobby as TheLobby, Desk as ADesk}
-use Rattle.one_server.specs.Acts.{first_part, second_part, planned_desk, FitsAct, IsEvent}
+use Rattle.one_server.specs.Acts.{first_part, second_part, planned_desk, FitsAct}
 use Rattle.one_server.specs.Desks.{listing, game_of, has_ended, is_left, emptied}
-use Rattle.one_server.specs.House.{house, house_one, house_two, pair_lobby, pair_desk}
+use Rattle.one_server.specs.House.{house, pair_lobby, pair_desk}
 use Rattle.one_server.specs.Plans.{plan_lobby, plan_desk}
-use Rattle.one_server.specs.Whole.{IsWhole, IsInPlace, IsListed}
+use Rattle.one_server.specs.Whole.{IsWhole}
 use Rattle.one_server.specs.KeptForTwo.{for_two-lobby_after, for_two-committed}
-use Rattle.one_server.specs.KeptWhole.{formed_is, two_is, place_is, first_is, desk_at, whole_lobby, whole_desk, whole_both}
+use Rattle.one_server.specs.KeptWhole.{formed_is, two_is, desk_at, whole_lobby, whole_desk, whole_both}
 
 -- a desk act leaves the game that the desk is in use for
 pub keeps_game : (desk : DeskState) (session moment serial : ℕ) (act : DeskAct) → game_of (desk_after desk session moment serial act) ≡ game_of desk

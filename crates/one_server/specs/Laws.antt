@@ -1,5 +1,5 @@
 -- What holds in every state. This server's own; for the clocks FIDE 6.1 and the increment of FICS.
-use Rattle.std.specs.Prelude.{◌≡◌, ℕ, ◌+◌, ◌-◌, ◌*◌, ℤ, pos, ◌-ℤ◌, IsTrue, List, All, length, Some, slice_get}
+use Rattle.std.specs.Prelude.{◌≡◌, ℕ, ◌+◌, ◌-◌, ◌*◌, pos, ◌-ℤ◌, IsTrue, List, All, length, Some, slice_get}
 use Rattle.std.specs.List.{sum_by}
 use Rattle.chess_model.specs.declared.man.Colour.{Colour}
 use Rattle.clock_ledger.specs.Charges.{amount}

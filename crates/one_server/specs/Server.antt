@@ -1,5 +1,5 @@
 -- The server of one thread: the lobby that it opened with, and its whole history. This server's own.
-use Rattle.std.specs.Prelude.{◌≡◌, ℕ, List}
+use Rattle.std.specs.Prelude.{◌≡◌, List}
 use Rattle.histories.specs.declared.entry.Entry.{Entry}
 use Rattle.histories.specs.History.{state, Legal}
 use Rattle.lobby_state.specs.Lobby.{LobbyState}

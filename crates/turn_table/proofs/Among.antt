@@ -1,13 +1,11 @@
 -- Elements of lists, and a function changed at one number.
-use Rattle.std.proofs.Common.{◌≡◌, ◌≢◌, ℕ, zero, suc, ◌+◌, ◌<◌, ◌≤◌, ◌⊎◌, Bool, true, false, cond, not, eqb, List, [], ◌∷◌, ◌++◌, map, length, set, refl, ap, sym, subst, ◌∙◌, inl, inr, ⊎_elim, arith, eq-eqb, ne_eqb}
+use Rattle.std.proofs.Common.{◌≡◌, ◌≢◌, ℕ, zero, suc, ◌<◌, ◌≤◌, ◌⊎◌, Bool, true, false, cond, not, eqb, List, [], ◌∷◌, ◌++◌, map, length, refl, ap, sym, subst, ◌∙◌, inl, inr, ⊎_elim, arith, eq-eqb, ne_eqb}
 use Rattle.std.specs.List.{filter}
-use Rattle.std.specs.declared.option.Option.{Option}
-use Rattle.std.specs.declared.option.Option.TheVariants.{None, Some}
 use mathlib.Core.Option.{some, some-ne-none}
 use mathlib.Core.Logic.{dite}
 use lib.ListN.{get_elem?}
 use native.Mathlib.Decide.{ℕ_discrete}
-use Rattle.turn_table.specs.Views.{In, Distinct}
+use Rattle.turn_table.specs.Views.{In}
 
 module _ {T : Type 0} where
   pub in_append : (x : T) (xs ys : List T) → In x (xs ++ ys) → In x xs ⊎ In x ys

@@ -1,32 +1,28 @@
 -- A commit.
-use Rattle.std.proofs.Common.{◌≡◌, ◌≢◌, ℕ, zero, suc, ◌+◌, ◌%◌, ◌^◌, ◌<◌, ◌≤◌, ◌⊎◌, Bool, true, false, cond, not, eqb, List, [], ◌∷◌, ◌++◌, map, length, set, get_or, refl, ap, sym, subst, ◌∙◌, inl, inr, ⊎_elim, arith, length-set, length-append, append-nil, append_assoc, eq-eqb, ne_eqb}
-use Rattle.std.proofs.lemmas.List.{set-get_or, get_or-set_same, get_or-set_other}
+use Rattle.std.proofs.Common.{◌≡◌, ◌≢◌, ℕ, ◌+◌, ◌%◌, ◌^◌, ◌<◌, ◌⊎◌, true, cond, List, [], ◌∷◌, ◌++◌, map, length, set, refl, ap, sym, subst, ◌∙◌, inl, inr, ⊎_elim, arith, length-set, length-append, eq-eqb, ne_eqb}
+use Rattle.std.proofs.lemmas.List.{get_or-set_same, get_or-set_other}
 use Rattle.std.specs.Prelude.{slice_index}
-use Rattle.std.specs.Bool.{MatchBool}
 use Rattle.std.specs.List.{slice_get}
-use Rattle.std.specs.Option.{option_to_list, option_and_then}
+use Rattle.std.specs.Option.{option_and_then}
 use Rattle.std.specs.declared.option.Option.{Option}
 use Rattle.std.specs.declared.option.Option.TheVariants.{None, Some}
-use mathlib.Core.Option.{some, none, some-injective}
-use mathlib.Core.Option as maybe
+use mathlib.Core.Option.{some, none}
 use lib.ListN.{get_elem?}
-use prog.Atomic.{either}
-use Rattle.atomic_table.specs.Table.{State, Me, Step, step, Act, keeps, takes, gives, Allows, rest}
-use Rattle.atomic_table.proofs.Lists.{set_here, set_else}
+use Rattle.atomic_table.specs.Table.{State, step, keeps, Allows}
 use Rattle.histories.specs.declared.entry.Entry.{Entry}
-use Rattle.histories.specs.Core.{Core, Lawful, Touches, second_of, reply, after}
-use Rattle.histories.specs.History.{IsPrefix, calls_of, entry, state, Legal}
-use Rattle.histories.proofs.Parts.{get_set_same, get_set_else, get_within, slice_get_length}
+use Rattle.histories.specs.Core.{Core, Lawful, second_of, reply, after}
+use Rattle.histories.specs.History.{calls_of, state, Legal}
+use Rattle.histories.proofs.Parts.{get_set_same, get_set_else, slice_get_length}
 use Rattle.histories.proofs.Steps.{leaves_others, after_alone, after_together, reply_alone, reply_together}
-use Rattle.histories.proofs.Histories.{prefix_refl, prefix_more, length_state, stays_whole, grows_legally, steps_once, calls_own, calls_else}
+use Rattle.histories.proofs.Histories.{prefix_refl, prefix_more, grows_legally, steps_once, calls_own, calls_else}
 use Rattle.turn_table.specs.declared.view.Joined.{Joined}
 use Rattle.turn_table.specs.declared.view.View.{View}
-use Rattle.turn_table.specs.Views.{In, Distinct, Holds, numbers_of, Looks, begun, second_by, taken, tried, AllOut, SecondOut, done, left_by, second_left, entry_by, given, without, let_go}
-use Rattle.turn_table.specs.Rule.{Names, IsHome, HoldsAt, Fits, Rule, Ruled}
-use Rattle.turn_table.specs.Plays.{Sat, Begins, TakesPart, Takes, CommitsAct, Commits, Gives}
-use Rattle.turn_table.proofs.Among.{in_append, in_front, in_back, kept_was, keeps as stays_in, filter_shorter, in_map, map_in, pair_first, split_on, other_number, is_other, at_one, at_one_same, at_one_else}
-use Rattle.turn_table.proofs.Owing.{renamed, moved, Owes, stays}
-use Rattle.turn_table.proofs.Beginning.{some_or_none, bool_cases, one_more, pair_second, only_one, second_found, second_short, second_none, flight_cases, none_held, whole, count, look, holds_here}
+use Rattle.turn_table.specs.Views.{In, Holds, AllOut, SecondOut, done, left_by, second_left, entry_by}
+use Rattle.turn_table.specs.Rule.{Names, Fits, Rule, Ruled}
+use Rattle.turn_table.specs.Plays.{Sat, CommitsAct, Commits}
+use Rattle.turn_table.proofs.Among.{in_map, map_in, pair_first, split_on}
+use Rattle.turn_table.proofs.Owing.{renamed, Owes, stays}
+use Rattle.turn_table.proofs.Beginning.{one_more, pair_second, whole, holds_here}
 
 module _ {P A R : Type 0} (c : Core P A R) (law : Lawful c) (opening : List P) where
   -- a commit

@@ -1,18 +1,17 @@
 -- The two ends of a table: words that are all 0, and slots that give their parts back.
-use Rattle.std.proofs.Common.{◌≡◌, ◌≢◌, ℕ, zero, suc, ◌+◌, ◌<◌, ◌≤◌, ◌⊎◌, Bool, true, false, List, [], ◌∷◌, ◌++◌, map, length, take, set, get_or, replicate, refl, ap, sym, subst, ◌∙◌, inl, inr, ⊎_elim, arith, add-one}
+use Rattle.std.proofs.Common.{◌≡◌, ℕ, zero, suc, ◌+◌, ◌<◌, ◌≤◌, Bool, true, false, List, [], ◌∷◌, ◌++◌, map, length, take, set, get_or, replicate, refl, ap, sym, subst, ◌∙◌, arith, add-one}
 use Rattle.std.proofs.lemmas.List.{get_or-replicate, get_or_past, length-replicate}
 use Rattle.std.specs.List.{slice_get}
 use Rattle.std.specs.declared.option.Option.{Option}
-use Rattle.std.specs.declared.option.Option.TheVariants.{None, Some}
-use mathlib.Core.Option.{some, none, some-injective, some-ne-none}
+use Rattle.std.specs.declared.option.Option.TheVariants.{Some}
+use mathlib.Core.Option.{some, some-injective, some-ne-none}
 use lib.ListN.{get_elem?}
 use Rattle.atomic_table.specs.Table.{Final, Seen}
 use Rattle.histories.specs.Core.{Core, Lawful}
-use Rattle.histories.specs.History.{calls_of, state, Legal}
+use Rattle.histories.specs.History.{state, Legal}
 use Rattle.histories.proofs.Parts.{get_within}
 use Rattle.histories.proofs.Histories.{length_state}
 use Rattle.turn_table.specs.declared.view.View.{View}
-use Rattle.turn_table.specs.Views.{In, joined_number}
 use Rattle.turn_table.specs.Rule.{Ruled}
 use Rattle.turn_table.specs.Passes.{AllThere, AllJoined}
 use Rattle.turn_table.proofs.Among.{at_length}

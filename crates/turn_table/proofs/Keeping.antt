@@ -1,16 +1,14 @@
 -- Every pass stays a pass.
-use Rattle.std.proofs.Common.{◌≡◌, ◌≢◌, ℕ, zero, suc, ◌+◌, ◌<◌, ◌≤◌, ◌⊎◌, Bool, true, false, cond, not, eqb, List, [], ◌∷◌, ◌++◌, map, length, refl, ap, sym, subst, ◌∙◌, inl, inr, ⊎_elim, arith, eq-eqb, ne_eqb}
-use Rattle.std.specs.List.{filter}
+use Rattle.std.proofs.Common.{◌≡◌, ◌≢◌, ℕ, ◌+◌, ◌<◌, ◌≤◌, cond, not, eqb, List, [], ◌∷◌, map, length, refl, ap, sym, subst, ◌∙◌, inl, inr, ⊎_elim, arith, eq-eqb, ne_eqb}
 use Rattle.std.specs.declared.option.Option.{Option}
 use Rattle.std.specs.declared.option.Option.TheVariants.{None, Some}
-use Rattle.atomic_table.specs.Table.{Me, rest, turned}
-use Rattle.histories.specs.declared.entry.Entry.{Entry}
+use Rattle.atomic_table.specs.Table.{Me, turned}
 use Rattle.histories.specs.Core.{Core}
 use Rattle.turn_table.specs.declared.view.View.{View}
-use Rattle.turn_table.specs.Views.{In, Holds, begun, taken, tried, done, left_by, given, let_go, without, divided, split_from, joined_with, newcomer}
+use Rattle.turn_table.specs.Views.{In, Holds, begun, taken, tried, done, left_by, given, let_go, divided, split_from, joined_with, newcomer}
 use Rattle.turn_table.specs.Plays.{Sat, BeginsAct, TakesPart, FindsBusy, CommitsAct}
 use Rattle.turn_table.specs.Passes.{out, Topped, IsPass, Sound, TookPart, Committed}
-use Rattle.turn_table.proofs.Among.{in_map, kept_was, split_on, pair_first}
+use Rattle.turn_table.proofs.Among.{in_map, kept_was}
 
 -- two places don't hold three numbers that differ
 pigeon : (ks : List ℕ) (a b d : ℕ) → length ks ≤ 2 → In a ks → In b ks → In d ks → a ≢ b → a ≢ d → b ≢ d → ⊥

@@ -1,5 +1,5 @@
 -- What one step of a pass owes, and that the rule stays where it owes it.
-use Rattle.std.proofs.Common.{◌≡◌, ◌≢◌, ℕ, suc, ◌+◌, ◌%◌, ◌^◌, ◌<◌, ◌≤◌, ◌⊎◌, true, false, List, [], ◌∷◌, ◌++◌, map, length, set, get_or, refl, ap, sym, subst, ◌∙◌, inl, inr, ⊎_elim, arith}
+use Rattle.std.proofs.Common.{◌≡◌, ◌≢◌, ℕ, ◌%◌, ◌^◌, ◌<◌, ◌≤◌, ◌⊎◌, true, false, List, length, set, refl, ap, sym, subst, ◌∙◌, inl, inr, ⊎_elim, arith}
 use Rattle.std.specs.Prelude.{slice_index}
 use Rattle.std.specs.List.{slice_get}
 use Rattle.std.specs.declared.option.Option.{Option}
@@ -10,14 +10,14 @@ use lib.ListN.{get_elem?}
 use Rattle.atomic_table.specs.Table.{State}
 use Rattle.atomic_table.proofs.Lists.{at_set, set_here, set_else}
 use Rattle.histories.specs.declared.entry.Entry.{Entry}
-use Rattle.histories.specs.Core.{Core, Lawful}
+use Rattle.histories.specs.Core.{Core}
 use Rattle.histories.specs.History.{IsPrefix, calls_of, state, Legal}
-use Rattle.histories.proofs.Histories.{prefix_trans, prefix_refl}
+use Rattle.histories.proofs.Histories.{prefix_trans}
 use Rattle.turn_table.specs.declared.view.Joined.{Joined}
 use Rattle.turn_table.specs.declared.view.View.{View}
-use Rattle.turn_table.specs.Views.{In, Distinct, Holds, numbers_of}
+use Rattle.turn_table.specs.Views.{In, Holds, numbers_of}
 use Rattle.turn_table.specs.Rule.{Names, IsHome, HoldsAt, Fits, Rule}
-use Rattle.turn_table.proofs.Among.{split_on, in_back, map_in, at_length}
+use Rattle.turn_table.proofs.Among.{split_on, map_in, at_length}
 
 module _ {P A R : Type 0} (c : Core P A R) (opening : List P) where
   -- the names after a step: the history and the holders may be others

@@ -1,25 +1,23 @@
 -- Splitting a pass, joining two, and closing the table.
-use Rattle.std.proofs.Common.{◌≡◌, ◌≢◌, ℕ, zero, suc, ◌+◌, ◌%◌, ◌^◌, ◌<◌, ◌≤◌, ◌⊎◌, Bool, true, false, cond, not, eqb, ltb, List, [], ◌∷◌, ◌++◌, map, length, set, get_or, refl, ap, sym, subst, ◌∙◌, inl, inr, ⊎_elim, arith, length-set, eq-eqb, ne_eqb}
+use Rattle.std.proofs.Common.{◌≡◌, ◌≢◌, ℕ, zero, suc, ◌+◌, ◌<◌, ◌≤◌, ◌⊎◌, Bool, true, false, cond, eqb, ltb, List, [], ◌∷◌, ◌++◌, map, length, set, refl, ap, sym, subst, ◌∙◌, inl, inr, ⊎_elim, arith, length-set, eq-eqb, ne_eqb}
 use Rattle.std.proofs.lemmas.Bool.{ltb-true, ltb-false, lt-ltb, le-ltb}
 use Rattle.std.specs.Prelude.{slice_index, nat_lt}
 use Rattle.std.specs.List.{slice_get}
 use Rattle.std.specs.declared.option.Option.{Option}
 use Rattle.std.specs.declared.option.Option.TheVariants.{None, Some}
-use mathlib.Core.Option.{some, none, some-injective, some-ne-none}
-use mathlib.Core.Option as maybe
+use mathlib.Core.Option.{some, some-injective, some-ne-none}
 use lib.ListN.{get_elem?}
 use Rattle.atomic_table.specs.Table.{State, Splits, Joins, Final, Seen, opening as table_opening}
-use Rattle.atomic_table.proofs.Lists.{at_set, set_here, set_else, at_longer, at_last}
-use Rattle.histories.specs.declared.entry.Entry.{Entry}
+use Rattle.atomic_table.proofs.Lists.{at_set, set_here, set_else, at_longer}
 use Rattle.histories.specs.Core.{Core, Lawful}
 use Rattle.histories.specs.History.{IsPrefix, calls_of, state, Legal}
-use Rattle.histories.proofs.Parts.{get_within, slice_get_length}
+use Rattle.histories.proofs.Parts.{slice_get_length}
 use Rattle.histories.proofs.Histories.{prefix_refl, prefix_whole, prefix_length, length_state}
 use Rattle.turn_table.specs.declared.view.Joined.{Joined}
 use Rattle.turn_table.specs.declared.view.View.{View}
-use Rattle.turn_table.specs.Views.{In, Distinct, Holds, numbers_of, joined_number, divided, split_from, longer, as_joined, joined_with, spent, newcomer}
-use Rattle.turn_table.specs.Rule.{Names, IsHome, HoldsAt, Fits, Rule, Ruled}
-use Rattle.turn_table.proofs.Among.{in_append, in_front, in_back, in_map, map_in, split_on, at_one, at_one_same, at_one_else, at_length}
+use Rattle.turn_table.specs.Views.{In, Distinct, Holds, numbers_of, joined_number, divided, split_from, as_joined, joined_with, spent, newcomer}
+use Rattle.turn_table.specs.Rule.{Names, Fits, Rule, Ruled}
+use Rattle.turn_table.proofs.Among.{in_append, split_on, at_one, at_one_same, at_one_else, at_length}
 use Rattle.turn_table.proofs.Beginning.{some_or_none, bool_cases, none_held}
 
 pub split_lt : (m n : ℕ) {X : Type 0} → (m < n → X) → (n ≤ m → X) → X

@@ -4,7 +4,6 @@ use Rattle.linked_desk.specs.Acts.{desk_answer, desk_after}
 use Rattle.linked_desk.specs.Desk.{DeskState}
 use Rattle.lobby_state.specs.Acts.{IsDesk, lobby_after}
 use Rattle.lobby_state.specs.Lobby.{LobbyState}
-use Rattle.one_server.specs.declared.act.Act.{Act}
 use Rattle.one_server.specs.declared.act.Act.TheVariants.{Lobby, Desk, Pair}
 use Rattle.one_server.specs.declared.act.Timed.{Timed}
 use Rattle.one_server.specs.declared.reply.Reply.{Reply}

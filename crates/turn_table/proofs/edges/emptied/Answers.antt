@@ -1,4 +1,4 @@
-use Rattle.std.proofs.Common.{◌≡◌, ◌+◌, ℕ, false, arith, ap, sym, ◌∙◌}
+use Rattle.std.proofs.Common.{◌≡◌, ◌+◌, false, arith, ap, sym, ◌∙◌}
 use Rattle.std.proofs.lemmas.List.{get_or-set_other}
 use lib.ListN.{get_elem?}
 use Rattle.std.specs.Prelude.{slice_index_or, slice_set}

@@ -1,4 +1,4 @@
-use Rattle.std.proofs.Common.{arith, sym}
+use Rattle.std.proofs.Common.{arith}
 use Rattle.turn_table.proofs.Beginning.{begins}
 use Rattle.turn_table.proofs.steps.begin.Goals as goal
 

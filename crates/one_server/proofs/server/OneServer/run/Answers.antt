@@ -1,4 +1,4 @@
-use Rattle.std.proofs.Common.{◌≡◌, List, length, ap, subst, ◌∙◌}
+use Rattle.std.proofs.Common.{List, length, ap, subst, ◌∙◌}
 use Rattle.linked_desk.specs.Desk.{DeskState}
 use Rattle.one_server.specs.Copies.{ItemsFor}
 use Rattle.one_server.specs.declared.act.Timed.{Timed}

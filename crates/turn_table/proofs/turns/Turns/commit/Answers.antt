@@ -1,4 +1,4 @@
-use Rattle.std.proofs.Common.{◌≡◌, ℕ, sym, ap, subst, ◌∙◌}
+use Rattle.std.proofs.Common.{ℕ, sym, ap, subst}
 use Rattle.turn_table.specs.Views.{AllOut}
 use Rattle.turn_table.specs.Passes.{Sound, Committed}
 use Rattle.turn_table.proofs.Keeping.{sound_done, committed}

@@ -1,7 +1,7 @@
-use Rattle.std.proofs.Common.{◌≡◌, ℕ, map, sym, ap, subst, ◌∙◌}
+use Rattle.std.proofs.Common.{ℕ, sym, ap, subst, ◌∙◌}
 use Rattle.atomic_table.specs.Table.{rest}
-use Rattle.turn_table.specs.Views.{In, given, let_go}
-use Rattle.turn_table.specs.Passes.{Sound, out}
+use Rattle.turn_table.specs.Views.{In, given}
+use Rattle.turn_table.specs.Passes.{Sound}
 use Rattle.turn_table.proofs.Keeping.{sound_given}
 use Rattle.turn_table.proofs.turns.Turns.give.Goals as goal
 

@@ -1,4 +1,4 @@
-use Rattle.std.proofs.Common.{◌≡◌, ℕ, [], arith, sym, ap, subst, ◌∙◌}
+use Rattle.std.proofs.Common.{ℕ, arith, sym, ap, subst, ◌∙◌}
 use Rattle.turn_table.specs.Passes.{Sound}
 use Rattle.turn_table.proofs.Passing.{joins}
 use Rattle.turn_table.proofs.Keeping.{sound_joined, no_slot}

@@ -1,7 +1,7 @@
-use Rattle.std.proofs.Common.{◌≡◌, ◌+◌, ℕ, [], refl, arith, sym, ap, subst, ◌∙◌}
+use Rattle.std.proofs.Common.{◌+◌, ℕ, refl, arith, sym, ap, subst, ◌∙◌}
 use Rattle.turn_table.specs.Passes.{Sound}
 use Rattle.turn_table.proofs.Passing.{splits}
-use Rattle.turn_table.proofs.Keeping.{sound_divided, sound_split}
+use Rattle.turn_table.proofs.Keeping.{sound_divided}
 use Rattle.turn_table.proofs.turns.Turns.split.Goals as goal
 
 pub split_seat-seat-requires : goal.split_seat-seat-requires

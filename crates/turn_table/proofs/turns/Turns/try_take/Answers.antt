@@ -1,7 +1,6 @@
-use Rattle.std.proofs.Common.{◌≡◌, ℕ, None, Some, arith, sym, ap, subst, ◌∙◌, MatchOption}
+use Rattle.std.proofs.Common.{ℕ, arith, sym, ap, subst, ◌∙◌}
 use Rattle.turn_table.specs.Views.{In, Holds}
-use Rattle.turn_table.specs.Plays.{FindsBusy}
-use Rattle.turn_table.specs.Passes.{Sound, TookPart}
+use Rattle.turn_table.specs.Passes.{Sound}
 use Rattle.turn_table.proofs.Keeping.{sound_busy, sound_took}
 use Rattle.turn_table.proofs.turns.Turns.try_take.Goals as goal
 
