@@ -3,3 +3,5 @@ pub mod Serving
 pub mod Copying
 pub mod Clocks
 pub mod Opens
+pub mod Feeds
+pub mod Replies

@@ -52,7 +52,7 @@ vacant_more number (suc more) =
     ap (λ ds. vacant number ∷ ds) (vacant_more (number + 1) more ∙ ap (λ n. vacant_from (number + 1) more ++ vacant n ∷ []) e)
 
 -- what stands among the vacant desks is the vacant desk of that number
-vacant_there : (number more i : ℕ) (desk : DeskState) → slice_get (vacant_from number more) i ≡ Some desk → (i < more) × (vacant (number + i) ≡ desk)
+pub vacant_there : (number more i : ℕ) (desk : DeskState) → slice_get (vacant_from number more) i ≡ Some desk → (i < more) × (vacant (number + i) ≡ desk)
 vacant_there number zero i desk e = absurd cc
 vacant_there number (suc more) zero desk e =
     let n : number + 0 ≡ number = omega arith in
@@ -68,7 +68,7 @@ none_there zero i h = absurd (omega arith)
 none_there (suc n) zero h = refl
 none_there (suc n) (suc i) h = none_there n i (omega arith)
 
-front : (one another : Part) → Some one ≡ Some another → one ≡ another
+pub front : (one another : Part) → Some one ≡ Some another → one ≡ another
 front one another e = cc
 
 open_desk : (lobby : LobbyState) → lobby.games ≡ replicate desks None → (i : ℕ) (part : Part) (found : Option DeskState) → slice_get (vacant_from 1 desks) i ≡ found → option_map ADesk found ≡ Some part

@@ -90,7 +90,7 @@ for_two-committed lobby (Clearing session desk serial) true h = h
 for_two-committed lobby (Clearing session desk serial) false h = h
 
 -- what was found in a list has what each item has
-found_has : {X : Type 0} (P : X → Type 0) (p : X → Bool) (xs : List X) (y : X) → All P xs → find p xs ≡ Some y → P y
+pub found_has : {X : Type 0} (P : X → Type 0) (p : X → Bool) (xs : List X) (y : X) → All P xs → find p xs ≡ Some y → P y
 found_has P p [] y h e = absurd cc
 found_has P p (x ∷ xs) y h e = elim (find-step (p x) x y (find p xs) e) [
   | inl here ↦ subst P here.1 (All-head P x xs h)

@@ -13,8 +13,9 @@ use Rattle.one_server.specs.declared.part.Part.{Part}
 use Rattle.one_server.specs.declared.part.Part.TheVariants.{Lobby as TheLobby, Desk as ADesk}
 use Rattle.one_server.specs.Desks.{game_of}
 use Rattle.one_server.specs.House.{house}
+use Rattle.one_server.specs.Replies.{IsItem}
 use Rattle.one_server.specs.Running.{Log}
-use Rattle.one_server.specs.Whole.{IsWhole}
+use Rattle.one_server.specs.Whole.{IsWhole, opened}
 
 -- the lobby lists for each desk the game that it is in use for: none exactly where the desk is vacant, and else its
 -- serial, its terms and its seats
@@ -36,6 +37,15 @@ ShowsItsLedgers parts =
     ≡ (pos (start_of game.board.terms.minutes game.board.terms.increment + game.board.terms.increment * 1000 * length (charges_of colour game.board.list))
     -ℤ pos (sum_by amount (charges_of colour game.board.list)))
 
+-- each end in the feed of a desk's game names a winner exactly where somebody won
+abbrev pub NamesItsWinners : List Part → Type 0
+NamesItsWinners parts =
+    (number : ℕ) (desk : DeskState) (game : GameState) → slice_get parts number ≡ Some (ADesk desk) → desk.game ≡ Some game → All IsItem game.feed
+
 -- the fact holds in the state of every legal history that opens with a whole state
 abbrev pub HoldsInEachState : (List Part → Type 0) → Type 0
 HoldsInEachState Q = (opening : List Part) (log : Log) → IsWhole opening → Legal house opening log → Q (state house opening log)
+
+-- the fact holds in the state of every legal history that opens with a lobby and vacant desks
+abbrev pub HoldsOnceOpened : (List Part → Type 0) → Type 0
+HoldsOnceOpened Q = (lobby : LobbyState) (log : Log) → Legal house (opened lobby) log → Q (state house (opened lobby) log)

@@ -1,5 +1,6 @@
 pub mod Desks
 pub mod Acts
+pub mod Replies
 pub mod Plans
 pub mod Whole
 pub mod House

@@ -36,3 +36,8 @@ plan_desk (Clear session number serial) desk moment = cond (has_ended desk seria
 abbrev pub CanCarry : Plan → DeskState → Type 0
 CanCarry (Seat number serial terms seats) desk = (desk.game ≡ None) × AreApart seats × AreForTwo terms
 CanCarry (Clear session number serial) desk = Unit {0}
+
+-- the plan starts a game, for which memory is taken; a Clear takes none
+abbrev pub StartsGame : Plan → Type 0
+StartsGame (Seat number serial terms seats) = Unit {0}
+StartsGame (Clear session number serial) = ⊥

@@ -2,7 +2,7 @@
 ghost use Rattle.histories.specs.Laws.{LeavesOthers, RepliesLocally, ChangesLocally, RepliesCommute, StatesCommute};
 ghost use Rattle.lobby_state.specs.Lobby.{LobbyState, opening};
 ghost use Rattle.one_server.specs.House.{house};
-ghost use Rattle.one_server.specs.Laws.{HoldsInEachState, ListsItsDesks, SeatsItsMembers, ShowsItsLedgers};
+ghost use Rattle.one_server.specs.Laws.{HoldsInEachState, HoldsOnceOpened, ListsItsDesks, NamesItsWinners, SeatsItsMembers, ShowsItsLedgers};
 ghost use Rattle.one_server.specs.Whole.{IsOpening, IsWhole, opened};
 
 use crate::house::House;
@@ -35,4 +35,10 @@ pub fn every_state_agrees()
 /// In every state each clock is its ledger's sum.
 pub fn every_clock_is_its_ledger()
     ensures { HoldsInEachState ShowsItsLedgers }
+{}
+
+/// In every state of a server that opened with vacant desks each end that the viewers of a desk are told names a winner
+/// exactly where somebody won, so its line can be written.
+pub fn every_end_names_its_winner()
+    ensures { HoldsOnceOpened NamesItsWinners }
 {}

@@ -1,7 +1,7 @@
 //! The parts that an act is lent, and its step on them, for whoever keeps the parts apart.
-ghost use Rattle.std.specs.Prelude.{◌≡◌, None, Some, IfOk, OnOk, OnErr};
+ghost use Rattle.std.specs.Prelude.{◌≡◌, None, Some, IfOk, IsOk, OnOk, OnErr};
 ghost use Rattle.one_server.specs.declared.part.Part.TheVariants.{Lobby as TheLobby};
-ghost use Rattle.one_server.specs.Acts.{IsEvent, FitsAct, first_part, second_part};
+ghost use Rattle.one_server.specs.Acts.{IsEvent, FitsAct, NeedsNoMemory, first_part, second_part};
 ghost use Rattle.one_server.specs.House.{house_answer, house_one, house_two};
 ghost use Rattle.one_server.specs.Lent.{IsFirstOf, AreBothOf};
 
@@ -39,7 +39,8 @@ pub fn second_part(lobby: &Lobby, session: u32, act: &Act) -> Option<u8>
     }
 }
 
-/// Makes an act that has one part on that part. Want of memory changes nothing.
+/// Makes an act that has one part on that part. Want of memory changes nothing, and an act that needs no memory of its own
+/// doesn't meet it.
 pub fn alone(one: &mut Part, session: u32, timed: &Timed) -> Result<Reply, NoMemory>
     requires event { IsEvent timed.now }
     requires first { IsFirstOf one.old timed.now.act }
@@ -47,6 +48,7 @@ pub fn alone(one: &mut Part, session: u32, timed: &Timed) -> Result<Reply, NoMem
     ensures reply { IfOk result (λ r. r ≡ house_answer one.old None session timed.now.moment timed.now.act) }
     ensures after { OnOk result (one.new ≡ house_one one.old None session timed.now.moment timed.now.act) }
     ensures err { OnErr result (one.new ≡ one.old) }
+    ensures sure { NeedsNoMemory timed.now.act → IsOk result }
 {
     match one {
         Part::Lobby(lobby) => match &timed.act {

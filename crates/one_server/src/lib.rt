@@ -22,7 +22,10 @@ mod steps;
 
 pub use act::{Act, Timed};
 pub use house::House;
-pub use laws::{acts_keep_to_their_parts, every_clock_is_its_ledger, every_state_agrees};
+pub use laws::{
+    acts_keep_to_their_parts, every_clock_is_its_ledger, every_end_names_its_winner,
+    every_state_agrees,
+};
 pub use lent::{alone, first_part, second_part, together};
 pub use part::Part;
 pub use reply::Reply;

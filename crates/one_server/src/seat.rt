@@ -9,6 +9,7 @@ use memory::NoMemory;
 use std::alloc::Global;
 
 /// A session that makes its acts on a server that it was lent. It has seen the server's whole history.
+#[derive(Drop)]
 pub struct OneSeat<'a> {
     server: &'a mut OneServer,
     session: u32,
@@ -29,7 +30,7 @@ impl OneServer {
 }
 
 impl Runner for OneSeat<'_> {
-    ghost use Rattle.std.specs.Prelude.{false};
+    ghost use Rattle.std.specs.Prelude.{false, true};
     ghost use Rattle.histories.specs.History.{calls_of};
 
     ghost number = { λ s. s.session };
@@ -43,6 +44,8 @@ impl Runner for OneSeat<'_> {
     ghost made = { λ s. calls_of s.session s.server.now.log };
 
     ghost lent = { λ s. s.server.ghost_name };
+
+    ghost alone = { λ _. true };
 
     fn session(&self) -> u32 {
         let _history = self.server.history();

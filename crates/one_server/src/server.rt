@@ -44,6 +44,7 @@ impl OneServer {
     ghost use Rattle.one_server.specs.declared.part.Part.TheVariants.{Lobby as TheLobby, Desk as ADesk};
     ghost use Rattle.one_server.specs.Acts.{IsEvent};
     ghost use Rattle.one_server.specs.House.{house};
+    ghost use Rattle.one_server.specs.Replies.{IsReply};
     ghost use Rattle.one_server.specs.Server.{parts_in};
     ghost use Rattle.one_server.specs.Whole.{IsOpening, IsWhole, opened};
 
@@ -64,11 +65,13 @@ impl OneServer {
 
     /// Makes an act of a session at `moment`, in milliseconds. What it is answered is the reply of the step in the
     /// state of the history before it, and the history grows by exactly this entry. Want of memory gives no reply and
-    /// changes nothing.
+    /// changes nothing. A reply tells places at desks 1 to 128 alone, and of each end the winner exactly where somebody
+    /// won.
     pub fn run(&mut self, session: u32, moment: u64, act: Act) -> Result<Reply, NoMemory>
         requires { IsEvent (record { moment = moment; act = act }) }
         ensures ok { IfOk result (λ reply. self.new ≡ record self.old { log = self.old.log ++ entry session (record { moment = moment; act = act }) reply ∷ [] }) }
         ensures legal { Legal house self.new.opening self.new.log }
+        ensures fits { IfOk result IsReply }
         ensures err { OnErr result (self.new ≡ self.old) }
     {
         self.log.reserve(1)?;

@@ -1,10 +1,10 @@
 //! The three kinds of step: on the lobby alone, on a desk alone, and on both.
-ghost use Rattle.std.specs.Prelude.{◌≡◌, ◌≤◌, ◌^◌, IfOk, OnOk, OnErr};
-ghost use Rattle.linked_desk.specs.Acts.{desk_answer, desk_after};
-ghost use Rattle.lobby_state.specs.Acts.{IsDesk, lobby_answer, lobby_after, desk_of};
+ghost use Rattle.std.specs.Prelude.{◌≡◌, ◌≤◌, ◌^◌, IfOk, IsOk, OnOk, OnErr, false};
+ghost use Rattle.linked_desk.specs.Acts.{desk_answer, desk_after, TakesMemory};
+ghost use Rattle.lobby_state.specs.Acts.{IsDesk, lobby_answer, lobby_after, desk_of, takes_memory};
 ghost use Rattle.one_server.specs.Acts.{lobby_reply, desk_reply};
 ghost use Rattle.one_server.specs.Desks.{has_ended, is_left};
-ghost use Rattle.one_server.specs.Plans.{CanCarry, plan_reply, plan_lobby, plan_desk};
+ghost use Rattle.one_server.specs.Plans.{CanCarry, StartsGame, plan_reply, plan_lobby, plan_desk};
 
 use crate::reply::Reply;
 use fics_words::Fail;
@@ -13,7 +13,7 @@ use lobby_state::{Lobby, LobbyAct, Plan};
 use memory::NoMemory;
 use std::alloc::Global;
 
-/// Makes an act that needs the lobby alone. Want of memory changes nothing.
+/// Makes an act that needs the lobby alone. Want of memory, which Enter and Match alone can meet, changes nothing.
 pub fn lobby_step(
     lobby: &mut Lobby,
     session: u32,
@@ -23,6 +23,7 @@ pub fn lobby_step(
     ensures reply { IfOk result (λ reply. reply ≡ lobby_reply (lobby_answer lobby.old session act.now)) }
     ensures after { OnOk result (lobby.new ≡ lobby_after lobby.old session act.now) }
     ensures err { OnErr result (lobby.new ≡ lobby.old) }
+    ensures sure { takes_memory act.now ≡ false → IsOk result }
 {
     match lobby.act(session, moment, act) {
         Ok(reply) => Ok(Reply::from(reply)),
@@ -31,7 +32,8 @@ pub fn lobby_step(
     }
 }
 
-/// Makes an act at the game of that serial that needs its desk alone. Want of memory changes nothing.
+/// Makes an act at the game of that serial that needs its desk alone. Want of memory, which a move and a fetch
+/// alone can meet, changes nothing.
 pub fn desk_step(
     desk: &mut Desk,
     session: u32,
@@ -43,6 +45,7 @@ pub fn desk_step(
     ensures reply { IfOk result (λ reply. reply ≡ desk_reply (desk_answer desk.old session moment serial act.now)) }
     ensures after { OnOk result (desk.new ≡ desk_after desk.old session moment serial act.now) }
     ensures err { OnErr result (desk.new ≡ desk.old) }
+    ensures memory { OnErr result (TakesMemory act.now) }
 {
     match desk.act(session, moment, serial, act) {
         Ok(reply) => Ok(Reply::from(reply)),
@@ -68,6 +71,7 @@ pub fn pair_step(
     ensures desk { OnOk result (desk.new ≡ plan_desk plan.now desk.old moment) }
     ensures err_lobby { OnErr result (lobby.new ≡ lobby.old) }
     ensures err_desk { OnErr result (desk.new ≡ desk.old) }
+    ensures memory { OnErr result (StartsGame plan.now) }
 {
     match plan {
         Plan::Seat {

@@ -6,6 +6,7 @@ use Rattle.one_server.specs.Whole.{opened}
 use Rattle.one_server.proofs.Copying.{are_of}
 use Rattle.one_server.proofs.Stepping.{tables_count}
 use Rattle.one_server.proofs.Serving.{whole_now, one_more, pushed}
+use Rattle.one_server.proofs.Replies.{last_reply}
 use Rattle.one_server.proofs.server.OneServer.run.Goals as goal
 
 pub ahead-requires-clause-count : goal.ahead-requires-clause-count
@@ -37,3 +38,10 @@ returns-clause-legal c =
     (one_more (opened c.self.inside.opening.value) c.self.inside.log.items c.self.inside.lobby c.act_step.new.lobby c.self.inside.tables c.act_step.new.tables c.args.session timed c.in_ok-reply.reply
     c.self.invariant c.requires c.in_ok-reply.ensures.reply c.in_ok-reply.ensures.after) in
     served.legal
+
+pub returns-clause-fits : goal.returns-clause-fits
+returns-clause-fits c =
+    let timed : Timed = record { moment = c.args.moment; act = c.args.act } in
+    let served = one_more (opened c.self.inside.opening.value) c.self.inside.log.items c.self.inside.lobby c.act_step.new.lobby c.self.inside.tables c.act_step.new.tables c.args.session timed c.in_ok-reply.reply
+    c.self.invariant c.requires c.in_ok-reply.ensures.reply c.in_ok-reply.ensures.after in
+    last_reply c.self.inside.opening.value c.self.inside.log.items c.args.session timed c.in_ok-reply.reply served.whole served.legal
