@@ -1,0 +1,25 @@
+//! What comes from a session's player.
+
+use chess_model::MoveWord;
+
+/// What a line asks for, once it is read.
+#[derive(Clone, Copy, Debug, PartialEq, Eq)]
+pub enum Command {
+    /// Nothing but the news.
+    Nothing,
+    /// To play this word at the present place.
+    Move(MoveWord),
+    /// To give up the game at the present place.
+    Resign,
+    /// To call the flag on the opponent at the present place.
+    Flag,
+}
+
+/// What comes from the player of a session that has entered.
+#[derive(Clone, Copy, Debug, PartialEq, Eq)]
+pub enum Input {
+    /// A line came.
+    Line(Command),
+    /// Nothing came for a while.
+    Quiet,
+}

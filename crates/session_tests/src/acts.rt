@@ -1,0 +1,65 @@
+//! The acts of sessions, in order.
+
+use crate::evenings::{
+    Asked, Comes, Step, first_differing, first_failing, leaves, seat, server, takes,
+};
+use std::test::Fail;
+
+#[test]
+fn a_session_makes_the_acts_of_its_script(rt: HostRuntime) -> Result<(), Fail> {
+    let mut server = server(rt.alloc())?;
+    seat(&mut server)?;
+    let at_desk = [Asked::Where, Asked::Move, Asked::Lines, Asked::News];
+    let flag = [Asked::Where, Asked::Flag, Asked::Lines, Asked::News];
+    let resign = [
+        Asked::Where,
+        Asked::Resign,
+        Asked::Lines,
+        Asked::News,
+        Asked::Clear,
+    ];
+    let steps = [
+        Step(1, 1_000, Comes::Nothing, &[Asked::Lines, Asked::News]),
+        Step(1, 2_000, Comes::Move(12, 28), &at_desk),
+        Step(2, 3_000, Comes::Quiet, &[Asked::Lines, Asked::News]),
+        Step(1, 4_000, Comes::Flag, &flag),
+        Step(2, 5_000, Comes::Resign, &resign),
+        Step(2, 6_000, Comes::Resign, &[Asked::Where, Asked::Lines]),
+        Step(
+            1,
+            7_000,
+            Comes::Quiet,
+            &[Asked::Lines, Asked::News, Asked::Clear],
+        ),
+        Step(1, 8_000, Comes::Quiet, &[Asked::Lines]),
+    ];
+    assert_eq!(rt; first_failing(rt.alloc(), &mut server, &steps), None);
+    Ok(())
+}
+
+#[test]
+fn a_player_without_a_place_is_answered_by_the_session(rt: HostRuntime) -> Result<(), Fail> {
+    let mut server = server(rt.alloc())?;
+    let answer = takes(rt.alloc(), &mut server, 7, 0, Comes::Flag)?;
+    assert!(rt; answer.as_slice() == b"refused 20 NotPlaying\n\rfics% ".as_slice());
+    let silence = takes(rt.alloc(), &mut server, 7, 0, Comes::Quiet)?;
+    assert!(rt; silence.is_empty());
+    Ok(())
+}
+
+#[test]
+fn a_session_that_leaves_gives_its_place_up(rt: HostRuntime) -> Result<(), Fail> {
+    let mut server = server(rt.alloc())?;
+    seat(&mut server)?;
+    let acts = [Asked::Going, Asked::Leave, Asked::Clear, Asked::Bye];
+    let start = server.history().len();
+    leaves(rt.alloc(), &mut server, 2, 9_000)?;
+    assert_eq!(rt; first_differing(&server, start, 2, 9_000, &acts), None);
+    let start = server.history().len();
+    leaves(rt.alloc(), &mut server, 2, 9_000)?;
+    assert_eq!(rt;
+        first_differing(&server, start, 2, 9_000, &[Asked::Going, Asked::Bye]),
+        None
+    );
+    Ok(())
+}

@@ -1,0 +1,222 @@
+//! A server with two seated players, and what its sessions do there.
+
+use chess_model::{Colour, MoveWord, Square, Terms, Variant};
+use fics_words::{Fail, Handle, Refusal};
+use linked_desk::DeskAct;
+use lobby_state::{Lobby, LobbyAct, PairAct};
+use one_server::{Act, OneServer};
+use session_core::{Command, Input, leave, take};
+use std::alloc::Global;
+
+/// What an entry of the history asks for, in short.
+#[derive(Clone, Copy, Debug, PartialEq, Eq)]
+pub enum Asked {
+    Enter,
+    Match,
+    Where,
+    Lines,
+    Going,
+    Bye,
+    Accept,
+    Clear,
+    Move,
+    Resign,
+    Flag,
+    News,
+    Leave,
+}
+
+/// A server with an empty lobby.
+#[tactic(auto, using(one_server::proofs::Opens::opening_is))]
+pub fn server(alloc: Global) -> Result<OneServer, Fail> {
+    Ok(OneServer::new(alloc, Lobby::new(alloc)?)?)
+}
+
+/// Ann, session 1, has White against Ben, session 2.
+pub fn seat(server: &mut OneServer) -> Result<(), Fail> {
+    let ann = handle(b"Ann")?;
+    let ben = handle(b"Ben")?;
+    enter(server, 1, ann)?;
+    enter(server, 2, ben)?;
+    challenge(server, ben)
+}
+
+fn enter(server: &mut OneServer, session: u32, name: Handle) -> Result<(), Fail> {
+    let _reply = server.run(session, 0, Act::Lobby(LobbyAct::Enter { name }))?;
+    Ok(())
+}
+
+fn challenge(server: &mut OneServer, ben: Handle) -> Result<(), Fail> {
+    let terms = Terms {
+        minutes: 2,
+        increment: 12,
+        variant: Variant::Chess,
+        colour: Some(Colour::White),
+    };
+    let to = ben.key();
+    let _done = server.run(1, 0, Act::Lobby(LobbyAct::Match { to, terms }))?;
+    let _started = server.run(2, 0, Act::Pair(PairAct::Accept(None)))?;
+    Ok(())
+}
+
+/// What comes from a player.
+#[derive(Clone, Copy, Debug)]
+pub enum Comes {
+    Nothing,
+    /// The line that moves a man from a square to another.
+    Move(u8, u8),
+    Resign,
+    Flag,
+    Quiet,
+}
+
+/// A step: the session, the moment in milliseconds, what comes from its player, and the acts that this has to make.
+#[derive(Clone, Copy, Debug)]
+pub struct Step<'a>(pub u32, pub u32, pub Comes, pub &'a [Asked]);
+
+/// The place of the first step that makes other acts, if one does.
+pub fn first_failing(alloc: Global, server: &mut OneServer, steps: &[Step<'_>]) -> Option<usize> {
+    for (place, step) in steps.iter().enumerate() {
+        let start = server.history().len();
+        if takes(alloc, server, step.0, step.1, step.2).is_err() {
+            return Some(place);
+        }
+        if first_differing(server, start, step.0, step.1, step.3).is_some() {
+            return Some(place);
+        }
+    }
+    None
+}
+
+/// What a session writes for what comes from its player.
+pub fn takes(
+    alloc: Global,
+    server: &mut OneServer,
+    session: u32,
+    moment: u32,
+    comes: Comes,
+) -> Result<Vec<u8>, Fail> {
+    match input_of(comes) {
+        Ok(input) => answer(alloc, server, session, moment, &input),
+        Err(fail) => Err(fail),
+    }
+}
+
+fn answer(
+    alloc: Global,
+    server: &mut OneServer,
+    session: u32,
+    moment: u32,
+    input: &Input,
+) -> Result<Vec<u8>, Fail> {
+    let mut out = Vec::new(alloc);
+    take(
+        alloc,
+        &mut server.seat(session),
+        u64::from(moment),
+        input,
+        &mut out,
+    )?;
+    Ok(out)
+}
+
+fn input_of(comes: Comes) -> Result<Input, Fail> {
+    match comes {
+        Comes::Nothing => Ok(Input::Line(Command::Nothing)),
+        Comes::Move(from, to) => Ok(Input::Line(Command::Move(word(from, to)?))),
+        Comes::Resign => Ok(Input::Line(Command::Resign)),
+        Comes::Flag => Ok(Input::Line(Command::Flag)),
+        Comes::Quiet => Ok(Input::Quiet),
+    }
+}
+
+fn word(from: u8, to: u8) -> Result<MoveWord, Fail> {
+    let from = square(from)?;
+    let to = square(to)?;
+    Ok(MoveWord::Coordinate {
+        from,
+        to,
+        promo: None,
+    })
+}
+
+/// The session leaves at this moment.
+pub fn leaves(
+    alloc: Global,
+    server: &mut OneServer,
+    session: u32,
+    moment: u32,
+) -> Result<(), Fail> {
+    leave(alloc, &mut server.seat(session), u64::from(moment))?;
+    Ok(())
+}
+
+fn square(number: u8) -> Result<Square, Fail> {
+    match Square::of(number) {
+        Some(square) => Ok(square),
+        None => Err(Fail::Refused(Refusal::BadArguments)),
+    }
+}
+
+fn handle(name: &[u8; 3]) -> Result<Handle, Fail> {
+    match Handle::read(name) {
+        Some(handle) => Ok(handle),
+        None => Err(Fail::Refused(Refusal::BadHandle)),
+    }
+}
+
+/// The place of the first entry from `start` on that isn't the session's at this moment with this act, if one is, or
+/// where there are more or fewer entries the length of the history.
+pub fn first_differing(
+    server: &OneServer,
+    start: usize,
+    session: u32,
+    moment: u32,
+    acts: &[Asked],
+) -> Option<usize> {
+    let history = server.history();
+    for (place, entry) in history.iter().enumerate() {
+        if place >= start {
+            let expected = acts.get(place - start);
+            let same = entry.session == session && entry.act.moment == u64::from(moment);
+            if !same || expected != Some(&in_short(&entry.act.act)) {
+                return Some(place);
+            }
+        }
+    }
+    if history.len() >= start && history.len() - start == acts.len() {
+        None
+    } else {
+        Some(history.len())
+    }
+}
+
+fn in_short(act: &Act) -> Asked {
+    match act {
+        Act::Lobby(act) => in_lobby(act),
+        Act::Desk { act, .. } => at_desk(act),
+        Act::Pair(PairAct::Accept(_)) => Asked::Accept,
+        Act::Pair(PairAct::Clear { .. }) => Asked::Clear,
+    }
+}
+
+fn in_lobby(act: &LobbyAct) -> Asked {
+    match act {
+        LobbyAct::Enter { .. } => Asked::Enter,
+        LobbyAct::Match { .. } => Asked::Match,
+        LobbyAct::Where => Asked::Where,
+        LobbyAct::Fetch => Asked::Lines,
+        LobbyAct::Going => Asked::Going,
+        LobbyAct::Bye => Asked::Bye,
+    }
+}
+
+fn at_desk(act: &DeskAct) -> Asked {
+    match act {
+        DeskAct::Move { .. } => Asked::Move,
+        DeskAct::Resign => Asked::Resign,
+        DeskAct::Flag => Asked::Flag,
+        DeskAct::Fetch => Asked::News,
+        DeskAct::Leave => Asked::Leave,
+    }
+}

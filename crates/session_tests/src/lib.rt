@@ -1,0 +1,11 @@
+//! Tests of a session: which acts it makes in the server's history, and what it writes. Expected acts and texts are
+//! those of the rules of a session, written out by hand.
+//!
+//! A test is a table, and what it does stands in functions without contracts, so it is proved quickly: what it shows is
+//! shown by running it.
+#![tactic(auto)]
+
+#[cfg(test)]
+mod acts;
+#[cfg(test)]
+mod evenings;
