@@ -1,9 +1,17 @@
+pub mod BoardEnds
+pub mod BoardLines
 pub mod Completeness
+pub mod EveningTurns
 pub mod Feeding
+pub mod HandlerCompleteness
+pub mod Leaving
 pub mod MoveWords
 pub mod Names
+pub mod NextLines
 pub mod Parts
 pub mod Pieces
 pub mod Rounds
+pub mod RunEnds
 pub mod Sending
+pub mod Showing
 pub mod Turns

@@ -5,8 +5,8 @@ use Rattle.std.specs.List.{onto_first, join_with_byte}
 use Rattle.std.proofs.lemmas.Bool.Decides.{nat_tests}
 use Rattle.std.proofs.lemmas.List.Splits.{slice_split_none, slice_split_at, join_with_byte-slice_split}
 use Rattle.std.proofs.lemmas.List.Elements.{All-nil, All-cons}
-use Rattle.fics_server.specs.Lines.{pieces, AreParts}
-use Rattle.fics_server.proofs.Pieces.{Begins, Begins-pieces, IsUnbroken}
+use Rattle.fics_server.specs.Lines.{IsUnbroken, pieces, AreParts}
+use Rattle.fics_server.proofs.Pieces.{Begins, Begins-pieces}
 
 onto-all : (b : ℕ) (parts : List (List ℕ)) → (b == 10) ≡ false → Begins parts → All IsUnbroken parts → All IsUnbroken (onto_first b parts)
 onto-all b [] e h all = absurd (let bad = h.is in cc)

@@ -1,20 +1,16 @@
 -- The pieces of a text as bytes come at its end, and the law that they are its only parts.
 use Rattle.std.proofs.Common.{◌≡◌, ℕ, Bool, true, false, cond, List, [], ◌∷◌, ◌++◌, refl, sym, ap, subst, ◌∙◌, append_assoc, append-nil}
-use Rattle.std.specs.Prelude.{filter, All, ◌==◌}
+use Rattle.std.specs.Prelude.{filter, ◌==◌}
 use Rattle.std.specs.List.{onto_first}
 use Rattle.std.proofs.lemmas.List.Splits.{slice_split_none, slice_split_at, slice_split-cons_no}
 use Rattle.std.proofs.lemmas.List.Elements.{All-nil, All-cons, All-append, filter-append}
-use Rattle.fics_server.specs.Lines.{is_kept, pieces, lines_of, but_last, last_of, last_line, whole_lines}
+use Rattle.fics_server.specs.Lines.{IsUnbroken, is_kept, pieces, lines_of, but_last, last_of, last_line, whole_lines}
 
 -- a list with a first element
 pub record Begins (parts : List (List ℕ)) : Type 0 where
   pub first : List ℕ
   pub others : List (List ℕ)
   pub is : parts ≡ first ∷ others
-
--- no byte is a line feed
-abbrev pub IsUnbroken : List ℕ → Type 0
-IsUnbroken part = All (λ c. (c == 10) ≡ false) part
 
 pub Begins-pieces : (text : List ℕ) → Begins (pieces text)
 Begins-pieces [] = record { first = []; others = []; is = refl }

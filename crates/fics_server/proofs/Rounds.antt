@@ -1,55 +1,50 @@
 -- The reads of an input, one after the other, and how they end.
-use Rattle.std.proofs.Common.{◌≡◌, ℕ, ◌+◌, ◌^◌, ◌<◌, ◌≤◌, true, false, List, [], ◌++◌, length, take, refl, sym, subst, arith, Some, None, length-append}
-use Rattle.std.specs.Prelude.{Option, IsSome}
+use Rattle.std.proofs.Common.{◌≡◌, ℕ, ◌+◌, ◌^◌, ◌<◌, ◌≤◌, true, false, List, [], ◌++◌, length, take, arith, length-append}
+use Rattle.std.specs.Prelude.{Option}
 use Rattle.std.proofs.lemmas.List.{length-take-le}
-use Rattle.std.specs.Io.KnownBytes.{Consumes, Appends, Keeps, IsAtEnd}
+use Rattle.std.specs.Io.KnownBytes.{Consumes, Keeps, IsAtEnd}
 use Rattle.std.proofs.KnownBytes.{Consumes-nil, Appends-nil, Consumes-trans, Consumes-kept}
 use Rattle.edge_traits.specs.Faults.{Rose}
 use Rattle.edge_traits.specs.Source.{Took}
 use Rattle.edge_traits.specs.declared.source.Got.TheVariants.{Bytes}
-use Rattle.fics_server.specs.Game.{new_game}
-use Rattle.fics_server.specs.Lines.{lines_of}
+use Rattle.fics_server.specs.Handling.{Reaching}
+use Rattle.fics_server.specs.HandlerEnds.{AreAnswered, AreSpent, HandlerEnds}
 use Rattle.fics_server.specs.Standing.{Standing}
-use Rattle.fics_server.specs.Transcript.{bad_in}
 use Rattle.fics_server.specs.Reading.{Reading, IsAnswered, IsRefusedOr, AfterFinish}
-use Rattle.fics_server.specs.Ends.{Answers, AnswersPart, Spends, BoardEnds, OnReadFault, OnWriteFault}
+use Rattle.fics_server.specs.Ends.{OnReadFault, OnWriteFault}
 use Rattle.fics_server.specs.declared.end.End.{End}
 use Rattle.fics_server.specs.declared.end.End.TheVariants.{Done, Usage, ReadFault, WriteFault, Memory, BadLine, Spent}
-use Rattle.fics_server.proofs.Feeding.{Progress-start, text-whole, good-whole, text-bad_whole, bad-bad_whole}
+use Rattle.fics_server.proofs.Feeding.{Progress-start}
+
+-- no end has come
+not_ended : {P : Type 0} → false ≡ true → P
+not_ended e = absurd (let bad : false ≡ true = e in cc)
 
 -- before the first read
-pub Reading-start : (left written : Option (List ℕ)) → Reading left left written written (record { game = new_game; number = 1; kept = [] }) 0
-Reading-start left written = record {
+pub Reading-start : {S : Type 0} (reached : Reaching S) (handler : S) (left written : Option (List ℕ)) → reached [] handler []
+    → Reading reached left left written written (record { handler = handler; number = 1; kept = [] }) 0
+Reading-start reached handler left written start = record {
   taken = [];
   text = [];
   came = Consumes-nil left;
   wrote = Appends-nil written;
-  progress = Progress-start;
+  progress = Progress-start reached handler start;
   few = omega arith;
   many = omega arith;
 }
 
--- want of memory before the first read
-pub AnswersPart-none : (left written : Option (List ℕ)) → AnswersPart left left written written
-AnswersPart-none left written = record {
-  taken = [];
-  ended = false;
-  came = (Consumes-nil left, λ e. absurd (let bad : false ≡ true = e in cc));
-  text = (0, Appends-nil written);
-}
-
 -- the number of the next line stays far below 2^64
-pub number-small : (left left' written written' : Option (List ℕ)) (standing : Standing) (reads : ℕ) → reads ≤ 2 ^ 40 → Reading left left' written written' standing reads
-    → standing.number + 1024 < 2 ^ 64
-number-small left left' written written' standing reads few r = omega (arith, r.progress.count, r.many, few)
+pub number-small : {S : Type 0} (reached : Reaching S) (left left' written written' : Option (List ℕ)) (standing : Standing S) (reads : ℕ) → reads ≤ 2 ^ 40
+    → Reading reached left left' written written' standing reads → standing.number + 1024 < 2 ^ 64
+number-small reached left left' written written' standing reads few r = omega (arith, r.progress.count, r.many, few)
 
 -- a read that gave bytes, which were answered
-module _ (left left' left'' written written' written'' : Option (List ℕ)) (standing standing' : Standing) (reads : ℕ) (r : Reading left left' written written' standing reads)
-    (n : ℕ) (buf : List ℕ) (took : Took left' left'' (Bytes n) buf) where
+module _ {S : Type 0} (reached : Reaching S) (closed : S → S → Type 0) (ending : List ℕ) (left left' left'' written written' written'' : Option (List ℕ)) (standing standing' : Standing S) (reads : ℕ)
+    (r : Reading reached left left' written written' standing reads) (n : ℕ) (buf : List ℕ) (took : Took left' left'' (Bytes n) buf) where
   all_came : Consumes left left'' (r.taken ++ take n buf)
   all_came = Consumes-trans left left' left'' r.taken (take n buf) r.came took.2
 
-  pub Reading-next : length buf ≡ 1024 → IsAnswered (r.taken ++ take n buf) standing' written written'' → Reading left left'' written written'' standing' (reads + 1)
+  pub Reading-next : length buf ≡ 1024 → IsAnswered reached (r.taken ++ take n buf) standing' written written'' → Reading reached left left'' written written'' standing' (reads + 1)
   Reading-next room answered =
       let long : length (r.taken ++ take n buf) ≡ length r.taken + length (take n buf) = length-append r.taken (take n buf) in
       let piece : length (take n buf) ≡ n = length-take-le n buf took.1 in
@@ -63,75 +58,72 @@ module _ (left left' left'' written written' written'' : Option (List ℕ)) (sta
         many = omega (arith, r.many, took.1);
       }
 
-  pub BoardEnds-refused : (end : End) → IsRefusedOr (r.taken ++ take n buf) written written'' end → BoardEnds left left'' written written'' end
-  BoardEnds-refused Done h = absurd h
-  BoardEnds-refused Usage h = h
-  BoardEnds-refused ReadFault h = absurd h
-  BoardEnds-refused WriteFault h = record { taken = r.taken ++ take n buf; ended = false; came = (all_came, λ e. absurd (let bad : false ≡ true = e in cc)); text = h }
-  BoardEnds-refused Memory h = record { taken = r.taken ++ take n buf; ended = false; came = (all_came, λ e. absurd (let bad : false ≡ true = e in cc)); text = h }
-  BoardEnds-refused BadLine h = record {
-    taken = r.taken ++ take n buf;
-    ended = false;
-    number = h.bad.number;
-    came = (all_came, λ e. absurd (let bad : false ≡ true = e in cc));
-    bad = bad-bad_whole (r.taken ++ take n buf) h.text h.bad;
-    text = subst (Appends written written'') (sym (text-bad_whole (r.taken ++ take n buf) h.text h.bad)) h.wrote;
-  }
-  BoardEnds-refused Spent h = absurd h
+  pub HandlerEnds-refused : (end : End) → IsRefusedOr reached ending (r.taken ++ take n buf) written written'' end → HandlerEnds reached closed ending left left'' written written'' end
+  HandlerEnds-refused Done h = absurd h
+  HandlerEnds-refused Usage h = h
+  HandlerEnds-refused ReadFault h = absurd h
+  HandlerEnds-refused WriteFault h = record { taken = r.taken ++ take n buf; ended = false; came = (all_came, not_ended); part = h }
+  HandlerEnds-refused Memory h = record { taken = r.taken ++ take n buf; ended = false; came = (all_came, not_ended); part = h }
+  HandlerEnds-refused BadLine h = record { taken = r.taken ++ take n buf; ended = false; due = h.text; came = (all_came, not_ended); bad = h.bad; text = h.wrote }
+  HandlerEnds-refused Spent h = absurd h
 
 -- no refusal is a fault of reading
-pub OnReadFault-refused : (taken : List ℕ) (written written' : Option (List ℕ)) (P : Type 0) (end : End) → IsRefusedOr taken written written' end → OnReadFault end P
-OnReadFault-refused taken written written' P Done h = tt
-OnReadFault-refused taken written written' P Usage h = tt
-OnReadFault-refused taken written written' P ReadFault h = absurd h
-OnReadFault-refused taken written written' P WriteFault h = tt
-OnReadFault-refused taken written written' P Memory h = tt
-OnReadFault-refused taken written written' P BadLine h = tt
-OnReadFault-refused taken written written' P Spent h = tt
+pub OnReadFault-refused : {S : Type 0} (reached : Reaching S) (ending taken : List ℕ) (written written' : Option (List ℕ)) (P : Type 0) (end : End)
+    → IsRefusedOr reached ending taken written written' end → OnReadFault end P
+OnReadFault-refused reached ending taken written written' P Done h = tt
+OnReadFault-refused reached ending taken written written' P Usage h = tt
+OnReadFault-refused reached ending taken written written' P ReadFault h = absurd h
+OnReadFault-refused reached ending taken written written' P WriteFault h = tt
+OnReadFault-refused reached ending taken written written' P Memory h = tt
+OnReadFault-refused reached ending taken written written' P BadLine h = tt
+OnReadFault-refused reached ending taken written written' P Spent h = tt
 
-pub OnReadFault-finished : (taken : List ℕ) (written written' : Option (List ℕ)) (P : Type 0) (end : End) → AfterFinish taken written written' end → OnReadFault end P
-OnReadFault-finished taken written written' P Done h = tt
-OnReadFault-finished taken written written' P Usage h = tt
-OnReadFault-finished taken written written' P ReadFault h = absurd h
-OnReadFault-finished taken written written' P WriteFault h = tt
-OnReadFault-finished taken written written' P Memory h = tt
-OnReadFault-finished taken written written' P BadLine h = tt
-OnReadFault-finished taken written written' P Spent h = tt
-
-some_number : (o : Option ℕ) → IsSome o → (n : ℕ) × (o ≡ Some n)
-some_number None h = absurd (let bad : false ≡ true = h in cc)
-some_number (Some n) h = (n, refl)
+pub OnReadFault-finished : {S : Type 0} (reached : Reaching S) (closed : S → S → Type 0) (ending taken : List ℕ) (written written' : Option (List ℕ)) (P : Type 0) (end : End)
+    → AfterFinish reached closed ending taken written written' end → OnReadFault end P
+OnReadFault-finished reached closed ending taken written written' P Done h = tt
+OnReadFault-finished reached closed ending taken written written' P Usage h = tt
+OnReadFault-finished reached closed ending taken written written' P ReadFault h = absurd h
+OnReadFault-finished reached closed ending taken written written' P WriteFault h = tt
+OnReadFault-finished reached closed ending taken written written' P Memory h = tt
+OnReadFault-finished reached closed ending taken written written' P BadLine h = tt
+OnReadFault-finished reached closed ending taken written written' P Spent h = tt
 
 -- the end of the input
-module _ (left left' left'' written written' : Option (List ℕ)) (standing : Standing) (reads : ℕ) (r : Reading left left' written written' standing reads)
-    (kept : Keeps left' left'') where
+module _ {S : Type 0} (reached : Reaching S) (left left' left'' written written' : Option (List ℕ)) (standing : Standing S) (reads : ℕ)
+    (r : Reading reached left left' written written' standing reads) (kept : Keeps left' left'') where
   still_came : Consumes left left'' r.taken
   still_came = Consumes-kept left left' left'' r.taken r.came kept
 
-  pub BoardEnds-finished : (written'' : Option (List ℕ)) (end : End) → IsAtEnd left'' → AfterFinish r.taken written written'' end → BoardEnds left left'' written written'' end
-  BoardEnds-finished written'' Done at_end h = record { taken = r.taken; came = (still_came, λ e. at_end); good = h.0; text = h.1 }
-  BoardEnds-finished written'' Usage at_end h = h
-  BoardEnds-finished written'' ReadFault at_end h = absurd h
-  BoardEnds-finished written'' WriteFault at_end h = record { taken = r.taken; ended = true; came = (still_came, λ e. at_end); text = h }
-  BoardEnds-finished written'' Memory at_end h = record { taken = r.taken; ended = true; came = (still_came, λ e. at_end); text = h }
-  BoardEnds-finished written'' BadLine at_end h =
-      let number = some_number (bad_in (lines_of r.taken)) h.0 in
-      record { taken = r.taken; ended = true; number = number.0; came = (still_came, λ e. at_end); bad = number.1; text = h.1 }
-  BoardEnds-finished written'' Spent at_end h = absurd h
+  pub HandlerEnds-finished : (closed : S → S → Type 0) (ending : List ℕ) (written'' : Option (List ℕ)) (end : End) → IsAtEnd left''
+      → AfterFinish reached closed ending r.taken written written'' end → HandlerEnds reached closed ending left left'' written written'' end
+  HandlerEnds-finished closed ending written'' Done at_end h = record {
+    answers = record { taken = r.taken; stands = h.stands; due = h.text; came = (still_came, λ e. at_end); good = h.good; text = h.wrote };
+    leaves = h.leaves;
+    close = h.close;
+  }
+  HandlerEnds-finished closed ending written'' Usage at_end h = h
+  HandlerEnds-finished closed ending written'' ReadFault at_end h = absurd h
+  HandlerEnds-finished closed ending written'' WriteFault at_end h = record { taken = r.taken; ended = true; came = (still_came, λ e. at_end); part = h }
+  HandlerEnds-finished closed ending written'' Memory at_end h = record { taken = r.taken; ended = true; came = (still_came, λ e. at_end); part = h }
+  HandlerEnds-finished closed ending written'' BadLine at_end h =
+      record { taken = r.taken; ended = true; due = h.text; came = (still_came, λ e. at_end); bad = h.bad; text = h.wrote }
+  HandlerEnds-finished closed ending written'' Spent at_end h = absurd h
 
   -- between two reads all whole lines are answered
-  pub Answers-so_far : Answers left left'' written written' false
-  Answers-so_far = record {
+  pub AreAnswered-so_far : AreAnswered reached left left'' written written' false
+  AreAnswered-so_far = record {
     taken = r.taken;
-    came = (still_came, λ e. absurd (let bad : false ≡ true = e in cc));
-    good = good-whole r.taken standing r.text r.progress;
-    text = subst (Appends written written') (sym (text-whole r.taken standing r.text r.progress)) r.wrote;
+    stands = standing.handler;
+    due = r.text;
+    came = (still_came, not_ended);
+    good = r.progress.good;
+    text = r.wrote;
   }
 
   -- after 2^40 reads
-  pub Spends-reads : 2 ^ 40 ≤ reads → Spends left left'' written written'
-  unfolding Answers-so_far
-  Spends-reads all = record { answers = Answers-so_far; many = omega (arith, r.few, all) }
+  pub AreSpent-reads : 2 ^ 40 ≤ reads → AreSpent reached left left'' written written'
+  unfolding AreAnswered-so_far
+  AreSpent-reads all = record { answers = AreAnswered-so_far; many = omega (arith, r.few, all) }
 
 -- a count that rose since then rose since before
 pub Rose-since : (a b c : ℕ) → a ≤ b → Rose b c → Rose a c

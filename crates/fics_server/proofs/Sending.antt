@@ -1,20 +1,21 @@
 -- What was written, as bytes are sent behind it.
-use Rattle.std.proofs.Common.{◌≡◌, ℕ, ◌+◌, List, [], ◌∷◌, ◌++◌, length, take, refl, sym, ap, subst, ◌∙◌, Some, None, Ok, Err, inl, inr}
-use Rattle.std.specs.Prelude.{Option, Result, IsSome, IsSomeAnd}
+use Rattle.std.proofs.Common.{◌≡◌, ℕ, ◌+◌, List, [], ◌∷◌, ◌++◌, length, take, refl, sym, ap, subst, ◌∙◌, append-nil, Ok, Err, inl, inr}
+use Rattle.std.specs.Prelude.{Option, Result}
 use Rattle.std.specs.Io.KnownBytes.{Appends}
 use Rattle.std.proofs.KnownBytes.{Appends-trans}
 use Rattle.std.proofs.Math.Seq.{take-append-add, take-append_seam}
 use Rattle.edge_traits.specs.Sink.{AppendsFront}
-use Rattle.fics_server.specs.Game.{GameState}
+use Rattle.fics_server.specs.Handling.{Reaching, HasBadLine, IsDue, bad_line}
+use Rattle.fics_server.specs.HandlerEnds.{PartIsWritten}
 use Rattle.fics_server.specs.Lines.{lines_of, last_line, whole_lines}
 use Rattle.fics_server.specs.Standing.{Standing}
-use Rattle.fics_server.specs.Transcript.{line_turn, bad_line, text_of, bad_in, answers}
-use Rattle.fics_server.specs.Progress.{Progress, IsBadText}
-use Rattle.fics_server.specs.Reading.{AfterFinish, AfterSend, AfterSendLast, AfterAnswer, IsRefusedOr}
+use Rattle.fics_server.specs.Progress.{Progress, IsTurned, AfterLine}
+use Rattle.fics_server.specs.Reading.{AfterFinish, AfterSend, AfterSendLast, AfterAnswer, IsRefusedOr, IsRefused}
 use Rattle.fics_server.specs.declared.end.End.{End}
 use Rattle.fics_server.specs.declared.end.End.TheVariants.{Done, Usage, ReadFault, WriteFault, Memory, BadLine, Spent}
-use Rattle.fics_server.proofs.Pieces.{lines_of-split, Grows-whole_lines}
-use Rattle.fics_server.proofs.Feeding.{text-end, good-end, text-bad_end, bad-end, text-whole, text-bad_whole}
+use Rattle.fics_server.specs.declared.stop.Stop.TheVariants as stop
+use Rattle.fics_server.proofs.Pieces.{lines_of-split, Grows, Grows-whole_lines}
+use Rattle.fics_server.proofs.Feeding.{HasBadLine-last}
 
 -- a front of the next bytes is a front of the whole
 pub AppendsFront-behind : (written now new : Option (List ℕ)) (text bytes all : List ℕ) → all ≡ text ++ bytes
@@ -28,76 +29,117 @@ pub AppendsFront-so_far : (written now : Option (List ℕ)) (text more all : Lis
 AppendsFront-so_far written now text more all is p =
     (length text, subst (Appends written now) (sym (take-append_seam text more) ∙ ap (take (length text)) (sym is)) p)
 
--- the end of the input: the text of all lines goes on behind what was written
-module _ (taken text : List ℕ) (standing : Standing) (p : Progress taken standing text) (written now new : Option (List ℕ)) (w : Appends written now text) where
-  finish_good : (bytes : List ℕ) (result : End) → bad_in (lines_of taken) ≡ None → text_of (lines_of taken) ≡ text ++ bytes
-      → AfterSendLast now new bytes Done result → AfterFinish taken written new result
-  finish_good bytes result good is (inl sent) =
-      subst (AfterFinish taken written new) (sym sent.0) (good, subst (Appends written new) (sym is) (Appends-trans written now new text bytes w sent.1))
-  finish_good bytes result good is (inr (inl fault, front)) =
-      subst (AfterFinish taken written new) (sym fault) (AppendsFront-behind written now new text bytes (text_of (lines_of taken)) is w front)
-  finish_good bytes result good is (inr (inr want, front)) =
-      subst (AfterFinish taken written new) (sym want) (AppendsFront-behind written now new text bytes (text_of (lines_of taken)) is w front)
+-- what was written, and nothing
+pub Progress-cleared : {S : Type 0} (reached : Reaching S) (taken : List ℕ) (standing : Standing S) (text cleared : List ℕ) → cleared ≡ []
+    → Progress reached taken standing text → Progress reached taken standing (text ++ cleared)
+Progress-cleared reached taken standing text cleared none p = subst (Progress reached taken standing) (sym (append-nil text) ∙ ap (λ l. text ++ l) (sym none)) p
 
-  finish_bad : (bytes : List ℕ) (result : End) → IsSome (bad_in (lines_of taken)) → text_of (lines_of taken) ≡ text ++ bytes
-      → AfterSendLast now new bytes BadLine result → AfterFinish taken written new result
-  finish_bad bytes result bad is (inl sent) =
-      subst (AfterFinish taken written new) (sym sent.0) (bad, subst (Appends written new) (sym is) (Appends-trans written now new text bytes w sent.1))
-  finish_bad bytes result bad is (inr (inl fault, front)) =
-      subst (AfterFinish taken written new) (sym fault) (AppendsFront-behind written now new text bytes (text_of (lines_of taken)) is w front)
-  finish_bad bytes result bad is (inr (inr want, front)) =
-      subst (AfterFinish taken written new) (sym want) (AppendsFront-behind written now new text bytes (text_of (lines_of taken)) is w front)
+-- the lines so far are due, and a front of what is due for them was written
+PartIsWritten-front : {S : Type 0} (reached : Reaching S) (ending : List ℕ) (lines : List (List ℕ)) (written now new : Option (List ℕ)) (text bytes : List ℕ)
+    → IsDue reached ending lines (text ++ bytes) → Appends written now text → AppendsFront now new bytes → PartIsWritten reached ending lines written new
+PartIsWritten-front reached ending lines written now new text bytes due w front = record {
+  before = lines;
+  rest = [];
+  due = text ++ bytes;
+  parts = sym (append-nil lines);
+  is_due = due;
+  text = AppendsFront-behind written now new text bytes (text ++ bytes) refl w front;
+}
 
-  finish_turned : (cleared bytes : List ℕ) (standing' : Standing) (result : End) → cleared ≡ [] → (t : Option (GameState × List ℕ)) → line_turn standing.game standing.kept ≡ t
-      → IsSomeAnd t (λ q. (standing' ≡ record { game = q.0; number = standing.number + 1; kept = [] }) × (bytes ≡ cleared ++ q.1))
-      → AfterSendLast now new bytes Done result → AfterFinish taken written new result
-  finish_turned cleared bytes standing' result none None turned h = absurd h
-  finish_turned cleared bytes standing' result none (Some q) turned h =
-      let is : q.1 ≡ bytes = ap (λ l. l ++ q.1) (sym none) ∙ sym h.1 in
-      finish_good bytes result (good-end taken standing text p q.0 q.1 turned) (text-end taken standing text p q.0 q.1 turned ∙ ap (λ l. text ++ l) is)
+-- want of memory between: what was written is all that is due for the lines before
+PartIsWritten-so_far : {S : Type 0} (reached : Reaching S) (ending taken text : List ℕ) (lines : List (List ℕ)) (standing : Standing S) (written now : Option (List ℕ))
+    → Grows (whole_lines taken) lines → Appends written now text → Progress reached taken standing text → PartIsWritten reached ending lines written now
+PartIsWritten-so_far reached ending taken text lines standing written now grown w p = record {
+  before = whole_lines taken;
+  rest = grown.more;
+  due = text;
+  parts = grown.is;
+  is_due = inl (standing.handler, p.good);
+  text = AppendsFront-so_far written now text [] text (sym (append-nil text)) w;
+}
 
-  pub AfterFinish-good : (cleared bytes : List ℕ) (standing' : Standing) (result : End) → cleared ≡ []
-      → IsSomeAnd (line_turn standing.game standing.kept) (λ q. (standing' ≡ record { game = q.0; number = standing.number + 1; kept = [] }) × (bytes ≡ cleared ++ q.1))
-      → AfterSendLast now new bytes Done result → AfterFinish taken written new result
-  AfterFinish-good cleared bytes standing' result none h = finish_turned cleared bytes standing' result none (line_turn standing.game standing.kept) refl h
+-- a line outside the grammar was told, or a front of that was written
+module _ {S : Type 0} (reached : Reaching S) (ending : List ℕ) (lines : List (List ℕ)) (written now new : Option (List ℕ)) (text bytes : List ℕ)
+    (bad : HasBadLine reached ending lines (text ++ bytes)) (w : Appends written now text) where
+  refused : Appends now new bytes → IsRefused reached ending lines written new
+  refused sent = record { text = text ++ bytes; wrote = Appends-trans written now new text bytes w sent; bad = bad }
 
-  pub AfterFinish-bad : (cleared bytes : List ℕ) (result : End) → cleared ≡ []
-      → (line_turn standing.game standing.kept ≡ None) × (bytes ≡ cleared ++ bad_line standing.number)
-      → AfterSendLast now new bytes BadLine result → AfterFinish taken written new result
-  AfterFinish-bad cleared bytes result none h =
-      let is : bad_line standing.number ≡ bytes = ap (λ l. l ++ bad_line standing.number) (sym none) ∙ sym h.1 in
-      finish_bad bytes result (subst IsSome (sym (bad-end taken standing text p h.0)) refl) (text-bad_end taken standing text p h.0 ∙ ap (λ l. text ++ l) is)
+  part : AppendsFront now new bytes → PartIsWritten reached ending lines written new
+  part front = PartIsWritten-front reached ending lines written now new text bytes (inr bad) w front
 
-  pub AfterFinish-memory : AppendsFront written now (text_of (lines_of taken))
-  AfterFinish-memory =
-      AppendsFront-so_far written now text (answers standing.number standing.game (last_line taken ∷ [])) (text_of (lines_of taken)) (ap text_of (lines_of-split taken) ∙ p.text (last_line taken ∷ [])) w
-
--- a read's answer: the text of the lines that ended goes on behind what was written
-module _ (taken text : List ℕ) (written now new : Option (List ℕ)) (w : Appends written now text) where
-  pub AfterAnswer-sent : {A : Type 0} (standing : Standing) (bytes : List ℕ) (r : Result A End) → Progress taken standing (text ++ bytes)
-      → AfterSend now new bytes r → AfterAnswer taken standing written new r
+-- a read's answer: what is due for the lines that ended goes on behind what was written
+module _ {S : Type 0} (reached : Reaching S) (ending taken text : List ℕ) (written now new : Option (List ℕ)) (w : Appends written now text) where
+  pub AfterAnswer-sent : {A : Type 0} (standing : Standing S) (bytes : List ℕ) (r : Result A End) → Progress reached taken standing (text ++ bytes)
+      → AfterSend now new bytes r → AfterAnswer reached ending taken standing written new r
   AfterAnswer-sent standing bytes (Ok u) p sent = record { text = text ++ bytes; wrote = Appends-trans written now new text bytes w sent; progress = p }
   AfterAnswer-sent standing bytes (Err Done) p sent = sent
   AfterAnswer-sent standing bytes (Err Usage) p sent = sent
   AfterAnswer-sent standing bytes (Err ReadFault) p sent = sent
   AfterAnswer-sent standing bytes (Err WriteFault) p sent =
-      AppendsFront-behind written now new text bytes (text_of (whole_lines taken)) (text-whole taken standing (text ++ bytes) p) w sent
+      PartIsWritten-front reached ending (whole_lines taken) written now new text bytes (inl (standing.handler, p.good)) w sent
   AfterAnswer-sent standing bytes (Err Memory) p sent =
-      AppendsFront-behind written now new text bytes (text_of (whole_lines taken)) (text-whole taken standing (text ++ bytes) p) w sent
+      PartIsWritten-front reached ending (whole_lines taken) written now new text bytes (inl (standing.handler, p.good)) w sent
   AfterAnswer-sent standing bytes (Err BadLine) p sent = absurd sent
   AfterAnswer-sent standing bytes (Err Spent) p sent = sent
 
-  pub AfterRefusal : (bytes : List ℕ) (end : End) → IsBadText taken (text ++ bytes) → AfterSendLast now new bytes BadLine end → IsRefusedOr taken written new end
+  pub AfterRefusal : (bytes : List ℕ) (end : End) → HasBadLine reached ending (whole_lines taken) (text ++ bytes) → AfterSendLast now new bytes BadLine end
+      → IsRefusedOr reached ending taken written new end
   AfterRefusal bytes end bad (inl sent) =
-      subst (IsRefusedOr taken written new) (sym sent.0) (record { text = text ++ bytes; wrote = Appends-trans written now new text bytes w sent.1; bad = bad })
+      subst (IsRefusedOr reached ending taken written new) (sym sent.0) (refused reached ending (whole_lines taken) written now new text bytes bad w sent.1)
   AfterRefusal bytes end bad (inr (inl fault, front)) =
-      subst (IsRefusedOr taken written new) (sym fault) (AppendsFront-behind written now new text bytes (text_of (whole_lines taken)) (text-bad_whole taken (text ++ bytes) bad) w front)
+      subst (IsRefusedOr reached ending taken written new) (sym fault) (part reached ending (whole_lines taken) written now new text bytes bad w front)
   AfterRefusal bytes end bad (inr (inr want, front)) =
-      subst (IsRefusedOr taken written new) (sym want) (AppendsFront-behind written now new text bytes (text_of (whole_lines taken)) (text-bad_whole taken (text ++ bytes) bad) w front)
+      subst (IsRefusedOr reached ending taken written new) (sym want) (part reached ending (whole_lines taken) written now new text bytes bad w front)
 
--- want of memory between: what was written is a front of what is due
-pub AfterAnswer-memory : (taken more text : List ℕ) (standing : Standing) (written now : Option (List ℕ)) → Appends written now text → Progress taken standing text
-    → AppendsFront written now (text_of (whole_lines (taken ++ more)))
-AfterAnswer-memory taken more text standing written now w p =
-    let grown = Grows-whole_lines taken more in
-    AppendsFront-so_far written now text (answers standing.number standing.game grown.more) (text_of (whole_lines (taken ++ more))) (ap text_of grown.is ∙ p.text grown.more) w
+-- want of memory while bytes were fed
+pub AfterAnswer-memory : {S : Type 0} (reached : Reaching S) (ending taken more text : List ℕ) (standing : Standing S) (written now : Option (List ℕ))
+    → Appends written now text → Progress reached taken standing text → PartIsWritten reached ending (whole_lines (taken ++ more)) written now
+AfterAnswer-memory reached ending taken more text standing written now w p =
+    PartIsWritten-so_far reached ending taken text (whole_lines (taken ++ more)) standing written now (Grows-whole_lines taken more) w p
+
+-- the end of the input: what is due for the last line goes on behind what was written
+module _ {S : Type 0} (reached : Reaching S) (closed : S → S → Type 0) (ending taken text : List ℕ) (old : Standing S) (p : Progress reached taken old text)
+    (written now new : Option (List ℕ)) (w : Appends written now text) where
+  all_good : (new_standing : Standing S) (bytes : List ℕ) → IsTurned reached old [] new_standing bytes → reached (lines_of taken) new_standing.handler (text ++ bytes)
+  all_good next bytes h =
+      let turned = h.turn (last_line taken) p.kept in
+      subst (λ (lines : List (List ℕ)). reached lines next.handler (text ++ bytes)) (sym (lines_of-split taken))
+      (subst (λ (l : List ℕ). reached (whole_lines taken ++ last_line taken ∷ []) next.handler (text ++ l)) (sym turned.1) (turned.2 (whole_lines taken) text p.good))
+
+  finish_good : (bytes : List ℕ) (stands leaves : S) (result : End) → reached (lines_of taken) stands (text ++ bytes) → closed stands leaves
+      → AfterSendLast now new bytes Done result → AfterFinish reached closed ending taken written new result
+  finish_good bytes stands leaves result good close (inl sent) =
+      subst (AfterFinish reached closed ending taken written new) (sym sent.0)
+      (record { stands = stands; leaves = leaves; text = text ++ bytes; wrote = Appends-trans written now new text bytes w sent.1; good = good; close = close })
+  finish_good bytes stands leaves result good close (inr (inl fault, front)) =
+      subst (AfterFinish reached closed ending taken written new) (sym fault)
+      (PartIsWritten-front reached ending (lines_of taken) written now new text bytes (inl (stands, good)) w front)
+  finish_good bytes stands leaves result good close (inr (inr want, front)) =
+      subst (AfterFinish reached closed ending taken written new) (sym want)
+      (PartIsWritten-front reached ending (lines_of taken) written now new text bytes (inl (stands, good)) w front)
+
+  finish_bad : (bytes : List ℕ) (result : End) → HasBadLine reached ending (lines_of taken) (text ++ bytes)
+      → AfterSendLast now new bytes BadLine result → AfterFinish reached closed ending taken written new result
+  finish_bad bytes result bad (inl sent) =
+      subst (AfterFinish reached closed ending taken written new) (sym sent.0) (refused reached ending (lines_of taken) written now new text bytes bad w sent.1)
+  finish_bad bytes result bad (inr (inl fault, front)) =
+      subst (AfterFinish reached closed ending taken written new) (sym fault) (part reached ending (lines_of taken) written now new text bytes bad w front)
+  finish_bad bytes result bad (inr (inr want, front)) =
+      subst (AfterFinish reached closed ending taken written new) (sym want) (part reached ending (lines_of taken) written now new text bytes bad w front)
+
+  pub AfterFinish-good : (cleared bytes : List ℕ) (next : Standing S) (leaves : S) (result : End) → cleared ≡ [] → IsTurned reached old cleared next bytes
+      → closed next.handler leaves → AfterSendLast now new bytes Done result → AfterFinish reached closed ending taken written new result
+  AfterFinish-good cleared bytes next leaves result none h close sent =
+      finish_good bytes next.handler leaves result
+      (all_good next bytes (subst (λ (l : List ℕ). IsTurned reached old l next bytes) none h)) close sent
+
+  pub AfterFinish-bad : (cleared bytes : List ℕ) (next : Standing S) (result : End) → cleared ≡ [] → AfterLine {A = Unit {0}} reached ending old cleared next bytes (Err stop.BadLine)
+      → AfterSendLast now new bytes BadLine result → AfterFinish reached closed ending taken written new result
+  AfterFinish-bad cleared bytes next result none h sent =
+      let told = subst (λ (l : List ℕ). bytes ≡ l ++ bad_line ending old.number) none h.0 in
+      let before = subst (λ (l : List ℕ). Progress reached taken old l) (sym (append-nil text)) p in
+      finish_bad bytes result (HasBadLine-last reached ending taken old text [] bytes before told h.1 (lines_of taken) (lines_of-split taken)) sent
+
+  pub AfterFinish-memory : PartIsWritten reached ending (lines_of taken) written now
+  AfterFinish-memory =
+      PartIsWritten-so_far reached ending taken text (lines_of taken) old written now (record { more = last_line taken ∷ []; is = lines_of-split taken }) w p

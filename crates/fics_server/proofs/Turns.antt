@@ -8,7 +8,8 @@ use Rattle.game_board.specs.Board.{Board}
 use Rattle.game_board.specs.Play.{play_reply, play_after}
 use Rattle.fics_server.specs.MoveForm.{squares_of}
 use Rattle.fics_server.specs.declared.squares.Squares.{Squares}
-use Rattle.fics_server.specs.Game.{GameState, line_text, refusal_text, answer_to, is_outside, made, turn_of, turn}
+use Rattle.session_core.specs.Texts.{refusal_line}
+use Rattle.fics_server.specs.Game.{GameState, line_text, answer_to, is_outside, made, turn_of, turn}
 
 -- a line that is no word
 pub turn-no_word : (b : GameState) (line : List ℕ) → squares_of line ≡ None → turn b line ≡ None
@@ -32,11 +33,11 @@ pub made-played : (b : Board) (a : Result Move Refusal) (taken : Option Man) →
 made-played b (Ok m) taken e = refl
 made-played b (Err r) taken e = absurd (let bad : Ok taken ≡ Err r = e in cc)
 
-pub made-refused : (b : Board) (a : Result Move Refusal) (r : Refusal) → Err r ≡ play_reply b a → made b a ≡ (play_after b 0 a, refusal_text r)
+pub made-refused : (b : Board) (a : Result Move Refusal) (r : Refusal) → Err r ≡ play_reply b a → made b a ≡ (play_after b 0 a, refusal_line r)
 made-refused b (Ok m) r e = absurd (let bad : Err r ≡ play_reply b (Ok m) = e in cc)
 made-refused b (Err q) r e =
     let same : q ≡ r = let given : Err r ≡ Err q = e in cc in
-    ap (λ (x : Refusal). (b, refusal_text x)) same
+    ap (λ (x : Refusal). (b, refusal_line x)) same
 
 pub begin-after : (b : Board) (a : Result Move Refusal) → b.begin ≡ 0 → (play_after b 0 a).begin ≡ 0
 begin-after b (Ok m) e = refl

@@ -1,11 +1,10 @@
 -- How a run of the program ends: what was read and what was written by then.
-use Rattle.std.specs.Prelude.{◌≡◌, ℕ, ◌^◌, ◌≤◌, Bool, true, false, List, length, Option, Some, None, String}
-use Rattle.std.specs.declared.alloc.Global.{Global}
+use Rattle.std.specs.Prelude.{◌≡◌, ℕ, ◌^◌, ◌≤◌, Bool, true, false, List, length, Option, Some, None}
 use Rattle.std.specs.Io.KnownBytes.{Consumes, Keeps, Appends, IsAtEnd}
 use Rattle.edge_traits.specs.Sink.{AppendsFront}
 use Rattle.fics_server.specs.Lines.{lines_come}
 use Rattle.fics_server.specs.Transcript.{text_of, bad_in}
-use Rattle.fics_server.specs.Words.{IsBoard, usage_line}
+use Rattle.fics_server.specs.Words.{usage_line}
 use Rattle.fics_server.specs.declared.end.End.{End}
 use Rattle.fics_server.specs.declared.end.End.TheVariants.{Done, Usage, ReadFault, WriteFault, Memory, BadLine, Spent}
 
@@ -74,11 +73,6 @@ status_of WriteFault = 3
 status_of Memory = 6
 status_of BadLine = 7
 status_of Spent = 9
-
--- a front of what would have been written: of the usage line, or of the text of the lines that have come
-abbrev pub WritesPart : List (String Global) → Option (List ℕ) → Option (List ℕ) → Option (List ℕ) → Option (List ℕ) → Type 0
-WritesPart words left left' written written' =
-    (IsBoard words → AnswersPart left left' written written') × (¬ (IsBoard words) → UsagePart left left' written written')
 
 -- the fact holds where a read failed
 abbrev pub OnReadFault : End → Type 0 → Type 0

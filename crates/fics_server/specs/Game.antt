@@ -1,18 +1,18 @@
 -- The game that `board` plays: one untimed game of chess between `White` and `Black`, game 1, seen by an observer.
-use Rattle.std.specs.Prelude.{ℕ, Bool, ◌||◌, is_some, if◌then◌else◌, pos, List, [], ◌∷◌, ◌++◌, Option, Some, None, Result, Ok, Err, decimal, codes, option_and_then, false}
+use Rattle.std.specs.Prelude.{ℕ, Bool, ◌||◌, is_some, if◌then◌else◌, pos, List, [], ◌∷◌, ◌++◌, Option, Some, None, Result, Ok, Err, codes, option_and_then, false}
 use Rattle.chess_model.specs.declared.variant.Terms.{Terms}
 use Rattle.chess_model.specs.declared.variant.Variant.TheVariants.{Chess}
 use Rattle.chess_model.specs.declared.moves.Move.{Move}
 use Rattle.chess_model.specs.declared.moves.MoveWord.TheVariants.{Coordinate}
 use Rattle.chess_model.specs.Answer.{castling_of, is_promotion}
 use Rattle.fics_words.specs.declared.refusal.Refusal.{Refusal}
-use Rattle.fics_words.specs.Refusal.{number_of, name_of}
 use Rattle.game_board.specs.Board.{Board, to_move, position_of}
 use Rattle.game_board.specs.BoardFace.{board_face, time_taken}
 use Rattle.game_board.specs.Play.{move_answer, with_half_move}
 use Rattle.style12_writer.specs.declared.view.BoardView.{BoardView}
 use Rattle.style12_writer.specs.declared.view.Viewer.{Viewer}
 use Rattle.style12_writer.specs.Line12.{line12_text}
+use Rattle.session_core.specs.Texts.{refusal_line}
 use Rattle.fics_server.specs.MoveForm.{squares_of}
 use Rattle.fics_server.specs.declared.squares.Squares.{Squares}
 
@@ -49,10 +49,6 @@ observer = record { relation = pos 0; flip = false }
 abbrev pub line_text : GameState → List ℕ
 line_text b = line12_text (view_of b) observer ++ codes "\n\r"
 
--- the line of a refusal
-abbrev pub refusal_text : Refusal → List ℕ
-refusal_text r = codes "refused " ++ decimal (number_of r) ++ codes " " ++ name_of r ++ codes "\n\r"
-
 -- the answer to a move word, by the rules of chess
 abbrev pub answer_to : GameState → Squares → Result Move Refusal
 answer_to b s = move_answer b (to_move b) (Coordinate s.from s.to None)
@@ -64,7 +60,7 @@ is_outside b s = is_some (castling_of (position_of b) s.from s.to) || is_promoti
 -- the next state and what is written: the half-move and the board's line, or the refusal
 abbrev pub made : GameState → Result Move Refusal → GameState × List ℕ
 made b (Ok m) = (with_half_move b m 0, line_text (with_half_move b m 0))
-made b (Err r) = (b, refusal_text r)
+made b (Err r) = (b, refusal_line r)
 
 -- what two squares make of a game
 abbrev pub turn_of : GameState → Squares → Option (GameState × List ℕ)

@@ -1,5 +1,5 @@
 -- The lines of a text of bytes.
-use Rattle.std.specs.Prelude.{◌≡◌, ◌≢◌, ℕ, Bool, not, ◌&&◌, ◌==◌, if◌then◌else◌, List, [], ◌∷◌, filter, All}
+use Rattle.std.specs.Prelude.{◌≡◌, ◌≢◌, ℕ, Bool, false, not, ◌&&◌, ◌==◌, if◌then◌else◌, List, [], ◌∷◌, filter, All}
 use Rattle.std.specs.List.{slice_split, join_with_byte}
 
 -- CR and NUL aren't part of any line
@@ -9,6 +9,10 @@ is_kept b = not (b == 13) && not (b == 0)
 -- the pieces between the line feeds
 abbrev pub pieces : List ℕ → List (List ℕ)
 pieces text = slice_split (λ b. b == 10) text
+
+-- no byte is a line feed
+abbrev pub IsUnbroken : List ℕ → Type 0
+IsUnbroken part = All (λ c. (c == 10) ≡ false) part
 
 -- the lines of a text that has come to its end: the piece behind the last line feed is a line too
 abbrev pub lines_of : List ℕ → List (List ℕ)

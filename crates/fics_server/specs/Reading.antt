@@ -1,21 +1,22 @@
 -- How far the reading of an input has come, between the source and the sink.
-use Rattle.std.specs.Prelude.{◌≡◌, ◌⊎◌, ℕ, ◌*◌, ◌≤◌, List, length, Option, None, IsSome, Ok, Err, Result}
+use Rattle.std.specs.Prelude.{◌≡◌, ◌⊎◌, ℕ, ◌*◌, ◌≤◌, List, length, Option, Ok, Err, Result}
 use Rattle.std.specs.Io.KnownBytes.{Consumes, Appends}
 use Rattle.edge_traits.specs.Sink.{AppendsFront}
+use Rattle.fics_server.specs.Handling.{Reaching, HasBadLine}
+use Rattle.fics_server.specs.HandlerEnds.{PartIsWritten}
 use Rattle.fics_server.specs.Lines.{lines_of, whole_lines}
 use Rattle.fics_server.specs.Standing.{Standing}
-use Rattle.fics_server.specs.Progress.{Progress, IsBadText}
-use Rattle.fics_server.specs.Transcript.{text_of, bad_in}
+use Rattle.fics_server.specs.Progress.{Progress}
 use Rattle.fics_server.specs.declared.end.End.{End}
 use Rattle.fics_server.specs.declared.end.End.TheVariants.{Done, Usage, ReadFault, WriteFault, Memory, BadLine, Spent}
 
 -- so many reads gave these bytes, each at least one and at most 1,024, and all that is due was written
-pub record Reading (left left' written written' : Option (List ℕ)) (standing : Standing) (reads : ℕ) : Type 0 where
+pub record Reading {S : Type 0} (reached : Reaching S) (left left' written written' : Option (List ℕ)) (standing : Standing S) (reads : ℕ) : Type 0 where
   pub taken : List ℕ
   pub text : List ℕ
   pub came : Consumes left left' taken
   pub wrote : Appends written written' text
-  pub progress : Progress taken standing text
+  pub progress : Progress reached taken standing text
   pub few : reads ≤ length taken
   pub many : length taken ≤ 1024 * reads
 
@@ -36,38 +37,47 @@ AfterSendLast written written' bytes end result =
     ((result ≡ end) × Appends written written' bytes) ⊎ (((result ≡ WriteFault) ⊎ (result ≡ Memory)) × AppendsFront written written' bytes)
 
 -- these bytes were answered, and these written
-pub record IsAnswered (taken : List ℕ) (standing : Standing) (written written' : Option (List ℕ)) : Type 0 where
+pub record IsAnswered {S : Type 0} (reached : Reaching S) (taken : List ℕ) (standing : Standing S) (written written' : Option (List ℕ)) : Type 0 where
   pub text : List ℕ
   pub wrote : Appends written written' text
-  pub progress : Progress taken standing text
+  pub progress : Progress reached taken standing text
 
--- these bytes have a line outside the grammar, and what is due was written
-pub record IsRefused (taken : List ℕ) (written written' : Option (List ℕ)) : Type 0 where
+-- these lines have one outside the grammar, and what is due was written
+pub record IsRefused {S : Type 0} (reached : Reaching S) (ending : List ℕ) (lines : List (List ℕ)) (written written' : Option (List ℕ)) : Type 0 where
   pub text : List ℕ
   pub wrote : Appends written written' text
-  pub bad : IsBadText taken text
+  pub bad : HasBadLine reached ending lines text
 
 -- these bytes have a line outside the grammar, or a front of what is due was written
-abbrev pub IsRefusedOr : List ℕ → Option (List ℕ) → Option (List ℕ) → End → Type 0
-IsRefusedOr taken written written' Done = ⊥
-IsRefusedOr taken written written' Usage = ⊥
-IsRefusedOr taken written written' ReadFault = ⊥
-IsRefusedOr taken written written' WriteFault = AppendsFront written written' (text_of (whole_lines taken))
-IsRefusedOr taken written written' Memory = AppendsFront written written' (text_of (whole_lines taken))
-IsRefusedOr taken written written' BadLine = IsRefused taken written written'
-IsRefusedOr taken written written' Spent = ⊥
+abbrev pub IsRefusedOr : {S : Type 0} → Reaching S → List ℕ → List ℕ → Option (List ℕ) → Option (List ℕ) → End → Type 0
+IsRefusedOr reached ending taken written written' Done = ⊥
+IsRefusedOr reached ending taken written written' Usage = ⊥
+IsRefusedOr reached ending taken written written' ReadFault = ⊥
+IsRefusedOr reached ending taken written written' WriteFault = PartIsWritten reached ending (whole_lines taken) written written'
+IsRefusedOr reached ending taken written written' Memory = PartIsWritten reached ending (whole_lines taken) written written'
+IsRefusedOr reached ending taken written written' BadLine = IsRefused reached ending (whole_lines taken) written written'
+IsRefusedOr reached ending taken written written' Spent = ⊥
 
 -- what holds after bytes were answered
-abbrev pub AfterAnswer : {A : Type 0} → List ℕ → Standing → Option (List ℕ) → Option (List ℕ) → Result A End → Type 0
-AfterAnswer taken standing written written' (Ok u) = IsAnswered taken standing written written'
-AfterAnswer taken standing written written' (Err end) = IsRefusedOr taken written written' end
+abbrev pub AfterAnswer : {S A : Type 0} → Reaching S → List ℕ → List ℕ → Standing S → Option (List ℕ) → Option (List ℕ) → Result A End → Type 0
+AfterAnswer reached ending taken standing written written' (Ok u) = IsAnswered reached taken standing written written'
+AfterAnswer reached ending taken standing written written' (Err end) = IsRefusedOr reached ending taken written written' end
+
+-- all lines were answered, what is due was written, and the handler was closed
+pub record IsFinished {S : Type 0} (reached : Reaching S) (closed : S → S → Type 0) (lines : List (List ℕ)) (written written' : Option (List ℕ)) : Type 0 where
+  pub stands : S
+  pub leaves : S
+  pub text : List ℕ
+  pub wrote : Appends written written' text
+  pub good : reached lines stands text
+  pub close : closed stands leaves
 
 -- what holds after the last line was answered
-abbrev pub AfterFinish : List ℕ → Option (List ℕ) → Option (List ℕ) → End → Type 0
-AfterFinish taken written written' Done = (bad_in (lines_of taken) ≡ None) × Appends written written' (text_of (lines_of taken))
-AfterFinish taken written written' Usage = ⊥
-AfterFinish taken written written' ReadFault = ⊥
-AfterFinish taken written written' WriteFault = AppendsFront written written' (text_of (lines_of taken))
-AfterFinish taken written written' Memory = AppendsFront written written' (text_of (lines_of taken))
-AfterFinish taken written written' BadLine = IsSome (bad_in (lines_of taken)) × Appends written written' (text_of (lines_of taken))
-AfterFinish taken written written' Spent = ⊥
+abbrev pub AfterFinish : {S : Type 0} → Reaching S → (S → S → Type 0) → List ℕ → List ℕ → Option (List ℕ) → Option (List ℕ) → End → Type 0
+AfterFinish reached closed ending taken written written' Done = IsFinished reached closed (lines_of taken) written written'
+AfterFinish reached closed ending taken written written' Usage = ⊥
+AfterFinish reached closed ending taken written written' ReadFault = ⊥
+AfterFinish reached closed ending taken written written' WriteFault = PartIsWritten reached ending (lines_of taken) written written'
+AfterFinish reached closed ending taken written written' Memory = PartIsWritten reached ending (lines_of taken) written written'
+AfterFinish reached closed ending taken written written' BadLine = IsRefused reached ending (lines_of taken) written written'
+AfterFinish reached closed ending taken written written' Spent = ⊥

@@ -1,21 +1,41 @@
-//! The command `board`: reads the input to its end, and answers its lines as they come.
+//! The command `board`: a game answers the lines of the input.
 
-ghost use Rattle.std.specs.Prelude.{◌≡◌, ◌≢◌, ◌≤◌, ◌<◌, ◌+◌, ◌-◌, ◌^◌, ◌++◌, ℕ, List, length, IfErr};
-ghost use Rattle.std.specs.declared.option.Option.{Option};
-ghost use Rattle.std.specs.Io.KnownBytes.{Consumes, Appends, IsAtEnd};
 ghost use Rattle.edge_traits.specs.Faults.{Rose};
-ghost use Rattle.fics_server.specs.Ends.{BoardEnds, Came, OnReadFault, OnWriteFault, UsageEnds};
-ghost use Rattle.fics_server.specs.Progress.{Progress};
-ghost use Rattle.fics_server.specs.Reading.{AfterAnswer, AfterFinish, AfterSend, AfterSendLast};
+ghost use Rattle.fics_server.specs.Ends.{BoardEnds, OnReadFault, OnWriteFault};
 
+use crate::answer_lines::answer_lines;
 use crate::end::End;
-use crate::machine::Machine;
-use crate::stop::Stop;
-use edge_traits::{Got, Sent, Sink, Source};
+use crate::game::{END_OF_LINE, Game};
+use crate::line_handler::LineHandler;
+use edge_traits::{Sink, Source};
+use fics_words::NoMemory;
 use std::alloc::Global;
 
-/// The most reads of one run: 2^40.
-const MOST_READS: u64 = 1_099_511_627_776;
+impl LineHandler for Game {
+    ghost use Rattle.std.specs.Prelude.{◌≡◌, codes};
+    ghost use Rattle.fics_server.specs.Transcript.{IsPlayed};
+    ghost use Rattle.fics_server.specs.PlayedLines.{played_lines};
+
+    ghost reached = { IsPlayed };
+
+    ghost closed = { λ old new. new ≡ old };
+
+    ghost ending = { codes "\n\r" };
+
+    ghost lines = { played_lines };
+
+    fn turn(&mut self, line: &[u8], out: &mut Vec<u8>) -> Result<bool, NoMemory> {
+        self.make_turn(line, out)
+    }
+
+    fn close(&mut self) -> Result<(), NoMemory> {
+        Ok(())
+    }
+
+    fn ending(&self) -> &'static [u8] {
+        END_OF_LINE
+    }
+}
 
 /// Reads the source to its end, and writes what its lines give: one write a read.
 pub fn board<S: Source, K: Sink>(alloc: Global, source: &mut S, sink: &mut K) -> End
@@ -23,85 +43,8 @@ pub fn board<S: Source, K: Sink>(alloc: Global, source: &mut S, sink: &mut K) ->
     ensures read_cause { OnReadFault result (Rose (S.faults source.old) (S.faults source.new)) }
     ensures write_cause { OnWriteFault result (Rose (K.faults sink.old) (K.faults sink.new)) }
 {
-    let Ok(mut machine) = Machine::new(alloc) else {
+    let Ok(game) = Game::new(alloc) else {
         return End::Memory;
     };
-    let mut out = Vec::new(alloc);
-    let mut buf = [0; 1024];
-    'reads: for _ in 0..MOST_READS {
-        match source.read(&mut buf) {
-            Got::Bytes(n) => {
-                if let Err(end) = answer(&mut machine, &buf[..n], &mut out, sink) {
-                    return end;
-                }
-            }
-            Got::End => return finish(&mut machine, &mut out, sink),
-            Got::Failed => return End::ReadFault,
-        }
-    }
-    End::Spent
-}
-
-/// Feeds what one read gave, and writes what is due for it.
-fn answer<K: Sink>(
-    machine: &mut Machine,
-    piece: &[u8],
-    out: &mut Vec<u8>,
-    sink: &mut K,
-) -> Result<(), End>
-    requires { machine.old.number + length piece.now < 2 ^ 64 }
-    ensures answered { (taken text : List ℕ) (written : Option (List ℕ)) → Appends written (K.written sink.old) text → Progress taken machine.old text
-        → AfterAnswer (taken ++ piece.now) machine.new written (K.written sink.new) result }
-    ensures cause { IfErr result (λ end. OnWriteFault end (Rose (K.faults sink.old) (K.faults sink.new))) }
-    ensures counted { K.faults sink.old ≤ K.faults sink.new }
-{
-    out.clear();
-    match machine.feed(piece, out) {
-        Ok(()) => send(out.as_slice(), sink),
-        Err(Stop::BadLine) => Err(send_last(out.as_slice(), sink, End::BadLine)),
-        Err(Stop::Memory) => Err(End::Memory),
-    }
-}
-
-/// Answers the last line, behind which there is no line feed.
-fn finish<K: Sink>(machine: &mut Machine, out: &mut Vec<u8>, sink: &mut K) -> End
-    requires { machine.old.number < 2 ^ 64 - 1 }
-    ensures finished { (taken text : List ℕ) (written : Option (List ℕ)) → Appends written (K.written sink.old) text → Progress taken machine.old text
-        → AfterFinish taken written (K.written sink.new) result }
-    ensures cause { OnWriteFault result (Rose (K.faults sink.old) (K.faults sink.new)) }
-{
-    out.clear();
-    match machine.end_line(out) {
-        Ok(()) => send_last(out.as_slice(), sink, End::Done),
-        Err(Stop::BadLine) => send_last(out.as_slice(), sink, End::BadLine),
-        Err(Stop::Memory) => End::Memory,
-    }
-}
-
-/// Writes the last bytes: the given end comes where they are written.
-fn send_last<K: Sink>(bytes: &[u8], sink: &mut K, end: End) -> End
-    ensures sent { AfterSendLast (K.written sink.old) (K.written sink.new) bytes.now end result }
-    ensures cause { end ≢ End.WriteFault → OnWriteFault result (Rose (K.faults sink.old) (K.faults sink.new)) }
-    ensures counted { K.faults sink.old ≤ K.faults sink.new }
-{
-    match send(bytes, sink) {
-        Ok(()) => end,
-        Err(fault) => fault,
-    }
-}
-
-/// Writes the bytes, in one write; none makes no write.
-pub fn send<K: Sink>(bytes: &[u8], sink: &mut K) -> Result<(), End>
-    ensures sent { AfterSend (K.written sink.old) (K.written sink.new) bytes.now result }
-    ensures cause { IfErr result (λ end. OnWriteFault end (Rose (K.faults sink.old) (K.faults sink.new))) }
-    ensures counted { K.faults sink.old ≤ K.faults sink.new }
-{
-    if bytes.is_empty() {
-        return Ok(());
-    }
-    match sink.write(bytes) {
-        Sent::All => Ok(()),
-        Sent::Failed => Err(End::WriteFault),
-        Sent::Memory => Err(End::Memory),
-    }
+    answer_lines(alloc, game, source, sink)
 }

@@ -3,19 +3,20 @@
 
 ghost use Rattle.std.specs.Prelude.{◌≡◌, ◌++◌, OnOk, codes};
 ghost use Rattle.game_board.specs.Play.{play_after};
-ghost use Rattle.fics_server.specs.Game.{untimed, view_of, line_text, refusal_text, answer_to, is_outside, made};
+ghost use Rattle.fics_server.specs.Game.{untimed, view_of, line_text, answer_to, is_outside, made};
 
 use crate::move_form::read_squares;
 use crate::squares::Squares;
 use chess_model::{MoveWord, Terms, Variant};
-use fics_words::{Handle, NoMemory, Refusal, write_number};
+use fics_words::{Handle, NoMemory};
 use game_board::GameBoard;
+use session_core::put_refusal;
 use std::alloc::Global;
 use std::marker::Model;
 use style12_writer::{BoardView, Viewer, line12};
 
 /// The end of each line of `board`.
-const END_OF_LINE: &[u8] = b"\n\r";
+pub const END_OF_LINE: &[u8] = b"\n\r";
 
 /// A game from its start on; nobody's time runs.
 #[derive(Drop)]
@@ -49,7 +50,7 @@ impl Game {
 
     /// Makes the turn of a line, and appends what is written for it; false where the line is outside the grammar.
     /// After want of memory nothing is known of the game and of what was appended.
-    pub fn turn(&mut self, line: &[u8], out: &mut Vec<u8>) -> Result<bool, NoMemory>
+    pub fn make_turn(&mut self, line: &[u8], out: &mut Vec<u8>) -> Result<bool, NoMemory>
         ensures made { IfOk result (λ made. MatchOption (turn self.old line.now)
             ((made ≡ false) × (out.new.items ≡ out.old.items))
             (λ next. (made ≡ true) × (self.new ≡ next.0) × (out.new.items ≡ out.old.items ++ next.1))) }
@@ -78,7 +79,7 @@ fn untimed() -> Terms
 }
 
 /// Whether the squares stand for castling, or bring a pawn to its last rank.
-fn is_outside(board: &GameBoard, squares: &Squares) -> bool
+pub fn is_outside(board: &GameBoard, squares: &Squares) -> bool
     ensures { result ≡ is_outside board.now squares.now }
 {
     let position = board.position();
@@ -101,7 +102,7 @@ fn play(board: &mut GameBoard, squares: &Squares, out: &mut Vec<u8>) -> Result<(
     let colour = board.to_move();
     match board.play(colour, &word, 0) {
         Ok(_captured) => write_board(board, out),
-        Err(refusal) => write_refusal(refusal, out),
+        Err(refusal) => put_refusal(refusal, out),
     }
 }
 
@@ -134,18 +135,6 @@ fn view(board: &GameBoard) -> BoardView
         remaining: [0, 0],
         taken: board.time_taken(),
     }
-}
-
-/// Appends the line of a refusal.
-fn write_refusal(refusal: Refusal, out: &mut Vec<u8>) -> Result<(), NoMemory>
-    ensures { OnOk result (out.new.items ≡ out.old.items ++ refusal_text refusal) }
-{
-    out.extend_from_slice(b"refused ")?;
-    write_number(out, u64::from(refusal.number()))?;
-    out.extend_from_slice(b" ")?;
-    out.extend_from_slice(refusal.name().as_bytes())?;
-    out.extend_from_slice(END_OF_LINE)?;
-    Ok(())
 }
 
 /// The name of the player of White.

@@ -1,15 +1,19 @@
 //! The top call.
 
-ghost use Rattle.std.specs.Prelude.{◌≡◌, ◌⊎◌, ◌<◌, ◌^◌, [], ◌∷◌, None, true, false, length, IfSome, Contains};
+ghost use Rattle.std.specs.Prelude.{◌≡◌, ◌⊎◌, ◌<◌, ◌^◌, [], ◌∷◌, length, IfSome, Contains};
 ghost use Rattle.std.specs.Io.KnownBytes.{Appends, Keeps};
 ghost use Rattle.edge_traits.specs.Faults.{Rose};
-ghost use Rattle.fics_server.specs.Ends.{Answers, AnswersPart, StopsAtBadLine, Spends, WritesPart, UsageEnds, OnWriteFault};
+ghost use Rattle.fics_server.specs.Ends.{UsageEnds, OnReadFault, OnWriteFault};
 ghost use Rattle.fics_server.specs.Lines.{lines_of};
-ghost use Rattle.fics_server.specs.Transcript.{bad_in};
-ghost use Rattle.fics_server.specs.Words.{IsBoard, usage_line};
+ghost use Rattle.fics_server.specs.RunEnds.{AreGood, JobEnds, WritesPart};
+ghost use Rattle.fics_server.specs.Words.{Does, IsCommand, Names, usage_line};
+ghost use Rattle.fics_server.specs.declared.end.End.{End};
+ghost use Rattle.fics_server.specs.declared.words.Job.{Job};
 
-use crate::board::{board, send};
+use crate::answer_lines::send;
+use crate::board::board;
 use crate::end::{End, status};
+use crate::replay::replay;
 use crate::words::{Job, read_job};
 use edge_traits::{Keeper, Sink, Source};
 use std::alloc::Global;
@@ -26,25 +30,37 @@ pub fn run<S: Source, K: Sink, P: Keeper>(
     sink: &mut K,
     keeper: &mut P,
 ) -> u8
-    ensures answered { result ≡ 0 → IsBoard words.now × Answers (S.left source.old) (S.left source.new) (K.written sink.old) (K.written sink.new) true }
-    ensures usage { result ≡ 1 → ¬ (IsBoard words.now) × Keeps (S.left source.old) (S.left source.new) × Appends (K.written sink.old) (K.written sink.new) usage_line }
-    ensures no_command { ¬ (IsBoard words.now) → (result ≡ 1) ⊎ ((result ≡ 3) ⊎ (result ≡ 6)) }
+    ensures answered { result ≡ 0 → Does words.now (JobEnds (S.left source.old) (S.left source.new) (K.written sink.old) (K.written sink.new) End.Done) }
+    ensures usage { result ≡ 1 → ¬ (IsCommand words.now) × Keeps (S.left source.old) (S.left source.new) × Appends (K.written sink.old) (K.written sink.new) usage_line }
+    ensures no_command { ¬ (IsCommand words.now) → (result ≡ 1) ⊎ ((result ≡ 3) ⊎ (result ≡ 6)) }
     ensures read_fault { result ≡ 2 → Rose (S.faults source.old) (S.faults source.new) }
-    ensures read_part { result ≡ 2 → IsBoard words.now × Answers (S.left source.old) (S.left source.new) (K.written sink.old) (K.written sink.new) false }
+    ensures read_part { result ≡ 2 → Does words.now (JobEnds (S.left source.old) (S.left source.new) (K.written sink.old) (K.written sink.new) End.ReadFault) }
     ensures write_fault { result ≡ 3 → Rose (K.faults sink.old) (K.faults sink.new) }
-    ensures write_part { result ≡ 3 → WritesPart words.now (S.left source.old) (S.left source.new) (K.written sink.old) (K.written sink.new) }
-    ensures memory_part { result ≡ 6 → WritesPart words.now (S.left source.old) (S.left source.new) (K.written sink.old) (K.written sink.new) }
-    ensures bad_line { result ≡ 7 → IsBoard words.now × StopsAtBadLine (S.left source.old) (S.left source.new) (K.written sink.old) (K.written sink.new) }
-    ensures spent { result ≡ 9 → IsBoard words.now × Spends (S.left source.old) (S.left source.new) (K.written sink.old) (K.written sink.new) }
-    ensures complete { IsBoard words.now → ¬ (Rose (S.faults source.old) (S.faults source.new)) → ¬ (Rose (K.faults sink.old) (K.faults sink.new))
-        → IfSome (S.left source.old) (λ text. length text < 2 ^ 40 → bad_in (lines_of text) ≡ None → (result ≡ 0) ⊎ (result ≡ 6)) }
+    ensures write_part { result ≡ 3 → WritesPart words.now (S.left source.old) (S.left source.new) (K.written sink.old) (K.written sink.new) End.WriteFault }
+    ensures memory_part { result ≡ 6 → WritesPart words.now (S.left source.old) (S.left source.new) (K.written sink.old) (K.written sink.new) End.Memory }
+    ensures bad_line { result ≡ 7 → Does words.now (JobEnds (S.left source.old) (S.left source.new) (K.written sink.old) (K.written sink.new) End.BadLine) }
+    ensures spent { result ≡ 9 → Does words.now (JobEnds (S.left source.old) (S.left source.new) (K.written sink.old) (K.written sink.new) End.Spent) }
+    ensures complete { (job : Job) → Names words.now job → ¬ (Rose (S.faults source.old) (S.faults source.new)) → ¬ (Rose (K.faults sink.old) (K.faults sink.new))
+        → IfSome (S.left source.old) (λ text. length text < 2 ^ 40 → AreGood (lines_of text) job → (result ≡ 0) ⊎ (result ≡ 6)) }
     ensures statuses { Contains (0 ∷ 1 ∷ 2 ∷ 3 ∷ 6 ∷ 7 ∷ 9 ∷ []) result }
     ensures keeper_stays { keeper.new ≡ keeper.old }
 {
-    let Some(Job::Board) = read_job(words) else {
+    let Some(job) = read_job(words) else {
         return status(tell_usage(sink));
     };
-    status(board(alloc, source, sink))
+    status(run_job(alloc, job, source, sink))
+}
+
+/// Runs a command.
+fn run_job<S: Source, K: Sink>(alloc: Global, job: Job, source: &mut S, sink: &mut K) -> End
+    ensures ends { JobEnds (S.left source.old) (S.left source.new) (K.written sink.old) (K.written sink.new) result job }
+    ensures read_cause { OnReadFault result (Rose (S.faults source.old) (S.faults source.new)) }
+    ensures write_cause { OnWriteFault result (Rose (K.faults sink.old) (K.faults sink.new)) }
+{
+    match job {
+        Job::Board => board(alloc, source, sink),
+        Job::Replay => replay(alloc, source, sink),
+    }
 }
 
 /// Writes how the program is called.

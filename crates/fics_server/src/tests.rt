@@ -3,6 +3,9 @@
 ghost use Rattle.std.specs.Prelude.{◌≤◌};
 
 mod known_games;
+mod replay_clocks;
+mod replay_ends;
+mod replays;
 
 use crate::run::run;
 use edge_traits::{MemKeeper, MemSink, MemSource};

@@ -10,8 +10,14 @@ only [] x one is = absurd (omega arith)
 only (y ∷ []) x one is = ap (λ z. z ∷ []) (sym is)
 only (y ∷ z ∷ zs) x one is = absurd (omega arith)
 
-pub returns-then-eq-clause-board : goal.returns-then-eq-clause-board
-returns-then-eq-clause-board c =
+pub returns-then-eq-clause-command : goal.returns-then-eq-clause-command
+returns-then-eq-clause-command c =
     let word = c.index-words-0.result in
-    let text = (bytes_eq-Decides c.as_str.result.now (codes "board")).0 (sym c.eq.ensures ∙ c.if-eq.true) in
-    ap (map string_bytes) (only c.args.words.now word c.if-words-eq1.true c.index-words-0.is) ∙ ap (λ l. l ∷ []) (sym c.as_str.ensures.value ∙ text)
+    let text = (bytes_eq-Decides c.as_str-word.result.now (codes "board")).0 (sym c.eq.ensures ∙ c.if-eq.true) in
+    ap (map string_bytes) (only c.args.words.now word (omega (arith, c.if-words-ne1.false)) c.index-words-0.is) ∙ ap (λ l. l ∷ []) (sym c.as_str-word.ensures.value ∙ text)
+
+pub returns-then-eq-2-clause-command : goal.returns-then-eq-2-clause-command
+returns-then-eq-2-clause-command c =
+    let word = c.index-words-0.result in
+    let text = (bytes_eq-Decides c.as_str-word.result.now (codes "replay")).0 (sym c.eq-2.ensures ∙ c.if-eq-2.true) in
+    ap (map string_bytes) (only c.args.words.now word (omega (arith, c.if-words-ne1.false)) c.index-words-0.is) ∙ ap (λ l. l ∷ []) (sym c.as_str-word.ensures.value ∙ text)

@@ -3,7 +3,7 @@ use Rattle.fics_server.specs.Progress.{Progress}
 use Rattle.fics_server.proofs.machine.Machine.feed.Given as goal
 
 abbrev pub invariant-loop-byte : goal.invariant-loop-byte
-invariant-loop-byte l = record {
+invariant-loop-byte g l = record {
   count : l.self.number ≤ l.initial.self.number + l.byte-index;
-  fed : (taken base : List ℕ) → Progress taken l.initial.self (base ++ l.initial.out.items) → Progress (taken ++ take l.byte-index l.piece) l.self (base ++ l.out.items);
+  fed : (taken base : List ℕ) → Progress g.T.LineHandler.reached taken l.initial.self (base ++ l.initial.out.items) → Progress g.T.LineHandler.reached (taken ++ take l.byte-index l.piece) l.self (base ++ l.out.items);
 }

@@ -3,7 +3,7 @@ use Rattle.game_board.specs.Board.{Board}
 use Rattle.fics_server.specs.MoveForm.{squares_of}
 use Rattle.fics_server.specs.Game.{answer_to, is_outside, made}
 use Rattle.fics_server.proofs.Turns.{turn-no_word, turn-outside, turn-made}
-use Rattle.fics_server.proofs.game.Game.turn.Goals as goal
+use Rattle.fics_server.proofs.game.Game.make_turn.Goals as goal
 
 pub returns-in_default : goal.returns-in_default
 returns-in_default c =

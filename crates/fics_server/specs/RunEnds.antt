@@ -1,0 +1,27 @@
+-- How a run of the program ends, by the command that its words name.
+use Rattle.std.specs.Prelude.{◌≡◌, ℕ, List, filter, map, None, Option, String}
+use Rattle.std.specs.declared.alloc.Global.{Global}
+use Rattle.fics_server.specs.Ends.{BoardEnds, UsagePart}
+use Rattle.fics_server.specs.Evening.{Row, IsEvening, is_written, line_of}
+use Rattle.fics_server.specs.ReplayEnds.{ReplayEnds}
+use Rattle.fics_server.specs.Transcript.{bad_in}
+use Rattle.fics_server.specs.Words.{IsCommand, Names}
+use Rattle.fics_server.specs.declared.end.End.{End}
+use Rattle.fics_server.specs.declared.words.Job.{Job}
+use Rattle.fics_server.specs.declared.words.Job.TheVariants.{Board, Replay}
+
+-- how a command ends
+abbrev pub JobEnds : Option (List ℕ) → Option (List ℕ) → Option (List ℕ) → Option (List ℕ) → End → Job → Type 0
+JobEnds left left' written written' end Board = BoardEnds left left' written written' end
+JobEnds left left' written written' end Replay = ReplayEnds left left' written written' end
+
+-- a front of what would have been written, at a fault of writing or for want of memory: of a command's text, or of the
+-- usage line
+abbrev pub WritesPart : List (String Global) → Option (List ℕ) → Option (List ℕ) → Option (List ℕ) → Option (List ℕ) → End → Type 0
+WritesPart words left left' written written' end =
+    ((job : Job) → Names words job → JobEnds left left' written written' end job) × (¬ (IsCommand words) → UsagePart left left' written written')
+
+-- all lines are in the command's grammar: none is bad, or they are those of an evening
+abbrev pub AreGood : List (List ℕ) → Job → Type 0
+AreGood lines Board = bad_in lines ≡ None
+AreGood lines Replay = (rows : List Row) × IsEvening rows × (filter is_written lines ≡ map line_of rows)

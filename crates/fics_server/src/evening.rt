@@ -1,0 +1,244 @@
+//! An evening: what the lines of a script make of one server.
+
+ghost use Rattle.std.specs.Prelude.{◌≡◌, ◌≢◌, ◌≤◌, ◌<◌, ◌^◌, [], IfOk, IfNone, IfSome, OnOk};
+ghost use Rattle.chess_model.specs.declared.variant.Variant.TheVariants.{Chess};
+ghost use Rattle.replay_core.specs.SeatLine.{IsSeatLine, seat_text};
+ghost use Rattle.replay_core.specs.declared.seat_line.SeatLine.{SeatLine};
+ghost use Rattle.session_core.specs.Session.{leaving};
+ghost use Rattle.one_server.specs.Server.{parts_in};
+ghost use Rattle.fics_server.specs.Evening.{AfterLeaving, HasAnswered, HasFollowed, IsNext, IsNoNext};
+
+use crate::grammar::read_input;
+use crate::line_handler::LineHandler;
+use crate::seating::seat;
+use crate::tagged::put_tagged;
+use crate::waiting::is_beyond_grammar;
+use chess_model::Variant;
+use fics_words::{Line, NoMemory};
+use lobby_state::Lobby;
+use one_server::OneServer;
+use replay_core::{Progress, ScriptLine, SeatLine, read_script, read_seat};
+use session_core::{Input, leave, take};
+use std::alloc::Global;
+use std::marker::Model;
+
+/// How many sessions a seat line seats.
+const SEATS: u32 = 2;
+
+/// The most sessions that a script may have.
+const SESSIONS: u32 = 64;
+
+/// One server, and how far a script has come: nowhere before its seat line. Contracts see the server, the order of the
+/// lines, and the moment of the last of them.
+#[derive(Drop)]
+pub struct Evening {
+    alloc: Global,
+    server: OneServer,
+    order: Option<Progress>,
+    moment: u64,
+}
+
+impl Model for Evening {
+    ghost use Rattle.std.specs.Prelude.{◌≤◌, ◌^◌};
+    ghost use Rattle.fics_server.specs.Evening.{EveningState};
+
+    ghost Value = { EveningState };
+
+    ghost view = { λ evening. record { server = evening.server; order = evening.order; moment = evening.moment } };
+
+    ghost invariant = { λ evening. evening.moment ≤ 2 ^ 48 };
+}
+
+impl Evening {
+    ghost use Rattle.std.specs.Prelude.{◌≡◌, ◌<◌, [], ℕ, List, None, Some, IfOk, length};
+    ghost use Rattle.fics_words.specs.Line.{IsLine};
+    ghost use Rattle.fics_server.specs.Evening.{Reached};
+    ghost use Rattle.fics_server.specs.Handling.{AfterTurn};
+
+    /// An evening before its first line.
+    #[tactic(auto, using(one_server::proofs::Opens::opening_is))]
+    pub fn new(alloc: Global) -> Result<Evening, NoMemory>
+        ensures { IfOk result (λ evening. Reached [] evening []) }
+    {
+        Ok(Evening {
+            alloc,
+            server: OneServer::new(alloc, Lobby::new(alloc)?)?,
+            order: None,
+            moment: 0,
+        })
+    }
+
+    /// Seats the players of the seat line; false where the line is none of chess.
+    fn seat_turn(&mut self, line: &Line) -> Result<bool, NoMemory>
+        requires first { self.old.order ≡ None }
+        requires some { 0 < length line.now }
+        requires line { IsLine line.now }
+        ensures { (out : List ℕ) → IfOk result (λ good. AfterTurn Reached self.old line.now out self.new out good) }
+    {
+        let Some(seats) = read_chess_seat(self.alloc, line)? else {
+            return Ok(false);
+        };
+        seat(&mut self.server, &seats)?;
+        let _history = self.server.history();
+        self.order = Some(Progress::new(SEATS));
+        Ok(true)
+    }
+
+    /// Makes a session answer its line; false where the line is outside the grammar.
+    fn session_turn(
+        &mut self,
+        order: Progress,
+        line: &Line,
+        out: &mut Vec<u8>,
+    ) -> Result<bool, NoMemory>
+        requires order { self.old.order ≡ Some order }
+        requires some { 0 < length line.now }
+        requires line { IsLine line.now }
+        ensures { IfOk result (λ good. AfterTurn Reached self.old line.now out.old.items self.new out.new.items good) }
+    {
+        let Some((next, input)) = read_next(self.alloc, &self.server, &order, line)? else {
+            return Ok(false);
+        };
+        answer_input(
+            self.alloc,
+            &mut self.server,
+            next.session,
+            next.moment,
+            &input,
+            out,
+        )?;
+        let _history = self.server.history();
+        let mut order = order;
+        order.note(&next, false);
+        self.order = Some(order);
+        self.moment = next.moment;
+        Ok(true)
+    }
+}
+
+impl LineHandler for Evening {
+    ghost use Rattle.std.specs.Prelude.{codes};
+    ghost use Rattle.fics_server.specs.Evening.{IsClosed, Reached};
+    ghost use Rattle.fics_server.specs.EveningLines.{reached_lines};
+
+    ghost reached = { Reached };
+
+    ghost closed = { IsClosed };
+
+    ghost ending = { codes "\n" };
+
+    ghost lines = { reached_lines };
+
+    fn turn(&mut self, line: &[u8], out: &mut Vec<u8>) -> Result<bool, NoMemory> {
+        let Some(line) = Line::read(self.alloc, line)? else {
+            return Ok(false);
+        };
+        match self.order {
+            None => self.seat_turn(&line),
+            Some(order) => self.session_turn(order, &line, out),
+        }
+    }
+
+    fn close(&mut self) -> Result<(), NoMemory> {
+        let Some(order) = self.order else {
+            return Ok(());
+        };
+        close_sessions(self.alloc, &mut self.server, &order, self.moment)?;
+        let _history = self.server.history();
+        Ok(())
+    }
+
+    fn ending(&self) -> &'static [u8] {
+        b"\n"
+    }
+}
+
+/// Reads the line of a session that may come next; none where the line isn't in the grammar here.
+fn read_next(
+    alloc: Global,
+    server: &OneServer,
+    order: &Progress,
+    line: &Line,
+) -> Result<Option<(ScriptLine, Input)>, NoMemory>
+    ensures next { IfOk result (λ read. IfSome read (λ next. IsNext order.now (parts_in server.now) line.now next.0 next.1)) }
+    ensures none { IfOk result (λ read. IfNone read (IsNoNext order.now (parts_in server.now) line.now)) }
+{
+    let Some(next) = read_script(alloc, line)? else {
+        return Ok(None);
+    };
+    if !order.may_come(&next) {
+        return Ok(None);
+    }
+    let Some(input) = read_input(&next.event) else {
+        return Ok(None);
+    };
+    if is_beyond_grammar(server, next.session, &input) {
+        return Ok(None);
+    }
+    Ok(Some((next, input)))
+}
+
+/// Makes those sessions leave that are here, in the order of their numbers.
+fn close_sessions(
+    alloc: Global,
+    server: &mut OneServer,
+    order: &Progress,
+    moment: u64,
+) -> Result<(), NoMemory>
+    requires { moment ≤ 2 ^ 48 }
+    ensures { OnOk result (AfterLeaving order.now moment 64 server.old server.new) }
+{
+    for place in 0..SESSIONS {
+        let session = place + 1;
+        if order.is_here(session) {
+            leave_server(alloc, server, session, moment)?;
+        }
+    }
+    Ok(())
+}
+
+/// Makes a session answer an input, and appends what it writes under the session's number.
+fn answer_input(
+    alloc: Global,
+    server: &mut OneServer,
+    session: u32,
+    moment: u64,
+    input: &Input,
+    out: &mut Vec<u8>,
+) -> Result<(), NoMemory>
+    requires { moment ≤ 2 ^ 48 }
+    ensures { OnOk result (HasAnswered session moment input.now server.old out.old.items server.new out.new.items) }
+{
+    let mut bytes = Vec::new(alloc);
+    take(alloc, &mut server.seat(session), moment, input, &mut bytes)?;
+    put_tagged(session, bytes.as_slice(), out)
+}
+
+/// Makes a session leave.
+fn leave_server(
+    alloc: Global,
+    server: &mut OneServer,
+    session: u32,
+    moment: u64,
+) -> Result<(), NoMemory>
+    requires { moment ≤ 2 ^ 48 }
+    ensures { OnOk result (HasFollowed leaving session moment [] server.old server.new) }
+{
+    leave(alloc, &mut server.seat(session), moment)
+}
+
+/// Reads the seat line of two players of chess.
+fn read_chess_seat(alloc: Global, line: &Line) -> Result<Option<SeatLine>, NoMemory>
+    ensures spelled { IfOk result (λ read. IfSome read (λ seat. line.now ≡ seat_text seat)) }
+    ensures in_range { IfOk result (λ read. IfSome read IsSeatLine) }
+    ensures chess { IfOk result (λ read. IfSome read (λ seat. seat.terms.variant ≡ Chess)) }
+    ensures none { IfOk result (λ read. IfNone read ((seat : SeatLine) → IsSeatLine seat → seat.terms.variant ≡ Chess → line.now ≢ seat_text seat)) }
+{
+    let Some(seat) = read_seat(alloc, line)? else {
+        return Ok(None);
+    };
+    match seat.terms.variant {
+        Variant::Chess => Ok(Some(seat)),
+        _ => Ok(None),
+    }
+}
