@@ -66,13 +66,3 @@ status-listed WriteFault = (3, omega arith, refl)
 status-listed Memory = (4, omega arith, refl)
 status-listed BadLine = (5, omega arith, refl)
 status-listed Spent = (6, omega arith, refl)
-
--- the reads are spent where the status says so
-pub spends_at : (left left' written written' : Option (List ℕ)) (end : End) → BoardEnds left left' written written' end → status_of end ≡ 9 → Spends left left' written written'
-spends_at left left' written written' Done h e = absurd (omega arith)
-spends_at left left' written written' Usage h e = absurd (omega arith)
-spends_at left left' written written' ReadFault h e = absurd (omega arith)
-spends_at left left' written written' WriteFault h e = absurd (omega arith)
-spends_at left left' written written' Memory h e = absurd (omega arith)
-spends_at left left' written written' BadLine h e = absurd (omega arith)
-spends_at left left' written written' Spent h e = h

@@ -3,7 +3,7 @@ pub mod BoardLines
 pub mod Completeness
 pub mod EveningTurns
 pub mod Feeding
-pub mod HandlerCompleteness
+pub mod HandlerLines
 pub mod Leaving
 pub mod MoveWords
 pub mod Names

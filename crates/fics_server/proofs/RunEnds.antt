@@ -18,7 +18,7 @@ use Rattle.fics_server.specs.declared.end.End.TheVariants.{Done, Usage, ReadFaul
 use Rattle.fics_server.specs.declared.words.Job.{Job}
 use Rattle.fics_server.specs.declared.words.Job.TheVariants.{Board, Replay}
 use Rattle.fics_server.proofs.Completeness.{is_complete}
-use Rattle.fics_server.proofs.HandlerCompleteness.{never_stopped}
+use Rattle.fics_server.proofs.HandlerLines.{never_stopped}
 use Rattle.histories.specs.History.{Legal}
 use Rattle.histories.proofs.Histories.{legal-append}
 use Rattle.one_server.specs.House.{house}

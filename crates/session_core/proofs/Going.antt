@@ -123,11 +123,6 @@ module _ (opening : List Part) (number : ℕ) (is_alone : Bool) (moment : ℕ) w
     appended = q.appended ∙ ap (λ (l : List ℕ). l ++ q.put) p.appended ∙ append_assoc out p.put q.put;
   }
 
-  -- what is known after that
-  pub went_known : (one two : Script) (seen made : Log) (out : List ℕ) (seen' made' : Log) (out' : List ℕ) → Went opening number is_alone one two moment seen made out seen' made' out'
-      → IsKnown opening number seen' made'
-  went_known one two seen made out seen' made' out' p = p.grew.known
-
   -- the end of the script, and the answer that is made of its text
   pub answered : (script : Script) (answer : List ℕ → List ℕ) (seen made : Log) (start out : List ℕ) (seen' made' : Log) (end out' : List ℕ)
       → (w : Went opening number is_alone script Done moment seen made start seen' made' end) → out' ≡ out ++ answer w.put
