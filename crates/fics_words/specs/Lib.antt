@@ -1,3 +1,4 @@
+pub mod Effect
 pub mod Handle
 pub mod Line
 pub mod Number
