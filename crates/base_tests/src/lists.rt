@@ -1,5 +1,5 @@
 //! Each call of the lists once where there is memory, with figures by hand.
-use collections::{Change, Listed, Reserved, Roomy, Test, find, position};
+use collections::{Change, Listed, Reserved, Roomy, Predicate, find, position};
 use memory::{Duplicate, NoMemory};
 use std::alloc::Global;
 use std::test::Fail;
@@ -20,7 +20,7 @@ impl Duplicate for Card {
 #[derive(Clone, Copy)]
 struct AtLeast(u32);
 
-impl Test<Card> for AtLeast {
+impl Predicate<Card> for AtLeast {
     ghost use Rattle.std.specs.Prelude.{nat_le};
 
     ghost passes = { λ least card. nat_le least.0 card.number };

@@ -2,7 +2,7 @@
 ghost use Rattle.std.specs.Prelude.{◌≡◌, ◌≤◌, map, vec_capacity, vec_len};
 ghost use Rattle.std.specs.List.{filter};
 
-use crate::tests::Test;
+use crate::predicates::Predicate;
 
 /// Something that is done to an item, with one outcome for each item.
 pub trait Change<T> {
@@ -24,7 +24,7 @@ pub(crate) fn change_each<T, C: Change<T>>(items: &mut [T], change: &C)
 }
 
 /// Keeps the items that pass `test`, in their order, and the block that they lie in.
-pub(crate) fn retain<T: Drop, P: Test<T>>(items: &mut Vec<T>, test: &P)
+pub(crate) fn retain<T: Drop, P: Predicate<T>>(items: &mut Vec<T>, test: &P)
     ensures kept { items.new.items ≡ filter (P.passes test.now) items.old.items }
     ensures bound { vec_len items.new ≤ vec_len items.old }
     ensures capacity { vec_capacity items.new ≡ vec_capacity items.old }

@@ -6,7 +6,7 @@
 //!
 //! - `Listed` takes memory as it grows. `Roomy` has its room from the start, and `Reserved` the room that was last
 //!   reserved: a push into either takes no memory.
-//! - A `Test` and a `Change` are small types with one method each. Finding, keeping and changing by them, and copying
+//! - A `Predicate` and a `Change` are small types with one method each. Finding, keeping and changing by them, and copying
 //!   by `Duplicate`, are loops that are proved here once.
 //! - The contract: each call says which list stands afterwards, and want of memory leaves everything as it was.
 #![tactic(auto)]
@@ -16,10 +16,10 @@ mod copies;
 mod list;
 mod reserve;
 mod room;
-mod tests;
+mod predicates;
 
 pub use changes::Change;
 pub use list::Listed;
 pub use reserve::Reserved;
 pub use room::Roomy;
-pub use tests::{Test, find, position};
+pub use predicates::{Predicate, find, position};

@@ -7,7 +7,7 @@ ghost use Rattle.std.specs.Borrow.{sem};
 use crate::changes::{self, Change};
 use crate::copies::duplicates;
 use crate::list::Listed;
-use crate::tests::Test;
+use crate::predicates::Predicate;
 use memory::{Duplicate, NoMemory};
 use std::alloc::Global;
 use std::marker::Model;
@@ -146,7 +146,7 @@ impl<T: Drop> Reserved<T> {
     }
 
     /// Keeps the items that pass `test`, in their order.
-    pub fn retain<P: Test<T>>(&mut self, test: &P)
+    pub fn retain<P: Predicate<T>>(&mut self, test: &P)
         ensures { self.new ≡ record self.old { items = filter (P.passes test.now) self.old.items } }
     {
         changes::retain(&mut self.items, test);

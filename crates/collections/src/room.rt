@@ -8,7 +8,7 @@ ghost use Rattle.std.specs.Cmp.Lexicographic.{pointwise, lists_per, lists_equiv}
 use crate::changes::{self, Change};
 use crate::copies::duplicates;
 use crate::list::Listed;
-use crate::tests::Test;
+use crate::predicates::Predicate;
 use memory::{Duplicate, NoMemory};
 use std::alloc::Global;
 use std::marker::Model;
@@ -135,7 +135,7 @@ impl<T: Drop, const N: usize> Roomy<T, N> {
     }
 
     /// Keeps the items that pass `test`, in their order.
-    pub fn retain<P: Test<T>>(&mut self, test: &P)
+    pub fn retain<P: Predicate<T>>(&mut self, test: &P)
         ensures { self.new ≡ filter (P.passes test.now) self.old }
     {
         changes::retain(&mut self.items, test);

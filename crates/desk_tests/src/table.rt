@@ -1,7 +1,7 @@
 //! A desk with two players, and what the tests ask of it.
 
 use chess_model::{MoveWord, Square, Terms, Variant};
-use fics_words::{Fail, Handle, Refusal, Seat};
+use fics_words::{Fail, Handle, Refusal, Player};
 use linked_desk::{Desk, DeskAct, DeskReply, Ended, Item};
 use std::alloc::Global;
 use std::process::Abort;
@@ -13,8 +13,8 @@ pub const ANN: u32 = 1;
 
 pub const BEN: u32 = 2;
 
-fn player(rt: &impl Abort, session: u32, name: &str) -> Seat {
-    Seat {
+fn player(rt: &impl Abort, session: u32, name: &str) -> Player {
+    Player {
         session,
         name: Handle::read(name.as_bytes()).expect(rt, "a handle"),
         registered: false,

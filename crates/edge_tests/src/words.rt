@@ -1,7 +1,7 @@
 //! Handles, lines, decimals and refusals, at values chosen by hand.
 
 use fics_words::{
-    Account, Duplicate, Fail, Handle, Line, NoMemory, Refusal, Seat, read_number, write_number,
+    Account, Duplicate, Fail, Handle, Line, NoMemory, Refusal, Player, read_number, write_number,
 };
 use std::test::Fail as TestFail;
 
@@ -145,7 +145,7 @@ fn copies_players(rt: HostRuntime) -> Result<(), TestFail> {
         digest: [7; 32],
     };
     assert!(rt; account.duplicate()? == account);
-    let seat = Seat {
+    let seat = Player {
         session: 5,
         name,
         registered: true,

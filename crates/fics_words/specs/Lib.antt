@@ -3,3 +3,4 @@ pub mod Handle
 pub mod Line
 pub mod Number
 pub mod Refusal
+pub mod Seats

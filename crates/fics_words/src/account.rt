@@ -1,4 +1,4 @@
-//! Registered players, and players in their seats.
+//! Registered players.
 
 ghost use Rattle.std.specs.Prelude.{◌≡◌};
 
@@ -15,26 +15,9 @@ pub struct Account {
     pub digest: Digest,
 }
 
-/// A player at a board: the session that plays, under which name, and whether the name has an account.
-#[derive(Clone, Copy, Debug, PartialEq, Eq)]
-pub struct Seat {
-    pub session: u32,
-    pub name: Handle,
-    pub registered: bool,
-}
-
 impl Duplicate for Account {
     /// Takes no memory.
     fn duplicate(&self) -> Result<Account, NoMemory>
-        ensures { result ≡ Ok self.now }
-    {
-        Ok(*self)
-    }
-}
-
-impl Duplicate for Seat {
-    /// Takes no memory.
-    fn duplicate(&self) -> Result<Seat, NoMemory>
         ensures { result ≡ Ok self.now }
     {
         Ok(*self)

@@ -1,5 +1,5 @@
 //! The words that every part of the server shares: refusals with their numbers and names, failures, handles
-//! of players, lines of text, decimals, accounts and seats.
+//! of players, lines of text, decimals, accounts and players.
 //!
 //! The contract: a reader gives a value exactly where its grammar has one, and the value stands for the very
 //! bytes that were read; a refusal has one number and one name; a call that takes memory answers its error
@@ -11,12 +11,16 @@ mod fail;
 mod handle;
 mod line;
 mod number;
+mod player;
 mod refusal;
+mod seats;
 
-pub use account::{Account, Digest, Seat};
+pub use account::{Account, Digest};
 pub use fail::Fail;
 pub use handle::{Handle, HandleKey};
 pub use line::Line;
 pub use memory::{Duplicate, NoMemory};
 pub use number::{read_number, write_number};
+pub use player::Player;
 pub use refusal::Refusal;
+pub use seats::{Opponents, Seats};

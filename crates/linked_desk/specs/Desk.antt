@@ -5,7 +5,7 @@ use Rattle.std.specs.Option.{option_map, option_and_then, option_map_or}
 use Rattle.chess_model.specs.declared.man.Colour.{Colour}
 use Rattle.chess_model.specs.declared.man.Colour.TheVariants.{White, Black}
 use Rattle.chess_model.specs.declared.variant.Terms.{Terms}
-use Rattle.fics_words.specs.declared.account.Seat.{Seat}
+use Rattle.fics_words.specs.declared.player.Player.{Player}
 use Rattle.style12_writer.specs.declared.item.Item.{Item}
 use Rattle.game_board.specs.Board.{Board}
 use Rattle.linked_desk.specs.declared.cursor.Cursor.{Cursor}
@@ -14,8 +14,8 @@ use Rattle.linked_desk.specs.declared.ended.Ended.{Ended}
 -- a game at a desk
 pub record GameState : Type 0 where
   pub serial : ℕ
-  pub white : Seat
-  pub black : Seat
+  pub white : Player
+  pub black : Player
   pub board : Board
   -- what the viewers are told, the oldest first
   pub feed : List Item
@@ -81,8 +81,8 @@ items_for d session = option_map_or (λ (g : GameState). ahead_of g session) d.g
 pub record Occupant : Type 0 where
   pub serial : ℕ
   pub terms : Terms
-  pub white : Seat
-  pub black : Seat
+  pub white : Player
+  pub black : Player
 
 -- who plays a game
 abbrev pub occupant : GameState → Occupant

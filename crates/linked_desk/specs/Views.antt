@@ -1,7 +1,7 @@
 -- What is shown of a game: its board line, and the feed with one item more.
 use Rattle.std.specs.Prelude.{ℕ, [], ◌∷◌, ◌++◌}
 use Rattle.chess_model.specs.declared.man.Colour.TheVariants.{White, Black}
-use Rattle.fics_words.specs.declared.account.Seat.{Seat}
+use Rattle.fics_words.specs.declared.player.Player.{Player}
 use Rattle.style12_writer.specs.declared.item.Item.{Item}
 use Rattle.style12_writer.specs.declared.item.Item.TheVariants as item
 use Rattle.style12_writer.specs.declared.view.BoardView.{BoardView}
@@ -11,7 +11,7 @@ use Rattle.game_board.specs.Charges.{remaining_of}
 use Rattle.linked_desk.specs.Desk.{GameState, game_number}
 
 -- all that the board line of a game shows: the clocks are the ledgers', without time that is running
-unfoldable pub view_of : ℕ → Seat → Seat → Board → BoardView
+unfoldable pub view_of : ℕ → Player → Player → Board → BoardView
 view_of desk white black board = record {
   face = board_face board;
   game = game_number desk;

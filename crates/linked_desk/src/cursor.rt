@@ -1,7 +1,7 @@
 //! A viewer of a game, and how it is found.
 ghost use Rattle.std.specs.Prelude.{◌==◌, not};
 
-use collections::{Change, Test};
+use collections::{Change, Predicate};
 
 /// A viewer of a game: its session, and how many items of the feed it has been given.
 #[derive(Clone, Copy, Debug, PartialEq, Eq)]
@@ -14,7 +14,7 @@ pub struct Cursor {
 #[derive(Clone, Copy)]
 pub(crate) struct OfSession(pub(crate) u32);
 
-impl Test<Cursor> for OfSession {
+impl Predicate<Cursor> for OfSession {
     ghost passes = { λ test cursor. cursor.session == test.0 };
 
     fn passes(&self, cursor: &Cursor) -> bool {
@@ -26,7 +26,7 @@ impl Test<Cursor> for OfSession {
 #[derive(Clone, Copy)]
 pub(crate) struct OfOthers(pub(crate) u32);
 
-impl Test<Cursor> for OfOthers {
+impl Predicate<Cursor> for OfOthers {
     ghost passes = { λ test cursor. not (cursor.session == test.0) };
 
     fn passes(&self, cursor: &Cursor) -> bool {

@@ -10,7 +10,7 @@ use crate::ended::Ended;
 use crate::game::Game;
 use crate::seating::opened;
 use chess_model::Terms;
-use fics_words::{Fail, NoMemory, Seat};
+use fics_words::{Fail, NoMemory, Player};
 use game_board::GameBoard;
 use std::alloc::Global;
 use std::marker::Model;
@@ -58,8 +58,8 @@ impl Desk {
         alloc: Global,
         serial: u64,
         terms: Terms,
-        white: Seat,
-        black: Seat,
+        white: Player,
+        black: Player,
         moment: u64,
     ) -> Result<(), NoMemory>
         requires vacant { self.old.game ≡ None }

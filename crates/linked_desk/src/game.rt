@@ -5,7 +5,7 @@ use crate::cursor::{Cursor, OfSession};
 use crate::ended::Ended;
 use chess_model::Colour;
 use collections::{Listed, Reserved, find};
-use fics_words::Seat;
+use fics_words::Player;
 use game_board::GameBoard;
 use std::alloc::Global;
 use std::marker::Model;
@@ -19,8 +19,8 @@ pub(crate) const ROOM_TO_END: usize = 4;
 pub(crate) struct Game {
     pub(crate) alloc: Global,
     pub(crate) serial: u64,
-    pub(crate) white: Seat,
-    pub(crate) black: Seat,
+    pub(crate) white: Player,
+    pub(crate) black: Player,
     pub(crate) board: GameBoard,
     pub(crate) feed: Reserved<Item>,
     pub(crate) viewers: Listed<Cursor>,

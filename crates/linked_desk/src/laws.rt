@@ -1,7 +1,7 @@
 //! What the table of acts keeps, as a call that does nothing: what it ensures is the law.
 ghost use Rattle.std.specs.Prelude.{◌≡◌, ℕ, Some};
 ghost use Rattle.chess_model.specs.declared.variant.Terms.{Terms};
-ghost use Rattle.fics_words.specs.declared.account.Seat.{Seat};
+ghost use Rattle.fics_words.specs.declared.player.Player.{Player};
 ghost use Rattle.linked_desk.specs.declared.acts.DeskAct.{DeskAct};
 ghost use Rattle.linked_desk.specs.Desk.{DeskState, occupant_of};
 ghost use Rattle.linked_desk.specs.Seating.{seated};
@@ -12,6 +12,6 @@ ghost use Rattle.linked_desk.specs.Acts.{desk_after};
 pub fn acts_keep_the_players()
     ensures number { (d : DeskState) (session moment serial : ℕ) (a : DeskAct) → (desk_after d session moment serial a).number ≡ d.number }
     ensures players { (d : DeskState) (session moment serial : ℕ) (a : DeskAct) → occupant_of (desk_after d session moment serial a) ≡ occupant_of d }
-    ensures seated { (d : DeskState) (serial : ℕ) (terms : Terms) (white black : Seat) (moment : ℕ) →
+    ensures seated { (d : DeskState) (serial : ℕ) (terms : Terms) (white black : Player) (moment : ℕ) →
         occupant_of (seated d serial terms white black moment) ≡ Some (record { serial = serial; terms = terms; white = white; black = black }) }
 {}

@@ -7,7 +7,7 @@ use crate::game::{Game, ROOM_TO_END};
 use crate::views::{game_number, view_of};
 use chess_model::Terms;
 use collections::{Listed, Reserved};
-use fics_words::{NoMemory, Seat};
+use fics_words::{NoMemory, Player};
 use game_board::GameBoard;
 use std::alloc::Global;
 use style12_writer::{Item, created_line};
@@ -18,8 +18,8 @@ pub(crate) fn opened(
     desk: u8,
     serial: u64,
     terms: Terms,
-    white: Seat,
-    black: Seat,
+    white: Player,
+    black: Player,
     moment: u64,
 ) -> Result<Game, NoMemory>
     requires low { 1 ≤ desk }

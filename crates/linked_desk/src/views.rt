@@ -4,7 +4,7 @@ ghost use Rattle.linked_desk.specs.Desk.{game_number};
 ghost use Rattle.linked_desk.specs.Views.{view_of};
 
 use chess_model::Colour;
-use fics_words::{Duplicate, NoMemory, Seat};
+use fics_words::{Duplicate, NoMemory, Player};
 use game_board::GameBoard;
 use std::alloc::Global;
 use style12_writer::{BoardView, Item, ItemList};
@@ -20,7 +20,7 @@ pub(crate) fn game_number(desk: u8) -> u16
 
 /// All that the board line of a game shows.
 #[tactic(auto, unfolding(crate::specs::Views::view_of))]
-pub(crate) fn view_of(desk: u8, white: &Seat, black: &Seat, board: &GameBoard) -> BoardView
+pub(crate) fn view_of(desk: u8, white: &Player, black: &Player, board: &GameBoard) -> BoardView
     requires low { 1 ≤ desk }
     requires high { desk ≤ 128 }
     ensures { result ≡ view_of desk white.now black.now board.now }

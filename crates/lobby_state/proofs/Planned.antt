@@ -9,7 +9,7 @@ use Rattle.std.proofs.lemmas.List.{length-set}
 use Rattle.std.proofs.lemmas.List.Elements.{All-head, All-set, All-push, All-filter, All-tail, All-weaker}
 use Rattle.std.proofs.lemmas.List.Folds.{find_at}
 use Rattle.std.proofs.lemmas.Option.{get_or_from_slice_get, slice_get_within}
-use Rattle.fics_words.specs.declared.account.Seat.{Seat as SeatRow}
+use Rattle.fics_words.specs.declared.player.Player.{Player as SeatRow}
 use Rattle.fics_words.specs.declared.refusal.Refusal.{Refusal}
 use Rattle.fics_words.specs.declared.refusal.Refusal.TheVariants.{NotIn, NoChallenge, Playing, NoDesk}
 use Rattle.fics_words.specs.Handle.{key_of}

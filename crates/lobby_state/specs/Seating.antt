@@ -4,7 +4,7 @@ use Rattle.std.specs.List.{find}
 use Rattle.chess_model.specs.declared.man.Colour.{Colour}
 use Rattle.chess_model.specs.declared.man.Colour.TheVariants.{White, Black}
 use Rattle.chess_model.specs.declared.variant.Terms.{Terms}
-use Rattle.fics_words.specs.declared.account.Seat.{Seat}
+use Rattle.fics_words.specs.declared.player.Player.{Player}
 use Rattle.fics_words.specs.declared.refusal.Refusal.{Refusal}
 use Rattle.fics_words.specs.declared.refusal.Refusal.TheVariants.{NotIn, NoChallenge, Playing, NoDesk}
 use Rattle.lobby_state.specs.declared.acts.Plan.{Plan}
@@ -37,7 +37,7 @@ offers_white (Some Black) serial = false
 offers_white None serial = serial % 2 == 1
 
 -- a player in its seat; nobody has an account yet
-abbrev pub seat_of : Member → Seat
+abbrev pub seat_of : Member → Player
 seat_of member = record { session = member.session; name = member.name; registered = false }
 
 -- the two in their seats

@@ -2,7 +2,7 @@
 use Rattle.std.specs.Prelude.{◌≡◌, ◌≢◌, ℕ, ◌-◌, ◌≤◌, List, length, map, All, Contains, Option, None, Some, slice_get}
 use Rattle.std.specs.List.{AllPairs}
 use Rattle.fics_words.specs.Handle.{key_of}
-use Rattle.fics_words.specs.declared.account.Seat.{Seat}
+use Rattle.fics_words.specs.declared.player.Player.{Player}
 use Rattle.lobby_state.specs.declared.challenge.Challenge.{Challenge}
 use Rattle.lobby_state.specs.declared.game.Game.{Game}
 use Rattle.lobby_state.specs.declared.member.Member.{Member}
@@ -27,7 +27,7 @@ pub record IsSeatOf (games : List (Option Game)) (session : ℕ) (place : Place)
   pub game : Game
   pub in_use : slice_get games (place.desk - 1) ≡ Some (Some game)
   pub serial : game.serial ≡ place.serial
-  pub seat : Seat
+  pub seat : Player
   pub sits : slice_get (seat_list game.seats) place.seat ≡ Some seat
   pub theirs : seat.session ≡ session
 

@@ -6,7 +6,7 @@ ghost use Rattle.lobby_state.specs.Seating.{concerns_seated};
 
 use crate::seats::Seats;
 use chess_model::Terms;
-use collections::{Reserved, Test};
+use collections::{Reserved, Predicate};
 
 /// A challenge that stands: by which session, to which, and to which game.
 #[derive(Clone, Copy, Debug, PartialEq, Eq)]
@@ -29,7 +29,7 @@ impl Challenge {
 #[derive(Clone, Copy)]
 struct OfOthers(Challenge);
 
-impl Test<Challenge> for OfOthers {
+impl Predicate<Challenge> for OfOthers {
     ghost passes = { λ test challenge. not (is_same_pair test.0 challenge) };
 
     fn passes(&self, challenge: &Challenge) -> bool {
@@ -41,7 +41,7 @@ impl Test<Challenge> for OfOthers {
 #[derive(Clone, Copy)]
 pub(crate) struct Without(pub(crate) u32);
 
-impl Test<Challenge> for Without {
+impl Predicate<Challenge> for Without {
     ghost passes = { λ test challenge. not (concerns test.0 challenge) };
 
     fn passes(&self, challenge: &Challenge) -> bool {
@@ -53,7 +53,7 @@ impl Test<Challenge> for Without {
 #[derive(Clone, Copy)]
 pub(crate) struct WithoutBoth(pub(crate) Seats);
 
-impl Test<Challenge> for WithoutBoth {
+impl Predicate<Challenge> for WithoutBoth {
     ghost passes = { λ test challenge. not (concerns_seated test.0 challenge) };
 
     fn passes(&self, challenge: &Challenge) -> bool {

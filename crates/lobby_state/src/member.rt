@@ -8,7 +8,7 @@ ghost use Rattle.lobby_state.specs.Match.{with_line};
 ghost use Rattle.lobby_state.specs.Visits.{emptied};
 
 use crate::places::Places;
-use collections::{Change, Listed, Test, position};
+use collections::{Change, Listed, Predicate, position};
 use fics_words::{Handle, HandleKey, Line, NoMemory};
 use std::alloc::Global;
 
@@ -50,7 +50,7 @@ impl Member {
 #[derive(Clone, Copy)]
 pub(crate) struct OfSession(pub(crate) u32);
 
-impl Test<Member> for OfSession {
+impl Predicate<Member> for OfSession {
     ghost passes = { λ test member. is_session test.0 member };
 
     fn passes(&self, member: &Member) -> bool {
@@ -62,7 +62,7 @@ impl Test<Member> for OfSession {
 #[derive(Clone, Copy)]
 pub(crate) struct Named(pub(crate) HandleKey);
 
-impl Test<Member> for Named {
+impl Predicate<Member> for Named {
     ghost passes = { λ test member. is_named test.0 member };
 
     fn passes(&self, member: &Member) -> bool {
@@ -72,7 +72,7 @@ impl Test<Member> for Named {
 
 /// Changes the first member that passes the test, if any does.
 #[tactic(auto, using(crate::proofs::First::the_first))]
-pub(crate) fn change_first<P: Test<Member>, C: Change<Member>>(
+pub(crate) fn change_first<P: Predicate<Member>, C: Change<Member>>(
     members: &mut Listed<Member>,
     test: &P,
     change: &C,

@@ -14,7 +14,7 @@ use crate::place::Place;
 use crate::seats::Seats;
 use chess_model::{Colour, Terms};
 use collections::{Change, Listed, Reserved};
-use fics_words::{HandleKey, Refusal, Seat};
+use fics_words::{HandleKey, Player, Refusal};
 
 /// The most games that are ever started, which keeps serials below 2^64.
 const MOST_GAMES: u64 = 1 << 62;
@@ -173,10 +173,10 @@ fn offers_white(colour: Option<Colour>, serial: u64) -> bool
 }
 
 /// A player in its seat; nobody has an account yet.
-fn seat_of(member: &Member) -> Seat
+fn seat_of(member: &Member) -> Player
     ensures { result ≡ seat_of member.now }
 {
-    Seat {
+    Player {
         session: member.session,
         name: member.name,
         registered: false,

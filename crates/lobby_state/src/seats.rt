@@ -1,18 +1,18 @@
 ghost use Rattle.std.specs.Prelude.{◌≡◌};
 ghost use Rattle.lobby_state.specs.Seats.{seat_list, seat_number};
 
-use fics_words::Seat;
+use fics_words::Player;
 
 /// The two players of a game, in their seats.
 #[derive(Clone, Copy, Debug, PartialEq, Eq)]
 pub struct Seats {
-    pub white: Seat,
-    pub black: Seat,
+    pub white: Player,
+    pub black: Player,
 }
 
 impl Seats {
     /// The seats in the order of their numbers: 0 is White's and 1 Black's.
-    pub fn list(&self) -> [Seat; 2]
+    pub fn list(&self) -> [Player; 2]
         ensures { result ≡ seat_list self.now }
     {
         [self.white, self.black]

@@ -7,7 +7,7 @@ use crate::acts::LobbyReply;
 use crate::challenge::Without;
 use crate::lobby::Lobby;
 use crate::member::{Member, OfSession, change_first, take_lines};
-use collections::{Change, Test};
+use collections::{Change, Predicate};
 
 /// Leaving: the member can't be named from then on.
 #[derive(Clone, Copy)]
@@ -25,7 +25,7 @@ impl Change<Member> for Leave {
 #[derive(Clone, Copy)]
 struct OfAnother(u32);
 
-impl Test<Member> for OfAnother {
+impl Predicate<Member> for OfAnother {
     ghost passes = { λ test member. not (is_session test.0 member) };
 
     fn passes(&self, member: &Member) -> bool {

@@ -13,7 +13,7 @@ use Rattle.std.proofs.lemmas.Option.{slice_get-map}
 use Rattle.chess_model.specs.declared.man.Colour.{Colour}
 use Rattle.chess_model.specs.declared.moves.Move.{Move}
 use Rattle.chess_model.specs.declared.variant.Terms.{Terms}
-use Rattle.fics_words.specs.declared.account.Seat.{Seat}
+use Rattle.fics_words.specs.declared.player.Player.{Player}
 use Rattle.fics_words.specs.declared.refusal.Refusal.{Refusal}
 use Rattle.histories.specs.Laws.{FirstKeeps, SecondKeeps, EachPart}
 use Rattle.histories.specs.History.{state, Legal}
@@ -106,7 +106,7 @@ names_after_at desk (Some g) session moment serial act h =
     names_either (g.serial == serial) (game_after desk g session moment act) g (names_game_after desk g session moment act h) h
 
 -- a game starts with a line and a board
-names_opened : (desk serial : ℕ) (terms : Terms) (white black : Seat) (moment : ℕ) → NamesWinners (opened_game desk serial terms white black moment)
+names_opened : (desk serial : ℕ) (terms : Terms) (white black : Player) (moment : ℕ) → NamesWinners (opened_game desk serial terms white black moment)
 names_opened desk serial terms white black moment =
     let created = item.Talk (created_text (game_number desk) white.name black.name terms) in
     let announced : GameState = with_item (new_game serial terms white black moment) created in
