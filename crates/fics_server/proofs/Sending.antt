@@ -10,7 +10,7 @@ use Rattle.fics_server.specs.HandlerEnds.{PartIsWritten}
 use Rattle.fics_server.specs.Lines.{lines_of, last_line, whole_lines}
 use Rattle.fics_server.specs.Standing.{Standing}
 use Rattle.fics_server.specs.Progress.{Progress, IsTurned, AfterLine}
-use Rattle.fics_server.specs.Reading.{AfterFinish, AfterSend, AfterSendLast, AfterAnswer, IsRefusedOr, IsRefused}
+use Rattle.fics_server.specs.Reading.{AfterFinish, AfterSend, AfterSendAndClose, AfterSendLast, AfterAnswer, IsRefusedOr, IsRefused}
 use Rattle.fics_server.specs.declared.end.End.{End}
 use Rattle.fics_server.specs.declared.end.End.TheVariants.{Done, Usage, ReadFault, WriteFault, Memory, BadLine, Spent}
 use Rattle.fics_server.specs.declared.stop.Stop.TheVariants as stop
@@ -106,17 +106,18 @@ module _ {S : Type 0} (reached : Reaching S) (closed : S → S → Type 0) (endi
       subst (λ (lines : List (List ℕ)). reached lines next.handler (text ++ bytes)) (sym (lines_of-split taken))
       (subst (λ (l : List ℕ). reached (whole_lines taken ++ last_line taken ∷ []) next.handler (text ++ l)) (sym turned.1) (turned.2 (whole_lines taken) text p.good))
 
-  finish_good : (bytes : List ℕ) (stands leaves : S) (result : End) → reached (lines_of taken) stands (text ++ bytes) → closed stands leaves
-      → AfterSendLast now new bytes Done result → AfterFinish reached closed ending taken written new result
-  finish_good bytes stands leaves result good close (inl sent) =
-      subst (AfterFinish reached closed ending taken written new) (sym sent.0)
-      (record { stands = stands; leaves = leaves; text = text ++ bytes; wrote = Appends-trans written now new text bytes w sent.1; good = good; close = close })
-  finish_good bytes stands leaves result good close (inr (inl fault, front)) =
-      subst (AfterFinish reached closed ending taken written new) (sym fault)
-      (PartIsWritten-front reached ending (lines_of taken) written now new text bytes (inl (stands, good)) w front)
-  finish_good bytes stands leaves result good close (inr (inr want, front)) =
-      subst (AfterFinish reached closed ending taken written new) (sym want)
-      (PartIsWritten-front reached ending (lines_of taken) written now new text bytes (inl (stands, good)) w front)
+  finish_good : (bytes : List ℕ) (stands leaves : S) (result : End) → reached (lines_of taken) stands (text ++ bytes)
+      → AfterSendAndClose closed now new bytes stands leaves result → AfterFinish reached closed ending taken written new result
+  finish_good bytes stands leaves Done good sent =
+      record { stands = stands; leaves = leaves; text = text ++ bytes; wrote = Appends-trans written now new text bytes w sent.0; good = good; close = sent.1 }
+  finish_good bytes stands leaves Usage good sent = sent
+  finish_good bytes stands leaves ReadFault good sent = sent
+  finish_good bytes stands leaves WriteFault good sent =
+      PartIsWritten-front reached ending (lines_of taken) written now new text bytes (inl (stands, good)) w sent
+  finish_good bytes stands leaves Memory good sent =
+      PartIsWritten-front reached ending (lines_of taken) written now new text bytes (inl (stands, good)) w sent
+  finish_good bytes stands leaves BadLine good sent = absurd sent
+  finish_good bytes stands leaves Spent good sent = sent
 
   finish_bad : (bytes : List ℕ) (result : End) → HasBadLine reached ending (lines_of taken) (text ++ bytes)
       → AfterSendLast now new bytes BadLine result → AfterFinish reached closed ending taken written new result
@@ -128,10 +129,10 @@ module _ {S : Type 0} (reached : Reaching S) (closed : S → S → Type 0) (endi
       subst (AfterFinish reached closed ending taken written new) (sym want) (part reached ending (lines_of taken) written now new text bytes bad w front)
 
   pub AfterFinish-good : (cleared bytes : List ℕ) (next : Standing S) (leaves : S) (result : End) → cleared ≡ [] → IsTurned reached old cleared next bytes
-      → closed next.handler leaves → AfterSendLast now new bytes Done result → AfterFinish reached closed ending taken written new result
-  AfterFinish-good cleared bytes next leaves result none h close sent =
+      → AfterSendAndClose closed now new bytes next.handler leaves result → AfterFinish reached closed ending taken written new result
+  AfterFinish-good cleared bytes next leaves result none h sent =
       finish_good bytes next.handler leaves result
-      (all_good next bytes (subst (λ (l : List ℕ). IsTurned reached old l next bytes) none h)) close sent
+      (all_good next bytes (subst (λ (l : List ℕ). IsTurned reached old l next bytes) none h)) sent
 
   pub AfterFinish-bad : (cleared bytes : List ℕ) (next : Standing S) (result : End) → cleared ≡ [] → AfterLine {A = Unit {0}} reached ending old cleared next bytes (Err stop.BadLine)
       → AfterSendLast now new bytes BadLine result → AfterFinish reached closed ending taken written new result

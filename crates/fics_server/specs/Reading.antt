@@ -36,6 +36,16 @@ abbrev pub AfterSendLast : Option (List ℕ) → Option (List ℕ) → List ℕ 
 AfterSendLast written written' bytes end result =
     ((result ≡ end) × Appends written written' bytes) ⊎ (((result ≡ WriteFault) ⊎ (result ≡ Memory)) × AppendsFront written written' bytes)
 
+-- the bytes were written and the handler was closed; else they, or a front of them, were written
+abbrev pub AfterSendAndClose : {S : Type 0} → (S → S → Type 0) → Option (List ℕ) → Option (List ℕ) → List ℕ → S → S → End → Type 0
+AfterSendAndClose closed written written' bytes stands leaves Done = Appends written written' bytes × closed stands leaves
+AfterSendAndClose closed written written' bytes stands leaves Usage = ⊥
+AfterSendAndClose closed written written' bytes stands leaves ReadFault = ⊥
+AfterSendAndClose closed written written' bytes stands leaves WriteFault = AppendsFront written written' bytes
+AfterSendAndClose closed written written' bytes stands leaves Memory = AppendsFront written written' bytes
+AfterSendAndClose closed written written' bytes stands leaves BadLine = ⊥
+AfterSendAndClose closed written written' bytes stands leaves Spent = ⊥
+
 -- these bytes were answered, and these written
 pub record IsAnswered {S : Type 0} (reached : Reaching S) (taken : List ℕ) (standing : Standing S) (written written' : Option (List ℕ)) : Type 0 where
   pub text : List ℕ

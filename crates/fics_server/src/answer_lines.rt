@@ -7,7 +7,7 @@ ghost use Rattle.edge_traits.specs.Faults.{Rose};
 ghost use Rattle.fics_server.specs.Ends.{OnReadFault, OnWriteFault};
 ghost use Rattle.fics_server.specs.HandlerEnds.{HandlerEnds};
 ghost use Rattle.fics_server.specs.Progress.{Progress};
-ghost use Rattle.fics_server.specs.Reading.{AfterAnswer, AfterFinish, AfterSend, AfterSendLast};
+ghost use Rattle.fics_server.specs.Reading.{AfterAnswer, AfterFinish, AfterSend, AfterSendAndClose, AfterSendLast};
 
 use crate::end::End;
 use crate::line_handler::LineHandler;
@@ -81,14 +81,23 @@ fn finish<K: Sink, T: LineHandler>(machine: &mut Machine<T>, out: &mut Vec<u8>, 
 {
     out.clear();
     match machine.end_line(out) {
-        Ok(()) => {
-            let Ok(()) = machine.close() else {
-                return End::Memory;
-            };
-            send_last(out.as_slice(), sink, End::Done)
-        }
+        Ok(()) => send_and_close(machine, out.as_slice(), sink),
         Err(Stop::BadLine) => send_last(out.as_slice(), sink, End::BadLine),
         Err(Stop::Memory) => End::Memory,
+    }
+}
+
+/// Writes the last bytes, and then closes the handler: so want of memory in closing loses no answer.
+fn send_and_close<K: Sink, T: LineHandler>(machine: &mut Machine<T>, bytes: &[u8], sink: &mut K) -> End
+    ensures sent { AfterSendAndClose T.closed (K.written sink.old) (K.written sink.new) bytes.now machine.old.handler machine.new.handler result }
+    ensures cause { OnWriteFault result (Rose (K.faults sink.old) (K.faults sink.new)) }
+{
+    if let Err(fault) = send(bytes, sink) {
+        return fault;
+    }
+    match machine.close() {
+        Ok(()) => End::Done,
+        Err(_) => End::Memory,
     }
 }
 
