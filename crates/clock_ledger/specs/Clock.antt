@@ -41,6 +41,6 @@ abbrev pub taken_back : Ledger → Ledger
 taken_back l = record l { charges = take (length l.charges - 1) l.charges }
 
 -- a ledger's charges may all be made, and it keeps their sum
-pub record IsKept (charges : List Charge) (sum : ℕ) : Type 0 where
+pub record SumsUp (charges : List Charge) (sum : ℕ) : Type 0 where
   pub sound : All IsChargeable charges
   pub counted : sum ≡ sum_by amount charges

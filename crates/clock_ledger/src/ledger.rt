@@ -22,7 +22,7 @@ pub struct ClockLedger {
 }
 
 impl Model for ClockLedger {
-    ghost use Rattle.clock_ledger.specs.Clock.{Ledger, IsKept};
+    ghost use Rattle.clock_ledger.specs.Clock.{Ledger, SumsUp};
 
     ghost Value = { Ledger };
 
@@ -32,7 +32,7 @@ impl Model for ClockLedger {
       charges = clock.charges;
     } };
 
-    ghost invariant = { λ clock. IsKept clock.charges clock.spent };
+    ghost invariant = { λ clock. SumsUp clock.charges clock.spent };
 }
 
 impl ClockLedger {

@@ -9,11 +9,11 @@ use Rattle.fics_server.specs.Game.{GameState}
 use Rattle.fics_server.specs.Handling.{HasBadLine, IsDue}
 use Rattle.fics_server.specs.HandlerEnds.{HandlerEnds, AreAnswered, PartIsWritten}
 use Rattle.fics_server.specs.Lines.{lines_come}
-use Rattle.fics_server.specs.Transcript.{line_turn, answers, text_of, bad_in, IsPlayed}
+use Rattle.fics_server.specs.Transcript.{line_answer, answers, text_of, bad_in, IsPlayed}
 use Rattle.fics_server.specs.Ends.{Answers, AnswersPart, BoardEnds}
 use Rattle.fics_server.specs.declared.end.End.{End}
 use Rattle.fics_server.specs.declared.end.End.TheVariants.{Done, Usage, ReadFault, WriteFault, Memory, BadLine, Spent}
-use Rattle.fics_server.specs.PlayedLines.{answers-turn, bad-turn, IsPlayed-turn, IsPlayed-good}
+use Rattle.fics_server.specs.PlayedLinesProof.{answers-answer_line, bad-answer_line, IsPlayed-answer_line, IsPlayed-good}
 use Rattle.fics_server.proofs.BoardLines.{IsPlayed-text}
 
 -- want of memory before the first read
@@ -35,28 +35,28 @@ AppendsFront-more written new due more all is front =
     (first, subst (Appends written new) same front.1)
 
 -- the line behind played lines that no run has is the first one outside the grammar
-no_turn : (lines : List (List ℕ)) (game : GameState) (due line : List ℕ) → IsPlayed lines game due → ((s : GameState) (d : List ℕ) → IsPlayed (lines ++ line ∷ []) s d → ⊥) → line_turn game line ≡ None
-no_turn lines game due line p outside =
-    elim (line_turn game line) as (λ t. line_turn game line ≡ t → t ≡ None) [
+no_answer : (lines : List (List ℕ)) (game : GameState) (due line : List ℕ) → IsPlayed lines game due → ((s : GameState) (d : List ℕ) → IsPlayed (lines ++ line ∷ []) s d → ⊥) → line_answer game line ≡ None
+no_answer lines game due line p outside =
+    elim (line_answer game line) as (λ t. line_answer game line ≡ t → t ≡ None) [
       | None ↦ λ e. refl
-      | Some q ↦ λ e. absurd (outside q.0 (due ++ q.1) (IsPlayed-turn lines game q.0 due line q.1 e p))
+      | Some q ↦ λ e. absurd (outside q.0 (due ++ q.1) (IsPlayed-answer_line lines game q.0 due line q.1 e p))
     ] refl
 
 -- the text and the bad line of lines that have one outside the grammar
 module _ (lines : List (List ℕ)) (due : List ℕ) (h : HasBadLine IsPlayed (codes "\n\r") lines due) where
-  refused : line_turn h.stands h.line ≡ None
-  refused = no_turn h.before h.stands h.text h.line h.good h.bad
+  refused : line_answer h.stands h.line ≡ None
+  refused = no_answer h.before h.stands h.text h.line h.good h.bad
 
   bad_behind : (more : List (List ℕ)) → text_of (lines ++ more) ≡ due
   bad_behind more =
       ap (λ l. text_of (l ++ more)) h.parts ∙ ap text_of (append_assoc h.before (h.line ∷ h.rest) more) ∙ h.good.text (h.line ∷ h.rest ++ more)
-      ∙ ap (λ l. h.text ++ l) (answers-turn (length h.before + 1) h.stands h.line (h.rest ++ more) None refused) ∙ sym h.told
+      ∙ ap (λ l. h.text ++ l) (answers-answer_line (length h.before + 1) h.stands h.line (h.rest ++ more) None refused) ∙ sym h.told
 
   text_at_bad : text_of lines ≡ due
   text_at_bad = ap text_of (sym (append-nil lines)) ∙ bad_behind []
 
   bad_at_bad : bad_in lines ≡ Some (length h.before + 1)
-  bad_at_bad = ap bad_in h.parts ∙ h.good.good (h.line ∷ h.rest) ∙ bad-turn (length h.before + 1) h.stands h.line h.rest None refused
+  bad_at_bad = ap bad_in h.parts ∙ h.good.good (h.line ∷ h.rest) ∙ bad-answer_line (length h.before + 1) h.stands h.line h.rest None refused
 
 -- what is due for a front of lines is a front of their text
 module _ (lines : List (List ℕ)) (written written' : Option (List ℕ)) where

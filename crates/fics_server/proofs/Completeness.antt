@@ -4,7 +4,7 @@ use Rattle.std.specs.Prelude.{◌⊎◌, Option, IfSome, Contains}
 use Rattle.std.specs.Option.{option_map_or}
 use Rattle.fics_server.specs.Game.{GameState, new_game}
 use Rattle.fics_server.specs.Lines.{lines_of, lines_come, whole_lines}
-use Rattle.fics_server.specs.Transcript.{line_turn, first_bad, bad_in}
+use Rattle.fics_server.specs.Transcript.{line_answer, first_bad, bad_in}
 use Rattle.fics_server.specs.Ends.{BoardEnds, StopsAtBadLine, Spends, OnReadFault, OnWriteFault, status_of}
 use Rattle.fics_server.specs.declared.end.End.{End}
 use Rattle.fics_server.specs.declared.end.End.TheVariants.{Done, Usage, ReadFault, WriteFault, Memory, BadLine, Spent}
@@ -14,7 +14,7 @@ use Rattle.fics_server.proofs.Pieces.{Grows-lines_of}
 first_bad-append : (n : ℕ) (game : GameState) (lines more : List (List ℕ)) (k : ℕ) → first_bad n game lines ≡ Some k → first_bad n game (lines ++ more) ≡ Some k
 first_bad-append n game [] more k e = absurd (let bad : None ≡ Some k = e in cc)
 first_bad-append n game (line ∷ lines) more k e =
-    elim (line_turn game line) as (λ t. option_map_or (λ p. first_bad (n + 1) p.0 lines) t (Some n) ≡ Some k → option_map_or (λ p. first_bad (n + 1) p.0 (lines ++ more)) t (Some n) ≡ Some k) [
+    elim (line_answer game line) as (λ t. option_map_or (λ p. first_bad (n + 1) p.0 lines) t (Some n) ≡ Some k → option_map_or (λ p. first_bad (n + 1) p.0 (lines ++ more)) t (Some n) ≡ Some k) [
       | None ↦ λ is. is
       | Some p ↦ λ is. first_bad-append (n + 1) p.0 lines more k is
     ] e

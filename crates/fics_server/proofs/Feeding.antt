@@ -4,10 +4,10 @@ use Rattle.std.specs.Prelude.{◌⊎◌, ◌==◌, nat_le, Result}
 use Rattle.std.proofs.lemmas.Bool.{leb-true, leb-false}
 use Rattle.std.proofs.lemmas.List.{take_all, length-take-le}
 use Rattle.std.proofs.Math.Seq.{take-suc}
-use Rattle.fics_server.specs.Handling.{Reaching, IsOutsideAt, HasBadLine, AreLines, AfterTurn, Takes, bad_line}
+use Rattle.fics_server.specs.Handling.{Reaching, IsOutsideAt, HasBadLine, AreLines, AfterAnswering, Takes, bad_line}
 use Rattle.fics_server.specs.Lines.{is_kept, but_last, last_of, last_line, whole_lines}
 use Rattle.fics_server.specs.Standing.{Standing}
-use Rattle.fics_server.specs.Progress.{Progress, IsTurned, AfterLine, AfterFeed, AfterStop, OnBadLine}
+use Rattle.fics_server.specs.Progress.{Progress, IsLineAnswered, AfterLine, AfterFeed, AfterStop, OnBadLine}
 use Rattle.fics_server.specs.declared.stop.Stop.{Stop}
 use Rattle.fics_server.specs.declared.stop.Stop.TheVariants.{BadLine, Memory}
 use Rattle.fics_server.proofs.Pieces.{lines_of-dropped, whole_lines-push, last_line-push, whole_lines-feed, last_line-feed, Grows-whole_lines}
@@ -80,10 +80,10 @@ module _ {S : Type 0} (reached : Reaching S) where
 
   -- a line feed behind a good line
   pub Progress-feed : (taken : List ℕ) (b : ℕ) (old new : Standing S) (base out out' : List ℕ) → is_kept b ≡ true → (b == 10) ≡ true
-      → Progress reached taken old (base ++ out) → IsTurned reached old out new out' → Progress reached (taken ++ b ∷ []) new (base ++ out')
+      → Progress reached taken old (base ++ out) → IsLineAnswered reached old out new out' → Progress reached (taken ++ b ∷ []) new (base ++ out')
   Progress-feed taken b old new base out out' k e p h =
       let same = whole_lines-feed taken b k e in
-      let turned = h.turn (last_line taken) p.kept in
+      let turned = h.answer_line (last_line taken) p.kept in
       let text : (base ++ out) ++ turned.0 ≡ base ++ out' = append_assoc base out turned.0 ∙ ap (λ l. base ++ l) (sym turned.1) in
       let good = turned.2 (whole_lines taken) (base ++ out) p.good in
       record {
@@ -116,19 +116,19 @@ module _ {S : Type 0} (reached : Reaching S) (ending : List ℕ) (old : Standing
       → AfterLine {A = Unit {0}} reached ending old out new out' (Err stop)
   AfterLine-long laws long new out out' stop told = refused new out out' stop told (λ line e. IsOutsideAt-long reached laws handler line (kept_long kept line e long))
 
-  -- a line whose turn was refused
-  pub AfterLine-refused : length kept ≤ 1023 → (next : S) (new : Standing S) (out turned out' : List ℕ) (stop : Stop) → AfterTurn reached handler kept out next turned false
+  -- a line whose answer was refused
+  pub AfterLine-refused : length kept ≤ 1023 → (next : S) (new : Standing S) (out turned out' : List ℕ) (stop : Stop) → AfterAnswering reached handler kept out next turned false
       → OnBadLine stop (out' ≡ turned ++ bad_line ending number) → AfterLine {A = Unit {0}} reached ending old out new out' (Err stop)
-  AfterLine-refused few next new out turned out' stop turn told =
-      refused new out out' stop (subst (λ (l : List ℕ). OnBadLine stop (out' ≡ l ++ bad_line ending number)) turn.0 told)
-      (λ line e. subst (λ (l : List ℕ). IsOutsideAt reached handler l) (sym (kept_whole kept line e few)) turn.1)
+  AfterLine-refused few next new out turned out' stop answer_line told =
+      refused new out out' stop (subst (λ (l : List ℕ). OnBadLine stop (out' ≡ l ++ bad_line ending number)) answer_line.0 told)
+      (λ line e. subst (λ (l : List ℕ). IsOutsideAt reached handler l) (sym (kept_whole kept line e few)) answer_line.1)
 
-  -- a line whose turn was made
-  pub IsTurned-made : length kept ≤ 1023 → (next : S) (cleared out out' : List ℕ) → AfterTurn reached handler kept out next out' true → cleared ≡ []
-      → IsTurned reached old out (record { handler = next; number = number + 1; kept = cleared }) out'
-  IsTurned-made few next cleared out out' turn none =
-      subst (λ (s : Standing S). IsTurned reached s out (record { handler = next; number = number + 1; kept = cleared }) out') view (record {
-        turn = λ line e. subst (λ (l : List ℕ). AfterTurn reached handler l out next out' true) (sym (kept_whole kept line e few)) turn;
+  -- a line whose answer was made
+  pub IsLineAnswered-made : length kept ≤ 1023 → (next : S) (cleared out out' : List ℕ) → AfterAnswering reached handler kept out next out' true → cleared ≡ []
+      → IsLineAnswered reached old out (record { handler = next; number = number + 1; kept = cleared }) out'
+  IsLineAnswered-made few next cleared out out' answer_line none =
+      subst (λ (s : Standing S). IsLineAnswered reached s out (record { handler = next; number = number + 1; kept = cleared }) out') view (record {
+        answer_line = λ line e. subst (λ (l : List ℕ). AfterAnswering reached handler l out next out' true) (sym (kept_whole kept line e few)) answer_line;
         next = refl;
         cleared = none;
       })

@@ -1,10 +1,11 @@
 pub mod BoardEnds
 pub mod BoardLines
 pub mod Completeness
-pub mod EveningTurns
+pub mod EveningAnswers
 pub mod Feeding
 pub mod HandlerLines
 pub mod Leaving
+pub mod LineAnswers
 pub mod MoveWords
 pub mod Names
 pub mod NextLines
@@ -14,4 +15,3 @@ pub mod Rounds
 pub mod RunEnds
 pub mod Sending
 pub mod Showing
-pub mod Turns

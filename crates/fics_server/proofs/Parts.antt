@@ -5,19 +5,19 @@ use Rattle.std.specs.List.{onto_first, join_with_byte}
 use Rattle.std.proofs.lemmas.Bool.Decides.{nat_tests}
 use Rattle.std.proofs.lemmas.List.Splits.{slice_split_none, slice_split_at, join_with_byte-slice_split}
 use Rattle.std.proofs.lemmas.List.Elements.{All-nil, All-cons}
-use Rattle.fics_server.specs.Lines.{IsUnbroken, pieces, AreParts}
+use Rattle.fics_server.specs.Lines.{HasNoLineFeed, pieces, AreParts}
 use Rattle.fics_server.proofs.Pieces.{Begins, Begins-pieces}
 
-onto-all : (b : ℕ) (parts : List (List ℕ)) → (b == 10) ≡ false → Begins parts → All IsUnbroken parts → All IsUnbroken (onto_first b parts)
+onto-all : (b : ℕ) (parts : List (List ℕ)) → (b == 10) ≡ false → Begins parts → All HasNoLineFeed parts → All HasNoLineFeed (onto_first b parts)
 onto-all b [] e h all = absurd (let bad = h.is in cc)
 onto-all b (x ∷ xs) e h all =
-    All-cons IsUnbroken (b ∷ x) xs (All-cons (λ c. (c == 10) ≡ false) b x e (all 0 x (omega arith))) (λ k d within. all (suc k) d (omega arith))
+    All-cons HasNoLineFeed (b ∷ x) xs (All-cons (λ c. (c == 10) ≡ false) b x e (all 0 x (omega arith))) (λ k d within. all (suc k) d (omega arith))
 
-unbroken_pieces : (text : List ℕ) → All IsUnbroken (pieces text)
-unbroken_pieces [] = All-cons IsUnbroken [] [] (All-nil (λ c. (c == 10) ≡ false)) (All-nil IsUnbroken)
+unbroken_pieces : (text : List ℕ) → All HasNoLineFeed (pieces text)
+unbroken_pieces [] = All-cons HasNoLineFeed [] [] (All-nil (λ c. (c == 10) ≡ false)) (All-nil HasNoLineFeed)
 unbroken_pieces (b ∷ text) =
-    elim (b == 10) as (λ t. (b == 10) ≡ t → All IsUnbroken (cond t ([] ∷ pieces text) (onto_first b (pieces text)))) [
-      | true ↦ λ e. All-cons IsUnbroken [] (pieces text) (All-nil (λ c. (c == 10) ≡ false)) (unbroken_pieces text)
+    elim (b == 10) as (λ t. (b == 10) ≡ t → All HasNoLineFeed (cond t ([] ∷ pieces text) (onto_first b (pieces text)))) [
+      | true ↦ λ e. All-cons HasNoLineFeed [] (pieces text) (All-nil (λ c. (c == 10) ≡ false)) (unbroken_pieces text)
       | false ↦ λ e. onto-all b (pieces text) e (Begins-pieces text) (unbroken_pieces text)
     ] refl
 

@@ -4,7 +4,7 @@ use Rattle.std.specs.Prelude.{filter, ◌==◌}
 use Rattle.std.specs.List.{onto_first}
 use Rattle.std.proofs.lemmas.List.Splits.{slice_split_none, slice_split_at, slice_split-cons_no}
 use Rattle.std.proofs.lemmas.List.Elements.{All-nil, All-cons, All-append, filter-append}
-use Rattle.fics_server.specs.Lines.{IsUnbroken, is_kept, pieces, lines_of, but_last, last_of, last_line, whole_lines}
+use Rattle.fics_server.specs.Lines.{HasNoLineFeed, is_kept, pieces, lines_of, but_last, last_of, last_line, whole_lines}
 
 -- a list with a first element
 pub record Begins (parts : List (List ℕ)) : Type 0 where
@@ -67,20 +67,20 @@ pieces-append (b ∷ text) more =
       | false ↦ λ e. ap (onto_first b) ih ∙ onto-more b (pieces text) more rest e
     ] refl
 
-onto-unbroken : (b : ℕ) (parts : List (List ℕ)) → Begins parts → (b == 10) ≡ false → IsUnbroken (last_of parts)
-    → IsUnbroken (last_of (onto_first b parts))
+onto-unbroken : (b : ℕ) (parts : List (List ℕ)) → Begins parts → (b == 10) ≡ false → HasNoLineFeed (last_of parts)
+    → HasNoLineFeed (last_of (onto_first b parts))
 onto-unbroken b [] h e all = absurd (let bad = h.is in cc)
 onto-unbroken b (x ∷ []) h e all = All-cons (λ c. (c == 10) ≡ false) b x e all
 onto-unbroken b (x ∷ y ∷ ys) h e all = all
 
 -- the last piece has no line feed
-pub last-unbroken : (text : List ℕ) → IsUnbroken (last_of (pieces text))
+pub last-unbroken : (text : List ℕ) → HasNoLineFeed (last_of (pieces text))
 last-unbroken [] = All-nil (λ c. (c == 10) ≡ false)
 last-unbroken (b ∷ text) =
     let rest = Begins-pieces text in
     let ih = last-unbroken text in
-    elim (b == 10) as (λ t. (b == 10) ≡ t → IsUnbroken (last_of (cond t ([] ∷ pieces text) (onto_first b (pieces text))))) [
-      | true ↦ λ e. subst (λ (l : List ℕ). IsUnbroken l) (sym (last_of-cons [] (pieces text) rest)) ih
+    elim (b == 10) as (λ t. (b == 10) ≡ t → HasNoLineFeed (last_of (cond t ([] ∷ pieces text) (onto_first b (pieces text))))) [
+      | true ↦ λ e. subst (λ (l : List ℕ). HasNoLineFeed l) (sym (last_of-cons [] (pieces text) rest)) ih
       | false ↦ λ e. onto-unbroken b (pieces text) rest e ih
     ] refl
 

@@ -6,8 +6,8 @@ use Rattle.std.specs.Io.KnownBytes.{Appends}
 use Rattle.std.proofs.KnownBytes.{Consumes-nil, Appends-nil}
 use Rattle.fics_server.specs.Ends.{OnReadFault, OnWriteFault, status_of}
 use Rattle.fics_server.specs.Evening.{Reached, IsClosed, history_of, transcript_of, opening_parts}
-use Rattle.fics_server.specs.Evenings.{evening_legal}
-use Rattle.fics_server.specs.EveningLines.{reached_by, reached_lines, standing_of}
+use Rattle.fics_server.specs.EveningsProof.{evening_legal}
+use Rattle.fics_server.specs.EveningLinesProof.{reached_by, reached_lines, standing_of}
 use Rattle.fics_server.specs.HandlerEnds.{HandlerEnds, AreAnswered}
 use Rattle.fics_server.specs.Lines.{lines_of, lines_come}
 use Rattle.fics_server.specs.ReplayEnds.{AreReplayed, AreReplayedLong, ReplayEnds}

@@ -9,7 +9,7 @@ use Rattle.fics_server.specs.Handling.{Reaching, HasBadLine, IsDue, bad_line}
 use Rattle.fics_server.specs.HandlerEnds.{PartIsWritten}
 use Rattle.fics_server.specs.Lines.{lines_of, last_line, whole_lines}
 use Rattle.fics_server.specs.Standing.{Standing}
-use Rattle.fics_server.specs.Progress.{Progress, IsTurned, AfterLine}
+use Rattle.fics_server.specs.Progress.{Progress, IsLineAnswered, AfterLine}
 use Rattle.fics_server.specs.Reading.{AfterFinish, AfterSend, AfterSendAndClose, AfterSendLast, AfterAnswer, IsRefusedOr, IsRefused}
 use Rattle.fics_server.specs.declared.end.End.{End}
 use Rattle.fics_server.specs.declared.end.End.TheVariants.{Done, Usage, ReadFault, WriteFault, Memory, BadLine, Spent}
@@ -100,9 +100,9 @@ AfterAnswer-memory reached ending taken more text standing written now w p =
 -- the end of the input: what is due for the last line goes on behind what was written
 module _ {S : Type 0} (reached : Reaching S) (closed : S → S → Type 0) (ending taken text : List ℕ) (old : Standing S) (p : Progress reached taken old text)
     (written now new : Option (List ℕ)) (w : Appends written now text) where
-  all_good : (new_standing : Standing S) (bytes : List ℕ) → IsTurned reached old [] new_standing bytes → reached (lines_of taken) new_standing.handler (text ++ bytes)
+  all_good : (new_standing : Standing S) (bytes : List ℕ) → IsLineAnswered reached old [] new_standing bytes → reached (lines_of taken) new_standing.handler (text ++ bytes)
   all_good next bytes h =
-      let turned = h.turn (last_line taken) p.kept in
+      let turned = h.answer_line (last_line taken) p.kept in
       subst (λ (lines : List (List ℕ)). reached lines next.handler (text ++ bytes)) (sym (lines_of-split taken))
       (subst (λ (l : List ℕ). reached (whole_lines taken ++ last_line taken ∷ []) next.handler (text ++ l)) (sym turned.1) (turned.2 (whole_lines taken) text p.good))
 
@@ -128,11 +128,11 @@ module _ {S : Type 0} (reached : Reaching S) (closed : S → S → Type 0) (endi
   finish_bad bytes result bad (inr (inr want, front)) =
       subst (AfterFinish reached closed ending taken written new) (sym want) (part reached ending (lines_of taken) written now new text bytes bad w front)
 
-  pub AfterFinish-good : (cleared bytes : List ℕ) (next : Standing S) (leaves : S) (result : End) → cleared ≡ [] → IsTurned reached old cleared next bytes
+  pub AfterFinish-good : (cleared bytes : List ℕ) (next : Standing S) (leaves : S) (result : End) → cleared ≡ [] → IsLineAnswered reached old cleared next bytes
       → AfterSendAndClose closed now new bytes next.handler leaves result → AfterFinish reached closed ending taken written new result
   AfterFinish-good cleared bytes next leaves result none h sent =
       finish_good bytes next.handler leaves result
-      (all_good next bytes (subst (λ (l : List ℕ). IsTurned reached old l next bytes) none h)) sent
+      (all_good next bytes (subst (λ (l : List ℕ). IsLineAnswered reached old l next bytes) none h)) sent
 
   pub AfterFinish-bad : (cleared bytes : List ℕ) (next : Standing S) (result : End) → cleared ≡ [] → AfterLine {A = Unit {0}} reached ending old cleared next bytes (Err stop.BadLine)
       → AfterSendLast now new bytes BadLine result → AfterFinish reached closed ending taken written new result

@@ -9,13 +9,13 @@ use Rattle.fics_server.specs.declared.end.End.{End}
 use Rattle.fics_server.specs.declared.end.End.TheVariants.{Done, Usage, ReadFault, WriteFault, Memory, BadLine, Spent}
 
 -- the source gave these bytes, and where they are all then it is at its end
-abbrev pub Came : Option (List ℕ) → Option (List ℕ) → List ℕ → Bool → Type 0
-Came left left' taken ended = Consumes left left' taken × (ended ≡ true → IsAtEnd left')
+abbrev pub HasRead : Option (List ℕ) → Option (List ℕ) → List ℕ → Bool → Type 0
+HasRead left left' taken ended = Consumes left left' taken × (ended ≡ true → IsAtEnd left')
 
 -- all lines that have come are good, and their whole text was written
 pub record Answers (left left' written written' : Option (List ℕ)) (ended : Bool) : Type 0 where
   pub taken : List ℕ
-  pub came : Came left left' taken ended
+  pub came : HasRead left left' taken ended
   pub good : bad_in (lines_come ended taken) ≡ None
   pub text : Appends written written' (text_of (lines_come ended taken))
 
@@ -24,7 +24,7 @@ pub record StopsAtBadLine (left left' written written' : Option (List ℕ)) : Ty
   pub taken : List ℕ
   pub ended : Bool
   pub number : ℕ
-  pub came : Came left left' taken ended
+  pub came : HasRead left left' taken ended
   pub bad : bad_in (lines_come ended taken) ≡ Some number
   pub text : Appends written written' (text_of (lines_come ended taken))
 
@@ -32,7 +32,7 @@ pub record StopsAtBadLine (left left' written written' : Option (List ℕ)) : Ty
 pub record AnswersPart (left left' written written' : Option (List ℕ)) : Type 0 where
   pub taken : List ℕ
   pub ended : Bool
-  pub came : Came left left' taken ended
+  pub came : HasRead left left' taken ended
   pub text : AppendsFront written written' (text_of (lines_come ended taken))
 
 -- at least 2^40 bytes came, and the text of their whole lines was written

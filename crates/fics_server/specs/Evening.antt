@@ -25,13 +25,13 @@ use Rattle.one_server.specs.House.{house}
 use Rattle.one_server.specs.Running.{Log}
 use Rattle.one_server.specs.Server.{ServerState, parts_in}
 use Rattle.one_server.specs.Whole.{opened}
-use Rattle.replay_core.specs.declared.order.Progress.{Progress}
+use Rattle.replay_core.specs.declared.order.Attendance.{Attendance}
 use Rattle.replay_core.specs.declared.script.ScriptEvent.{ScriptEvent}
 use Rattle.replay_core.specs.declared.script.ScriptEvent.TheVariants as event
 use Rattle.replay_core.specs.declared.script.ScriptLine.{ScriptLine}
 use Rattle.replay_core.specs.declared.seat_line.SeatLine.{SeatLine}
-use Rattle.replay_core.specs.Order.{Came, MayCome, is_here, left_of}
-use Rattle.replay_core.specs.Progress.{IsAfter}
+use Rattle.replay_core.specs.Order.{Arrival, MayCome, is_here, left_of}
+use Rattle.replay_core.specs.Attendance.{IsAfter}
 use Rattle.replay_core.specs.Script.{IsScriptLine, script_text}
 use Rattle.replay_core.specs.SeatLine.{IsSeatLine, seat_text}
 use Rattle.session_core.specs.declared.input.Command.{Command}
@@ -142,10 +142,10 @@ transcript_of [] = []
 transcript_of (row ∷ rows) = text_of_row row ++ transcript_of rows
 
 -- the lines of sessions among the rows; no `quit` is in the grammar yet
-abbrev pub came_of : List Row → List Came
-came_of [] = []
-came_of (Seats seat made ∷ rows) = came_of rows
-came_of (Comes line asked made text ∷ rows) = record { line = line; quit = false } ∷ came_of rows
+abbrev pub arrivals_of : List Row → List Arrival
+arrivals_of [] = []
+arrivals_of (Seats seat made ∷ rows) = arrivals_of rows
+arrivals_of (Comes line asked made text ∷ rows) = record { line = line; quit = false } ∷ arrivals_of rows
 
 -- a server with an empty lobby and vacant desks
 abbrev pub opening_parts : List Part
@@ -198,7 +198,7 @@ pub record IsComing (before : List Row) (line : ScriptLine) (asked : Input) (mad
   pub seated : before ≢ []
   pub spelled : IsScriptLine line
   pub short : IsLine (script_text line)
-  pub order : MayCome seats (came_of before) line
+  pub order : MayCome seats (arrivals_of before) line
   pub reads : input_of line.event ≡ Some asked
   pub within : is_beyond_grammar (parts_after before) line.session asked ≡ false
   pub follows : Follows (input_script asked) line.session line.moment made text
@@ -210,13 +210,13 @@ MayFollow before (Seats seat made) = IsSeating before seat made
 MayFollow before (Comes line asked made text) = IsComing before line asked made text
 
 -- each of the later rows may follow all that come before it
-abbrev pub FollowInTurn : List Row → List Row → Type 0
-FollowInTurn before [] = Unit {0}
-FollowInTurn before (row ∷ later) = MayFollow before row × FollowInTurn (before ++ row ∷ []) later
+abbrev pub FollowInOrder : List Row → List Row → Type 0
+FollowInOrder before [] = Unit {0}
+FollowInOrder before (row ∷ later) = MayFollow before row × FollowInOrder (before ++ row ∷ []) later
 
 -- the rows of an evening up to here
 abbrev pub IsEvening : List Row → Type 0
-IsEvening rows = FollowInTurn [] rows
+IsEvening rows = FollowInOrder [] rows
 
 -- a line that isn't empty
 abbrev pub is_written : List ℕ → Bool
@@ -226,13 +226,13 @@ is_written (byte ∷ bytes) = true
 -- ---- the end
 
 -- these sessions leave one after the other, at this moment, with these entries
-abbrev pub LeaveInTurn : ℕ → List ℕ → Log → Type 0
-LeaveInTurn moment [] made = made ≡ []
-LeaveInTurn moment (session ∷ sessions) made =
-    (own : Log) × (others : Log) × (made ≡ own ++ others) × Follows leaving session moment own [] × LeaveInTurn moment sessions others
+abbrev pub LeaveInOrder : ℕ → List ℕ → Log → Type 0
+LeaveInOrder moment [] made = made ≡ []
+LeaveInOrder moment (session ∷ sessions) made =
+    (own : Log) × (others : Log) × (made ≡ own ++ others) × Follows leaving session moment own [] × LeaveInOrder moment sessions others
 
 -- the moment of the last of some lines; 0 before any
-abbrev pub last_moment : List Came → ℕ
+abbrev pub last_moment : List Arrival → ℕ
 last_moment [] = 0
 last_moment (came ∷ []) = came.line.moment
 last_moment (came ∷ next ∷ lines) = last_moment (next ∷ lines)
@@ -240,13 +240,13 @@ last_moment (came ∷ next ∷ lines) = last_moment (next ∷ lines)
 -- the sessions that are left after the rows; before the seat line nobody is there
 abbrev pub left_by : List Row → List ℕ
 left_by [] = []
-left_by (row ∷ rows) = left_of seats (came_of (row ∷ rows))
+left_by (row ∷ rows) = left_of seats (arrivals_of (row ∷ rows))
 
 -- those that were left after the rows have left, in the order of their numbers, at the moment of the last line, and
 -- nothing else was done
 pub record HasClosed (rows : List Row) (old new : ServerState) : Type 0 where
   pub entries : Log
-  pub leave : LeaveInTurn (last_moment (came_of rows)) (left_by rows) entries
+  pub leave : LeaveInOrder (last_moment (arrivals_of rows)) (left_by rows) entries
   pub more : new ≡ record old { log = old.log ++ entries }
   pub legal : Legal house (parts_in old) entries
 
@@ -255,13 +255,13 @@ pub record HasClosed (rows : List Row) (old new : ServerState) : Type 0 where
 -- the server, how far the script has come, which is nowhere before the seat line, and the moment of its last line
 pub record EveningState : Type 0 where
   pub server : ServerState
-  pub order : Option Progress
+  pub order : Option Attendance
   pub moment : ℕ
 
 -- before the seat line there is no row, and after it the order of the lines is kept
-abbrev pub IsOrdered : Option Progress → List Row → Type 0
+abbrev pub IsOrdered : Option Attendance → List Row → Type 0
 IsOrdered None rows = rows ≡ []
-IsOrdered (Some progress) rows = (rows ≢ []) × IsAfter progress seats (came_of rows)
+IsOrdered (Some progress) rows = (rows ≢ []) × IsAfter progress seats (arrivals_of rows)
 
 -- these lines have brought the evening to where it stands, and this text is due for them
 pub record Reached (lines : List (List ℕ)) (evening : EveningState) (due : List ℕ) : Type 0 where
@@ -271,7 +271,7 @@ pub record Reached (lines : List (List ℕ)) (evening : EveningState) (due : Lis
   pub text : due ≡ transcript_of rows
   pub server : evening.server ≡ record { opening = opening_parts; log = history_of rows }
   pub ordered : IsOrdered evening.order rows
-  pub last : evening.moment ≡ last_moment (came_of rows)
+  pub last : evening.moment ≡ last_moment (arrivals_of rows)
 
 -- the evening has closed: whatever the rows are that brought it to where it stood, those that were left have left
 abbrev pub IsClosed : EveningState → EveningState → Type 0
@@ -280,17 +280,17 @@ IsClosed old new = (lines : List (List ℕ)) (due : List ℕ) (at : Reached line
 -- ---- one line of a session
 
 -- the line is this one of a session, and asks for this; it may come next
-pub record IsNext (progress : Progress) (parts : List Part) (bytes : List ℕ) (line : ScriptLine) (asked : Input) : Type 0 where
+pub record IsNext (progress : Attendance) (parts : List Part) (bytes : List ℕ) (line : ScriptLine) (asked : Input) : Type 0 where
   pub spelled : IsScriptLine line
   pub text : bytes ≡ script_text line
-  pub order : (lines : List Came) → IsAfter progress seats lines → MayCome seats lines line
+  pub order : (lines : List Arrival) → IsAfter progress seats lines → MayCome seats lines line
   pub reads : input_of line.event ≡ Some asked
   pub within : is_beyond_grammar parts line.session asked ≡ false
 
 -- no line of a session that may come next is written so
-abbrev pub IsNoNext : Progress → List Part → List ℕ → Type 0
+abbrev pub IsNoNext : Attendance → List Part → List ℕ → Type 0
 IsNoNext progress parts bytes =
-    (lines : List Came) → IsAfter progress seats lines → (line : ScriptLine) (asked : Input) → IsScriptLine line → bytes ≡ script_text line
+    (lines : List Arrival) → IsAfter progress seats lines → (line : ScriptLine) (asked : Input) → IsScriptLine line → bytes ≡ script_text line
     → MayCome seats lines line → input_of line.event ≡ Some asked → is_beyond_grammar parts line.session asked ≡ false → ⊥
 
 -- a session went by a script to its end, and made these entries, which are all that is new
@@ -306,7 +306,7 @@ pub record HasAnswered (session moment : ℕ) (asked : Input) (old : ServerState
   pub put : out' ≡ out ++ tagged session (answer_text asked text)
 
 -- those of the first so many sessions that were here have left, and nothing else was done
-abbrev pub AfterLeaving : Progress → ℕ → ℕ → ServerState → ServerState → Type 0
+abbrev pub AfterLeaving : Attendance → ℕ → ℕ → ServerState → ServerState → Type 0
 AfterLeaving progress moment count old new =
-    (lines : List Came) → IsAfter progress seats lines
-    → (made : Log) × (new ≡ record old { log = old.log ++ made }) × LeaveInTurn moment (filter (is_here seats lines) (range_with_len 1 count)) made
+    (lines : List Arrival) → IsAfter progress seats lines
+    → (made : Log) × (new ≡ record old { log = old.log ++ made }) × LeaveInOrder moment (filter (is_here seats lines) (range_with_len 1 count)) made

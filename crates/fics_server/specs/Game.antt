@@ -63,9 +63,9 @@ made b (Ok m) = (with_half_move b m 0, line_text (with_half_move b m 0))
 made b (Err r) = (b, refusal_line r)
 
 -- what two squares make of a game
-abbrev pub turn_of : GameState → Squares → Option (GameState × List ℕ)
-turn_of b s = if is_outside b s then None else Some (made b (answer_to b s))
+abbrev pub answer_squares : GameState → Squares → Option (GameState × List ℕ)
+answer_squares b s = if is_outside b s then None else Some (made b (answer_to b s))
 
 -- what a line that isn't empty makes of a game, and what is written for it; nothing where it is outside the grammar
-unfoldable pub turn : GameState → List ℕ → Option (GameState × List ℕ)
-turn b line = option_and_then (λ s. turn_of b s) (squares_of line)
+unfoldable pub answer_line : GameState → List ℕ → Option (GameState × List ℕ)
+answer_line b line = option_and_then (λ s. answer_squares b s) (squares_of line)

@@ -4,7 +4,7 @@ use Rattle.std.specs.Io.KnownBytes.{Appends}
 use Rattle.edge_traits.specs.Sink.{AppendsFront}
 use Rattle.fics_server.specs.Handling.{Reaching, HasBadLine, IsDue}
 use Rattle.fics_server.specs.Lines.{lines_come}
-use Rattle.fics_server.specs.Ends.{Came}
+use Rattle.fics_server.specs.Ends.{HasRead}
 use Rattle.fics_server.specs.declared.end.End.{End}
 use Rattle.fics_server.specs.declared.end.End.TheVariants.{Done, Usage, ReadFault, WriteFault, Memory, BadLine, Spent}
 
@@ -13,7 +13,7 @@ pub record AreAnswered {S : Type 0} (reached : Reaching S) (left left' written w
   pub taken : List ℕ
   pub stands : S
   pub due : List ℕ
-  pub came : Came left left' taken ended
+  pub came : HasRead left left' taken ended
   pub good : reached (lines_come ended taken) stands due
   pub text : Appends written written' due
 
@@ -28,7 +28,7 @@ pub record AreStopped {S : Type 0} (reached : Reaching S) (ending : List ℕ) (l
   pub taken : List ℕ
   pub ended : Bool
   pub due : List ℕ
-  pub came : Came left left' taken ended
+  pub came : HasRead left left' taken ended
   pub bad : HasBadLine reached ending (lines_come ended taken) due
   pub text : Appends written written' due
 
@@ -45,7 +45,7 @@ pub record PartIsWritten {S : Type 0} (reached : Reaching S) (ending : List ℕ)
 pub record ArePartAnswered {S : Type 0} (reached : Reaching S) (ending : List ℕ) (left left' written written' : Option (List ℕ)) : Type 0 where
   pub taken : List ℕ
   pub ended : Bool
-  pub came : Came left left' taken ended
+  pub came : HasRead left left' taken ended
   pub part : PartIsWritten reached ending (lines_come ended taken) written written'
 
 -- at least 2^40 bytes came, and their whole lines were answered

@@ -18,10 +18,10 @@ Takes reached old line new text = (lines : List (List ℕ)) (due : List ℕ) →
 abbrev pub IsOutsideAt : {S : Type 0} → Reaching S → S → List ℕ → Type 0
 IsOutsideAt reached old line = (lines : List (List ℕ)) (due : List ℕ) → reached lines old due → IsOutside reached (lines ++ line ∷ [])
 
--- after the turn of a line: it was good and its text was appended, or it is outside the grammar and nothing was
-abbrev pub AfterTurn : {S : Type 0} → Reaching S → S → List ℕ → List ℕ → S → List ℕ → Bool → Type 0
-AfterTurn reached old line out new out' true = (text : List ℕ) × (out' ≡ out ++ text) × Takes reached old line new text
-AfterTurn reached old line out new out' false = (out' ≡ out) × IsOutsideAt reached old line
+-- after the answer of a line: it was good and its text was appended, or it is outside the grammar and nothing was
+abbrev pub AfterAnswering : {S : Type 0} → Reaching S → S → List ℕ → List ℕ → S → List ℕ → Bool → Type 0
+AfterAnswering reached old line out new out' true = (text : List ℕ) × (out' ≡ out ++ text) × Takes reached old line new text
+AfterAnswering reached old line out new out' false = (out' ≡ out) × IsOutsideAt reached old line
 
 -- the laws of the lines of a command: an empty line changes nothing, a front of lines that a run has is one too, and
 -- no line of a run has more than 1,023 bytes

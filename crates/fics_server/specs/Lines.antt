@@ -11,8 +11,8 @@ abbrev pub pieces : List ℕ → List (List ℕ)
 pieces text = slice_split (λ b. b == 10) text
 
 -- no byte is a line feed
-abbrev pub IsUnbroken : List ℕ → Type 0
-IsUnbroken part = All (λ c. (c == 10) ≡ false) part
+abbrev pub HasNoLineFeed : List ℕ → Type 0
+HasNoLineFeed part = All (λ c. (c == 10) ≡ false) part
 
 -- the lines of a text that has come to its end: the piece behind the last line feed is a line too
 abbrev pub lines_of : List ℕ → List (List ℕ)

@@ -1,6 +1,6 @@
 -- How far an input has come in the machine that is fed its bytes.
 use Rattle.std.specs.Prelude.{◌≡◌, ℕ, ◌+◌, ◌≤◌, true, List, [], ◌++◌, length, take, Ok, Err, Result, ⊤}
-use Rattle.fics_server.specs.Handling.{Reaching, AfterTurn, IsOutsideAt, HasBadLine, bad_line}
+use Rattle.fics_server.specs.Handling.{Reaching, AfterAnswering, IsOutsideAt, HasBadLine, bad_line}
 use Rattle.fics_server.specs.Lines.{last_line, whole_lines}
 use Rattle.fics_server.specs.Standing.{Standing}
 use Rattle.fics_server.specs.declared.stop.Stop.{Stop}
@@ -23,15 +23,15 @@ abbrev pub AfterFeed : {S A : Type 0} → Reaching S → List ℕ → List ℕ �
 AfterFeed reached ending taken standing written (Ok u) = Progress reached taken standing written
 AfterFeed reached ending taken standing written (Err stop) = AfterStop reached ending taken written stop
 
--- a line ended, good: whatever the line is of which this front was kept, its turn was made
-pub record IsTurned {S : Type 0} (reached : Reaching S) (old : Standing S) (out : List ℕ) (new : Standing S) (out' : List ℕ) : Type 0 where
-  pub turn : (line : List ℕ) → old.kept ≡ take 1024 line → AfterTurn reached old.handler line out new.handler out' true
+-- a line ended, good: whatever the line is of which this front was kept, its answer was made
+pub record IsLineAnswered {S : Type 0} (reached : Reaching S) (old : Standing S) (out : List ℕ) (new : Standing S) (out' : List ℕ) : Type 0 where
+  pub answer_line : (line : List ℕ) → old.kept ≡ take 1024 line → AfterAnswering reached old.handler line out new.handler out' true
   pub next : new.number ≡ old.number + 1
   pub cleared : new.kept ≡ []
 
--- a line ended: its turn was made and its text appended, or it is outside the grammar, and its number was appended
+-- a line ended: its answer was made and its text appended, or it is outside the grammar, and its number was appended
 abbrev pub AfterLine : {S A : Type 0} → Reaching S → List ℕ → Standing S → List ℕ → Standing S → List ℕ → Result A Stop → Type 0
-AfterLine reached ending old out new out' (Ok u) = IsTurned reached old out new out'
+AfterLine reached ending old out new out' (Ok u) = IsLineAnswered reached old out new out'
 AfterLine reached ending old out new out' (Err BadLine) =
     (out' ≡ out ++ bad_line ending old.number) × ((line : List ℕ) → old.kept ≡ take 1024 line → IsOutsideAt reached old.handler line)
 AfterLine reached ending old out new out' (Err Memory) = ⊤

@@ -4,8 +4,8 @@ use Rattle.std.specs.Io.KnownBytes.{Appends}
 use Rattle.histories.specs.History.{Legal}
 use Rattle.one_server.specs.House.{house}
 use Rattle.one_server.specs.Running.{Log}
-use Rattle.fics_server.specs.Ends.{Came}
-use Rattle.fics_server.specs.Evening.{Row, Reached, IsEvening, LeaveInTurn, is_written, line_of, history_of, transcript_of, came_of, last_moment, left_by, opening_parts}
+use Rattle.fics_server.specs.Ends.{HasRead}
+use Rattle.fics_server.specs.Evening.{Row, Reached, IsEvening, LeaveInOrder, is_written, line_of, history_of, transcript_of, arrivals_of, last_moment, left_by, opening_parts}
 use Rattle.fics_server.specs.HandlerEnds.{ArePartAnswered, AreStopped}
 use Rattle.fics_server.specs.Lines.{lines_come}
 use Rattle.fics_server.specs.declared.end.End.{End}
@@ -20,7 +20,7 @@ pub record AreEveningOf (lines : List (List ℕ)) (rows : List Row) : Type 0 whe
 -- the lines that have come are those of an evening, and its transcript was written
 pub record AreReplayed (left left' written written' : Option (List ℕ)) (ended : Bool) : Type 0 where
   pub taken : List ℕ
-  pub came : Came left left' taken ended
+  pub came : HasRead left left' taken ended
   pub rows : List Row
   pub evening : AreEveningOf (lines_come ended taken) rows
   pub text : Appends written written' (transcript_of rows)
@@ -30,7 +30,7 @@ pub record AreReplayed (left left' written written' : Option (List ℕ)) (ended 
 pub record IsReplayed (left left' written written' : Option (List ℕ)) : Type 0 where
   pub replayed : AreReplayed left left' written written' true
   pub leaving : Log
-  pub leave : LeaveInTurn (last_moment (came_of replayed.rows)) (left_by replayed.rows) leaving
+  pub leave : LeaveInOrder (last_moment (arrivals_of replayed.rows)) (left_by replayed.rows) leaving
   pub legal : Legal house opening_parts (history_of replayed.rows ++ leaving)
 
 -- at least 2^40 bytes came, and their whole lines were answered

@@ -14,7 +14,7 @@ use std::alloc::Global;
 impl LineHandler for Game {
     ghost use Rattle.std.specs.Prelude.{◌≡◌, codes};
     ghost use Rattle.fics_server.specs.Transcript.{IsPlayed};
-    ghost use Rattle.fics_server.specs.PlayedLines.{played_lines};
+    ghost use Rattle.fics_server.specs.PlayedLinesProof.{played_lines};
 
     ghost reached = { IsPlayed };
 
@@ -24,8 +24,8 @@ impl LineHandler for Game {
 
     ghost lines = { played_lines };
 
-    fn turn(&mut self, line: &[u8], out: &mut Vec<u8>) -> Result<bool, NoMemory> {
-        self.make_turn(line, out)
+    fn answer_line(&mut self, line: &[u8], out: &mut Vec<u8>) -> Result<bool, NoMemory> {
+        self.answer_line(line, out)
     }
 
     fn close(&mut self) -> Result<(), NoMemory> {

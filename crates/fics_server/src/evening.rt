@@ -17,7 +17,7 @@ use chess_model::Variant;
 use fics_words::{Line, NoMemory};
 use lobby_state::Lobby;
 use one_server::OneServer;
-use replay_core::{Progress, ScriptLine, SeatLine, read_script, read_seat};
+use replay_core::{Attendance, ScriptLine, SeatLine, read_script, read_seat};
 use session_core::{Input, leave, take};
 use std::alloc::Global;
 use std::marker::Model;
@@ -34,7 +34,7 @@ const SESSIONS: u32 = 64;
 pub struct Evening {
     alloc: Global,
     server: OneServer,
-    order: Option<Progress>,
+    order: Option<Attendance>,
     moment: u64,
 }
 
@@ -53,7 +53,7 @@ impl Evening {
     ghost use Rattle.std.specs.Prelude.{◌≡◌, ◌<◌, [], ℕ, List, None, Some, IfOk, length};
     ghost use Rattle.fics_words.specs.Line.{IsLine};
     ghost use Rattle.fics_server.specs.Evening.{Reached};
-    ghost use Rattle.fics_server.specs.Handling.{AfterTurn};
+    ghost use Rattle.fics_server.specs.Handling.{AfterAnswering};
 
     /// An evening before its first line.
     #[tactic(auto, using(one_server::proofs::Opens::opening_is))]
@@ -69,32 +69,32 @@ impl Evening {
     }
 
     /// Seats the players of the seat line; false where the line is none of chess.
-    fn seat_turn(&mut self, line: &Line) -> Result<bool, NoMemory>
+    fn take_seat_line(&mut self, line: &Line) -> Result<bool, NoMemory>
         requires first { self.old.order ≡ None }
         requires some { 0 < length line.now }
         requires line { IsLine line.now }
-        ensures { (out : List ℕ) → IfOk result (λ good. AfterTurn Reached self.old line.now out self.new out good) }
+        ensures { (out : List ℕ) → IfOk result (λ good. AfterAnswering Reached self.old line.now out self.new out good) }
     {
         let Some(seats) = read_chess_seat(self.alloc, line)? else {
             return Ok(false);
         };
         seat(&mut self.server, &seats)?;
         let _history = self.server.history();
-        self.order = Some(Progress::new(SEATS));
+        self.order = Some(Attendance::new(SEATS));
         Ok(true)
     }
 
     /// Makes a session answer its line; false where the line is outside the grammar.
-    fn session_turn(
+    fn take_event(
         &mut self,
-        order: Progress,
+        order: Attendance,
         line: &Line,
         out: &mut Vec<u8>,
     ) -> Result<bool, NoMemory>
         requires order { self.old.order ≡ Some order }
         requires some { 0 < length line.now }
         requires line { IsLine line.now }
-        ensures { IfOk result (λ good. AfterTurn Reached self.old line.now out.old.items self.new out.new.items good) }
+        ensures { IfOk result (λ good. AfterAnswering Reached self.old line.now out.old.items self.new out.new.items good) }
     {
         let Some((next, input)) = read_next(self.alloc, &self.server, &order, line)? else {
             return Ok(false);
@@ -119,7 +119,7 @@ impl Evening {
 impl LineHandler for Evening {
     ghost use Rattle.std.specs.Prelude.{codes};
     ghost use Rattle.fics_server.specs.Evening.{IsClosed, Reached};
-    ghost use Rattle.fics_server.specs.EveningLines.{reached_lines};
+    ghost use Rattle.fics_server.specs.EveningLinesProof.{reached_lines};
 
     ghost reached = { Reached };
 
@@ -129,13 +129,13 @@ impl LineHandler for Evening {
 
     ghost lines = { reached_lines };
 
-    fn turn(&mut self, line: &[u8], out: &mut Vec<u8>) -> Result<bool, NoMemory> {
+    fn answer_line(&mut self, line: &[u8], out: &mut Vec<u8>) -> Result<bool, NoMemory> {
         let Some(line) = Line::read(self.alloc, line)? else {
             return Ok(false);
         };
         match self.order {
-            None => self.seat_turn(&line),
-            Some(order) => self.session_turn(order, &line, out),
+            None => self.take_seat_line(&line),
+            Some(order) => self.take_event(order, &line, out),
         }
     }
 
@@ -157,7 +157,7 @@ impl LineHandler for Evening {
 fn read_next(
     alloc: Global,
     server: &OneServer,
-    order: &Progress,
+    order: &Attendance,
     line: &Line,
 ) -> Result<Option<(ScriptLine, Input)>, NoMemory>
     ensures next { IfOk result (λ read. IfSome read (λ next. IsNext order.now (parts_in server.now) line.now next.0 next.1)) }
@@ -182,7 +182,7 @@ fn read_next(
 fn close_sessions(
     alloc: Global,
     server: &mut OneServer,
-    order: &Progress,
+    order: &Attendance,
     moment: u64,
 ) -> Result<(), NoMemory>
     requires { moment ≤ 2 ^ 48 }

@@ -37,7 +37,7 @@ impl Model for Game {
 
 impl Game {
     ghost use Rattle.std.specs.Prelude.{◌≡◌, ◌++◌, IfOk, MatchOption, true, false};
-    ghost use Rattle.fics_server.specs.Game.{new_game, turn};
+    ghost use Rattle.fics_server.specs.Game.{new_game, answer_line};
 
     /// A game before its first half-move, with the room for all of them.
     pub fn new(alloc: Global) -> Result<Game, NoMemory>
@@ -48,10 +48,10 @@ impl Game {
         })
     }
 
-    /// Makes the turn of a line, and appends what is written for it; false where the line is outside the grammar.
+    /// Makes the answer of a line, and appends what is written for it; false where the line is outside the grammar.
     /// After want of memory nothing is known of the game and of what was appended.
-    pub fn make_turn(&mut self, line: &[u8], out: &mut Vec<u8>) -> Result<bool, NoMemory>
-        ensures made { IfOk result (λ made. MatchOption (turn self.old line.now)
+    pub fn answer_line(&mut self, line: &[u8], out: &mut Vec<u8>) -> Result<bool, NoMemory>
+        ensures made { IfOk result (λ made. MatchOption (answer_line self.old line.now)
             ((made ≡ false) × (out.new.items ≡ out.old.items))
             (λ next. (made ≡ true) × (self.new ≡ next.0) × (out.new.items ≡ out.old.items ++ next.1))) }
     {

@@ -5,7 +5,7 @@ use fics_words::NoMemory;
 /// A command that answers the lines of its input, one after another.
 pub trait LineHandler: Drop {
     ghost use Rattle.std.specs.Prelude.{◌≡◌, ◌<◌, ◌≤◌, ℕ, List, length, IfOk, OnOk};
-    ghost use Rattle.fics_server.specs.Handling.{AfterTurn, AreLines};
+    ghost use Rattle.fics_server.specs.Handling.{AfterAnswering, AreLines};
 
     /// These lines have brought the handler from its start to where it stands, and this text is due for them.
     ghost reached: { List (List ℕ) → Self → List ℕ → Type 0 };
@@ -18,10 +18,10 @@ pub trait LineHandler: Drop {
 
     /// Answers a line that isn't empty: appends what is due for it; false where the line is outside the grammar.
     /// After want of memory nothing is known of the handler and of what was appended.
-    fn turn(&mut self, line: &[u8], out: &mut Vec<u8>) -> Result<bool, NoMemory>
+    fn answer_line(&mut self, line: &[u8], out: &mut Vec<u8>) -> Result<bool, NoMemory>
         requires some { 0 < length line.now }
         requires short { length line.now ≤ 1023 }
-        ensures { IfOk result (λ good. AfterTurn reached self.old line.now out.old.items self.new out.new.items good) };
+        ensures { IfOk result (λ good. AfterAnswering reached self.old line.now out.old.items self.new out.new.items good) };
 
     /// Closes at the input's end; it writes nothing.
     fn close(&mut self) -> Result<(), NoMemory>

@@ -77,7 +77,7 @@ impl<T: LineHandler> Machine<T> {
         Ok(())
     }
 
-    /// Ends the line: makes its turn, and appends what is written for it.
+    /// Ends the line: makes its answer, and appends what is written for it.
     pub fn end_line(&mut self, out: &mut Vec<u8>) -> Result<(), Stop>
         requires { self.old.number < 2 ^ 64 - 1 }
         ensures line { AfterLine T.reached T.ending self.old out.old.items self.new out.new.items result }
@@ -90,7 +90,7 @@ impl<T: LineHandler> Machine<T> {
         if self.kept.len() > MOST_BYTES {
             return Err(refuse_line(self.number, self.handler.ending(), out));
         }
-        if !self.handler.turn(self.kept.as_slice(), out)? {
+        if !self.handler.answer_line(self.kept.as_slice(), out)? {
             return Err(refuse_line(self.number, self.handler.ending(), out));
         }
         self.number += 1;

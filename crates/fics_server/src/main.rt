@@ -1,7 +1,7 @@
 //! `ficsd`: the program, and its one top call `run`.
 //!
 //! The contract of `run`: what is written is what the words' command says of the lines of the bytes read. For `board`
-//! it is the turn that each line makes of a game; for `replay` it is the transcript of the one evening that has these
+//! it is the answer that each line makes of a game; for `replay` it is the transcript of the one evening that has these
 //! lines, whose acts are one legal history. Each status comes where it is stated to come, and a fault of reading or
 //! writing is told only where the object outside counted one.
 #![tactic(auto)]

@@ -1,7 +1,7 @@
 //! How a transcript shows what is written to a session.
 
 ghost use Rattle.std.specs.Prelude.{◌≡◌, ◌∷◌, ◌++◌, All, IfOk, IfNone, IfSome, OnOk, filter};
-ghost use Rattle.fics_server.specs.Lines.{IsUnbroken, is_kept, pieces};
+ghost use Rattle.fics_server.specs.Lines.{HasNoLineFeed, is_kept, pieces};
 ghost use Rattle.fics_server.specs.Tagged.{shown, tagged, tagged_line, tagged_lines};
 
 use fics_words::{NoMemory, write_number};
@@ -53,8 +53,8 @@ fn put_lines(session: u32, text: &[u8], out: &mut Vec<u8>) -> Result<(), NoMemor
 /// The bytes before the first line feed, and what follows it; none where there is no line feed.
 fn cut_line(bytes: &[u8]) -> Option<(&[u8], &[u8])>
     ensures parts { IfSome result (λ parts. bytes.now ≡ parts.0.now ++ 10 ∷ parts.1.now) }
-    ensures line { IfSome result (λ parts. IsUnbroken parts.0.now) }
-    ensures none { IfNone result (IsUnbroken bytes.now) }
+    ensures line { IfSome result (λ parts. HasNoLineFeed parts.0.now) }
+    ensures none { IfNone result (HasNoLineFeed bytes.now) }
 {
     let place = bytes.iter().position(|byte| *byte == b'\n')?;
     Some((&bytes[..place], &bytes[place + 1..]))

@@ -1,5 +1,5 @@
+pub mod Blanks
 pub mod Face
 pub mod Letters
 pub mod Pretty
-pub mod Unbroken
 pub mod Verbose

@@ -2,7 +2,7 @@
 ghost use Rattle.std.specs.Prelude.{◌≡◌, option_copied, codes, is_some};
 ghost use Rattle.chess_model.specs.MoveList.{taken, taking_square};
 ghost use Rattle.move_writer.specs.Face.{face_of, moved_kind, plain_shown_of};
-ghost use Rattle.move_writer.specs.Unbroken.{IsUnbroken};
+ghost use Rattle.move_writer.specs.Blanks.{HasNoBlank};
 
 use crate::draft::Draft;
 use crate::pretty_text::pretty;
@@ -12,8 +12,8 @@ use chess_model::{Face, Kind, Move, MoveText, PlainBoard, Shown, Square, State};
 /// What a board line shows of a position to which `half_moves` half-moves led, `last` being the last of them.
 pub fn face(board: &PlainBoard, half_moves: u16, last: Option<&Shown>) -> Face
     ensures face { result ≡ face_of board.now half_moves (option_copied last.entry) }
-    ensures verbose { IsUnbroken result.verbose }
-    ensures pretty { IsUnbroken result.pretty }
+    ensures verbose { HasNoBlank result.verbose }
+    ensures pretty { HasNoBlank result.pretty }
 {
     let rights = board.rights();
     let (verbose, pretty) = match last {
@@ -94,7 +94,7 @@ fn taking_square(board: &PlainBoard, from: Square, to: Square) -> Square
 /// What stands in place of a move before the first one.
 fn none_text() -> MoveText
     ensures text { result ≡ codes "none" }
-    ensures unbroken { IsUnbroken result }
+    ensures unbroken { HasNoBlank result }
 {
     let mut text = Draft::new();
     text.push_all(b"none");

@@ -2,7 +2,7 @@ ghost use Rattle.std.specs.Prelude.{◌≡◌, ◌+◌, ◌<◌, ◌≤◌, List
 ghost use Rattle.chess_model.specs.MoveText.{IsMoveText};
 ghost use Rattle.move_writer.specs.Letters.{square_text, promotion_text};
 ghost use Rattle.move_writer.specs.Pretty.{only_if};
-ghost use Rattle.move_writer.specs.Unbroken.{Shows, IsUnbroken};
+ghost use Rattle.move_writer.specs.Blanks.{Shows, HasNoBlank};
 
 use crate::letters::{file_of, letter, rank_of};
 use chess_model::{Kind, MoveText, Square};
@@ -19,7 +19,7 @@ pub(crate) struct Draft {
 
 impl Model for Draft {
     ghost use Rattle.std.specs.Prelude.{◌≤◌, List, ℕ, All, take};
-    ghost use Rattle.move_writer.specs.Unbroken.{Shows};
+    ghost use Rattle.move_writer.specs.Blanks.{Shows};
 
     ghost Value = { List ℕ };
 
@@ -97,7 +97,7 @@ impl Draft {
     pub(crate) fn finish(self) -> MoveText
         requires { 0 < length self }
         ensures text { result ≡ self }
-        ensures unbroken { IsUnbroken result }
+        ensures unbroken { HasNoBlank result }
     {
         let Draft { bytes, len } = self;
         MoveText::of(&bytes[..len]).unwrap()

@@ -1,6 +1,6 @@
 ghost use Rattle.std.specs.Prelude.{◌≡◌, ◌<◌};
 ghost use Rattle.move_writer.specs.Letters.{letter_of, file_letter, rank_digit};
-ghost use Rattle.move_writer.specs.Unbroken.{Shows};
+ghost use Rattle.move_writer.specs.Blanks.{Shows};
 
 use chess_model::{Kind, Square};
 

@@ -1,6 +1,6 @@
 ghost use Rattle.std.specs.Prelude.{◌≡◌, ◌<◌, ◌≤◌, ◌++◌, length};
 ghost use Rattle.move_writer.specs.Pretty.{origin_text, pretty_move, mark_text, pretty_of};
-ghost use Rattle.move_writer.specs.Unbroken.{IsUnbroken};
+ghost use Rattle.move_writer.specs.Blanks.{HasNoBlank};
 
 use crate::draft::Draft;
 use crate::letters::{file_of, letter, rank_of};
@@ -11,7 +11,7 @@ use chess_model::{Kind, Move, MoveText, Shown, Square, State};
 /// target; `+` follows where the move gives check, `#` where it mates.
 pub fn pretty(s: &Shown) -> MoveText
     ensures text { result ≡ pretty_of s.now }
-    ensures unbroken { IsUnbroken result }
+    ensures unbroken { HasNoBlank result }
 {
     let mut text = Draft::new();
     push_move(&mut text, s);

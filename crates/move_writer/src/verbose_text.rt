@@ -1,5 +1,5 @@
 ghost use Rattle.std.specs.Prelude.{◌≡◌};
-ghost use Rattle.move_writer.specs.Unbroken.{IsUnbroken};
+ghost use Rattle.move_writer.specs.Blanks.{HasNoBlank};
 ghost use Rattle.move_writer.specs.Verbose.{verbose_of};
 
 use crate::draft::Draft;
@@ -9,7 +9,7 @@ use chess_model::{Move, MoveText, Shown};
 /// The verbose text of a move, as FICS style 12 writes it: `P/e2-e4`, `P/e7-e8=Q`, `o-o`, `o-o-o`, `P/@@-e4`.
 pub fn verbose(s: &Shown) -> MoveText
     ensures text { result ≡ verbose_of s.now }
-    ensures unbroken { IsUnbroken result }
+    ensures unbroken { HasNoBlank result }
 {
     let mut text = Draft::new();
     match s.what {

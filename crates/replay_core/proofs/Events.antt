@@ -3,7 +3,7 @@ use Rattle.std.proofs.Common.{◌≡◌, ℕ, ◌<◌, List, [], ◌∷◌, ◌+
 use Rattle.std.specs.Prelude.{decimal}
 use Rattle.std.proofs.lemmas.Fmt.{decimal_injective}
 use Rattle.replay_core.specs.Words.{blank}
-use Rattle.replay_core.specs.Script.{IsEvent, IsScriptLine, event_text, script_text}
+use Rattle.replay_core.specs.Script.{IsScriptEvent, IsScriptLine, event_text, script_text}
 use Rattle.replay_core.specs.declared.script.ScriptEvent.{ScriptEvent}
 use Rattle.replay_core.specs.declared.script.ScriptEvent.TheVariants.{Connect, Cut, Quiet, Plain, Stamped, Ack}
 use Rattle.replay_core.specs.declared.script.ScriptLine.{ScriptLine}
@@ -98,7 +98,7 @@ is_ack (Plain text) e = absurd (omega arith)
 is_ack (Stamped stamp text) e = absurd (omega arith)
 is_ack (Ack stamp) e = (stamp, refl)
 
-pub one_event : (one other : ScriptEvent) → IsEvent one → IsEvent other → event_text one ≡ event_text other → one ≡ other
+pub one_event : (one other : ScriptEvent) → IsScriptEvent one → IsScriptEvent other → event_text one ≡ event_text other → one ≡ other
 one_event Connect other p q e = sym (is_connect other (sym (same_sign Connect other e)))
 one_event Cut other p q e = sym (is_cut other (sym (same_sign Cut other e)))
 one_event Quiet other p q e = sym (is_quiet other (sym (same_sign Quiet other e)))
@@ -107,11 +107,11 @@ one_event (Plain x) other p q e =
     one_plain x found.0 (e ∙ ap event_text found.1) ∙ sym found.1
 one_event (Stamped m x) other p q e =
     let found = is_stamped other (sym (same_sign (Stamped m x) other e)) in
-    let range = subst IsEvent found.2 q in
+    let range = subst IsScriptEvent found.2 q in
     one_stamped m found.0 x found.1 p.0 range.0 (e ∙ ap event_text found.2) ∙ sym found.2
 one_event (Ack m) other p q e =
     let found = is_ack other (sym (same_sign (Ack m) other e)) in
-    one_ack m found.0 p (subst IsEvent found.1 q) (e ∙ ap event_text found.1) ∙ sym found.1
+    one_ack m found.0 p (subst IsScriptEvent found.1 q) (e ∙ ap event_text found.1) ∙ sym found.1
 
 same_line : (one other : ScriptLine) → one.moment ≡ other.moment → one.session ≡ other.session → one.event ≡ other.event → one ≡ other
 same_line one other moment session event =

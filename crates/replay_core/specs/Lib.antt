@@ -1,6 +1,6 @@
 -- What the contracts of this crate cite.
+pub mod Attendance
 pub mod Order
-pub mod Progress
 pub mod Script
 pub mod SeatLine
 pub mod Words

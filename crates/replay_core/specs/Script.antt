@@ -12,20 +12,20 @@ abbrev pub IsStamp : ℕ → Type 0
 IsStamp stamp = stamp < 10000000
 
 -- what can come from a session
-abbrev pub IsEvent : ScriptEvent → Type 0
-IsEvent Connect = Unit {0}
-IsEvent Cut = Unit {0}
-IsEvent Quiet = Unit {0}
-IsEvent (Plain text) = IsLine text
-IsEvent (Stamped stamp text) = IsStamp stamp × IsLine text
-IsEvent (Ack stamp) = IsStamp stamp
+abbrev pub IsScriptEvent : ScriptEvent → Type 0
+IsScriptEvent Connect = Unit {0}
+IsScriptEvent Cut = Unit {0}
+IsScriptEvent Quiet = Unit {0}
+IsScriptEvent (Plain text) = IsLine text
+IsScriptEvent (Stamped stamp text) = IsStamp stamp × IsLine text
+IsScriptEvent (Ack stamp) = IsStamp stamp
 
 -- moments are milliseconds, and a script has up to 64 sessions
 pub record IsScriptLine (line : ScriptLine) : Type 0 where
   pub moment : line.moment ≤ 2 ^ 48
   pub first : 1 ≤ line.session
   pub last : line.session ≤ 64
-  pub event : IsEvent line.event
+  pub event : IsScriptEvent line.event
 
 -- how an event is written
 abbrev pub event_text : ScriptEvent → List ℕ

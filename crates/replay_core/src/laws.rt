@@ -1,7 +1,7 @@
 //! What holds of the grammar as a whole.
 
 ghost use Rattle.std.specs.Prelude.{◌≡◌, ◌≢◌, ◌↔◌, ◌++◌, ◌∷◌, [], ℕ, List};
-ghost use Rattle.replay_core.specs.Order.{Came, IsInOrder, KeepOrder, MayCome};
+ghost use Rattle.replay_core.specs.Order.{Arrival, IsInOrder, KeepOrder, MayCome};
 ghost use Rattle.replay_core.specs.Script.{IsScriptLine, script_text};
 ghost use Rattle.replay_core.specs.SeatLine.{IsSeatLine, seat_text};
 ghost use Rattle.replay_core.specs.declared.script.ScriptLine.{ScriptLine};
@@ -18,12 +18,12 @@ pub fn one_reading()
 /// What the order of a script's lines says of any two of them, the later one with all that comes before it: moments
 /// don't fall, and nothing comes from a session that has left, nor does it connect again.
 pub fn order_of_two()
-    ensures { (seats : ℕ) (before between after : List Came) (one other : Came) →
+    ensures { (seats : ℕ) (before between after : List Arrival) (one other : Arrival) →
         IsInOrder seats (before ++ one ∷ (between ++ other ∷ after)) → KeepOrder one other }
 {}
 
 /// A script's lines stand in order where each of them may come after those before it.
 pub fn order_by_steps()
-    ensures { (seats : ℕ) (lines : List Came) (next : Came) →
+    ensures { (seats : ℕ) (lines : List Arrival) (next : Arrival) →
         IsInOrder seats (lines ++ next ∷ []) ↔ (IsInOrder seats lines × MayCome seats lines next.line) }
 {}

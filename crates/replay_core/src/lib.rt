@@ -6,7 +6,7 @@
 //! - The contract of the readers: `read_script` and `read_seat` give a value exactly where the line is the one text of a
 //!   value in range, so no line has two readings (`one_reading`).
 //! - The rule on the order of the lines stands in `specs/Order.antt`: a session connects once, before all else that comes
-//!   from it, nothing comes from it once it has left, and moments never fall. `Progress` is told one line after another,
+//!   from it, nothing comes from it once it has left, and moments never fall. `Attendance` is told one line after another,
 //!   and says of the next whether it may come.
 #![tactic(auto)]
 
@@ -18,6 +18,6 @@ mod words;
 
 pub use fics_words::{Duplicate, NoMemory};
 pub use laws::{one_reading, order_by_steps, order_of_two};
-pub use order::Progress;
+pub use order::Attendance;
 pub use script::{ScriptEvent, ScriptLine, read_script};
 pub use seat_line::{SeatLine, read_seat};

@@ -19,22 +19,22 @@ enum Presence {
 
 /// How far a script has come: what its lines so far say of those that may still come.
 #[derive(Clone, Copy, Debug)]
-pub struct Progress {
+pub struct Attendance {
     moment: u64,
     presences: [Presence; MOST_SESSIONS],
 }
 
-impl Progress {
-    ghost use Rattle.replay_core.specs.Order.{Came, MayCome, is_here};
-    ghost use Rattle.replay_core.specs.Progress.{IsAfter};
+impl Attendance {
+    ghost use Rattle.replay_core.specs.Order.{Arrival, MayCome, is_here};
+    ghost use Rattle.replay_core.specs.Attendance.{IsAfter};
     ghost use Rattle.replay_core.specs.Script.{IsScriptLine};
 
     /// No line has come yet; the sessions from 1 to `seats` are seated.
-    pub fn new(seats: u32) -> Progress
+    pub fn new(seats: u32) -> Attendance
         requires { seats ≤ 64 }
         ensures { IsAfter result seats [] }
     {
-        Progress {
+        Attendance {
             moment: 0,
             presences: presences_at_start(seats as usize),
         }
@@ -43,7 +43,7 @@ impl Progress {
     /// Whether the line may come next.
     pub fn may_come(&self, line: &ScriptLine) -> bool
         requires { IsScriptLine line.now }
-        ensures { (seats : ℕ) (lines : List Came) → IsAfter self.now seats lines → (IsTrue result ↔ MayCome seats lines line.now) }
+        ensures { (seats : ℕ) (lines : List Arrival) → IsAfter self.now seats lines → (IsTrue result ↔ MayCome seats lines line.now) }
     {
         if line.moment < self.moment {
             return false;
@@ -58,7 +58,7 @@ impl Progress {
     /// Notes that the line came, which may. `quit` says that it was a `quit` that was answered.
     pub fn note(&mut self, line: &ScriptLine, quit: bool)
         requires { IsScriptLine line.now }
-        ensures { (seats : ℕ) (lines : List Came) → IsAfter self.old seats lines → MayCome seats lines line.now → IsAfter self.new seats (lines ++ record { line = line.now; quit = quit } ∷ []) }
+        ensures { (seats : ℕ) (lines : List Arrival) → IsAfter self.old seats lines → MayCome seats lines line.now → IsAfter self.new seats (lines ++ record { line = line.now; quit = quit } ∷ []) }
     {
         let leaves = quit || matches!(line.event, ScriptEvent::Cut);
         self.moment = line.moment;
@@ -74,7 +74,7 @@ impl Progress {
     pub fn is_here(&self, session: u32) -> bool
         requires first { 1 ≤ session }
         requires last { session ≤ 64 }
-        ensures { (seats : ℕ) (lines : List Came) → IsAfter self.now seats lines → result ≡ is_here seats lines session }
+        ensures { (seats : ℕ) (lines : List Arrival) → IsAfter self.now seats lines → result ≡ is_here seats lines session }
     {
         matches!(self.presences[session as usize - 1], Presence::Here)
     }

@@ -2,7 +2,7 @@
 
 ghost use Rattle.std.specs.Prelude.{◌≡◌, ◌≢◌, ◌∷◌, IfOk, IfSome, IfNone, SomeIff, ℕ, List, decimal};
 ghost use Rattle.fics_words.specs.Line.{IsLine};
-ghost use Rattle.replay_core.specs.Script.{IsEvent, IsScriptLine, IsStamp, event_text, script_text};
+ghost use Rattle.replay_core.specs.Script.{IsScriptEvent, IsScriptLine, IsStamp, event_text, script_text};
 ghost use Rattle.replay_core.specs.Words.{blank};
 ghost use Rattle.replay_core.specs.declared.script.ScriptEvent.{ScriptEvent};
 
@@ -76,8 +76,8 @@ pub fn read_script(alloc: Global, line: &Line) -> Result<Option<ScriptLine>, NoM
 /// Reads what stands behind the session's number.
 fn read_event(alloc: Global, bytes: &[u8]) -> Result<Option<ScriptEvent>, NoMemory>
     ensures spelled { IfOk result (λ read. IfSome read (λ event. bytes.now ≡ event_text event)) }
-    ensures in_range { IfOk result (λ read. IfSome read IsEvent) }
-    ensures none { IfOk result (λ read. IfNone read ((event : ScriptEvent) → IsEvent event → bytes.now ≢ event_text event)) }
+    ensures in_range { IfOk result (λ read. IfSome read IsScriptEvent) }
+    ensures none { IfOk result (λ read. IfNone read ((event : ScriptEvent) → IsScriptEvent event → bytes.now ≢ event_text event)) }
 {
     match bytes {
         b"+" => Ok(Some(ScriptEvent::Connect)),
@@ -103,8 +103,8 @@ fn read_plain(alloc: Global, text: &[u8]) -> Result<Option<ScriptEvent>, NoMemor
 /// A line behind its stamp.
 fn read_stamped(alloc: Global, bytes: &[u8]) -> Result<Option<ScriptEvent>, NoMemory>
     ensures spelled { IfOk result (λ read. IfSome read (λ event. 0x2A ∷ blank ∷ bytes.now ≡ event_text event)) }
-    ensures in_range { IfOk result (λ read. IfSome read IsEvent) }
-    ensures none { IfOk result (λ read. IfNone read ((stamp : ℕ) (text : List ℕ) → IsEvent (ScriptEvent.Stamped stamp text) → 0x2A ∷ blank ∷ bytes.now ≢ event_text (ScriptEvent.Stamped stamp text))) }
+    ensures in_range { IfOk result (λ read. IfSome read IsScriptEvent) }
+    ensures none { IfOk result (λ read. IfNone read ((stamp : ℕ) (text : List ℕ) → IsScriptEvent (ScriptEvent.Stamped stamp text) → 0x2A ∷ blank ∷ bytes.now ≢ event_text (ScriptEvent.Stamped stamp text))) }
 {
     let Some((stamp, text)) = cut_number(bytes, LAST_STAMP) else {
         return Ok(None);
@@ -118,7 +118,7 @@ fn read_stamped(alloc: Global, bytes: &[u8]) -> Result<Option<ScriptEvent>, NoMe
 /// An acknowledgement, whose stamp is all of the bytes.
 fn read_ack(stamp: &[u8]) -> Option<ScriptEvent>
     ensures spelled { IfSome result (λ event. 0x21 ∷ blank ∷ stamp.now ≡ event_text event) }
-    ensures in_range { IfSome result IsEvent }
+    ensures in_range { IfSome result IsScriptEvent }
     ensures none { IfNone result ((value : ℕ) → IsStamp value → stamp.now ≢ decimal value) }
 {
     let stamp = read_number(stamp, LAST_STAMP)?;

@@ -3,7 +3,7 @@
 ghost use Rattle.std.specs.Prelude.{◌≤◌};
 
 use fics_words::Line;
-use replay_core::{Progress, read_script};
+use replay_core::{Attendance, read_script};
 use std::alloc::Global;
 use std::process::Abort;
 use std::test::Fail;
@@ -71,17 +71,17 @@ fn follows_seated_sessions(rt: HostRuntime) -> Result<(), Fail> {
 
 #[test]
 fn seats_all(rt: HostRuntime) {
-    let progress = Progress::new(64);
+    let progress = Attendance::new(64);
     for session in 1..=64 {
         assert!(rt; progress.is_here(session));
     }
 }
 
 /// Goes over the lines, and looks at each whether it may come as the table says.
-fn follow(rt: &impl Abort, alloc: Global, seats: u32, rows: &str) -> Result<Progress, Fail>
+fn follow(rt: &impl Abort, alloc: Global, seats: u32, rows: &str) -> Result<Attendance, Fail>
     requires { seats ≤ 64 }
 {
-    let mut progress = Progress::new(seats);
+    let mut progress = Attendance::new(seats);
     for row in rows.lines() {
         let (fate, text) = row.split_once(": ").ok_or("a fate and a line")?;
         let line = Line::read(alloc, text.as_bytes())?.ok_or("a line")?;

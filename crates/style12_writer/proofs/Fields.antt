@@ -16,7 +16,7 @@ use Rattle.chess_model.specs.declared.face.Face.{Face}
 use Rattle.chess_model.specs.Placement.{man_at}
 use Rattle.chess_model.specs.Squares.{square_at}
 use Rattle.fics_words.specs.Handle.{IsHandle}
-use Rattle.move_writer.specs.Unbroken.{IsUnbroken}
+use Rattle.move_writer.specs.Blanks.{HasNoBlank}
 use Rattle.style12_writer.specs.Board.{man_letter, square_letter, rank_text, ranks, castle_flags, material_of, colour_to_move, double_push, flag_text}
 use Rattle.style12_writer.specs.Clocks.{whole_seconds_of, two_digits_of, time_taken}
 use Rattle.style12_writer.specs.Line12.{cut_at_blanks, position_fields, game_fields, strength_fields, move_fields, fields_of, line12_text}
@@ -27,10 +27,10 @@ use Rattle.style12_writer.proofs.Decimals.{All-decimal, decimal_some, All-signed
 -- a text that is one field of a line
 pub record IsField (text : List ℕ) : Type 0 where
   pub some : 0 < length text
-  pub unbroken : IsUnbroken text
+  pub unbroken : HasNoBlank text
 
 -- a text without a blank is cut nowhere
-AllPass-from_unbroken : (text : List ℕ) → IsUnbroken text → All (λ byte. (byte == 32) ≡ false) text
+AllPass-from_unbroken : (text : List ℕ) → HasNoBlank text → All (λ byte. (byte == 32) ≡ false) text
 AllPass-from_unbroken text h k d within = ne_eqb _ 32 (h k d within)
 
 -- fields that are joined by blanks are what the line is cut into
@@ -87,7 +87,7 @@ IsField-rank men rank = record {
       (λ k d inside blank. let high = square_letter_high (man_at men (square_at (get_or (0 ∷ 1 ∷ 2 ∷ 3 ∷ 4 ∷ 5 ∷ 6 ∷ 7 ∷ []) k d) rank)) in omega arith);
 }
 
-one_unbroken : (byte : ℕ) → byte ≢ 32 → IsUnbroken (byte ∷ [])
+one_unbroken : (byte : ℕ) → byte ≢ 32 → HasNoBlank (byte ∷ [])
 one_unbroken byte h = All-cons (λ byte. byte ≢ 32) byte [] h (All-nil (λ byte. byte ≢ 32))
 
 pub IsField-colour : (c : Colour) → IsField (colour_to_move c)

@@ -1,6 +1,6 @@
 //! The board line.
 ghost use Rattle.std.specs.Prelude.{◌≡◌, ◌+◌, ◌<◌, ◌≤◌, ◌∷◌, ◌++◌, All, IfOk, IsTrue, OnOk, length};
-ghost use Rattle.move_writer.specs.Unbroken.{IsUnbroken};
+ghost use Rattle.move_writer.specs.Blanks.{HasNoBlank};
 ghost use Rattle.std.specs.Fmt.{signed_decimal};
 ghost use Rattle.std.specs.List.{list_all};
 ghost use Rattle.chess_model.specs.MoveText.{is_printable};
@@ -107,8 +107,8 @@ fn two_digits(n: u64) -> [u8; 2]
 /// A board line, cut at its blanks, has exactly its 31 fields, and none of them is empty, where the two texts of the
 /// previous move have no blank. Nothing is computed: the contract is a law of the text that `line12` writes.
 pub fn line12_fields(v: &BoardView, who: Viewer)
-    requires verbose { IsUnbroken v.now.face.verbose }
-    requires pretty { IsUnbroken v.now.face.pretty }
+    requires verbose { HasNoBlank v.now.face.verbose }
+    requires pretty { HasNoBlank v.now.face.pretty }
     ensures fields { cut_at_blanks (line12_text v.now who) ≡ fields_of v.now who }
     ensures count { length (fields_of v.now who) ≡ 31 }
     ensures filled { All (λ field. 0 < length field) (fields_of v.now who) }

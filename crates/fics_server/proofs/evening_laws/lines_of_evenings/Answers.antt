@@ -1,4 +1,4 @@
-use Rattle.fics_server.specs.EveningLines.{reached_lines}
+use Rattle.fics_server.specs.EveningLinesProof.{reached_lines}
 use Rattle.fics_server.proofs.evening_laws.lines_of_evenings.Goals as goal
 
 pub returns : goal.returns

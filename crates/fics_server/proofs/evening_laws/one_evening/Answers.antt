@@ -1,6 +1,6 @@
-use Rattle.fics_server.specs.Evenings.{one_evening, evening_legal}
+use Rattle.fics_server.specs.EveningsProof.{one_evening, evening_legal}
 use Rattle.fics_server.specs.Evening.{parts_after}
-use Rattle.fics_server.specs.Following.{one_leaving}
+use Rattle.fics_server.specs.FollowingProof.{one_leaving}
 use Rattle.fics_server.proofs.evening_laws.one_evening.Goals as goal
 
 pub returns-clause-same : goal.returns-clause-same

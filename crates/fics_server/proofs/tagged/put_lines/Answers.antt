@@ -1,12 +1,12 @@
 use Rattle.std.proofs.Common.{◌≡◌, ◌∷◌, ◌++◌, ℕ, List, sym, ap, ◌∙◌}
 use Rattle.std.proofs.lemmas.Result.{on_ok_weaker}
-use Rattle.fics_server.specs.Lines.{IsUnbroken, pieces}
+use Rattle.fics_server.specs.Lines.{HasNoLineFeed, pieces}
 use Rattle.fics_server.specs.Tagged.{shown, tagged_line, tagged_lines}
 use Rattle.fics_server.proofs.Showing.{one_line_shown, last_shown}
 use Rattle.fics_server.proofs.tagged.put_lines.Goals as goal
 
 -- one line more was put
-more : (session : ℕ) (out' out rest line after due : List ℕ) → out' ≡ out ++ tagged_line session line → rest ≡ line ++ 10 ∷ after → IsUnbroken line
+more : (session : ℕ) (out' out rest line after due : List ℕ) → out' ≡ out ++ tagged_line session line → rest ≡ line ++ 10 ∷ after → HasNoLineFeed line
     → out ++ tagged_lines session (shown (pieces rest)) ≡ due → out' ++ tagged_lines session (shown (pieces after)) ≡ due
 more session out' out rest line after due put parts line_is kept =
     ap (λ (o : List ℕ). o ++ tagged_lines session (shown (pieces after))) put

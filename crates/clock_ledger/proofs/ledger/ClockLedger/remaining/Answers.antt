@@ -1,12 +1,12 @@
 use Rattle.std.proofs.Common.{◌≡◌, ◌∙◌, ◌+◌, ◌*◌, ap, arith, rules, true}
 use Rattle.std.proofs.lemmas.Int.{ints}
 use Rattle.clock_ledger.specs.Clock.{given, spent, start_of, timed}
-use Rattle.clock_ledger.proofs.Sums.{IsKept-le}
+use Rattle.clock_ledger.proofs.Sums.{SumsUp-le}
 use Rattle.clock_ledger.proofs.Remaining.{remaining_is}
 use Rattle.clock_ledger.proofs.ledger.ClockLedger.remaining.Goals as goal
 
 pub difference-requires-clause-spent_small : goal.difference-requires-clause-spent_small
-difference-requires-clause-spent_small c = omega (arith, IsKept-le _ _ c.self.invariant)
+difference-requires-clause-spent_small c = omega (arith, SumsUp-le _ _ c.self.invariant)
 
 pub returns : goal.returns
 returns c =
@@ -20,4 +20,4 @@ returns c =
     in
     let to_take : inside.spent ≡ spent l = c.self.invariant.counted ∙ ap spent c.self.view_is in
     let left = remaining_is l c.given_millis-given.result inside.spent on to_give to_take in
-    omega (arith, ints, IsKept-le _ _ c.self.invariant, left)
+    omega (arith, ints, SumsUp-le _ _ c.self.invariant, left)

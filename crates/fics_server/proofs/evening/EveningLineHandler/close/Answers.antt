@@ -1,6 +1,6 @@
 use Rattle.std.proofs.Common.{◌≡◌, Some, sym, ap, subst, ◌∙◌}
 use Rattle.fics_server.specs.Evening.{AfterLeaving, EveningState}
-use Rattle.fics_server.proofs.EveningTurns.{closed_after}
+use Rattle.fics_server.proofs.EveningAnswers.{closed_after}
 use Rattle.fics_server.proofs.evening.EveningLineHandler.close.Goals as goal
 
 pub returns : goal.returns

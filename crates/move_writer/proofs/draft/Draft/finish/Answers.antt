@@ -1,7 +1,7 @@
 use Rattle.std.proofs.Common.{◌≡◌, ◌<◌, List, ℕ, length, take, sym, subst, ◌∙◌, arith, length-take}
 use Rattle.std.specs.Prelude.{All}
-use Rattle.move_writer.specs.Unbroken.{Shows, IsUnbroken}
-use Rattle.move_writer.proofs.Shown.{IsMoveText-from_shows, IsUnbroken-from_shows}
+use Rattle.move_writer.specs.Blanks.{Shows, HasNoBlank}
+use Rattle.move_writer.proofs.Shown.{IsMoveText-from_shows, HasNoBlank-from_shows}
 use Rattle.move_writer.proofs.draft.Draft.finish.Goals as goal
 
 pub unwrap-requires : goal.unwrap-requires
@@ -14,4 +14,4 @@ pub returns-clause-unbroken : goal.returns-clause-unbroken
 returns-clause-unbroken c =
     let shows : All Shows c.args.self = subst (λ (text : List ℕ). All Shows text) c.self.view_is c.self.invariant.1 in
     let same : c.unwrap.result ≡ c.args.self = (rw c.unwrap.ensures at c.of.ensures.value) ∙ c.self.view_is in
-    subst (λ (text : List ℕ). IsUnbroken text) (sym same) (IsUnbroken-from_shows c.args.self shows)
+    subst (λ (text : List ℕ). HasNoBlank text) (sym same) (HasNoBlank-from_shows c.args.self shows)

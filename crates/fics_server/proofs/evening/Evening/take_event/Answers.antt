@@ -1,8 +1,8 @@
 use Rattle.std.proofs.Common.{Some, refl, ap, subst}
 use Rattle.one_server.specs.Server.{ServerState, parts_in}
 use Rattle.fics_server.specs.Evening.{EveningState, HasAnswered, IsNext, IsNoNext}
-use Rattle.fics_server.proofs.EveningTurns.{no_coming, coming_taken}
-use Rattle.fics_server.proofs.evening.Evening.session_turn.Goals as goal
+use Rattle.fics_server.proofs.EveningAnswers.{no_coming, coming_taken}
+use Rattle.fics_server.proofs.evening.Evening.take_event.Goals as goal
 
 pub returns-in_default : goal.returns-in_default
 returns-in_default c =

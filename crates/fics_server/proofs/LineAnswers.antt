@@ -1,4 +1,4 @@
--- The turn of a line, opened.
+-- The answer of a line, opened.
 use Rattle.std.proofs.Common.{◌≡◌, ℕ, Bool, true, false, cond, List, refl, ap, ◌∙◌, Some, None, Ok, Err}
 use Rattle.std.specs.Prelude.{Option, Result, option_and_then}
 use Rattle.chess_model.specs.declared.man.Man.{Man}
@@ -9,24 +9,24 @@ use Rattle.game_board.specs.Play.{play_reply, play_after}
 use Rattle.fics_server.specs.MoveForm.{squares_of}
 use Rattle.fics_server.specs.declared.squares.Squares.{Squares}
 use Rattle.session_core.specs.Texts.{refusal_line}
-use Rattle.fics_server.specs.Game.{GameState, line_text, answer_to, is_outside, made, turn_of, turn}
+use Rattle.fics_server.specs.Game.{GameState, line_text, answer_to, is_outside, made, answer_squares, answer_line}
 
 -- a line that is no word
-pub turn-no_word : (b : GameState) (line : List ℕ) → squares_of line ≡ None → turn b line ≡ None
-unfolding turn
-turn-no_word b line e = ap (option_and_then (λ s. turn_of b s)) e
+pub answer_line-no_word : (b : GameState) (line : List ℕ) → squares_of line ≡ None → answer_line b line ≡ None
+unfolding answer_line
+answer_line-no_word b line e = ap (option_and_then (λ s. answer_squares b s)) e
 
 -- a word for castling or promotion
-pub turn-outside : (b : GameState) (line : List ℕ) (s : Squares) → squares_of line ≡ Some s → is_outside b s ≡ true → turn b line ≡ None
-unfolding turn
-turn-outside b line s e out =
-    ap (option_and_then (λ x. turn_of b x)) e ∙ ap (λ (t : Bool). cond t None (Some (made b (answer_to b s)))) out
+pub answer_line-outside : (b : GameState) (line : List ℕ) (s : Squares) → squares_of line ≡ Some s → is_outside b s ≡ true → answer_line b line ≡ None
+unfolding answer_line
+answer_line-outside b line s e out =
+    ap (option_and_then (λ x. answer_squares b x)) e ∙ ap (λ (t : Bool). cond t None (Some (made b (answer_to b s)))) out
 
 -- any other word
-pub turn-made : (b : GameState) (line : List ℕ) (s : Squares) → squares_of line ≡ Some s → is_outside b s ≡ false → turn b line ≡ Some (made b (answer_to b s))
-unfolding turn
-turn-made b line s e out =
-    ap (option_and_then (λ x. turn_of b x)) e ∙ ap (λ (t : Bool). cond t None (Some (made b (answer_to b s)))) out
+pub answer_line-made : (b : GameState) (line : List ℕ) (s : Squares) → squares_of line ≡ Some s → is_outside b s ≡ false → answer_line b line ≡ Some (made b (answer_to b s))
+unfolding answer_line
+answer_line-made b line s e out =
+    ap (option_and_then (λ x. answer_squares b x)) e ∙ ap (λ (t : Bool). cond t None (Some (made b (answer_to b s)))) out
 
 -- what is made of an answer, by the reply that it gave
 pub made-played : (b : Board) (a : Result Move Refusal) (taken : Option Man) → Ok taken ≡ play_reply b a → made b a ≡ (play_after b 0 a, line_text (play_after b 0 a))

@@ -1,4 +1,4 @@
--- What a line makes of an evening: the turn of the seat line, the turns of sessions, and lines outside the grammar.
+-- What a line makes of an evening: the answer of the seat line, the answers of sessions, and lines outside the grammar.
 use Rattle.std.proofs.Common.{◌≡◌, ◌≢◌, ℕ, ◌<◌, Bool, true, false, IfOk, Result, List, [], ◌∷◌, ◌++◌, length, Option, None, Some, append-nil, refl, sym, ap, subst, ◌∙◌, arith}
 use Rattle.chess_model.specs.declared.variant.Variant.TheVariants.{Chess}
 use Rattle.memory.specs.declared.NoMemory.{NoMemory}
@@ -8,18 +8,18 @@ use Rattle.one_server.specs.declared.part.Part.{Part}
 use Rattle.one_server.specs.House.{house}
 use Rattle.one_server.specs.Running.{Log}
 use Rattle.one_server.specs.Server.{ServerState, parts_in}
-use Rattle.replay_core.specs.declared.order.Progress.{Progress}
+use Rattle.replay_core.specs.declared.order.Attendance.{Attendance}
 use Rattle.replay_core.specs.declared.script.ScriptLine.{ScriptLine}
 use Rattle.replay_core.specs.declared.seat_line.SeatLine.{SeatLine}
-use Rattle.replay_core.specs.Order.{Came, MayCome, left_of}
-use Rattle.replay_core.specs.Progress.{IsAfter}
+use Rattle.replay_core.specs.Order.{Arrival, MayCome, left_of}
+use Rattle.replay_core.specs.Attendance.{IsAfter}
 use Rattle.replay_core.specs.SeatLine.{IsSeatLine, seat_text}
 use Rattle.session_core.specs.declared.input.Input.{Input}
-use Rattle.fics_server.specs.Evening.{EveningState, HasAnswered, HasMade, AfterLeaving, IsClosed, IsNext, IsNoNext, IsOrdered, LeaveInTurn, MayFollow, Reached, Row, Seats, Comes, came_of, history_of, is_beyond_grammar, is_written, last_moment, left_by, line_of, opening_parts, parts_after, seating_acts, seats}
-use Rattle.fics_server.specs.EveningLines.{no_snoc, none_has, one_line_more}
-use Rattle.fics_server.specs.Evenings.{came-append}
-use Rattle.fics_server.specs.Following.{legal_back}
-use Rattle.fics_server.specs.Handling.{AfterTurn, IsOutsideAt, Takes}
+use Rattle.fics_server.specs.Evening.{EveningState, HasAnswered, HasMade, AfterLeaving, IsClosed, IsNext, IsNoNext, IsOrdered, LeaveInOrder, MayFollow, Reached, Row, Seats, Comes, arrivals_of, history_of, is_beyond_grammar, is_written, last_moment, left_by, line_of, opening_parts, parts_after, seating_acts, seats}
+use Rattle.fics_server.specs.EveningLinesProof.{no_snoc, none_has, one_line_more}
+use Rattle.fics_server.specs.EveningsProof.{came-append}
+use Rattle.fics_server.specs.FollowingProof.{legal_back}
+use Rattle.fics_server.specs.Handling.{AfterAnswering, IsOutsideAt, Takes}
 
 pub written_line : (line : List ℕ) → 0 < length line → is_written line ≡ true
 written_line [] some = absurd (omega arith)
@@ -37,13 +37,13 @@ no_line old line some not_line lines due at =
     none_has lines old due at line (written_line line some) (λ row e follows. not_line (subst IsLine (sym e) (row_line at.rows row follows)))
 
 -- before the seat line there is no row
-no_rows : (order : Option Progress) (rows : List Row) → IsOrdered order rows → order ≡ None → rows ≡ []
+no_rows : (order : Option Attendance) (rows : List Row) → IsOrdered order rows → order ≡ None → rows ≡ []
 no_rows None rows h e = h
 no_rows (Some progress) rows h e = absurd cc
 
 -- after it there is one, and the order is kept
-some_rows : (order : Option Progress) (progress : Progress) (rows : List Row) → IsOrdered order rows → order ≡ Some progress → (rows ≢ []) × IsAfter progress seats (came_of rows)
-some_rows order progress rows h e = subst (λ (o : Option Progress). IsOrdered o rows) e h
+some_rows : (order : Option Attendance) (progress : Attendance) (rows : List Row) → IsOrdered order rows → order ≡ Some progress → (rows ≢ []) × IsAfter progress seats (arrivals_of rows)
+some_rows order progress rows h e = subst (λ (o : Option Attendance). IsOrdered o rows) e h
 
 no_seat_row : (rows : List Row) (line : List ℕ) → rows ≡ [] → ((seat : SeatLine) → IsSeatLine seat → seat.terms.variant ≡ Chess → line ≢ seat_text seat)
     → (row : Row) → line ≡ line_of row → MayFollow rows row → ⊥
@@ -56,17 +56,17 @@ pub no_seating : (old : EveningState) (line : List ℕ) → old.order ≡ None �
 no_seating old line first some no_seat lines due at =
     none_has lines old due at line (written_line line some) (no_seat_row at.rows line (no_rows old.order at.rows at.ordered first) no_seat)
 
-no_next_row : (progress : Progress) (rows : List Row) (line : List ℕ) → rows ≢ [] → IsAfter progress seats (came_of rows) → IsNoNext progress (parts_after rows) line
+no_next_row : (progress : Attendance) (rows : List Row) (line : List ℕ) → rows ≢ [] → IsAfter progress seats (arrivals_of rows) → IsNoNext progress (parts_after rows) line
     → (row : Row) → line ≡ line_of row → MayFollow rows row → ⊥
 no_next_row progress rows line some after no_next (Seats seat made) e h = some h.first
-no_next_row progress rows line some after no_next (Comes next asked made text) e h = no_next (came_of rows) after next asked h.spelled e h.order h.reads h.within
+no_next_row progress rows line some after no_next (Comes next asked made text) e h = no_next (arrivals_of rows) after next asked h.spelled e h.order h.reads h.within
 
 -- the parts of the server where the evening stands
 parts_at : (lines : List (List ℕ)) (old : EveningState) (due : List ℕ) (at : Reached lines old due) → parts_in old.server ≡ parts_after at.rows
 parts_at lines old due at = ap parts_in at.server
 
 -- after it a line that is none of a session that may come next
-pub no_coming : (old : EveningState) (progress : Progress) (line : List ℕ) → old.order ≡ Some progress → 0 < length line
+pub no_coming : (old : EveningState) (progress : Attendance) (line : List ℕ) → old.order ≡ Some progress → 0 < length line
     → IsNoNext progress (parts_in old.server) line → IsOutsideAt Reached old line
 no_coming old progress line order some no_next lines due at =
     let ordered = some_rows old.order progress at.rows at.ordered order in
@@ -89,7 +89,7 @@ legal_more rows entries new e legal =
     legal_back opening_parts (history_of rows) entries (subst (λ (s : ServerState). Legal house s.opening s.log) e legal)
 
 -- the seat line is taken
-pub seats_taken : (old new : EveningState) (line : List ℕ) (seat : SeatLine) (progress : Progress) → old.order ≡ None → 0 < length line → IsLine line
+pub seats_taken : (old new : EveningState) (line : List ℕ) (seat : SeatLine) (progress : Attendance) → old.order ≡ None → 0 < length line → IsLine line
     → line ≡ seat_text seat → IsSeatLine seat → seat.terms.variant ≡ Chess
     → new.server.opening ≡ old.server.opening → HasMade (seating_acts seat.names seat.terms) old.server.log new.server.log → Legal house new.server.opening new.server.log
     → new.order ≡ Some progress → IsAfter progress seats [] → new.moment ≡ old.moment → Takes Reached old line new []
@@ -99,30 +99,30 @@ seats_taken old new line seat progress first some short text spelled chess openi
     let none : at.rows ≡ [] = no_rows old.order at.rows at.ordered first in
     let server : new.server ≡ record { opening = opening_parts; log = history_of at.rows ++ entries } = server_more lines old due at entries new.server opening made.more in
     let own : Legal house opening_parts entries = subst (λ (rows : List Row). Legal house (parts_after rows) entries) none (legal_more at.rows entries new.server server legal) in
-    let came : came_of (at.rows ++ row ∷ []) ≡ came_of at.rows = came-append at.rows (row ∷ []) ∙ append-nil (came_of at.rows) in
-    let none_came : came_of (at.rows ++ row ∷ []) ≡ [] = came ∙ ap came_of none in
+    let came : arrivals_of (at.rows ++ row ∷ []) ≡ arrivals_of at.rows = came-append at.rows (row ∷ []) ∙ append-nil (arrivals_of at.rows) in
+    let none_came : arrivals_of (at.rows ++ row ∷ []) ≡ [] = came ∙ ap arrivals_of none in
     one_line_more lines old new due at line row (written_line line some) text
     (record { first = none; spelled = spelled; short = subst IsLine text short; chess = chess; acts = made.acts_are; legal = own })
     server
-    (subst (λ (o : Option Progress). IsOrdered o (at.rows ++ row ∷ [])) (sym order) (no_snoc at.rows row, subst (IsAfter progress seats) (sym none_came) after))
+    (subst (λ (o : Option Attendance). IsOrdered o (at.rows ++ row ∷ [])) (sym order) (no_snoc at.rows row, subst (IsAfter progress seats) (sym none_came) after))
     (moment ∙ at.last ∙ ap last_moment (sym came))
 
-last-push : (lines : List Came) (came : Came) → last_moment (lines ++ came ∷ []) ≡ came.line.moment
+last-push : (lines : List Arrival) (came : Arrival) → last_moment (lines ++ came ∷ []) ≡ came.line.moment
 last-push [] came = refl
 last-push (first ∷ []) came = refl
 last-push (first ∷ next ∷ lines) came = last-push (next ∷ lines) came
 
 -- the line of a session, when it has come
-abbrev pub came : ScriptLine → Came
+abbrev pub came : ScriptLine → Arrival
 came line = record { line = line; quit = false }
 
 -- the line of a session is taken
-pub coming_taken : (old new : EveningState) (line : List ℕ) (next : ScriptLine) (asked : Input) (progress then : Progress) (out out' : List ℕ)
+pub coming_taken : (old new : EveningState) (line : List ℕ) (next : ScriptLine) (asked : Input) (progress then : Attendance) (out out' : List ℕ)
     → old.order ≡ Some progress → 0 < length line → IsLine line → IsNext progress (parts_in old.server) line next asked
     → HasAnswered next.session next.moment asked old.server out new.server out' → Legal house new.server.opening new.server.log
     → new.order ≡ Some then
-    → ((lines : List Came) → IsAfter progress seats lines → MayCome seats lines next → IsAfter then seats (lines ++ came next ∷ []))
-    → new.moment ≡ next.moment → AfterTurn Reached old line out new out' true
+    → ((lines : List Arrival) → IsAfter progress seats lines → MayCome seats lines next → IsAfter then seats (lines ++ came next ∷ []))
+    → new.moment ≡ next.moment → AfterAnswering Reached old line out new out' true
 coming_taken old new line next asked progress then out out' order some short is_next answered legal order' after moment = (
   _,
   answered.put,
@@ -130,10 +130,10 @@ coming_taken old new line next asked progress then out out' order some short is_
       let entries = answered.followed.entries in
       let row : Row = Comes next asked entries answered.text in
       let ordered = some_rows old.order progress at.rows at.ordered order in
-      let may = is_next.order (came_of at.rows) ordered.1 in
+      let may = is_next.order (arrivals_of at.rows) ordered.1 in
       let server : new.server ≡ record { opening = opening_parts; log = history_of at.rows ++ entries } =
       server_more lines old due at entries new.server (ap (λ (s : ServerState). s.opening) answered.followed.more) (ap (λ (s : ServerState). s.log) answered.followed.more) in
-      let rows_came : came_of (at.rows ++ row ∷ []) ≡ came_of at.rows ++ came next ∷ [] = came-append at.rows (row ∷ []) in
+      let rows_came : arrivals_of (at.rows ++ row ∷ []) ≡ arrivals_of at.rows ++ came next ∷ [] = came-append at.rows (row ∷ []) in
       one_line_more lines old new due at line row (written_line line some) is_next.text
       (record {
         seated = ordered.0;
@@ -146,30 +146,30 @@ coming_taken old new line next asked progress then out out' order some short is_
         legal = legal_more at.rows entries new.server server legal;
       })
       server
-      (subst (λ (o : Option Progress). IsOrdered o (at.rows ++ row ∷ [])) (sym order')
-      (no_snoc at.rows row, subst (IsAfter then seats) (sym rows_came) (after (came_of at.rows) ordered.1 may)))
-      (moment ∙ sym (ap last_moment rows_came ∙ last-push (came_of at.rows) (came next))),
+      (subst (λ (o : Option Attendance). IsOrdered o (at.rows ++ row ∷ [])) (sym order')
+      (no_snoc at.rows row, subst (IsAfter then seats) (sym rows_came) (after (arrivals_of at.rows) ordered.1 may)))
+      (moment ∙ sym (ap last_moment rows_came ∙ last-push (arrivals_of at.rows) (came next))),
 )
 
 -- ---- the end
 
 -- after the seat line the sessions that are left are those that are here
-left_of_rows : (rows : List Row) → rows ≢ [] → left_of seats (came_of rows) ≡ left_by rows
+left_of_rows : (rows : List Row) → rows ≢ [] → left_of seats (arrivals_of rows) ≡ left_by rows
 left_of_rows [] some = absurd (some refl)
 left_of_rows (row ∷ rows) some = refl
 
 -- those that were here have left
-pub closed_after : (old new : EveningState) (progress : Progress) → old.order ≡ Some progress → AfterLeaving progress old.moment 64 old.server new.server
+pub closed_after : (old new : EveningState) (progress : Attendance) → old.order ≡ Some progress → AfterLeaving progress old.moment 64 old.server new.server
     → Legal house new.server.opening new.server.log → IsClosed old new
 closed_after old new progress order leaving legal lines due at =
     let ordered = some_rows old.order progress at.rows at.ordered order in
-    let left = leaving (came_of at.rows) ordered.1 in
+    let left = leaving (arrivals_of at.rows) ordered.1 in
     let server : new.server ≡ record { opening = opening_parts; log = history_of at.rows ++ left.0 } =
     server_more lines old due at left.0 new.server (ap (λ (s : ServerState). s.opening) left.1) (ap (λ (s : ServerState). s.log) left.1) in
     record {
       entries = left.0;
-      leave = subst (λ (sessions : List ℕ). LeaveInTurn (last_moment (came_of at.rows)) sessions left.0) (left_of_rows at.rows ordered.0)
-          (subst (λ (moment : ℕ). LeaveInTurn moment (left_of seats (came_of at.rows)) left.0) at.last left.2);
+      leave = subst (λ (sessions : List ℕ). LeaveInOrder (last_moment (arrivals_of at.rows)) sessions left.0) (left_of_rows at.rows ordered.0)
+          (subst (λ (moment : ℕ). LeaveInOrder moment (left_of seats (arrivals_of at.rows)) left.0) at.last left.2);
       more = left.1;
       legal = subst (λ (parts : List Part). Legal house parts left.0) (sym (parts_at lines old due at)) (legal_more at.rows left.0 new.server server legal);
     }
@@ -180,12 +180,12 @@ closed_before old new first server lines due at =
     let none : [] ≡ at.rows = sym (no_rows old.order at.rows at.ordered first) in
     record {
       entries = [];
-      leave = subst (λ (rows : List Row). LeaveInTurn (last_moment (came_of rows)) (left_by rows) []) none refl;
+      leave = subst (λ (rows : List Row). LeaveInOrder (last_moment (arrivals_of rows)) (left_by rows) []) none refl;
       more = server ∙ ap (λ (l : Log). record old.server { log = l }) (sym (append-nil old.server.log));
       legal = tt;
     }
 
 -- what was shown of an equal line
-pub same_turn : (result : Result Bool NoMemory) (old new : EveningState) (line line' out out' : List ℕ) → line ≡ line'
-    → IfOk result (λ good. AfterTurn Reached old line out new out' good) → IfOk result (λ good. AfterTurn Reached old line' out new out' good)
-same_turn result old new line line' out out' same h = subst (λ (l : List ℕ). IfOk result (λ good. AfterTurn Reached old l out new out' good)) same h
+pub same_answer : (result : Result Bool NoMemory) (old new : EveningState) (line line' out out' : List ℕ) → line ≡ line'
+    → IfOk result (λ good. AfterAnswering Reached old line out new out' good) → IfOk result (λ good. AfterAnswering Reached old line' out new out' good)
+same_answer result old new line line' out out' same h = subst (λ (l : List ℕ). IfOk result (λ good. AfterAnswering Reached old l out new out' good)) same h

@@ -8,14 +8,14 @@ use Rattle.one_server.specs.House.{house}
 use Rattle.one_server.specs.Running.{Log}
 use Rattle.replay_core.specs.declared.script.ScriptLine.{ScriptLine}
 use Rattle.replay_core.specs.declared.seat_line.SeatLine.{SeatLine}
-use Rattle.replay_core.specs.Order.{Came}
+use Rattle.replay_core.specs.Order.{Arrival}
 use Rattle.replay_core.proofs.Events.{one_line}
 use Rattle.replay_core.proofs.Seats.{one_seat_line}
 use Rattle.session_core.specs.declared.input.Input.{Input}
 use Rattle.session_core.specs.Script.{Follows}
 use Rattle.session_core.specs.Session.{input_script}
-use Rattle.fics_server.specs.Evening.{Row, Seats, Comes, line_of, entries_of, text_of_row, history_of, transcript_of, came_of, opening_parts, parts_after, seating_acts, IsSeating, IsComing, MayFollow, FollowInTurn, IsEvening, input_of, asked_of}
-use Rattle.fics_server.specs.Following.{one_following, one_asking}
+use Rattle.fics_server.specs.Evening.{Row, Seats, Comes, line_of, entries_of, text_of_row, history_of, transcript_of, arrivals_of, opening_parts, parts_after, seating_acts, IsSeating, IsComing, MayFollow, FollowInOrder, IsEvening, input_of, asked_of}
+use Rattle.fics_server.specs.FollowingProof.{one_following, one_asking}
 
 -- ---- rows one after another
 
@@ -27,10 +27,10 @@ pub transcript-append : (rows more : List Row) → transcript_of (rows ++ more) 
 transcript-append [] more = refl
 transcript-append (row ∷ rows) more = ap (λ (t : List ℕ). text_of_row row ++ t) (transcript-append rows more) ∙ sym (append_assoc (text_of_row row) (transcript_of rows) (transcript_of more))
 
-pub came-append : (rows more : List Row) → came_of (rows ++ more) ≡ came_of rows ++ came_of more
+pub came-append : (rows more : List Row) → arrivals_of (rows ++ more) ≡ arrivals_of rows ++ arrivals_of more
 came-append [] more = refl
 came-append (Seats seat made ∷ rows) more = came-append rows more
-came-append (Comes line asked made text ∷ rows) more = ap (λ (c : List Came). record { line = line; quit = false } ∷ c) (came-append rows more)
+came-append (Comes line asked made text ∷ rows) more = ap (λ (c : List Arrival). record { line = line; quit = false } ∷ c) (came-append rows more)
 
 pub lines-append : (rows more : List Row) → map line_of (rows ++ more) ≡ map line_of rows ++ map line_of more
 lines-append [] more = refl
@@ -49,7 +49,7 @@ parts-append rows more = ap (state house opening_parts) (history-append rows mor
 
 -- ---- one row more at the end
 
-pub follow_step : (before later : List Row) (row : Row) → FollowInTurn before (later ++ row ∷ []) ↔ (FollowInTurn before later × MayFollow (before ++ later) row)
+pub follow_step : (before later : List Row) (row : Row) → FollowInOrder before (later ++ row ∷ []) ↔ (FollowInOrder before later × MayFollow (before ++ later) row)
 follow_step before [] row =
     let none : before ++ [] ≡ before = append-nil before in (
       λ h. (tt, subst (λ (rows : List Row). MayFollow rows row) (sym none) h.0),
@@ -73,7 +73,7 @@ pub row_legal : (before : List Row) (row : Row) → MayFollow before row → Leg
 row_legal before (Seats seat made) h = subst (λ (rows : List Row). Legal house (parts_after rows) made) (sym h.first) h.legal
 row_legal before (Comes line asked made text) h = h.legal
 
-rows_legal : (before later : List Row) → FollowInTurn before later → Legal house (parts_after before) (history_of later)
+rows_legal : (before later : List Row) → FollowInOrder before later → Legal house (parts_after before) (history_of later)
 rows_legal before [] h = tt
 rows_legal before (row ∷ later) h =
     let rest : Legal house (parts_after (before ++ row ∷ [])) (history_of later) = rows_legal (before ++ row ∷ []) later h.1 in
@@ -112,7 +112,7 @@ one_row before (Seats seat made) (Comes line asked made' text) h k e = absurd (k
 one_row before (Comes line asked made text) (Seats seat made') h k e = absurd (h.seated k.first)
 one_row before (Comes line asked made text) (Comes line' asked' made' text') h k e = same_comes before line line' asked asked' made made' text text' h k e
 
-rows_once : (before rows other : List Row) → FollowInTurn before rows → FollowInTurn before other → map line_of rows ≡ map line_of other → rows ≡ other
+rows_once : (before rows other : List Row) → FollowInOrder before rows → FollowInOrder before other → map line_of rows ≡ map line_of other → rows ≡ other
 rows_once before [] [] h k e = refl
 rows_once before [] (r ∷ other) h k e = absurd cc
 rows_once before (r ∷ rows) [] h k e = absurd cc
@@ -120,7 +120,7 @@ rows_once before (r ∷ rows) (s ∷ other) h k e =
     let first : line_of r ≡ line_of s = cc in
     let rest : map line_of rows ≡ map line_of other = cc in
     let same : r ≡ s = one_row before r s h.0 k.0 first in
-    let later : FollowInTurn (before ++ r ∷ []) other = subst (λ (x : Row). FollowInTurn (before ++ x ∷ []) other) (sym same) k.1 in
+    let later : FollowInOrder (before ++ r ∷ []) other = subst (λ (x : Row). FollowInOrder (before ++ x ∷ []) other) (sym same) k.1 in
     ap (λ (x : Row). x ∷ rows) same ∙ ap (λ (xs : List Row). s ∷ xs) (rows_once (before ++ r ∷ []) rows other h.1 later rest)
 
 -- two evenings of the same lines have the same rows

@@ -3,22 +3,22 @@ use Rattle.std.proofs.Common.{◌≡◌, ◌≢◌, ◌↔◌, ℕ, ◌+◌, ◌
 use Rattle.std.specs.List.{AllByRecursion, range_with_len}
 use Rattle.std.proofs.lemmas.List.Elements.{All-from_recursion, recursion_from_All, filter-append}
 use Rattle.std.proofs.lemmas.List.FromFn.{get_or-map-range_with_len}
-use Rattle.replay_core.specs.declared.order.Progress.{Progress}
-use Rattle.replay_core.specs.Order.{Came}
-use Rattle.replay_core.specs.Progress.{IsAfter, presence_of}
-use Rattle.fics_server.specs.Evening.{Row, Seats, Comes, EveningState, IsOrdered, Reached, IsEvening, MayFollow, is_written, line_of, entries_of, text_of_row, history_of, transcript_of, came_of, last_moment, opening_parts, seats}
+use Rattle.replay_core.specs.declared.order.Attendance.{Attendance}
+use Rattle.replay_core.specs.Order.{Arrival}
+use Rattle.replay_core.specs.Attendance.{IsAfter, presence_of}
+use Rattle.fics_server.specs.Evening.{Row, Seats, Comes, EveningState, IsOrdered, Reached, IsEvening, MayFollow, is_written, line_of, entries_of, text_of_row, history_of, transcript_of, arrivals_of, last_moment, opening_parts, seats}
 use Rattle.fics_server.specs.Handling.{AreLines, IsOutside}
-use Rattle.fics_server.specs.Evenings.{evening_step, history-push, transcript-push, lines-append, one_evening}
+use Rattle.fics_server.specs.EveningsProof.{evening_step, history-push, transcript-push, lines-append, one_evening}
 
 -- ---- what is kept of the order of some lines
 
 -- the last moment of lines whose moments don't fall; 0 before any
-latest : List Came → ℕ
+latest : List Arrival → ℕ
 latest [] = 0
 latest (came ∷ lines) = max came.line.moment (latest lines)
 
 -- no moment is later than the latest one
-latest_bounds : (lines : List Came) (moment : ℕ) → (latest lines ≤ moment) ↔ AllByRecursion (λ (came : Came). came.line.moment ≤ moment) lines
+latest_bounds : (lines : List Arrival) (moment : ℕ) → (latest lines ≤ moment) ↔ AllByRecursion (λ (came : Arrival). came.line.moment ≤ moment) lines
 unfolding latest
 latest_bounds [] moment = (λ h. tt, λ h. omega arith)
 latest_bounds (came ∷ lines) moment =
@@ -28,32 +28,32 @@ latest_bounds (came ∷ lines) moment =
     )
 
 -- what a progress keeps of these lines
-progress_of : ℕ → List Came → Progress
+progress_of : ℕ → List Arrival → Attendance
 progress_of seats lines = record { moment = latest lines; presences = map (λ (place : ℕ). presence_of seats lines (place + 1)) (range_with_len 0 64) }
 
-progress_after : (seats : ℕ) (lines : List Came) → IsAfter (progress_of seats lines) seats lines
+progress_after : (seats : ℕ) (lines : List Arrival) → IsAfter (progress_of seats lines) seats lines
 unfolding progress_of
 progress_after seats lines = record {
   moment = λ moment.
       let bounds = latest_bounds lines moment in (
-        λ h. All-from_recursion (λ (came : Came). came.line.moment ≤ moment) lines (bounds.0 h),
-        λ h. bounds.1 (recursion_from_All (λ (came : Came). came.line.moment ≤ moment) lines h),
+        λ h. All-from_recursion (λ (came : Arrival). came.line.moment ≤ moment) lines (bounds.0 h),
+        λ h. bounds.1 (recursion_from_All (λ (came : Arrival). came.line.moment ≤ moment) lines h),
       );
   presences = λ place d lt. get_or-map-range_with_len (λ (p : ℕ). presence_of seats lines (p + 1)) 0 64 place place d lt (omega arith);
 }
 
-order_of : List Row → Option Progress
+order_of : List Row → Option Attendance
 order_of [] = None
-order_of (row ∷ rows) = Some (progress_of seats (came_of (row ∷ rows)))
+order_of (row ∷ rows) = Some (progress_of seats (arrivals_of (row ∷ rows)))
 
 order_kept : (rows : List Row) → IsOrdered (order_of rows) rows
 unfolding order_of
 order_kept [] = refl
-order_kept (row ∷ rows) = (λ e. absurd cc, progress_after seats (came_of (row ∷ rows)))
+order_kept (row ∷ rows) = (λ e. absurd cc, progress_after seats (arrivals_of (row ∷ rows)))
 
 -- the place that some rows bring an evening to
 pub standing_of : List Row → EveningState
-standing_of rows = record { server = record { opening = opening_parts; log = history_of rows }; order = order_of rows; moment = last_moment (came_of rows) }
+standing_of rows = record { server = record { opening = opening_parts; log = history_of rows }; order = order_of rows; moment = last_moment (arrivals_of rows) }
 
 -- each evening stands somewhere
 pub reached_by : (lines : List (List ℕ)) (rows : List Row) → IsEvening rows → filter is_written lines ≡ map line_of rows → Reached lines (standing_of rows) (transcript_of rows)
@@ -106,7 +106,7 @@ empty_push lines = filter-append is_written lines ([] ∷ []) ∙ append-nil (fi
 pub one_line_more : (lines : List (List ℕ)) (evening next : EveningState) (due : List ℕ) (at : Reached lines evening due) (line : List ℕ) (row : Row)
     → is_written line ≡ true → line ≡ line_of row → MayFollow at.rows row
     → next.server ≡ record { opening = opening_parts; log = history_of at.rows ++ entries_of row } → IsOrdered next.order (at.rows ++ row ∷ [])
-    → next.moment ≡ last_moment (came_of (at.rows ++ row ∷ []))
+    → next.moment ≡ last_moment (arrivals_of (at.rows ++ row ∷ []))
     → Reached (lines ++ line ∷ []) next (due ++ text_of_row row)
 one_line_more lines evening next due at line row written spelled follows server ordered last = record {
   rows = at.rows ++ row ∷ [];

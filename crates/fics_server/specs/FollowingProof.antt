@@ -12,7 +12,7 @@ use Rattle.one_server.specs.House.{house}
 use Rattle.one_server.specs.Running.{Log}
 use Rattle.session_core.specs.Script.{Script, Done, Asks, Writes, Follows}
 use Rattle.session_core.specs.Session.{leaving}
-use Rattle.fics_server.specs.Evening.{LeaveInTurn, asked_of}
+use Rattle.fics_server.specs.Evening.{LeaveInOrder, asked_of}
 
 -- an entry is fixed by its session, its act and its reply
 same_entry : (one other : Entry Timed Reply) → one.session ≡ other.session → one.act ≡ other.act → one.reply ≡ other.reply → one ≡ other
@@ -69,7 +69,7 @@ legal_back parts [] fs l = l
 legal_back parts (e ∷ es) fs l = legal_back (after house parts e.session e.act) es fs l.2
 
 -- the entries of sessions that leave one after the other are the same in one state
-pub one_leaving : (moment : ℕ) (sessions : List ℕ) (parts : List Part) (made other : Log) → LeaveInTurn moment sessions made → LeaveInTurn moment sessions other
+pub one_leaving : (moment : ℕ) (sessions : List ℕ) (parts : List Part) (made other : Log) → LeaveInOrder moment sessions made → LeaveInOrder moment sessions other
     → Legal house parts made → Legal house parts other → made ≡ other
 one_leaving moment [] parts made other f g l m = f ∙ sym g
 one_leaving moment (session ∷ sessions) parts made other f g l m =

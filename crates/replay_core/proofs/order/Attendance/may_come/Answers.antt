@@ -2,7 +2,7 @@ use Rattle.std.proofs.Common.{arith, sym, ◌∙◌}
 use Rattle.std.proofs.lemmas.Bool.{not-true, not_from_false}
 use Rattle.replay_core.specs.declared.order.Presence.TheVariants.{Away, Here}
 use Rattle.replay_core.proofs.Presences.{presence_at, may_connect, may_go_on}
-use Rattle.replay_core.proofs.order.Progress.may_come.Goals as goal
+use Rattle.replay_core.proofs.order.Attendance.may_come.Goals as goal
 
 -- the moment would fall
 pub returns-then-line-self : goal.returns-then-line-self

@@ -3,8 +3,8 @@ use Rattle.replay_core.specs.SeatLine.{IsSeatLine, seat_text}
 use Rattle.chess_model.specs.declared.variant.Variant.TheVariants.{Chess}
 use Rattle.one_server.specs.Running.{Log}
 use Rattle.fics_server.specs.Evening.{EveningState, HasMade, seating_acts}
-use Rattle.fics_server.proofs.EveningTurns.{no_seating, seats_taken}
-use Rattle.fics_server.proofs.evening.Evening.seat_turn.Goals as goal
+use Rattle.fics_server.proofs.EveningAnswers.{no_seating, seats_taken}
+use Rattle.fics_server.proofs.evening.Evening.take_seat_line.Goals as goal
 
 pub returns-in_default : goal.returns-in_default
 returns-in_default c out = (refl, no_seating c.args.self.now c.args.line.now c.requires.first c.requires.some (rw c.in_default.is at c.in_ok-seats.ensures.none))
