@@ -1,11 +1,13 @@
+ghost use Rattle.std.specs.Prelude.{◌≡◌};
+ghost use Rattle.lobby_state.specs.Plans.{desk_of};
+
 use crate::places::Places;
-use crate::seats::Seats;
 use chess_model::Terms;
 use collections::Listed;
-use fics_words::{Handle, HandleKey, Line};
+use fics_words::{Handle, HandleKey, Line, Seats};
 
 /// An act that needs the lobby alone.
-#[derive(Clone, Copy, Debug, PartialEq, Eq)]
+#[derive(Debug, Drop, PartialEq, Eq)]
 pub enum LobbyAct {
     /// The session comes in under this handle.
     Enter { name: Handle },
@@ -32,7 +34,7 @@ pub enum LobbyReply {
 }
 
 /// An act that needs the lobby and a desk.
-#[derive(Clone, Copy, Debug, PartialEq, Eq)]
+#[derive(Debug, Drop, PartialEq, Eq)]
 pub enum PairAct {
     /// Accepts the challenge of the player with this handle, or without one the oldest challenge.
     Accept(Option<HandleKey>),
@@ -40,11 +42,11 @@ pub enum PairAct {
     Clear { desk: u8, serial: u64 },
 }
 
-/// What a pair act is to do, as the lobby alone decides it. The desk is 1 to 128.
+/// What a pair act is to do, as the lobby alone decides it. Desks are 1 to 128.
 #[derive(Clone, Copy, Debug, PartialEq, Eq)]
 pub enum Plan {
     /// A game starts.
-    Seat {
+    Start {
         desk: u8,
         serial: u64,
         terms: Terms,
@@ -56,4 +58,16 @@ pub enum Plan {
         desk: u8,
         serial: u64,
     },
+}
+
+impl Plan {
+    /// The desk that the plan needs beside the lobby, if it needs one.
+    pub fn desk(&self) -> Option<u8>
+        ensures { result ≡ desk_of self.now }
+    {
+        match self {
+            Plan::Start { desk, .. } => Some(*desk),
+            Plan::Clear { desk, .. } => Some(*desk),
+        }
+    }
 }
