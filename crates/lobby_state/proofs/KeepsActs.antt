@@ -1,5 +1,5 @@
 -- What each lobby act keeps, and what follows of its answer and of the lobby afterwards, for all acts alike.
-use Rattle.std.proofs.Common.{◌≡◌, ℕ, Option, None, Some, Result, Ok, Err, refl, sym, subst}
+use Rattle.std.proofs.Common.{◌≡◌, ℕ, false, Option, None, Some, Result, Ok, Err, refl, sym, subst}
 use Rattle.std.specs.Prelude.{IfOk}
 use Rattle.fics_words.specs.Effect.{Effect, Takes, answered, first_cause, unless}
 use Rattle.fics_words.specs.declared.fail.Fail.{Fail}
@@ -8,7 +8,7 @@ use Rattle.fics_words.specs.declared.refusal.Refusal.{Refusal}
 use Rattle.lobby_state.specs.declared.acts.LobbyAct.{LobbyAct}
 use Rattle.lobby_state.specs.declared.acts.LobbyAct.TheVariants.{Enter, Match, Where, Fetch, Going, Bye}
 use Rattle.lobby_state.specs.declared.acts.LobbyReply.{LobbyReply}
-use Rattle.lobby_state.specs.Acts.{lobby_after, lobby_answer, lobby_effect}
+use Rattle.lobby_state.specs.Acts.{LobbyNeedsNoMemory, lobby_after, lobby_answer, lobby_effect}
 use Rattle.lobby_state.specs.Keeps.{Keeps, TellsDesks}
 use Rattle.lobby_state.specs.Lobby.{LobbyState}
 use Rattle.lobby_state.specs.WellFormed.{IsWellFormed}
@@ -68,3 +68,10 @@ IsWellFormed-taken lobby effect new (Ok reply) keeps h t =
     subst IsWellFormed (sym t.2) (keeps.formed (none_holds effect.causes t.0) h)
 IsWellFormed-taken lobby effect new (Err (Refused cause)) keeps h t = subst IsWellFormed (sym t.1) h
 IsWellFormed-taken lobby effect new (Err Memory) keeps h t = subst IsWellFormed (sym t.1) h
+
+-- an act that needs no memory meets no want of it
+pub memory-lobby_effect : (lobby : LobbyState) (session : ℕ) (act : LobbyAct) → LobbyNeedsNoMemory act → (lobby_effect lobby session act).memory ≡ false
+memory-lobby_effect lobby session Where h = refl
+memory-lobby_effect lobby session Going h = refl
+memory-lobby_effect lobby session Bye h = refl
+memory-lobby_effect lobby session _ h = absurd h

@@ -10,7 +10,8 @@ use Rattle.lobby_state.specs.declared.game.Game.{Game}
 use Rattle.lobby_state.specs.declared.place.Place.{Place}
 use Rattle.lobby_state.specs.Clear.{clear_effect, off_desk, freed, cleared}
 use Rattle.lobby_state.specs.Keeps.{KeepsPlan, KeepsPlanned}
-use Rattle.lobby_state.specs.Lobby.{LobbyState, IsDesk, is_session}
+use Rattle.lobby_state.specs.Desks.{IsDesk}
+use Rattle.lobby_state.specs.Lobby.{LobbyState, is_session}
 use Rattle.lobby_state.specs.Places.{is_elsewhere}
 use Rattle.lobby_state.specs.Plans.{committed}
 use Rattle.lobby_state.specs.WellFormed.{IsWellFormed, IsSeatOf, IsStarted, HasSeats}

@@ -8,7 +8,8 @@ use Rattle.lobby_state.specs.declared.acts.PairAct.TheVariants.{Accept, Clear}
 use Rattle.lobby_state.specs.declared.acts.Plan.{Plan}
 use Rattle.lobby_state.specs.declared.acts.Plan.TheVariants.{Start, Clear as Clearing}
 use Rattle.lobby_state.specs.Keeps.{KeepsPlan, KeepsPlanned}
-use Rattle.lobby_state.specs.Lobby.{LobbyState, IsDesk}
+use Rattle.lobby_state.specs.Desks.{IsDesk}
+use Rattle.lobby_state.specs.Lobby.{LobbyState}
 use Rattle.lobby_state.specs.Planned.{IsPlanned}
 use Rattle.lobby_state.specs.Plans.{NamesDesk, committed, desk_of, plan_effect, plan_of}
 use Rattle.lobby_state.specs.WellFormed.{IsWellFormed}

@@ -16,7 +16,8 @@ use Rattle.lobby_state.specs.declared.game.Game.{Game}
 use Rattle.lobby_state.specs.declared.member.Member.{Member}
 use Rattle.lobby_state.specs.declared.place.Place.{Place}
 use Rattle.lobby_state.specs.Keeps.{KeepsPlan}
-use Rattle.lobby_state.specs.Lobby.{LobbyState, IsDesk}
+use Rattle.lobby_state.specs.Desks.{IsDesk}
+use Rattle.lobby_state.specs.Lobby.{LobbyState}
 use Rattle.lobby_state.specs.Places.{PlaceList}
 use Rattle.lobby_state.specs.Planned.{CanStart}
 use Rattle.lobby_state.specs.Start.{concerns_seated, in_seat, seated}

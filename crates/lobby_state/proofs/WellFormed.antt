@@ -8,8 +8,9 @@ use Rattle.lobby_state.specs.declared.challenge.Challenge.{Challenge}
 use Rattle.lobby_state.specs.declared.game.Game.{Game}
 use Rattle.lobby_state.specs.declared.member.Member.{Member}
 use Rattle.lobby_state.specs.Change.{change_first}
-use Rattle.lobby_state.specs.Keeps.{AreAtDesks}
-use Rattle.lobby_state.specs.Lobby.{LobbyState, IsDesk, desks, opening, is_session, member_of, places_in, places_of}
+use Rattle.lobby_state.specs.Places.{AreAtDesks}
+use Rattle.lobby_state.specs.Desks.{IsDesk, desks}
+use Rattle.lobby_state.specs.Lobby.{LobbyState, opening, is_session, member_of, places_in, places_of}
 use Rattle.lobby_state.specs.WellFormed.{IsWellFormed, IsBetweenMembers, IsSeatOf, IsStarted, HasSeats, sessions_of}
 use Rattle.lobby_state.proofs.Lists.{map-change_first_same, All-change_first, AllPairs-same, find-step}
 
@@ -74,11 +75,11 @@ find-has P p (x ∷ xs) y h e = elim (find-step (p x) x y (find p xs) e) [
 
 -- the places of a member are at desks, and nobody has no places
 found_at_desks : (lobby : LobbyState) (session : ℕ) (found : Option Member) → member_of lobby session ≡ found → IsWellFormed lobby
-    → AreAtDesks (places_in found)
+    → AreAtDesks (places_in found).rows
 found_at_desks lobby session None is h = All-nil (λ place. IsDesk place.desk)
 found_at_desks lobby session (Some member) is h =
     All-weaker (IsSeatOf lobby.games member.session) (λ place. IsDesk place.desk) (λ place seat. seat.desk) member.places.rows
     (find-has (HasSeats lobby.games) (is_session session) lobby.members member h.places is)
 
-pub places_at_desks : (lobby : LobbyState) (session : ℕ) → IsWellFormed lobby → AreAtDesks (places_of lobby session)
+pub places_at_desks : (lobby : LobbyState) (session : ℕ) → IsWellFormed lobby → AreAtDesks (places_of lobby session).rows
 places_at_desks lobby session h = found_at_desks lobby session (member_of lobby session) refl h

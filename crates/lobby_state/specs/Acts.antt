@@ -1,5 +1,6 @@
 -- All lobby acts in one table: what each does, by the lobby before, the session and the act. This server's own.
-use Rattle.std.specs.Prelude.{ℕ, List, [], Result}
+use Rattle.std.specs.Prelude.{ℕ, ◌≤◌, List, [], Result}
+use Rattle.chess_model.specs.declared.variant.Terms.{Terms}
 use Rattle.fics_words.specs.declared.refusal.Refusal.{Refusal}
 use Rattle.fics_words.specs.Effect.{Effect, answer_of, state_of}
 use Rattle.lobby_state.specs.declared.acts.LobbyAct.{LobbyAct}
@@ -35,3 +36,20 @@ lobby_after lobby session act = state_of lobby (lobby_effect lobby session act)
 abbrev pub lines_told : LobbyReply → List (List ℕ)
 lines_told (Waiting lines places) = lines
 lines_told _ = []
+
+-- at most ten hours at the start, and at most ten minutes for a half-move
+pub record AreTerms (terms : Terms) : Type 0 where
+  pub minutes : terms.minutes ≤ 600
+  pub increment : terms.increment ≤ 600
+
+-- the conditions on the numbers of an act
+abbrev pub FitsLobby : LobbyAct → Type 0
+FitsLobby (Match to terms) = AreTerms terms
+FitsLobby _ = Unit {0}
+
+-- Where, Going and Bye need no memory, also not for a copy of what they answer
+abbrev pub LobbyNeedsNoMemory : LobbyAct → Type 0
+LobbyNeedsNoMemory Where = Unit {0}
+LobbyNeedsNoMemory Going = Unit {0}
+LobbyNeedsNoMemory Bye = Unit {0}
+LobbyNeedsNoMemory _ = ⊥

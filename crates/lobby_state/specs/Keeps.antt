@@ -1,26 +1,23 @@
 -- What acts keep, and what plans keep: one record each, which is proved act by act and plan by plan, and from which the
 -- parts of the server above the lobby learn all that they need of any act. This server's own.
-use Rattle.std.specs.Prelude.{◌≡◌, ◌≢◌, ℕ, ◌-◌, ◌≤◌, Bool, All, IfSome, Some, slice_get}
+use Rattle.std.specs.Prelude.{◌≡◌, ◌≢◌, ℕ, ◌-◌, ◌≤◌, Bool, IfSome, Some, slice_get}
 use Rattle.fics_words.specs.Effect.{Effect, NoneHolds}
 use Rattle.lobby_state.specs.declared.acts.LobbyReply.{LobbyReply}
 use Rattle.lobby_state.specs.declared.acts.LobbyReply.TheVariants.{Done, Entered, Places, Waiting}
 use Rattle.lobby_state.specs.declared.acts.Plan.{Plan}
-use Rattle.lobby_state.specs.Lobby.{LobbyState, IsDesk}
-use Rattle.lobby_state.specs.Places.{PlaceList}
+use Rattle.lobby_state.specs.Desks.{IsDesk}
+use Rattle.lobby_state.specs.Lobby.{LobbyState}
+use Rattle.lobby_state.specs.Places.{AreAtDesks}
 use Rattle.lobby_state.specs.Planned.{IsPlanned}
 use Rattle.lobby_state.specs.Plans.{committed, desk_of}
 use Rattle.lobby_state.specs.WellFormed.{IsWellFormed}
-
--- each of the places is at a desk from 1 to 128
-abbrev pub AreAtDesks : PlaceList → Type 0
-AreAtDesks places = All (λ place. IsDesk place.desk) places.rows
 
 -- each place that the reply tells is at a desk from 1 to 128
 abbrev pub TellsDesks : LobbyReply → Type 0
 TellsDesks Done = Unit {0}
 TellsDesks (Entered name) = Unit {0}
-TellsDesks (Places places) = AreAtDesks places
-TellsDesks (Waiting lines places) = AreAtDesks places
+TellsDesks (Places places) = AreAtDesks places.rows
+TellsDesks (Waiting lines places) = AreAtDesks places.rows
 
 -- what a lobby act keeps: it leaves a lobby well-formed, it starts and ends no game, and it tells of desks alone
 pub record Keeps (lobby : LobbyState) (effect : Effect LobbyState LobbyReply) : Type 0 where

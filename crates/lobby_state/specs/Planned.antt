@@ -9,7 +9,8 @@ use Rattle.fics_words.specs.declared.seats.Seats.{Seats}
 use Rattle.fics_words.specs.Seats.{seat_list}
 use Rattle.lobby_state.specs.declared.acts.Plan.{Plan}
 use Rattle.lobby_state.specs.declared.acts.Plan.TheVariants.{Start, Clear}
-use Rattle.lobby_state.specs.Lobby.{LobbyState, IsDesk}
+use Rattle.lobby_state.specs.Desks.{IsDesk}
+use Rattle.lobby_state.specs.Lobby.{LobbyState}
 
 -- no two of the players are one, by their sessions or by their handles
 pub record AreApart (seats : Seats) : Type 0 where

@@ -9,7 +9,8 @@ use Rattle.lobby_state.specs.declared.acts.Plan.{Plan}
 use Rattle.lobby_state.specs.declared.acts.Plan.TheVariants.{Start, Clear as Clearing}
 use Rattle.lobby_state.specs.Accept.{accept_effect}
 use Rattle.lobby_state.specs.Clear.{clear_effect, freed, cleared}
-use Rattle.lobby_state.specs.Lobby.{LobbyState, IsDesk}
+use Rattle.lobby_state.specs.Desks.{IsDesk}
+use Rattle.lobby_state.specs.Lobby.{LobbyState}
 use Rattle.lobby_state.specs.Start.{seated}
 
 -- what a pair act does in the lobby: nothing stands otherwise yet, and the reply is a plan

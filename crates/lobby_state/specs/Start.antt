@@ -10,6 +10,12 @@ use Rattle.lobby_state.specs.Change.{holds}
 use Rattle.lobby_state.specs.Lobby.{LobbyState, concerns}
 use Rattle.lobby_state.specs.Places.{with_place}
 
+-- the start of a game: at which desk, under which serial, and who plays
+pub record Sitting : Type 0 where
+  pub desk : ℕ
+  pub serial : ℕ
+  pub seats : Seats
+
 -- the member in this seat, if any, of the game
 abbrev pub in_seat : ℕ → ℕ → Option ℕ → Member → Member
 in_seat desk serial None member = member

@@ -8,7 +8,8 @@ use Rattle.lobby_state.specs.declared.challenge.Challenge.{Challenge}
 use Rattle.lobby_state.specs.declared.game.Game.{Game}
 use Rattle.lobby_state.specs.declared.member.Member.{Member}
 use Rattle.lobby_state.specs.declared.place.Place.{Place}
-use Rattle.lobby_state.specs.Lobby.{LobbyState, IsDesk, desks}
+use Rattle.lobby_state.specs.Desks.{IsDesk, desks}
+use Rattle.lobby_state.specs.Lobby.{LobbyState}
 use Rattle.lobby_state.specs.Match.{needs_partners}
 
 -- the sessions of the members

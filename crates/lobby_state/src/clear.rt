@@ -1,7 +1,7 @@
 //! Clear: a player leaves the place at a desk whose game has ended, and the desk is freed by the last one.
 ghost use Rattle.std.specs.Prelude.{◌≡◌};
 ghost use Rattle.lobby_state.specs.Clear.{cleared, freed, off_desk};
-ghost use Rattle.lobby_state.specs.Lobby.{IsDesk};
+ghost use Rattle.lobby_state.specs.Desks.{IsDesk};
 
 use crate::member::{Member, OfSession, change_first};
 use crate::register::Register;

@@ -1,5 +1,5 @@
 ghost use Rattle.std.specs.Prelude.{◌≡◌, IfOk, None, replicate};
-ghost use Rattle.lobby_state.specs.Lobby.{desks};
+ghost use Rattle.lobby_state.specs.Desks.{desks};
 
 use chess_model::Terms;
 use collections::Listed;

@@ -1,9 +1,9 @@
 //! The lobby itself: which act is carried out by which function, and that every lobby is well-formed.
-ghost use Rattle.std.specs.Prelude.{◌≡◌, IfOk, IfSome};
+ghost use Rattle.std.specs.Prelude.{◌≡◌, IfOk, IfSome, IsOk};
 ghost use Rattle.fics_words.specs.Effect.{Takes};
-ghost use Rattle.lobby_state.specs.Acts.{lines_told, lobby_effect};
-ghost use Rattle.lobby_state.specs.Keeps.{AreAtDesks};
-ghost use Rattle.lobby_state.specs.Lobby.{IsDesk, game_at, opening, places_of, waiting_of};
+ghost use Rattle.lobby_state.specs.Acts.{LobbyNeedsNoMemory, lines_told, lobby_effect};
+ghost use Rattle.lobby_state.specs.Desks.{IsDesk};
+ghost use Rattle.lobby_state.specs.Lobby.{game_at, opening, places_of, waiting_of};
 ghost use Rattle.lobby_state.specs.Planned.{IsPlanned};
 ghost use Rattle.lobby_state.specs.Plans.{NamesDesk, committed, desk_of, plan_of};
 
@@ -45,8 +45,7 @@ impl Lobby {
 
     /// The places of the session: none where it isn't a member.
     pub fn places(&self, session: u32) -> Places
-        ensures places { result ≡ places_of self.now session }
-        ensures desks { AreAtDesks result }
+        ensures { result ≡ places_of self.now session }
     {
         self.register.places(session)
     }
@@ -76,7 +75,8 @@ impl Lobby {
 
     /// A copy of the lines that an act will answer, made before the act; it isn't made for want of memory alone.
     pub fn lines_ahead(&self, session: u32, act: &LobbyAct) -> Result<Listed<Line>, NoMemory>
-        ensures { IfOk result (λ lines. lines ≡ lines_told (lobby_effect self.now session act.now).reply) }
+        ensures lines { IfOk result (λ lines. lines ≡ lines_told (lobby_effect self.now session act.now).reply) }
+        ensures sure { LobbyNeedsNoMemory act.now → IsOk result }
     {
         self.register.lines_ahead(session, act)
     }

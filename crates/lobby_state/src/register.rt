@@ -1,6 +1,7 @@
 //! What a lobby keeps, and the look-ups in it.
 ghost use Rattle.std.specs.Prelude.{◌≡◌, ◌≤◌, IfOk, option_copied};
-ghost use Rattle.lobby_state.specs.Lobby.{IsDesk, holder_of, opening, member_of, named, places_of, waiting_of, free_slot, game_at};
+ghost use Rattle.lobby_state.specs.Desks.{IsDesk};
+ghost use Rattle.lobby_state.specs.Lobby.{holder_of, opening, member_of, named, places_of, waiting_of, free_slot, game_at};
 
 use crate::challenge::Challenge;
 use crate::game::{Game, no_games};
@@ -26,7 +27,8 @@ pub(crate) struct Register {
 
 impl Model for Register {
     ghost use Rattle.std.specs.Prelude.{◌≡◌, length};
-    ghost use Rattle.lobby_state.specs.Lobby.{LobbyState, desks};
+    ghost use Rattle.lobby_state.specs.Desks.{desks};
+    ghost use Rattle.lobby_state.specs.Lobby.{LobbyState};
 
     ghost Value = { LobbyState };
 

@@ -1,7 +1,7 @@
 //! Start: the plan of a game is carried out.
 ghost use Rattle.std.specs.Prelude.{◌≡◌, filter, map, not};
 ghost use Rattle.fics_words.specs.Seats.{seat_list, seat_number};
-ghost use Rattle.lobby_state.specs.Lobby.{IsDesk};
+ghost use Rattle.lobby_state.specs.Desks.{IsDesk};
 ghost use Rattle.lobby_state.specs.Start.{concerns_seated, in_seat, seated};
 
 use crate::challenge::{Challenge, WithoutSeated};
@@ -12,13 +12,25 @@ use crate::register::Register;
 use chess_model::Terms;
 use collections::{Change, Listed, Reserved};
 use fics_words::Seats;
+use std::marker::Model;
 
-/// The start of a game: its players have their places.
-#[derive(Clone, Copy)]
+/// The start of a game at a desk of the hall: its players have their places.
+#[derive(Drop)]
 struct Sit {
     desk: u8,
     serial: u64,
     seats: Seats,
+}
+
+impl Model for Sit {
+    ghost use Rattle.lobby_state.specs.Desks.{IsDesk};
+    ghost use Rattle.lobby_state.specs.Start.{Sitting};
+
+    ghost Value = { Sitting };
+
+    ghost view = { λ sit. record { desk = sit.desk; serial = sit.serial; seats = sit.seats } };
+
+    ghost invariant = { λ sit. IsDesk sit.desk };
 }
 
 impl Change<Member> for Sit {
@@ -57,6 +69,7 @@ impl Register {
 
 /// The players have their places.
 fn sit_down(members: &mut Listed<Member>, desk: u8, serial: u64, seats: &Seats)
+    requires { IsDesk desk }
     ensures { members.new
         ≡ map (λ member. in_seat desk serial (seat_number member.session (seat_list seats.now)) member) members.old }
 {

@@ -1,8 +1,8 @@
 //! Which act is carried out by which function.
-ghost use Rattle.std.specs.Prelude.{◌≡◌, IfOk, IfSome};
+ghost use Rattle.std.specs.Prelude.{◌≡◌, IfOk, IfSome, IsOk};
 ghost use Rattle.fics_words.specs.Effect.{Takes};
-ghost use Rattle.lobby_state.specs.Acts.{lines_told, lobby_effect};
-ghost use Rattle.lobby_state.specs.Lobby.{IsDesk};
+ghost use Rattle.lobby_state.specs.Acts.{LobbyNeedsNoMemory, lines_told, lobby_effect};
+ghost use Rattle.lobby_state.specs.Desks.{IsDesk};
 ghost use Rattle.lobby_state.specs.Plans.{committed, desk_of, plan_of};
 
 use crate::acts::{LobbyAct, LobbyReply, PairAct, Plan};
@@ -26,12 +26,9 @@ impl Register {
     }
 
     /// A copy of the lines that an act will answer, made before the act.
-    pub(crate) fn lines_ahead(
-        &self,
-        session: u32,
-        act: &LobbyAct,
-    ) -> Result<Listed<Line>, NoMemory>
-        ensures { IfOk result (λ lines. lines ≡ lines_told (lobby_effect self.now session act.now).reply) }
+    pub(crate) fn lines_ahead(&self, session: u32, act: &LobbyAct) -> Result<Listed<Line>, NoMemory>
+        ensures lines { IfOk result (λ lines. lines ≡ lines_told (lobby_effect self.now session act.now).reply) }
+        ensures sure { LobbyNeedsNoMemory act.now → IsOk result }
     {
         match act {
             LobbyAct::Fetch => self.waiting_copy(session),
