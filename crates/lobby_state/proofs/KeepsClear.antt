@@ -1,9 +1,10 @@
 -- What a Clear keeps: the plan of it, and the carrying out.
-use Rattle.std.proofs.Common.{◌≡◌, ◌≢◌, ℕ, ◌-◌, ◌≤◌, Bool, true, false, eqb, List, Option, None, Some, map, slice_get, refl, ap, ◌∙◌, arith}
+use Rattle.std.proofs.Common.{◌≡◌, ◌≢◌, ℕ, ◌-◌, ◌≤◌, Bool, true, false, eqb, List, Option, None, Some, map, slice_get, refl, ap, ◌∙◌, arith, sym, subst}
 use Rattle.std.proofs.Math.ListN.{set}
 use Rattle.std.proofs.lemmas.Bool.{eqb-false, not-true}
 use Rattle.std.proofs.lemmas.List.{length-set}
 use Rattle.std.proofs.lemmas.List.Elements.{All-set, All-filter}
+use Rattle.std.proofs.lemmas.Option.{slice_get_within}
 use Rattle.fics_words.specs.Handle.{key_of}
 use Rattle.lobby_state.specs.declared.acts.Plan.TheVariants.{Clear}
 use Rattle.lobby_state.specs.declared.game.Game.{Game}
@@ -13,9 +14,9 @@ use Rattle.lobby_state.specs.Keeps.{KeepsPlan, KeepsPlanned}
 use Rattle.lobby_state.specs.Desks.{IsDesk}
 use Rattle.lobby_state.specs.Lobby.{LobbyState, is_session}
 use Rattle.lobby_state.specs.Places.{is_elsewhere}
-use Rattle.lobby_state.specs.Plans.{committed}
+use Rattle.lobby_state.specs.Plans.{committed, game_after}
 use Rattle.lobby_state.specs.WellFormed.{IsWellFormed, IsSeatOf, IsStarted, HasSeats}
-use Rattle.lobby_state.proofs.Lists.{map-map_same, All-map_each, All-filter_passing, get-set_other}
+use Rattle.lobby_state.proofs.Lists.{map-map_same, All-map_each, All-filter_passing, get-set_other, get-set_same}
 use Rattle.lobby_state.proofs.WellFormed.{kept, member_changed}
 
 pub keeps_clear : (lobby : LobbyState) (session desk serial : ℕ) → IsDesk desk → KeepsPlanned lobby (clear_effect lobby session desk serial)
@@ -66,9 +67,21 @@ others_by lobby session desk serial is_desk true number low other =
     get-set_other lobby.games (desk - 1) (number - 1) None (λ e. other (ap Some (omega (arith, is_desk))))
 others_by lobby session desk serial is_desk false number low other = refl
 
+same_number : (one another : ℕ) → Some one ≡ Some another → one ≡ another
+same_number one another e = cc
+
+own_by : (lobby : LobbyState) (session desk serial : ℕ) (is_cleared : Bool) (number : ℕ) (before : Option Game) → desk ≡ number
+    → slice_get lobby.games (number - 1) ≡ Some before
+    → slice_get (committed lobby (Clear session desk serial) is_cleared).games (number - 1) ≡ Some (game_after (Clear session desk serial) is_cleared before)
+own_by lobby session desk serial true number before same there =
+    subst (λ (n : ℕ). slice_get (set lobby.games (n - 1) None) (number - 1) ≡ Some None) (sym same)
+    (get-set_same lobby.games (number - 1) None (slice_get_within lobby.games (number - 1) before there))
+own_by lobby session desk serial false number before same there = there
+
 pub keeps_cleared : (lobby : LobbyState) (session desk serial : ℕ) → IsDesk desk → KeepsPlan lobby (Clear session desk serial)
 keeps_cleared lobby session desk serial is_desk = record {
   is_desk = is_desk;
   formed = formed_by lobby session desk serial is_desk;
+  own = λ is_cleared number before e there. own_by lobby session desk serial is_cleared number before (same_number desk number e) there;
   others = others_by lobby session desk serial is_desk;
 }

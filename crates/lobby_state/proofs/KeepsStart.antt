@@ -112,11 +112,22 @@ formed_seated lobby desk serial terms seats can h =
     (All-weaker (IsSeatOf lobby.games m.session) (IsSeatOf games m.session) (λ p. IsSeatOf-started lobby.games (desk - 1) (Some game) m.session p can.is_free) m.places.rows has))
     lobby.members h.places) h
 
+same_number : (one another : ℕ) → Some one ≡ Some another → one ≡ another
+same_number one another e = cc
+
+own_started : (lobby : LobbyState) (desk number : ℕ) (game : Game) (before : Option Game) → desk ≡ number → slice_get lobby.games (number - 1) ≡ Some before
+    → slice_get (set lobby.games (desk - 1) (Some game)) (number - 1) ≡ Some (Some game)
+own_started lobby desk number game before same there =
+    subst (λ (n : ℕ). slice_get (set lobby.games (n - 1) (Some game)) (number - 1) ≡ Some (Some game)) (sym same)
+    (get-set_same lobby.games (number - 1) (Some game) (slice_get_within lobby.games (number - 1) before there))
+
 pub keeps_started : (lobby : LobbyState) (desk serial : ℕ) (terms : Terms) (seats : Seats) → CanStart lobby desk serial terms seats
     → KeepsPlan lobby (Start desk serial terms seats)
 keeps_started lobby desk serial terms seats can = record {
   is_desk = can.is_desk;
   formed = λ _ h. formed_seated lobby desk serial terms seats can h;
+  own = λ _ number before e there.
+      own_started lobby desk number (record { serial = serial; terms = terms; seats = seats }) before (same_number desk number e) there;
   others = λ _ number low other.
       let d = can.is_desk in
       get-set_other lobby.games (desk - 1) (number - 1) (Some (record { serial = serial; terms = terms; seats = seats }))

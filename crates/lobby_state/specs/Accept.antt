@@ -53,10 +53,11 @@ no_plan = Clear 0 0 0
 -- the plan of a game at the least free desk under the next serial, between the member that accepts a challenge and the
 -- one that made it
 abbrev pub start_plan : ℕ → Option Member → Option Challenge → Option Member → Option ℕ → Plan
-start_plan serial (Some accepting) (Some offer) (Some offering) (Some slot) = Start (slot + 1) serial offer.terms (record {
-  first = opponents_of (offers_white offer.terms.colour serial) offering accepting;
-  second = None;
-})
+start_plan serial (Some accepting) (Some offer) (Some offering) (Some slot) =
+    Start (slot + 1) serial offer.terms (record {
+      first = opponents_of (offers_white offer.terms.colour serial) offering accepting;
+      second = None;
+    })
 start_plan _ _ _ _ _ = no_plan
 
 -- an acceptance is refused where the session isn't a member; where there is no such challenge; where one of the two has

@@ -22,8 +22,8 @@ abbrev pub FitsVariant : Variant → Seats → Type 0
 FitsVariant Bughouse seats = IsSome seats.second
 FitsVariant _ seats = IsNone seats.second
 
--- a game on these terms can start at this desk under this serial with these players: the desk is free, the serial is the
--- next one, and the players are that many and apart
+-- a game on these terms can start at this desk under this serial with these players: the desk is free, the serial is
+-- the next one, and the players are as many as the variant has, and apart
 pub record CanStart (lobby : LobbyState) (desk serial : ℕ) (terms : Terms) (seats : Seats) : Type 0 where
   pub is_desk : IsDesk desk
   pub is_free : slice_get lobby.games (desk - 1) ≡ Some None

@@ -1,12 +1,13 @@
 -- All pair acts and all plans in one table each: what a pair act is to do, by the lobby alone, and the lobby once that
 -- is carried out. This server's own.
-use Rattle.std.specs.Prelude.{ℕ, Bool, true, false, Option, Some, Result}
+use Rattle.std.specs.Prelude.{ℕ, Bool, true, false, Option, None, Some, Result}
 use Rattle.fics_words.specs.declared.refusal.Refusal.{Refusal}
 use Rattle.fics_words.specs.Effect.{Effect, answer_of}
 use Rattle.lobby_state.specs.declared.acts.PairAct.{PairAct}
 use Rattle.lobby_state.specs.declared.acts.PairAct.TheVariants.{Accept, Clear}
 use Rattle.lobby_state.specs.declared.acts.Plan.{Plan}
 use Rattle.lobby_state.specs.declared.acts.Plan.TheVariants.{Start, Clear as Clearing}
+use Rattle.lobby_state.specs.declared.game.Game.{Game}
 use Rattle.lobby_state.specs.Accept.{accept_effect}
 use Rattle.lobby_state.specs.Clear.{clear_effect, freed, cleared}
 use Rattle.lobby_state.specs.Desks.{IsDesk}
@@ -32,6 +33,13 @@ abbrev pub committed : LobbyState → Plan → Bool → LobbyState
 committed lobby (Start desk serial terms seats) is_cleared = seated lobby desk serial terms seats
 committed lobby (Clearing session desk serial) true = cleared lobby desk
 committed lobby (Clearing session desk serial) false = freed lobby session desk
+
+-- the game that the lobby lists for the plan's desk once the plan is carried out, by the one that it listed before
+abbrev pub game_after : Plan → Bool → Option Game → Option Game
+game_after (Start desk serial terms seats) is_cleared before =
+    Some (record { serial = serial; terms = terms; seats = seats })
+game_after (Clearing session desk serial) true before = None
+game_after (Clearing session desk serial) false before = before
 
 -- a desk that a pair act names is one
 abbrev pub NamesDesk : PairAct → Type 0

@@ -1,4 +1,5 @@
 ghost use Rattle.std.specs.Prelude.{◌≡◌};
+ghost use Rattle.lobby_state.specs.Acts.{lines_told};
 ghost use Rattle.lobby_state.specs.Plans.{desk_of};
 
 use crate::places::Places;
@@ -31,6 +32,24 @@ pub enum LobbyReply {
     Entered(Handle),
     Places(Places),
     Waiting { lines: Listed<Line>, places: Places },
+}
+
+impl LobbyReply {
+    /// A reply equal to this one, made of a copy of the lines that it tells.
+    pub fn twin(&self, lines: Listed<Line>) -> LobbyReply
+        requires { lines ≡ lines_told self.now }
+        ensures { result ≡ self.now }
+    {
+        match self {
+            LobbyReply::Done => LobbyReply::Done,
+            LobbyReply::Entered(name) => LobbyReply::Entered(*name),
+            LobbyReply::Places(places) => LobbyReply::Places(*places),
+            LobbyReply::Waiting { places, .. } => LobbyReply::Waiting {
+                lines,
+                places: *places,
+            },
+        }
+    }
 }
 
 /// An act that needs the lobby and a desk.
