@@ -2,5 +2,16 @@ pub mod Field
 pub mod First
 pub mod Words
 pub mod Lists
+pub mod Causes
 pub mod WellFormed
-pub mod Planned
+pub mod KeepsEnter
+pub mod KeepsMatch
+pub mod KeepsWhere
+pub mod KeepsFetch
+pub mod KeepsGoing
+pub mod KeepsBye
+pub mod KeepsActs
+pub mod KeepsAccept
+pub mod KeepsStart
+pub mod KeepsClear
+pub mod KeepsPlans

@@ -126,3 +126,9 @@ get-set_other (x ∷ xs) zero zero y h = absurd (h refl)
 get-set_other (x ∷ xs) zero (suc j) y h = refl
 get-set_other (x ∷ xs) (suc i) zero y h = refl
 get-set_other (x ∷ xs) (suc i) (suc j) y h = get-set_other xs i j y (λ e. h (ap suc e))
+
+-- what stands within a list
+pub get_inside : {X : Type 0} (xs : List X) (i : ℕ) → i < length xs → (x : X) × (slice_get xs i ≡ Some x)
+get_inside [] i h = absurd (omega arith)
+get_inside (x ∷ xs) zero h = (x, refl)
+get_inside (x ∷ xs) (suc i) h = get_inside xs i (omega arith)

@@ -1,10 +1,11 @@
 -- A lobby: who is in the hall, which challenges stand, and which desks are in use. This server's own.
-use Rattle.std.specs.Prelude.{ℕ, ◌-◌, ◌^◌, ◌==◌, Bool, not, ◌&&◌, ◌||◌, List, [], length, replicate, Option, None, Some, is_none, bytes_eq, slice_get}
+use Rattle.std.specs.Prelude.{ℕ, ◌-◌, ◌^◌, ◌==◌, Bool, not, ◌&&◌, ◌||◌, List, [], length, replicate, Option, None, Some, is_none, bytes_eq, filter, slice_get}
 use Rattle.std.specs.List.{find, position}
 use Rattle.fics_words.specs.Handle.{key_of}
 use Rattle.lobby_state.specs.declared.challenge.Challenge.{Challenge}
 use Rattle.lobby_state.specs.declared.game.Game.{Game}
 use Rattle.lobby_state.specs.declared.member.Member.{Member}
+use Rattle.lobby_state.specs.Desks.{desks}
 use Rattle.lobby_state.specs.Places.{PlaceList, no_places}
 
 -- the members in the order in which they entered; the challenges in the order in which they were made; for each
@@ -26,10 +27,6 @@ most_lines = 512
 -- the most games that are ever started, which keeps serials below 2^64
 abbrev pub most_games : ℕ
 most_games = 2 ^ 62
-
--- the number of desks
-abbrev pub desks : ℕ
-desks = 128
 
 -- a lobby at its opening: nobody is there, and each desk is free
 abbrev pub opening : LobbyState
@@ -97,3 +94,8 @@ game_in (Some game) = game
 -- the game for which the desk is in use, if it is
 abbrev pub game_at : LobbyState → ℕ → Option Game
 game_at lobby desk = game_in (slice_get lobby.games (desk - 1))
+
+-- the lobby without the challenges by this session and to it
+abbrev pub without_challenges : ℕ → LobbyState → LobbyState
+without_challenges session lobby =
+    record lobby { challenges = filter (λ challenge. not (concerns session challenge)) lobby.challenges }

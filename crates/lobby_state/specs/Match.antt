@@ -1,19 +1,18 @@
 -- Match: a member challenges another to a game. This server's own.
-use Rattle.std.specs.Prelude.{ℕ, ◌==◌, Bool, true, false, not, ◌&&◌, ◌||◌, nat_le, List, [], ◌∷◌, ◌++◌, length, Option, None, Some, is_none, Result, codes, decimal}
+use Rattle.std.specs.Prelude.{ℕ, ◌==◌, Bool, true, false, not, ◌&&◌, ◌||◌, nat_le, List, [], ◌∷◌, ◌++◌, length, Option, None, Some, is_none, codes, decimal}
 use Rattle.std.specs.List.{filter}
 use Rattle.chess_model.specs.declared.man.Colour.{Colour}
 use Rattle.chess_model.specs.declared.man.Colour.TheVariants.{White, Black}
 use Rattle.chess_model.specs.declared.variant.Terms.{Terms}
 use Rattle.chess_model.specs.declared.variant.Variant.{Variant}
-use Rattle.chess_model.specs.declared.variant.Variant.TheVariants.{Chess, Crazyhouse, Bughouse}
+use Rattle.chess_model.specs.declared.variant.Variant.TheVariants.{Bughouse}
 use Rattle.chess_model.specs.VariantWord.{word_of}
-use Rattle.fics_words.specs.declared.refusal.Refusal.{Refusal}
+use Rattle.fics_words.specs.Effect.{Effect}
 use Rattle.fics_words.specs.declared.refusal.Refusal.TheVariants.{NotIn, NoSuchPlayer, BadOpponent, Playing, NoPartner, QueueFull}
 use Rattle.lobby_state.specs.declared.acts.LobbyReply.{LobbyReply}
 use Rattle.lobby_state.specs.declared.acts.LobbyReply.TheVariants.{Done}
 use Rattle.lobby_state.specs.declared.challenge.Challenge.{Challenge}
 use Rattle.lobby_state.specs.declared.member.Member.{Member}
-use Rattle.lobby_state.specs.Causes.{first_cause, answered, unless}
 use Rattle.lobby_state.specs.Change.{change_first, holds}
 use Rattle.lobby_state.specs.Lobby.{LobbyState, most_lines, is_session, is_named, has_place, member_of, named}
 
@@ -31,29 +30,12 @@ challenge_words name terms =
 
 -- bughouse is played by pairs of partners, and nobody has a partner yet
 abbrev pub needs_partners : Variant → Bool
-needs_partners Chess = false
-needs_partners Crazyhouse = false
 needs_partners Bughouse = true
+needs_partners _ = false
 
 -- no more lines can wait for the member
 abbrev pub is_full : Member → Bool
 is_full member = nat_le most_lines (length member.waiting)
-
--- the causes for which a challenge is refused, in their order
-abbrev pub match_refused : LobbyState → ℕ → List ℕ → Terms → Option Refusal
-match_refused lobby session to terms =
-    let other = named lobby to in
-    first_cause (
-    (is_none (member_of lobby session), NotIn) ∷
-    (is_none other, NoSuchPlayer) ∷
-    (holds (is_session session) other, BadOpponent) ∷
-    (holds has_place (member_of lobby session) || holds has_place other, Playing) ∷
-    (needs_partners terms.variant, NoPartner) ∷
-    (holds is_full other, QueueFull) ∷ [])
-
--- the answer to a challenge
-abbrev pub match_answer : LobbyState → ℕ → List ℕ → Terms → Result LobbyReply Refusal
-match_answer lobby session to terms = answered (match_refused lobby session to terms) Done
 
 -- the member with one more line that waits for it
 abbrev pub with_line : List ℕ → Member → Member
@@ -76,8 +58,19 @@ challenged lobby (Some caller) (Some other) to terms = record lobby {
   challenges = with_challenge (record { from = caller.session; to = other.session; terms = terms }) lobby.challenges;
 }
 
--- the lobby after a Match
-abbrev pub matched : LobbyState → ℕ → List ℕ → Terms → LobbyState
-matched lobby session to terms =
-    unless (match_refused lobby session to terms) lobby
-    (challenged lobby (member_of lobby session) (named lobby to) to terms)
+-- a challenge is refused where the session isn't a member; where nobody has the handle, or that member is going; where
+-- it is the session itself; where one of the two has a place; where the game needs partners; and where 512 lines wait
+-- for the other
+abbrev pub match_effect : LobbyState → ℕ → List ℕ → Terms → Effect LobbyState LobbyReply
+match_effect lobby session to terms = record {
+  causes =
+      (is_none (member_of lobby session), NotIn) ∷
+      (is_none (named lobby to), NoSuchPlayer) ∷
+      (holds (is_session session) (named lobby to), BadOpponent) ∷
+      (holds has_place (member_of lobby session) || holds has_place (named lobby to), Playing) ∷
+      (needs_partners terms.variant, NoPartner) ∷
+      (holds is_full (named lobby to), QueueFull) ∷ [];
+  memory = true;
+  reply = Done;
+  after = challenged lobby (member_of lobby session) (named lobby to) to terms;
+}

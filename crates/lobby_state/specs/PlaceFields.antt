@@ -3,7 +3,7 @@ use Rattle.std.specs.Prelude.{◌≡◌, ◌-◌, ◌≤◌, List, ◌++◌, len
 use Rattle.std.proofs.Common.{sym}
 use Rattle.lobby_state.specs.declared.place.Place.{Place}
 use Rattle.lobby_state.specs.declared.places.Places.TheInside.{Inside}
-use Rattle.lobby_state.specs.Places.{PlaceList}
+use Rattle.lobby_state.specs.Places.{AreAtDesks, PlaceList}
 
 -- what stands behind the places
 abbrev pub nowhere : Place
@@ -17,12 +17,14 @@ field_of rows = rows ++ replicate (32 - length rows) nowhere
 abbrev pub places_in : Inside → PlaceList
 places_in p = record { at = p.at; rows = take p.count p.rows }
 
--- behind the first `count` rows there is nothing, and the present place is one of these, if there are any
+-- behind the first `count` rows there is nothing; the present place is one of these, if there are any; and each is at a
+-- desk of the hall
 pub record HoldsPlaces (p : Inside) : Type 0 where
   pub counted : p.count ≡ length (take p.count p.rows)
   pub blank : p.rows ≡ field_of (take p.count p.rows)
   pub most : p.count ≤ 32
   pub present : p.at ≤ p.count - 1
+  pub at_desks : AreAtDesks (take p.count p.rows)
 
 -- the fields that some places have
 abbrev pub fields_of : PlaceList → Inside

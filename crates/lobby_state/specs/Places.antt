@@ -1,12 +1,17 @@
 -- The places of a member: the seats that it has at desks in use, and which of them is the present one.
-use Rattle.std.specs.Prelude.{ℕ, ◌==◌, Bool, not, cond, nat_lt, List, [], ◌∷◌, ◌++◌, length, take, count_by}
+use Rattle.std.specs.Prelude.{ℕ, ◌==◌, Bool, not, cond, nat_lt, List, [], ◌∷◌, ◌++◌, All, length, take, count_by}
 use Rattle.std.specs.List.{filter}
 use Rattle.lobby_state.specs.declared.place.Place.{Place}
+use Rattle.lobby_state.specs.Desks.{IsDesk}
 
 -- the places in the order in which they came; `at` counts the present one from 0, and is 0 where there is none
 pub record PlaceList : Type 0 where
   pub at : ℕ
   pub rows : List Place
+
+-- each of the places is at a desk of the hall
+abbrev pub AreAtDesks : List Place → Type 0
+AreAtDesks rows = All (λ place. IsDesk place.desk) rows
 
 -- no places
 abbrev pub no_places : PlaceList

@@ -1,25 +1,27 @@
 -- What holds of a lobby at all times, from its opening on. This server's own.
-use Rattle.std.specs.Prelude.{◌≡◌, ◌≢◌, ℕ, ◌-◌, ◌≤◌, List, length, map, All, Contains, Option, None, Some, slice_get}
+use Rattle.std.specs.Prelude.{◌≡◌, ◌≢◌, ℕ, ◌-◌, ◌≤◌, false, List, length, map, All, Contains, Option, None, Some, slice_get}
 use Rattle.std.specs.List.{AllPairs}
 use Rattle.fics_words.specs.Handle.{key_of}
 use Rattle.fics_words.specs.declared.player.Player.{Player}
+use Rattle.fics_words.specs.Seats.{seat_list}
 use Rattle.lobby_state.specs.declared.challenge.Challenge.{Challenge}
 use Rattle.lobby_state.specs.declared.game.Game.{Game}
 use Rattle.lobby_state.specs.declared.member.Member.{Member}
 use Rattle.lobby_state.specs.declared.place.Place.{Place}
-use Rattle.lobby_state.specs.Acts.{IsDesk}
-use Rattle.lobby_state.specs.Lobby.{LobbyState, desks}
-use Rattle.lobby_state.specs.Seats.{seat_list}
+use Rattle.lobby_state.specs.Desks.{IsDesk, desks}
+use Rattle.lobby_state.specs.Lobby.{LobbyState}
+use Rattle.lobby_state.specs.Match.{needs_partners}
 
 -- the sessions of the members
 abbrev pub sessions_of : List Member → List ℕ
 sessions_of members = map (λ member. member.session) members
 
--- the challenge is by one member to another
+-- the challenge is by one member to another, and to a game that two can play, since nobody has a partner yet
 pub record IsBetweenMembers (sessions : List ℕ) (challenge : Challenge) : Type 0 where
   pub from : Contains sessions challenge.from
   pub to : Contains sessions challenge.to
   pub differ : challenge.from ≢ challenge.to
+  pub for_two : needs_partners challenge.terms.variant ≡ false
 
 -- the place is a seat of this session's, at a desk in use under that serial
 pub record IsSeatOf (games : List (Option Game)) (session : ℕ) (place : Place) : Type 0 where

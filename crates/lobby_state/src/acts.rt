@@ -1,11 +1,14 @@
+ghost use Rattle.std.specs.Prelude.{◌≡◌};
+ghost use Rattle.lobby_state.specs.Acts.{lines_told};
+ghost use Rattle.lobby_state.specs.Plans.{desk_of};
+
 use crate::places::Places;
-use crate::seats::Seats;
 use chess_model::Terms;
 use collections::Listed;
-use fics_words::{Handle, HandleKey, Line};
+use fics_words::{Handle, HandleKey, Line, Seats};
 
 /// An act that needs the lobby alone.
-#[derive(Clone, Copy, Debug, PartialEq, Eq)]
+#[derive(Debug, Drop, PartialEq, Eq)]
 pub enum LobbyAct {
     /// The session comes in under this handle.
     Enter { name: Handle },
@@ -31,8 +34,26 @@ pub enum LobbyReply {
     Waiting { lines: Listed<Line>, places: Places },
 }
 
+impl LobbyReply {
+    /// A reply equal to this one, made of a copy of the lines that it tells.
+    pub fn twin(&self, lines: Listed<Line>) -> LobbyReply
+        requires { lines ≡ lines_told self.now }
+        ensures { result ≡ self.now }
+    {
+        match self {
+            LobbyReply::Done => LobbyReply::Done,
+            LobbyReply::Entered(name) => LobbyReply::Entered(*name),
+            LobbyReply::Places(places) => LobbyReply::Places(*places),
+            LobbyReply::Waiting { places, .. } => LobbyReply::Waiting {
+                lines,
+                places: *places,
+            },
+        }
+    }
+}
+
 /// An act that needs the lobby and a desk.
-#[derive(Clone, Copy, Debug, PartialEq, Eq)]
+#[derive(Debug, Drop, PartialEq, Eq)]
 pub enum PairAct {
     /// Accepts the challenge of the player with this handle, or without one the oldest challenge.
     Accept(Option<HandleKey>),
@@ -40,11 +61,11 @@ pub enum PairAct {
     Clear { desk: u8, serial: u64 },
 }
 
-/// What a pair act is to do, as the lobby alone decides it. The desk is 1 to 128.
+/// What a pair act is to do, as the lobby alone decides it. Desks are 1 to 128.
 #[derive(Clone, Copy, Debug, PartialEq, Eq)]
 pub enum Plan {
     /// A game starts.
-    Seat {
+    Start {
         desk: u8,
         serial: u64,
         terms: Terms,
@@ -56,4 +77,16 @@ pub enum Plan {
         desk: u8,
         serial: u64,
     },
+}
+
+impl Plan {
+    /// The desk that the plan needs beside the lobby, if it needs one.
+    pub fn desk(&self) -> Option<u8>
+        ensures { result ≡ desk_of self.now }
+    {
+        match self {
+            Plan::Start { desk, .. } => Some(*desk),
+            Plan::Clear { desk, .. } => Some(*desk),
+        }
+    }
 }

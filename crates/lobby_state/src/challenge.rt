@@ -2,11 +2,11 @@
 ghost use Rattle.std.specs.Prelude.{◌≡◌, ◌<◌, not};
 ghost use Rattle.lobby_state.specs.Lobby.{concerns};
 ghost use Rattle.lobby_state.specs.Match.{is_same_pair, with_challenge};
-ghost use Rattle.lobby_state.specs.Seating.{concerns_seated};
+ghost use Rattle.lobby_state.specs.Start.{concerns_board, concerns_seated};
 
-use crate::seats::Seats;
 use chess_model::Terms;
-use collections::{Reserved, Predicate};
+use collections::{Predicate, Reserved};
+use fics_words::{Opponents, Seats};
 
 /// A challenge that stands: by which session, to which, and to which game.
 #[derive(Clone, Copy, Debug, PartialEq, Eq)]
@@ -22,6 +22,26 @@ impl Challenge {
         ensures { result ≡ concerns session self.now }
     {
         self.from == session || self.to == session
+    }
+
+    /// Whether the challenge is by or to a player of this board.
+    fn concerns_board(&self, opponents: &Opponents) -> bool
+        ensures { result ≡ concerns_board self.now opponents.now }
+    {
+        self.concerns(opponents.white.session) || self.concerns(opponents.black.session)
+    }
+
+    /// Whether the challenge is by or to a player of the game.
+    fn concerns_seated(&self, seats: &Seats) -> bool
+        ensures { result ≡ concerns_seated seats.now self.now }
+    {
+        if self.concerns_board(&seats.first) {
+            return true;
+        }
+        match &seats.second {
+            None => false,
+            Some(second) => self.concerns_board(second),
+        }
     }
 }
 
@@ -49,15 +69,15 @@ impl Predicate<Challenge> for Without {
     }
 }
 
-/// A challenge that isn't by nor to one of two players.
+/// A challenge that isn't by nor to a player of the game.
 #[derive(Clone, Copy)]
-pub(crate) struct WithoutBoth(pub(crate) Seats);
+pub(crate) struct WithoutSeated(pub(crate) Seats);
 
-impl Predicate<Challenge> for WithoutBoth {
+impl Predicate<Challenge> for WithoutSeated {
     ghost passes = { λ test challenge. not (concerns_seated test.0 challenge) };
 
     fn passes(&self, challenge: &Challenge) -> bool {
-        !(challenge.concerns(self.0.white.session) || challenge.concerns(self.0.black.session))
+        !challenge.concerns_seated(&self.0)
     }
 }
 

@@ -1,23 +1,20 @@
 //! Enter: a session comes in under a handle.
-ghost use Rattle.std.specs.Prelude.{◌≡◌, OnErr};
-ghost use Rattle.lobby_state.specs.Causes.{Gives, OnAnswer};
-ghost use Rattle.lobby_state.specs.Enter.{enter_answer, entered};
+ghost use Rattle.fics_words.specs.Effect.{Takes};
+ghost use Rattle.lobby_state.specs.Enter.{enter_effect};
 
 use crate::acts::LobbyReply;
-use crate::lobby::Lobby;
 use crate::member::Member;
+use crate::register::Register;
 use fics_words::{Fail, Handle, Refusal};
 
 /// The most members that the hall holds.
 const MOST_MEMBERS: usize = 256;
 
-impl Lobby {
+impl Register {
     /// The session becomes a member. The causes of a refusal, in order: there are 256 members; this session has
     /// entered, or a member has the handle.
     pub(crate) fn enter(&mut self, session: u32, name: Handle) -> Result<LobbyReply, Fail>
-        ensures reply { Gives (enter_answer self.old session name) result }
-        ensures after { OnAnswer result (self.new ≡ entered self.old session name) }
-        ensures err { OnErr result (self.new ≡ self.old) }
+        ensures { Takes (enter_effect self.old session name) self.old self.new result }
     {
         if self.members.len() >= MOST_MEMBERS {
             return Err(Fail::Refused(Refusal::HallFull));

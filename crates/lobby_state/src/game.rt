@@ -1,10 +1,9 @@
 ghost use Rattle.std.specs.Prelude.{◌≡◌, IfOk, None, replicate};
-ghost use Rattle.lobby_state.specs.Lobby.{desks};
+ghost use Rattle.lobby_state.specs.Desks.{desks};
 
-use crate::seats::Seats;
 use chess_model::Terms;
 use collections::Listed;
-use fics_words::NoMemory;
+use fics_words::{NoMemory, Seats};
 use std::alloc::Global;
 
 /// The number of desks.
@@ -23,9 +22,16 @@ pub struct Game {
 pub(crate) fn no_games(alloc: Global) -> Result<Listed<Option<Game>>, NoMemory>
     ensures { IfOk result (λ games. games ≡ replicate desks None) }
 {
-    let mut games = Listed::new(alloc);
-    for _desk in 0..DESKS {
-        games.push(None)?;
+    nothing(alloc, DESKS)
+}
+
+/// A list of so many places with nothing in them.
+fn nothing<T: Drop>(alloc: Global, count: usize) -> Result<Listed<Option<T>>, NoMemory>
+    ensures { IfOk result (λ places. places ≡ replicate count None) }
+{
+    let mut places = Listed::new(alloc);
+    for _place in 0..count {
+        places.push(None)?;
     }
-    Ok(games)
+    Ok(places)
 }

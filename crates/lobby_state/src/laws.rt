@@ -1,32 +1,23 @@
-//! What holds of every lobby, as calls that do nothing: each says by its contract what was proved of all lobbies.
+//! What holds of every act, as calls that do nothing: each says by its contract what was proved of all acts.
 ghost use Rattle.std.specs.Prelude.{◌≡◌, Ok};
-ghost use Rattle.lobby_state.specs.Acts.{NamesDesk, committed, lobby_after, plan_of};
-ghost use Rattle.lobby_state.specs.Lobby.{opening};
-ghost use Rattle.lobby_state.specs.Planned.{IsPlanned, SeatsTwo};
+ghost use Rattle.lobby_state.specs.Acts.{lobby_effect};
+ghost use Rattle.lobby_state.specs.Keeps.{Keeps, KeepsPlan};
+ghost use Rattle.lobby_state.specs.Planned.{IsPlanned};
+ghost use Rattle.lobby_state.specs.Plans.{NamesDesk, plan_of};
 ghost use Rattle.lobby_state.specs.WellFormed.{IsWellFormed};
 
 use crate::acts::{LobbyAct, PairAct, Plan};
 use crate::lobby::Lobby;
 
-/// A lobby is well-formed at its opening, and each lobby act leaves it so and starts and ends no game.
-pub fn acts_keep_lobbies_well_formed(lobby: &Lobby, session: u32, act: &LobbyAct)
-    ensures opening { IsWellFormed opening }
-    ensures kept { IsWellFormed lobby.now → IsWellFormed (lobby_after lobby.now session act.now) }
-    ensures games { (lobby_after lobby.now session act.now).games ≡ lobby.now.games }
+/// Each lobby act, made or refused, leaves a lobby well-formed, starts and ends no game, and tells of desks alone.
+pub fn acts_keep(lobby: &Lobby, session: u32, act: &LobbyAct)
+    ensures { Keeps lobby.now (lobby_effect lobby.now session act.now) }
 {}
 
-/// A plan that a lobby gives can be carried out in it, and that leaves a well-formed lobby well-formed. Whom a
-/// well-formed lobby seats are two players.
-pub fn plans_keep_lobbies_well_formed(
-    lobby: &Lobby,
-    session: u32,
-    act: &PairAct,
-    plan: &Plan,
-    cleared: bool,
-)
+/// A plan that a lobby gives can be carried out in it. That leaves the lobby well-formed, and changes the game of no
+/// other desk.
+pub fn plans_keep(lobby: &Lobby, session: u32, act: &PairAct, plan: &Plan)
     ensures planned { NamesDesk act.now → IsWellFormed lobby.now → plan_of lobby.now session act.now ≡ Ok plan.now
         → IsPlanned lobby.now plan.now }
-    ensures two { IsWellFormed lobby.now → plan_of lobby.now session act.now ≡ Ok plan.now → SeatsTwo plan.now }
-    ensures kept { IsPlanned lobby.now plan.now → IsWellFormed lobby.now
-        → IsWellFormed (committed lobby.now plan.now cleared) }
+    ensures kept { IsPlanned lobby.now plan.now → KeepsPlan lobby.now plan.now }
 {}

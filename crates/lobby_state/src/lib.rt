@@ -1,33 +1,38 @@
 //! The lobby: who is in the hall, which challenges stand, and which desks are in use for which game.
 //!
-//! The contract: each act's answer, and the lobby afterwards, are functions of the lobby before, the session and the
-//! act, as the tables in `specs/` say. A refusal and want of memory leave the lobby as it was. What needs a desk too
-//! is done in two steps: `plan` says by the lobby alone which desk and what is to be done there, and `commit`, which
-//! takes no memory, does the lobby's share of it.
+//! The contract: what an act does, by the lobby before, the session and the act, stands in one record of its own file
+//! in `specs/`: why it is refused, what it replies, and what stands afterwards. A refusal and want of memory leave the
+//! lobby as it was, and every lobby is well-formed. What needs a desk too is done in two steps: `plan` says by the
+//! lobby alone which desk and what is to be done there, and `commit`, which takes no memory, does the lobby's share.
+//!
+//! An act is a room of its own: a file of `src/`, one of `specs/` and one of `proofs/` that says what the act keeps.
 #![tactic(auto)]
 
+mod accept;
 mod acts;
+mod bye;
 mod challenge;
-mod clearing;
+mod clear;
 mod enter;
+mod fetch;
 mod game;
+mod going;
 mod laws;
 mod lobby;
 mod matching;
 mod member;
 mod place;
 mod places;
-mod seating;
-mod seats;
+mod register;
+mod start;
 mod table;
-mod visits;
+mod where_is;
 
 pub use acts::{LobbyAct, LobbyReply, PairAct, Plan};
 pub use challenge::Challenge;
 pub use game::{DESKS, Game};
-pub use laws::{acts_keep_lobbies_well_formed, plans_keep_lobbies_well_formed};
+pub use laws::{acts_keep, plans_keep};
 pub use lobby::Lobby;
 pub use member::Member;
 pub use place::Place;
 pub use places::Places;
-pub use seats::Seats;

@@ -1,43 +1,37 @@
-//! The lobby itself, and the look-ups in it.
-ghost use Rattle.std.specs.Prelude.{◌≡◌, ◌≤◌, IfOk, option_copied};
-ghost use Rattle.lobby_state.specs.Lobby.{holder_of, opening, member_of, named, places_of, waiting_of, free_slot, game_at};
-ghost use Rattle.lobby_state.specs.Acts.{IsDesk};
+//! The lobby itself: which act is carried out by which function, and that every lobby is well-formed.
+ghost use Rattle.std.specs.Prelude.{◌≡◌, IfOk, IfSome, IsOk};
+ghost use Rattle.fics_words.specs.Effect.{Takes};
+ghost use Rattle.lobby_state.specs.Acts.{LobbyNeedsNoMemory, lines_told, lobby_effect};
+ghost use Rattle.lobby_state.specs.Desks.{IsDesk};
+ghost use Rattle.lobby_state.specs.Lobby.{game_at, opening, places_of, waiting_of};
+ghost use Rattle.lobby_state.specs.Planned.{IsPlanned};
+ghost use Rattle.lobby_state.specs.Plans.{NamesDesk, committed, desk_of, plan_of};
+ghost use Rattle.lobby_state.specs.WellFormed.{IsWellFormed};
 
-use crate::challenge::Challenge;
-use crate::game::{Game, no_games};
-use crate::member::Member;
+use crate::acts::{LobbyAct, LobbyReply, PairAct, Plan};
+use crate::game::Game;
 use crate::places::Places;
-use collections::{Listed, Reserved};
-use fics_words::{Duplicate, HandleKey, Line, NoMemory};
+use crate::register::Register;
+use collections::Listed;
+use fics_words::{Fail, Line, NoMemory, Refusal};
 use std::alloc::Global;
 use std::marker::Model;
 
-/// Who is in the hall, which challenges stand, and which desks are in use.
+/// Who is in the hall, which challenges stand, and which desks are in use. Every lobby is well-formed.
 #[derive(Debug, Drop)]
 pub struct Lobby {
-    pub(crate) alloc: Global,
-    pub(crate) members: Listed<Member>,
-    pub(crate) challenges: Reserved<Challenge>,
-    /// The game of each desk from 1 on, where it is in use.
-    pub(crate) games: Listed<Option<Game>>,
-    /// How many games were started, which is the last serial.
-    pub(crate) started: u64,
+    register: Register,
 }
 
 impl Model for Lobby {
-    ghost use Rattle.std.specs.Prelude.{◌≡◌, length};
-    ghost use Rattle.lobby_state.specs.Lobby.{LobbyState, desks};
+    ghost use Rattle.lobby_state.specs.Lobby.{LobbyState};
+    ghost use Rattle.lobby_state.specs.WellFormed.{IsWellFormed};
 
     ghost Value = { LobbyState };
 
-    ghost view = { λ lobby. record {
-      members = lobby.members;
-      challenges = lobby.challenges.items;
-      games = lobby.games;
-      started = lobby.started;
-    } };
+    ghost view = { λ lobby. lobby.register };
 
-    ghost invariant = { λ lobby. length lobby.games ≡ desks };
+    ghost invariant = { λ lobby. IsWellFormed lobby.register };
 }
 
 impl Lobby {
@@ -46,42 +40,29 @@ impl Lobby {
         ensures { IfOk result (λ lobby. lobby ≡ opening) }
     {
         Ok(Lobby {
-            alloc,
-            members: Listed::new(alloc),
-            challenges: Reserved::new(alloc),
-            games: no_games(alloc)?,
-            started: 0,
+            register: Register::new(alloc)?,
         })
+    }
+
+    /// Does nothing: its contract says what holds of every lobby.
+    pub fn is_well_formed(&self)
+        ensures { IsWellFormed self.now }
+    {
+        let _ = &self.register;
     }
 
     /// The places of the session: none where it isn't a member.
     pub fn places(&self, session: u32) -> Places
         ensures { result ≡ places_of self.now session }
     {
-        match self.member(session) {
-            Some(member) => member.places,
-            None => Places::none(),
-        }
+        self.register.places(session)
     }
 
     /// The lines that wait for the session, the oldest first: none where it isn't a member.
     pub fn waiting(&self, session: u32) -> &[Line]
         ensures { result.now ≡ waiting_of self.now session }
     {
-        match self.member(session) {
-            Some(member) => member.waiting.as_slice(),
-            None => &[],
-        }
-    }
-
-    /// A copy of the lines that wait for the session; it isn't made for want of memory alone.
-    pub fn waiting_copy(&self, session: u32) -> Result<Listed<Line>, NoMemory>
-        ensures { IfOk result (λ lines. lines ≡ waiting_of self.now session) }
-    {
-        match self.member(session) {
-            Some(member) => member.waiting.duplicate(),
-            None => Ok(Listed::new(self.alloc)),
-        }
+        self.register.waiting(session)
     }
 
     /// The game for which the desk, 1 to 128, is in use, if it is.
@@ -89,39 +70,41 @@ impl Lobby {
         requires { IsDesk desk }
         ensures { result ≡ game_at self.now desk }
     {
-        match self.games.get(desk as usize - 1) {
-            Some(game) => *game,
-            None => None,
-        }
+        self.register.game(desk)
     }
 
-    /// The member of the session, if it has entered.
-    pub(crate) fn member(&self, session: u32) -> Option<&Member>
-        ensures { option_copied result ≡ member_of self.now session }
+    /// Carries out an act that needs the lobby alone. A refusal and want of memory leave everything as it was. No lobby
+    /// act asks for the moment.
+    pub fn act(&mut self, session: u32, _moment: u64, act: &LobbyAct) -> Result<LobbyReply, Fail>
+        ensures { Takes (lobby_effect self.old session act.now) self.old self.new result }
     {
-        self.members.iter().find(|member| member.session == session)
+        self.register.act(session, act)
     }
 
-    /// The member that the handle names, if there is one and it isn't going.
-    pub(crate) fn named(&self, key: HandleKey) -> Option<&Member>
-        ensures { option_copied result ≡ named self.now key }
+    /// A copy of the lines that an act will answer, made before the act; it isn't made for want of memory alone.
+    pub fn lines_ahead(&self, session: u32, act: &LobbyAct) -> Result<Listed<Line>, NoMemory>
+        ensures lines { IfOk result (λ lines. lines ≡ lines_told (lobby_effect self.now session act.now).reply) }
+        ensures sure { LobbyNeedsNoMemory act.now → IsOk result }
     {
-        self.members
-            .iter()
-            .find(|member| member.name.key() == key && !member.going)
+        self.register.lines_ahead(session, act)
     }
 
-    /// The member that has the handle with this key, going or not.
-    pub(crate) fn with_handle(&self, key: HandleKey) -> Option<&Member>
-        ensures { option_copied result ≡ holder_of self.now key }
+    /// What an act that needs the lobby and a desk is to do, by the lobby alone.
+    pub fn plan(&self, session: u32, act: &PairAct) -> Result<Plan, Refusal>
+        requires { NamesDesk act.now }
+        ensures plan { result ≡ plan_of self.now session act.now }
+        ensures planned { IfOk result (IsPlanned self.now) }
+        ensures desk { IfOk result (λ plan. IfSome (desk_of plan) IsDesk) }
     {
-        self.members.iter().find(|member| member.name.key() == key)
+        self.register.plan(session, act)
     }
 
-    /// Where the least free desk stands in the list of desks, if one is free.
-    pub(crate) fn free_slot(&self) -> Option<usize>
-        ensures { result ≡ free_slot self.now }
+    /// Carries out the lobby's share of a plan, and takes no memory. `cleared` says of a Clear whether the desk is
+    /// vacant from now on; else it stays in use, and the caller alone gets up.
+    pub fn commit(&mut self, plan: &Plan, cleared: bool)
+        requires { IsPlanned self.old plan.now }
+        ensures { self.new ≡ committed self.old plan.now cleared }
     {
-        self.games.iter().position(|game| game.is_none())
+        self.register.commit(plan, cleared);
     }
 }

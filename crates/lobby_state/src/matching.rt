@@ -1,12 +1,12 @@
 //! Match: a member challenges another to a game.
-ghost use Rattle.std.specs.Prelude.{◌≡◌, IfOk, OnErr};
-ghost use Rattle.lobby_state.specs.Causes.{Gives, OnAnswer};
-ghost use Rattle.lobby_state.specs.Match.{challenge_words, match_answer, matched};
+ghost use Rattle.std.specs.Prelude.{◌≡◌, IfOk};
+ghost use Rattle.fics_words.specs.Effect.{Takes};
+ghost use Rattle.lobby_state.specs.Match.{challenge_words, match_effect};
 
 use crate::acts::LobbyReply;
 use crate::challenge::{Challenge, put_challenge};
-use crate::lobby::Lobby;
 use crate::member::add_line;
+use crate::register::Register;
 use chess_model::{Colour, Terms, Variant, variant_word};
 use fics_words::{Fail, Handle, HandleKey, Line, NoMemory, Refusal, write_number};
 use std::alloc::Global;
@@ -14,7 +14,7 @@ use std::alloc::Global;
 /// The most lines that wait for a member.
 const MOST_LINES: usize = 512;
 
-impl Lobby {
+impl Register {
     /// The session challenges the named player. The causes of a refusal, in order: the session isn't a member; nobody
     /// has the handle, or that member is going; it is the session itself; one of the two has a place; the game needs
     /// partners; 512 lines wait for the other.
@@ -24,9 +24,7 @@ impl Lobby {
         to: HandleKey,
         terms: Terms,
     ) -> Result<LobbyReply, Fail>
-        ensures reply { Gives (match_answer self.old session to terms) result }
-        ensures after { OnAnswer result (self.new ≡ matched self.old session to terms) }
-        ensures err { OnErr result (self.new ≡ self.old) }
+        ensures { Takes (match_effect self.old session to terms) self.old self.new result }
     {
         let Some(caller) = self.member(session) else {
             return Err(Fail::Refused(Refusal::NotIn));

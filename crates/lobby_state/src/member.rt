@@ -3,9 +3,9 @@ ghost use Rattle.std.specs.Prelude.{◌≡◌, ◌↔◌, IsTrue, OnOk, OnErr, t
 ghost use Rattle.std.specs.List.{find};
 ghost use Rattle.lobby_state.specs.Change.{change_first};
 ghost use Rattle.lobby_state.specs.Enter.{newcomer};
+ghost use Rattle.lobby_state.specs.Fetch.{emptied};
 ghost use Rattle.lobby_state.specs.Lobby.{is_session, is_named, has_place, lines_in};
 ghost use Rattle.lobby_state.specs.Match.{with_line};
-ghost use Rattle.lobby_state.specs.Visits.{emptied};
 
 use crate::places::Places;
 use collections::{Change, Listed, Predicate, position};

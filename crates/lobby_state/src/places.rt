@@ -1,6 +1,7 @@
 //! The places of a member, in a field of fixed room.
-ghost use Rattle.std.specs.Prelude.{◌≡◌, ◌-◌, ◌≤◌, count_by, filter, length, slice_get};
-ghost use Rattle.lobby_state.specs.Places.{is_elsewhere, no_places, with_place, without_desk};
+ghost use Rattle.std.specs.Prelude.{◌≡◌, ◌-◌, ◌≤◌, IfSome, count_by, filter, length, slice_get};
+ghost use Rattle.lobby_state.specs.Desks.{IsDesk};
+ghost use Rattle.lobby_state.specs.Places.{AreAtDesks, is_elsewhere, no_places, with_place, without_desk};
 
 use crate::place::Place;
 use std::marker::Model;
@@ -57,6 +58,7 @@ impl Places {
         ensures rows { result.now ≡ self.now.rows }
         ensures most { length self.now.rows ≤ MOST }
         ensures present { self.now.at ≤ length self.now.rows - 1 }
+        ensures at_desks { AreAtDesks self.now.rows }
     {
         &self.rows[..self.count]
     }
@@ -70,13 +72,15 @@ impl Places {
 
     /// The present place, if there is any place.
     pub fn present(&self) -> Option<Place>
-        ensures { result ≡ slice_get self.now.rows self.now.at }
+        ensures present { result ≡ slice_get self.now.rows self.now.at }
+        ensures at_desk { IfSome result (λ place. IsDesk place.desk) }
     {
         self.rows().get(self.at).copied()
     }
 
     /// Puts a place behind the others; the present one stays. Where there are 32 nothing changes.
     pub(crate) fn add(&mut self, place: Place)
+        requires { IsDesk place.desk }
         ensures { self.new ≡ with_place place self.old }
     {
         if self.count < MOST {
@@ -101,7 +105,8 @@ impl Places {
 
 /// The places among `rows` that aren't at the desk; the first of them is the present one.
 fn elsewhere(rows: &[Place], desk: u8) -> Places
-    requires { length rows.now ≤ MOST }
+    requires most { length rows.now ≤ MOST }
+    requires at_desks { AreAtDesks rows.now }
     ensures { result ≡ record { at = 0; rows = filter (is_elsewhere desk) rows.now } }
 {
     let mut kept = Places::none();

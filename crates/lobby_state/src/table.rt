@@ -1,21 +1,19 @@
 //! Which act is carried out by which function.
-ghost use Rattle.std.specs.Prelude.{◌≡◌, ◌≤◌, IfOk, IsOk, OnErr, false};
-ghost use Rattle.lobby_state.specs.Acts.{IsDesk, NamesDesk, committed, desk_of, lobby_after, lobby_answer, plan_of, plan_refused, takes_memory};
-ghost use Rattle.lobby_state.specs.Causes.{Gives, OnAnswer, refusal_of};
-ghost use Rattle.lobby_state.specs.Planned.{IsPlanned};
+ghost use Rattle.std.specs.Prelude.{◌≡◌, IfOk, IfSome, IsOk};
+ghost use Rattle.fics_words.specs.Effect.{Takes};
+ghost use Rattle.lobby_state.specs.Acts.{LobbyNeedsNoMemory, lines_told, lobby_effect};
+ghost use Rattle.lobby_state.specs.Desks.{IsDesk};
+ghost use Rattle.lobby_state.specs.Plans.{committed, desk_of, plan_of};
 
 use crate::acts::{LobbyAct, LobbyReply, PairAct, Plan};
-use crate::lobby::Lobby;
-use fics_words::{Fail, Refusal};
+use crate::register::Register;
+use collections::Listed;
+use fics_words::{Fail, Line, NoMemory, Refusal};
 
-impl Lobby {
-    /// Carries out an act that needs the lobby alone. A refusal and want of memory leave everything as it was; Where,
-    /// Fetch, Going and Bye meet neither. No lobby act asks for the moment.
-    pub fn act(&mut self, session: u32, _moment: u64, act: &LobbyAct) -> Result<LobbyReply, Fail>
-        ensures reply { Gives (lobby_answer self.old session act.now) result }
-        ensures after { OnAnswer result (self.new ≡ lobby_after self.old session act.now) }
-        ensures err { OnErr result (self.new ≡ self.old) }
-        ensures sure { takes_memory act.now ≡ false → IsOk result }
+impl Register {
+    /// Carries out an act that needs the lobby alone.
+    pub(crate) fn act(&mut self, session: u32, act: &LobbyAct) -> Result<LobbyReply, Fail>
+        ensures { Takes (lobby_effect self.old session act.now) self.old self.new result }
     {
         match act {
             LobbyAct::Enter { name } => self.enter(session, *name),
@@ -27,17 +25,21 @@ impl Lobby {
         }
     }
 
-    /// What an act that needs the lobby and a desk is to do, by the lobby alone. The desk of the plan is the one that
-    /// the act needs.
-    pub fn plan(&self, session: u32, act: &PairAct) -> Result<Plan, Refusal>
-        requires { NamesDesk act.now }
-        ensures plan { result ≡ plan_of self.now session act.now }
-        ensures planned { IfOk result (IsPlanned self.now) }
-        ensures desk { IfOk result (λ plan. IsDesk (desk_of plan)) }
-        ensures refused { refusal_of result ≡ plan_refused self.now session act.now }
+    /// A copy of the lines that an act will answer, made before the act.
+    pub(crate) fn lines_ahead(&self, session: u32, act: &LobbyAct) -> Result<Listed<Line>, NoMemory>
+        ensures lines { IfOk result (λ lines. lines ≡ lines_told (lobby_effect self.now session act.now).reply) }
+        ensures sure { LobbyNeedsNoMemory act.now → IsOk result }
     {
-        // What is known of every lobby, as that it has 128 desks, is known where a field is used.
-        let _ = &self.games;
+        match act {
+            LobbyAct::Fetch => self.waiting_copy(session),
+            _ => Ok(Listed::new(self.alloc)),
+        }
+    }
+
+    /// What an act that needs the lobby and a desk is to do, by the lobby alone.
+    pub(crate) fn plan(&self, session: u32, act: &PairAct) -> Result<Plan, Refusal>
+        ensures { result ≡ plan_of self.now session act.now }
+    {
         match act {
             PairAct::Accept(name) => self.accept_plan(session, *name),
             PairAct::Clear { desk, serial } => Ok(Plan::Clear {
@@ -48,19 +50,18 @@ impl Lobby {
         }
     }
 
-    /// Carries out the lobby's share of a plan, and takes no memory. `cleared` says of a Clear whether the desk is
-    /// vacant from now on; else it stays in use, and the caller alone gets up.
-    pub fn commit(&mut self, plan: &Plan, cleared: bool)
-        requires { IsDesk (desk_of plan.now) }
+    /// Carries out the lobby's share of a plan. `cleared` says of a Clear whether the desk is vacant from now on.
+    pub(crate) fn commit(&mut self, plan: &Plan, cleared: bool)
+        requires { IfSome (desk_of plan.now) IsDesk }
         ensures { self.new ≡ committed self.old plan.now cleared }
     {
         match plan {
-            Plan::Seat {
+            Plan::Start {
                 desk,
                 serial,
                 terms,
                 seats,
-            } => self.seat(*desk, *serial, *terms, seats),
+            } => self.start(*desk, *serial, *terms, seats),
             Plan::Clear { by, desk, .. } => {
                 if cleared {
                     self.clear(*desk);

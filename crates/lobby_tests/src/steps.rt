@@ -190,13 +190,13 @@ fn carried_out(lobby: &mut Lobby, session: u32, act: &PairAct, cleared: bool) ->
 pub fn starts(lobby: &mut Lobby, session: u32, desk: u8, serial: u64, white: u32) -> bool {
     match carried_out(lobby, session, &PairAct::Accept(None), false) {
         Some(
-            Plan::Seat {
+            Plan::Start {
                 desk: at,
                 serial: under,
                 seats,
                 ..
             },
-        ) => at == desk && under == serial && seats.white.session == white,
+        ) => at == desk && under == serial && seats.first.white.session == white,
         _ => false,
     }
 }
@@ -207,7 +207,7 @@ fn clears(lobby: &mut Lobby, session: u32, desk: u8, serial: u64, cleared: bool)
 
 /// Takes the lines that wait, and says whether they are so many, and those of which a copy was made before.
 fn fetches(lobby: &mut Lobby, session: u32, count: usize) -> bool {
-    let Ok(ahead) = lobby.waiting_copy(session) else {
+    let Ok(ahead) = lobby.lines_ahead(session, &LobbyAct::Fetch) else {
         return false;
     };
     match lobby.act(session, 0, &LobbyAct::Fetch) {

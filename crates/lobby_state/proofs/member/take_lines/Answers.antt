@@ -2,7 +2,7 @@ use Rattle.std.proofs.Common.{◌≡◌, None, Some, sym, ap, ◌∙◌}
 use Rattle.std.specs.List.{position}
 use Rattle.std.proofs.Math.ListN.{set}
 use Rattle.lobby_state.specs.Lobby.{is_session, lines_in}
-use Rattle.lobby_state.specs.Visits.{emptied}
+use Rattle.lobby_state.specs.Fetch.{emptied}
 use Rattle.lobby_state.proofs.First.{find-found, find-missing, change_first-found, change_first-missing}
 use Rattle.lobby_state.proofs.member.take_lines.Goals as goal
 

@@ -6,6 +6,6 @@ use Rattle.lobby_state.proofs.places.elsewhere.Goals.{then-place-desk, else-plac
 
 pub loop-place-preserved : goal.loop-place-preserved
 loop-place-preserved c = elim c.if-place-desk.branch [
-  | then-place-desk w ↦ w.kept-is ∙ filter_one_more c.args.desk c.args.rows.now c.loop-place.place-index nowhere c.loop-place.kept w.add.new.self c.requires c.loop-place-test.true w.if-place-desk.true c.loop-place.invariant w.add.ensures
+  | then-place-desk w ↦ w.kept-is ∙ filter_one_more c.args.desk c.args.rows.now c.loop-place.place-index nowhere c.loop-place.kept w.add.new.self c.requires.most c.loop-place-test.true w.if-place-desk.true c.loop-place.invariant w.add.ensures
   | else-place-desk w ↦ w.kept-is ∙ filter_one_less c.args.desk c.args.rows.now c.loop-place.place-index nowhere c.loop-place.kept c.loop-place-test.true w.if-place-desk.false c.loop-place.invariant
 ]

@@ -1,22 +1,22 @@
-use Rattle.std.proofs.Common.{◌≡◌, length, sym, ap, ◌∙◌}
-use Rattle.lobby_state.specs.Acts.{plan_refused}
-use Rattle.lobby_state.specs.Causes.{refusal_of}
-use Rattle.lobby_state.specs.Lobby.{LobbyState, desks}
-use Rattle.lobby_state.proofs.Planned.{if_planned, if_desk, accept_plan-refused}
+use Rattle.std.proofs.Common.{Result, sym, subst}
+use Rattle.std.specs.Prelude.{IfOk}
+use Rattle.fics_words.specs.declared.refusal.Refusal.{Refusal}
+use Rattle.lobby_state.specs.declared.acts.Plan.{Plan}
+use Rattle.lobby_state.specs.Lobby.{LobbyState}
+use Rattle.lobby_state.specs.Planned.{IsPlanned}
+use Rattle.lobby_state.proofs.KeepsPlans.{IfOk-plan_of, IfOk-desk_of}
 use Rattle.lobby_state.proofs.lobby.Lobby.plan.Goals as goal
 
-pub returns-in-Accept-clause-planned : goal.returns-in-Accept-clause-planned
-returns-in-Accept-clause-planned c =
-    let long : length c.args.self.now.games ≡ desks = ap (λ (l : LobbyState). length l.games) (sym c.self.view_is) ∙ c.self.invariant in
-    if_planned c.args.self.now c.args.session c.in-Accept.name c.accept_plan.result long c.accept_plan.ensures
+pub returns-clause-planned : goal.returns-clause-planned
+returns-clause-planned c =
+    let lobby = c.self.inside.register in
+    let here = subst (λ (r : Result Plan Refusal). IfOk r (IsPlanned lobby)) (sym c.plan.ensures)
+    (IfOk-plan_of lobby c.args.session c.args.act.now c.requires c.self.invariant) in
+    subst (λ (l : LobbyState). IfOk c.plan.result (IsPlanned l)) c.self.view_is here
 
-pub returns-in-Accept-clause-desk : goal.returns-in-Accept-clause-desk
-returns-in-Accept-clause-desk c =
-    let long : length c.args.self.now.games ≡ desks = ap (λ (l : LobbyState). length l.games) (sym c.self.view_is) ∙ c.self.invariant in
-    if_desk c.args.self.now c.accept_plan.result
-    (if_planned c.args.self.now c.args.session c.in-Accept.name c.accept_plan.result long c.accept_plan.ensures)
-
-pub returns-in-Accept-clause-refused : goal.returns-in-Accept-clause-refused
-returns-in-Accept-clause-refused c =
-    ap refusal_of c.accept_plan.ensures ∙ accept_plan-refused c.args.self.now c.args.session c.in-Accept.name
-    ∙ ap (plan_refused c.args.self.now c.args.session) (sym c.in-Accept.is)
+pub returns-clause-desk : goal.returns-clause-desk
+returns-clause-desk c =
+    let lobby = c.self.inside.register in
+    let here = subst (λ (r : Result Plan Refusal). IfOk r (IsPlanned lobby)) (sym c.plan.ensures)
+    (IfOk-plan_of lobby c.args.session c.args.act.now c.requires c.self.invariant) in
+    IfOk-desk_of lobby c.plan.result here

@@ -1,10 +1,10 @@
 //! Clear: a player leaves the place at a desk whose game has ended, and the desk is freed by the last one.
 ghost use Rattle.std.specs.Prelude.{◌≡◌};
-ghost use Rattle.lobby_state.specs.Acts.{IsDesk};
-ghost use Rattle.lobby_state.specs.Clearing.{cleared, freed, off_desk};
+ghost use Rattle.lobby_state.specs.Clear.{cleared, freed, off_desk};
+ghost use Rattle.lobby_state.specs.Desks.{IsDesk};
 
-use crate::lobby::Lobby;
 use crate::member::{Member, OfSession, change_first};
+use crate::register::Register;
 use collections::Change;
 
 /// The end of a member's place at this desk.
@@ -19,7 +19,7 @@ impl Change<Member> for GetUp {
     }
 }
 
-impl Lobby {
+impl Register {
     /// The session has no place at the desk any more, which is still in use.
     pub(crate) fn free(&mut self, session: u32, desk: u8)
         ensures { self.new ≡ freed self.old session desk }

@@ -1,10 +1,18 @@
 -- Clear: a player leaves the place at a desk whose game has ended, and the desk is freed by the last one. This
 -- server's own.
-use Rattle.std.specs.Prelude.{ℕ, ◌-◌, map, None, slice_set}
+use Rattle.std.specs.Prelude.{ℕ, ◌-◌, false, [], map, None, slice_set}
+use Rattle.fics_words.specs.Effect.{Effect}
+use Rattle.lobby_state.specs.declared.acts.Plan.{Plan}
+use Rattle.lobby_state.specs.declared.acts.Plan.TheVariants.{Clear}
 use Rattle.lobby_state.specs.declared.member.Member.{Member}
 use Rattle.lobby_state.specs.Change.{change_first}
 use Rattle.lobby_state.specs.Lobby.{LobbyState, is_session}
 use Rattle.lobby_state.specs.Places.{without_desk}
+
+-- a Clear is never refused by the lobby: what there is to clear, the desk knows
+abbrev pub clear_effect : LobbyState → ℕ → ℕ → ℕ → Effect LobbyState Plan
+clear_effect lobby session desk serial =
+    record { causes = []; memory = false; reply = Clear session desk serial; after = lobby }
 
 -- the member without a place at this desk
 abbrev pub off_desk : ℕ → Member → Member

@@ -1,0 +1,77 @@
+-- What each lobby act keeps, and what follows of its answer and of the lobby afterwards, for all acts alike.
+use Rattle.std.proofs.Common.{◌≡◌, ℕ, false, Option, None, Some, Result, Ok, Err, refl, sym, subst}
+use Rattle.std.specs.Prelude.{IfOk}
+use Rattle.fics_words.specs.Effect.{Effect, Takes, answered, first_cause, unless}
+use Rattle.fics_words.specs.declared.fail.Fail.{Fail}
+use Rattle.fics_words.specs.declared.fail.Fail.TheVariants.{Refused, Memory}
+use Rattle.fics_words.specs.declared.refusal.Refusal.{Refusal}
+use Rattle.lobby_state.specs.declared.acts.LobbyAct.{LobbyAct}
+use Rattle.lobby_state.specs.declared.acts.LobbyAct.TheVariants.{Enter, Match, Where, Fetch, Going, Bye}
+use Rattle.lobby_state.specs.declared.acts.LobbyReply.{LobbyReply}
+use Rattle.lobby_state.specs.Acts.{LobbyNeedsNoMemory, lobby_after, lobby_answer, lobby_effect}
+use Rattle.lobby_state.specs.Keeps.{Keeps, TellsDesks}
+use Rattle.lobby_state.specs.Lobby.{LobbyState}
+use Rattle.lobby_state.specs.WellFormed.{IsWellFormed}
+use Rattle.lobby_state.proofs.Causes.{none_holds}
+use Rattle.lobby_state.proofs.KeepsBye.{keeps_bye}
+use Rattle.lobby_state.proofs.KeepsEnter.{keeps_enter}
+use Rattle.lobby_state.proofs.KeepsFetch.{keeps_fetch}
+use Rattle.lobby_state.proofs.KeepsGoing.{keeps_going}
+use Rattle.lobby_state.proofs.KeepsMatch.{keeps_match}
+use Rattle.lobby_state.proofs.KeepsWhere.{keeps_where}
+
+-- the table: what each act keeps
+pub keeps_act : (lobby : LobbyState) (session : ℕ) (act : LobbyAct) → Keeps lobby (lobby_effect lobby session act)
+keeps_act lobby session (Enter name) = keeps_enter lobby session name
+keeps_act lobby session (Match to terms) = keeps_match lobby session to terms
+keeps_act lobby session Where = keeps_where lobby session
+keeps_act lobby session Fetch = keeps_fetch lobby session
+keeps_act lobby session Going = keeps_going lobby session
+keeps_act lobby session Bye = keeps_bye lobby session
+
+formed_unless : (refused : Option Refusal) (old new : LobbyState) → (refused ≡ None → IsWellFormed new) → IsWellFormed old
+    → IsWellFormed (unless refused old new)
+formed_unless None old new step h = step refl
+formed_unless (Some cause) old new step h = h
+
+games_unless : (refused : Option Refusal) (old new : LobbyState) → new.games ≡ old.games → (unless refused old new).games ≡ old.games
+games_unless None old new e = e
+games_unless (Some cause) old new e = refl
+
+tells_answered : (refused : Option Refusal) (reply : LobbyReply) → TellsDesks reply → IfOk (answered refused reply) TellsDesks
+tells_answered None reply h = h
+tells_answered (Some cause) reply h = tt
+
+-- the lobby after an act is well-formed
+pub IsWellFormed-lobby_after : (lobby : LobbyState) (session : ℕ) (act : LobbyAct) → IsWellFormed lobby → IsWellFormed (lobby_after lobby session act)
+IsWellFormed-lobby_after lobby session act h =
+    let effect = lobby_effect lobby session act in
+    formed_unless (first_cause effect.causes) lobby effect.after
+    (λ none. (keeps_act lobby session act).formed (none_holds effect.causes none) h) h
+
+-- no lobby act starts or ends a game
+pub games-lobby_after : (lobby : LobbyState) (session : ℕ) (act : LobbyAct) → (lobby_after lobby session act).games ≡ lobby.games
+games-lobby_after lobby session act =
+    let effect = lobby_effect lobby session act in
+    games_unless (first_cause effect.causes) lobby effect.after (keeps_act lobby session act).games
+
+-- the answer to an act tells of desks alone
+pub tells-lobby_answer : (lobby : LobbyState) (session : ℕ) (act : LobbyAct) → IsWellFormed lobby → IfOk (lobby_answer lobby session act) TellsDesks
+tells-lobby_answer lobby session act h =
+    let effect = lobby_effect lobby session act in
+    tells_answered (first_cause effect.causes) effect.reply ((keeps_act lobby session act).tells h)
+
+-- a lobby in which an act was carried out is well-formed
+pub IsWellFormed-taken : (lobby : LobbyState) (effect : Effect LobbyState LobbyReply) (new : LobbyState) (result : Result LobbyReply Fail)
+    → Keeps lobby effect → IsWellFormed lobby → Takes effect lobby new result → IsWellFormed new
+IsWellFormed-taken lobby effect new (Ok reply) keeps h t =
+    subst IsWellFormed (sym t.2) (keeps.formed (none_holds effect.causes t.0) h)
+IsWellFormed-taken lobby effect new (Err (Refused cause)) keeps h t = subst IsWellFormed (sym t.1) h
+IsWellFormed-taken lobby effect new (Err Memory) keeps h t = subst IsWellFormed (sym t.1) h
+
+-- an act that needs no memory meets no want of it
+pub memory-lobby_effect : (lobby : LobbyState) (session : ℕ) (act : LobbyAct) → LobbyNeedsNoMemory act → (lobby_effect lobby session act).memory ≡ false
+memory-lobby_effect lobby session Where h = refl
+memory-lobby_effect lobby session Going h = refl
+memory-lobby_effect lobby session Bye h = refl
+memory-lobby_effect lobby session _ h = absurd h

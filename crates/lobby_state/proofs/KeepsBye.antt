@@ -1,0 +1,40 @@
+-- What a Bye keeps.
+use Rattle.std.proofs.Common.{◌≡◌, ◌≢◌, ℕ, Bool, not, eqb, List, filter, refl, sym, ap, subst}
+use Rattle.std.specs.Prelude.{All}
+use Rattle.std.proofs.lemmas.Bool.{or_parts, not-true}
+use Rattle.std.proofs.lemmas.List.Elements.{All-filter}
+use Rattle.std.proofs.lemmas.List.Kept.{AllPairs-filter}
+use Rattle.fics_words.specs.Handle.{key_of}
+use Rattle.lobby_state.specs.declared.member.Member.{Member}
+use Rattle.lobby_state.specs.Bye.{bye_effect}
+use Rattle.lobby_state.specs.Keeps.{Keeps}
+use Rattle.lobby_state.specs.Lobby.{LobbyState, concerns, is_session}
+use Rattle.lobby_state.specs.WellFormed.{IsWellFormed, IsBetweenMembers, HasSeats, sessions_of}
+use Rattle.lobby_state.proofs.Lists.{All-filter_passing, map-filter, Contains-filter}
+
+parted : (lobby : LobbyState) (session : ℕ) → IsWellFormed lobby → IsWellFormed (bye_effect lobby session).after
+parted lobby session h =
+    let others : Member → Bool = λ m. not (is_session session m) in
+    let stays : ℕ → Bool = λ s. not (eqb s session) in
+    let left : List ℕ = filter stays (sessions_of lobby.members) in
+    let sessions : sessions_of (filter others lobby.members) ≡ left = map-filter (λ (m : Member). m.session) stays lobby.members in
+    record {
+      sessions = AllPairs-filter (λ a b. a.session ≢ b.session) others lobby.members h.sessions;
+      handles = AllPairs-filter (λ a b. key_of a.name ≢ key_of b.name) others lobby.members h.handles;
+      challenges = subst (λ (ss : List ℕ). All (IsBetweenMembers ss) (filter (λ c. not (concerns session c)) lobby.challenges)) (sym sessions)
+          (All-filter_passing (IsBetweenMembers (sessions_of lobby.members)) (IsBetweenMembers left) (λ c. not (concerns session c))
+          (λ c passes b.
+          let parts = or_parts (eqb c.from session) (eqb c.to session) (not-true (concerns session c) passes) in
+          record {
+            from = Contains-filter stays (sessions_of lobby.members) c.from (ap not parts.0) b.from;
+            to = Contains-filter stays (sessions_of lobby.members) c.to (ap not parts.1) b.to;
+            differ = b.differ;
+            for_two = b.for_two;
+          }) lobby.challenges h.challenges);
+      games = h.games;
+      serials = h.serials;
+      places = All-filter others (HasSeats lobby.games) lobby.members h.places;
+    }
+
+pub keeps_bye : (lobby : LobbyState) (session : ℕ) → Keeps lobby (bye_effect lobby session)
+keeps_bye lobby session = record { formed = λ _ h. parted lobby session h; games = refl; tells = λ _. tt }

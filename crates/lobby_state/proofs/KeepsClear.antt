@@ -1,0 +1,87 @@
+-- What a Clear keeps: the plan of it, and the carrying out.
+use Rattle.std.proofs.Common.{◌≡◌, ◌≢◌, ℕ, ◌-◌, ◌≤◌, Bool, true, false, eqb, List, Option, None, Some, map, slice_get, refl, ap, ◌∙◌, arith, sym, subst}
+use Rattle.std.proofs.Math.ListN.{set}
+use Rattle.std.proofs.lemmas.Bool.{eqb-false, not-true}
+use Rattle.std.proofs.lemmas.List.{length-set}
+use Rattle.std.proofs.lemmas.List.Elements.{All-set, All-filter}
+use Rattle.std.proofs.lemmas.Option.{slice_get_within}
+use Rattle.fics_words.specs.Handle.{key_of}
+use Rattle.lobby_state.specs.declared.acts.Plan.TheVariants.{Clear}
+use Rattle.lobby_state.specs.declared.game.Game.{Game}
+use Rattle.lobby_state.specs.declared.place.Place.{Place}
+use Rattle.lobby_state.specs.Clear.{clear_effect, off_desk, freed, cleared}
+use Rattle.lobby_state.specs.Keeps.{KeepsPlan, KeepsPlanned}
+use Rattle.lobby_state.specs.Desks.{IsDesk}
+use Rattle.lobby_state.specs.Lobby.{LobbyState, is_session}
+use Rattle.lobby_state.specs.Places.{is_elsewhere}
+use Rattle.lobby_state.specs.Plans.{committed, game_after}
+use Rattle.lobby_state.specs.WellFormed.{IsWellFormed, IsSeatOf, IsStarted, HasSeats}
+use Rattle.lobby_state.proofs.Lists.{map-map_same, All-map_each, All-filter_passing, get-set_other, get-set_same}
+use Rattle.lobby_state.proofs.WellFormed.{kept, member_changed}
+
+pub keeps_clear : (lobby : LobbyState) (session desk serial : ℕ) → IsDesk desk → KeepsPlanned lobby (clear_effect lobby session desk serial)
+keeps_clear lobby session desk serial is_desk = record { planned = λ _ h. is_desk }
+
+formed_freed : (lobby : LobbyState) (session desk : ℕ) → IsWellFormed lobby → IsWellFormed (freed lobby session desk)
+formed_freed lobby session desk h =
+    member_changed lobby (is_session session) (off_desk desk) (λ _. refl) (λ _. refl)
+    (λ m has. All-filter (is_elsewhere desk) (IsSeatOf lobby.games m.session) m.places.rows has) h
+
+-- a place at another desk stays a seat where a desk is freed
+IsSeatOf-cleared : (games : List (Option Game)) (desk session : ℕ) (place : Place) → IsDesk desk → is_elsewhere desk place ≡ true
+    → IsSeatOf games session place → IsSeatOf (set games (desk - 1) None) session place
+IsSeatOf-cleared games desk session place is_desk else h =
+    let apart : place.desk ≢ desk = eqb-false place.desk desk (not-true (eqb place.desk desk) else) in
+    record {
+      desk = h.desk;
+      game = h.game;
+      in_use = get-set_other games (desk - 1) (place.desk - 1) None (λ e. apart (omega (arith, is_desk, h.desk))) ∙ h.in_use;
+      serial = h.serial;
+      seat = h.seat;
+      sits = h.sits;
+      theirs = h.theirs;
+    }
+
+formed_cleared : (lobby : LobbyState) (desk : ℕ) → IsDesk desk → IsWellFormed lobby → IsWellFormed (cleared lobby desk)
+formed_cleared lobby desk is_desk h =
+    let games = set lobby.games (desk - 1) None in
+    kept lobby (map (off_desk desk) lobby.members) lobby.challenges games lobby.started
+    (map-map_same (λ m. m.session) (off_desk desk) (λ _. refl) lobby.members)
+    (map-map_same (λ m. key_of m.name) (off_desk desk) (λ _. refl) lobby.members)
+    h.challenges
+    (length-set lobby.games (desk - 1) None ∙ h.games)
+    (All-set (IsStarted lobby.started) lobby.games (desk - 1) None tt h.serials)
+    (All-map_each (HasSeats lobby.games) (HasSeats games) (off_desk desk)
+    (λ m has. All-filter_passing (IsSeatOf lobby.games m.session) (IsSeatOf games m.session) (is_elsewhere desk)
+    (λ p else. IsSeatOf-cleared lobby.games desk m.session p is_desk else) m.places.rows has)
+    lobby.members h.places) h
+
+formed_by : (lobby : LobbyState) (session desk serial : ℕ) → IsDesk desk → (is_cleared : Bool) → IsWellFormed lobby
+    → IsWellFormed (committed lobby (Clear session desk serial) is_cleared)
+formed_by lobby session desk serial is_desk true h = formed_cleared lobby desk is_desk h
+formed_by lobby session desk serial is_desk false h = formed_freed lobby session desk h
+
+others_by : (lobby : LobbyState) (session desk serial : ℕ) → IsDesk desk → (is_cleared : Bool) (number : ℕ) → 1 ≤ number → Some desk ≢ Some number
+    → slice_get (committed lobby (Clear session desk serial) is_cleared).games (number - 1) ≡ slice_get lobby.games (number - 1)
+others_by lobby session desk serial is_desk true number low other =
+    get-set_other lobby.games (desk - 1) (number - 1) None (λ e. other (ap Some (omega (arith, is_desk))))
+others_by lobby session desk serial is_desk false number low other = refl
+
+same_number : (one another : ℕ) → Some one ≡ Some another → one ≡ another
+same_number one another e = cc
+
+own_by : (lobby : LobbyState) (session desk serial : ℕ) (is_cleared : Bool) (number : ℕ) (before : Option Game) → desk ≡ number
+    → slice_get lobby.games (number - 1) ≡ Some before
+    → slice_get (committed lobby (Clear session desk serial) is_cleared).games (number - 1) ≡ Some (game_after (Clear session desk serial) is_cleared before)
+own_by lobby session desk serial true number before same there =
+    subst (λ (n : ℕ). slice_get (set lobby.games (n - 1) None) (number - 1) ≡ Some None) (sym same)
+    (get-set_same lobby.games (number - 1) None (slice_get_within lobby.games (number - 1) before there))
+own_by lobby session desk serial false number before same there = there
+
+pub keeps_cleared : (lobby : LobbyState) (session desk serial : ℕ) → IsDesk desk → KeepsPlan lobby (Clear session desk serial)
+keeps_cleared lobby session desk serial is_desk = record {
+  is_desk = is_desk;
+  formed = formed_by lobby session desk serial is_desk;
+  own = λ is_cleared number before e there. own_by lobby session desk serial is_cleared number before (same_number desk number e) there;
+  others = others_by lobby session desk serial is_desk;
+}

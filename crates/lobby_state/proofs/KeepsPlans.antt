@@ -1,0 +1,59 @@
+-- What each pair act and each plan keeps, and what follows of the plans that a lobby gives, for all of them alike.
+use Rattle.std.proofs.Common.{◌≡◌, ℕ, Option, None, Some, Result, Ok, Err, refl, subst}
+use Rattle.std.specs.Prelude.{Bool, IfOk, IfSome}
+use Rattle.fics_words.specs.Effect.{answered, first_cause}
+use Rattle.fics_words.specs.declared.refusal.Refusal.{Refusal}
+use Rattle.lobby_state.specs.declared.acts.PairAct.{PairAct}
+use Rattle.lobby_state.specs.declared.acts.PairAct.TheVariants.{Accept, Clear}
+use Rattle.lobby_state.specs.declared.acts.Plan.{Plan}
+use Rattle.lobby_state.specs.declared.acts.Plan.TheVariants.{Start, Clear as Clearing}
+use Rattle.lobby_state.specs.Keeps.{KeepsPlan, KeepsPlanned}
+use Rattle.lobby_state.specs.Desks.{IsDesk}
+use Rattle.lobby_state.specs.Lobby.{LobbyState}
+use Rattle.lobby_state.specs.Planned.{IsPlanned}
+use Rattle.lobby_state.specs.Plans.{NamesDesk, committed, desk_of, plan_effect, plan_of}
+use Rattle.lobby_state.specs.WellFormed.{IsWellFormed}
+use Rattle.lobby_state.proofs.Causes.{none_holds}
+use Rattle.lobby_state.proofs.KeepsAccept.{keeps_accept}
+use Rattle.lobby_state.proofs.KeepsClear.{keeps_clear, keeps_cleared}
+use Rattle.lobby_state.proofs.KeepsStart.{keeps_started}
+
+-- the table: what each pair act keeps
+pub keeps_pair : (lobby : LobbyState) (session : ℕ) (act : PairAct) → NamesDesk act → KeepsPlanned lobby (plan_effect lobby session act)
+keeps_pair lobby session (Accept name) names = keeps_accept lobby session name
+keeps_pair lobby session (Clear desk serial) names = keeps_clear lobby session desk serial names
+
+-- and what each plan keeps
+pub keeps_plan : (lobby : LobbyState) (plan : Plan) → IsPlanned lobby plan → KeepsPlan lobby plan
+keeps_plan lobby (Start desk serial terms seats) can = keeps_started lobby desk serial terms seats can
+keeps_plan lobby (Clearing session desk serial) is_desk = keeps_cleared lobby session desk serial is_desk
+
+planned_if : (lobby : LobbyState) (refused : Option Refusal) (plan : Plan) → (refused ≡ None → IsPlanned lobby plan)
+    → IfOk (answered refused plan) (IsPlanned lobby)
+planned_if lobby None plan step = step refl
+planned_if lobby (Some cause) plan step = tt
+
+-- a plan that the lobby gave can be carried out in it
+pub IfOk-plan_of : (lobby : LobbyState) (session : ℕ) (act : PairAct) → NamesDesk act → IsWellFormed lobby → IfOk (plan_of lobby session act) (IsPlanned lobby)
+IfOk-plan_of lobby session act names h =
+    let effect = plan_effect lobby session act in
+    planned_if lobby (first_cause effect.causes) effect.reply
+    (λ none. (keeps_pair lobby session act names).planned (none_holds effect.causes none) h)
+
+pub plan_of-is : (lobby : LobbyState) (session : ℕ) (act : PairAct) (plan : Plan) → IsWellFormed lobby → NamesDesk act
+    → plan_of lobby session act ≡ Ok plan → IsPlanned lobby plan
+plan_of-is lobby session act plan h names e =
+    subst (λ (r : Result Plan Refusal). IfOk r (IsPlanned lobby)) e (IfOk-plan_of lobby session act names h)
+
+-- its desk, if it has one, is a desk of the hall
+pub desk_of-is : (lobby : LobbyState) (plan : Plan) → IsPlanned lobby plan → IfSome (desk_of plan) IsDesk
+desk_of-is lobby plan can = (keeps_plan lobby plan can).is_desk
+
+pub IfOk-desk_of : (lobby : LobbyState) (r : Result Plan Refusal) → IfOk r (IsPlanned lobby) → IfOk r (λ plan. IfSome (desk_of plan) IsDesk)
+IfOk-desk_of lobby (Ok plan) can = desk_of-is lobby plan can
+IfOk-desk_of lobby (Err cause) can = tt
+
+-- a lobby in which a plan was carried out is well-formed
+pub IsWellFormed-committed : (lobby : LobbyState) (plan : Plan) (is_cleared : Bool) → IsPlanned lobby plan → IsWellFormed lobby
+    → IsWellFormed (committed lobby plan is_cleared)
+IsWellFormed-committed lobby plan is_cleared can h = (keeps_plan lobby plan can).formed is_cleared h

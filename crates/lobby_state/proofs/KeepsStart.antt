@@ -1,0 +1,135 @@
+-- What carrying out a Start keeps.
+use Rattle.std.proofs.Common.{◌≡◌, ℕ, ◌+◌, ◌-◌, ◌<◌, Bool, true, false, not, cond, ltb, List, [], ◌∷◌, ◌++◌, Option, None, Some, length, map, filter, slice_get, refl, sym, ap, subst, ◌∙◌, arith}
+use Rattle.std.specs.Prelude.{All}
+use Rattle.std.proofs.Math.ListN.{set}
+use Rattle.std.proofs.lemmas.Bool.{eqb-true}
+use Rattle.std.proofs.lemmas.List.{length-set}
+use Rattle.std.proofs.lemmas.List.Elements.{All-set, All-push, All-filter, All-weaker}
+use Rattle.std.proofs.lemmas.Option.{slice_get_within}
+use Rattle.chess_model.specs.declared.variant.Terms.{Terms}
+use Rattle.fics_words.specs.Handle.{key_of}
+use Rattle.fics_words.specs.Seats.{plays_as, seat_list, seat_number}
+use Rattle.fics_words.specs.declared.player.Player.{Player}
+use Rattle.fics_words.specs.declared.seats.Seats.{Seats}
+use Rattle.lobby_state.specs.declared.acts.Plan.TheVariants.{Start}
+use Rattle.lobby_state.specs.declared.game.Game.{Game}
+use Rattle.lobby_state.specs.declared.member.Member.{Member}
+use Rattle.lobby_state.specs.declared.place.Place.{Place}
+use Rattle.lobby_state.specs.Keeps.{KeepsPlan}
+use Rattle.lobby_state.specs.Desks.{IsDesk}
+use Rattle.lobby_state.specs.Lobby.{LobbyState}
+use Rattle.lobby_state.specs.Places.{PlaceList}
+use Rattle.lobby_state.specs.Planned.{CanStart}
+use Rattle.lobby_state.specs.Start.{concerns_seated, in_seat, seated}
+use Rattle.lobby_state.specs.WellFormed.{IsWellFormed, IsBetweenMembers, IsSeatOf, IsStarted, HasSeats, sessions_of}
+use Rattle.lobby_state.proofs.First.{position-within, find-found}
+use Rattle.lobby_state.proofs.Lists.{map-map_same, All-map_each, find-passes, get-set_same, get-set_other, get_inside}
+use Rattle.lobby_state.proofs.WellFormed.{kept}
+
+-- a number of a seat is that of the session's own
+record Sits (session : ℕ) (seats : Seats) (number : ℕ) : Type 0 where
+  seat : Player
+  sits : slice_get (seat_list seats) number ≡ Some seat
+  theirs : seat.session ≡ session
+
+Sits-seat_number : (session : ℕ) (seats : Seats) (number : ℕ) → seat_number session (seat_list seats) ≡ Some number → Sits session seats number
+Sits-seat_number session seats number e =
+    let p = plays_as session in
+    let found = get_inside (seat_list seats) number (position-within p (seat_list seats) number e) in
+    record {
+      seat = found.0;
+      sits = found.1;
+      theirs = eqb-true found.0.session session (find-passes p (seat_list seats) found.0 (find-found p (seat_list seats) number e ∙ found.1));
+    }
+
+-- a place stays a seat where a game starts at a free desk
+IsSeatOf-started : (games : List (Option Game)) (slot : ℕ) (game : Option Game) (session : ℕ) (place : Place) → slice_get games slot ≡ Some None
+    → IsSeatOf games session place → IsSeatOf (set games slot game) session place
+IsSeatOf-started games slot game session place free h = record {
+  desk = h.desk;
+  game = h.game;
+  in_use = get-set_other games slot (place.desk - 1) game (λ e.
+      let taken : slice_get games slot ≡ Some (Some h.game) = ap (slice_get games) (sym e) ∙ h.in_use in
+      let both : Some None ≡ Some (Some h.game) = sym free ∙ taken in cc) ∙ h.in_use;
+  serial = h.serial;
+  seat = h.seat;
+  sits = h.sits;
+  theirs = h.theirs;
+}
+
+rows_by_test : (P : Place → Type 0) (b : Bool) (places : PlaceList) (place : Place) → P place → All P places.rows
+    → All P (cond b (record { at = places.at; rows = places.rows ++ place ∷ [] }) places).rows
+rows_by_test P true places place new h = All-push P places.rows place h new
+rows_by_test P false places place new h = h
+
+HasSeats-in_seat : (games : List (Option Game)) (desk serial : ℕ) (terms : Terms) (seats : Seats) (member : Member) (number : Option ℕ)
+    → IsDesk desk → slice_get games (desk - 1) ≡ Some (Some (record { serial = serial; terms = terms; seats = seats }))
+    → seat_number member.session (seat_list seats) ≡ number → HasSeats games member → HasSeats games (in_seat desk serial number member)
+HasSeats-in_seat games desk serial terms seats member None is_desk in_use e h = h
+HasSeats-in_seat games desk serial terms seats member (Some number) is_desk in_use e h =
+    let sits = Sits-seat_number member.session seats number e in
+    rows_by_test (IsSeatOf games member.session) (ltb (length member.places.rows) 32) member.places (record { desk = desk; serial = serial; seat = number })
+    (record {
+      desk = is_desk;
+      game = record { serial = serial; terms = terms; seats = seats };
+      in_use = in_use;
+      serial = refl;
+      seat = sits.seat;
+      sits = sits.sits;
+      theirs = sits.theirs;
+    }) h
+
+IsStarted-later : (started : ℕ) (game : Option Game) → IsStarted started game → IsStarted (started + 1) game
+IsStarted-later started None h = tt
+IsStarted-later started (Some game) h = (h.0, omega (arith, h.1))
+
+in_seat_session : (desk serial : ℕ) (number : Option ℕ) (m : Member) → (in_seat desk serial number m).session ≡ m.session
+in_seat_session desk serial None m = refl
+in_seat_session desk serial (Some number) m = refl
+
+in_seat_name : (desk serial : ℕ) (number : Option ℕ) (m : Member) → (in_seat desk serial number m).name ≡ m.name
+in_seat_name desk serial None m = refl
+in_seat_name desk serial (Some number) m = refl
+
+formed_seated : (lobby : LobbyState) (desk serial : ℕ) (terms : Terms) (seats : Seats) → CanStart lobby desk serial terms seats
+    → IsWellFormed lobby → IsWellFormed (seated lobby desk serial terms seats)
+formed_seated lobby desk serial terms seats can h =
+    let game : Game = record { serial = serial; terms = terms; seats = seats } in
+    let games = set lobby.games (desk - 1) (Some game) in
+    let sit : Member → Member = λ m. in_seat desk serial (seat_number m.session (seat_list seats)) m in
+    let inside : desk - 1 < length lobby.games = slice_get_within lobby.games (desk - 1) None can.is_free in
+    let in_use = get-set_same lobby.games (desk - 1) (Some game) inside in
+    let rising : All (IsStarted serial) lobby.games =
+    subst (λ (n : ℕ). All (IsStarted n) lobby.games) (sym can.is_next) (All-weaker (IsStarted lobby.started) (IsStarted (lobby.started + 1)) (IsStarted-later lobby.started) lobby.games h.serials) in
+    kept lobby (map sit lobby.members) (filter (λ c. not (concerns_seated seats c)) lobby.challenges) games serial
+    (map-map_same (λ m. m.session) sit (λ m. in_seat_session desk serial (seat_number m.session (seat_list seats)) m) lobby.members)
+    (map-map_same (λ m. key_of m.name) sit (λ m. ap key_of (in_seat_name desk serial (seat_number m.session (seat_list seats)) m)) lobby.members)
+    (All-filter (λ c. not (concerns_seated seats c)) (IsBetweenMembers (sessions_of lobby.members)) lobby.challenges h.challenges)
+    (length-set lobby.games (desk - 1) (Some game) ∙ h.games)
+    (All-set (IsStarted serial) lobby.games (desk - 1) (Some game) (omega (arith, can.is_next), omega arith) rising)
+    (All-map_each (HasSeats lobby.games) (HasSeats games) sit
+    (λ m has. HasSeats-in_seat games desk serial terms seats m (seat_number m.session (seat_list seats)) can.is_desk in_use refl
+    (All-weaker (IsSeatOf lobby.games m.session) (IsSeatOf games m.session) (λ p. IsSeatOf-started lobby.games (desk - 1) (Some game) m.session p can.is_free) m.places.rows has))
+    lobby.members h.places) h
+
+same_number : (one another : ℕ) → Some one ≡ Some another → one ≡ another
+same_number one another e = cc
+
+own_started : (lobby : LobbyState) (desk number : ℕ) (game : Game) (before : Option Game) → desk ≡ number → slice_get lobby.games (number - 1) ≡ Some before
+    → slice_get (set lobby.games (desk - 1) (Some game)) (number - 1) ≡ Some (Some game)
+own_started lobby desk number game before same there =
+    subst (λ (n : ℕ). slice_get (set lobby.games (n - 1) (Some game)) (number - 1) ≡ Some (Some game)) (sym same)
+    (get-set_same lobby.games (number - 1) (Some game) (slice_get_within lobby.games (number - 1) before there))
+
+pub keeps_started : (lobby : LobbyState) (desk serial : ℕ) (terms : Terms) (seats : Seats) → CanStart lobby desk serial terms seats
+    → KeepsPlan lobby (Start desk serial terms seats)
+keeps_started lobby desk serial terms seats can = record {
+  is_desk = can.is_desk;
+  formed = λ _ h. formed_seated lobby desk serial terms seats can h;
+  own = λ _ number before e there.
+      own_started lobby desk number (record { serial = serial; terms = terms; seats = seats }) before (same_number desk number e) there;
+  others = λ _ number low other.
+      let d = can.is_desk in
+      get-set_other lobby.games (desk - 1) (number - 1) (Some (record { serial = serial; terms = terms; seats = seats }))
+      (λ e. other (ap Some (omega (arith, d))));
+}

@@ -1,0 +1,9 @@
+use Rattle.lobby_state.specs.Acts.{lobby_effect}
+use Rattle.lobby_state.proofs.KeepsActs.{IsWellFormed-taken, keeps_act}
+use Rattle.lobby_state.proofs.lobby.Lobby.act.Goals as goal
+
+pub invariant_of-self : goal.invariant_of-self
+invariant_of-self c =
+    let lobby = c.self.inside.register in
+    IsWellFormed-taken lobby (lobby_effect lobby c.args.session c.args.act.now) c.act.new.self c.act.result
+    (keeps_act lobby c.args.session c.args.act.now) c.self.invariant c.act.ensures

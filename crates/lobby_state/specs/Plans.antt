@@ -1,0 +1,47 @@
+-- All pair acts and all plans in one table each: what a pair act is to do, by the lobby alone, and the lobby once that
+-- is carried out. This server's own.
+use Rattle.std.specs.Prelude.{ℕ, Bool, true, false, Option, None, Some, Result}
+use Rattle.fics_words.specs.declared.refusal.Refusal.{Refusal}
+use Rattle.fics_words.specs.Effect.{Effect, answer_of}
+use Rattle.lobby_state.specs.declared.acts.PairAct.{PairAct}
+use Rattle.lobby_state.specs.declared.acts.PairAct.TheVariants.{Accept, Clear}
+use Rattle.lobby_state.specs.declared.acts.Plan.{Plan}
+use Rattle.lobby_state.specs.declared.acts.Plan.TheVariants.{Start, Clear as Clearing}
+use Rattle.lobby_state.specs.declared.game.Game.{Game}
+use Rattle.lobby_state.specs.Accept.{accept_effect}
+use Rattle.lobby_state.specs.Clear.{clear_effect, freed, cleared}
+use Rattle.lobby_state.specs.Desks.{IsDesk}
+use Rattle.lobby_state.specs.Lobby.{LobbyState}
+use Rattle.lobby_state.specs.Start.{seated}
+
+-- what a pair act does in the lobby: nothing stands otherwise yet, and the reply is a plan
+abbrev pub plan_effect : LobbyState → ℕ → PairAct → Effect LobbyState Plan
+plan_effect lobby session (Accept name) = accept_effect lobby session name
+plan_effect lobby session (Clear desk serial) = clear_effect lobby session desk serial
+
+-- what a pair act is to do, by the lobby alone, or why it is refused
+abbrev pub plan_of : LobbyState → ℕ → PairAct → Result Plan Refusal
+plan_of lobby session act = answer_of (plan_effect lobby session act)
+
+-- the desk of a plan, which is the second part that its act needs
+abbrev pub desk_of : Plan → Option ℕ
+desk_of (Start desk serial terms seats) = Some desk
+desk_of (Clearing session desk serial) = Some desk
+
+-- the lobby once the plan is carried out; a Clear has either freed the caller alone or cleared the desk
+abbrev pub committed : LobbyState → Plan → Bool → LobbyState
+committed lobby (Start desk serial terms seats) is_cleared = seated lobby desk serial terms seats
+committed lobby (Clearing session desk serial) true = cleared lobby desk
+committed lobby (Clearing session desk serial) false = freed lobby session desk
+
+-- the game that the lobby lists for the plan's desk once the plan is carried out, by the one that it listed before
+abbrev pub game_after : Plan → Bool → Option Game → Option Game
+game_after (Start desk serial terms seats) is_cleared before =
+    Some (record { serial = serial; terms = terms; seats = seats })
+game_after (Clearing session desk serial) true before = None
+game_after (Clearing session desk serial) false before = before
+
+-- a desk that a pair act names is one
+abbrev pub NamesDesk : PairAct → Type 0
+NamesDesk (Clear desk serial) = IsDesk desk
+NamesDesk _ = Unit {0}

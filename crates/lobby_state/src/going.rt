@@ -1,0 +1,35 @@
+//! Going: a session begins to leave, and asks for its places.
+ghost use Rattle.std.specs.Prelude.{Ok};
+ghost use Rattle.fics_words.specs.Effect.{Takes};
+ghost use Rattle.lobby_state.specs.Going.{going_effect, leaving};
+
+use crate::acts::LobbyReply;
+use crate::challenge::Without;
+use crate::member::{Member, OfSession, change_first};
+use crate::register::Register;
+use collections::Change;
+
+/// Leaving: the member can't be named from then on.
+#[derive(Clone, Copy)]
+struct Leave;
+
+impl Change<Member> for Leave {
+    ghost changed = { λ _ member. leaving member };
+
+    fn change(&self, member: &mut Member) {
+        member.going = true;
+    }
+}
+
+impl Register {
+    /// The session begins to leave: its challenges go, and it can't be named from then on. Its places are answered. It
+    /// takes no memory and is never refused.
+    pub(crate) fn going(&mut self, session: u32) -> LobbyReply
+        ensures { Takes (going_effect self.old session) self.old self.new (Ok result) }
+    {
+        let places = self.places(session);
+        change_first(&mut self.members, &OfSession(session), &Leave);
+        self.challenges.retain(&Without(session));
+        LobbyReply::Places(places)
+    }
+}

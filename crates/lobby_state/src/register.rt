@@ -1,0 +1,129 @@
+//! What a lobby keeps, and the look-ups in it.
+ghost use Rattle.std.specs.Prelude.{◌≡◌, ◌≤◌, IfOk, option_copied};
+ghost use Rattle.lobby_state.specs.Desks.{IsDesk};
+ghost use Rattle.lobby_state.specs.Lobby.{holder_of, opening, member_of, named, places_of, waiting_of, free_slot, game_at};
+
+use crate::challenge::Challenge;
+use crate::game::{Game, no_games};
+use crate::member::Member;
+use crate::places::Places;
+use collections::{Listed, Reserved};
+use fics_words::{Duplicate, HandleKey, Line, NoMemory};
+use std::alloc::Global;
+use std::marker::Model;
+
+/// Who is in the hall, which challenges stand, and which desks are in use: the acts are carried out here, one file an
+/// act. That they leave it well-formed, `Lobby` knows.
+#[derive(Debug, Drop)]
+pub(crate) struct Register {
+    pub(crate) alloc: Global,
+    pub(crate) members: Listed<Member>,
+    pub(crate) challenges: Reserved<Challenge>,
+    /// The game of each desk from 1 on, where it is in use.
+    pub(crate) games: Listed<Option<Game>>,
+    /// How many games were started, which is the last serial.
+    pub(crate) started: u64,
+}
+
+impl Model for Register {
+    ghost use Rattle.std.specs.Prelude.{◌≡◌, length};
+    ghost use Rattle.lobby_state.specs.Desks.{desks};
+    ghost use Rattle.lobby_state.specs.Lobby.{LobbyState};
+
+    ghost Value = { LobbyState };
+
+    ghost view = { λ register. record {
+      members = register.members;
+      challenges = register.challenges.items;
+      games = register.games;
+      started = register.started;
+    } };
+
+    ghost invariant = { λ register. length register.games ≡ desks };
+}
+
+impl Register {
+    /// Nobody is there, and each desk is free. It is not made for want of memory alone.
+    pub(crate) fn new(alloc: Global) -> Result<Register, NoMemory>
+        ensures { IfOk result (λ register. register ≡ opening) }
+    {
+        Ok(Register {
+            alloc,
+            members: Listed::new(alloc),
+            challenges: Reserved::new(alloc),
+            games: no_games(alloc)?,
+            started: 0,
+        })
+    }
+
+    /// The places of the session: none where it isn't a member.
+    pub(crate) fn places(&self, session: u32) -> Places
+        ensures { result ≡ places_of self.now session }
+    {
+        match self.member(session) {
+            Some(member) => member.places,
+            None => Places::none(),
+        }
+    }
+
+    /// The lines that wait for the session, the oldest first: none where it isn't a member.
+    pub(crate) fn waiting(&self, session: u32) -> &[Line]
+        ensures { result.now ≡ waiting_of self.now session }
+    {
+        match self.member(session) {
+            Some(member) => member.waiting.as_slice(),
+            None => &[],
+        }
+    }
+
+    /// A copy of the lines that wait for the session; it isn't made for want of memory alone.
+    pub(crate) fn waiting_copy(&self, session: u32) -> Result<Listed<Line>, NoMemory>
+        ensures { IfOk result (λ lines. lines ≡ waiting_of self.now session) }
+    {
+        match self.member(session) {
+            Some(member) => member.waiting.duplicate(),
+            None => Ok(Listed::new(self.alloc)),
+        }
+    }
+
+    /// The game for which the desk, 1 to 128, is in use, if it is.
+    pub(crate) fn game(&self, desk: u8) -> Option<Game>
+        requires { IsDesk desk }
+        ensures { result ≡ game_at self.now desk }
+    {
+        match self.games.get(desk as usize - 1) {
+            Some(game) => *game,
+            None => None,
+        }
+    }
+
+    /// The member of the session, if it has entered.
+    pub(crate) fn member(&self, session: u32) -> Option<&Member>
+        ensures { option_copied result ≡ member_of self.now session }
+    {
+        self.members.iter().find(|member| member.session == session)
+    }
+
+    /// The member that the handle names, if there is one and it isn't going.
+    pub(crate) fn named(&self, key: HandleKey) -> Option<&Member>
+        ensures { option_copied result ≡ named self.now key }
+    {
+        self.members
+            .iter()
+            .find(|member| member.name.key() == key && !member.going)
+    }
+
+    /// The member that has the handle with this key, going or not.
+    pub(crate) fn with_handle(&self, key: HandleKey) -> Option<&Member>
+        ensures { option_copied result ≡ holder_of self.now key }
+    {
+        self.members.iter().find(|member| member.name.key() == key)
+    }
+
+    /// Where the least free desk stands in the list of desks, if one is free.
+    pub(crate) fn free_slot(&self) -> Option<usize>
+        ensures { result ≡ free_slot self.now }
+    {
+        self.games.iter().position(|game| game.is_none())
+    }
+}

@@ -1,0 +1,91 @@
+//! Start: the plan of a game is carried out.
+ghost use Rattle.std.specs.Prelude.{◌≡◌, filter, map, not};
+ghost use Rattle.fics_words.specs.Seats.{seat_list, seat_number};
+ghost use Rattle.lobby_state.specs.Desks.{IsDesk};
+ghost use Rattle.lobby_state.specs.Start.{concerns_seated, in_seat, seated};
+
+use crate::challenge::{Challenge, WithoutSeated};
+use crate::game::Game;
+use crate::member::Member;
+use crate::place::Place;
+use crate::register::Register;
+use chess_model::Terms;
+use collections::{Change, Listed, Reserved};
+use fics_words::Seats;
+use std::marker::Model;
+
+/// The start of a game at a desk of the hall: its players have their places.
+#[derive(Drop)]
+struct Sit {
+    desk: u8,
+    serial: u64,
+    seats: Seats,
+}
+
+impl Model for Sit {
+    ghost use Rattle.lobby_state.specs.Desks.{IsDesk};
+    ghost use Rattle.lobby_state.specs.Start.{Sitting};
+
+    ghost Value = { Sitting };
+
+    ghost view = { λ sit. record { desk = sit.desk; serial = sit.serial; seats = sit.seats } };
+
+    ghost invariant = { λ sit. IsDesk sit.desk };
+}
+
+impl Change<Member> for Sit {
+    ghost changed = { λ sit member.
+        in_seat sit.desk sit.serial (seat_number member.session (seat_list sit.seats)) member };
+
+    fn change(&self, member: &mut Member) {
+        if let Some(seat) = self.seats.number(member.session) {
+            member.places.add(Place {
+                desk: self.desk,
+                serial: self.serial,
+                seat,
+            });
+        }
+    }
+}
+
+impl Register {
+    /// The game starts: the desk is in use, the players have their places, and their challenges go. It takes no memory.
+    pub(crate) fn start(&mut self, desk: u8, serial: u64, terms: Terms, seats: &Seats)
+        requires { IsDesk desk }
+        ensures { self.new ≡ seated self.old desk serial terms seats.now }
+    {
+        sit_down(&mut self.members, desk, serial, seats);
+        drop_challenges(&mut self.challenges, seats);
+        let game = Game {
+            serial,
+            terms,
+            seats: *seats,
+        };
+        let slot = self.games.item_mut(desk as usize - 1);
+        *slot = Some(game);
+        self.started = serial;
+    }
+}
+
+/// The players have their places.
+fn sit_down(members: &mut Listed<Member>, desk: u8, serial: u64, seats: &Seats)
+    requires { IsDesk desk }
+    ensures { members.new
+        ≡ map (λ member. in_seat desk serial (seat_number member.session (seat_list seats.now)) member) members.old }
+{
+    let sit = Sit {
+        desk,
+        serial,
+        seats: *seats,
+    };
+    members.change_each(&sit);
+}
+
+/// The challenges of the players go.
+fn drop_challenges(challenges: &mut Reserved<Challenge>, seats: &Seats)
+    ensures { challenges.new.items
+        ≡ filter (λ challenge. not (concerns_seated seats.now challenge)) challenges.old.items }
+{
+    let without = WithoutSeated(*seats);
+    challenges.retain(&without);
+}
