@@ -1,2 +1,9 @@
-pub mod Lifting
 pub mod BoardLists
+pub mod Keeps
+pub mod KeepsActs
+pub mod KeepsFetch
+pub mod KeepsFlag
+pub mod KeepsLeave
+pub mod KeepsMove
+pub mod KeepsResign
+pub mod KeepsStart

@@ -12,4 +12,5 @@ pub mod Resign
 pub mod Seating
 pub mod Seats
 pub mod Sight
+pub mod Sound
 pub mod Views
