@@ -102,3 +102,22 @@ pub sound-desk_answer : (d : DeskState) (session moment serial : ℕ) (a : DeskA
 sound-desk_answer d session moment serial a s =
     let effect = desk_effect d session moment serial a in
     soundly-answered (first_cause effect.causes) effect.reply ((KeepsDesk-desk_effect d session moment serial a).tells s)
+
+-- an act but a visit is answered without items
+no_items_at : (desk : ℕ) (g : GameState) (session moment : ℕ) (a : DeskAct) → a ≢ act.Fetch → items_told (game_effect desk g session moment a).reply ≡ []
+no_items_at desk g session moment act.Fetch h = absurd (h refl)
+no_items_at desk g session moment _ h = refl
+
+no_items_either : (b : Bool) (d : DeskState) (one another : Effect DeskState DeskReply) → items_told one.reply ≡ [] → items_told another.reply ≡ [] →
+    items_told (if b then one else another).reply ≡ []
+no_items_either true d one another h k = h
+no_items_either false d one another h k = k
+
+no_items_by : (d : DeskState) (game : Option GameState) (session moment serial : ℕ) (a : DeskAct) → a ≢ act.Fetch →
+    items_told (effect_by d game session moment serial a).reply ≡ []
+no_items_by d None session moment serial a h = refl
+no_items_by d (Some g) session moment serial a h =
+    no_items_either (g.serial == serial) d (at_desk d (game_effect d.number g session moment a)) (missing_effect d a) (no_items_at d.number g session moment a h) refl
+
+pub no_items_for : (d : DeskState) (session moment serial : ℕ) (a : DeskAct) → a ≢ act.Fetch → items_told (desk_effect d session moment serial a).reply ≡ []
+no_items_for d session moment serial a h = no_items_by d d.game session moment serial a h

@@ -3,7 +3,7 @@ use Rattle.std.proofs.Common.{◌≡◌, ℕ, false, Option, Some, None, Result,
 use Rattle.chess_model.specs.declared.man.Colour.{Colour}
 use Rattle.fics_words.specs.declared.refusal.Refusal.{Refusal}
 use Rattle.linked_desk.specs.Desk.{GameState, seat_of, occupant}
-use Rattle.linked_desk.specs.Flag.{seat_flag, flag_end, flagged, flag_by, flag_effect}
+use Rattle.linked_desk.specs.Flag.{seat_flag, flag_end, flagged, flagged_by, flag_effect}
 use Rattle.linked_desk.specs.Seats.{board_of}
 use Rattle.linked_desk.specs.Sound.{Names, IsSound}
 use Rattle.linked_desk.proofs.Keeps.{Keeps, IsSound-ended_by}
@@ -20,14 +20,18 @@ occupant-flagged : (desk : ℕ) (g : GameState) (moment board : ℕ) (answer : R
 occupant-flagged desk g moment board (Ok winner) = refl
 occupant-flagged desk g moment board (Err cause) = refl
 
-keeps_by : (desk : ℕ) (g : GameState) (moment : ℕ) (seat : Option ℕ) → Keeps g false (flag_by desk g moment seat)
-keeps_by desk g moment None = record { players = refl; sound = λ s. s; tells = λ s. tt; memory = refl }
-keeps_by desk g moment (Some seat) = record {
-  players = occupant-flagged desk g moment (board_of seat) (seat_flag g moment seat);
-  sound = λ s. sound_flagged desk g moment (board_of seat) (seat_flag g moment seat) s;
+sound_flagged_by : (desk : ℕ) (g : GameState) (moment : ℕ) (seat : Option ℕ) → IsSound g → IsSound (flagged_by desk g moment seat)
+sound_flagged_by desk g moment None s = s
+sound_flagged_by desk g moment (Some seat) s = sound_flagged desk g moment (board_of seat) (seat_flag g moment seat) s
+
+occupant-flagged_by : (desk : ℕ) (g : GameState) (moment : ℕ) (seat : Option ℕ) → occupant (flagged_by desk g moment seat) ≡ occupant g
+occupant-flagged_by desk g moment None = refl
+occupant-flagged_by desk g moment (Some seat) = occupant-flagged desk g moment (board_of seat) (seat_flag g moment seat)
+
+pub Keeps-flag_effect : (desk : ℕ) (g : GameState) (session moment : ℕ) → Keeps g false (flag_effect desk g session moment)
+Keeps-flag_effect desk g session moment = record {
+  players = occupant-flagged_by desk g moment (seat_of g session);
+  sound = sound_flagged_by desk g moment (seat_of g session);
   tells = λ s. tt;
   memory = refl;
 }
-
-pub Keeps-flag_effect : (desk : ℕ) (g : GameState) (session moment : ℕ) → Keeps g false (flag_effect desk g session moment)
-Keeps-flag_effect desk g session moment = keeps_by desk g moment (seat_of g session)

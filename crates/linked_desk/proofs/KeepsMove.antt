@@ -11,7 +11,7 @@ use Rattle.game_board.specs.Scoresheet.{IsTrueScore}
 use Rattle.game_board.proofs.Scoresheet.{IsTrueScore-play_after}
 use Rattle.linked_desk.specs.Boards.{word_at, latest, boards_after}
 use Rattle.linked_desk.specs.Desk.{GameState, seat_of, moment_at, occupant}
-use Rattle.linked_desk.specs.Playing.{seat_word, moved, move_by, move_effect}
+use Rattle.linked_desk.specs.Playing.{seat_word, moved_by, move_effect}
 use Rattle.linked_desk.specs.Seats.{place_of, colour_at}
 use Rattle.linked_desk.specs.Sound.{IsSound}
 use Rattle.linked_desk.specs.Views.{views_of}
@@ -47,16 +47,22 @@ IsSound-played g moment place colour word s =
       ended = s.ended;
     }
 
-keeps_by : (desk : ℕ) (g : GameState) (moment : ℕ) (seat : Option ℕ) (word : MoveWord) → Keeps g true (move_by desk g moment seat word)
-keeps_by desk g moment None word = record { players = refl; sound = λ s. s; tells = λ s. tt; memory = refl }
-keeps_by desk g moment (Some seat) word =
+sound_moved_by : (desk : ℕ) (g : GameState) (moment : ℕ) (seat : Option ℕ) (word : MoveWord) → IsSound g → IsSound (moved_by desk g moment seat word)
+sound_moved_by desk g moment None word s = s
+sound_moved_by desk g moment (Some seat) word s =
     let after : GameState = played g moment (place_of seat) (seat_word g seat word) in
-    record {
-      players = occupant-with_view after (slice_get (views_of desk after) (place_of seat));
-      sound = λ s. IsSound-with_view after (slice_get (views_of desk after) (place_of seat)) (IsSound-played g moment (place_of seat) (colour_at seat) word s);
-      tells = λ s. tt;
-      memory = refl;
-    }
+    IsSound-with_view after (slice_get (views_of desk after) (place_of seat)) (IsSound-played g moment (place_of seat) (colour_at seat) word s)
+
+occupant-moved_by : (desk : ℕ) (g : GameState) (moment : ℕ) (seat : Option ℕ) (word : MoveWord) → occupant (moved_by desk g moment seat word) ≡ occupant g
+occupant-moved_by desk g moment None word = refl
+occupant-moved_by desk g moment (Some seat) word =
+    let after : GameState = played g moment (place_of seat) (seat_word g seat word) in
+    occupant-with_view after (slice_get (views_of desk after) (place_of seat))
 
 pub Keeps-move_effect : (desk : ℕ) (g : GameState) (session moment : ℕ) (word : MoveWord) → Keeps g true (move_effect desk g session moment word)
-Keeps-move_effect desk g session moment word = keeps_by desk g moment (seat_of g session) word
+Keeps-move_effect desk g session moment word = record {
+  players = occupant-moved_by desk g moment (seat_of g session) word;
+  sound = sound_moved_by desk g moment (seat_of g session) word;
+  tells = λ s. tt;
+  memory = refl;
+}

@@ -1,18 +1,22 @@
 -- How a game ends: the end of one board ends all of the game, and the viewers are told at each board.
-use Rattle.std.specs.Prelude.{ℕ, ◌==◌, is_some, if◌then◌else◌, Option, Some, None, List}
+use Rattle.std.specs.Prelude.{ℕ, ◌==◌, is_some, is_none, if◌then◌else◌, Option, Some, None, List}
 use Rattle.std.specs.Option.{option_map}
 use Rattle.chess_model.specs.declared.man.Colour.{Colour}
 use Rattle.chess_model.specs.Placement.{opposite}
 use Rattle.fics_words.specs.Effect.{Cause}
-use Rattle.fics_words.specs.declared.refusal.Refusal.TheVariants.{GameOver}
+use Rattle.fics_words.specs.declared.refusal.Refusal.TheVariants.{NotPlaying, GameOver}
 use Rattle.fics_words.specs.declared.seats.Opponents.{Opponents}
 use Rattle.style12_writer.specs.declared.item.Item.{Item}
 use Rattle.style12_writer.specs.declared.item.Item.TheVariants as item
 use Rattle.game_board.specs.Board.{Board}
 use Rattle.linked_desk.specs.declared.ended.Ended.{Ended}
-use Rattle.linked_desk.specs.Desk.{GameState, moment_at}
+use Rattle.linked_desk.specs.Desk.{GameState, moment_at, seat_of}
 use Rattle.linked_desk.specs.Seats.{pairs_of}
 use Rattle.linked_desk.specs.Views.{view_of, each_board, with_items}
+
+-- only a player plays
+abbrev pub no_seat_cause : GameState → ℕ → Cause
+no_seat_cause g session = (is_none (seat_of g session), NotPlaying)
 
 -- nobody plays on in a game that has ended
 abbrev pub over_cause : GameState → Cause

@@ -1,5 +1,5 @@
 //! The desk.
-ghost use Rattle.std.specs.Prelude.{◌≡◌, ◌≢◌, ◌≤◌, ◌^◌, None, IsSome, OnOk, OnErr};
+ghost use Rattle.std.specs.Prelude.{◌≡◌, ◌≢◌, ◌≤◌, ◌^◌, ℕ, None, IfOk, IsSome, OnOk, OnErr};
 ghost use Rattle.std.specs.Option.{option_copied};
 ghost use Rattle.chess_model.specs.declared.variant.Variant.TheVariants.{Bughouse};
 ghost use Rattle.fics_words.specs.Effect.{Takes};
@@ -9,12 +9,13 @@ use crate::acts::{DeskAct, DeskReply};
 use crate::ended::Ended;
 use crate::game::Game;
 use crate::seating::opened;
+use crate::views::copied;
 use chess_model::Terms;
 use fics_words::{Fail, NoMemory, Refusal, Seats};
 use game_board::GameBoard;
 use std::alloc::Global;
 use std::marker::Model;
-use style12_writer::Item;
+use style12_writer::{Item, ItemList};
 
 /// A desk of the hall, with the game that is played at it, if there is one.
 #[derive(Drop)]
@@ -40,7 +41,7 @@ impl Model for Desk {
 impl Desk {
     ghost use Rattle.linked_desk.specs.Desk.{boards_at, serial_of, end_of, viewer_count, items_for};
     ghost use Rattle.linked_desk.specs.Seating.{AllDiffer, HasPairsFor, names_of, sessions_of, started};
-    ghost use Rattle.linked_desk.specs.Acts.{desk_effect, missing_effect};
+    ghost use Rattle.linked_desk.specs.Acts.{desk_effect, items_told, missing_effect};
 
     /// A desk without a game. Its number is 1 to 128.
     pub fn vacant(number: u8) -> Desk
@@ -157,6 +158,30 @@ impl Desk {
             Some(game) => game.boards().numbered(number),
             None => None,
         }
+    }
+
+    /// Copies of the items that an act would answer now, at whatever moment; none where it gives none.
+    #[tactic(auto, using(crate::proofs::KeepsActs::no_items_for))]
+    pub fn items_ahead(
+        &self,
+        alloc: Global,
+        session: u32,
+        serial: u64,
+        act: &DeskAct,
+    ) -> Result<ItemList, NoMemory>
+        ensures { IfOk result (λ items. (moment : ℕ) → items ≡ items_told (desk_effect self.now session moment serial act.now).reply) }
+    {
+        match act {
+            DeskAct::Fetch => {}
+            _ => return Ok(ItemList::new(alloc)),
+        }
+        let Some(game) = &self.game else {
+            return Ok(ItemList::new(alloc));
+        };
+        if serial != game.serial() {
+            return Ok(ItemList::new(alloc));
+        }
+        copied(alloc, game.ahead(session))
     }
 
     /// Makes the desk vacant once its game has ended and nobody views it any more.

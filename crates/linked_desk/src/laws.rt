@@ -1,10 +1,11 @@
 //! What the table of acts keeps, as calls that do nothing: what they ensure are the laws.
-ghost use Rattle.std.specs.Prelude.{◌≡◌, ℕ, Some};
+ghost use Rattle.std.specs.Prelude.{◌≡◌, ℕ, ◌≤◌, Some};
 ghost use Rattle.chess_model.specs.declared.variant.Terms.{Terms};
 ghost use Rattle.fics_words.specs.declared.seats.Seats.{Seats};
 ghost use Rattle.linked_desk.specs.declared.acts.DeskAct.{DeskAct};
-ghost use Rattle.linked_desk.specs.Desk.{DeskState, occupant_of};
+ghost use Rattle.linked_desk.specs.Desk.{DeskState, game_number, occupant_of};
 ghost use Rattle.linked_desk.specs.Seating.{HasPairsFor, started};
+ghost use Rattle.linked_desk.specs.Sight.{board_in};
 ghost use Rattle.linked_desk.specs.Sound.{AnswersSoundly, HasSoundGame};
 ghost use Rattle.linked_desk.specs.Acts.{desk_answer, desk_after};
 
@@ -25,4 +26,9 @@ pub fn acts_keep_the_game()
         HasSoundGame (started d serial terms seats moment) }
     ensures game { (d : DeskState) (session moment serial : ℕ) (a : DeskAct) → HasSoundGame d → HasSoundGame (desk_after d session moment serial a) }
     ensures answers { (d : DeskState) (session moment serial : ℕ) (a : DeskAct) → HasSoundGame d → AnswersSoundly (desk_answer d session moment serial a) }
+{}
+
+/// Each board of a desk is shown under a number of its own, by which viewers know which board it is.
+pub fn boards_are_known_by_their_games()
+    ensures { (desk board : ℕ) → 1 ≤ board → board ≤ 2 → board_in (game_number desk board) ≡ board }
 {}
