@@ -1,7 +1,7 @@
 //! A desk with two players, and what the tests ask of it.
 
 use chess_model::{MoveWord, Square, Terms, Variant};
-use fics_words::{Fail, Handle, Refusal, Player};
+use fics_words::{Fail, Handle, Opponents, Player, Refusal, Seats};
 use linked_desk::{Desk, DeskAct, DeskReply, Ended, Item};
 use std::alloc::Global;
 use std::process::Abort;
@@ -34,8 +34,12 @@ pub fn desk_with_game(rt: &impl Abort, alloc: Global, minutes: u16, increment: u
         variant: Variant::Chess,
         colour: None,
     };
-    let seated = desk.seat(alloc, SERIAL, terms, white, black, 0);
-    assert!(rt; seated.is_ok(), "there is memory");
+    let seats = Seats {
+        first: Opponents { white, black },
+        second: None,
+    };
+    let started = desk.start(alloc, SERIAL, terms, &seats, 0);
+    assert!(rt; started.is_ok(), "there is memory");
     desk
 }
 

@@ -16,22 +16,22 @@ use Rattle.game_board.specs.Charges.{charge_to, charges_of, clock_of}
 use Rattle.game_board.proofs.Charged.{charges_from-append}
 use Rattle.game_board.proofs.Legal.{IsLegal-append}
 
-half_moves-append : (list : List Played) (p : Played) → half_moves (list ++ p ∷ []) ≡ half_moves list ++ half_move p ∷ []
-half_moves-append list p = map-append half_move list (p ∷ [])
+half_moves-append : (number : ℕ) (list : List Played) (p : Played) → half_moves number (list ++ p ∷ []) ≡ half_moves number list ++ half_move number p ∷ []
+half_moves-append number list p = map-append (half_move number) list (p ∷ [])
 
 pub Stands-grown : (p q : Position) (b : Board) (m : Move) (charge : Option Charge) →
     ((T : List HalfMove) (n : ℕ) → Stands p T n → Stands q (T ++ record { board = n; what = m } ∷ []) n) →
-    Stands p (half_moves b.list) 1 → Stands q (half_moves (b.list ++ record { what = m; charge = charge } ∷ [])) 1
+    Stands p (half_moves b.number b.list) b.number → Stands q (half_moves b.number (b.list ++ record { what = m; charge = charge } ∷ [])) b.number
 Stands-grown p q b m charge grows stands =
-    subst (λ (T : List HalfMove). Stands q T 1) (sym (half_moves-append b.list (record { what = m; charge = charge })))
-    (grows (half_moves b.list) 1 stands)
+    subst (λ (T : List HalfMove). Stands q T b.number) (sym (half_moves-append b.number b.list (record { what = m; charge = charge })))
+    (grows (half_moves b.number b.list) b.number stands)
 
-pub IsLegal-grown : (b : Board) (m : Move) (charge : Option Charge) → IsLegal b.terms.variant (half_moves b.list) → Allowed (position_of b) m →
-    IsLegal b.terms.variant (half_moves (b.list ++ record { what = m; charge = charge } ∷ []))
+pub IsLegal-grown : (b : Board) (m : Move) (charge : Option Charge) → IsLegal b.terms.variant (half_moves b.number b.list) → Allowed (position_of b) m →
+    IsLegal b.terms.variant (half_moves b.number (b.list ++ record { what = m; charge = charge } ∷ []))
 unfolding position_of
 IsLegal-grown b m charge legal allowed =
-    subst (λ (T : List HalfMove). IsLegal b.terms.variant T) (sym (half_moves-append b.list (record { what = m; charge = charge })))
-    (IsLegal-append b.terms.variant (half_moves b.list) (record { board = 1; what = m }) legal allowed)
+    subst (λ (T : List HalfMove). IsLegal b.terms.variant T) (sym (half_moves-append b.number b.list (record { what = m; charge = charge })))
+    (IsLegal-append b.terms.variant (half_moves b.number b.list) (record { board = b.number; what = m }) legal allowed)
 
 -- a clock with one charge more is the clock of the longer list
 pub clock_of-append : (t : Terms) (c mover : Colour) (list : List Played) (p : Played) (k : Ledger) → k ≡ clock_of t c list → turn_after list ≡ mover →

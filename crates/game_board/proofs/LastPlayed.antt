@@ -13,7 +13,7 @@ use Rattle.game_board.specs.BoardFace.{last_played, before_last, last_shown}
 use Rattle.game_board.specs.Charges.{is_timed}
 use Rattle.game_board.specs.Play.{next_charge}
 
-slice_get-append_end : {X : Type 0} (xs : List X) (x : X) → slice_get (xs ++ x ∷ []) (length xs) ≡ Some x
+pub slice_get-append_end : {X : Type 0} (xs : List X) (x : X) → slice_get (xs ++ x ∷ []) (length xs) ≡ Some x
 slice_get-append_end [] x = refl
 slice_get-append_end (y ∷ ys) x = slice_get-append_end ys x
 
@@ -26,11 +26,11 @@ last_played-append list p = ap (slice_get (list ++ p ∷ [])) (one_less list p) 
 pub before_last-append : (list : List Played) (p : Played) → before_last (list ++ p ∷ []) ≡ list
 before_last-append list p = ap (λ n. take n (list ++ p ∷ [])) (one_less list p) ∙ take-append_seam list (p ∷ [])
 
-pub last_shown-append : (v : Variant) (list : List Played) (p : Played) →
-    last_shown v (list ++ p ∷ []) ≡ Some (plain_shown_of (position_after v (half_moves list) 1) p.what)
-last_shown-append v list p =
-    ap (λ (o : Option Played). option_map (λ q. plain_shown_of (position_after v (half_moves (before_last (list ++ p ∷ []))) 1) q.what) o) (last_played-append list p)
-    ∙ ap (λ (l : List Played). Some (plain_shown_of (position_after v (half_moves l) 1) p.what)) (before_last-append list p)
+pub last_shown-append : (v : Variant) (number : ℕ) (list : List Played) (p : Played) →
+    last_shown v number (list ++ p ∷ []) ≡ Some (plain_shown_of (position_after v (half_moves number list) number) p.what)
+last_shown-append v number list p =
+    ap (λ (o : Option Played). option_map (λ q. plain_shown_of (position_after v (half_moves number (before_last (list ++ p ∷ []))) number) q.what) o) (last_played-append list p)
+    ∙ ap (λ (l : List Played). Some (plain_shown_of (position_after v (half_moves number l) number) p.what)) (before_last-append list p)
 
 pub All-one : {X : Type 0} (P : X → Type 0) (x : X) → P x → All P (x ∷ [])
 All-one P x holds = λ k d h. let first : 0 ≡ k = omega arith in subst (λ n. P (get_or (x ∷ []) n d)) first holds

@@ -11,7 +11,8 @@ use Rattle.chess_model.specs.Holdings.{same_colour}
 use Rattle.clock_ledger.specs.declared.charges.Charge.{Charge}
 use Rattle.fics_words.specs.declared.refusal.Refusal.TheVariants.{NotYourTurn, TooManyMoves}
 use Rattle.game_board.specs.Board.{Board, to_move}
-use Rattle.game_board.specs.Causes.{first_cause, in_words}
+use Rattle.fics_words.specs.Effect.{first_cause}
+use Rattle.game_board.specs.Causes.{in_words}
 use Rattle.game_board.specs.Charges.{charge_to}
 use Rattle.game_board.specs.Play.{move_refused}
 

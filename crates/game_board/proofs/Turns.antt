@@ -1,5 +1,7 @@
 -- The position and the turn that a list of half-moves gives.
-use Rattle.std.proofs.Common.{◌≡◌, List, [], ◌∷◌, ◌++◌, map, refl, ap, ◌∙◌}
+use Rattle.std.specs.Prelude.{nat_eq}
+use Rattle.std.proofs.lemmas.Bool.{eq-eqb}
+use Rattle.std.proofs.Common.{◌≡◌, ℕ, true, List, [], ◌∷◌, ◌++◌, map, refl, ap, ◌∙◌}
 use Rattle.chess_model.specs.declared.man.Colour.{Colour}
 use Rattle.chess_model.specs.declared.man.Colour.TheVariants.{White}
 use Rattle.chess_model.specs.declared.moves.Move.{Move}
@@ -9,21 +11,23 @@ use Rattle.chess_model.specs.Position.{Position, position_after, Stands}
 use Rattle.game_board.specs.declared.played.Played.{Played}
 use Rattle.game_board.specs.Board.{Board, half_moves, to_move, position_of}
 
--- all half-moves of a game on one board are that board's
-pub moves_of-half_moves : (list : List Played) → moves_of 1 (half_moves list) ≡ map (λ p. p.what) list
-moves_of-half_moves [] = refl
-moves_of-half_moves (p ∷ ps) = ap (λ ms. p.what ∷ ms) (moves_of-half_moves ps)
+-- the half-moves of a board are that board's
+pub moves_of-half_moves : (number : ℕ) (list : List Played) → moves_of number (half_moves number list) ≡ map (λ p. p.what) list
+moves_of-half_moves number [] = refl
+moves_of-half_moves number (p ∷ ps) =
+    let same : nat_eq number number ≡ true = eq-eqb number number refl in
+    simp (same, moves_of-half_moves number ps)
 
 -- the slow board that stands for the list is the position on the board
-pub position_of-stands : (q : Position) (b : Board) → Stands q (half_moves b.list) 1 → q.variant ≡ b.terms.variant → q ≡ position_of b
+pub position_of-stands : (q : Position) (b : Board) → Stands q (half_moves b.number b.list) b.number → q.variant ≡ b.terms.variant → q ≡ position_of b
 unfolding position_of
-position_of-stands q b s e = s.same ∙ ap (λ v. position_after v (half_moves b.list) 1) e
+position_of-stands q b s e = s.same ∙ ap (λ v. position_after v (half_moves b.number b.list) b.number) e
 
 pub to_move-position_of : (b : Board) → (position_of b).to_move ≡ to_move b
 unfolding position_of
-to_move-position_of b = ap (side_from White) (moves_of-half_moves b.list)
+to_move-position_of b = ap (side_from White) (moves_of-half_moves b.number b.list)
 
-pub to_move-stands : (q : Position) (b : Board) → Stands q (half_moves b.list) 1 → q.variant ≡ b.terms.variant → q.to_move ≡ to_move b
+pub to_move-stands : (q : Position) (b : Board) → Stands q (half_moves b.number b.list) b.number → q.variant ≡ b.terms.variant → q.to_move ≡ to_move b
 to_move-stands q b s e = ap (λ (p : Position). p.to_move) (position_of-stands q b s e) ∙ to_move-position_of b
 
 -- one half-move more hands the turn to the other colour

@@ -1,7 +1,8 @@
 -- What contracts see of a game on one board: its half-moves with their charges, and the counts beside them.
-use Rattle.std.specs.Prelude.{ℕ, Bool, nat_lt, List, length, map}
+use Rattle.std.specs.Prelude.{ℕ, Bool, nat_lt, List, [], length, map}
 use Rattle.chess_model.specs.declared.man.Colour.{Colour}
 use Rattle.chess_model.specs.declared.man.Colour.TheVariants.{White, Black}
+use Rattle.chess_model.specs.declared.man.Man.{Man}
 use Rattle.chess_model.specs.declared.variant.Terms.{Terms}
 use Rattle.chess_model.specs.MoveList.{HalfMove, side_from}
 use Rattle.chess_model.specs.Position.{Position, position_after}
@@ -9,6 +10,8 @@ use Rattle.game_board.specs.declared.played.Played.{Played}
 
 -- a game on one board
 pub record Board : Type 0 where
+  -- 1, or 2 for the second board of a pair
+  pub number : ℕ
   pub terms : Terms
   -- the half-moves from the start, each with its charge where it has one
   pub list : List Played
@@ -16,14 +19,20 @@ pub record Board : Type 0 where
   pub begin : ℕ
   -- how many half-moves were played on the board
   pub played : ℕ
+  -- the men that came from the partner's board, in their order
+  pub came : List Man
 
--- a half-move of a game on one board, which has the number 1
-abbrev pub half_move : Played → HalfMove
-half_move p = record { board = 1; what = p.what }
+-- the board at its start
+abbrev pub new_board : ℕ → Terms → ℕ → Board
+new_board number terms moment = record { number = number; terms = terms; list = []; begin = moment; played = 0; came = [] }
 
--- the half-moves of a game
-abbrev pub half_moves : List Played → List HalfMove
-half_moves list = map half_move list
+-- a half-move on the board of that number
+abbrev pub half_move : ℕ → Played → HalfMove
+half_move number p = record { board = number; what = p.what }
+
+-- the half-moves on the board of that number
+abbrev pub half_moves : ℕ → List Played → List HalfMove
+half_moves number list = map (half_move number) list
 
 -- whose turn it is after these half-moves; White begins, and the colours take turns (FIDE 1.1)
 abbrev pub turn_after : List Played → Colour
@@ -35,7 +44,7 @@ to_move b = turn_after b.list
 
 -- the position on the board
 unfoldable pub position_of : Board → Position
-position_of b = position_after b.terms.variant (half_moves b.list) 1
+position_of b = position_after b.terms.variant (half_moves b.number b.list) b.number
 
 -- how many half-moves stand before the first one of a colour
 abbrev pub half_moves_before : Colour → ℕ

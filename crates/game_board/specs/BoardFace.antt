@@ -20,12 +20,13 @@ abbrev pub before_last : List Played → List Played
 before_last list = take (length list - 1) list
 
 -- what is shown of the last half-move: it is read in the position before it
-abbrev pub last_shown : Variant → List Played → Option Shown
-last_shown v list = option_map (λ p. plain_shown_of (position_after v (half_moves (before_last list)) 1) p.what) (last_played list)
+abbrev pub last_shown : Variant → ℕ → List Played → Option Shown
+last_shown v number list =
+    option_map (λ p. plain_shown_of (position_after v (half_moves number (before_last list)) number) p.what) (last_played list)
 
 -- all that a printed board shows of a game, names and clocks aside
 unfoldable pub board_face : Board → Face
-board_face b = face_of (position_of b) (length b.list) (last_shown b.terms.variant b.list)
+board_face b = face_of (position_of b) (length b.list) (last_shown b.terms.variant b.number b.list)
 
 -- what a charge amounts to, in milliseconds; no charge is nothing
 abbrev pub charged_time : Option Charge → ℕ
@@ -33,5 +34,5 @@ charged_time None = 0
 charged_time (Some c) = amount c
 
 -- the time that the last half-move is charged with
-abbrev pub time_taken : List Played → ℕ
-time_taken list = charged_time (option_and_then (λ p. p.charge) (last_played list))
+abbrev pub last_taken : List Played → ℕ
+last_taken list = charged_time (option_and_then (λ p. p.charge) (last_played list))

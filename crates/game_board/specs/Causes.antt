@@ -1,19 +1,9 @@
--- Refusals in their order, and answers that yield to them.
-use Rattle.std.specs.Prelude.{Bool, cond, List, [], ◌∷◌, Option, Some, None, Result, Ok, Err}
+-- The answers of the rules in the words of the server.
+use Rattle.std.specs.Prelude.{Result, Ok, Err}
 use Rattle.fics_words.specs.declared.refusal.Refusal.{Refusal}
 use Rattle.fics_words.specs.declared.refusal.Refusal.TheVariants as refusal
 use Rattle.chess_model.specs.declared.moves.Rejection.{Rejection}
 use Rattle.chess_model.specs.declared.moves.Rejection.TheVariants as rejection
-
--- the refusal of the first cause that holds, in a list of causes with their refusals
-abbrev pub first_cause : List (Bool × Refusal) → Option Refusal
-first_cause [] = None
-first_cause (c ∷ cs) = cond c.0 (Some c.1) (first_cause cs)
-
--- an answer, where nothing refuses it
-abbrev pub answered : {T : Type 0} → Option Refusal → Result T Refusal → Result T Refusal
-answered None answer = answer
-answered (Some r) answer = Err r
 
 -- the refusal of a word that has no move
 abbrev pub refusal_of : Rejection → Refusal

@@ -5,6 +5,7 @@ pub mod Charges
 pub mod Decisions
 pub mod DecidedRules
 pub mod Flag
-pub mod Kept
+pub mod Holds
 pub mod Play
+pub mod Scoresheet
 pub mod WordAnswer

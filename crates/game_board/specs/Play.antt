@@ -1,16 +1,18 @@
 -- What a move word does to a board.
 use Rattle.std.specs.Prelude.{ℕ, ◌+◌, ◌==◌, ◌&&◌, not, if◌then◌else◌, [], ◌∷◌, ◌++◌, Option, Some, None, Result, Ok, Err}
+use Rattle.std.specs.Option.{option_map_or}
 use Rattle.chess_model.specs.declared.man.Colour.{Colour}
 use Rattle.chess_model.specs.declared.man.Man.{Man}
 use Rattle.chess_model.specs.declared.moves.Move.{Move}
 use Rattle.chess_model.specs.declared.moves.MoveWord.{MoveWord}
 use Rattle.chess_model.specs.MoveList.{taken}
 use Rattle.chess_model.specs.Holdings.{same_colour}
+use Rattle.fics_words.specs.Effect.{first_cause}
 use Rattle.fics_words.specs.declared.refusal.Refusal.{Refusal}
 use Rattle.fics_words.specs.declared.refusal.Refusal.TheVariants.{NotYourTurn, TooManyMoves}
 use Rattle.clock_ledger.specs.declared.charges.Charge.{Charge}
 use Rattle.game_board.specs.Board.{Board, to_move, position_of, has_moved}
-use Rattle.game_board.specs.Causes.{first_cause, answered, in_words}
+use Rattle.game_board.specs.Causes.{in_words}
 use Rattle.game_board.specs.Charges.{is_timed}
 use Rattle.game_board.specs.WordAnswer.{word_answer}
 
@@ -22,9 +24,9 @@ most_played = 1200
 abbrev pub move_refused : Board → Colour → Option Refusal
 move_refused b c = first_cause ((not (same_colour c (to_move b)), NotYourTurn) ∷ (b.played == most_played, TooManyMoves) ∷ [])
 
--- the half-move that a word of a colour stands for now, or the refusal
+-- the half-move that a word of a colour stands for now, or the refusal: what refuses the colour comes before the rules' answer
 unfoldable pub move_answer : Board → Colour → MoveWord → Result Move Refusal
-move_answer b c w = answered (move_refused b c) (in_words (word_answer (position_of b) w))
+move_answer b c w = option_map_or Err (move_refused b c) (in_words (word_answer (position_of b) w))
 
 -- the charge of the next half-move, where it is made at that moment: the first one of each colour has none
 abbrev pub next_charge : Board → ℕ → Option Charge
@@ -35,8 +37,7 @@ next_charge b moment =
 
 -- the board after a half-move at that moment
 abbrev pub with_half_move : Board → Move → ℕ → Board
-with_half_move b m moment = record {
-  terms = b.terms;
+with_half_move b m moment = record b {
   list = b.list ++ record { what = m; charge = next_charge b moment } ∷ [];
   begin = moment;
   played = b.played + 1;

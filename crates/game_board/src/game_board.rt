@@ -12,7 +12,7 @@ use crate::causes::{answer_of, captured_by};
 use crate::played::Played;
 use chess_model::{Colour, Face, Kind, Man, Move, MoveWord, PlainBoard, Shown, Terms, Variant};
 use clock_ledger::{Charge, ClockLedger};
-use collections::Roomy;
+use collections::{Listed, Roomy};
 use fics_words::Refusal;
 use memory::NoMemory;
 use move_writer::{face, plain_shown};
@@ -25,6 +25,8 @@ pub const MOST_PLAYED: u16 = 1200;
 /// A game on one board with its clocks, from the start.
 #[derive(Debug, Drop)]
 pub struct GameBoard {
+    /// 1, or 2 for the second board of a pair.
+    number: u8,
     terms: Terms,
     position: PlainBoard,
     list: Roomy<Played, 1200>,
@@ -34,6 +36,8 @@ pub struct GameBoard {
     black: ClockLedger,
     begin: u64,
     played: u16,
+    /// The men that came from the partner's board. No call adds to them yet.
+    came: Listed<Man>,
 }
 
 impl Model for GameBoard {
@@ -41,27 +45,42 @@ impl Model for GameBoard {
 
     ghost Value = { Board };
 
-    ghost use Rattle.game_board.specs.Kept.{IsKept};
+    ghost use Rattle.game_board.specs.Holds.{HoldsBoard};
 
-    ghost view = { λ g. record { terms = g.terms; list = g.list; begin = g.begin; played = g.played } };
+    ghost view = { λ g. record {
+      number = g.number;
+      terms = g.terms;
+      list = g.list;
+      begin = g.begin;
+      played = g.played;
+      came = g.came;
+    } };
 
-    ghost invariant = { IsKept };
+    ghost invariant = { HoldsBoard };
 }
 
 impl GameBoard {
-    ghost use Rattle.game_board.specs.Board.{to_move, position_of, has_moved, half_moves};
-    ghost use Rattle.game_board.specs.BoardFace.{board_face, last_played, time_taken};
+    ghost use Rattle.game_board.specs.Board.{new_board, to_move, position_of, has_moved, half_moves};
+    ghost use Rattle.game_board.specs.BoardFace.{board_face, last_played, last_taken};
     ghost use Rattle.game_board.specs.Charges.{clock_of, is_timed};
     ghost use Rattle.game_board.specs.Play.{move_answer, next_charge, with_half_move, play_reply, play_after};
     ghost use Rattle.game_board.specs.Flag.{flag_answer, running, has_fallen, cannot_win};
 
-    /// A game at its start, whose first player begins to think at `moment`. Room for all its half-moves and charges
-    /// is taken here, and no later call takes memory.
-    pub fn start(alloc: Global, terms: Terms, moment: u64) -> Result<GameBoard, NoMemory>
-        requires { moment ≤ 2 ^ 48 }
-        ensures { IfOk result (λ b. b ≡ record { terms = terms; list = []; begin = moment; played = 0 }) }
+    /// The board of that number, 1 or 2, at the start of a game, whose first player begins to think at `moment`. Room for
+    /// all its half-moves and charges is taken here, and no later call takes memory.
+    pub fn start(
+        alloc: Global,
+        number: u8,
+        terms: Terms,
+        moment: u64,
+    ) -> Result<GameBoard, NoMemory>
+        requires first { 1 ≤ number }
+        requires last { number ≤ 2 }
+        requires moment { moment ≤ 2 ^ 48 }
+        ensures { IfOk result (λ b. b ≡ new_board number terms moment) }
     {
         Ok(GameBoard {
+            number,
             terms,
             position: PlainBoard::start(terms.variant),
             list: Roomy::new(alloc)?,
@@ -70,7 +89,17 @@ impl GameBoard {
             black: ClockLedger::start(alloc, terms.minutes, terms.increment)?,
             begin: moment,
             played: 0,
+            came: Listed::new(alloc),
         })
+    }
+
+    /// The number of the board among those of the game, 1 or 2.
+    pub fn number(&self) -> u8
+        ensures value { result ≡ self.now.number }
+        ensures first { 1 ≤ self.now.number }
+        ensures last { self.now.number ≤ 2 }
+    {
+        self.number
     }
 
     /// What the players agreed on.
@@ -83,7 +112,7 @@ impl GameBoard {
     /// The half-moves from the start, with their charges. Each was allowed after those before it.
     pub fn list(&self) -> &[Played]
         ensures list { result.now ≡ self.now.list }
-        ensures legal { IsLegal self.now.terms.variant (half_moves self.now.list) }
+        ensures legal { IsLegal self.now.terms.variant (half_moves self.now.number self.now.list) }
     {
         self.list.as_slice()
     }
@@ -136,8 +165,8 @@ impl GameBoard {
     }
 
     /// The time that the last half-move is charged with, in milliseconds; 0 where it has no charge.
-    pub fn time_taken(&self) -> u64
-        ensures { result ≡ time_taken self.now.list }
+    pub fn last_taken(&self) -> u64
+        ensures { result ≡ last_taken self.now.list }
     {
         match self.last_charge() {
             Some(charge) => charge.amount(),
@@ -211,9 +240,9 @@ impl GameBoard {
     /// The position after an allowed half-move, whatever its charge.
     fn next_position(&self, what: &Move) -> PlainBoard
         requires { Allowed (position_of self.now) what.now }
-        ensures stands { (charge : Option Charge) → Stands result (half_moves (self.now.list ++ record { what = what.now; charge = charge } ∷ [])) 1 }
+        ensures stands { (charge : Option Charge) → Stands result (half_moves self.now.number (self.now.list ++ record { what = what.now; charge = charge } ∷ [])) self.now.number }
         ensures variant { result.variant ≡ self.now.terms.variant }
-        ensures legal { (charge : Option Charge) → IsLegal self.now.terms.variant (half_moves (self.now.list ++ record { what = what.now; charge = charge } ∷ [])) }
+        ensures legal { (charge : Option Charge) → IsLegal self.now.terms.variant (half_moves self.now.number (self.now.list ++ record { what = what.now; charge = charge } ∷ [])) }
     {
         let made = *what;
         self.position.after(made)

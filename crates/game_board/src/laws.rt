@@ -1,13 +1,16 @@
 //! What the definitions mean for players, as calls that do nothing: what each ensures is the law.
-ghost use Rattle.std.specs.Prelude.{◌≡◌, ◌≢◌, ◌<◌, ◌++◌, ◌∷◌, [], ◌↔◌, Ok, Err};
+ghost use Rattle.std.specs.Prelude.{◌≡◌, ◌≢◌, ℕ, ◌<◌, ◌≤◌, ◌++◌, ◌∷◌, [], ◌↔◌, Ok, Err};
 ghost use Rattle.std.specs.Option.{option_to_list};
 ghost use Rattle.chess_model.specs.declared.man.Colour.{Colour};
 ghost use Rattle.chess_model.specs.declared.moves.Move.{Move};
+ghost use Rattle.chess_model.specs.declared.moves.MoveWord.{MoveWord};
+ghost use Rattle.chess_model.specs.declared.variant.Terms.{Terms};
 ghost use Rattle.chess_model.specs.Placement.{opposite};
 ghost use Rattle.chess_model.specs.Answer.{IsAnswer};
-ghost use Rattle.game_board.specs.Board.{to_move, turn_after, position_of};
+ghost use Rattle.game_board.specs.Board.{Board, new_board, to_move, turn_after, position_of};
 ghost use Rattle.game_board.specs.Charges.{charges_of};
-ghost use Rattle.game_board.specs.Play.{move_answer};
+ghost use Rattle.game_board.specs.Play.{move_answer, play_after};
+ghost use Rattle.game_board.specs.Scoresheet.{IsTrueScore};
 ghost use Rattle.game_board.specs.WordAnswer.{IsWordAnswer, word_answer};
 
 use crate::game_board::GameBoard;
@@ -36,4 +39,12 @@ pub fn play_takes_exactly_the_answers(board: &GameBoard, colour: Colour, word: &
         (m : Move) → (move_answer board.now colour word.now ≡ Ok m) ↔ IsAnswer (position_of board.now) word.now m }
     ensures other { to_move board.now ≢ colour → move_answer board.now colour word.now ≡ Err Refusal.NotYourTurn }
     ensures full { to_move board.now ≡ colour → board.now.played ≡ 1200 → move_answer board.now colour word.now ≡ Err Refusal.TooManyMoves }
+{}
+
+/// The list of a board is a true score of its game from the start on, whatever words are played, at moments that don't
+/// fall: its half-moves are legal, and its charges and clocks follow from the moments at which they were made.
+pub fn scores_are_true()
+    ensures start { (number : ℕ) (terms : Terms) (moment : ℕ) → IsTrueScore (new_board number terms moment) }
+    ensures play { (b : Board) (c : Colour) (word : MoveWord) (moment : ℕ) → IsTrueScore b → b.begin ≤ moment →
+        IsTrueScore (play_after b moment (move_answer b c word)) }
 {}

@@ -1,1 +1,9 @@
-pub mod Players
+pub mod BoardLists
+pub mod Keeps
+pub mod KeepsActs
+pub mod KeepsFetch
+pub mod KeepsFlag
+pub mod KeepsLeave
+pub mod KeepsMove
+pub mod KeepsResign
+pub mod KeepsStart

@@ -1,11 +1,10 @@
 -- What contracts see of a desk: it is vacant, or a game is played at it.
-use Rattle.std.specs.Prelude.{ℕ, ◌-◌, ◌*◌, ◌==◌, Bool, max, if◌then◌else◌, List, [], drop, length, is_some, Option, Some, None}
+use Rattle.std.specs.Prelude.{ℕ, ◌+◌, ◌-◌, ◌*◌, ◌==◌, Bool, max, List, [], drop, length, is_some, Option, Some, None}
 use Rattle.std.specs.List.{find}
 use Rattle.std.specs.Option.{option_map, option_and_then, option_map_or}
-use Rattle.chess_model.specs.declared.man.Colour.{Colour}
-use Rattle.chess_model.specs.declared.man.Colour.TheVariants.{White, Black}
 use Rattle.chess_model.specs.declared.variant.Terms.{Terms}
-use Rattle.fics_words.specs.declared.player.Player.{Player}
+use Rattle.fics_words.specs.declared.seats.Seats.{Seats}
+use Rattle.fics_words.specs.Seats.{seat_list, seat_number}
 use Rattle.style12_writer.specs.declared.item.Item.{Item}
 use Rattle.game_board.specs.Board.{Board}
 use Rattle.linked_desk.specs.declared.cursor.Cursor.{Cursor}
@@ -14,9 +13,10 @@ use Rattle.linked_desk.specs.declared.ended.Ended.{Ended}
 -- a game at a desk
 pub record GameState : Type 0 where
   pub serial : ℕ
-  pub white : Player
-  pub black : Player
-  pub board : Board
+  pub terms : Terms
+  pub seats : Seats
+  -- one board, or two in bughouse
+  pub boards : List Board
   -- what the viewers are told, the oldest first
   pub feed : List Item
   pub viewers : List Cursor
@@ -29,16 +29,13 @@ pub record DeskState : Type 0 where
   pub number : ℕ
   pub game : Option GameState
 
--- the number of the game at a desk
-abbrev pub game_number : ℕ → ℕ
-game_number desk = 2 * desk - 1
+-- the number under which a board at a desk is shown
+abbrev pub game_number : ℕ → ℕ → ℕ
+game_number desk board = 2 * (desk - 1) + board
 
--- the colour that a session plays
-abbrev pub colour_of : GameState → ℕ → Option Colour
-colour_of g session =
-    if g.white.session == session then Some White
-    else if g.black.session == session then Some Black
-    else None
+-- the seat of a session, if it plays
+abbrev pub seat_of : GameState → ℕ → Option ℕ
+seat_of g session = seat_number session (seat_list g.seats)
 
 -- the cursor of a session
 abbrev pub cursor_of : GameState → ℕ → Option Cursor
@@ -73,6 +70,10 @@ end_of d = option_and_then (λ (g : GameState). g.ended) d.game
 abbrev pub viewer_count : DeskState → ℕ
 viewer_count d = option_map_or (λ (g : GameState). length g.viewers) d.game 0
 
+-- the boards at a desk
+abbrev pub boards_at : DeskState → List Board
+boards_at d = option_map_or (λ (g : GameState). g.boards) d.game []
+
 -- the items at a desk that a session hasn't been given yet
 abbrev pub items_for : DeskState → ℕ → List Item
 items_for d session = option_map_or (λ (g : GameState). ahead_of g session) d.game []
@@ -81,12 +82,11 @@ items_for d session = option_map_or (λ (g : GameState). ahead_of g session) d.g
 pub record Occupant : Type 0 where
   pub serial : ℕ
   pub terms : Terms
-  pub white : Player
-  pub black : Player
+  pub seats : Seats
 
 -- who plays a game
 abbrev pub occupant : GameState → Occupant
-occupant g = record { serial = g.serial; terms = g.board.terms; white = g.white; black = g.black }
+occupant g = record { serial = g.serial; terms = g.terms; seats = g.seats }
 
 -- who plays at a desk, if it isn't vacant
 abbrev pub occupant_of : DeskState → Option Occupant

@@ -1,36 +1,73 @@
 -- How a game begins at a desk.
-use Rattle.std.specs.Prelude.{ℕ, [], ◌∷◌, Some, None}
+use Rattle.std.specs.Prelude.{◌≡◌, ◌≢◌, ◌↔◌, ℕ, IsSome, [], ◌∷◌, ◌++◌, map, List, Some, None}
+use Rattle.fics_words.specs.Handle.{key_of}
 use Rattle.chess_model.specs.declared.variant.Terms.{Terms}
+use Rattle.chess_model.specs.declared.variant.Variant.TheVariants.{Bughouse}
 use Rattle.fics_words.specs.declared.player.Player.{Player}
+use Rattle.fics_words.specs.declared.seats.Opponents.{Opponents}
+use Rattle.fics_words.specs.declared.seats.Seats.{Seats}
+use Rattle.fics_words.specs.Seats.{seat_list}
+use Rattle.style12_writer.specs.declared.item.Item.{Item}
 use Rattle.style12_writer.specs.declared.item.Item.TheVariants as item
 use Rattle.style12_writer.specs.CreatedLine.{created_text}
+use Rattle.game_board.specs.Board.{Board}
 use Rattle.linked_desk.specs.declared.cursor.Cursor.{Cursor}
+use Rattle.linked_desk.specs.Boards.{new_boards}
 use Rattle.linked_desk.specs.Desk.{GameState, DeskState, game_number}
-use Rattle.linked_desk.specs.Views.{with_item, with_board_item}
+use Rattle.linked_desk.specs.Seats.{pairs_of}
+use Rattle.linked_desk.specs.Views.{view_of, each_board}
+
+-- each item differs from this one
+abbrev pub NoneIs : {T : Type 0} → T → List T → Type 0
+NoneIs x [] = Unit {0}
+NoneIs x (y ∷ ys) = (x ≢ y) × NoneIs x ys
+
+-- no two items are the same
+abbrev pub AllDiffer : {T : Type 0} → List T → Type 0
+AllDiffer [] = Unit {0}
+AllDiffer (x ∷ xs) = NoneIs x xs × AllDiffer xs
+
+-- the sessions of the players, and their names without regard to capitals
+abbrev pub sessions_of : Seats → List ℕ
+sessions_of seats = map (λ (p : Player). p.session) (seat_list seats)
+
+abbrev pub names_of : Seats → List (List ℕ)
+names_of seats = map (λ (p : Player). key_of p.name) (seat_list seats)
+
+-- there is a second pair exactly where the game is bughouse
+abbrev pub HasPairsFor : Terms → Seats → Type 0
+HasPairsFor terms seats = IsSome seats.second ↔ (terms.variant ≡ Bughouse)
 
 -- a viewer from the start of the feed
 abbrev pub from_start : Player → Cursor
-from_start seat = record { session = seat.session; seen = 0 }
+from_start player = record { session = player.session; seen = 0 }
 
--- a game that begins at this moment, before anybody is told: the players are its viewers
-abbrev pub new_game : ℕ → Terms → Player → Player → ℕ → GameState
-new_game serial terms white black moment = record {
+-- the line that tells that a game begins at a board
+abbrev pub created_item : ℕ → Terms → Opponents → Board → Item
+created_item desk terms players board =
+    item.Talk (created_text (game_number desk board.number) players.white.name players.black.name terms)
+
+-- the first line of a board
+abbrev pub board_item : ℕ → Opponents → Board → Item
+board_item desk players board = item.Board (view_of desk players board)
+
+-- what is told of the beginning: a line for each board, and then each board
+abbrev pub opening_items : ℕ → Terms → List Opponents → List Board → List Item
+opening_items desk terms pairs boards = each_board (created_item desk terms) pairs boards ++ each_board (board_item desk) pairs boards
+
+-- a game that begins at this moment: the players are its viewers from the start
+abbrev pub opened : ℕ → ℕ → Terms → Seats → ℕ → GameState
+opened desk serial terms seats moment = record {
   serial = serial;
-  white = white;
-  black = black;
-  board = record { terms = terms; list = []; begin = moment; played = 0 };
-  feed = [];
-  viewers = from_start white ∷ from_start black ∷ [];
+  terms = terms;
+  seats = seats;
+  boards = new_boards terms moment;
+  feed = opening_items desk terms (pairs_of seats) (new_boards terms moment);
+  viewers = map from_start (seat_list seats);
   last = moment;
   ended = None;
 }
 
--- the game once it has been announced: a line and the board
-abbrev pub opened : ℕ → ℕ → Terms → Player → Player → ℕ → GameState
-opened desk serial terms white black moment =
-    with_board_item desk
-    (with_item (new_game serial terms white black moment) (item.Talk (created_text (game_number desk) white.name black.name terms)))
-
 -- the desk with that game
-abbrev pub seated : DeskState → ℕ → Terms → Player → Player → ℕ → DeskState
-seated d serial terms white black moment = record d { game = Some (opened d.number serial terms white black moment) }
+abbrev pub started : DeskState → ℕ → Terms → Seats → ℕ → DeskState
+started d serial terms seats moment = record d { game = Some (opened d.number serial terms seats moment) }

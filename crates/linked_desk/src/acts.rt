@@ -1,15 +1,15 @@
 //! The acts at a desk, and which game answers them.
-ghost use Rattle.std.specs.Prelude.{◌≡◌, ◌≢◌, ◌≤◌, ◌^◌, Err, OnErr};
-ghost use Rattle.linked_desk.specs.Causes.{Gives, OnAnswer};
-ghost use Rattle.linked_desk.specs.Acts.{missing_answer};
+ghost use Rattle.std.specs.Prelude.{◌≤◌, ◌^◌};
+ghost use Rattle.fics_words.specs.Effect.{Takes};
+ghost use Rattle.linked_desk.specs.Acts.{game_effect};
 
 use crate::game::Game;
 use chess_model::MoveWord;
-use fics_words::{Duplicate, Fail, NoMemory, Refusal};
+use fics_words::{Duplicate, Fail, NoMemory};
 use style12_writer::ItemList;
 
 /// What a session does at a desk.
-#[derive(Clone, Copy, Debug)]
+#[derive(Debug, Drop)]
 pub enum DeskAct {
     /// Plays a word at the session's board. Refused with `NotPlaying`, `GameOver`, `NotYourTurn`, `TooManyMoves`, then
     /// as the rules answer the word.
@@ -45,8 +45,6 @@ impl Duplicate for DeskReply {
 }
 
 impl Game {
-    ghost use Rattle.linked_desk.specs.Acts.{game_answer, game_after, TakesMemory};
-
     /// Makes an act of a session.
     pub(crate) fn act(
         &mut self,
@@ -58,34 +56,14 @@ impl Game {
         requires low { 1 ≤ desk }
         requires high { desk ≤ 128 }
         requires moment { moment ≤ 2 ^ 48 }
-        ensures reply { Gives (game_answer self.old session moment act.now) result }
-        ensures after { OnAnswer result (self.new ≡ game_after desk self.old session moment act.now) }
-        ensures err { OnErr result (self.new ≡ self.old) }
-        ensures memory { result ≡ Err Fail.Memory → TakesMemory act.now }
+        ensures { Takes (game_effect desk self.old session moment act.now) self.old self.new result }
     {
         match act {
             DeskAct::Move { word } => self.play(desk, session, moment, word),
-            DeskAct::Resign => Ok(self.resign(desk, session, moment)?),
-            DeskAct::Flag => Ok(self.call_flag(desk, session, moment)?),
+            DeskAct::Resign => self.resign(desk, session, moment),
+            DeskAct::Flag => self.call_flag(desk, session, moment),
             DeskAct::Fetch => self.fetch(session, moment),
-            DeskAct::Leave => {
-                self.leave(desk, session, moment);
-                Ok(DeskReply::Done)
-            }
+            DeskAct::Leave => Ok(self.leave(desk, session, moment)),
         }
-    }
-}
-
-/// The answer to an act that names a game which isn't at the desk.
-pub(crate) fn elsewhere(act: &DeskAct) -> Result<DeskReply, Fail>
-    ensures reply { Gives (missing_answer act.now) result }
-    ensures memory { result ≢ Err Fail.Memory }
-{
-    match act {
-        DeskAct::Move { word: _ } => Err(Fail::Refused(Refusal::NotPlaying)),
-        DeskAct::Resign => Err(Fail::Refused(Refusal::NotPlaying)),
-        DeskAct::Flag => Err(Fail::Refused(Refusal::NotPlaying)),
-        DeskAct::Fetch => Err(Fail::Refused(Refusal::NotWatching)),
-        DeskAct::Leave => Ok(DeskReply::Done),
     }
 }

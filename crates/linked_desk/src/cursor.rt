@@ -42,7 +42,7 @@ pub(crate) struct CatchUp {
 }
 
 impl Change<Cursor> for CatchUp {
-    ghost use Rattle.linked_desk.specs.Visits.{caught_up};
+    ghost use Rattle.linked_desk.specs.Cursors.{caught_up};
 
     ghost changed = { λ change cursor. caught_up change.session change.seen cursor };
 

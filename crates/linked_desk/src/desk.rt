@@ -1,20 +1,21 @@
 //! The desk.
-ghost use Rattle.std.specs.Prelude.{◌≡◌, ◌≢◌, ◌≤◌, ◌^◌, None, Err, IsSome, OnOk, OnErr};
-ghost use Rattle.std.specs.Option.{option_map, option_copied};
+ghost use Rattle.std.specs.Prelude.{◌≡◌, ◌≢◌, ◌≤◌, ◌^◌, ℕ, None, IfOk, IsSome, OnOk, OnErr};
+ghost use Rattle.std.specs.Option.{option_copied};
 ghost use Rattle.chess_model.specs.declared.variant.Variant.TheVariants.{Bughouse};
-ghost use Rattle.fics_words.specs.Handle.{key_of};
-ghost use Rattle.linked_desk.specs.Causes.{Gives, OnAnswer};
+ghost use Rattle.fics_words.specs.Effect.{Takes};
+ghost use Rattle.linked_desk.specs.Boards.{numbered};
 
-use crate::acts::{DeskAct, DeskReply, elsewhere};
+use crate::acts::{DeskAct, DeskReply};
 use crate::ended::Ended;
 use crate::game::Game;
 use crate::seating::opened;
+use crate::views::copied;
 use chess_model::Terms;
-use fics_words::{Fail, NoMemory, Player};
+use fics_words::{Fail, NoMemory, Refusal, Seats};
 use game_board::GameBoard;
 use std::alloc::Global;
 use std::marker::Model;
-use style12_writer::Item;
+use style12_writer::{Item, ItemList};
 
 /// A desk of the hall, with the game that is played at it, if there is one.
 #[derive(Drop)]
@@ -38,9 +39,9 @@ impl Model for Desk {
 }
 
 impl Desk {
-    ghost use Rattle.linked_desk.specs.Desk.{GameState, serial_of, end_of, viewer_count, items_for};
-    ghost use Rattle.linked_desk.specs.Seating.{seated};
-    ghost use Rattle.linked_desk.specs.Acts.{desk_answer, desk_after, TakesMemory};
+    ghost use Rattle.linked_desk.specs.Desk.{boards_at, serial_of, end_of, viewer_count, items_for};
+    ghost use Rattle.linked_desk.specs.Seating.{AllDiffer, HasPairsFor, names_of, sessions_of, started};
+    ghost use Rattle.linked_desk.specs.Acts.{desk_effect, items_told, missing_effect};
 
     /// A desk without a game. Its number is 1 to 128.
     pub fn vacant(number: u8) -> Desk
@@ -51,26 +52,27 @@ impl Desk {
         Desk { number, game: None }
     }
 
-    /// Begins a game of two players at the vacant desk, with its clocks at `moment`, in milliseconds. They are its
-    /// viewers from the start of the feed. Want of memory leaves the desk vacant.
-    pub fn seat(
+    /// Begins a game at the vacant desk, with its clocks at `moment`, in milliseconds. The players are its viewers from the
+    /// start of the feed. There is a second pair exactly for bughouse, and bughouse itself isn't played yet: the men that
+    /// one board captures don't come to the other. Want of memory leaves the desk vacant.
+    pub fn start(
         &mut self,
         alloc: Global,
         serial: u64,
         terms: Terms,
-        white: Player,
-        black: Player,
+        seats: &Seats,
         moment: u64,
     ) -> Result<(), NoMemory>
         requires vacant { self.old.game ≡ None }
-        requires sessions { white.session ≢ black.session }
-        requires names { key_of white.name ≢ key_of black.name }
+        requires sessions { AllDiffer (sessions_of seats.now) }
+        requires names { AllDiffer (names_of seats.now) }
+        requires pairs { HasPairsFor terms seats.now }
         requires one_board { terms.variant ≢ Bughouse }
         requires moment { moment ≤ 2 ^ 48 }
-        ensures ok { OnOk result (self.new ≡ seated self.old serial terms white black moment) }
+        ensures ok { OnOk result (self.new ≡ started self.old serial terms seats.now moment) }
         ensures err { OnErr result (self.new ≡ self.old) }
     {
-        let game = opened(alloc, self.number, serial, terms, white, black, moment)?;
+        let game = opened(alloc, self.number, serial, terms, seats, moment)?;
         self.game = Some(game);
         Ok(())
     }
@@ -85,21 +87,26 @@ impl Desk {
         act: &DeskAct,
     ) -> Result<DeskReply, Fail>
         requires { moment ≤ 2 ^ 48 }
-        ensures reply { Gives (desk_answer self.old session moment serial act.now) result }
-        ensures after { OnAnswer result (self.new ≡ desk_after self.old session moment serial act.now) }
-        ensures err { OnErr result (self.new ≡ self.old) }
-        ensures memory { result ≡ Err Fail.Memory → TakesMemory act.now }
+        ensures { Takes (desk_effect self.old session moment serial act.now) self.old self.new result }
     {
         let desk = self.number;
-        match &mut self.game {
-            Some(game) => {
-                if game.serial() == serial {
-                    game.act(desk, session, moment, act)
-                } else {
-                    elsewhere(act)
-                }
-            }
-            None => elsewhere(act),
+        let Some(game) = &mut self.game else {
+            return self.elsewhere(act);
+        };
+        if game.serial() != serial {
+            return self.elsewhere(act);
+        }
+        game.act(desk, session, moment, act)
+    }
+
+    /// The answer to an act that names a game which isn't at the desk.
+    fn elsewhere(&self, act: &DeskAct) -> Result<DeskReply, Fail>
+        ensures { Takes (missing_effect self.now act.now) self.now self.now result }
+    {
+        match act {
+            DeskAct::Fetch => Err(Fail::Refused(Refusal::NotWatching)),
+            DeskAct::Leave => Ok(DeskReply::Done),
+            _ => Err(Fail::Refused(Refusal::NotPlaying)),
         }
     }
 
@@ -143,18 +150,38 @@ impl Desk {
         }
     }
 
-    /// The board of that number, 1 for the only board of a game.
-    pub fn board(&self, n: u8) -> Option<&GameBoard>
-        ensures one { n ≡ 1 → option_copied result ≡ option_map (λ (g : GameState). g.board) self.now.game }
-        ensures no_other { n ≢ 1 → result ≡ None }
+    /// The board of that number, 1 or 2; None where the game has no such board, and where the desk is vacant.
+    pub fn board(&self, number: u8) -> Option<&GameBoard>
+        ensures { option_copied result ≡ numbered number (boards_at self.now) }
     {
-        if n != 1 {
-            return None;
-        }
         match &self.game {
-            Some(game) => Some(game.board()),
+            Some(game) => game.boards().numbered(number),
             None => None,
         }
+    }
+
+    /// Copies of the items that an act would answer now, at whatever moment; none where it gives none.
+    #[tactic(auto, using(crate::proofs::KeepsActs::no_items_for))]
+    pub fn items_ahead(
+        &self,
+        alloc: Global,
+        session: u32,
+        serial: u64,
+        act: &DeskAct,
+    ) -> Result<ItemList, NoMemory>
+        ensures { IfOk result (λ items. (moment : ℕ) → items ≡ items_told (desk_effect self.now session moment serial act.now).reply) }
+    {
+        match act {
+            DeskAct::Fetch => {}
+            _ => return Ok(ItemList::new(alloc)),
+        }
+        let Some(game) = &self.game else {
+            return Ok(ItemList::new(alloc));
+        };
+        if serial != game.serial() {
+            return Ok(ItemList::new(alloc));
+        }
+        copied(alloc, game.ahead(session))
     }
 
     /// Makes the desk vacant once its game has ended and nobody views it any more.

@@ -1,12 +1,12 @@
 //! The game at a desk.
 ghost use Rattle.std.specs.Prelude.{◌≡◌, drop};
 
+use crate::boards::Boards;
 use crate::cursor::{Cursor, OfSession};
 use crate::ended::Ended;
-use chess_model::Colour;
+use chess_model::Terms;
 use collections::{Listed, Reserved, find};
-use fics_words::Player;
-use game_board::GameBoard;
+use fics_words::Seats;
 use std::alloc::Global;
 use std::marker::Model;
 use style12_writer::Item;
@@ -14,14 +14,14 @@ use style12_writer::Item;
 /// How many items the end of a game may add to the feed. The feed has this room while the game runs.
 pub(crate) const ROOM_TO_END: usize = 4;
 
-/// A game at a desk: the players, the board, the feed and its viewers.
+/// A game at a desk: the players, the boards, the feed and its viewers.
 #[derive(Drop)]
 pub(crate) struct Game {
     pub(crate) alloc: Global,
     pub(crate) serial: u64,
-    pub(crate) white: Player,
-    pub(crate) black: Player,
-    pub(crate) board: GameBoard,
+    pub(crate) terms: Terms,
+    pub(crate) seats: Seats,
+    pub(crate) boards: Boards,
     pub(crate) feed: Reserved<Item>,
     pub(crate) viewers: Listed<Cursor>,
     pub(crate) last: u64,
@@ -33,24 +33,24 @@ impl Model for Game {
 
     ghost Value = { GameState };
 
-    ghost use Rattle.linked_desk.specs.Kept.{IsKept};
+    ghost use Rattle.linked_desk.specs.Holds.{HoldsGame};
 
     ghost view = { λ g. record {
       serial = g.serial;
-      white = g.white;
-      black = g.black;
-      board = g.board;
+      terms = g.terms;
+      seats = g.seats;
+      boards = g.boards;
       feed = g.feed.items;
       viewers = g.viewers;
       last = g.last;
       ended = g.ended;
     } };
 
-    ghost invariant = { IsKept };
+    ghost invariant = { HoldsGame };
 }
 
 impl Game {
-    ghost use Rattle.linked_desk.specs.Desk.{colour_of, is_watching, ahead_of};
+    ghost use Rattle.linked_desk.specs.Desk.{seat_of, is_watching, ahead_of};
 
     /// The number under which the game was started.
     pub(crate) fn serial(&self) -> u64
@@ -59,11 +59,11 @@ impl Game {
         self.serial
     }
 
-    /// The board.
-    pub(crate) fn board(&self) -> &GameBoard
-        ensures { result.now ≡ self.now.board }
+    /// The boards.
+    pub(crate) fn boards(&self) -> &Boards
+        ensures { result.now ≡ self.now.boards }
     {
-        &self.board
+        &self.boards
     }
 
     /// How the game ended, or None while it runs.
@@ -80,17 +80,11 @@ impl Game {
         self.viewers.as_slice()
     }
 
-    /// The colour that a session plays.
-    pub(crate) fn colour_of(&self, session: u32) -> Option<Colour>
-        ensures { result ≡ colour_of self.now session }
+    /// The seat of a session, if it plays.
+    pub(crate) fn seat_of(&self, session: u32) -> Option<u8>
+        ensures { result ≡ seat_of self.now session }
     {
-        if self.white.session == session {
-            return Some(Colour::White);
-        }
-        if self.black.session == session {
-            return Some(Colour::Black);
-        }
-        None
+        self.seats.number(session)
     }
 
     /// Whether a session is a viewer of the game.

@@ -1,17 +1,34 @@
-//! What the table of acts keeps, as a call that does nothing: what it ensures is the law.
-ghost use Rattle.std.specs.Prelude.{◌≡◌, ℕ, Some};
+//! What the table of acts keeps, as calls that do nothing: what they ensure are the laws.
+ghost use Rattle.std.specs.Prelude.{◌≡◌, ℕ, ◌≤◌, Some};
 ghost use Rattle.chess_model.specs.declared.variant.Terms.{Terms};
-ghost use Rattle.fics_words.specs.declared.player.Player.{Player};
+ghost use Rattle.fics_words.specs.declared.seats.Seats.{Seats};
 ghost use Rattle.linked_desk.specs.declared.acts.DeskAct.{DeskAct};
-ghost use Rattle.linked_desk.specs.Desk.{DeskState, occupant_of};
-ghost use Rattle.linked_desk.specs.Seating.{seated};
-ghost use Rattle.linked_desk.specs.Acts.{desk_after};
+ghost use Rattle.linked_desk.specs.Desk.{DeskState, game_number, occupant_of};
+ghost use Rattle.linked_desk.specs.Seating.{HasPairsFor, started};
+ghost use Rattle.linked_desk.specs.Sight.{board_in};
+ghost use Rattle.linked_desk.specs.Sound.{AnswersSoundly, HasSoundGame};
+ghost use Rattle.linked_desk.specs.Acts.{desk_answer, desk_after};
 
-/// Who plays at a desk is settled when the game is seated: no act changes the desk's number, nor the serial, the terms
+/// Who plays at a desk is settled when the game starts: no act changes the desk's number, nor the serial, the terms
 /// and the players of its game, and none makes it vacant or puts a game there.
 pub fn acts_keep_the_players()
     ensures number { (d : DeskState) (session moment serial : ℕ) (a : DeskAct) → (desk_after d session moment serial a).number ≡ d.number }
     ensures players { (d : DeskState) (session moment serial : ℕ) (a : DeskAct) → occupant_of (desk_after d session moment serial a) ≡ occupant_of d }
-    ensures seated { (d : DeskState) (serial : ℕ) (terms : Terms) (white black : Player) (moment : ℕ) →
-        occupant_of (seated d serial terms white black moment) ≡ Some (record { serial = serial; terms = terms; white = white; black = black }) }
+    ensures started { (d : DeskState) (serial : ℕ) (terms : Terms) (seats : Seats) (moment : ℕ) →
+        occupant_of (started d serial terms seats moment) ≡ Some (record { serial = serial; terms = terms; seats = seats }) }
+{}
+
+/// The game at a desk is sound from its start on, whatever acts are made: it has the boards and seats that its variant
+/// wants, the list of each board is a true score, and each end that viewers are told names a winner exactly where somebody
+/// won.
+pub fn acts_keep_the_game()
+    ensures started { (d : DeskState) (serial : ℕ) (terms : Terms) (seats : Seats) (moment : ℕ) → HasPairsFor terms seats →
+        HasSoundGame (started d serial terms seats moment) }
+    ensures game { (d : DeskState) (session moment serial : ℕ) (a : DeskAct) → HasSoundGame d → HasSoundGame (desk_after d session moment serial a) }
+    ensures answers { (d : DeskState) (session moment serial : ℕ) (a : DeskAct) → HasSoundGame d → AnswersSoundly (desk_answer d session moment serial a) }
+{}
+
+/// Each board of a desk is shown under a number of its own, by which viewers know which board it is.
+pub fn boards_are_known_by_their_games()
+    ensures { (desk board : ℕ) → 1 ≤ board → board ≤ 2 → board_in (game_number desk board) ≡ board }
 {}

@@ -1,46 +1,44 @@
 //! How a game begins.
-ghost use Rattle.std.specs.Prelude.{◌≡◌, ◌≤◌, ◌^◌, ◌∷◌, [], IfOk};
-ghost use Rattle.linked_desk.specs.Seating.{opened};
+ghost use Rattle.std.specs.Prelude.{◌≡◌, ◌≤◌, ◌^◌, map, IfOk};
+ghost use Rattle.fics_words.specs.Seats.{seat_list};
+ghost use Rattle.linked_desk.specs.Seating.{created_item, from_start, opened, opening_items};
+ghost use Rattle.linked_desk.specs.Seats.{pairs_of};
 
+use crate::boards::Boards;
 use crate::cursor::Cursor;
 use crate::game::{Game, ROOM_TO_END};
 use crate::views::{game_number, view_of};
 use chess_model::Terms;
 use collections::{Listed, Reserved};
-use fics_words::{NoMemory, Player};
+use fics_words::{NoMemory, Opponents, Player, Seats};
 use game_board::GameBoard;
 use std::alloc::Global;
 use style12_writer::{Item, created_line};
 
-/// A game that begins at a desk: it is announced by a line and its board, and both players are viewers from the start.
+/// A game that begins at a desk: each board is announced by a line and then shown, and the players are viewers from the
+/// start.
 pub(crate) fn opened(
     alloc: Global,
     desk: u8,
     serial: u64,
     terms: Terms,
-    white: Player,
-    black: Player,
+    seats: &Seats,
     moment: u64,
 ) -> Result<Game, NoMemory>
     requires low { 1 ≤ desk }
     requires high { desk ≤ 128 }
     requires moment { moment ≤ 2 ^ 48 }
-    ensures { IfOk result (λ game. game ≡ opened desk serial terms white black moment) }
+    ensures { IfOk result (λ game. game ≡ opened desk serial terms seats.now moment) }
 {
-    let viewers = both_from_start(alloc, white.session, black.session)?;
-    let board = GameBoard::start(alloc, terms, moment)?;
-    let view = view_of(desk, &white, &black, &board);
-    let line = created_line(alloc, game_number(desk), &white.name, &black.name, &terms)?;
-    let mut feed = Reserved::new(alloc);
-    feed.reserve(2 + ROOM_TO_END)?;
-    feed.push(Item::Talk(line));
-    feed.push(Item::Board(view));
+    let viewers = players_from_start(alloc, seats)?;
+    let boards = Boards::start(alloc, terms, moment)?;
+    let feed = opening_feed(alloc, desk, &terms, seats, &boards)?;
     Ok(Game {
         alloc,
         serial,
-        white,
-        black,
-        board,
+        terms,
+        seats: *seats,
+        boards,
         feed,
         viewers,
         last: moment,
@@ -48,18 +46,72 @@ pub(crate) fn opened(
     })
 }
 
-/// Two viewers who have been given nothing yet.
-fn both_from_start(alloc: Global, white: u32, black: u32) -> Result<Listed<Cursor>, NoMemory>
-    ensures { IfOk result (λ viewers. viewers ≡ record { session = white; seen = 0 } ∷ record { session = black; seen = 0 } ∷ []) }
+/// What is told of the beginning: a line for each board, and then each board. There is room for the end.
+fn opening_feed(
+    alloc: Global,
+    desk: u8,
+    terms: &Terms,
+    seats: &Seats,
+    boards: &Boards,
+) -> Result<Reserved<Item>, NoMemory>
+    requires low { 1 ≤ desk }
+    requires high { desk ≤ 128 }
+    ensures items { IfOk result (λ feed. feed.items ≡ opening_items desk terms.now (pairs_of seats.now) boards.now) }
+    ensures room { IfOk result (λ feed. 4 ≤ feed.room) }
+{
+    let (first, second) = boards.both();
+    let mut feed = Reserved::new(alloc);
+    feed.reserve(4 + ROOM_TO_END)?;
+    feed.push(created_item(alloc, desk, terms, &seats.first, first)?);
+    if let Some(players) = &seats.second {
+        if let Some(board) = second {
+            feed.push(created_item(alloc, desk, terms, players, board)?);
+            feed.push(Item::Board(view_of(desk, &seats.first, first)));
+            feed.push(Item::Board(view_of(desk, players, board)));
+            return Ok(feed);
+        }
+    }
+    feed.push(Item::Board(view_of(desk, &seats.first, first)));
+    Ok(feed)
+}
+
+/// The line that tells that a game begins at a board.
+fn created_item(
+    alloc: Global,
+    desk: u8,
+    terms: &Terms,
+    players: &Opponents,
+    board: &GameBoard,
+) -> Result<Item, NoMemory>
+    requires low { 1 ≤ desk }
+    requires high { desk ≤ 128 }
+    ensures { IfOk result (λ item. item ≡ created_item desk terms.now players.now board.now) }
+{
+    let game = game_number(desk, board.number());
+    let line = created_line(alloc, game, &players.white.name, &players.black.name, terms)?;
+    Ok(Item::Talk(line))
+}
+
+/// The players as viewers who have been given nothing yet.
+fn players_from_start(alloc: Global, seats: &Seats) -> Result<Listed<Cursor>, NoMemory>
+    ensures { IfOk result (λ viewers. viewers ≡ map from_start (seat_list seats.now)) }
 {
     let mut viewers = Listed::new(alloc);
-    viewers.push(Cursor {
-        session: white,
-        seen: 0,
-    })?;
-    viewers.push(Cursor {
-        session: black,
-        seen: 0,
-    })?;
+    viewers.push(from_start(&seats.first.white))?;
+    viewers.push(from_start(&seats.first.black))?;
+    if let Some(players) = &seats.second {
+        viewers.push(from_start(&players.white))?;
+        viewers.push(from_start(&players.black))?;
+    }
     Ok(viewers)
+}
+
+/// A viewer from the start of the feed.
+fn from_start(player: &Player) -> Cursor
+    ensures { result ≡ from_start player.now }
+{
+    Cursor {
+        session: player.session,
+        seen: 0,
+    }
 }

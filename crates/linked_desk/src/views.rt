@@ -1,42 +1,60 @@
 //! What is shown of a game.
-ghost use Rattle.std.specs.Prelude.{◌≡◌, ◌≤◌, IfOk};
+ghost use Rattle.std.specs.Prelude.{◌≡◌, ◌≤◌, IfOk, slice_get};
 ghost use Rattle.linked_desk.specs.Desk.{game_number};
-ghost use Rattle.linked_desk.specs.Views.{view_of};
+ghost use Rattle.linked_desk.specs.Views.{view_of, views_of};
 
+use crate::game::Game;
 use chess_model::Colour;
-use fics_words::{Duplicate, NoMemory, Player};
+use fics_words::{Duplicate, NoMemory, Opponents};
 use game_board::GameBoard;
 use std::alloc::Global;
 use style12_writer::{BoardView, Item, ItemList};
 
-/// The number of the game at a desk.
-pub(crate) fn game_number(desk: u8) -> u16
+/// The number under which a board at a desk is shown.
+pub(crate) fn game_number(desk: u8, board: u8) -> u16
     requires low { 1 ≤ desk }
     requires high { desk ≤ 128 }
-    ensures { result ≡ game_number desk }
+    ensures { result ≡ game_number desk board }
 {
-    u16::from(desk) * 2 - 1
+    2 * (u16::from(desk) - 1) + u16::from(board)
 }
 
 /// All that the board line of a game shows.
 #[tactic(auto, unfolding(crate::specs::Views::view_of))]
-pub(crate) fn view_of(desk: u8, white: &Player, black: &Player, board: &GameBoard) -> BoardView
+pub(crate) fn view_of(desk: u8, players: &Opponents, board: &GameBoard) -> BoardView
     requires low { 1 ≤ desk }
     requires high { desk ≤ 128 }
-    ensures { result ≡ view_of desk white.now black.now board.now }
+    ensures { result ≡ view_of desk players.now board.now }
 {
     let terms = board.terms();
     let white_left = board.ledger(Colour::White).remaining();
     let black_left = board.ledger(Colour::Black).remaining();
     BoardView {
         face: board.face(),
-        game: game_number(desk),
-        white: white.name,
-        black: black.name,
+        game: game_number(desk, board.number()),
+        white: players.white.name,
+        black: players.black.name,
         minutes: terms.minutes,
         increment: terms.increment,
         remaining: [white_left, black_left],
-        taken: board.time_taken(),
+        taken: board.last_taken(),
+    }
+}
+
+impl Game {
+    /// What is shown of the board in that place, if there is one.
+    pub(crate) fn view(&self, desk: u8, place: u8) -> Option<BoardView>
+        requires low { 1 ≤ desk }
+        requires high { desk ≤ 128 }
+        ensures { result ≡ slice_get (views_of desk self.now) place }
+    {
+        let players = match place {
+            0 => &self.seats.first,
+            1 => self.seats.second.as_ref()?,
+            _ => return None,
+        };
+        let board = self.boards.at(place)?;
+        Some(view_of(desk, players, board))
     }
 }
 

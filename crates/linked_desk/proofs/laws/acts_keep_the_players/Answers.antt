@@ -1,5 +1,6 @@
-use Rattle.linked_desk.proofs.Players.{occupant-after_at}
+use Rattle.std.proofs.Common.{refl}
+use Rattle.linked_desk.proofs.KeepsActs.{number-desk_after, players-desk_after}
 use Rattle.linked_desk.proofs.laws.acts_keep_the_players.Goals as goal
 
-pub returns-clause-players : goal.returns-clause-players
-returns-clause-players c = λ d session moment serial a. occupant-after_at d.number d.game session moment serial a
+pub returns : goal.returns
+returns c = record { number = number-desk_after; players = players-desk_after; started = λ d serial terms seats moment. refl }

@@ -11,8 +11,8 @@ unfolding board_face
 returns c =
     let b = c.args.self.now in
     let many : c.len.result ≡ length b.list = c.len.ensures.value ∙ ap (λ (v : Board). length v.list) c.self.view_is in
-    let last : option_copied c.as_ref.result ≡ last_shown b.terms.variant b.list =
-    c.as_ref.ensures.value ∙ c.self.invariant.last ∙ ap (λ (v : Board). last_shown v.terms.variant v.list) c.self.view_is in
+    let last : option_copied c.as_ref.result ≡ last_shown b.terms.variant b.number b.list =
+    c.as_ref.ensures.value ∙ c.self.invariant.last ∙ ap (λ (v : Board). last_shown v.terms.variant v.number v.list) c.self.view_is in
     c.face.ensures.face
     ∙ ap (λ (p : Position). face_of p c.len.result (option_copied c.as_ref.result)) c.position.ensures
     ∙ ap (λ (n : ℕ). face_of (position_of b) n (option_copied c.as_ref.result)) many

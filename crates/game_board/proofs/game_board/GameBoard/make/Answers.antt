@@ -1,4 +1,4 @@
-use Rattle.std.proofs.Common.{◌≡◌, ◌<◌, Option, Some, IfSome, All, List, [], ◌∷◌, ◌++◌, length, length-append, ap, ◌∙◌, sym, subst, arith}
+use Rattle.std.proofs.Common.{◌≡◌, ℕ, ◌<◌, Option, Some, IfSome, All, List, [], ◌∷◌, ◌++◌, length, length-append, ap, ◌∙◌, sym, subst, arith}
 use Rattle.chess_model.specs.declared.man.Colour.TheVariants.{White, Black}
 use Rattle.std.proofs.lemmas.List.Elements.{All-append}
 use Rattle.chess_model.specs.Position.{Position, Stands}
@@ -35,12 +35,16 @@ invariant_of-self c =
     let i = c.self.inside in
     let entry : Played = record { what = c.args.what.now; charge = c.next_charge-charge.result } in
     let turn : turn_after i.list ≡ c.to_move-mover.result = ap (λ (b : Board). turn_after b.list) c.self.view_is ∙ sym c.to_move-mover.ensures in
+    let number : i.number ≡ c.args.self.now.number = ap (λ (b : Board). b.number) c.self.view_is in
     let grown : c.push.new.self ≡ c.args.self.now.list ++ entry ∷ [] = c.push.ensures ∙ ap (λ (b : Board). b.list ++ entry ∷ []) c.self.view_is in
     record {
-      stands = subst (λ (l : List Played). Stands c.next_position-next.result (half_moves l) 1) (sym grown) (c.next_position-next.ensures.stands entry.charge);
+      stands = subst (λ (l : List Played). Stands c.next_position-next.result (half_moves i.number l) i.number) (sym grown)
+          (subst (λ (n : ℕ). Stands c.next_position-next.result (half_moves n (c.args.self.now.list ++ entry ∷ [])) n) (sym number) (c.next_position-next.ensures.stands entry.charge));
+      first = c.self.invariant.first;
+      second = c.self.invariant.second;
       variant = c.next_position-next.ensures.variant ∙ sym (ap (λ (b : Board). b.terms.variant) c.self.view_is);
-      legal = subst (λ (l : List Played). IsLegal i.terms.variant (half_moves l)) (sym grown)
-          (subst (λ (b : Board). IsLegal b.terms.variant (half_moves (c.args.self.now.list ++ entry ∷ []))) (sym c.self.view_is) (c.next_position-next.ensures.legal entry.charge));
+      legal = subst (λ (l : List Played). IsLegal i.terms.variant (half_moves i.number l)) (sym grown)
+          (subst (λ (b : Board). IsLegal b.terms.variant (half_moves b.number (c.args.self.now.list ++ entry ∷ []))) (sym c.self.view_is) (c.next_position-next.ensures.legal entry.charge));
       white = c.charge_clocks.ensures.white ∙ clock_of-append i.terms White c.to_move-mover.result i.list entry i.white c.self.invariant.white turn ∙ ap (clock_of i.terms White) (sym c.push.ensures);
       black = c.charge_clocks.ensures.black ∙ clock_of-append i.terms Black c.to_move-mover.result i.list entry i.black c.self.invariant.black turn ∙ ap (clock_of i.terms Black) (sym c.push.ensures);
       sound = subst (All (λ (p : Played). IfSome p.charge IsChargeable)) (sym c.push.ensures)
@@ -50,8 +54,8 @@ invariant_of-self c =
           (IsChargeable-next c.args.self.now c.args.moment c.requires.order c.requires.moment))));
       last = ap Some (c.plain_shown-shown.ensures
           ∙ ap (λ (p : Position). plain_shown_of p c.args.what.now) (c.position.ensures ∙ sym (ap position_of c.self.view_is)))
-          ∙ sym (last_shown-append i.terms.variant i.list entry)
-          ∙ sym (ap (last_shown i.terms.variant) c.push.ensures);
+          ∙ sym (last_shown-append i.terms.variant i.number i.list entry)
+          ∙ sym (ap (last_shown i.terms.variant i.number) c.push.ensures);
       counted = omega (arith, ap length c.push.ensures, length-append i.list (entry ∷ []), c.self.invariant.counted);
       most = omega (arith, ap (λ (b : Board). b.played) c.self.view_is);
       moment = c.requires.moment;

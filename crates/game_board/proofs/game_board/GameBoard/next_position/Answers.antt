@@ -9,16 +9,16 @@ use Rattle.game_board.proofs.game_board.GameBoard.next_position.Goals as goal
 pub after-requires : goal.after-requires
 after-requires c =
     let i = c.self.inside in
-    let e = position_of-stands i.position (record { terms = i.terms; list = i.list; begin = i.begin; played = i.played }) c.self.invariant.stands c.self.invariant.variant
+    let e = position_of-stands i.position (record { number = i.number; terms = i.terms; list = i.list; begin = i.begin; played = i.played; came = i.came }) c.self.invariant.stands c.self.invariant.variant
     ∙ ap position_of c.self.view_is in
     subst (λ (p : Position). Allowed p c.args.what.now) (sym e) c.requires
 
 pub returns : goal.returns
 returns c =
-    let stands : Stands c.self.inside.position (half_moves c.args.self.now.list) 1 =
-    subst (λ (b : Board). Stands c.self.inside.position (half_moves b.list) 1) c.self.view_is c.self.invariant.stands in
-    let legal : IsLegal c.args.self.now.terms.variant (half_moves c.args.self.now.list) =
-    subst (λ (b : Board). IsLegal b.terms.variant (half_moves b.list)) c.self.view_is c.self.invariant.legal in
+    let stands : Stands c.self.inside.position (half_moves c.args.self.now.number c.args.self.now.list) c.args.self.now.number =
+    subst (λ (b : Board). Stands c.self.inside.position (half_moves b.number b.list) b.number) c.self.view_is c.self.invariant.stands in
+    let legal : IsLegal c.args.self.now.terms.variant (half_moves c.args.self.now.number c.args.self.now.list) =
+    subst (λ (b : Board). IsLegal b.terms.variant (half_moves b.number b.list)) c.self.view_is c.self.invariant.legal in
     record {
       stands = λ charge. Stands-grown c.self.inside.position c.after.result c.args.self.now c.args.what.now charge c.after.ensures.stands stands;
       variant = c.after.ensures.variant ∙ c.self.invariant.variant ∙ ap (λ (b : Board). b.terms.variant) c.self.view_is;

@@ -14,14 +14,16 @@ pub invariant_of-result : goal.invariant_of-result
 invariant_of-result c =
     let none : [] ≡ c.in_ok-new.field-0 = sym c.in_ok-new.ensures in
     record {
-      stands = subst (λ (l : List Played). Stands c.start.result (half_moves l) 1) none (c.start.ensures.stands 1);
+      stands = subst (λ (l : List Played). Stands c.start.result (half_moves c.args.number l) c.args.number) none (c.start.ensures.stands c.args.number);
+      first = c.requires.first;
+      second = c.requires.last;
       variant = c.start.ensures.variant;
-      legal = subst (λ (l : List Played). IsLegal c.args.terms.variant (half_moves l)) none (IsLegal-empty c.args.terms.variant);
+      legal = subst (λ (l : List Played). IsLegal c.args.terms.variant (half_moves c.args.number l)) none (IsLegal-empty c.args.terms.variant);
       white = c.in_ok-start.ensures ∙ ap (clock_of c.args.terms White) none;
       black = c.in_ok-start-2.ensures ∙ ap (clock_of c.args.terms Black) none;
       sound = subst (All (λ (p : Played). IfSome p.charge IsChargeable)) none (λ k d h. absurd (omega arith));
-      last = ap (last_shown c.args.terms.variant) none;
+      last = ap (last_shown c.args.terms.variant c.args.number) none;
       counted = omega (arith, ap length none);
       most = omega arith;
-      moment = c.requires;
+      moment = c.requires.moment;
     }

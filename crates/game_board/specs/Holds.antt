@@ -1,4 +1,4 @@
--- What every board keeps.
+-- What the fields of every board keep: the slow board, the clocks and what was shown last follow the list.
 use Rattle.std.specs.Prelude.{◌≡◌, ◌≤◌, ◌^◌, length, IfSome, All}
 use Rattle.chess_model.specs.declared.man.Colour.TheVariants.{White, Black}
 use Rattle.chess_model.specs.Position.{Stands}
@@ -9,17 +9,19 @@ use Rattle.clock_ledger.specs.Charges.{IsChargeable}
 use Rattle.game_board.specs.Charges.{clock_of}
 use Rattle.game_board.specs.BoardFace.{last_shown}
 
-pub record IsKept (g : Inside) : Type 0 where
+pub record HoldsBoard (g : Inside) : Type 0 where
   -- the slow board stands for the list, in which each half-move was allowed
-  pub stands : Stands g.position (half_moves g.list) 1
+  pub stands : Stands g.position (half_moves g.number g.list) g.number
+  pub first : 1 ≤ g.number
+  pub second : g.number ≤ 2
   pub variant : g.position.variant ≡ g.terms.variant
-  pub legal : IsLegal g.terms.variant (half_moves g.list)
+  pub legal : IsLegal g.terms.variant (half_moves g.number g.list)
   -- the clocks have the charges of the list
   pub white : g.white ≡ clock_of g.terms White g.list
   pub black : g.black ≡ clock_of g.terms Black g.list
   pub sound : All (λ p. IfSome p.charge IsChargeable) g.list
   -- what is shown of the last half-move
-  pub last : g.last ≡ last_shown g.terms.variant g.list
+  pub last : g.last ≡ last_shown g.terms.variant g.number g.list
   pub counted : length g.list ≤ g.played
   pub most : g.played ≤ 1200
   pub moment : g.begin ≤ 2 ^ 48

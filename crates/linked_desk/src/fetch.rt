@@ -1,6 +1,7 @@
 //! How a viewer is given the items of a game.
-ghost use Rattle.std.specs.Prelude.{◌≡◌, ◌≤◌, ◌^◌, OnErr};
-ghost use Rattle.linked_desk.specs.Causes.{Gives, OnAnswer};
+ghost use Rattle.std.specs.Prelude.{◌≤◌, ◌^◌};
+ghost use Rattle.fics_words.specs.Effect.{Takes};
+ghost use Rattle.linked_desk.specs.Fetch.{fetch_effect};
 
 use crate::acts::DeskReply;
 use crate::cursor::{CatchUp, OfOthers};
@@ -9,15 +10,11 @@ use crate::views::copied;
 use fics_words::{Fail, Refusal};
 
 impl Game {
-    ghost use Rattle.linked_desk.specs.Visits.{fetch_answer, fetched};
-
     /// Gives a viewer the items past its cursor, and moves that to the end. After the game's end it is no viewer any
     /// more.
     pub(crate) fn fetch(&mut self, session: u32, moment: u64) -> Result<DeskReply, Fail>
         requires { moment ≤ 2 ^ 48 }
-        ensures reply { Gives (fetch_answer self.old session) result }
-        ensures after { OnAnswer result (self.new ≡ fetched self.old session moment) }
-        ensures err { OnErr result (self.new ≡ self.old) }
+        ensures { Takes (fetch_effect self.old session moment) self.old self.new result }
     {
         if !self.is_watching(session) {
             return Err(Fail::Refused(Refusal::NotWatching));

@@ -1,10 +1,11 @@
--- What every game at a desk keeps.
+-- What the fields of every game at a desk keep.
 use Rattle.std.specs.Prelude.{◌≡◌, ◌≤◌, ◌^◌, None}
 use Rattle.linked_desk.specs.declared.game.Game.TheInside.{Inside}
+use Rattle.linked_desk.specs.Boards.{latest}
 
-pub record IsKept (g : Inside) : Type 0 where
+pub record HoldsGame (g : Inside) : Type 0 where
   -- while the game runs there is room for the items of its end, so nobody who leaves needs memory
   pub room : g.ended ≡ None → 4 ≤ g.feed.room
-  -- the clock of the board never runs ahead of the desk's
-  pub order : g.board.begin ≤ g.last
+  -- no clock of a board runs ahead of the desk's
+  pub order : latest g.boards ≤ g.last
   pub moment : g.last ≤ 2 ^ 48

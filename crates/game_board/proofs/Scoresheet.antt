@@ -1,0 +1,198 @@
+-- The score of a board is true at its start, and stays so by a half-move.
+use Rattle.std.proofs.Common.{◌≡◌, ℕ, ◌+◌, ◌*◌, ◌-◌, ◌≤◌, ◌<◌, ◌⊎◌, inl, inr, zero, suc, Bool, true, false, ◌&&◌, if◌then◌else◌, List, [], ◌∷◌, ◌++◌, length, Option, Some, None, Result, Ok, Err, refl, sym, ap, subst, ◌∙◌, length-append, arith}
+use Rattle.std.specs.Prelude.{ℤ, pos, ◌-ℤ◌, ◌↔◌, IsTrue, IfSome, IsSome, slice_get, nat_lt}
+use Rattle.std.specs.List.{sum_by}
+use Rattle.std.proofs.lemmas.Bool.Decides.{nat_tests}
+use Rattle.std.proofs.lemmas.Option.{slice_get_within}
+use Rattle.chess_model.specs.declared.man.Colour.{Colour}
+use Rattle.chess_model.specs.declared.man.Colour.TheVariants.{White, Black}
+use Rattle.chess_model.specs.declared.moves.Move.{Move}
+use Rattle.chess_model.specs.declared.moves.MoveWord.{MoveWord}
+use Rattle.chess_model.specs.declared.moves.Rejection.{Rejection}
+use Rattle.chess_model.specs.declared.variant.Terms.{Terms}
+use Rattle.chess_model.specs.Allowed.{Allowed, IsLegal}
+use Rattle.chess_model.specs.Position.{Position}
+use Rattle.std.specs.Option.{option_map_or}
+use Rattle.clock_ledger.specs.declared.charges.Charge.{Charge}
+use Rattle.clock_ledger.specs.Charges.{amount}
+use Rattle.clock_ledger.specs.Clock.{start_of}
+use Rattle.fics_words.specs.declared.refusal.Refusal.{Refusal}
+use Rattle.game_board.specs.declared.played.Played.{Played}
+use Rattle.game_board.specs.Board.{Board, new_board, to_move, turn_after, position_of, has_moved}
+use Rattle.game_board.specs.Charges.{charges_of, is_timed, remaining_of}
+use Rattle.game_board.specs.Causes.{in_words}
+use Rattle.game_board.specs.Play.{move_refused, move_answer, next_charge, with_half_move, play_after}
+use Rattle.game_board.specs.WordAnswer.{IsWordAnswer, word_answer, word_answer-holds}
+use Rattle.game_board.specs.Scoresheet.{DontFall, IsCharged, IsTrueScore}
+use Rattle.game_board.proofs.Grown.{IsLegal-grown}
+use Rattle.game_board.proofs.LastPlayed.{slice_get-append_end}
+use Rattle.game_board.proofs.Legal.{IsLegal-empty}
+
+-- an item of a list with one item more is one of the list, or that item
+at_or_last : {X : Type 0} (xs : List X) (x y : X) (k : ℕ) → slice_get (xs ++ x ∷ []) k ≡ Some y →
+    (slice_get xs k ≡ Some y) ⊎ ((k ≡ length xs) × (x ≡ y))
+at_or_last [] x y zero e = inr (refl, cc)
+at_or_last [] x y (suc k) e = inl e
+at_or_last (z ∷ zs) x y zero e = inl e
+at_or_last (z ∷ zs) x y (suc k) e = elim (at_or_last zs x y k e) [
+  | inl h ↦ inl h
+  | inr h ↦ inr (ap suc h.0, h.1)
+]
+
+-- and each item of the list stands where it stood
+stays_at : {X : Type 0} (xs : List X) (x y : X) (k : ℕ) → slice_get xs k ≡ Some y → slice_get (xs ++ x ∷ []) k ≡ Some y
+stays_at [] x y k e = absurd cc
+stays_at (z ∷ zs) x y zero e = e
+stays_at (z ∷ zs) x y (suc k) e = stays_at zs x y k e
+
+same_item : {X : Type 0} (x y : X) → Some x ≡ Some y → x ≡ y
+same_item x y e = cc
+
+-- a moment that isn't before the last one may follow
+DontFall-append : (moments : List ℕ) (last next n : ℕ) → length moments ≡ n + 1 → slice_get moments n ≡ Some last → last ≤ next → DontFall moments →
+    DontFall (moments ++ next ∷ [])
+DontFall-append moments last next n each at le rising = λ k i j e f. elim (at_or_last moments next j (k + 1) f) [
+  | inl later ↦ elim (at_or_last moments next i k e) [
+    | inl earlier ↦ rising k i j earlier later
+    | inr past ↦ absurd (let within : k + 1 < length moments = slice_get_within moments (k + 1) j later in omega (arith, past.0))
+  ]
+  | inr new ↦ elim (at_or_last moments next i k e) [
+    | inl earlier ↦
+        let place : k ≡ n = omega (arith, new.0, each) in
+        let is : last ≡ i = same_item last i (sym at ∙ (ap (slice_get moments) (sym place) ∙ earlier)) in
+        omega (arith, is, new.1, le)
+    | inr past ↦ absurd (omega (arith, past.0, new.0))
+  ]
+]
+
+above_one : (n : ℕ) → nat_lt 1 (suc (suc n)) ≡ true
+above_one n = grind (arith, nat_tests)
+
+above_zero : (n : ℕ) → nat_lt 0 (suc (suc n)) ≡ true
+above_zero n = grind (arith, nat_tests)
+
+-- each colour's first half-move is one of the first two
+has_moved-two : (c : Colour) (p q : Played) (more : List Played) → has_moved c (p ∷ q ∷ more) ≡ true
+has_moved-two White p q more = above_zero (length more)
+has_moved-two Black p q more = above_one (length more)
+
+-- who is to move has made a half-move exactly where two were played
+has_moved-turn : (list : List Played) → IsTrue (has_moved (turn_after list) list) ↔ (2 ≤ length list)
+has_moved-turn [] = (λ h. absurd cc, λ h. absurd (omega arith))
+has_moved-turn (p ∷ []) = (λ h. absurd cc, λ h. absurd (omega arith))
+has_moved-turn (p ∷ q ∷ more) = (λ h. omega arith, λ h. has_moved-two (turn_after (p ∷ q ∷ more)) p q more)
+
+-- the charge where the game is timed and the colour has moved, and none elsewhere
+abbrev charge_if : Bool → Bool → ℕ → ℕ → Option Charge
+charge_if timed moved begin end = if timed && moved then Some (record { begin = begin; end = end; client = None }) else None
+
+no : false ≡ true → ⊥
+no e = cc
+
+-- so the charge of the next half-move is a true one
+IsCharged-if : (timed moved : Bool) (terms : Terms) (moments : List ℕ) (k begin end : ℕ) (m : Move) → is_timed terms ≡ timed → (IsTrue moved ↔ (2 ≤ k)) →
+    slice_get moments k ≡ Some begin → slice_get moments (k + 1) ≡ Some end →
+    IsCharged terms moments k (record { what = m; charge = charge_if timed moved begin end })
+IsCharged-if true true terms moments k begin end m t h from to = record {
+  stands = (λ s. (t, h.0 refl), λ s. refl);
+  begins = from;
+  ends = to;
+}
+IsCharged-if true false terms moments k begin end m t h from to = record {
+  stands = (λ s. absurd (no s), λ s. absurd (no (h.1 s.1)));
+  begins = tt;
+  ends = tt;
+}
+IsCharged-if false true terms moments k begin end m t h from to = record {
+  stands = (λ s. absurd (no s), λ s. absurd (no (sym t ∙ s.0)));
+  begins = tt;
+  ends = tt;
+}
+IsCharged-if false false terms moments k begin end m t h from to = record {
+  stands = (λ s. absurd (no s), λ s. absurd (no (sym t ∙ s.0)));
+  begins = tt;
+  ends = tt;
+}
+
+-- a charge stays a true one where a moment follows
+if_some : {X : Type 0} (P Q : X → Type 0) (o : Option X) → ((x : X) → P x → Q x) → IfSome o P → IfSome o Q
+if_some P Q None step h = tt
+if_some P Q (Some x) step h = step x h
+
+IsCharged-append : (terms : Terms) (moments : List ℕ) (next k : ℕ) (p : Played) → IsCharged terms moments k p → IsCharged terms (moments ++ next ∷ []) k p
+IsCharged-append terms moments next k p c = record {
+  stands = c.stands;
+  begins = if_some (λ (x : Charge). slice_get moments k ≡ Some x.begin) (λ (x : Charge). slice_get (moments ++ next ∷ []) k ≡ Some x.begin) p.charge
+      (λ x h. stays_at moments next x.begin k h) c.begins;
+  ends = if_some (λ (x : Charge). slice_get moments (k + 1) ≡ Some x.end) (λ (x : Charge). slice_get (moments ++ next ∷ []) (k + 1) ≡ Some x.end) p.charge
+      (λ x h. stays_at moments next x.end (k + 1) h) c.ends;
+}
+
+chosen : (b : Bool) (x y : ℤ) → IsTrue b → (if b then x else y) ≡ x
+chosen true x y h = refl
+chosen false x y h = absurd cc
+
+-- a clock shows what its ledger sums to
+clocks-sum : (b : Board) (c : Colour) → IsTrue (is_timed b.terms) →
+    remaining_of b c
+    ≡ (pos (start_of b.terms.minutes b.terms.increment + b.terms.increment * 1000 * length (charges_of c b.list)) -ℤ pos (sum_by amount (charges_of c b.list)))
+clocks-sum b c timed = chosen (is_timed b.terms) _ _ timed
+
+pub IsTrueScore-new_board : (number : ℕ) (terms : Terms) (moment : ℕ) → IsTrueScore (new_board number terms moment)
+IsTrueScore-new_board number terms moment = record {
+  moments = moment ∷ [];
+  each = refl;
+  dont_fall = λ k i j e f. absurd (let within : k + 1 < 1 = slice_get_within (moment ∷ []) (k + 1) j f in omega (arith, within));
+  thinking = refl;
+  charged = λ k p e. absurd (let within : k < 0 = slice_get_within [] k p e in omega (arith, within));
+  played = refl;
+  legal = IsLegal-empty terms.variant;
+  clocks = λ c timed. clocks-sum (new_board number terms moment) c timed;
+}
+
+pub IsTrueScore-with_half_move : (b : Board) (m : Move) (moment : ℕ) → IsTrueScore b → b.begin ≤ moment → Allowed (position_of b) m → IsTrueScore (with_half_move b m moment)
+IsTrueScore-with_half_move b m moment s order allowed =
+    let charge : Option Charge = next_charge b moment in
+    let entry : Played = record { what = m; charge = charge } in
+    let many : length (b.list ++ entry ∷ []) ≡ length b.list + 1 = length-append b.list (entry ∷ []) in
+    let more : length (s.moments ++ moment ∷ []) ≡ length s.moments + 1 = length-append s.moments (moment ∷ []) in
+    let last : slice_get (s.moments ++ moment ∷ []) (length b.list + 1) ≡ Some moment =
+    ap (slice_get (s.moments ++ moment ∷ [])) (sym s.each) ∙ slice_get-append_end s.moments moment in
+    let new : IsCharged b.terms (s.moments ++ moment ∷ []) (length b.list) entry =
+    IsCharged-if (is_timed b.terms) (has_moved (to_move b) b.list) b.terms (s.moments ++ moment ∷ []) (length b.list) b.begin moment m refl (has_moved-turn b.list)
+    (stays_at s.moments moment b.begin (length b.list) s.thinking) last in
+    record {
+      moments = s.moments ++ moment ∷ [];
+      each = omega (arith, many, more, s.each);
+      dont_fall = DontFall-append s.moments b.begin moment (length b.list) s.each s.thinking order s.dont_fall;
+      thinking = ap (slice_get (s.moments ++ moment ∷ [])) many ∙ last;
+      charged = λ k p e. elim (at_or_last b.list entry p k e) [
+        | inl old ↦ IsCharged-append b.terms s.moments moment k p (s.charged k p old)
+        | inr here ↦ subst (λ (q : Played). IsCharged b.terms (s.moments ++ moment ∷ []) k q) here.1
+            (subst (λ (n : ℕ). IsCharged b.terms (s.moments ++ moment ∷ []) n entry) (sym here.0) new)
+      ];
+      played = omega (arith, many, s.played);
+      legal = IsLegal-grown b m charge s.legal allowed;
+      clocks = λ c timed. clocks-sum (with_half_move b m moment) c timed;
+    }
+
+-- an answer that plays has an allowed half-move
+allowed_in : (p : Position) (word : MoveWord) (answer : Result Move Rejection) (m : Move) → IsWordAnswer p word answer → in_words answer ≡ Ok m → Allowed p m
+allowed_in p word (Ok move) m is e = let same : move ≡ m = cc in subst (Allowed p) same is.choice.allowed
+allowed_in p word (Err cause) m is e = absurd cc
+
+allowed_unless : (refused : Option Refusal) (p : Position) (word : MoveWord) (m : Move) →
+    option_map_or Err refused (in_words (word_answer p word)) ≡ Ok m → Allowed p m
+allowed_unless None p word m e = allowed_in p word (word_answer p word) m (word_answer-holds p word) e
+allowed_unless (Some cause) p word m e = absurd cc
+
+played_true : (b : Board) (moment : ℕ) (answer : Result Move Refusal) → IsTrueScore b → b.begin ≤ moment → ((m : Move) → answer ≡ Ok m → Allowed (position_of b) m) →
+    IsTrueScore (play_after b moment answer)
+played_true b moment (Ok m) s order allowed = IsTrueScore-with_half_move b m moment s order (allowed m refl)
+played_true b moment (Err cause) s order allowed = s
+
+pub IsTrueScore-play_after : (b : Board) (c : Colour) (word : MoveWord) (moment : ℕ) → IsTrueScore b → b.begin ≤ moment →
+    IsTrueScore (play_after b moment (move_answer b c word))
+unfolding move_answer
+IsTrueScore-play_after b c word moment s order =
+    played_true b moment (move_answer b c word) s order (λ m e. allowed_unless (move_refused b c) (position_of b) word m e)

@@ -1,0 +1,78 @@
+-- What an act keeps of the game at a desk, and what is shared by the acts that end it.
+use Rattle.std.proofs.Common.{◌≡◌, ℕ, ◌==◌, ◌≤◌, Bool, true, false, if◌then◌else◌, List, [], ◌∷◌, ◌++◌, max, Option, Some, None, refl, sym, ap, subst, ◌∙◌, All, arith}
+use Rattle.std.specs.Prelude.{◌↔◌, IsSome, IsTrue, IfSome}
+use Rattle.std.specs.Option.{option_map}
+use Rattle.std.proofs.lemmas.List.Elements.{All-nil, All-cons, All-append, All-push}
+use Rattle.chess_model.specs.declared.man.Colour.{Colour}
+use Rattle.chess_model.specs.Placement.{opposite}
+use Rattle.fics_words.specs.declared.seats.Opponents.{Opponents}
+use Rattle.fics_words.specs.Effect.{Effect}
+use Rattle.style12_writer.specs.declared.item.Item.{Item}
+use Rattle.style12_writer.specs.declared.item.Item.TheVariants as item
+use Rattle.style12_writer.specs.declared.view.BoardView.{BoardView}
+use Rattle.style12_writer.specs.EndLine.{is_decisive}
+use Rattle.game_board.specs.Board.{Board}
+use Rattle.linked_desk.specs.declared.acts.DeskReply.{DeskReply}
+use Rattle.linked_desk.specs.declared.ended.Ended.{Ended}
+use Rattle.linked_desk.specs.Desk.{GameState, occupant}
+use Rattle.linked_desk.specs.Ends.{winner_on, end_item, end_items, ended_by}
+use Rattle.linked_desk.specs.Seats.{pairs_of}
+use Rattle.linked_desk.specs.Sound.{Names, NamesWinner, IsSound, TellsWinners}
+use Rattle.linked_desk.specs.Views.{each_board, with_view}
+
+-- an act keeps who plays, keeps the game sound, and tells ends with their winners; it may meet want of memory only where
+-- it says so
+pub record Keeps (g : GameState) (needs : Bool) (effect : Effect GameState DeskReply) : Type 0 where
+  pub players : occupant effect.after ≡ occupant g
+  pub sound : IsSound g → IsSound effect.after
+  pub tells : IsSound g → TellsWinners effect.reply
+  pub memory : effect.memory ≡ needs
+
+-- what each board and its players have, the list of them has
+pub All-each_board : {T : Type 0} (P : T → Type 0) (of : Opponents → Board → T) (pairs : List Opponents) (boards : List Board) →
+    ((players : Opponents) (b : Board) → P (of players b)) → All P (each_board of pairs boards)
+All-each_board P of [] boards h = All-nil P
+All-each_board P of (players ∷ pairs) [] h = All-nil P
+All-each_board P of (players ∷ pairs) (b ∷ boards) h = All-cons P (of players b) (each_board of pairs boards) (h players b) (All-each_board P of pairs boards h)
+
+-- at the other board of a pair a winner is named exactly where one is named
+names_other : (decisive : Bool) (winner : Option Colour) → (IsSome winner ↔ IsTrue decisive) → IsSome (option_map opposite winner) ↔ IsTrue decisive
+names_other decisive None h = h
+names_other decisive (Some c) h = h
+
+names_by : (own decisive : Bool) (winner : Option Colour) → (IsSome winner ↔ IsTrue decisive) →
+    IsSome (if own then winner else option_map opposite winner) ↔ IsTrue decisive
+names_by true decisive winner h = h
+names_by false decisive winner h = names_other decisive winner h
+
+-- an end names its winner at each board
+end_item-names : (desk : ℕ) (e : Ended) → Names e.why e.winner → (players : Opponents) (b : Board) → NamesWinner (end_item desk e players b)
+end_item-names desk e h players b = names_by (b.number == e.board) (is_decisive e.why) e.winner h
+
+pub IsSound-ended_by : (desk : ℕ) (g : GameState) (moment : ℕ) (e : Ended) → Names e.why e.winner → IsSound g → IsSound (ended_by desk g moment e)
+IsSound-ended_by desk g moment e names s = record {
+  numbers = s.numbers;
+  seated = s.seated;
+  terms = s.terms;
+  scores = s.scores;
+  order = omega (arith, s.order);
+  winners = All-append NamesWinner g.feed (end_items desk g e) s.winners
+      (All-each_board NamesWinner (end_item desk e) (pairs_of g.seats) g.boards (end_item-names desk e names));
+  ended = names;
+}
+
+pub IsSound-with_view : (g : GameState) (view : Option BoardView) → IsSound g → IsSound (with_view g view)
+IsSound-with_view g None s = s
+IsSound-with_view g (Some view) s = record {
+  numbers = s.numbers;
+  seated = s.seated;
+  terms = s.terms;
+  scores = s.scores;
+  order = s.order;
+  winners = All-push NamesWinner g.feed (item.Board view) s.winners tt;
+  ended = s.ended;
+}
+
+pub occupant-with_view : (g : GameState) (view : Option BoardView) → occupant (with_view g view) ≡ occupant g
+occupant-with_view g None = refl
+occupant-with_view g (Some view) = refl

@@ -1,0 +1,123 @@
+-- What each act at a desk keeps, in one table; and what follows for a desk, whatever the act.
+use Rattle.std.proofs.Common.{◌≡◌, ◌≢◌, ℕ, ◌==◌, Bool, true, false, if◌then◌else◌, List, [], Option, Some, None, Result, Ok, Err, refl, sym, ap, subst, ◌∙◌}
+use Rattle.std.specs.Prelude.{IfSome}
+use Rattle.std.specs.Option.{option_map}
+use Rattle.fics_words.specs.Effect.{Effect, first_cause, answered, unless, answer_of, state_of}
+use Rattle.fics_words.specs.declared.refusal.Refusal.{Refusal}
+use Rattle.linked_desk.specs.declared.acts.DeskAct.{DeskAct}
+use Rattle.linked_desk.specs.declared.acts.DeskAct.TheVariants as act
+use Rattle.linked_desk.specs.declared.acts.DeskReply.{DeskReply}
+use Rattle.linked_desk.specs.Acts.{game_effect, missing_effect, at_desk, effect_by, desk_effect, desk_answer, desk_after, needs_memory, items_told}
+use Rattle.linked_desk.specs.Desk.{GameState, DeskState, occupant, occupant_of}
+use Rattle.linked_desk.specs.Sound.{IsSound, HasSoundGame, TellsWinners, AnswersSoundly}
+use Rattle.linked_desk.proofs.Keeps.{Keeps}
+use Rattle.linked_desk.proofs.KeepsFetch.{Keeps-fetch_effect}
+use Rattle.linked_desk.proofs.KeepsFlag.{Keeps-flag_effect}
+use Rattle.linked_desk.proofs.KeepsLeave.{Keeps-leave_effect}
+use Rattle.linked_desk.proofs.KeepsMove.{Keeps-move_effect}
+use Rattle.linked_desk.proofs.KeepsResign.{Keeps-resign_effect}
+
+-- the table of the acts
+pub Keeps-game_effect : (desk : ℕ) (g : GameState) (session moment : ℕ) (a : DeskAct) → Keeps g (needs_memory a) (game_effect desk g session moment a)
+Keeps-game_effect desk g session moment (act.Move word) = Keeps-move_effect desk g session moment word
+Keeps-game_effect desk g session moment act.Resign = Keeps-resign_effect desk g session moment
+Keeps-game_effect desk g session moment act.Flag = Keeps-flag_effect desk g session moment
+Keeps-game_effect desk g session moment act.Fetch = Keeps-fetch_effect g session moment
+Keeps-game_effect desk g session moment act.Leave = Keeps-leave_effect desk g session moment
+
+-- what an act keeps of a desk: its number, who plays there, a sound game, and what it tells
+pub record KeepsDesk (d : DeskState) (needs : Bool) (effect : Effect DeskState DeskReply) : Type 0 where
+  pub number : effect.after.number ≡ d.number
+  pub players : occupant_of effect.after ≡ occupant_of d
+  pub sound : HasSoundGame d → HasSoundGame effect.after
+  pub tells : HasSoundGame d → TellsWinners effect.reply
+  pub memory : effect.memory ≡ true → needs ≡ true
+
+KeepsDesk-missing : (d : DeskState) (memory : Bool) (a : DeskAct) → KeepsDesk d memory (missing_effect d a)
+KeepsDesk-missing d memory a = record { number = refl; players = refl; sound = λ s. s; tells = λ s. tt; memory = λ e. absurd cc }
+
+KeepsDesk-at_desk : (number : ℕ) (g : GameState) (memory : Bool) (effect : Effect GameState DeskReply) → Keeps g memory effect →
+    KeepsDesk (record { number = number; game = Some g }) memory (at_desk (record { number = number; game = Some g }) effect)
+KeepsDesk-at_desk number g memory effect k = record {
+  number = refl;
+  players = ap Some k.players;
+  sound = k.sound;
+  tells = k.tells;
+  memory = λ e. sym k.memory ∙ e;
+}
+
+KeepsDesk-either : (b : Bool) (d : DeskState) (memory : Bool) (one another : Effect DeskState DeskReply) → KeepsDesk d memory one → KeepsDesk d memory another →
+    KeepsDesk d memory (if b then one else another)
+KeepsDesk-either true d memory one another k l = k
+KeepsDesk-either false d memory one another k l = l
+
+KeepsDesk-effect_by : (number : ℕ) (game : Option GameState) (session moment serial : ℕ) (a : DeskAct) →
+    KeepsDesk (record { number = number; game = game }) (needs_memory a) (effect_by (record { number = number; game = game }) game session moment serial a)
+KeepsDesk-effect_by number None session moment serial a = KeepsDesk-missing (record { number = number; game = None }) (needs_memory a) a
+KeepsDesk-effect_by number (Some g) session moment serial a =
+    let d : DeskState = record { number = number; game = Some g } in
+    KeepsDesk-either (g.serial == serial) d (needs_memory a) (at_desk d (game_effect number g session moment a)) (missing_effect d a)
+    (KeepsDesk-at_desk number g (needs_memory a) (game_effect number g session moment a) (Keeps-game_effect number g session moment a))
+    (KeepsDesk-missing d (needs_memory a) a)
+
+pub KeepsDesk-desk_effect : (d : DeskState) (session moment serial : ℕ) (a : DeskAct) → KeepsDesk d (needs_memory a) (desk_effect d session moment serial a)
+KeepsDesk-desk_effect d session moment serial a = KeepsDesk-effect_by d.number d.game session moment serial a
+
+number-unless : (refused : Option Refusal) (old new : DeskState) → new.number ≡ old.number → (unless refused old new).number ≡ old.number
+number-unless None old new e = e
+number-unless (Some cause) old new e = refl
+
+players-unless : (refused : Option Refusal) (old new : DeskState) → occupant_of new ≡ occupant_of old → occupant_of (unless refused old new) ≡ occupant_of old
+players-unless None old new e = e
+players-unless (Some cause) old new e = refl
+
+sound-unless : (refused : Option Refusal) (old new : DeskState) → HasSoundGame old → HasSoundGame new → HasSoundGame (unless refused old new)
+sound-unless None old new s t = t
+sound-unless (Some cause) old new s t = s
+
+soundly-answered : (refused : Option Refusal) (reply : DeskReply) → TellsWinners reply → AnswersSoundly (answered refused reply)
+soundly-answered None reply h = h
+soundly-answered (Some cause) reply h = tt
+
+-- after an act the desk has its number
+pub number-desk_after : (d : DeskState) (session moment serial : ℕ) (a : DeskAct) → (desk_after d session moment serial a).number ≡ d.number
+number-desk_after d session moment serial a =
+    let effect = desk_effect d session moment serial a in
+    number-unless (first_cause effect.causes) d effect.after (KeepsDesk-desk_effect d session moment serial a).number
+
+-- those who play there
+pub players-desk_after : (d : DeskState) (session moment serial : ℕ) (a : DeskAct) → occupant_of (desk_after d session moment serial a) ≡ occupant_of d
+players-desk_after d session moment serial a =
+    let effect = desk_effect d session moment serial a in
+    players-unless (first_cause effect.causes) d effect.after (KeepsDesk-desk_effect d session moment serial a).players
+
+-- and a sound game, if it had one
+pub sound-desk_after : (d : DeskState) (session moment serial : ℕ) (a : DeskAct) → HasSoundGame d → HasSoundGame (desk_after d session moment serial a)
+sound-desk_after d session moment serial a s =
+    let effect = desk_effect d session moment serial a in
+    sound-unless (first_cause effect.causes) d effect.after s ((KeepsDesk-desk_effect d session moment serial a).sound s)
+
+-- the ends that it answers have their winners
+pub sound-desk_answer : (d : DeskState) (session moment serial : ℕ) (a : DeskAct) → HasSoundGame d → AnswersSoundly (desk_answer d session moment serial a)
+sound-desk_answer d session moment serial a s =
+    let effect = desk_effect d session moment serial a in
+    soundly-answered (first_cause effect.causes) effect.reply ((KeepsDesk-desk_effect d session moment serial a).tells s)
+
+-- an act but a visit is answered without items
+no_items_at : (desk : ℕ) (g : GameState) (session moment : ℕ) (a : DeskAct) → a ≢ act.Fetch → items_told (game_effect desk g session moment a).reply ≡ []
+no_items_at desk g session moment act.Fetch h = absurd (h refl)
+no_items_at desk g session moment _ h = refl
+
+no_items_either : (b : Bool) (d : DeskState) (one another : Effect DeskState DeskReply) → items_told one.reply ≡ [] → items_told another.reply ≡ [] →
+    items_told (if b then one else another).reply ≡ []
+no_items_either true d one another h k = h
+no_items_either false d one another h k = k
+
+no_items_by : (d : DeskState) (game : Option GameState) (session moment serial : ℕ) (a : DeskAct) → a ≢ act.Fetch →
+    items_told (effect_by d game session moment serial a).reply ≡ []
+no_items_by d None session moment serial a h = refl
+no_items_by d (Some g) session moment serial a h =
+    no_items_either (g.serial == serial) d (at_desk d (game_effect d.number g session moment a)) (missing_effect d a) (no_items_at d.number g session moment a h) refl
+
+pub no_items_for : (d : DeskState) (session moment serial : ℕ) (a : DeskAct) → a ≢ act.Fetch → items_told (desk_effect d session moment serial a).reply ≡ []
+no_items_for d session moment serial a h = no_items_by d d.game session moment serial a h

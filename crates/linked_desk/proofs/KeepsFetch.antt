@@ -1,0 +1,29 @@
+-- What a visit keeps.
+use Rattle.std.proofs.Common.{◌≡◌, ℕ, true, max, List, Option, Some, None, All, refl, arith}
+use Rattle.std.proofs.lemmas.List.Elements.{All-nil, All-drop}
+use Rattle.style12_writer.specs.declared.item.Item.{Item}
+use Rattle.linked_desk.specs.declared.cursor.Cursor.{Cursor}
+use Rattle.linked_desk.specs.Desk.{GameState, past, cursor_of}
+use Rattle.linked_desk.specs.Fetch.{fetch_effect}
+use Rattle.linked_desk.specs.Sound.{NamesWinner, IsSound}
+use Rattle.linked_desk.proofs.Keeps.{Keeps}
+
+names_past : (feed : List Item) (cursor : Option Cursor) → All NamesWinner feed → All NamesWinner (past feed cursor)
+names_past feed None h = All-nil NamesWinner
+names_past feed (Some cursor) h = All-drop NamesWinner cursor.seen feed h
+
+pub Keeps-fetch_effect : (g : GameState) (session moment : ℕ) → Keeps g true (fetch_effect g session moment)
+Keeps-fetch_effect g session moment = record {
+  players = refl;
+  sound = λ s. record {
+    numbers = s.numbers;
+    seated = s.seated;
+    terms = s.terms;
+    scores = s.scores;
+    order = omega (arith, s.order);
+    winners = s.winners;
+    ended = s.ended;
+  };
+  tells = λ s. names_past g.feed (cursor_of g session) s.winners;
+  memory = refl;
+}

@@ -1,0 +1,63 @@
+-- A game that begins is sound.
+use Rattle.std.proofs.Common.{◌≡◌, ◌≢◌, ℕ, ◌*◌, ◌+◌, ◌≤◌, max, List, [], ◌∷◌, ◌++◌, length, map, Option, Some, None, All, refl, sym, ap, subst, ◌∙◌, arith}
+use Rattle.std.specs.Prelude.{IsSome}
+use Rattle.std.proofs.lemmas.List.Elements.{All-nil, All-cons, All-append}
+use Rattle.chess_model.specs.declared.variant.Terms.{Terms}
+use Rattle.chess_model.specs.declared.variant.Variant.{Variant}
+use Rattle.chess_model.specs.declared.variant.Variant.TheVariants.{Chess, Crazyhouse, Bughouse}
+use Rattle.fics_words.specs.declared.seats.Opponents.{Opponents}
+use Rattle.fics_words.specs.declared.seats.Seats.{Seats}
+use Rattle.fics_words.specs.Seats.{seat_list}
+use Rattle.game_board.specs.Board.{Board, new_board}
+use Rattle.game_board.specs.Scoresheet.{IsTrueScore}
+use Rattle.game_board.proofs.Scoresheet.{IsTrueScore-new_board}
+use Rattle.linked_desk.specs.Boards.{board_numbers, new_boards, latest}
+use Rattle.linked_desk.specs.Desk.{GameState}
+use Rattle.linked_desk.specs.Seating.{HasPairsFor, created_item, board_item, opening_items, opened}
+use Rattle.linked_desk.specs.Seats.{pairs_of}
+use Rattle.linked_desk.specs.Sound.{NamesWinner, IsSound}
+use Rattle.linked_desk.specs.Views.{each_board}
+use Rattle.linked_desk.proofs.Keeps.{All-each_board}
+
+-- the boards of these numbers at the start
+abbrev boards_from : List ℕ → Terms → ℕ → List Board
+boards_from numbers terms moment = map (λ number. new_board number terms moment) numbers
+
+numbers_from : (numbers : List ℕ) (terms : Terms) (moment : ℕ) → map (λ (b : Board). b.number) (boards_from numbers terms moment) ≡ numbers
+numbers_from [] terms moment = refl
+numbers_from (n ∷ ns) terms moment = ap (λ ms. n ∷ ms) (numbers_from ns terms moment)
+
+latest_from : (numbers : List ℕ) (terms : Terms) (moment : ℕ) → latest (boards_from numbers terms moment) ≤ moment
+latest_from [] terms moment = omega arith
+latest_from (n ∷ ns) terms moment = let rest = latest_from ns terms moment in omega arith
+
+All-from : (P : Board → Type 0) (numbers : List ℕ) (terms : Terms) (moment : ℕ) → ((n : ℕ) → P (new_board n terms moment)) → All P (boards_from numbers terms moment)
+All-from P [] terms moment h = All-nil P
+All-from P (n ∷ ns) terms moment h = All-cons P (new_board n terms moment) (boards_from ns terms moment) (h n) (All-from P ns terms moment h)
+
+seats_for : (variant : Variant) (first : Opponents) (second : Option Opponents) (terms : Terms) (moment : ℕ) →
+    (IsSome second → variant ≡ Bughouse) → (variant ≡ Bughouse → IsSome second) →
+    length (seat_list (record { first = first; second = second })) ≡ 2 * length (boards_from (board_numbers variant) terms moment)
+seats_for Chess first None terms moment h k = refl
+seats_for Chess first (Some more) terms moment h k = let wrong : Chess ≡ Bughouse = h refl in absurd cc
+seats_for Crazyhouse first None terms moment h k = refl
+seats_for Crazyhouse first (Some more) terms moment h k = let wrong : Crazyhouse ≡ Bughouse = h refl in absurd cc
+seats_for Bughouse first None terms moment h k = absurd (let wrong = k refl in cc)
+seats_for Bughouse first (Some more) terms moment h k = refl
+
+names_opening : (desk : ℕ) (terms : Terms) (pairs : List Opponents) (boards : List Board) → All NamesWinner (opening_items desk terms pairs boards)
+names_opening desk terms pairs boards =
+    All-append NamesWinner (each_board (created_item desk terms) pairs boards) (each_board (board_item desk) pairs boards)
+    (All-each_board NamesWinner (created_item desk terms) pairs boards (λ players b. tt))
+    (All-each_board NamesWinner (board_item desk) pairs boards (λ players b. tt))
+
+pub IsSound-opened : (desk serial : ℕ) (terms : Terms) (seats : Seats) (moment : ℕ) → HasPairsFor terms seats → IsSound (opened desk serial terms seats moment)
+IsSound-opened desk serial terms seats moment pairs = record {
+  numbers = numbers_from (board_numbers terms.variant) terms moment;
+  seated = seats_for terms.variant seats.first seats.second terms moment pairs.0 pairs.1;
+  terms = All-from (λ (b : Board). b.terms ≡ terms) (board_numbers terms.variant) terms moment (λ n. refl);
+  scores = All-from IsTrueScore (board_numbers terms.variant) terms moment (λ n. IsTrueScore-new_board n terms moment);
+  order = latest_from (board_numbers terms.variant) terms moment;
+  winners = names_opening desk terms (pairs_of seats) (new_boards terms moment);
+  ended = tt;
+}

@@ -1,0 +1,53 @@
+-- The boards of a game: one, or two in bughouse.
+use Rattle.std.specs.Prelude.{ℕ, zero, suc, max, List, [], ◌∷◌, map, Option, Some, None, Result, Ok, Err, slice_get, slice_set}
+use Rattle.std.specs.Option.{option_map}
+use Rattle.chess_model.specs.declared.man.Colour.{Colour}
+use Rattle.chess_model.specs.declared.moves.Move.{Move}
+use Rattle.chess_model.specs.declared.moves.MoveWord.{MoveWord}
+use Rattle.chess_model.specs.declared.variant.Terms.{Terms}
+use Rattle.chess_model.specs.declared.variant.Variant.{Variant}
+use Rattle.chess_model.specs.declared.variant.Variant.TheVariants.{Chess, Crazyhouse, Bughouse}
+use Rattle.fics_words.specs.declared.refusal.Refusal.{Refusal}
+use Rattle.fics_words.specs.declared.refusal.Refusal.TheVariants.{NotPlaying}
+use Rattle.game_board.specs.Board.{Board, new_board}
+use Rattle.game_board.specs.Flag.{flag_answer}
+use Rattle.game_board.specs.Play.{move_answer, play_after}
+
+-- the numbers of the boards on which a variant is played
+abbrev pub board_numbers : Variant → List ℕ
+board_numbers Bughouse = 1 ∷ 2 ∷ []
+board_numbers Chess = 1 ∷ []
+board_numbers Crazyhouse = 1 ∷ []
+
+-- the boards at the start of a game
+abbrev pub new_boards : Terms → ℕ → List Board
+new_boards terms moment = map (λ number. new_board number terms moment) (board_numbers terms.variant)
+
+-- the board of a number, counted from 1
+abbrev pub numbered : ℕ → List Board → Option Board
+numbered zero boards = None
+numbered (suc place) boards = slice_get boards place
+
+-- the latest moment from which a player is thinking at one of the boards
+abbrev pub latest : List Board → ℕ
+latest [] = 0
+latest (b ∷ boards) = max b.begin (latest boards)
+
+-- the half-move that a word stands for at a board, or the refusal; where there is no board, nobody plays
+abbrev pub word_at : Option Board → Colour → MoveWord → Result Move Refusal
+word_at None colour word = Err NotPlaying
+word_at (Some b) colour word = move_answer b colour word
+
+-- what the call of a flag brings at a board: the winner, None for a draw, or the refusal
+abbrev pub flag_at : Option Board → Colour → ℕ → Result (Option Colour) Refusal
+flag_at None caller moment = Err NotPlaying
+flag_at (Some b) caller moment = flag_answer b caller moment
+
+-- the boards with another one in a place
+abbrev pub set_board : List Board → ℕ → Option Board → List Board
+set_board boards place None = boards
+set_board boards place (Some b) = slice_set boards place b
+
+-- the boards after a word at the one in that place
+abbrev pub boards_after : List Board → ℕ → ℕ → Result Move Refusal → List Board
+boards_after boards place moment answer = set_board boards place (option_map (λ b. play_after b moment answer) (slice_get boards place))

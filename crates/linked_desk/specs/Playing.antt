@@ -1,0 +1,43 @@
+-- A move at a desk.
+use Rattle.std.specs.Prelude.{ℕ, true, ◌∷◌, Option, Some, None, Result, Err, slice_get}
+use Rattle.chess_model.specs.declared.moves.Move.{Move}
+use Rattle.chess_model.specs.declared.moves.MoveWord.{MoveWord}
+use Rattle.fics_words.specs.Effect.{Effect, refused_by}
+use Rattle.fics_words.specs.declared.refusal.Refusal.{Refusal}
+use Rattle.fics_words.specs.declared.refusal.Refusal.TheVariants.{NotPlaying}
+use Rattle.linked_desk.specs.declared.acts.DeskReply.{DeskReply}
+use Rattle.linked_desk.specs.declared.acts.DeskReply.TheVariants.{Done}
+use Rattle.linked_desk.specs.Boards.{word_at, boards_after}
+use Rattle.linked_desk.specs.Desk.{GameState, moment_at, seat_of}
+use Rattle.linked_desk.specs.Ends.{no_seat_cause, over_cause}
+use Rattle.linked_desk.specs.Seats.{place_of, colour_at}
+use Rattle.linked_desk.specs.Views.{with_board_item}
+
+-- the half-move that a word of a seat stands for, or the refusal
+abbrev pub seat_word : GameState → ℕ → MoveWord → Result Move Refusal
+seat_word g seat word = word_at (slice_get g.boards (place_of seat)) (colour_at seat) word
+
+-- and of who has that seat, or none
+abbrev pub word_by : GameState → Option ℕ → MoveWord → Result Move Refusal
+word_by g None word = Err NotPlaying
+word_by g (Some seat) word = seat_word g seat word
+
+-- the game with the half-move played at the board in that place, and this board told
+abbrev pub moved : ℕ → GameState → ℕ → ℕ → Result Move Refusal → GameState
+moved desk g moment place answer =
+    with_board_item desk place
+    (record g { boards = boards_after g.boards place (moment_at g moment) answer; last = moment_at g moment })
+
+-- the game once who has that seat, or none, has played a word
+abbrev pub moved_by : ℕ → GameState → ℕ → Option ℕ → MoveWord → GameState
+moved_by desk g moment None word = g
+moved_by desk g moment (Some seat) word = moved desk g moment (place_of seat) (seat_word g seat word)
+
+-- plays a word at the session's board: refused where it has no seat, where the game has ended, and then as the board answers
+abbrev pub move_effect : ℕ → GameState → ℕ → ℕ → MoveWord → Effect GameState DeskReply
+move_effect desk g session moment word = record {
+  causes = no_seat_cause g session ∷ over_cause g ∷ refused_by (word_by g (seat_of g session) word);
+  memory = true;
+  reply = Done;
+  after = moved_by desk g moment (seat_of g session) word;
+}

@@ -1,0 +1,126 @@
+//! The boards of a game.
+ghost use Rattle.std.specs.Prelude.{◌≡◌, ◌≤◌, ◌^◌, ◌∷◌, IfOk, OnErr, slice_get};
+ghost use Rattle.std.specs.Option.{option_copied, option_to_list};
+ghost use Rattle.fics_words.specs.Effect.{first_cause, refusal_of, refused_by};
+ghost use Rattle.linked_desk.specs.Boards.{boards_after, flag_at, latest, new_boards, numbered, word_at};
+
+use chess_model::{Colour, MoveWord, Terms, Variant};
+use fics_words::{NoMemory, Refusal};
+use game_board::GameBoard;
+use std::alloc::Global;
+use std::marker::Model;
+
+/// The boards of a game: one, or two in bughouse. Contracts see them as their list.
+#[derive(Drop)]
+pub(crate) struct Boards {
+    first: GameBoard,
+    second: Option<GameBoard>,
+}
+
+impl Model for Boards {
+    ghost use Rattle.std.specs.Prelude.{◌∷◌, List};
+    ghost use Rattle.std.specs.Option.{option_to_list};
+    ghost use Rattle.game_board.specs.Board.{Board};
+
+    ghost Value = { List Board };
+
+    ghost view = { λ b. b.first ∷ option_to_list b.second };
+}
+
+impl Boards {
+    /// The boards at the start of a game: as many as the variant wants.
+    pub(crate) fn start(alloc: Global, terms: Terms, moment: u64) -> Result<Boards, NoMemory>
+        requires { moment ≤ 2 ^ 48 }
+        ensures boards { IfOk result (λ boards. boards ≡ new_boards terms moment) }
+        ensures order { IfOk result (λ boards. latest boards ≤ moment) }
+    {
+        let first = GameBoard::start(alloc, 1, terms, moment)?;
+        let second = match terms.variant {
+            Variant::Bughouse => Some(GameBoard::start(alloc, 2, terms, moment)?),
+            Variant::Chess => None,
+            Variant::Crazyhouse => None,
+        };
+        Ok(Boards { first, second })
+    }
+
+    /// The first board, and the second if there is one.
+    pub(crate) fn both(&self) -> (&GameBoard, Option<&GameBoard>)
+        ensures { self.now ≡ result.0.now ∷ option_to_list (option_copied result.1) }
+    {
+        (&self.first, self.second.as_ref())
+    }
+
+    /// The board in that place, 0 or 1.
+    pub(crate) fn at(&self, place: u8) -> Option<&GameBoard>
+        ensures { option_copied result ≡ slice_get self.now place }
+    {
+        match place {
+            0 => Some(&self.first),
+            1 => self.second.as_ref(),
+            _ => None,
+        }
+    }
+
+    /// The board of that number, 1 or 2.
+    pub(crate) fn numbered(&self, number: u8) -> Option<&GameBoard>
+        ensures { option_copied result ≡ numbered number self.now }
+    {
+        match number {
+            1 => Some(&self.first),
+            2 => self.second.as_ref(),
+            _ => None,
+        }
+    }
+
+    /// Plays a word of a colour at the board in that place.
+    pub(crate) fn play(
+        &mut self,
+        place: u8,
+        colour: Colour,
+        word: &MoveWord,
+        moment: u64,
+    ) -> Result<(), Refusal>
+        requires order { latest self.old ≤ moment }
+        requires moment { moment ≤ 2 ^ 48 }
+        ensures refused { first_cause (refused_by (word_at (slice_get self.old place) colour word.now)) ≡ refusal_of result }
+        ensures after { self.new ≡ boards_after self.old place moment (word_at (slice_get self.old place) colour word.now) }
+        ensures unchanged { OnErr result (self.new ≡ self.old) }
+        ensures order { latest self.new ≤ moment }
+    {
+        match place {
+            0 => {
+                self.first.play(colour, word, moment)?;
+                Ok(())
+            }
+            1 => {
+                let Some(board) = &mut self.second else {
+                    return Err(Refusal::NotPlaying);
+                };
+                board.play(colour, word, moment)?;
+                Ok(())
+            }
+            _ => Err(Refusal::NotPlaying),
+        }
+    }
+
+    /// What the flag that a colour calls at the board in that place brings.
+    pub(crate) fn flag(
+        &self,
+        place: u8,
+        caller: Colour,
+        moment: u64,
+    ) -> Result<Option<Colour>, Refusal>
+        requires order { latest self.now ≤ moment }
+        requires moment { moment ≤ 2 ^ 48 }
+        ensures { result ≡ flag_at (slice_get self.now place) caller moment }
+    {
+        match place {
+            0 => self.first.flag(caller, moment),
+            1 => match &self.second {
+                Some(board) => board.flag(caller, moment),
+                None => Err(Refusal::NotPlaying),
+            },
+            _ => Err(Refusal::NotPlaying),
+        }
+    }
+}

@@ -1,0 +1,43 @@
+//! A move at a desk.
+ghost use Rattle.std.specs.Prelude.{◌≤◌, ◌^◌};
+ghost use Rattle.fics_words.specs.Effect.{Takes};
+ghost use Rattle.linked_desk.specs.Playing.{move_effect};
+
+use crate::acts::DeskReply;
+use crate::game::{Game, ROOM_TO_END};
+use crate::seats::{colour_at, place_of};
+use chess_model::MoveWord;
+use fics_words::{Fail, Refusal};
+use style12_writer::Item;
+
+impl Game {
+    /// Plays a word of a session at its board, and tells the board.
+    pub(crate) fn play(
+        &mut self,
+        desk: u8,
+        session: u32,
+        moment: u64,
+        word: &MoveWord,
+    ) -> Result<DeskReply, Fail>
+        requires low { 1 ≤ desk }
+        requires high { desk ≤ 128 }
+        requires moment { moment ≤ 2 ^ 48 }
+        ensures { Takes (move_effect desk self.old session moment word.now) self.old self.new result }
+    {
+        let Some(seat) = self.seat_of(session) else {
+            return Err(Fail::Refused(Refusal::NotPlaying));
+        };
+        if self.ended.is_some() {
+            return Err(Fail::Refused(Refusal::GameOver));
+        }
+        self.feed.reserve(1 + ROOM_TO_END)?;
+        let now = self.last.max(moment);
+        let place = place_of(seat);
+        self.boards.play(place, colour_at(seat), word, now)?;
+        self.last = now;
+        if let Some(view) = self.view(desk, place) {
+            self.feed.push(Item::Board(view));
+        }
+        Ok(DeskReply::Done)
+    }
+}

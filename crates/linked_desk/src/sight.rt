@@ -1,0 +1,60 @@
+//! Who sees which board, and how.
+ghost use Rattle.std.specs.Prelude.{◌≡◌};
+ghost use Rattle.chess_model.specs.Holdings.{same_colour};
+ghost use Rattle.linked_desk.specs.Sight.{board_in, observing, playing, sight};
+
+use crate::seats::{board_of, colour_at};
+use chess_model::Colour;
+use style12_writer::{BoardView, Viewer};
+
+/// How a board is seen: by the player of that seat, or by an observer, who has none. A player has relation 1 or -1 at the
+/// own board and sees it from the own side; at the partner's board, as an observer everywhere, the relation is 0 and White
+/// is at the bottom.
+pub fn viewer_of(seat: Option<u8>, view: &BoardView) -> Viewer
+    ensures { result ≡ sight seat (board_in view.now.game) view.now.face.to_move }
+{
+    let Some(seat) = seat else {
+        return observing();
+    };
+    if board_of(seat) != board_in(view.game) {
+        return observing();
+    }
+    playing(colour_at(seat), view.face.to_move)
+}
+
+/// How somebody looks on who doesn't play at the board.
+fn observing() -> Viewer
+    ensures { result ≡ observing }
+{
+    Viewer {
+        relation: 0,
+        flip: false,
+    }
+}
+
+/// How a player of a colour looks at the own board: 1 where it is its turn, -1 where it is the opponent's.
+fn playing(own: Colour, to_move: Colour) -> Viewer
+    ensures { result ≡ playing own to_move }
+{
+    let relation = if is_same(own, to_move) { 1 } else { -1 };
+    Viewer {
+        relation,
+        flip: is_same(own, Colour::Black),
+    }
+}
+
+/// The number of the board in its game, by the number under which it is shown.
+fn board_in(game: u16) -> u8
+    ensures { result ≡ board_in game }
+{
+    if game % 2 == 0 { 2 } else { 1 }
+}
+
+fn is_same(one: Colour, another: Colour) -> bool
+    ensures { result ≡ same_colour one another }
+{
+    match one {
+        Colour::White => matches!(another, Colour::White),
+        Colour::Black => matches!(another, Colour::Black),
+    }
+}
