@@ -28,7 +28,7 @@ pub use laws::{
 };
 pub use lent::{alone, first_part, second_part, together};
 pub use part::Part;
-pub use reply::Reply;
+pub use reply::{PairReply, Reply};
 pub use runner::Runner;
 pub use seat::OneSeat;
 pub use server::OneServer;

@@ -33,8 +33,8 @@ use Rattle.one_server.specs.Desks.{listing, game_of, has_ended, is_left, emptied
 use Rattle.one_server.specs.House.{house, pair_lobby, pair_desk}
 use Rattle.one_server.specs.Plans.{plan_lobby, plan_desk}
 use Rattle.one_server.specs.Whole.{IsWhole}
-use Rattle.one_server.specs.KeptForTwo.{for_two-lobby_after, for_two-committed}
-use Rattle.one_server.specs.KeptWhole.{formed_is, two_is, desk_at, whole_lobby, whole_desk, whole_both}
+use Rattle.one_server.specs.ForTwoProof.{for_two-lobby_after, for_two-committed}
+use Rattle.one_server.specs.WholeProof.{formed_is, two_is, desk_at, whole_lobby, whole_desk, whole_both}
 
 -- a desk act leaves the game that the desk is in use for
 pub keeps_game : (desk : DeskState) (session moment serial : ℕ) (act : DeskAct) → game_of (desk_after desk session moment serial act) ≡ game_of desk
