@@ -157,7 +157,7 @@ nothing_listed game e = cc
 vacant_by : (desk : DeskState) → Some None ≡ Some (game_of desk) → desk.game ≡ None
 vacant_by desk e = vacant_in desk.game (nothing_listed (game_of desk) e)
 
-carried_by : (lobby : LobbyState) (plan : Plan) (desk : DeskState) → IsListed lobby (desk_of plan) desk → IsPlanned lobby plan → SeatsTwo plan → SeatsForTwo plan → CanCarry plan desk
+pub carried_by : (lobby : LobbyState) (plan : Plan) (desk : DeskState) → IsListed lobby (desk_of plan) desk → IsPlanned lobby plan → SeatsTwo plan → SeatsForTwo plan → CanCarry plan desk
 carried_by lobby (Seat number serial terms seats) desk listed planned two one = (vacant_by desk (sym planned.is_free ∙ listed.listed), two, one)
 carried_by lobby (Clear session number serial) desk listed planned two one = tt
 

@@ -7,8 +7,8 @@ pub mod House
 pub mod Copies
 pub mod Running
 pub mod Server
-pub mod Laws
 pub mod Lent
+pub mod Laws
 pub mod ForTwoProof
 pub mod WholeProof
 pub mod LawfulProof

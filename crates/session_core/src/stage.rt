@@ -52,7 +52,7 @@ impl Stage {
             Stage::Answering(asked) => answered(asked, memory, reply, out),
             Stage::Rounding => rounded(memory, reply, out),
             Stage::Visiting(place, rest) => visited(&place, rest, memory, reply, out),
-            Stage::Clearing(rest) => cleared(rest, memory, reply, out),
+            Stage::Clearing(rest) => Ok(visit(rest)),
         }
     }
 }
@@ -125,21 +125,6 @@ fn visited(
     if says_over(reply) {
         return Ok(Next::Ask(clear_at(place), Stage::Clearing(rest)));
     }
-    Ok(visit(rest))
-}
-
-/// A place was given up: the next one is visited.
-fn cleared(
-    rest: Rest,
-    memory: &mut Memory,
-    reply: &Reply,
-    out: &mut Vec<u8>,
-) -> Result<Next<Stage>, NoMemory>
-    ensures settles { IfOk result (λ next. Settles (visits rest memory.old) (course_of continues next memory.new) out.old.items out.new.items) }
-    ensures ready { IfOk result (IsReady IsAtDesk) }
-    ensures fewer { IfOk result (λ next. acts_left acts_after next ≤ 2 * length rest) }
-{
-    let (_, _, _) = (memory, reply, out);
     Ok(visit(rest))
 }
 

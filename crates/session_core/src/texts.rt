@@ -34,7 +34,8 @@ pub(crate) fn put_prompt(out: &mut Vec<u8>) -> Result<(), NoMemory>
     Ok(())
 }
 
-/// Appends what a reply prints, by the kind of act that was asked for: a refusal, and nothing else yet.
+/// Appends what a reply prints, by the kind of act that was asked for: a refusal. No act that was done prints anything
+/// yet.
 pub(crate) fn put_reply(_asked: Asked, reply: &Reply, out: &mut Vec<u8>) -> Result<(), NoMemory>
     ensures { OnOk result (out.new.items ≡ out.old.items ++ reply_text _asked reply.now) }
 {
