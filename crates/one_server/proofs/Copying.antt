@@ -1,5 +1,5 @@
 -- Copies that were made ahead are of what the act is answered.
-use Rattle.std.proofs.Common.{◌≡◌, ℕ, ◌==◌, Bool, true, false, cond, List, if◌then◌else◌, refl, sym, subst, ◌∙◌}
+use Rattle.std.proofs.Common.{◌≡◌, ℕ, ◌==◌, Bool, true, false, List, if◌then◌else◌, refl, sym, subst, ◌∙◌}
 use Rattle.std.specs.declared.option.Option.{Option}
 use Rattle.std.specs.declared.option.Option.TheVariants.{None, Some}
 use Rattle.std.specs.declared.result.Result.{Result}
@@ -20,9 +20,9 @@ use Rattle.linked_desk.specs.Moves.{seat_move}
 use Rattle.linked_desk.specs.Visits.{fetch_refused}
 use Rattle.lobby_state.specs.declared.acts.LobbyAct.{LobbyAct}
 use Rattle.lobby_state.specs.declared.acts.LobbyAct.TheVariants.{Enter, Match, Where, Fetch, Going, Bye}
+use Rattle.lobby_state.specs.declared.acts.LobbyReply.{LobbyReply}
 use Rattle.lobby_state.specs.declared.acts.LobbyReply.TheVariants.{Done as LobbyDone, Entered as LobbyEntered}
 use Rattle.lobby_state.specs.declared.acts.Plan.{Plan}
-use Rattle.lobby_state.specs.declared.acts.Plan.TheVariants.{Seat, Clear}
 use Rattle.lobby_state.specs.Acts.{lobby_answer, plan_of}
 use Rattle.lobby_state.specs.Causes.{answered as lobby_answered}
 use Rattle.lobby_state.specs.Enter.{enter_refused}
@@ -35,120 +35,87 @@ use Rattle.one_server.specs.declared.part.Part.TheVariants.{Lobby as TheLobby, D
 use Rattle.one_server.specs.Acts.{lobby_reply, desk_reply}
 use Rattle.one_server.specs.Acts.{FitsAct}
 use Rattle.one_server.specs.Copies.{HasLines, HasItems, AreOf, LinesOf, ItemsOf, LinesFor, ItemsFor}
-use Rattle.one_server.specs.Desks.{has_ended, is_left}
 use Rattle.one_server.specs.House.{house, pair_reply}
-use Rattle.one_server.specs.Plans.{plan_reply}
 use Rattle.one_server.specs.Whole.{IsWhole, parts_of}
 use Rattle.one_server.specs.declared.act.Act.{Act}
 use Rattle.one_server.specs.declared.act.Act.TheVariants.{Lobby, Desk, Pair}
 use Rattle.one_server.specs.declared.act.Timed.{Timed}
 use Rattle.one_server.specs.declared.copies.Copies.{Copies}
-use Rattle.one_server.specs.declared.reply.Reply.TheVariants.{Cleared, Freed, Kept}
-use Rattle.one_server.proofs.Stepping.{table_at, tables_count, reply_desk}
+use Rattle.one_server.proofs.Stepping.{desk_with, count_of_desks, reply_desk}
 
--- a reply that lists nothing has any lines and items
-plain_entered : (lines : List (List ℕ)) (items : List Item) (refused : Option Refusal) (name : List ℕ)
-    → HasLines lines (lobby_reply (lobby_answered refused (LobbyEntered name))) × HasItems items (lobby_reply (lobby_answered refused (LobbyEntered name)))
-plain_entered lines items None name = (tt, tt)
-plain_entered lines items (Some cause) name = (tt, tt)
+-- a refusal, and a reply that lists nothing, have any lines and items
+plain_lobby : (copies : Copies) (refused : Option Refusal) (answer : LobbyReply) → HasLines copies.lines answer → AreOf copies (lobby_reply (lobby_answered refused answer))
+plain_lobby copies None answer h = h
+plain_lobby copies (Some cause) answer h = tt
 
-plain_done : (lines : List (List ℕ)) (items : List Item) (refused : Option Refusal)
-    → HasLines lines (lobby_reply (lobby_answered refused LobbyDone)) × HasItems items (lobby_reply (lobby_answered refused LobbyDone))
-plain_done lines items None = (tt, tt)
-plain_done lines items (Some cause) = (tt, tt)
+of_lobby_act : (lobby : LobbyState) (session : ℕ) (act : LobbyAct) (copies : Copies) → LinesOf lobby session act copies.lines → AreOf copies (lobby_reply (lobby_answer lobby session act))
+of_lobby_act lobby session (Enter name) copies h = plain_lobby copies (enter_refused lobby session name) (LobbyEntered name) tt
+of_lobby_act lobby session (Match to terms) copies h = plain_lobby copies (match_refused lobby session to terms) LobbyDone tt
+of_lobby_act lobby session Fetch copies h = h
+of_lobby_act lobby session _ copies h = tt
 
-pub of_lobby_act : (lobby : LobbyState) (session : ℕ) (act : LobbyAct) (lines : List (List ℕ)) (items : List Item) → LinesOf lobby session act lines
-    → HasLines lines (lobby_reply (lobby_answer lobby session act)) × HasItems items (lobby_reply (lobby_answer lobby session act))
-of_lobby_act lobby session (Enter name) lines items h = plain_entered lines items (enter_refused lobby session name) name
-of_lobby_act lobby session (Match to terms) lines items h = plain_done lines items (match_refused lobby session to terms)
-of_lobby_act lobby session Where lines items h = (tt, tt)
-of_lobby_act lobby session Fetch lines items h = (h, tt)
-of_lobby_act lobby session Going lines items h = (tt, tt)
-of_lobby_act lobby session Bye lines items h = (tt, tt)
+plain_replying : {Q : Type 0} (copies : Copies) (answer : Result Q Refusal) → AreOf copies (desk_reply (replying DeskDone answer))
+plain_replying copies (Ok q) = tt
+plain_replying copies (Err cause) = tt
 
-plain_replying : {Q : Type 0} (lines : List (List ℕ)) (items : List Item) (answer : Result Q Refusal)
-    → HasLines lines (desk_reply (replying DeskDone answer)) × HasItems items (desk_reply (replying DeskDone answer))
-plain_replying lines items (Ok q) = (tt, tt)
-plain_replying lines items (Err cause) = (tt, tt)
+plain_desk : (copies : Copies) (refused : Option Refusal) (answer : DeskReply) → HasItems copies.items answer → AreOf copies (desk_reply (answered refused (Ok answer)))
+plain_desk copies None answer h = h
+plain_desk copies (Some cause) answer h = tt
 
-plain_answered : (lines : List (List ℕ)) (items : List Item) (refused : Option Refusal)
-    → HasLines lines (desk_reply (answered refused (Ok DeskDone))) × HasItems items (desk_reply (answered refused (Ok DeskDone)))
-plain_answered lines items None = (tt, tt)
-plain_answered lines items (Some cause) = (tt, tt)
+of_game_act : (g : GameState) (number session moment : ℕ) (act : DeskAct) (copies : Copies) → ItemsOf (record { number = number; game = Some g }) session act copies.items
+    → AreOf copies (desk_reply (game_answer g session moment act))
+of_game_act g number session moment (Move word) copies h = plain_replying copies (seat_move g (colour_of g session) word)
+of_game_act g number session moment Resign copies h = plain_desk copies (resign_refused g (colour_of g session)) DeskDone tt
+of_game_act g number session moment Flag copies h = plain_replying copies (seat_flag g moment (colour_of g session))
+of_game_act g number session moment DeskFetch copies h = plain_desk copies (fetch_refused g session) (DeskItems (ahead_of g session) (is_some g.ended)) h
+of_game_act g number session moment Leave copies h = tt
 
-given : (lines : List (List ℕ)) (items due : List Item) (is_over : Bool) (refused : Option Refusal) → items ≡ due
-    → HasLines lines (desk_reply (answered refused (Ok (DeskItems due is_over)))) × HasItems items (desk_reply (answered refused (Ok (DeskItems due is_over))))
-given lines items due is_over None e = (tt, e)
-given lines items due is_over (Some cause) e = (tt, tt)
+of_missing : (act : DeskAct) (copies : Copies) → AreOf copies (desk_reply (missing_answer act))
+of_missing Leave copies = tt
+of_missing _ copies = tt
 
-of_game_act : (g : GameState) (number session moment : ℕ) (act : DeskAct) (lines : List (List ℕ)) (items : List Item) → ItemsOf (record { number = number; game = Some g }) session act items
-    → HasLines lines (desk_reply (game_answer g session moment act)) × HasItems items (desk_reply (game_answer g session moment act))
-of_game_act g number session moment (Move word) lines items h = plain_replying lines items (seat_move g (colour_of g session) word)
-of_game_act g number session moment Resign lines items h = plain_answered lines items (resign_refused g (colour_of g session))
-of_game_act g number session moment Flag lines items h = plain_replying lines items (seat_flag g moment (colour_of g session))
-of_game_act g number session moment DeskFetch lines items h = given lines items (ahead_of g session) (is_some g.ended) (fetch_refused g session) h
-of_game_act g number session moment Leave lines items h = (tt, tt)
+of_either : (b : Bool) (one another : Result DeskReply Refusal) (copies : Copies) → AreOf copies (desk_reply one) → AreOf copies (desk_reply another)
+    → AreOf copies (desk_reply (if b then one else another))
+of_either true one another copies h k = h
+of_either false one another copies h k = k
 
-of_missing : (act : DeskAct) (lines : List (List ℕ)) (items : List Item) → HasLines lines (desk_reply (missing_answer act)) × HasItems items (desk_reply (missing_answer act))
-of_missing (Move word) lines items = (tt, tt)
-of_missing Resign lines items = (tt, tt)
-of_missing Flag lines items = (tt, tt)
-of_missing DeskFetch lines items = (tt, tt)
-of_missing Leave lines items = (tt, tt)
+of_answer_at : (number : ℕ) (game : Option GameState) (session moment serial : ℕ) (act : DeskAct) (copies : Copies) → ItemsOf (record { number = number; game = game }) session act copies.items
+    → AreOf copies (desk_reply (answer_at game session moment serial act))
+of_answer_at number None session moment serial act copies h = of_missing act copies
+of_answer_at number (Some g) session moment serial act copies h =
+    of_either (g.serial == serial) (game_answer g session moment act) (missing_answer act) copies (of_game_act g number session moment act copies h) (of_missing act copies)
 
-of_either : (b : Bool) (one another : Result DeskReply Refusal) (lines : List (List ℕ)) (items : List Item)
-    → HasLines lines (desk_reply one) × HasItems items (desk_reply one) → HasLines lines (desk_reply another) × HasItems items (desk_reply another)
-    → HasLines lines (desk_reply (if b then one else another)) × HasItems items (desk_reply (if b then one else another))
-of_either true one another lines items h k = h
-of_either false one another lines items h k = k
+of_desk_act : (desk : DeskState) (session moment serial : ℕ) (act : DeskAct) (copies : Copies) → ItemsOf desk session act copies.items
+    → AreOf copies (desk_reply (desk_answer desk session moment serial act))
+of_desk_act desk session moment serial act copies h = of_answer_at desk.number desk.game session moment serial act copies h
 
-of_answer_at : (number : ℕ) (game : Option GameState) (session moment serial : ℕ) (act : DeskAct) (lines : List (List ℕ)) (items : List Item) → ItemsOf (record { number = number; game = game }) session act items
-    → HasLines lines (desk_reply (answer_at game session moment serial act)) × HasItems items (desk_reply (answer_at game session moment serial act))
-of_answer_at number None session moment serial act lines items h = of_missing act lines items
-of_answer_at number (Some g) session moment serial act lines items h =
-    of_either (g.serial == serial) (game_answer g session moment act) (missing_answer act) lines items (of_game_act g number session moment act lines items h) (of_missing act lines items)
-
-pub of_desk_act : (desk : DeskState) (session moment serial : ℕ) (act : DeskAct) (lines : List (List ℕ)) (items : List Item) → ItemsOf desk session act items
-    → HasLines lines (desk_reply (desk_answer desk session moment serial act)) × HasItems items (desk_reply (desk_answer desk session moment serial act))
-of_desk_act desk session moment serial act lines items h = of_answer_at desk.number desk.game session moment serial act lines items h
-
-of_clear : (is_over is_alone : Bool) (lines : List (List ℕ)) (items : List Item)
-    → HasLines lines (cond is_over (cond is_alone Cleared Freed) Kept) × HasItems items (cond is_over (cond is_alone Cleared Freed) Kept)
-of_clear true true lines items = (tt, tt)
-of_clear true false lines items = (tt, tt)
-of_clear false is_alone lines items = (tt, tt)
-
-of_plan : (plan : Plan) (desk : DeskState) (lines : List (List ℕ)) (items : List Item) → HasLines lines (plan_reply plan desk) × HasItems items (plan_reply plan desk)
-of_plan (Seat number serial terms seats) desk lines items = (tt, tt)
-of_plan (Clear session number serial) desk lines items = of_clear (has_ended desk serial) (is_left desk) lines items
-
-of_pair_act : (r : Result Plan Refusal) (other : Option Part) (lines : List (List ℕ)) (items : List Item) → HasLines lines (pair_reply r other) × HasItems items (pair_reply r other)
-of_pair_act (Err cause) other lines items = (tt, tt)
-of_pair_act (Ok plan) None lines items = (tt, tt)
-of_pair_act (Ok plan) (Some (TheLobby lobby)) lines items = (tt, tt)
-of_pair_act (Ok plan) (Some (ADesk desk)) lines items = of_plan plan desk lines items
+of_pair_act : (r : Result Plan Refusal) (other : Option Part) (copies : Copies) → AreOf copies (pair_reply r other)
+of_pair_act (Err cause) other copies = tt
+of_pair_act (Ok plan) None copies = tt
+of_pair_act (Ok plan) (Some (TheLobby lobby)) copies = tt
+of_pair_act (Ok plan) (Some (ADesk desk)) copies = tt
 
 same_reply : (one another : Reply) → Some one ≡ Some another → one ≡ another
 same_reply one another e = cc
 
-module _ (lobby : LobbyState) (tables : List DeskState) (session moment : ℕ) (copies : Copies) (r : Reply) (whole : IsWhole (parts_of lobby tables)) where
-  are_of_act : (act : Act) → FitsAct act → LinesFor lobby session act copies.lines → ItemsFor tables session act copies.items
-      → reply house (parts_of lobby tables) session (record { moment = moment; act = act }) ≡ Some r → AreOf copies r
+module _ (lobby : LobbyState) (desks : List DeskState) (session moment : ℕ) (copies : Copies) (r : Reply) (whole : IsWhole (parts_of lobby desks)) where
+  are_of_act : (act : Act) → FitsAct act → LinesFor lobby session act copies.lines → ItemsFor desks session act copies.items
+      → reply house (parts_of lobby desks) session (record { moment = moment; act = act }) ≡ Some r → AreOf copies r
   are_of_act (Lobby act) fits lines items e =
       let is = same_reply (lobby_reply (lobby_answer lobby session act)) r e in
-      subst (λ (x : Reply). AreOf copies x) is (of_lobby_act lobby session act copies.lines copies.items lines)
+      subst (λ (x : Reply). AreOf copies x) is (of_lobby_act lobby session act copies lines)
   are_of_act (Desk number serial act) fits lines items e =
-      let found = table_at lobby tables number (tables_count lobby tables whole) fits in
-      let answer = reply_desk lobby tables session moment number serial act found.0 fits.0 found.1 (desk_reply (desk_answer found.0 session moment serial act)) refl in
+      let found = desk_with lobby desks number (count_of_desks lobby desks whole) fits in
+      let answer = reply_desk lobby desks session moment number serial act found.0 fits.0 found.1 (desk_reply (desk_answer found.0 session moment serial act)) refl in
       let is = same_reply (desk_reply (desk_answer found.0 session moment serial act)) r (sym answer ∙ e) in
-      subst (λ (x : Reply). AreOf copies x) is (of_desk_act found.0 session moment serial act copies.lines copies.items (items found.0 found.1))
+      subst (λ (x : Reply). AreOf copies x) is (of_desk_act found.0 session moment serial act copies (items found.0 found.1))
   are_of_act (Pair act) fits lines items e =
       let timed : Timed = record { moment = moment; act = Pair act } in
-      let is = same_reply (pair_reply (plan_of lobby session act) (other_of house (parts_of lobby tables) session timed)) r e in
-      subst (λ (x : Reply). AreOf copies x) is (of_pair_act (plan_of lobby session act) (other_of house (parts_of lobby tables) session timed) copies.lines copies.items)
+      let is = same_reply (pair_reply (plan_of lobby session act) (other_of house (parts_of lobby desks) session timed)) r e in
+      subst (λ (x : Reply). AreOf copies x) is (of_pair_act (plan_of lobby session act) (other_of house (parts_of lobby desks) session timed) copies)
 
 -- copies that were made ahead of an act are of its reply
-pub are_of : (lobby : LobbyState) (tables : List DeskState) (session moment : ℕ) (act : Act) (copies : Copies) (r : Reply) → IsWhole (parts_of lobby tables) → FitsAct act
-    → LinesFor lobby session act copies.lines → ItemsFor tables session act copies.items
-    → reply house (parts_of lobby tables) session (record { moment = moment; act = act }) ≡ Some r → AreOf copies r
-are_of lobby tables session moment act copies r whole fits lines items e = are_of_act lobby tables session moment copies r whole act fits lines items e
+pub are_of : (lobby : LobbyState) (desks : List DeskState) (session moment : ℕ) (act : Act) (copies : Copies) (r : Reply) → IsWhole (parts_of lobby desks) → FitsAct act
+    → LinesFor lobby session act copies.lines → ItemsFor desks session act copies.items
+    → reply house (parts_of lobby desks) session (record { moment = moment; act = act }) ≡ Some r → AreOf copies r
+are_of lobby desks session moment act copies r whole fits lines items e = are_of_act lobby desks session moment copies r whole act fits lines items e

@@ -32,7 +32,7 @@ use Rattle.linked_desk.specs.Visits.{fetch_refused, viewers_after}
 use Rattle.lobby_state.specs.declared.acts.Plan.{Plan}
 use Rattle.lobby_state.specs.declared.acts.Plan.TheVariants.{Seat as Seating, Clear}
 use Rattle.lobby_state.specs.Acts.{plan_of}
-use Rattle.lobby_state.specs.Lobby.{LobbyState, desks}
+use Rattle.lobby_state.specs.Lobby.{LobbyState, desks as desk_count}
 use Rattle.style12_writer.specs.CreatedLine.{created_text}
 use Rattle.style12_writer.specs.declared.item.Item.TheVariants as item
 use Rattle.style12_writer.specs.EndLine.{is_decisive}
@@ -158,8 +158,8 @@ pub names_opening : (lobby : LobbyState) → EachPart house PartNamesWinners (op
 unfolding opened
 names_opening lobby zero part e = subst PartNamesWinners (front (TheLobby lobby) part e) tt
 names_opening lobby (suc i) part e =
-    vacant_names (slice_get (vacant_from 1 desks) i) part (1 + i) (λ desk there. (vacant_there 1 desks i desk there).1)
-    (sym (slice_get-map ADesk (vacant_from 1 desks) i) ∙ e)
+    vacant_names (slice_get (vacant_from 1 desk_count) i) part (1 + i) (λ desk there. (vacant_there 1 desk_count i desk there).1)
+    (sym (slice_get-map ADesk (vacant_from 1 desk_count) i) ∙ e)
 
 -- so it holds of each part in each state of a server that a lobby opened
 pub names_each_winner : (lobby : LobbyState) (log : Log) → Legal house (opened lobby) log → EachPart house PartNamesWinners (state house (opened lobby) log)

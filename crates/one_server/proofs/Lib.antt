@@ -5,3 +5,4 @@ pub mod Clocks
 pub mod Opens
 pub mod Feeds
 pub mod Replies
+pub mod Lending

@@ -28,9 +28,9 @@ use Rattle.linked_desk.specs.Moves.{seat_move}
 use Rattle.linked_desk.specs.Visits.{fetch_refused}
 use Rattle.lobby_state.specs.declared.acts.LobbyAct.{LobbyAct}
 use Rattle.lobby_state.specs.declared.acts.LobbyAct.TheVariants.{Enter, Match, Where, Fetch, Going, Bye}
+use Rattle.lobby_state.specs.declared.acts.LobbyReply.{LobbyReply}
 use Rattle.lobby_state.specs.declared.acts.LobbyReply.TheVariants.{Done as LobbyDone, Entered as LobbyEntered}
 use Rattle.lobby_state.specs.declared.acts.Plan.{Plan}
-use Rattle.lobby_state.specs.declared.acts.Plan.TheVariants.{Seat, Clear}
 use Rattle.lobby_state.specs.declared.member.Member.{Member}
 use Rattle.lobby_state.specs.Acts.{IsDesk, lobby_answer, plan_of}
 use Rattle.lobby_state.specs.Causes.{answered as lobby_answered}
@@ -45,15 +45,12 @@ use Rattle.one_server.specs.declared.act.Timed.{Timed}
 use Rattle.one_server.specs.declared.part.Part.{Part}
 use Rattle.one_server.specs.declared.part.Part.TheVariants.{Lobby as TheLobby, Desk as ADesk}
 use Rattle.one_server.specs.declared.reply.Reply.{Reply}
-use Rattle.one_server.specs.declared.reply.Reply.TheVariants.{Cleared, Freed, Kept}
 use Rattle.one_server.specs.Acts.{lobby_reply, desk_reply}
-use Rattle.one_server.specs.Desks.{has_ended, is_left}
 use Rattle.one_server.specs.House.{house, house_answer, pair_reply}
-use Rattle.one_server.specs.KeptForTwo.{found_has}
-use Rattle.one_server.specs.KeptWhole.{formed_is}
-use Rattle.one_server.specs.Lawful.{house_lawful}
-use Rattle.one_server.specs.Plans.{plan_reply}
-use Rattle.one_server.specs.Replies.{IsItem, IsReply}
+use Rattle.one_server.specs.ForTwoProof.{found_has}
+use Rattle.one_server.specs.WholeProof.{formed_is}
+use Rattle.one_server.specs.LawfulProof.{house_lawful}
+use Rattle.one_server.specs.Replies.{IsItem, IsReply, TellsDesks, TellsWinners}
 use Rattle.one_server.specs.Running.{Log}
 use Rattle.one_server.specs.Whole.{IsWhole, opened}
 use Rattle.one_server.proofs.Feeds.{NamesWinners, PartNamesWinners, first_names, second_names, names_opening}
@@ -73,33 +70,23 @@ places_found lobby session (Some member) is formed =
 pub places_at_desks : (lobby : LobbyState) (session : ℕ) → IsWellFormed lobby → All (λ place. IsDesk place.desk) (places_of lobby session).rows
 places_at_desks lobby session formed = places_found lobby session (member_of lobby session) refl formed
 
-lobby_entered : (refused : Option Refusal) (name : List ℕ) → IsReply (lobby_reply (lobby_answered refused (LobbyEntered name)))
-lobby_entered None name = tt
-lobby_entered (Some cause) name = tt
+lobby_tells : (refused : Option Refusal) (answer : LobbyReply) → TellsDesks answer → IsReply (lobby_reply (lobby_answered refused answer))
+lobby_tells None answer h = h
+lobby_tells (Some cause) answer h = tt
 
-lobby_done : (refused : Option Refusal) → IsReply (lobby_reply (lobby_answered refused LobbyDone))
-lobby_done None = tt
-lobby_done (Some cause) = tt
-
-pub lobby_replies : (lobby : LobbyState) (session : ℕ) (act : LobbyAct) → IsWellFormed lobby → IsReply (lobby_reply (lobby_answer lobby session act))
-lobby_replies lobby session (Enter name) formed = lobby_entered (enter_refused lobby session name) name
-lobby_replies lobby session (Match to terms) formed = lobby_done (match_refused lobby session to terms)
-lobby_replies lobby session Where formed = places_at_desks lobby session formed
-lobby_replies lobby session Fetch formed = places_at_desks lobby session formed
-lobby_replies lobby session Going formed = places_at_desks lobby session formed
+lobby_replies : (lobby : LobbyState) (session : ℕ) (act : LobbyAct) → IsWellFormed lobby → IsReply (lobby_reply (lobby_answer lobby session act))
+lobby_replies lobby session (Enter name) formed = lobby_tells (enter_refused lobby session name) (LobbyEntered name) tt
+lobby_replies lobby session (Match to terms) formed = lobby_tells (match_refused lobby session to terms) LobbyDone tt
 lobby_replies lobby session Bye formed = tt
+lobby_replies lobby session _ formed = places_at_desks lobby session formed
 
 desk_replying : {Q : Type 0} (answer : Result Q Refusal) → IsReply (desk_reply (replying DeskDone answer))
 desk_replying (Ok q) = tt
 desk_replying (Err cause) = tt
 
-desk_done : (refused : Option Refusal) → IsReply (desk_reply (answered refused (Ok DeskDone)))
-desk_done None = tt
-desk_done (Some cause) = tt
-
-desk_items : (refused : Option Refusal) (items : List Item) (is_over : Bool) → All IsItem items → IsReply (desk_reply (answered refused (Ok (DeskItems items is_over))))
-desk_items None items is_over h = h
-desk_items (Some cause) items is_over h = tt
+desk_tells : (refused : Option Refusal) (answer : DeskReply) → TellsWinners answer → IsReply (desk_reply (answered refused (Ok answer)))
+desk_tells None answer h = h
+desk_tells (Some cause) answer h = tt
 
 items_past : (feed : List Item) (cursor : Option Cursor) → All IsItem feed → All IsItem (past feed cursor)
 items_past feed None h = All-nil IsItem
@@ -107,17 +94,15 @@ items_past feed (Some cursor) h = All-drop IsItem cursor.seen feed h
 
 game_replies : (g : GameState) (session moment : ℕ) (act : DeskAct) → NamesWinners g → IsReply (desk_reply (game_answer g session moment act))
 game_replies g session moment (Move word) h = desk_replying (seat_move g (colour_of g session) word)
-game_replies g session moment Resign h = desk_done (resign_refused g (colour_of g session))
+game_replies g session moment Resign h = desk_tells (resign_refused g (colour_of g session)) DeskDone tt
 game_replies g session moment Flag h = desk_replying (seat_flag g moment (colour_of g session))
-game_replies g session moment DeskFetch h = desk_items (fetch_refused g session) (ahead_of g session) (is_some g.ended) (items_past g.feed (cursor_of g session) h)
+game_replies g session moment DeskFetch h =
+    desk_tells (fetch_refused g session) (DeskItems (ahead_of g session) (is_some g.ended)) (items_past g.feed (cursor_of g session) h)
 game_replies g session moment Leave h = tt
 
 missing_replies : (act : DeskAct) → IsReply (desk_reply (missing_answer act))
-missing_replies (Move word) = tt
-missing_replies Resign = tt
-missing_replies Flag = tt
-missing_replies DeskFetch = tt
 missing_replies Leave = tt
+missing_replies _ = tt
 
 either_replies : (b : Bool) (one another : Result DeskReply Refusal) → IsReply (desk_reply one) → IsReply (desk_reply another) → IsReply (desk_reply (if b then one else another))
 either_replies true one another h k = h
@@ -128,29 +113,19 @@ desk_replies None session moment serial act h = missing_replies act
 desk_replies (Some g) session moment serial act h =
     either_replies (g.serial == serial) (game_answer g session moment act) (missing_answer act) (game_replies g session moment act h) (missing_replies act)
 
-clear_replies : (is_over is_alone : Bool) → IsReply (cond is_over (cond is_alone Cleared Freed) Kept)
-clear_replies true true = tt
-clear_replies true false = tt
-clear_replies false is_alone = tt
-
-pub plan_replies : (plan : Plan) (desk : DeskState) → IsReply (plan_reply plan desk)
-plan_replies (Seat number serial terms seats) desk = tt
-plan_replies (Clear session number serial) desk = clear_replies (has_ended desk serial) (is_left desk)
-
 pair_replies : (r : Result Plan Refusal) (other : Option Part) → IsReply (pair_reply r other)
 pair_replies (Err cause) other = tt
 pair_replies (Ok plan) None = tt
 pair_replies (Ok plan) (Some (TheLobby lobby)) = tt
-pair_replies (Ok plan) (Some (ADesk desk)) = plan_replies plan desk
+pair_replies (Ok plan) (Some (ADesk desk)) = tt
 
 -- the answer of such a part
 pub answers_well : (part : Part) (other : Option Part) (session moment : ℕ) (act : Act) → AnswersWell part → IsReply (house_answer part other session moment act)
 answers_well (TheLobby lobby) other session moment (Lobby act) h = lobby_replies lobby session act h
 answers_well (TheLobby lobby) other session moment (Pair act) h = pair_replies (plan_of lobby session act) other
-answers_well (TheLobby lobby) other session moment (Desk number serial act) h = tt
 answers_well (ADesk desk) other session moment (Desk number serial act) h = desk_replies desk.game session moment serial act h
-answers_well (ADesk desk) other session moment (Lobby act) h = tt
-answers_well (ADesk desk) other session moment (Pair act) h = tt
+answers_well (TheLobby lobby) other session moment (Desk number serial act) h = tt
+answers_well (ADesk desk) other session moment _ h = tt
 
 part_answers : (part other : Option Part) (session : ℕ) (timed : Timed) (r : Reply) → IfSome part AnswersWell
     → option_map (λ p. house_answer p other session timed.moment timed.act) part ≡ Some r → IsReply r

@@ -12,7 +12,7 @@ use Rattle.histories.specs.declared.entry.Entry.{Entry}
 use Rattle.histories.specs.History.{entry}
 use Rattle.histories.proofs.Histories.{grows_legally, steps_once, stays_whole}
 use Rattle.lobby_state.specs.declared.game.Game.{Game}
-use Rattle.lobby_state.specs.Lobby.{LobbyState, desks}
+use Rattle.lobby_state.specs.Lobby.{LobbyState, desks as desk_count}
 use Rattle.linked_desk.specs.Desk.{DeskState}
 use Rattle.one_server.specs.declared.act.Timed.{Timed}
 use Rattle.one_server.specs.declared.part.Part.{Part}
@@ -25,16 +25,16 @@ use Rattle.one_server.specs.declared.part.Part.TheVariants.{Lobby as TheLobby, D
 use Rattle.one_server.specs.Plans.{AreForTwo}
 use Rattle.lobby_state.specs.declared.challenge.Challenge.{Challenge}
 use Rattle.one_server.specs.Whole.{AreAllForTwo, IsInPlace, IsOpening, IsWhole, parts_of, vacant_from, opened}
-use Rattle.one_server.specs.Lawful.{house_lawful}
+use Rattle.one_server.specs.LawfulProof.{house_lawful}
 
 -- the parts of a server are whole
-pub whole_now : (opening : List Part) (log : List (Entry Timed Reply)) (lobby : LobbyState) (tables : List DeskState) → IsServed opening log lobby tables → IsWhole (parts_of lobby tables)
-whole_now opening log lobby tables s = subst IsWhole s.state (stays_whole house house_lawful opening log s.whole s.legal)
+pub whole_now : (opening : List Part) (log : List (Entry Timed Reply)) (lobby : LobbyState) (desks : List DeskState) → IsServed opening log lobby desks → IsWhole (parts_of lobby desks)
+whole_now opening log lobby desks s = subst IsWhole s.state (stays_whole house house_lawful opening log s.whole s.legal)
 
-pub one_more : (opening : List Part) (log : List (Entry Timed Reply)) (lobby new : LobbyState) (tables news : List DeskState) (session : ℕ) (act : Timed) (r : Reply)
-    → IsServed opening log lobby tables → IsEvent act → reply house (parts_of lobby tables) session act ≡ Some r → after house (parts_of lobby tables) session act ≡ parts_of new news
+pub one_more : (opening : List Part) (log : List (Entry Timed Reply)) (lobby new : LobbyState) (desks news : List DeskState) (session : ℕ) (act : Timed) (r : Reply)
+    → IsServed opening log lobby desks → IsEvent act → reply house (parts_of lobby desks) session act ≡ Some r → after house (parts_of lobby desks) session act ≡ parts_of new news
     → IsServed opening (log ++ entry session act r ∷ []) new news
-one_more opening log lobby new tables news session act r s fits answers leaves = record {
+one_more opening log lobby new desks news session act r s fits answers leaves = record {
   whole = s.whole;
   legal = grows_legally house opening log (entry session act r) s.legal fits (ap (λ xs. reply house xs session act) s.state ∙ answers);
   state = steps_once house opening log (entry session act r) ∙ ap (λ xs. after house xs session act) s.state ∙ leaves;
@@ -71,11 +71,11 @@ none_there (suc n) (suc i) h = none_there n i (omega arith)
 pub front : (one another : Part) → Some one ≡ Some another → one ≡ another
 front one another e = cc
 
-open_desk : (lobby : LobbyState) → lobby.games ≡ replicate desks None → (i : ℕ) (part : Part) (found : Option DeskState) → slice_get (vacant_from 1 desks) i ≡ found → option_map ADesk found ≡ Some part
+open_desk : (lobby : LobbyState) → lobby.games ≡ replicate desk_count None → (i : ℕ) (part : Part) (found : Option DeskState) → slice_get (vacant_from 1 desk_count) i ≡ found → option_map ADesk found ≡ Some part
     → IsInPlace lobby (suc i) part
 open_desk lobby none i part None e h = absurd cc
 open_desk lobby none i part (Some desk) e h =
-    let there = vacant_there 1 desks i desk e in
+    let there = vacant_there 1 desk_count i desk e in
     let number : 1 + i ≡ suc i = omega arith in
     let slot : suc i - 1 ≡ i = omega arith in
     let is : ADesk (vacant (suc i)) ≡ part = ap (λ n. ADesk (vacant n)) (sym number) ∙ ap ADesk there.1 ∙ front (ADesk desk) part h in
@@ -83,20 +83,20 @@ open_desk lobby none i part (Some desk) e h =
       omega arith,
       record {
         numbered = refl;
-        listed = ap (slice_get lobby.games) slot ∙ ap (λ (gs : List (Option Game)). slice_get gs i) none ∙ none_there desks i there.0;
+        listed = ap (slice_get lobby.games) slot ∙ ap (λ (gs : List (Option Game)). slice_get gs i) none ∙ none_there desk_count i there.0;
       },
     )
 
-open_place : (lobby : LobbyState) → lobby.games ≡ replicate desks None → (place : ℕ) (part : Part) → slice_get (parts_of lobby (vacant_from 1 desks)) place ≡ Some part → IsInPlace lobby place part
+open_place : (lobby : LobbyState) → lobby.games ≡ replicate desk_count None → (place : ℕ) (part : Part) → slice_get (parts_of lobby (vacant_from 1 desk_count)) place ≡ Some part → IsInPlace lobby place part
 open_place lobby none zero part e = subst (IsInPlace lobby 0) (front (TheLobby lobby) part e) refl
-open_place lobby none (suc i) part e = open_desk lobby none i part (slice_get (vacant_from 1 desks) i) refl (sym (slice_get-map ADesk (vacant_from 1 desks) i) ∙ e)
+open_place lobby none (suc i) part e = open_desk lobby none i part (slice_get (vacant_from 1 desk_count) i) refl (sym (slice_get-map ADesk (vacant_from 1 desk_count) i) ∙ e)
 
 -- a server opens in a whole state
-pub whole_opening : (lobby : LobbyState) → IsOpening lobby → IsWhole (parts_of lobby (vacant_from 1 desks))
+pub whole_opening : (lobby : LobbyState) → IsOpening lobby → IsWhole (parts_of lobby (vacant_from 1 desk_count))
 whole_opening lobby o = record {
   count =
-      let all : length (map ADesk (vacant_from 1 desks)) ≡ length (vacant_from 1 desks) = length-map (vacant_from 1 desks) ADesk in
-      let some : length (vacant_from 1 desks) ≡ desks = length-vacant 1 desks in
+      let all : length (map ADesk (vacant_from 1 desk_count)) ≡ length (vacant_from 1 desk_count) = length-map (vacant_from 1 desk_count) ADesk in
+      let some : length (vacant_from 1 desk_count) ≡ desk_count = length-vacant 1 desk_count in
       omega (arith, all, some);
   lobby = lobby;
   first = refl;
@@ -105,17 +105,17 @@ whole_opening lobby o = record {
   places = open_place lobby o.no_game;
 }
 
-pub fresh : (opening lobby : LobbyState) (tables : List DeskState) (log : List (Entry Timed Reply)) → IsOpening lobby → opening ≡ lobby → tables ≡ vacant_from 1 desks → log ≡ [] → IsServed (opened opening) log lobby tables
+pub fresh : (opening lobby : LobbyState) (desks : List DeskState) (log : List (Entry Timed Reply)) → IsOpening lobby → opening ≡ lobby → desks ≡ vacant_from 1 desk_count → log ≡ [] → IsServed (opened opening) log lobby desks
 unfolding opened
-fresh opening lobby tables log o same e empty =
+fresh opening lobby desks log o same e empty =
     let whole = whole_opening lobby o in
-    let made : IsServed (opened lobby) [] lobby (vacant_from 1 desks) = record { whole = whole; legal = tt; state = refl } in
-    subst (λ (l : LobbyState). IsServed (opened l) log lobby tables) (sym same)
+    let made : IsServed (opened lobby) [] lobby (vacant_from 1 desk_count) = record { whole = whole; legal = tt; state = refl } in
+    subst (λ (l : LobbyState). IsServed (opened l) log lobby desks) (sym same)
     (subst (λ (ds : List DeskState). IsServed (opened lobby) log lobby ds) (sym e)
-    (subst (λ (es : List (Entry Timed Reply)). IsServed (opened lobby) es lobby (vacant_from 1 desks)) (sym empty) made))
+    (subst (λ (es : List (Entry Timed Reply)). IsServed (opened lobby) es lobby (vacant_from 1 desk_count)) (sym empty) made))
 
-pub vacant_push : (slot : ℕ) (tables new : List DeskState) (desk : DeskState) → tables ≡ vacant_from 1 slot → desk ≡ vacant (slot + 1) → new ≡ tables ++ desk ∷ [] → new ≡ vacant_from 1 (slot + 1)
-vacant_push slot tables new desk e d n =
+pub vacant_push : (slot : ℕ) (desks new : List DeskState) (desk : DeskState) → desks ≡ vacant_from 1 slot → desk ≡ vacant (slot + 1) → new ≡ desks ++ desk ∷ [] → new ≡ vacant_from 1 (slot + 1)
+vacant_push slot desks new desk e d n =
     let one : slot + 1 ≡ 1 + slot = omega arith in
     let more : suc slot ≡ slot + 1 = omega arith in
     n ∙ (λ i. e i ++ d i ∷ []) ∙ ap (λ k. vacant_from 1 slot ++ vacant k ∷ []) one ∙ sym (vacant_more 1 slot) ∙ ap (vacant_from 1) more

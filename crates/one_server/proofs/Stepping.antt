@@ -21,7 +21,7 @@ use Rattle.lobby_state.specs.declared.acts.Plan.{Plan}
 use Rattle.lobby_state.specs.declared.acts.Plan.TheVariants.{Seat, Clear}
 use Rattle.lobby_state.specs.declared.game.Game.{Game}
 use Rattle.lobby_state.specs.Acts.{IsDesk, NamesDesk, lobby_answer, lobby_after, plan_of, desk_of}
-use Rattle.lobby_state.specs.Lobby.{LobbyState, desks}
+use Rattle.lobby_state.specs.Lobby.{LobbyState, desks as desk_count}
 use Rattle.lobby_state.specs.Planned.{IsPlanned, SeatsTwo}
 use Rattle.lobby_state.proofs.Planned.{plan_of-is, desk_of-is, SeatsTwo-plan_of}
 use Rattle.std.specs.Prelude.{IfOk, OnOk}
@@ -31,23 +31,23 @@ use Rattle.one_server.specs.declared.act.Timed.{Timed}
 use Rattle.one_server.specs.declared.part.Part.{Part}
 use Rattle.one_server.specs.declared.part.Part.TheVariants.{Lobby as TheLobby, Desk as ADesk}
 use Rattle.one_server.specs.declared.reply.Reply.{Reply}
-use Rattle.one_server.specs.declared.reply.Reply.TheVariants.{Refused}
+use Rattle.one_server.specs.declared.reply.Reply.TheVariants.{Refused, Pair as PairReplied}
 use Rattle.one_server.specs.Acts.{planned_desk, lobby_reply, desk_reply}
 use Rattle.one_server.specs.Desks.{listing, game_of}
 use Rattle.one_server.specs.House.{house, pair_reply, pair_lobby, pair_desk}
 use Rattle.one_server.specs.Plans.{CanCarry, plan_reply, plan_lobby, plan_desk}
 use Rattle.one_server.specs.Whole.{IsListed, IsWhole, parts_of}
-use Rattle.one_server.specs.KeptForTwo.{SeatsForTwo, for_two-plan_of}
-use Rattle.one_server.specs.KeptWhole.{formed_is, two_is, place_is}
+use Rattle.one_server.specs.ForTwoProof.{SeatsForTwo, for_two-plan_of}
+use Rattle.one_server.specs.WholeProof.{formed_is, two_is, place_is}
 
 -- the desk with a number stands at its place in the list of parts
-pub part_there : (lobby : LobbyState) (tables : List DeskState) (number : ℕ) (desk : DeskState) → 1 ≤ number → slice_get tables (number - 1) ≡ Some desk
-    → slice_get (parts_of lobby tables) number ≡ Some (ADesk desk)
-part_there lobby tables zero desk h e = absurd (omega arith)
-part_there lobby tables (suc n) desk h e =
+pub part_there : (lobby : LobbyState) (desks : List DeskState) (number : ℕ) (desk : DeskState) → 1 ≤ number → slice_get desks (number - 1) ≡ Some desk
+    → slice_get (parts_of lobby desks) number ≡ Some (ADesk desk)
+part_there lobby desks zero desk h e = absurd (omega arith)
+part_there lobby desks (suc n) desk h e =
     let same : suc n - 1 ≡ n = omega arith in
-    let there : slice_get tables n ≡ Some desk = subst (λ (k : ℕ). slice_get tables k ≡ Some desk) same e in
-    slice_get-map ADesk tables n ∙ ap (option_map ADesk) there
+    let there : slice_get desks n ≡ Some desk = subst (λ (k : ℕ). slice_get desks k ≡ Some desk) same e in
+    slice_get-map ADesk desks n ∙ ap (option_map ADesk) there
 
 same_desk : (one another : DeskState) → Some (ADesk one) ≡ Some (ADesk another) → one ≡ another
 same_desk one another e = cc
@@ -57,94 +57,94 @@ no_desk None desk e = absurd cc
 no_desk (Some one) desk e = ap Some (same_desk one desk e)
 
 -- and what stands there is that desk
-pub table_there : (lobby : LobbyState) (tables : List DeskState) (number : ℕ) (desk : DeskState) → 1 ≤ number → slice_get (parts_of lobby tables) number ≡ Some (ADesk desk)
-    → slice_get tables (number - 1) ≡ Some desk
-table_there lobby tables zero desk h e = absurd (omega arith)
-table_there lobby tables (suc n) desk h e =
+pub desk_there : (lobby : LobbyState) (desks : List DeskState) (number : ℕ) (desk : DeskState) → 1 ≤ number → slice_get (parts_of lobby desks) number ≡ Some (ADesk desk)
+    → slice_get desks (number - 1) ≡ Some desk
+desk_there lobby desks zero desk h e = absurd (omega arith)
+desk_there lobby desks (suc n) desk h e =
     let same : suc n - 1 ≡ n = omega arith in
-    let there : slice_get tables n ≡ Some desk = no_desk (slice_get tables n) desk (sym (slice_get-map ADesk tables n) ∙ e) in
-    subst (λ (k : ℕ). slice_get tables k ≡ Some desk) (sym same) there
+    let there : slice_get desks n ≡ Some desk = no_desk (slice_get desks n) desk (sym (slice_get-map ADesk desks n) ∙ e) in
+    subst (λ (k : ℕ). slice_get desks k ≡ Some desk) (sym same) there
 
 -- a desk that is written anew in the list of parts
-written : (lobby : LobbyState) (tables : List DeskState) (number : ℕ) (desk : DeskState) → 1 ≤ number
-    → set (parts_of lobby tables) number (ADesk desk) ≡ parts_of lobby (set tables (number - 1) desk)
-written lobby tables zero desk h = absurd (omega arith)
-written lobby tables (suc n) desk h =
+written : (lobby : LobbyState) (desks : List DeskState) (number : ℕ) (desk : DeskState) → 1 ≤ number
+    → set (parts_of lobby desks) number (ADesk desk) ≡ parts_of lobby (set desks (number - 1) desk)
+written lobby desks zero desk h = absurd (omega arith)
+written lobby desks (suc n) desk h =
     let same : suc n - 1 ≡ n = omega arith in
-    ap (λ ps. TheLobby lobby ∷ ps) (sym (map-set ADesk tables n desk)) ∙ ap (λ k. parts_of lobby (set tables k desk)) (sym same)
+    ap (λ ps. TheLobby lobby ∷ ps) (sym (map-set ADesk desks n desk)) ∙ ap (λ k. parts_of lobby (set desks k desk)) (sym same)
 
 -- there are 128 desks in a whole state
-pub tables_count : (lobby : LobbyState) (tables : List DeskState) → IsWhole (parts_of lobby tables) → length tables ≡ desks
-tables_count lobby tables w =
-    let all : length (map ADesk tables) ≡ length tables = length-map tables ADesk in
-    let count : length (parts_of lobby tables) ≡ desks + 1 = w.count in
+pub count_of_desks : (lobby : LobbyState) (desks : List DeskState) → IsWhole (parts_of lobby desks) → length desks ≡ desk_count
+count_of_desks lobby desks w =
+    let all : length (map ADesk desks) ≡ length desks = length-map desks ADesk in
+    let count : length (parts_of lobby desks) ≡ desk_count + 1 = w.count in
     omega (arith, all, count)
 
-module _ (lobby : LobbyState) (tables : List DeskState) (session moment : ℕ) where
+module _ (lobby : LobbyState) (desks : List DeskState) (session moment : ℕ) where
   pub reply_lobby : (act : LobbyAct) (r : Reply) → r ≡ lobby_reply (lobby_answer lobby session act)
-      → reply house (parts_of lobby tables) session (record { moment = moment; act = Lobby act }) ≡ Some r
+      → reply house (parts_of lobby desks) session (record { moment = moment; act = Lobby act }) ≡ Some r
   reply_lobby act r e =
       let timed : Timed = record { moment = moment; act = Lobby act } in
-      reply_alone house (parts_of lobby tables) session timed (TheLobby lobby) refl refl ∙ ap Some (sym e)
+      reply_alone house (parts_of lobby desks) session timed (TheLobby lobby) refl refl ∙ ap Some (sym e)
 
   pub after_lobby : (act : LobbyAct) (new : LobbyState) → new ≡ lobby_after lobby session act
-      → after house (parts_of lobby tables) session (record { moment = moment; act = Lobby act }) ≡ parts_of new tables
+      → after house (parts_of lobby desks) session (record { moment = moment; act = Lobby act }) ≡ parts_of new desks
   after_lobby act new e =
       let timed : Timed = record { moment = moment; act = Lobby act } in
-      after_alone house (parts_of lobby tables) session timed (TheLobby lobby) refl refl ∙ ap (λ l. parts_of l tables) (sym e)
+      after_alone house (parts_of lobby desks) session timed (TheLobby lobby) refl refl ∙ ap (λ l. parts_of l desks) (sym e)
 
-  module _ (number serial : ℕ) (act : DeskAct) (desk : DeskState) (low : 1 ≤ number) (there : slice_get tables (number - 1) ≡ Some desk) where
+  module _ (number serial : ℕ) (act : DeskAct) (desk : DeskState) (low : 1 ≤ number) (there : slice_get desks (number - 1) ≡ Some desk) where
     pub reply_desk : (r : Reply) → r ≡ desk_reply (desk_answer desk session moment serial act)
-        → reply house (parts_of lobby tables) session (record { moment = moment; act = Desk number serial act }) ≡ Some r
+        → reply house (parts_of lobby desks) session (record { moment = moment; act = Desk number serial act }) ≡ Some r
     reply_desk r e =
         let timed : Timed = record { moment = moment; act = Desk number serial act } in
-        reply_alone house (parts_of lobby tables) session timed (ADesk desk) (part_there lobby tables number desk low there) refl ∙ ap Some (sym e)
+        reply_alone house (parts_of lobby desks) session timed (ADesk desk) (part_there lobby desks number desk low there) refl ∙ ap Some (sym e)
 
-    pub after_desk : (new : List DeskState) → new ≡ set tables (number - 1) (desk_after desk session moment serial act)
-        → after house (parts_of lobby tables) session (record { moment = moment; act = Desk number serial act }) ≡ parts_of lobby new
+    pub after_desk : (new : List DeskState) → new ≡ set desks (number - 1) (desk_after desk session moment serial act)
+        → after house (parts_of lobby desks) session (record { moment = moment; act = Desk number serial act }) ≡ parts_of lobby new
     after_desk new e =
         let timed : Timed = record { moment = moment; act = Desk number serial act } in
-        after_alone house (parts_of lobby tables) session timed (ADesk desk) (part_there lobby tables number desk low there) refl
-        ∙ written lobby tables number (desk_after desk session moment serial act) low
+        after_alone house (parts_of lobby desks) session timed (ADesk desk) (part_there lobby desks number desk low there) refl
+        ∙ written lobby desks number (desk_after desk session moment serial act) low
         ∙ ap (λ ds. parts_of lobby ds) (sym e)
 
   module _ (act : PairAct) (cause : Refusal) (is : Err cause ≡ plan_of lobby session act) where
-    pub reply_refused : reply house (parts_of lobby tables) session (record { moment = moment; act = Pair act }) ≡ Some (Refused cause)
+    pub reply_refused : reply house (parts_of lobby desks) session (record { moment = moment; act = Pair act }) ≡ Some (Refused cause)
     reply_refused =
         let timed : Timed = record { moment = moment; act = Pair act } in
-        reply_alone house (parts_of lobby tables) session timed (TheLobby lobby) refl (ap planned_desk (sym is))
+        reply_alone house (parts_of lobby desks) session timed (TheLobby lobby) refl (ap planned_desk (sym is))
         ∙ ap (λ r. Some (pair_reply r None)) (sym is)
 
-    pub after_refused : after house (parts_of lobby tables) session (record { moment = moment; act = Pair act }) ≡ parts_of lobby tables
+    pub after_refused : after house (parts_of lobby desks) session (record { moment = moment; act = Pair act }) ≡ parts_of lobby desks
     after_refused =
         let timed : Timed = record { moment = moment; act = Pair act } in
-        after_alone house (parts_of lobby tables) session timed (TheLobby lobby) refl (ap planned_desk (sym is))
-        ∙ ap (λ r. parts_of (pair_lobby lobby r None) tables) (sym is)
+        after_alone house (parts_of lobby desks) session timed (TheLobby lobby) refl (ap planned_desk (sym is))
+        ∙ ap (λ r. parts_of (pair_lobby lobby r None) desks) (sym is)
 
   module _ (act : PairAct) (plan : Plan) (desk : DeskState) (is : Ok plan ≡ plan_of lobby session act) (d : IsDesk (desk_of plan))
-      (there : slice_get tables (desk_of plan - 1) ≡ Some desk) where
-    pub reply_planned : (r : Reply) → r ≡ plan_reply plan desk
-        → reply house (parts_of lobby tables) session (record { moment = moment; act = Pair act }) ≡ Some r
+      (there : slice_get desks (desk_of plan - 1) ≡ Some desk) where
+    pub reply_planned : (r : Reply) → r ≡ PairReplied (plan_reply plan desk)
+        → reply house (parts_of lobby desks) session (record { moment = moment; act = Pair act }) ≡ Some r
     reply_planned r e =
         let timed : Timed = record { moment = moment; act = Pair act } in
-        reply_together house (parts_of lobby tables) session timed (TheLobby lobby) (ADesk desk) (desk_of plan) refl (ap planned_desk (sym is))
-        (part_there lobby tables (desk_of plan) desk d.0 there)
+        reply_together house (parts_of lobby desks) session timed (TheLobby lobby) (ADesk desk) (desk_of plan) refl (ap planned_desk (sym is))
+        (part_there lobby desks (desk_of plan) desk d.0 there)
         ∙ ap (λ p. Some (pair_reply p (Some (ADesk desk)))) (sym is) ∙ ap Some (sym e)
 
-    pub after_planned : (new : LobbyState) (news : List DeskState) → new ≡ plan_lobby lobby plan desk → news ≡ set tables (desk_of plan - 1) (plan_desk plan desk moment)
-        → after house (parts_of lobby tables) session (record { moment = moment; act = Pair act }) ≡ parts_of new news
+    pub after_planned : (new : LobbyState) (news : List DeskState) → new ≡ plan_lobby lobby plan desk → news ≡ set desks (desk_of plan - 1) (plan_desk plan desk moment)
+        → after house (parts_of lobby desks) session (record { moment = moment; act = Pair act }) ≡ parts_of new news
     after_planned new news e f =
         let timed : Timed = record { moment = moment; act = Pair act } in
-        let both = after_together house (parts_of lobby tables) session timed (TheLobby lobby) (ADesk desk) (desk_of plan) refl (ap planned_desk (sym is))
-        (part_there lobby tables (desk_of plan) desk d.0 there) in
+        let both = after_together house (parts_of lobby desks) session timed (TheLobby lobby) (ADesk desk) (desk_of plan) refl (ap planned_desk (sym is))
+        (part_there lobby desks (desk_of plan) desk d.0 there) in
         both
-        ∙ ap (λ p. set (parts_of (pair_lobby lobby p (Some (ADesk desk))) tables) (desk_of plan) (ADesk (pair_desk p desk moment))) (sym is)
-        ∙ written (plan_lobby lobby plan desk) tables (desk_of plan) (plan_desk plan desk moment) d.0
+        ∙ ap (λ p. set (parts_of (pair_lobby lobby p (Some (ADesk desk))) desks) (desk_of plan) (ADesk (pair_desk p desk moment))) (sym is)
+        ∙ written (plan_lobby lobby plan desk) desks (desk_of plan) (plan_desk plan desk moment) d.0
         ∙ (λ i. parts_of (sym e i) (sym f i))
 
 -- each number of a desk has its desk
-pub table_at : (lobby : LobbyState) (tables : List DeskState) (number : ℕ) → length tables ≡ desks → IsDesk number → (desk : DeskState) × (slice_get tables (number - 1) ≡ Some desk)
-table_at lobby tables number count d = get_within tables (number - 1) (omega (arith, count, d))
+pub desk_with : (lobby : LobbyState) (desks : List DeskState) (number : ℕ) → length desks ≡ desk_count → IsDesk number → (desk : DeskState) × (slice_get desks (number - 1) ≡ Some desk)
+desk_with lobby desks number count d = get_within desks (number - 1) (omega (arith, count, d))
 
 -- a desk for which the lobby lists nothing is vacant
 vacant_in : (game : Option GameState) → None ≡ option_map listing (option_map occupant game) → game ≡ None
@@ -157,25 +157,25 @@ nothing_listed game e = cc
 vacant_by : (desk : DeskState) → Some None ≡ Some (game_of desk) → desk.game ≡ None
 vacant_by desk e = vacant_in desk.game (nothing_listed (game_of desk) e)
 
-carried_by : (lobby : LobbyState) (plan : Plan) (desk : DeskState) → IsListed lobby (desk_of plan) desk → IsPlanned lobby plan → SeatsTwo plan → SeatsForTwo plan → CanCarry plan desk
+pub carried_by : (lobby : LobbyState) (plan : Plan) (desk : DeskState) → IsListed lobby (desk_of plan) desk → IsPlanned lobby plan → SeatsTwo plan → SeatsForTwo plan → CanCarry plan desk
 carried_by lobby (Seat number serial terms seats) desk listed planned two one = (vacant_by desk (sym planned.is_free ∙ listed.listed), two, one)
 carried_by lobby (Clear session number serial) desk listed planned two one = tt
 
 -- a plan that the lobby gave can be carried out at its desk
-pub can_carry : (lobby : LobbyState) (tables : List DeskState) (session : ℕ) (act : PairAct) (plan : Plan) → IsWhole (parts_of lobby tables) → NamesDesk act → Ok plan ≡ plan_of lobby session act
-    → (desk : DeskState) → slice_get tables (desk_of plan - 1) ≡ Some desk → CanCarry plan desk
-can_carry lobby tables session act plan w names is desk there =
-    let xs : List Part = parts_of lobby tables in
+pub can_carry : (lobby : LobbyState) (desks : List DeskState) (session : ℕ) (act : PairAct) (plan : Plan) → IsWhole (parts_of lobby desks) → NamesDesk act → Ok plan ≡ plan_of lobby session act
+    → (desk : DeskState) → slice_get desks (desk_of plan - 1) ≡ Some desk → CanCarry plan desk
+can_carry lobby desks session act plan w names is desk there =
+    let xs : List Part = parts_of lobby desks in
     let formed = formed_is xs lobby w refl in
     let planned : IsPlanned lobby plan = plan_of-is lobby session act plan formed.games names (sym is) in
     let d : IsDesk (desk_of plan) = desk_of-is lobby plan planned in
-    let place = place_is xs lobby w refl (desk_of plan) (ADesk desk) (part_there lobby tables (desk_of plan) desk d.0 there) in
+    let place = place_is xs lobby w refl (desk_of plan) (ADesk desk) (part_there lobby desks (desk_of plan) desk d.0 there) in
     carried_by lobby plan desk place.1 planned (SeatsTwo-plan_of lobby session act plan formed (sym is)) (for_two-plan_of lobby session act plan (two_is xs lobby w refl) (sym is))
 
-pub planned_number : (lobby : LobbyState) (tables : List DeskState) (session : ℕ) (act : PairAct) (plan : Plan) → IsWhole (parts_of lobby tables) → NamesDesk act → Ok plan ≡ plan_of lobby session act
+pub planned_number : (lobby : LobbyState) (desks : List DeskState) (session : ℕ) (act : PairAct) (plan : Plan) → IsWhole (parts_of lobby desks) → NamesDesk act → Ok plan ≡ plan_of lobby session act
     → IsDesk (desk_of plan)
-planned_number lobby tables session act plan w names is =
-    desk_of-is lobby plan (plan_of-is lobby session act plan (formed_is (parts_of lobby tables) lobby w refl).games names (sym is))
+planned_number lobby desks session act plan w names is =
+    desk_of-is lobby plan (plan_of-is lobby session act plan (formed_is (parts_of lobby desks) lobby w refl).games names (sym is))
 
 -- an act behind its moment
 pub at_act : (timed : Timed) (act : Act) (Q : Timed → Type 0) → timed.act ≡ act → Q (record { moment = timed.moment; act = act }) → Q timed

@@ -14,56 +14,50 @@ use Rattle.one_server.specs.declared.act.Timed.{Timed}
 use Rattle.one_server.specs.declared.part.Part.{Part}
 use Rattle.one_server.specs.declared.part.Part.TheVariants.{Lobby as TheLobby, Desk as ADesk}
 use Rattle.one_server.specs.declared.reply.Reply.{Reply}
-use Rattle.one_server.specs.declared.reply.Reply.TheVariants.{Refused, Done}
+use Rattle.one_server.specs.declared.reply.Reply.TheVariants as reply
+use Rattle.one_server.specs.declared.reply.PairReply.TheVariants.{Kept}
 use Rattle.one_server.specs.Acts.{first_part, second_part, IsEvent, lobby_reply, desk_reply}
 use Rattle.one_server.specs.Plans.{plan_reply, plan_lobby, plan_desk}
 use Rattle.one_server.specs.Whole.{IsWhole}
 
--- the reply to a pair act: a refusal by the lobby, or what the plan replies with its desk in hand. Without that desk,
--- which no whole state lacks, the reply is Done
+-- what is replied where an act lacks its parts, which it has in every whole state: nothing was done
+abbrev pub no_parts : Reply
+no_parts = reply.Pair Kept
+
+-- the reply to a pair act: a refusal by the lobby, or what the plan replies with its desk in hand
 abbrev pub pair_reply : Result Plan Refusal → Option Part → Reply
-pair_reply (Err cause) other = Refused cause
-pair_reply (Ok plan) None = Done
-pair_reply (Ok plan) (Some (TheLobby lobby)) = Done
-pair_reply (Ok plan) (Some (ADesk desk)) = plan_reply plan desk
+pair_reply (Err cause) other = reply.Refused cause
+pair_reply (Ok plan) (Some (ADesk desk)) = reply.Pair (plan_reply plan desk)
+pair_reply (Ok plan) _ = no_parts
 
 -- the lobby after a pair act
 abbrev pub pair_lobby : LobbyState → Result Plan Refusal → Option Part → LobbyState
-pair_lobby lobby (Err cause) other = lobby
-pair_lobby lobby (Ok plan) None = lobby
-pair_lobby lobby (Ok plan) (Some (TheLobby another)) = lobby
 pair_lobby lobby (Ok plan) (Some (ADesk desk)) = plan_lobby lobby plan desk
+pair_lobby lobby _ _ = lobby
 
 -- the desk after a pair act
 abbrev pub pair_desk : Result Plan Refusal → DeskState → ℕ → DeskState
-pair_desk (Err cause) desk moment = desk
 pair_desk (Ok plan) desk moment = plan_desk plan desk moment
+pair_desk (Err cause) desk moment = desk
 
--- the reply to an act. Its first part is the one that the act needs in every whole state; else the reply is Done
+-- the reply to an act, whose first part is the one that it needs in every whole state
 abbrev pub house_answer : Part → Option Part → ℕ → ℕ → Act → Reply
 house_answer (TheLobby lobby) other session moment (Lobby act) = lobby_reply (lobby_answer lobby session act)
 house_answer (TheLobby lobby) other session moment (Pair act) = pair_reply (plan_of lobby session act) other
-house_answer (TheLobby lobby) other session moment (Desk number serial act) = Done
 house_answer (ADesk desk) other session moment (Desk number serial act) = desk_reply (desk_answer desk session moment serial act)
-house_answer (ADesk desk) other session moment (Lobby act) = Done
-house_answer (ADesk desk) other session moment (Pair act) = Done
+house_answer _ other session moment _ = no_parts
 
 -- the first part afterwards
 abbrev pub house_one : Part → Option Part → ℕ → ℕ → Act → Part
 house_one (TheLobby lobby) other session moment (Lobby act) = TheLobby (lobby_after lobby session act)
 house_one (TheLobby lobby) other session moment (Pair act) = TheLobby (pair_lobby lobby (plan_of lobby session act) other)
-house_one (TheLobby lobby) other session moment (Desk number serial act) = TheLobby lobby
 house_one (ADesk desk) other session moment (Desk number serial act) = ADesk (desk_after desk session moment serial act)
-house_one (ADesk desk) other session moment (Lobby act) = ADesk desk
-house_one (ADesk desk) other session moment (Pair act) = ADesk desk
+house_one part other session moment _ = part
 
 -- the second part afterwards: the desk of a pair act
 abbrev pub house_two : Part → Part → ℕ → ℕ → Act → Part
 house_two (TheLobby lobby) (ADesk desk) session moment (Pair act) = ADesk (pair_desk (plan_of lobby session act) desk moment)
-house_two (TheLobby lobby) (ADesk desk) session moment (Lobby act) = ADesk desk
-house_two (TheLobby lobby) (ADesk desk) session moment (Desk number serial act) = ADesk desk
-house_two (TheLobby lobby) (TheLobby other) session moment act = TheLobby other
-house_two (ADesk desk) other session moment act = other
+house_two _ other session moment _ = other
 
 abbrev pub house : Core Part Timed Reply
 house = record {

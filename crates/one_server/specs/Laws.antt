@@ -11,9 +11,12 @@ use Rattle.lobby_state.specs.Lobby.{LobbyState}
 use Rattle.lobby_state.specs.WellFormed.{HasSeats}
 use Rattle.one_server.specs.declared.part.Part.{Part}
 use Rattle.one_server.specs.declared.part.Part.TheVariants.{Lobby as TheLobby, Desk as ADesk}
+use Rattle.one_server.specs.declared.act.Timed.{Timed}
+use Rattle.one_server.specs.Acts.{IsEvent, first_part, second_part}
 use Rattle.one_server.specs.Desks.{game_of}
 use Rattle.one_server.specs.House.{house}
-use Rattle.one_server.specs.Replies.{IsItem}
+use Rattle.one_server.specs.Lent.{AreBothOf, IsFirstOf}
+use Rattle.one_server.specs.Replies.{IsItem, IsReply}
 use Rattle.one_server.specs.Running.{Log}
 use Rattle.one_server.specs.Whole.{IsWhole, opened}
 
@@ -49,3 +52,18 @@ HoldsInEachState Q = (opening : List Part) (log : Log) → IsWhole opening → L
 -- the fact holds in the state of every legal history that opens with a lobby and vacant desks
 abbrev pub HoldsOnceOpened : (List Part → Type 0) → Type 0
 HoldsOnceOpened Q = (lobby : LobbyState) (log : Log) → Legal house (opened lobby) log → Q (state house (opened lobby) log)
+
+-- in a whole state the part that an act names is of the kind that it needs first
+abbrev pub LendsFirst : Type 0
+LendsFirst = (parts : List Part) (timed : Timed) (one : Part) → IsWhole parts → IsEvent timed → slice_get parts (first_part timed.act) ≡ Some one → IsFirstOf one timed.act
+
+-- and the part that its plan names is a desk at which the plan can be carried out
+abbrev pub LendsSecond : Type 0
+LendsSecond =
+    (parts : List Part) (session : ℕ) (timed : Timed) (one two : Part) (number : ℕ) → IsWhole parts → IsEvent timed → slice_get parts (first_part timed.act) ≡ Some one
+    → second_part one session timed.act ≡ Some number → slice_get parts number ≡ Some two → AreBothOf one two session timed.act
+
+-- each reply of a history that opens with a lobby and vacant desks tells places at desks alone, and of each end the
+-- winner exactly where somebody won
+abbrev pub RepliesWell : Type 0
+RepliesWell = (lobby : LobbyState) (log : Log) → IsWhole (opened lobby) → Legal house (opened lobby) log → All (λ e. IsReply e.reply) log

@@ -14,10 +14,8 @@ use Rattle.one_server.specs.Plans.{CanCarry}
 abbrev pub IsFirstOf : Part → Act → Type 0
 IsFirstOf (TheLobby lobby) (Lobby act) = Unit {0}
 IsFirstOf (TheLobby lobby) (Pair act) = Unit {0}
-IsFirstOf (TheLobby lobby) (Desk number serial act) = ⊥
 IsFirstOf (ADesk desk) (Desk number serial act) = Unit {0}
-IsFirstOf (ADesk desk) (Lobby act) = ⊥
-IsFirstOf (ADesk desk) (Pair act) = ⊥
+IsFirstOf _ _ = ⊥
 
 -- there is a plan, and it can be carried out at the desk
 abbrev pub IsCarried : Result Plan Refusal → DeskState → Type 0
@@ -27,7 +25,4 @@ IsCarried (Err cause) desk = ⊥
 -- the parts are the lobby and the desk of the plan that a pair act has
 abbrev pub AreBothOf : Part → Part → ℕ → Act → Type 0
 AreBothOf (TheLobby lobby) (ADesk desk) session (Pair act) = IsCarried (plan_of lobby session act) desk
-AreBothOf (TheLobby lobby) (ADesk desk) session (Lobby act) = ⊥
-AreBothOf (TheLobby lobby) (ADesk desk) session (Desk number serial act) = ⊥
-AreBothOf (TheLobby lobby) (TheLobby other) session act = ⊥
-AreBothOf (ADesk desk) other session act = ⊥
+AreBothOf _ _ session _ = ⊥

@@ -4,11 +4,11 @@ pub mod Replies
 pub mod Plans
 pub mod Whole
 pub mod House
-pub mod KeptForTwo
-pub mod KeptWhole
-pub mod Lawful
 pub mod Copies
-pub mod Server
 pub mod Running
-pub mod Laws
+pub mod Server
 pub mod Lent
+pub mod Laws
+pub mod ForTwoProof
+pub mod WholeProof
+pub mod LawfulProof

@@ -10,15 +10,15 @@ use Rattle.lobby_state.specs.Planned.{AreApart}
 use Rattle.lobby_state.specs.Seating.{seated}
 use Rattle.linked_desk.specs.Desk.{DeskState}
 use Rattle.one_server.specs.Desks.{has_ended, is_left, with_game, emptied}
-use Rattle.one_server.specs.declared.reply.Reply.{Reply}
-use Rattle.one_server.specs.declared.reply.Reply.TheVariants.{Started, Kept, Freed, Cleared}
+use Rattle.one_server.specs.declared.reply.PairReply.{PairReply}
+use Rattle.one_server.specs.declared.reply.PairReply.TheVariants.{Started, Kept, Freed, Cleared}
 
 -- the game is played on one board by two players: bughouse takes partners, and nobody has one yet
 abbrev pub AreForTwo : Terms → Type 0
 AreForTwo terms = terms.variant ≢ Bughouse
 
 -- a Clear is Kept where no game of that serial has ended at the desk, Freed where somebody still looks on, and else Cleared
-abbrev pub plan_reply : Plan → DeskState → Reply
+abbrev pub plan_reply : Plan → DeskState → PairReply
 plan_reply (Seat number serial terms seats) desk = Started
 plan_reply (Clear session number serial) desk = cond (has_ended desk serial) (cond (is_left desk) Cleared Freed) Kept
 

@@ -1,29 +1,52 @@
 -- What one act of a session makes of what the session has seen. This server's own.
-use Rattle.std.specs.Prelude.{◌≡◌, ℕ, List, [], ◌∷◌, ◌++◌}
+use Rattle.std.specs.Prelude.{◌≡◌, ℕ, Bool, true, List, [], ◌∷◌, ◌++◌, Result, Ok, Err}
 use Rattle.histories.specs.declared.entry.Entry.{Entry}
 use Rattle.histories.specs.History.{IsPrefix, calls_of, entry, Legal}
 use Rattle.one_server.specs.declared.act.Timed.{Timed}
 use Rattle.one_server.specs.declared.part.Part.{Part}
 use Rattle.one_server.specs.declared.reply.Reply.{Reply}
 use Rattle.one_server.specs.House.{house}
+use Rattle.one_server.specs.Replies.{IsReply}
+use Rattle.memory.specs.declared.NoMemory.{NoMemory}
 
 -- a history of this server
 abbrev pub Log : Type 0
 Log = List (Entry Timed Reply)
 
--- the session was answered: what it has seen begins with what it had seen, is legal, and ends with this act and this
--- reply; and what it has made are its own entries there, one more than before
-pub record Ran (opening : List Part) (number : ℕ) (act : Timed) (reply : Reply) (seen made seen_now made_now : Log) : Type 0 where
-  pub others : Log
-  pub ends : seen_now ≡ (seen ++ others) ++ entry number act reply ∷ []
-  pub legal : Legal house opening seen_now
-  pub own : made_now ≡ calls_of number seen_now
-  pub more : made_now ≡ made ++ entry number act reply ∷ []
+-- what is known of a session while it runs its acts: its number; the opening state of the server; the mark, which says
+-- that acts that need no memory of their own never meet want of it; whether the session is by itself, so that nobody
+-- else makes acts while it runs its own; the history that it has seen, and its own entries there
+pub record RunnerState : Type 0 where
+  pub number : ℕ
+  pub opening : List Part
+  pub mark : Bool
+  pub sole : Bool
+  pub seen : Log
+  pub made : Log
 
--- the session met want of memory: what it has seen begins with what it had seen and is legal, without a new entry of
--- its own
-pub record Unmade (opening : List Part) (number : ℕ) (seen made seen_now made_now : Log) : Type 0 where
-  pub begins : IsPrefix seen seen_now
-  pub legal : Legal house opening seen_now
-  pub own : made_now ≡ calls_of number seen_now
-  pub same : made_now ≡ made
+-- what the session has seen is legal, and what it made are its own entries there
+pub record IsKnown (it : RunnerState) : Type 0 where
+  pub legal : Legal house it.opening it.seen
+  pub own : it.made ≡ calls_of it.number it.seen
+
+-- the session made these entries: what it has seen begins with what it had seen, and they are its only new ones there,
+-- and all that is new where it is by itself; the rest stays as it was
+pub record Made (old : RunnerState) (entries : Log) (new : RunnerState) : Type 0 where
+  pub same : new ≡ record old { seen = new.seen; made = new.made }
+  pub begins : IsPrefix old.seen new.seen
+  pub known : IsKnown new
+  pub more : new.made ≡ old.made ++ entries
+  pub only : old.sole ≡ true → new.seen ≡ old.seen ++ entries
+
+-- the session was answered: it made this act with this reply, and that is the last that it has seen. The reply tells
+-- places at desks, and names the winner of each end
+pub record Ran (old : RunnerState) (act : Timed) (reply : Reply) (new : RunnerState) : Type 0 where
+  pub grew : Made old (entry old.number act reply ∷ []) new
+  pub others : Log
+  pub ends : new.seen ≡ (old.seen ++ others) ++ entry old.number act reply ∷ []
+  pub fits : IsReply reply
+
+-- a session runs an act: it is answered, or it meets want of memory and makes no entry
+abbrev pub Runs : RunnerState → Timed → Result Reply NoMemory → RunnerState → Type 0
+Runs old act (Ok reply) new = Ran old act reply new
+Runs old act (Err e) new = Made old [] new

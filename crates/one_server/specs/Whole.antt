@@ -1,6 +1,6 @@
 -- Whole states: what holds of the lobby and the desks together, in every state. This server's own.
 use Rattle.std.specs.Prelude.{◌≡◌, ℕ, ◌+◌, ◌-◌, ◌≤◌, zero, suc, List, [], ◌∷◌, All, length, map, replicate, None, Some, slice_get}
-use Rattle.lobby_state.specs.Lobby.{LobbyState, desks}
+use Rattle.lobby_state.specs.Lobby.{LobbyState, desks as desk_count}
 use Rattle.lobby_state.specs.WellFormed.{IsWellFormed}
 use Rattle.lobby_state.specs.declared.challenge.Challenge.{Challenge}
 use Rattle.linked_desk.specs.Desk.{DeskState}
@@ -26,7 +26,7 @@ AreAllForTwo challenges = All (λ challenge. AreForTwo challenge.terms) challeng
 
 -- a state of one lobby and 128 desks, of which each is listed, beside a lobby that is well-formed
 pub record IsWhole (parts : List Part) : Type 0 where
-  pub count : length parts ≡ desks + 1
+  pub count : length parts ≡ desk_count + 1
   pub lobby : LobbyState
   pub first : slice_get parts 0 ≡ Some (TheLobby lobby)
   pub formed : IsWellFormed lobby
@@ -35,7 +35,7 @@ pub record IsWhole (parts : List Part) : Type 0 where
 
 -- the state of this lobby and these desks
 abbrev pub parts_of : LobbyState → List DeskState → List Part
-parts_of lobby tables = TheLobby lobby ∷ map ADesk tables
+parts_of lobby desks = TheLobby lobby ∷ map ADesk desks
 
 -- so many desks from this number on, all of them vacant
 abbrev pub vacant_from : ℕ → ℕ → List DeskState
@@ -47,8 +47,8 @@ pub record IsOpening (lobby : LobbyState) : Type 0 where
   pub formed : IsWellFormed lobby
   pub nobody : lobby.members ≡ []
   pub nothing : lobby.challenges ≡ []
-  pub no_game : lobby.games ≡ replicate desks None
+  pub no_game : lobby.games ≡ replicate desk_count None
 
 -- the opening state: a lobby, and 128 vacant desks
 unfoldable pub opened : LobbyState → List Part
-opened lobby = parts_of lobby (vacant_from 1 desks)
+opened lobby = parts_of lobby (vacant_from 1 desk_count)

@@ -4,7 +4,7 @@ ghost use Rattle.histories.specs.Core.{reply, after};
 ghost use Rattle.linked_desk.specs.Acts.{desk_answer, desk_after};
 ghost use Rattle.linked_desk.specs.Desk.{DeskState};
 ghost use Rattle.lobby_state.specs.Acts.{IsDesk, NamesDesk, desk_of};
-ghost use Rattle.lobby_state.specs.Lobby.{desks};
+ghost use Rattle.lobby_state.specs.Lobby.{desks as desk_count};
 ghost use Rattle.one_server.specs.declared.act.Act.TheVariants.{Pair};
 ghost use Rattle.one_server.specs.Acts.{IsEvent, desk_reply};
 ghost use Rattle.one_server.specs.House.{house};
@@ -24,29 +24,29 @@ use std::alloc::Global;
 pub(crate) fn act_step(
     alloc: Global,
     lobby: &mut Lobby,
-    tables: &mut Listed<Desk>,
+    desks: &mut Listed<Desk>,
     session: u32,
     timed: &Timed,
 ) -> Result<Reply, NoMemory>
     requires event { IsEvent timed.now }
-    requires whole { IsWhole (parts_of lobby.old tables.old) }
-    ensures reply { IfOk result (λ r. reply house (parts_of lobby.old tables.old) session timed.now ≡ Some r) }
-    ensures after { OnOk result (after house (parts_of lobby.old tables.old) session timed.now ≡ parts_of lobby.new tables.new) }
+    requires whole { IsWhole (parts_of lobby.old desks.old) }
+    ensures reply { IfOk result (λ r. reply house (parts_of lobby.old desks.old) session timed.now ≡ Some r) }
+    ensures after { OnOk result (after house (parts_of lobby.old desks.old) session timed.now ≡ parts_of lobby.new desks.new) }
     ensures err_lobby { OnErr result (lobby.new ≡ lobby.old) }
-    ensures err_tables { OnErr result (tables.new ≡ tables.old) }
+    ensures err_desks { OnErr result (desks.new ≡ desks.old) }
 {
     match &timed.act {
         Act::Lobby(act) => lobby_step(lobby, session, timed.moment, act),
         Act::Desk { desk, serial, act } => {
-            table_step(tables, *desk, session, timed.moment, *serial, act)
+            step_at_desk(desks, *desk, session, timed.moment, *serial, act)
         }
-        Act::Pair(act) => planned_step(alloc, lobby, tables, session, timed.moment, act),
+        Act::Pair(act) => planned_step(alloc, lobby, desks, session, timed.moment, act),
     }
 }
 
 /// Makes an act at the desk of that number.
-fn table_step(
-    tables: &mut Listed<Desk>,
+fn step_at_desk(
+    desks: &mut Listed<Desk>,
     number: u8,
     session: u32,
     moment: u64,
@@ -55,59 +55,59 @@ fn table_step(
 ) -> Result<Reply, NoMemory>
     requires moment { moment ≤ 2 ^ 48 }
     requires number { IsDesk number }
-    requires count { length tables.old ≡ desks }
-    ensures reply { (desk : DeskState) → slice_get tables.old (number - 1) ≡ Some desk → IfOk result (λ r. r ≡ desk_reply (desk_answer desk session moment serial act.now)) }
-    ensures after { (desk : DeskState) → slice_get tables.old (number - 1) ≡ Some desk → OnOk result (tables.new ≡ slice_set tables.old (number - 1) (desk_after desk session moment serial act.now)) }
-    ensures err { OnErr result (tables.new ≡ tables.old) }
+    requires count { length desks.old ≡ desk_count }
+    ensures reply { (desk : DeskState) → slice_get desks.old (number - 1) ≡ Some desk → IfOk result (λ r. r ≡ desk_reply (desk_answer desk session moment serial act.now)) }
+    ensures after { (desk : DeskState) → slice_get desks.old (number - 1) ≡ Some desk → OnOk result (desks.new ≡ slice_set desks.old (number - 1) (desk_after desk session moment serial act.now)) }
+    ensures err { OnErr result (desks.new ≡ desks.old) }
 {
-    let table = tables.item_mut(number as usize - 1);
-    desk_step(table, session, moment, serial, act)
+    let desk = desks.item_mut(number as usize - 1);
+    desk_step(desk, session, moment, serial, act)
 }
 
 /// Makes a pair act: what the lobby plans is carried out with the plan's desk.
 fn planned_step(
     alloc: Global,
     lobby: &mut Lobby,
-    tables: &mut Listed<Desk>,
+    desks: &mut Listed<Desk>,
     session: u32,
     moment: u64,
     act: &PairAct,
 ) -> Result<Reply, NoMemory>
     requires moment { moment ≤ 2 ^ 48 }
     requires names { NamesDesk act.now }
-    requires whole { IsWhole (parts_of lobby.old tables.old) }
-    ensures reply { IfOk result (λ r. reply house (parts_of lobby.old tables.old) session (record { moment = moment; act = Pair act.now }) ≡ Some r) }
-    ensures after { OnOk result (after house (parts_of lobby.old tables.old) session (record { moment = moment; act = Pair act.now }) ≡ parts_of lobby.new tables.new) }
+    requires whole { IsWhole (parts_of lobby.old desks.old) }
+    ensures reply { IfOk result (λ r. reply house (parts_of lobby.old desks.old) session (record { moment = moment; act = Pair act.now }) ≡ Some r) }
+    ensures after { OnOk result (after house (parts_of lobby.old desks.old) session (record { moment = moment; act = Pair act.now }) ≡ parts_of lobby.new desks.new) }
     ensures err_lobby { OnErr result (lobby.new ≡ lobby.old) }
-    ensures err_tables { OnErr result (tables.new ≡ tables.old) }
+    ensures err_desks { OnErr result (desks.new ≡ desks.old) }
 {
     let plan = match lobby.plan(session, act) {
         Ok(plan) => plan,
         Err(cause) => return Ok(Reply::Refused(cause)),
     };
-    carry_out(alloc, lobby, tables, moment, &plan)
+    carry_out(alloc, lobby, desks, moment, &plan)
 }
 
 /// Carries out a plan with its desk.
 fn carry_out(
     alloc: Global,
     lobby: &mut Lobby,
-    tables: &mut Listed<Desk>,
+    desks: &mut Listed<Desk>,
     moment: u64,
     plan: &Plan,
 ) -> Result<Reply, NoMemory>
     requires moment { moment ≤ 2 ^ 48 }
     requires number { IsDesk (desk_of plan.now) }
-    requires count { length tables.old ≡ desks }
-    requires ready { (desk : DeskState) → slice_get tables.old (desk_of plan.now - 1) ≡ Some desk → CanCarry plan.now desk }
-    ensures reply { (desk : DeskState) → slice_get tables.old (desk_of plan.now - 1) ≡ Some desk → IfOk result (λ r. r ≡ plan_reply plan.now desk) }
-    ensures lobby { (desk : DeskState) → slice_get tables.old (desk_of plan.now - 1) ≡ Some desk → OnOk result (lobby.new ≡ plan_lobby lobby.old plan.now desk) }
-    ensures tables { (desk : DeskState) → slice_get tables.old (desk_of plan.now - 1) ≡ Some desk → OnOk result (tables.new ≡ slice_set tables.old (desk_of plan.now - 1) (plan_desk plan.now desk moment)) }
+    requires count { length desks.old ≡ desk_count }
+    requires ready { (desk : DeskState) → slice_get desks.old (desk_of plan.now - 1) ≡ Some desk → CanCarry plan.now desk }
+    ensures reply { (desk : DeskState) → slice_get desks.old (desk_of plan.now - 1) ≡ Some desk → IfOk result (λ r. r ≡ Reply.Pair (plan_reply plan.now desk)) }
+    ensures lobby { (desk : DeskState) → slice_get desks.old (desk_of plan.now - 1) ≡ Some desk → OnOk result (lobby.new ≡ plan_lobby lobby.old plan.now desk) }
+    ensures desks { (desk : DeskState) → slice_get desks.old (desk_of plan.now - 1) ≡ Some desk → OnOk result (desks.new ≡ slice_set desks.old (desk_of plan.now - 1) (plan_desk plan.now desk moment)) }
     ensures err_lobby { OnErr result (lobby.new ≡ lobby.old) }
-    ensures err_tables { OnErr result (tables.new ≡ tables.old) }
+    ensures err_desks { OnErr result (desks.new ≡ desks.old) }
 {
-    let table = tables.item_mut(desk_of(plan) as usize - 1);
-    pair_step(alloc, lobby, table, moment, plan)
+    let desk = desks.item_mut(desk_of(plan) as usize - 1);
+    pair_step(alloc, lobby, desk, moment, plan)
 }
 
 /// The desk of a plan.

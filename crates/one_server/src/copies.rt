@@ -1,14 +1,14 @@
 //! Copies of what an act will answer, made before the act, so that want of memory for them changes nothing.
 ghost use Rattle.std.specs.Prelude.{◌≡◌, IfOk, length};
-ghost use Rattle.lobby_state.specs.Lobby.{desks};
+ghost use Rattle.lobby_state.specs.Lobby.{desks as desk_count};
 ghost use Rattle.one_server.specs.Acts.{FitsAct};
-ghost use Rattle.one_server.specs.Copies.{AreOf, LinesFor, ItemsFor};
+ghost use Rattle.one_server.specs.Copies.{AreOf, HasItems, HasLines, LinesFor, ItemsFor};
 
 use crate::act::Act;
 use crate::reply::Reply;
 use fics_words::Duplicate;
-use linked_desk::{Desk, DeskAct, Item, ItemList};
-use lobby_state::{Lobby, LobbyAct};
+use linked_desk::{Desk, DeskAct, DeskReply, Item, ItemList};
+use lobby_state::{Lobby, LobbyAct, LobbyReply};
 use memory::NoMemory;
 use std::alloc::Global;
 use style12_writer::LineList;
@@ -25,17 +25,17 @@ impl Copies {
     pub(crate) fn ahead(
         alloc: Global,
         lobby: &Lobby,
-        tables: &[Desk],
+        desks: &[Desk],
         session: u32,
         act: &Act,
     ) -> Result<Copies, NoMemory>
         requires fits { FitsAct act.now }
-        requires count { length tables.now ≡ desks }
+        requires count { length desks.now ≡ desk_count }
         ensures lines { IfOk result (λ copies. LinesFor lobby.now session act.now copies.lines) }
-        ensures items { IfOk result (λ copies. ItemsFor tables.now session act.now copies.items) }
+        ensures items { IfOk result (λ copies. ItemsFor desks.now session act.now copies.items) }
     {
         let lines = lines_ahead(alloc, lobby, session, act)?;
-        let items = items_ahead(alloc, tables, session, act)?;
+        let items = items_ahead(alloc, desks, session, act)?;
         Ok(Copies { lines, items })
     }
 
@@ -44,22 +44,39 @@ impl Copies {
         requires { AreOf self reply.now }
         ensures { result ≡ reply.now }
     {
-        let Copies { lines, items } = self;
         match reply {
             Reply::Refused(cause) => Reply::Refused(*cause),
-            Reply::Done => Reply::Done,
-            Reply::Entered(name) => Reply::Entered(*name),
-            Reply::Places(places) => Reply::Places(*places),
-            Reply::Waiting { places, .. } => Reply::Waiting {
-                lines,
-                places: *places,
-            },
-            Reply::Items { over, .. } => Reply::Items { items, over: *over },
-            Reply::Started => Reply::Started,
-            Reply::Kept => Reply::Kept,
-            Reply::Freed => Reply::Freed,
-            Reply::Cleared => Reply::Cleared,
+            Reply::Lobby(answer) => Reply::Lobby(lobby_twin(answer, self.lines)),
+            Reply::Desk(answer) => Reply::Desk(desk_twin(answer, self.items)),
+            Reply::Pair(answer) => Reply::Pair(*answer),
         }
+    }
+}
+
+/// A reply of the lobby equal to this one, made of a copy of its lines.
+fn lobby_twin(reply: &LobbyReply, lines: LineList) -> LobbyReply
+    requires { HasLines lines reply.now }
+    ensures { result ≡ reply.now }
+{
+    match reply {
+        LobbyReply::Done => LobbyReply::Done,
+        LobbyReply::Entered(name) => LobbyReply::Entered(*name),
+        LobbyReply::Places(places) => LobbyReply::Places(*places),
+        LobbyReply::Waiting { places, .. } => LobbyReply::Waiting {
+            lines,
+            places: *places,
+        },
+    }
+}
+
+/// A reply of a desk equal to this one, made of a copy of its items.
+fn desk_twin(reply: &DeskReply, items: ItemList) -> DeskReply
+    requires { HasItems items reply.now }
+    ensures { result ≡ reply.now }
+{
+    match reply {
+        DeskReply::Done => DeskReply::Done,
+        DeskReply::Items { over, .. } => DeskReply::Items { items, over: *over },
     }
 }
 
@@ -74,15 +91,10 @@ fn lines_ahead(alloc: Global, lobby: &Lobby, session: u32, act: &Act) -> Result<
 }
 
 /// The items that an act will answer.
-fn items_ahead(
-    alloc: Global,
-    tables: &[Desk],
-    session: u32,
-    act: &Act,
-) -> Result<ItemList, NoMemory>
+fn items_ahead(alloc: Global, desks: &[Desk], session: u32, act: &Act) -> Result<ItemList, NoMemory>
     requires fits { FitsAct act.now }
-    requires count { length tables.now ≡ desks }
-    ensures { IfOk result (λ items. ItemsFor tables.now session act.now items) }
+    requires count { length desks.now ≡ desk_count }
+    ensures { IfOk result (λ items. ItemsFor desks.now session act.now items) }
 {
     match act {
         Act::Desk {
@@ -90,8 +102,8 @@ fn items_ahead(
             act: DeskAct::Fetch,
             ..
         } => {
-            let table = &tables[*desk as usize - 1];
-            copied(alloc, table.ahead(session))
+            let desk = &desks[*desk as usize - 1];
+            copied(alloc, desk.ahead(session))
         }
         _ => Ok(ItemList::new(alloc)),
     }

@@ -10,7 +10,7 @@ pub struct House;
 
 impl Served for House {
     ghost use Rattle.one_server.specs.House.{house};
-    ghost use Rattle.one_server.specs.Lawful.{house_lawful};
+    ghost use Rattle.one_server.specs.LawfulProof.{house_lawful};
 
     type Part = Part;
 

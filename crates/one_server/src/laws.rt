@@ -2,7 +2,7 @@
 ghost use Rattle.histories.specs.Laws.{LeavesOthers, RepliesLocally, ChangesLocally, RepliesCommute, StatesCommute};
 ghost use Rattle.lobby_state.specs.Lobby.{LobbyState, opening};
 ghost use Rattle.one_server.specs.House.{house};
-ghost use Rattle.one_server.specs.Laws.{HoldsInEachState, HoldsOnceOpened, ListsItsDesks, NamesItsWinners, SeatsItsMembers, ShowsItsLedgers};
+ghost use Rattle.one_server.specs.Laws.{HoldsInEachState, HoldsOnceOpened, LendsFirst, LendsSecond, ListsItsDesks, NamesItsWinners, RepliesWell, SeatsItsMembers, ShowsItsLedgers};
 ghost use Rattle.one_server.specs.Whole.{IsOpening, IsWhole, opened};
 
 use crate::house::House;
@@ -41,4 +41,17 @@ pub fn every_clock_is_its_ledger()
 /// exactly where somebody won, so its line can be written.
 pub fn every_end_names_its_winner()
     ensures { HoldsOnceOpened NamesItsWinners }
+{}
+
+/// In a whole state the part that an act names is what `alone` asks for as its one part, and `together` as its first;
+/// and the part that the act's plan names is what `together` asks for as its second.
+pub fn parts_are_lent()
+    ensures first { LendsFirst }
+    ensures second { LendsSecond }
+{}
+
+/// Each reply of a server that opened with vacant desks tells places at desks 1 to 128 alone, and of each end the winner
+/// exactly where somebody won: whoever prints it needs no check of it.
+pub fn every_reply_can_be_told()
+    ensures { RepliesWell }
 {}

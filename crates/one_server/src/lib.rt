@@ -24,11 +24,11 @@ pub use act::{Act, Timed};
 pub use house::House;
 pub use laws::{
     acts_keep_to_their_parts, every_clock_is_its_ledger, every_end_names_its_winner,
-    every_state_agrees,
+    every_reply_can_be_told, every_state_agrees, parts_are_lent,
 };
 pub use lent::{alone, first_part, second_part, together};
 pub use part::Part;
-pub use reply::Reply;
+pub use reply::{PairReply, Reply};
 pub use runner::Runner;
 pub use seat::OneSeat;
 pub use server::OneServer;

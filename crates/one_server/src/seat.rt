@@ -30,22 +30,14 @@ impl OneServer {
 }
 
 impl Runner for OneSeat<'_> {
-    ghost use Rattle.std.specs.Prelude.{false, true};
-    ghost use Rattle.histories.specs.History.{calls_of};
+    ghost use Rattle.std.specs.Borrow.{GName};
+    ghost use Rattle.one_server.specs.Server.{seat_state};
 
-    ghost number = { λ s. s.session };
+    ghost Home = { GName };
 
-    ghost opening = { λ s. s.server.now.opening };
+    ghost home = { λ s. s.server.ghost_name };
 
-    ghost mark = { λ _. false };
-
-    ghost seen = { λ s. s.server.now.log };
-
-    ghost made = { λ s. calls_of s.session s.server.now.log };
-
-    ghost lent = { λ s. s.server.ghost_name };
-
-    ghost alone = { λ _. true };
+    ghost state = { λ s. seat_state s.session s.server.now };
 
     fn session(&self) -> u32 {
         let _history = self.server.history();

@@ -1,7 +1,7 @@
 //! The server of one thread.
 ghost use Rattle.std.specs.Prelude.{◌≡◌, ◌≤◌, ◌++◌, ◌∷◌, [], Some, IfOk, OnErr, slice_get};
 ghost use Rattle.lobby_state.specs.Acts.{IsDesk};
-ghost use Rattle.lobby_state.specs.Lobby.{desks};
+ghost use Rattle.lobby_state.specs.Lobby.{desks as desk_count};
 ghost use Rattle.one_server.specs.Whole.{vacant_from};
 
 use crate::act::{Act, Timed};
@@ -24,7 +24,7 @@ pub struct OneServer {
     alloc: Global,
     opening: Snapshot<Lobby>,
     lobby: Lobby,
-    tables: Listed<Desk>,
+    desks: Listed<Desk>,
     log: Vec<Entry<Timed, Reply>>,
 }
 
@@ -36,7 +36,7 @@ impl Model for OneServer {
 
     ghost view = { λ s. record { opening = opened s.opening.value; log = s.log.items } };
 
-    ghost invariant = { λ s. IsServed (opened s.opening.value) s.log.items s.lobby s.tables };
+    ghost invariant = { λ s. IsServed (opened s.opening.value) s.log.items s.lobby s.desks };
 }
 
 impl OneServer {
@@ -53,12 +53,12 @@ impl OneServer {
         requires { IsOpening lobby }
         ensures { IfOk result (λ server. server ≡ record { opening = opened lobby; log = [] }) }
     {
-        let tables = vacant_tables(alloc)?;
+        let desks = vacant_desks(alloc)?;
         Ok(OneServer {
             alloc,
             opening: Snapshot::of(&lobby),
             lobby,
-            tables,
+            desks,
             log: Vec::new(alloc),
         })
     }
@@ -76,9 +76,9 @@ impl OneServer {
     {
         self.log.reserve(1)?;
         let alloc = self.alloc;
-        let copies = Copies::ahead(alloc, &self.lobby, &self.tables, session, &act)?;
+        let copies = Copies::ahead(alloc, &self.lobby, &self.desks, session, &act)?;
         let timed = Timed { moment, act };
-        let reply = act_step(alloc, &mut self.lobby, &mut self.tables, session, &timed)?;
+        let reply = act_step(alloc, &mut self.lobby, &mut self.desks, session, &timed)?;
         let twin = copies.twin(&reply);
         self.log.push_reserved(Entry {
             session,
@@ -100,7 +100,7 @@ impl OneServer {
         requires { IsDesk number }
         ensures { slice_get (parts_in self.now) number ≡ Some (ADesk result.now) }
     {
-        &self.tables[number as usize - 1]
+        &self.desks[number as usize - 1]
     }
 
     /// The whole history, the oldest entry first.
@@ -114,12 +114,12 @@ impl OneServer {
 }
 
 /// The desks 1 to 128, all of them vacant.
-fn vacant_tables(alloc: Global) -> Result<Listed<Desk>, NoMemory>
-    ensures { IfOk result (λ tables. tables ≡ vacant_from 1 desks) }
+fn vacant_desks(alloc: Global) -> Result<Listed<Desk>, NoMemory>
+    ensures { IfOk result (λ desks. desks ≡ vacant_from 1 desk_count) }
 {
-    let mut tables = Listed::new(alloc);
+    let mut desks = Listed::new(alloc);
     for slot in 0..DESKS {
-        tables.push(Desk::vacant(slot as u8 + 1))?;
+        desks.push(Desk::vacant(slot as u8 + 1))?;
     }
-    Ok(tables)
+    Ok(desks)
 }

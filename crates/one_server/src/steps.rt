@@ -6,7 +6,7 @@ ghost use Rattle.one_server.specs.Acts.{lobby_reply, desk_reply};
 ghost use Rattle.one_server.specs.Desks.{has_ended, is_left};
 ghost use Rattle.one_server.specs.Plans.{CanCarry, StartsGame, plan_reply, plan_lobby, plan_desk};
 
-use crate::reply::Reply;
+use crate::reply::{PairReply, Reply};
 use fics_words::Fail;
 use linked_desk::{Desk, DeskAct};
 use lobby_state::{Lobby, LobbyAct, Plan};
@@ -26,7 +26,7 @@ pub fn lobby_step(
     ensures sure { takes_memory act.now ≡ false → IsOk result }
 {
     match lobby.act(session, moment, act) {
-        Ok(reply) => Ok(Reply::from(reply)),
+        Ok(reply) => Ok(Reply::Lobby(reply)),
         Err(Fail::Refused(cause)) => Ok(Reply::Refused(cause)),
         Err(Fail::Memory) => Err(NoMemory),
     }
@@ -48,7 +48,7 @@ pub fn desk_step(
     ensures memory { OnErr result (TakesMemory act.now) }
 {
     match desk.act(session, moment, serial, act) {
-        Ok(reply) => Ok(Reply::from(reply)),
+        Ok(reply) => Ok(Reply::Desk(reply)),
         Err(Fail::Refused(cause)) => Ok(Reply::Refused(cause)),
         Err(Fail::Memory) => Err(NoMemory),
     }
@@ -66,7 +66,7 @@ pub fn pair_step(
     requires moment { moment ≤ 2 ^ 48 }
     requires number { IsDesk (desk_of plan.now) }
     requires ready { CanCarry plan.now desk.old }
-    ensures reply { IfOk result (λ reply. reply ≡ plan_reply plan.now desk.old) }
+    ensures reply { IfOk result (λ reply. reply ≡ Reply.Pair (plan_reply plan.now desk.old)) }
     ensures lobby { OnOk result (lobby.new ≡ plan_lobby lobby.old plan.now desk.old) }
     ensures desk { OnOk result (desk.new ≡ plan_desk plan.now desk.old moment) }
     ensures err_lobby { OnErr result (lobby.new ≡ lobby.old) }
@@ -82,19 +82,19 @@ pub fn pair_step(
         } => {
             desk.seat(alloc, *serial, *terms, seats.white, seats.black, moment)?;
             lobby.commit(plan, true);
-            Ok(Reply::Started)
+            Ok(Reply::Pair(PairReply::Started))
         }
         Plan::Clear { serial, .. } => {
             if !has_ended(desk, *serial) {
-                return Ok(Reply::Kept);
+                return Ok(Reply::Pair(PairReply::Kept));
             }
             let left = is_left(desk);
             lobby.commit(plan, left);
             if !left {
-                return Ok(Reply::Freed);
+                return Ok(Reply::Pair(PairReply::Freed));
             }
             desk.clear();
-            Ok(Reply::Cleared)
+            Ok(Reply::Pair(PairReply::Cleared))
         }
     }
 }

@@ -2,9 +2,9 @@
 
 use chess_model::{Colour, Kind, MoveWord, Square, Terms, Variant};
 use fics_words::{Fail, Handle, NoMemory, Refusal};
-use linked_desk::DeskAct;
-use lobby_state::{Lobby, LobbyAct, PairAct};
-use one_server::{Act, OneServer, Reply};
+use linked_desk::{DeskAct, DeskReply};
+use lobby_state::{Lobby, LobbyAct, LobbyReply, PairAct};
+use one_server::{Act, OneServer, PairReply, Reply};
 use std::alloc::Global;
 
 /// What a reply says, in short.
@@ -195,15 +195,34 @@ fn playing(
 fn in_short(reply: &Reply) -> Said {
     match reply {
         Reply::Refused(cause) => Said::Refused(cause.number()),
-        Reply::Done => Said::Done,
-        Reply::Entered(_) => Said::Entered,
-        Reply::Places(places) => Said::Places(places.rows().len()),
-        Reply::Waiting { lines, places } => Said::Waiting(lines.len(), places.rows().len()),
-        Reply::Items { items, over } => Said::Items(items.len(), *over),
-        Reply::Started => Said::Started,
-        Reply::Kept => Said::Kept,
-        Reply::Freed => Said::Freed,
-        Reply::Cleared => Said::Cleared,
+        Reply::Lobby(answer) => of_lobby(answer),
+        Reply::Desk(answer) => of_desk(answer),
+        Reply::Pair(answer) => of_pair(*answer),
+    }
+}
+
+fn of_lobby(answer: &LobbyReply) -> Said {
+    match answer {
+        LobbyReply::Done => Said::Done,
+        LobbyReply::Entered(_) => Said::Entered,
+        LobbyReply::Places(places) => Said::Places(places.rows().len()),
+        LobbyReply::Waiting { lines, places } => Said::Waiting(lines.len(), places.rows().len()),
+    }
+}
+
+fn of_desk(answer: &DeskReply) -> Said {
+    match answer {
+        DeskReply::Done => Said::Done,
+        DeskReply::Items { items, over } => Said::Items(items.len(), *over),
+    }
+}
+
+fn of_pair(answer: PairReply) -> Said {
+    match answer {
+        PairReply::Started => Said::Started,
+        PairReply::Kept => Said::Kept,
+        PairReply::Freed => Said::Freed,
+        PairReply::Cleared => Said::Cleared,
     }
 }
 

@@ -1,220 +1,221 @@
--- Going on in a script: by an act, by a text, and one step after the other.
-use Rattle.std.proofs.Common.{◌≡◌, ℕ, ◌+◌, ◌<◌, ◌≤◌, Bool, true, length, get_or, drop, drop_of_length-le, List, [], ◌∷◌, ◌++◌, refl, sym, ap, subst, ◌∙◌, append_assoc, append-nil}
-use Rattle.std.proofs.lemmas.List.{drop_more}
-use Rattle.lobby_state.specs.declared.place.Place.{Place}
+-- Going on in a course: by an act, by a text, and one step after the other.
+use Rattle.std.proofs.Common.{◌≡◌, ℕ, Bool, true, List, [], ◌∷◌, ◌++◌, refl, sym, ap, subst, ◌∙◌, append_assoc, append-nil, Ok, Err, Result}
+use Rattle.std.specs.Result.{IfOk, OnErr, OnOk, result_and}
+use Rattle.memory.specs.declared.NoMemory.{NoMemory}
 use Rattle.histories.specs.History.{entry}
 use Rattle.one_server.specs.declared.act.Act.{Act}
-use Rattle.one_server.specs.declared.part.Part.{Part}
 use Rattle.one_server.specs.declared.reply.Reply.{Reply}
-use Rattle.one_server.specs.Running.{Log, Ran, Unmade}
-use Rattle.session_core.specs.Going.{IsKnown, Made, Leads, Stopped, Went, Answered, Left}
-use Rattle.session_core.specs.Script.{Script, Done, Asks, Writes, Follows, Begins, timed}
+use Rattle.one_server.specs.Running.{IsKnown, Log, Made, Ran, RunnerState}
+use Rattle.session_core.specs.Course.{Course, Done, Asks, Writes, Follows, Begins, timed}
+use Rattle.session_core.specs.Going.{Answered, Leads, Left, Stopped, Went}
+use Rattle.session_core.specs.Memory.{MemoryState}
+use Rattle.session_core.specs.Stages.{Settles, onto, settled}
 
 -- ---- entries
 
-module _ (opening : List Part) (number : ℕ) (is_alone : Bool) where
-  pub made_none : (seen made : Log) → IsKnown opening number seen made → Made opening number is_alone seen made [] seen made
-  made_none seen made known = record { begins = ([], append-nil seen); known = known; more = sym (append-nil made); only = λ e. sym (append-nil seen) }
+pub made_none : (old : RunnerState) → IsKnown old → Made old [] old
+made_none old known = record { same = refl; begins = ([], append-nil old.seen); known = known; more = sym (append-nil old.made); only = λ e. sym (append-nil old.seen) }
 
-  pub made_then : (seen made one seen' made' two seen'' made'' : Log) → Made opening number is_alone seen made one seen' made' → Made opening number is_alone seen' made' two seen'' made''
-      → Made opening number is_alone seen made (one ++ two) seen'' made''
-  made_then seen made one seen' made' two seen'' made'' p q = record {
-    begins = (p.begins.0 ++ q.begins.0, sym (append_assoc seen p.begins.0 q.begins.0) ∙ ap (λ (l : Log). l ++ q.begins.0) p.begins.1 ∙ q.begins.1);
-    known = q.known;
-    more = q.more ∙ ap (λ (l : Log). l ++ two) p.more ∙ append_assoc made one two;
-    only = λ e. q.only e ∙ ap (λ (l : Log). l ++ two) (p.only e) ∙ append_assoc seen one two;
-  }
+-- what stays the same
+pub same_number : (old new : RunnerState) (entries : Log) → Made old entries new → new.number ≡ old.number
+same_number old new entries m = ap (λ (s : RunnerState). s.number) m.same
 
-  pub made_unmade : (seen made seen' made' : Log) → Unmade opening number seen made seen' made' → (is_alone ≡ true → seen' ≡ seen) → Made opening number is_alone seen made [] seen' made'
-  made_unmade seen made seen' made' u only = record {
-    begins = u.begins;
-    known = record { legal = u.legal; own = u.own };
-    more = u.same ∙ sym (append-nil made);
-    only = λ e. only e ∙ sym (append-nil seen);
-  }
+pub same_mark : (old new : RunnerState) (entries : Log) → Made old entries new → new.mark ≡ old.mark
+same_mark old new entries m = ap (λ (s : RunnerState). s.mark) m.same
 
-  pub made_ran : (act : Act) (moment : ℕ) (reply : Reply) (seen made seen' made' : Log) → Ran opening number (timed moment act) reply seen made seen' made'
-      → (is_alone ≡ true → seen' ≡ seen ++ entry number (timed moment act) reply ∷ [])
-      → Made opening number is_alone seen made (entry number (timed moment act) reply ∷ []) seen' made'
-  made_ran act moment reply seen made seen' made' ran only = record {
-    begins = (ran.others ++ entry number (timed moment act) reply ∷ [], sym (append_assoc seen ran.others (entry number (timed moment act) reply ∷ [])) ∙ sym ran.ends);
-    known = record { legal = ran.legal; own = ran.own };
-    more = ran.more;
-    only = only;
-  }
+pub made_then : (old mid new : RunnerState) (one two : Log) → Made old one mid → Made mid two new → Made old (one ++ two) new
+made_then old mid new one two p q = record {
+  same = q.same ∙ ap (λ (s : RunnerState). record s { seen = new.seen; made = new.made }) p.same;
+  begins = (p.begins.0 ++ q.begins.0, sym (append_assoc old.seen p.begins.0 q.begins.0) ∙ ap (λ (l : Log). l ++ q.begins.0) p.begins.1 ∙ q.begins.1);
+  known = q.known;
+  more = q.more ∙ ap (λ (l : Log). l ++ two) p.more ∙ append_assoc old.made one two;
+  only = λ e. q.only (ap (λ (s : RunnerState). s.sole) p.same ∙ e) ∙ ap (λ (l : Log). l ++ two) (p.only e) ∙ append_assoc old.seen one two;
+}
 
--- ---- scripts
+-- ---- courses
 
-leads_ask : (act : Act) (rest : Reply → Script) (session moment : ℕ) (reply : Reply) → Leads (Asks act rest) (rest reply) session moment (entry session (timed moment act) reply ∷ []) []
-leads_ask act rest session moment reply = record { whole = λ more text f. (refl, f); part = λ more b. (refl, b) }
+leads_ask : (act : Act) (rest : Reply → Course) (session moment : ℕ) (reply : Reply) → Leads (Asks act rest) (rest reply) session moment (entry session (timed moment act) reply ∷ []) []
+leads_ask act rest session moment reply = record { whole = λ more text memory f. (refl, f); part = λ more b. (refl, b) }
 
-leads_write : (put : List ℕ) (rest : Script) (session moment : ℕ) → Leads (Writes put rest) rest session moment [] put
-leads_write put rest session moment = record { whole = λ more text f. (text, refl, f); part = λ more b. b }
+leads_same : (course : Course) (session moment : ℕ) → Leads course course session moment [] []
+leads_same course session moment = record { whole = λ more text memory f. f; part = λ more b. b }
 
-leads_same : (script : Script) (session moment : ℕ) → Leads script script session moment [] []
-leads_same script session moment = record { whole = λ more text f. f; part = λ more b. b }
-
-leads_then : (one two three : Script) (session moment : ℕ) (es fs : Log) (p q : List ℕ) → Leads one two session moment es p → Leads two three session moment fs q
+leads_then : (one two three : Course) (session moment : ℕ) (es fs : Log) (p q : List ℕ) → Leads one two session moment es p → Leads two three session moment fs q
     → Leads one three session moment (es ++ fs) (p ++ q)
 leads_then one two three session moment es fs p q h k = record {
-  whole = λ more text f.
-      subst (λ (l : Log). Follows one session moment l (p ++ q ++ text)) (sym (append_assoc es fs more))
-      (subst (λ (t : List ℕ). Follows one session moment (es ++ (fs ++ more)) t) (sym (append_assoc p q text)) (h.whole (fs ++ more) (q ++ text) (k.whole more text f)));
+  whole = λ more text memory f.
+      subst (λ (l : Log). Follows one session moment l (p ++ q ++ text) memory) (sym (append_assoc es fs more))
+      (subst (λ (t : List ℕ). Follows one session moment (es ++ (fs ++ more)) t memory) (sym (append_assoc p q text)) (h.whole (fs ++ more) (q ++ text) memory (k.whole more text memory f)));
   part = λ more b. subst (λ (l : Log). Begins one session moment l) (sym (append_assoc es fs more)) (h.part (fs ++ more) (k.part more b));
 }
 
--- nothing was done of a script yet
-begins_none : (script : Script) (session moment : ℕ) → Begins script session moment []
-begins_none Done session moment = refl
+-- nothing was done of a course yet
+begins_none : (course : Course) (session moment : ℕ) → Begins course session moment []
+begins_none (Done memory) session moment = refl
 begins_none (Writes put rest) session moment = begins_none rest session moment
 begins_none (Asks act rest) session moment = tt
 
--- a script that leads to its end was followed
-pub follows_leads : (script : Script) (session moment : ℕ) (es : Log) (put : List ℕ) → Leads script Done session moment es put → Follows script session moment es put
-follows_leads script session moment es put h =
-    subst (λ (l : Log). Follows script session moment l put) (append-nil es)
-    (subst (λ (t : List ℕ). Follows script session moment (es ++ []) t) (append-nil put) (h.whole [] [] (refl, refl)))
+-- a course that leads to its end was followed
+follows_leads : (course : Course) (memory : MemoryState) (session moment : ℕ) (es : Log) (put : List ℕ) → Leads course (Done memory) session moment es put → Follows course session moment es put memory
+follows_leads course memory session moment es put h =
+    subst (λ (l : Log). Follows course session moment l put memory) (append-nil es)
+    (subst (λ (t : List ℕ). Follows course session moment (es ++ []) t memory) (append-nil put) (h.whole [] [] memory (refl, refl, refl)))
+
+-- and a course that was followed was followed so far
+begins_follows : (course : Course) (session moment : ℕ) (es : Log) (text : List ℕ) (memory : MemoryState) → Follows course session moment es text memory → Begins course session moment es
+begins_follows (Done kept) session moment es text memory f = f.0
+begins_follows (Writes put rest) session moment es text memory f = begins_follows rest session moment es f.0 memory f.2
+begins_follows (Asks act rest) session moment [] text memory f = tt
+begins_follows (Asks act rest) session moment (e ∷ es) text memory f = (f.0, begins_follows (rest e.reply) session moment es text memory f.1)
+
+-- what a course writes before its next act
+written : (course : Course) → List ℕ
+written (Writes put rest) = put ++ written rest
+written (Asks act rest) = []
+written (Done memory) = []
+
+onto-written : (out : List ℕ) (course : Course) → onto out course ≡ out ++ written course
+unfolding written
+onto-written out (Writes put rest) = onto-written (out ++ put) rest ∙ append_assoc out put (written rest)
+onto-written out (Asks act rest) = sym (append-nil out)
+onto-written out (Done memory) = sym (append-nil out)
+
+leads_settled : (course : Course) (session moment : ℕ) → Leads course (settled course) session moment [] (written course)
+unfolding written
+leads_settled (Writes put rest) session moment =
+    let h = leads_settled rest session moment in
+    record { whole = λ more text memory f. (written rest ++ text, append_assoc put (written rest) text, h.whole more text memory f); part = h.part }
+leads_settled (Asks act rest) session moment = leads_same (Asks act rest) session moment
+leads_settled (Done memory) session moment = leads_same (Done memory) session moment
 
 -- ---- a session on its way
 
-module _ (opening : List Part) (number : ℕ) (is_alone : Bool) (moment : ℕ) where
+module _ (moment : ℕ) where
   -- nothing is done yet
-  pub went_none : (script : Script) (seen made : Log) (out : List ℕ) → IsKnown opening number seen made → Went opening number is_alone script script moment seen made out seen made out
-  went_none script seen made out known = record {
-    entries = [];
-    put = [];
-    grew = made_none opening number is_alone seen made known;
-    leads = leads_same script number moment;
-    appended = sym (append-nil out);
-  }
+  pub went_none : (course : Course) (old : RunnerState) (out : List ℕ) → IsKnown old → Went course course moment old out old out
+  went_none course old out known = record { entries = []; put = []; grew = made_none old known; leads = leads_same course old.number moment; appended = sym (append-nil out) }
 
   -- an act was made
-  pub went_ask : (act : Act) (rest : Reply → Script) (reply : Reply) (seen made : Log) (out : List ℕ) (seen' made' : Log)
-      → Ran opening number (timed moment act) reply seen made seen' made' → (is_alone ≡ true → seen' ≡ seen ++ entry number (timed moment act) reply ∷ [])
-      → Went opening number is_alone (Asks act rest) (rest reply) moment seen made out seen' made' out
-  went_ask act rest reply seen made out seen' made' ran only = record {
-    entries = entry number (timed moment act) reply ∷ [];
+  pub went_ask : (act : Act) (rest : Reply → Course) (reply : Reply) (old : RunnerState) (out : List ℕ) (new : RunnerState) → Ran old (timed moment act) reply new
+      → Went (Asks act rest) (rest reply) moment old out new out
+  went_ask act rest reply old out new ran = record {
+    entries = entry old.number (timed moment act) reply ∷ [];
     put = [];
-    grew = made_ran opening number is_alone act moment reply seen made seen' made' ran only;
-    leads = leads_ask act rest number moment reply;
+    grew = ran.grew;
+    leads = leads_ask act rest old.number moment reply;
     appended = sym (append-nil out);
-  }
-
-  -- a text was written
-  pub went_write : (put : List ℕ) (rest : Script) (seen made : Log) (out out' : List ℕ) → IsKnown opening number seen made → out' ≡ out ++ put
-      → Went opening number is_alone (Writes put rest) rest moment seen made out seen made out'
-  went_write put rest seen made out out' known is = record {
-    entries = [];
-    put = put;
-    grew = made_none opening number is_alone seen made known;
-    leads = leads_write put rest number moment;
-    appended = is;
   }
 
   -- and then the next
-  pub went_then : (one two three : Script) (seen made : Log) (out : List ℕ) (seen' made' : Log) (out' : List ℕ) (seen'' made'' : Log) (out'' : List ℕ)
-      → Went opening number is_alone one two moment seen made out seen' made' out' → Went opening number is_alone two three moment seen' made' out' seen'' made'' out''
-      → Went opening number is_alone one three moment seen made out seen'' made'' out''
-  went_then one two three seen made out seen' made' out' seen'' made'' out'' p q = record {
+  pub went_then : (one two three : Course) (old mid new : RunnerState) (out out' out'' : List ℕ) → Went one two moment old out mid out' → Went two three moment mid out' new out''
+      → Went one three moment old out new out''
+  went_then one two three old mid new out out' out'' p q = record {
     entries = p.entries ++ q.entries;
     put = p.put ++ q.put;
-    grew = made_then opening number is_alone seen made p.entries seen' made' q.entries seen'' made'' p.grew q.grew;
-    leads = leads_then one two three number moment p.entries q.entries p.put q.put p.leads q.leads;
+    grew = made_then old mid new p.entries q.entries p.grew q.grew;
+    leads =
+        leads_then one two three old.number moment p.entries q.entries p.put q.put p.leads
+        (subst (λ (n : ℕ). Leads two three n moment q.entries q.put) (same_number old mid p.entries p.grew) q.leads);
     appended = q.appended ∙ ap (λ (l : List ℕ). l ++ q.put) p.appended ∙ append_assoc out p.put q.put;
   }
 
-  -- the end of the script, and the answer that is made of its text
-  pub answered : (script : Script) (answer : List ℕ → List ℕ) (seen made : Log) (start out : List ℕ) (seen' made' : Log) (end out' : List ℕ)
-      → (w : Went opening number is_alone script Done moment seen made start seen' made' end) → out' ≡ out ++ answer w.put
-      → Answered opening number is_alone script answer moment seen made out seen' made' out'
-  answered script answer seen made start out seen' made' end out' w is = record {
-    entries = w.entries;
-    text = w.put;
-    grew = w.grew;
-    follows = follows_leads script number moment w.entries w.put w.leads;
-    appended = is;
+  -- what stands before the next act was written
+  pub went_settled : (course coming : Course) (old : RunnerState) (out out' : List ℕ) → IsKnown old → Settles course coming out out' → Went course coming moment old out old out'
+  went_settled course coming old out out' known s = record {
+    entries = [];
+    put = written course;
+    grew = made_none old known;
+    leads = subst (λ (c : Course). Leads course c old.number moment [] (written course)) (sym s.goes) (leads_settled course old.number moment);
+    appended = s.text ∙ onto-written out course;
   }
+
+  -- an act was made, and what follows its reply was written
+  pub went_on : (act : Act) (rest : Reply → Course) (reply : Reply) (coming : Course) (old : RunnerState) (out : List ℕ) (new : RunnerState) (out' : List ℕ) → Ran old (timed moment act) reply new
+      → Settles (rest reply) coming out out' → Went (Asks act rest) coming moment old out new out'
+  went_on act rest reply coming old out new out' ran s =
+      went_then (Asks act rest) (rest reply) coming old new new out out out' (went_ask act rest reply old out new ran) (went_settled (rest reply) coming new out out' ran.grew.known s)
+
+  -- an act was made, and what follows its reply was written or met want of memory
+  pub went_asked : {T : Type 0} (act : Act) (rest : Reply → Course) (reply : Reply) (result : Result T NoMemory) (coming : T → Course) (old : RunnerState) (out : List ℕ) (new : RunnerState) (out' : List ℕ)
+      → Ran old (timed moment act) reply new → IfOk result (λ next. Settles (rest reply) (coming next) out out') → IfOk result (λ next. Went (Asks act rest) (coming next) moment old out new out')
+  went_asked act rest reply (Ok next) coming old out new out' ran s = went_on act rest reply (coming next) old out new out' ran s
+  went_asked act rest reply (Err e) coming old out new out' ran s = tt
+
+  -- and then the next, from the same course in other words
+  pub went_after : (one coming two three : Course) (old mid new : RunnerState) (out out' out'' : List ℕ) → Went one coming moment old out mid out' → coming ≡ two → Went two three moment mid out' new out''
+      → Went one three moment old out new out''
+  went_after one coming two three old mid new out out' out'' p is q =
+      went_then one two three old mid new out out' out'' (subst (λ (c : Course). Went one c moment old out mid out') is p) q
+
+  -- the end of the course
+  pub followed : (course coming : Course) (memory : MemoryState) (old new : RunnerState) (out out' : List ℕ) → Went course coming moment old out new out' → coming ≡ Done memory
+      → Answered course (λ text. text) moment old out new out' memory
+  followed course coming memory old new out out' p is =
+      let w : Went course (Done memory) moment old out new out' = subst (λ (c : Course). Went course c moment old out new out') is p in
+      record { entries = w.entries; text = w.put; grew = w.grew; follows = follows_leads course memory old.number moment w.entries w.put w.leads; appended = w.appended }
 
   -- the end of leaving, where nothing is written
-  pub left : (script : Script) (seen made seen' made' : Log) → Went opening number is_alone script Done moment seen made [] seen' made' []
-      → Left opening number is_alone script moment seen made seen' made'
-  left script seen made seen' made' w = record {
-    entries = w.entries;
-    grew = w.grew;
-    follows = subst (λ (t : List ℕ). Follows script number moment w.entries t) (sym w.appended) (follows_leads script number moment w.entries w.put w.leads);
-  }
+  pub left : (result : Result (Unit {0}) NoMemory) (course coming : Course) (memory : MemoryState) (old new : RunnerState) → OnOk result (Went course coming moment old [] new []) → coming ≡ Done memory
+      → OnOk result (Left course moment old new)
+  left (Ok u) course coming memory old new p is =
+      let f : Answered course (λ text. text) moment old [] new [] memory = followed course coming memory old new [] [] p is in
+      record {
+        entries = f.entries;
+        grew = f.grew;
+        memory = memory;
+        follows = subst (λ (t : List ℕ). Follows course old.number moment f.entries t memory) (sym f.appended) f.follows;
+      }
+  left (Err e) course coming memory old new p is = tt
 
-  -- and then the next, where what is known of the runner stays the same, from the same script in other words
-  pub went_next : (one two two' three : Script) (seen made : Log) (out : List ℕ) (opening' : List Part) (number' : ℕ) (is_alone' : Bool) (seen' made' : Log) (out' : List ℕ) (seen'' made'' : Log) (out'' : List ℕ)
-      → opening' ≡ opening → number' ≡ number → is_alone' ≡ is_alone → two' ≡ two
-      → Went opening number is_alone one two moment seen made out seen' made' out' → Went opening' number' is_alone' two' three moment seen' made' out' seen'' made'' out''
-      → Went opening number is_alone one three moment seen made out seen'' made'' out''
-  went_next one two two' three seen made out opening' number' is_alone' seen' made' out' seen'' made'' out'' o n a s before next =
-      went_then one two three seen made out seen' made' out' seen'' made'' out'' before
-      (subst (λ (x : Script). Went opening number is_alone x three moment seen' made' out' seen'' made'' out'') s
-      (subst (λ (x : List Part). Went x number is_alone two' three moment seen' made' out' seen'' made'' out'') o
-      (subst (λ (x : ℕ). Went opening' x is_alone two' three moment seen' made' out' seen'' made'' out'') n
-      (subst (λ (x : Bool). Went opening' number' x two' three moment seen' made' out' seen'' made'' out'') a next))))
+  went_both_and : (one two : Result (Unit {0}) NoMemory) (course coming asks next : Course) (old mid new : RunnerState) → OnOk one (Went course coming moment old [] mid [])
+      → coming ≡ asks → OnOk two (Went asks next moment mid [] new []) → OnOk (result_and one two) (Went course next moment old [] new [])
+  went_both_and (Ok u) (Ok v) course coming asks next old mid new p same q = went_after course coming asks next old mid new [] [] [] p same q
+  went_both_and (Ok u) (Err e) course coming asks next old mid new p same q = tt
+  went_both_and (Err e) two course coming asks next old mid new p same q = tt
 
-  -- one place more, of a script that is made of places
-  pub went_on : (F : List Place → Script) (places : List Place) (i : ℕ) (d : Place) (start : Script) (seen made : Log) (out : List ℕ) (opening' : List Part) (number' : ℕ) (is_alone' : Bool) (seen' made' : Log) (out' : List ℕ) (seen'' made'' : Log) (out'' : List ℕ)
-      → i < length places → opening' ≡ opening → number' ≡ number → is_alone' ≡ is_alone
-      → Went opening number is_alone start (F (drop i places)) moment seen made out seen' made' out'
-      → Went opening' number' is_alone' (F (get_or places i d ∷ drop (i + 1) places)) (F (drop (i + 1) places)) moment seen' made' out' seen'' made'' out''
-      → Went opening number is_alone start (F (drop (i + 1) places)) moment seen made out seen'' made'' out''
-  went_on F places i d start seen made out opening' number' is_alone' seen' made' out' seen'' made'' out'' less o n a before next =
-      went_next start (F (drop i places)) (F (get_or places i d ∷ drop (i + 1) places)) (F (drop (i + 1) places)) seen made out opening' number' is_alone' seen' made' out' seen'' made'' out'' o n a (sym (ap F (drop_more places i d less))) before next
-
-  -- behind the last place
-  pub went_at_end : (F : List Place → Script) (places : List Place) (i : ℕ) (start : Script) (seen made : Log) (out : List ℕ) (seen' made' : Log) (out' : List ℕ) → length places ≤ i
-      → Went opening number is_alone start (F (drop i places)) moment seen made out seen' made' out' → Went opening number is_alone start (F []) moment seen made out seen' made' out'
-  went_at_end F places i start seen made out seen' made' out' over w =
-      subst (λ (l : List Place). Went opening number is_alone start (F l) moment seen made out seen' made' out') (drop_of_length-le places over) w
-
-  -- the same way, from the same script in other words
-  pub went_from : (one one' two : Script) (seen made : Log) (out : List ℕ) (seen' made' : Log) (out' : List ℕ) → one ≡ one' → Went opening number is_alone one' two moment seen made out seen' made' out'
-      → Went opening number is_alone one two moment seen made out seen' made' out'
-  went_from one one' two seen made out seen' made' out' is w = subst (λ (x : Script). Went opening number is_alone x two moment seen made out seen' made' out') (sym is) w
-
-  pub went_to : (one two two' : Script) (seen made : Log) (out : List ℕ) (seen' made' : Log) (out' : List ℕ) → two ≡ two' → Went opening number is_alone one two moment seen made out seen' made' out'
-      → Went opening number is_alone one two' moment seen made out seen' made' out'
-  went_to one two two' seen made out seen' made' out' is w = subst (λ (x : Script). Went opening number is_alone one x moment seen made out seen' made' out') is w
-
-  -- want of memory before anything was done
-  pub stopped_now : (script : Script) (seen made : Log) → IsKnown opening number seen made → Stopped opening number is_alone script moment seen made seen made
-  stopped_now script seen made known = record { entries = []; grew = made_none opening number is_alone seen made known; begins = begins_none script number moment }
-
-  -- want of memory of the first act
-  pub stopped_unmade : (script : Script) (seen made seen' made' : Log) → Unmade opening number seen made seen' made' → (is_alone ≡ true → seen' ≡ seen)
-      → Stopped opening number is_alone script moment seen made seen' made'
-  stopped_unmade script seen made seen' made' u only = record { entries = []; grew = made_unmade opening number is_alone seen made seen' made' u only; begins = begins_none script number moment }
+  -- both steps of leaving were made
+  pub went_both : (one two both : Result (Unit {0}) NoMemory) (course coming asks next : Course) (old mid new : RunnerState) → both ≡ result_and one two → OnOk one (Went course coming moment old [] mid [])
+      → coming ≡ asks → OnOk two (Went asks next moment mid [] new []) → OnOk both (Went course next moment old [] new [])
+  went_both one two both course coming asks next old mid new is p same q =
+      subst (λ (r : Result (Unit {0}) NoMemory). OnOk r (Went course next moment old [] new [])) (sym is) (went_both_and one two course coming asks next old mid new p same q)
 
   -- want of memory behind what was done
-  pub stopped_there : (script rest : Script) (seen made : Log) (out : List ℕ) (seen' made' : Log) (out' : List ℕ) → Went opening number is_alone script rest moment seen made out seen' made' out'
-      → Stopped opening number is_alone script moment seen made seen' made'
-  stopped_there script rest seen made out seen' made' out' w = record {
+  pub stopped_there : (course rest : Course) (old : RunnerState) (out : List ℕ) (new : RunnerState) (out' : List ℕ) → Went course rest moment old out new out' → Stopped course moment old new
+  stopped_there course rest old out new out' w = record {
     entries = w.entries;
     grew = w.grew;
-    begins = subst (λ (l : Log). Begins script number moment l) (append-nil w.entries) (w.leads.part [] (begins_none rest number moment));
+    begins = subst (λ (l : Log). Begins course old.number moment l) (append-nil w.entries) (w.leads.part [] (begins_none rest old.number moment));
   }
 
-  -- want of memory in what follows, where what is known of the runner stays the same, from the same script in other words
-  pub stopped_next : (one two two' : Script) (seen made : Log) (out : List ℕ) (opening' : List Part) (number' : ℕ) (is_alone' : Bool) (seen' made' : Log) (out' : List ℕ) (seen'' made'' : Log)
-      → opening' ≡ opening → number' ≡ number → is_alone' ≡ is_alone → two' ≡ two
-      → Went opening number is_alone one two moment seen made out seen' made' out' → Stopped opening' number' is_alone' two' moment seen' made' seen'' made''
-      → Stopped opening number is_alone one moment seen made seen'' made''
-  stopped_next one two two' seen made out opening' number' is_alone' seen' made' out' seen'' made'' o n a s before next =
-      let there : Stopped opening number is_alone two moment seen' made' seen'' made'' =
-      subst (λ (x : Script). Stopped opening number is_alone x moment seen' made' seen'' made'') s
-      (subst (λ (x : List Part). Stopped x number is_alone two' moment seen' made' seen'' made'') o
-      (subst (λ (x : ℕ). Stopped opening' x is_alone two' moment seen' made' seen'' made'') n
-      (subst (λ (x : Bool). Stopped opening' number' x two' moment seen' made' seen'' made'') a next))) in
-      record {
-        entries = before.entries ++ there.entries;
-        grew = made_then opening number is_alone seen made before.entries seen' made' there.entries seen'' made'' before.grew there.grew;
-        begins = before.leads.part there.entries there.begins;
-      }
+  pub stopped_asked : {T : Type 0} (act : Act) (rest : Reply → Course) (reply : Reply) (result : Result T NoMemory) (old new : RunnerState) → Ran old (timed moment act) reply new
+      → OnErr result (Stopped (Asks act rest) moment old new)
+  stopped_asked act rest reply (Ok next) old new ran = tt
+  stopped_asked act rest reply (Err e) old new ran = stopped_there (Asks act rest) (rest reply) old [] new [] (went_ask act rest reply old [] new ran)
 
-  -- the same script in other words
-  pub stopped_from : (one two : Script) (seen made seen' made' : Log) → one ≡ two → Stopped opening number is_alone two moment seen made seen' made' → Stopped opening number is_alone one moment seen made seen' made'
-  stopped_from one two seen made seen' made' is h = subst (λ (x : Script). Stopped opening number is_alone x moment seen made seen' made') (sym is) h
+  -- want of memory of the next act
+  pub stopped_unmade : (course : Course) (old new : RunnerState) → Made old [] new → Stopped course moment old new
+  stopped_unmade course old new m = record { entries = []; grew = m; begins = begins_none course old.number moment }
+
+  -- want of memory in what follows
+  pub stopped_next : (one two : Course) (old mid new : RunnerState) (out out' : List ℕ) → Went one two moment old out mid out' → Stopped two moment mid new → Stopped one moment old new
+  stopped_next one two old mid new out out' before there = record {
+    entries = before.entries ++ there.entries;
+    grew = made_then old mid new before.entries there.entries before.grew there.grew;
+    begins = before.leads.part there.entries (subst (λ (n : ℕ). Begins two n moment there.entries) (same_number old mid before.entries before.grew) there.begins);
+  }
+
+  -- want of memory of an act behind what was done
+  pub stopped_after : {T : Type 0} (result : Result T NoMemory) (one coming two : Course) (old mid new : RunnerState) (out out' : List ℕ) → Went one coming moment old out mid out' → coming ≡ two
+      → Stopped two moment mid new → OnErr result (Stopped one moment old new)
+  stopped_after (Ok x) one coming two old mid new out out' p is q = tt
+  stopped_after (Err e) one coming two old mid new out out' p is q =
+      stopped_next one two old mid new out out' (subst (λ (c : Course). Went one c moment old out mid out') is p) q
+
+  -- want of memory behind the whole course
+  pub stopped_answered : {T : Type 0} (result : Result T NoMemory) (one course : Course) (answer : List ℕ → List ℕ) (memory : MemoryState) (old new : RunnerState) (out out' : List ℕ)
+      → Answered course answer moment old out new out' memory → one ≡ course → OnErr result (Stopped one moment old new)
+  stopped_answered (Ok x) one course answer memory old new out out' p is = tt
+  stopped_answered (Err e) one course answer memory old new out out' p is =
+      let whole : Stopped course moment old new =
+      record { entries = p.entries; grew = p.grew; begins = begins_follows course old.number moment p.entries p.text memory p.follows } in
+      subst (λ (c : Course). Stopped c moment old new) (sym is) whole

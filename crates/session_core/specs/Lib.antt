@@ -1,4 +1,7 @@
-pub mod Script
+pub mod Memory
+pub mod Rest
+pub mod Course
 pub mod Texts
 pub mod Session
+pub mod Stages
 pub mod Going

@@ -5,9 +5,15 @@ use Rattle.chess_model.specs.declared.man.Colour.{Colour}
 use Rattle.chess_model.specs.declared.man.Colour.TheVariants.{White, Black}
 use Rattle.fics_words.specs.declared.refusal.Refusal.{Refusal}
 use Rattle.fics_words.specs.Refusal.{number_of, name_of}
+use Rattle.linked_desk.specs.declared.acts.DeskReply.TheVariants.{Items}
+use Rattle.lobby_state.specs.declared.acts.LobbyReply.TheVariants.{Waiting}
 use Rattle.lobby_state.specs.declared.place.Place.{Place}
+use Rattle.one_server.specs.declared.act.Act.{Act}
+use Rattle.one_server.specs.declared.act.Act.TheVariants.{Desk}
 use Rattle.one_server.specs.declared.reply.Reply.{Reply}
-use Rattle.one_server.specs.declared.reply.Reply.TheVariants.{Refused, Done, Entered, Places, Waiting, Items, Started, Kept, Freed, Cleared}
+use Rattle.one_server.specs.declared.reply.Reply.TheVariants as reply
+use Rattle.session_core.specs.declared.asked.Asked.{Asked}
+use Rattle.session_core.specs.declared.asked.Asked.TheVariants.{InLobby, AtDesk}
 use Rattle.style12_writer.specs.declared.item.Item.{Item}
 use Rattle.style12_writer.specs.declared.item.Item.TheVariants.{Board, Talk, End}
 use Rattle.style12_writer.specs.declared.view.BoardView.{BoardView}
@@ -27,18 +33,15 @@ prompt = codes "fics% "
 abbrev pub refusal_line : Refusal → List ℕ
 refusal_line cause = codes "refused " ++ decimal (number_of cause) ++ codes " " ++ name_of cause ++ line_end
 
--- what a reply to an act at a desk prints: the refusal, and nothing where the act was done
-abbrev pub reply_text : Reply → List ℕ
-reply_text (Refused cause) = refusal_line cause
-reply_text Done = []
-reply_text (Entered name) = []
-reply_text (Places places) = []
-reply_text (Waiting lines places) = []
-reply_text (Items items is_over) = []
-reply_text Started = []
-reply_text Kept = []
-reply_text Freed = []
-reply_text Cleared = []
+-- which kind of act was asked for, as far as the text of its reply depends on it
+abbrev pub asked_of : Act → Asked
+asked_of (Desk number serial act) = AtDesk
+asked_of _ = InLobby
+
+-- what a reply prints: the refusal, and nothing where the act was done
+abbrev pub reply_text : Asked → Reply → List ℕ
+reply_text asked (reply.Refused cause) = refusal_line cause
+reply_text asked _ = []
 
 -- lines, each with its end
 abbrev pub lines_text : List (List ℕ) → List ℕ
@@ -83,26 +86,10 @@ items_text own (item ∷ items) = item_text own item ++ line_end ++ items_text o
 
 -- the news of the game at a place
 abbrev pub news_text : Place → Reply → List ℕ
-news_text place (Refused cause) = []
-news_text place Done = []
-news_text place (Entered name) = []
-news_text place (Places places) = []
-news_text place (Waiting lines places) = []
-news_text place (Items items is_over) = items_text (colour_at place.seat) items
-news_text place Started = []
-news_text place Kept = []
-news_text place Freed = []
-news_text place Cleared = []
+news_text place (reply.Desk (Items items is_over)) = items_text (colour_at place.seat) items
+news_text place _ = []
 
 -- the lines that waited
 abbrev pub waiting_text : Reply → List ℕ
-waiting_text (Refused cause) = []
-waiting_text Done = []
-waiting_text (Entered name) = []
-waiting_text (Places places) = []
-waiting_text (Waiting lines places) = lines_text lines
-waiting_text (Items items is_over) = []
-waiting_text Started = []
-waiting_text Kept = []
-waiting_text Freed = []
-waiting_text Cleared = []
+waiting_text (reply.Lobby (Waiting lines places)) = lines_text lines
+waiting_text _ = []

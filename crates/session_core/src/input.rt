@@ -3,7 +3,7 @@
 use chess_model::MoveWord;
 
 /// What a line asks for, once it is read.
-#[derive(Clone, Copy, Debug, PartialEq, Eq)]
+#[derive(Debug, Drop)]
 pub enum Command {
     /// Nothing but the news.
     Nothing,
@@ -16,7 +16,7 @@ pub enum Command {
 }
 
 /// What comes from the player of a session that has entered.
-#[derive(Clone, Copy, Debug, PartialEq, Eq)]
+#[derive(Debug, Drop)]
 pub enum Input {
     /// A line came.
     Line(Command),

@@ -1,17 +1,22 @@
-//! What a script says, as laws: calls that do nothing.
+//! What a course says, as laws: calls that do nothing.
 ghost use Rattle.std.specs.Prelude.{◌≡◌, ◌++◌, ◌∷◌, [], ℕ, List, None, Some};
 ghost use Rattle.histories.specs.declared.entry.Entry.{Entry};
 ghost use Rattle.one_server.specs.declared.act.Timed.{Timed};
 ghost use Rattle.one_server.specs.declared.reply.Reply.{Reply};
 ghost use Rattle.one_server.specs.Running.{Log};
-ghost use Rattle.session_core.specs.Script.{Script, Follows, next_act, replies_of, text_by};
+ghost use Rattle.session_core.specs.Course.{Course, Follows, memory_by, next_act, replies_of, text_by};
+ghost use Rattle.session_core.specs.Memory.{MemoryState};
 
-/// Who follows a script makes, after each reply, the act that the replies so far name, at the script's moment and under
-/// its own number, until they name none; and the text is the one that the replies say.
-pub fn scripts()
-    ensures acts { (script : Script) (session moment : ℕ) (before : Log) (e : Entry Timed Reply) (later : Log) (text : List ℕ)
-        → Follows script session moment (before ++ e ∷ later) text
-        → (e.session ≡ session) × (e.act.moment ≡ moment) × (next_act script (replies_of before) ≡ Some e.act.act) }
-    ensures end { (script : Script) (session moment : ℕ) (made : Log) (text : List ℕ) → Follows script session moment made text → next_act script (replies_of made) ≡ None }
-    ensures text { (script : Script) (session moment : ℕ) (made : Log) (text : List ℕ) → Follows script session moment made text → text ≡ text_by script (replies_of made) }
+/// Who follows a course makes, after each reply, the act that the replies so far name, at the course's moment and under
+/// its own number, until they name none; the text is the one that the replies say, and so is what is remembered.
+pub fn courses()
+    ensures acts { (course : Course) (session moment : ℕ) (before : Log) (e : Entry Timed Reply) (later : Log) (text : List ℕ) (memory : MemoryState)
+        → Follows course session moment (before ++ e ∷ later) text memory
+        → (e.session ≡ session) × (e.act.moment ≡ moment) × (next_act course (replies_of before) ≡ Some e.act.act) }
+    ensures end { (course : Course) (session moment : ℕ) (made : Log) (text : List ℕ) (memory : MemoryState)
+        → Follows course session moment made text memory → next_act course (replies_of made) ≡ None }
+    ensures text { (course : Course) (session moment : ℕ) (made : Log) (text : List ℕ) (memory : MemoryState)
+        → Follows course session moment made text memory → text ≡ text_by course (replies_of made) }
+    ensures memory { (course : Course) (session moment : ℕ) (made : Log) (text : List ℕ) (memory : MemoryState)
+        → Follows course session moment made text memory → memory_by course (replies_of made) ≡ Some memory }
 {}

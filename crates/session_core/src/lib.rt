@@ -1,19 +1,29 @@
 //! One session: what it does for each thing that comes from its player, over any server that runs its acts.
 //!
-//! What comes is an input. A session's script says which acts it makes for an input and what it writes: the next act
-//! follows from the input and from the replies to the acts before it, and so does the text. The contract: `take` and
-//! `leave` make exactly the acts of the script, in order, and `take` appends exactly its text, whoever runs the acts.
+//! What comes is an input. A session's course says which acts it makes for an input and what it writes: the next act
+//! follows from the input, from what the session remembers and from the replies to the acts before it, and so does the
+//! text. All that a session decides is in its stages, a machine without a server: what stands between an act and its
+//! reply, and what comes next. One loop drives it, and one more when it leaves. The contract: `take` and `leave` make
+//! exactly the acts of the course, in order, and `take` appends exactly its text, whoever runs the acts.
 #![tactic(auto)]
 
+mod asked;
+mod follow;
 mod input;
 mod laws;
 mod leaving;
-mod round;
+mod leaving_stage;
+mod next;
+mod rest;
+mod session_memory;
+mod stage;
 mod taking;
 mod texts;
 
+pub use asked::Asked;
 pub use input::{Command, Input};
-pub use laws::scripts;
+pub use laws::courses;
 pub use leaving::leave;
+pub use session_memory::Memory;
 pub use taking::take;
 pub use texts::{colour_at, is_turn, put_refusal};

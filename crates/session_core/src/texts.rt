@@ -3,9 +3,11 @@ ghost use Rattle.std.specs.Prelude.{◌≡◌, ◌++◌, All, OnOk};
 ghost use Rattle.one_server.specs.Replies.{IsItem, IsReply};
 ghost use Rattle.session_core.specs.Texts.{colour_at, is_turn, item_text, items_text, line_end, lines_text, news_text, prompt, refusal_line, reply_text, sees_flipped, viewer_of, waiting_text};
 
+use crate::asked::Asked;
 use chess_model::Colour;
 use fics_words::{Line, NoMemory, Refusal, write_number};
-use lobby_state::Place;
+use linked_desk::DeskReply;
+use lobby_state::{LobbyReply, Place};
 use one_server::Reply;
 use style12_writer::{BoardView, Item, Viewer, end_line, line12};
 
@@ -32,9 +34,10 @@ pub(crate) fn put_prompt(out: &mut Vec<u8>) -> Result<(), NoMemory>
     Ok(())
 }
 
-/// Appends what the reply to an act at a desk prints.
-pub(crate) fn put_reply(reply: &Reply, out: &mut Vec<u8>) -> Result<(), NoMemory>
-    ensures { OnOk result (out.new.items ≡ out.old.items ++ reply_text reply.now) }
+/// Appends what a reply prints, by the kind of act that was asked for: a refusal. No act that was done prints anything
+/// yet.
+pub(crate) fn put_reply(_asked: Asked, reply: &Reply, out: &mut Vec<u8>) -> Result<(), NoMemory>
+    ensures { OnOk result (out.new.items ≡ out.old.items ++ reply_text _asked reply.now) }
 {
     match reply {
         Reply::Refused(cause) => put_refusal(*cause, out),
@@ -47,7 +50,7 @@ pub(crate) fn put_waiting(reply: &Reply, out: &mut Vec<u8>) -> Result<(), NoMemo
     ensures { OnOk result (out.new.items ≡ out.old.items ++ waiting_text reply.now) }
 {
     match reply {
-        Reply::Waiting { lines, .. } => put_lines(lines.as_slice(), out),
+        Reply::Lobby(LobbyReply::Waiting { lines, .. }) => put_lines(lines.as_slice(), out),
         _ => Ok(()),
     }
 }
@@ -58,7 +61,9 @@ pub(crate) fn put_news(place: &Place, reply: &Reply, out: &mut Vec<u8>) -> Resul
     ensures { OnOk result (out.new.items ≡ out.old.items ++ news_text place.now reply.now) }
 {
     match reply {
-        Reply::Items { items, .. } => put_items(colour_at(place.seat), items.as_slice(), out),
+        Reply::Desk(DeskReply::Items { items, .. }) => {
+            put_items(colour_at(place.seat), items.as_slice(), out)
+        }
         _ => Ok(()),
     }
 }

@@ -5,7 +5,7 @@ use fics_words::{Fail, Handle, Refusal};
 use linked_desk::DeskAct;
 use lobby_state::{Lobby, LobbyAct, PairAct};
 use one_server::{Act, OneServer};
-use session_core::{Command, Input, leave, take};
+use session_core::{Command, Input, Memory, leave, take};
 use std::alloc::Global;
 
 /// What an entry of the history asks for, in short.
@@ -97,7 +97,7 @@ pub fn takes(
     comes: Comes,
 ) -> Result<Vec<u8>, Fail> {
     match input_of(comes) {
-        Ok(input) => answer(alloc, server, session, moment, &input),
+        Ok(input) => answer(alloc, server, session, moment, input),
         Err(fail) => Err(fail),
     }
 }
@@ -107,13 +107,15 @@ fn answer(
     server: &mut OneServer,
     session: u32,
     moment: u32,
-    input: &Input,
+    input: Input,
 ) -> Result<Vec<u8>, Fail> {
+    let mut memory = Memory::new();
     let mut out = Vec::new(alloc);
     take(
         alloc,
         &mut server.seat(session),
         u64::from(moment),
+        &mut memory,
         input,
         &mut out,
     )?;
@@ -147,7 +149,12 @@ pub fn leaves(
     session: u32,
     moment: u32,
 ) -> Result<(), Fail> {
-    leave(alloc, &mut server.seat(session), u64::from(moment))?;
+    leave(
+        alloc,
+        &mut server.seat(session),
+        u64::from(moment),
+        Memory::new(),
+    )?;
     Ok(())
 }
 

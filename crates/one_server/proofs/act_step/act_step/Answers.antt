@@ -10,52 +10,52 @@ use Rattle.one_server.specs.declared.reply.Reply.{Reply}
 use Rattle.one_server.specs.Acts.{FitsAct, desk_reply}
 use Rattle.one_server.specs.House.{house}
 use Rattle.one_server.specs.Whole.{parts_of}
-use Rattle.one_server.proofs.Stepping.{after_lobby, table_at, tables_count, reply_desk, after_desk, at_act, if_ok, on_ok}
+use Rattle.one_server.proofs.Stepping.{after_lobby, desk_with, count_of_desks, reply_desk, after_desk, at_act, if_ok, on_ok}
 use Rattle.one_server.proofs.act_step.act_step.Goals as goal
 
 pub returns-in-Lobby-clause-after : goal.returns-in-Lobby-clause-after
 returns-in-Lobby-clause-after c =
     let lobby : LobbyState = c.args.lobby.now in
-    let tables : List DeskState = c.args.tables.now in
+    let desks : List DeskState = c.args.desks.now in
     on_ok (c.lobby_step.new.lobby ≡ lobby_after lobby c.args.session c.in-Lobby.act)
-    (after house (parts_of lobby tables) c.args.session c.args.timed.now ≡ parts_of c.lobby_step.new.lobby tables)
+    (after house (parts_of lobby desks) c.args.session c.args.timed.now ≡ parts_of c.lobby_step.new.lobby desks)
     c.lobby_step.result
-    (λ e. at_act c.args.timed.now (Lobby c.in-Lobby.act) (λ (t : Timed). after house (parts_of lobby tables) c.args.session t ≡ parts_of c.lobby_step.new.lobby tables) c.in-Lobby.is
-    (after_lobby lobby tables c.args.session c.args.timed.now.moment c.in-Lobby.act c.lobby_step.new.lobby e))
+    (λ e. at_act c.args.timed.now (Lobby c.in-Lobby.act) (λ (t : Timed). after house (parts_of lobby desks) c.args.session t ≡ parts_of c.lobby_step.new.lobby desks) c.in-Lobby.is
+    (after_lobby lobby desks c.args.session c.args.timed.now.moment c.in-Lobby.act c.lobby_step.new.lobby e))
     c.lobby_step.ensures.after
 
 pub returns-in-Desk-clause-reply : goal.returns-in-Desk-clause-reply
 returns-in-Desk-clause-reply c =
     let lobby : LobbyState = c.args.lobby.now in
-    let tables : List DeskState = c.args.tables.now in
+    let desks : List DeskState = c.args.desks.now in
     let d : IsDesk c.in-Desk.desk = subst FitsAct c.in-Desk.is c.requires.event.act in
-    let found = table_at lobby tables c.in-Desk.desk (tables_count lobby tables c.requires.whole) d in
+    let found = desk_with lobby desks c.in-Desk.desk (count_of_desks lobby desks c.requires.whole) d in
     if_ok (λ (r : Reply). r ≡ desk_reply (desk_answer found.0 c.args.session c.args.timed.now.moment c.in-Desk.serial c.in-Desk.act))
-    (λ (r : Reply). reply house (parts_of lobby tables) c.args.session c.args.timed.now ≡ Some r)
-    c.table_step.result
-    (λ r e. at_act c.args.timed.now (Desk c.in-Desk.desk c.in-Desk.serial c.in-Desk.act) (λ (t : Timed). reply house (parts_of lobby tables) c.args.session t ≡ Some r) c.in-Desk.is
-    (reply_desk lobby tables c.args.session c.args.timed.now.moment c.in-Desk.desk c.in-Desk.serial c.in-Desk.act found.0 d.0 found.1 r e))
-    (c.table_step.ensures.reply found.0 found.1)
+    (λ (r : Reply). reply house (parts_of lobby desks) c.args.session c.args.timed.now ≡ Some r)
+    c.step_at_desk.result
+    (λ r e. at_act c.args.timed.now (Desk c.in-Desk.desk c.in-Desk.serial c.in-Desk.act) (λ (t : Timed). reply house (parts_of lobby desks) c.args.session t ≡ Some r) c.in-Desk.is
+    (reply_desk lobby desks c.args.session c.args.timed.now.moment c.in-Desk.desk c.in-Desk.serial c.in-Desk.act found.0 d.0 found.1 r e))
+    (c.step_at_desk.ensures.reply found.0 found.1)
 
 pub returns-in-Desk-clause-after : goal.returns-in-Desk-clause-after
 returns-in-Desk-clause-after c =
     let lobby : LobbyState = c.args.lobby.now in
-    let tables : List DeskState = c.args.tables.now in
+    let desks : List DeskState = c.args.desks.now in
     let d : IsDesk c.in-Desk.desk = subst FitsAct c.in-Desk.is c.requires.event.act in
-    let found = table_at lobby tables c.in-Desk.desk (tables_count lobby tables c.requires.whole) d in
-    on_ok (c.table_step.new.tables ≡ set tables (c.in-Desk.desk - 1) (desk_after found.0 c.args.session c.args.timed.now.moment c.in-Desk.serial c.in-Desk.act))
-    (after house (parts_of lobby tables) c.args.session c.args.timed.now ≡ parts_of lobby c.table_step.new.tables)
-    c.table_step.result
-    (λ e. at_act c.args.timed.now (Desk c.in-Desk.desk c.in-Desk.serial c.in-Desk.act) (λ (t : Timed). after house (parts_of lobby tables) c.args.session t ≡ parts_of lobby c.table_step.new.tables) c.in-Desk.is
-    (after_desk lobby tables c.args.session c.args.timed.now.moment c.in-Desk.desk c.in-Desk.serial c.in-Desk.act found.0 d.0 found.1 c.table_step.new.tables e))
-    (c.table_step.ensures.after found.0 found.1)
+    let found = desk_with lobby desks c.in-Desk.desk (count_of_desks lobby desks c.requires.whole) d in
+    on_ok (c.step_at_desk.new.desks ≡ set desks (c.in-Desk.desk - 1) (desk_after found.0 c.args.session c.args.timed.now.moment c.in-Desk.serial c.in-Desk.act))
+    (after house (parts_of lobby desks) c.args.session c.args.timed.now ≡ parts_of lobby c.step_at_desk.new.desks)
+    c.step_at_desk.result
+    (λ e. at_act c.args.timed.now (Desk c.in-Desk.desk c.in-Desk.serial c.in-Desk.act) (λ (t : Timed). after house (parts_of lobby desks) c.args.session t ≡ parts_of lobby c.step_at_desk.new.desks) c.in-Desk.is
+    (after_desk lobby desks c.args.session c.args.timed.now.moment c.in-Desk.desk c.in-Desk.serial c.in-Desk.act found.0 d.0 found.1 c.step_at_desk.new.desks e))
+    (c.step_at_desk.ensures.after found.0 found.1)
 
 pub returns-in-Pair-clause-after : goal.returns-in-Pair-clause-after
 returns-in-Pair-clause-after c =
     let lobby : LobbyState = c.args.lobby.now in
-    let tables : List DeskState = c.args.tables.now in
-    on_ok (after house (parts_of lobby tables) c.args.session (record { moment = c.args.timed.now.moment; act = Pair c.in-Pair.act }) ≡ parts_of c.planned_step.new.lobby c.planned_step.new.tables)
-    (after house (parts_of lobby tables) c.args.session c.args.timed.now ≡ parts_of c.planned_step.new.lobby c.planned_step.new.tables)
+    let desks : List DeskState = c.args.desks.now in
+    on_ok (after house (parts_of lobby desks) c.args.session (record { moment = c.args.timed.now.moment; act = Pair c.in-Pair.act }) ≡ parts_of c.planned_step.new.lobby c.planned_step.new.desks)
+    (after house (parts_of lobby desks) c.args.session c.args.timed.now ≡ parts_of c.planned_step.new.lobby c.planned_step.new.desks)
     c.planned_step.result
-    (λ e. at_act c.args.timed.now (Pair c.in-Pair.act) (λ (t : Timed). after house (parts_of lobby tables) c.args.session t ≡ parts_of c.planned_step.new.lobby c.planned_step.new.tables) c.in-Pair.is e)
+    (λ e. at_act c.args.timed.now (Pair c.in-Pair.act) (λ (t : Timed). after house (parts_of lobby desks) c.args.session t ≡ parts_of c.planned_step.new.lobby c.planned_step.new.desks) c.in-Pair.is e)
     c.planned_step.ensures.after

@@ -5,40 +5,41 @@ use Rattle.lobby_state.specs.Acts.{desk_of}
 use Rattle.lobby_state.specs.Lobby.{LobbyState}
 use Rattle.one_server.specs.declared.act.Act.TheVariants.{Pair}
 use Rattle.one_server.specs.declared.reply.Reply.{Reply}
+use Rattle.one_server.specs.declared.reply.Reply.TheVariants.{Pair as PairReplied}
 use Rattle.one_server.specs.House.{house}
 use Rattle.one_server.specs.Plans.{plan_reply, plan_lobby, plan_desk}
 use Rattle.one_server.specs.Whole.{parts_of}
-use Rattle.one_server.proofs.Stepping.{after_refused, can_carry, planned_number, table_at, tables_count, reply_planned, after_planned, if_ok, on_both}
+use Rattle.one_server.proofs.Stepping.{after_refused, can_carry, planned_number, desk_with, count_of_desks, reply_planned, after_planned, if_ok, on_both}
 use Rattle.one_server.proofs.act_step.planned_step.Goals as goal
 
 pub returns-in-Err-clause-after : goal.returns-in-Err-clause-after
-returns-in-Err-clause-after c = after_refused c.args.lobby.now c.args.tables.now c.args.session c.args.moment c.args.act.now c.in-Err.cause c.in-Err.ensures.plan
+returns-in-Err-clause-after c = after_refused c.args.lobby.now c.args.desks.now c.args.session c.args.moment c.args.act.now c.in-Err.cause c.in-Err.ensures.plan
 
 pub carry_out-requires-clause-ready : goal.carry_out-requires-clause-ready
 carry_out-requires-clause-ready c =
-    can_carry c.args.lobby.now c.args.tables.now c.args.session c.args.act.now c.in-Ok.plan c.requires.whole c.requires.names c.in-Ok.ensures.plan
+    can_carry c.args.lobby.now c.args.desks.now c.args.session c.args.act.now c.in-Ok.plan c.requires.whole c.requires.names c.in-Ok.ensures.plan
 
 pub returns-clause-reply : goal.returns-clause-reply
 returns-clause-reply c =
     let lobby : LobbyState = c.args.lobby.now in
-    let tables : List DeskState = c.args.tables.now in
-    let d = planned_number lobby tables c.args.session c.args.act.now c.in-Ok.plan c.requires.whole c.requires.names c.in-Ok.ensures.plan in
-    let found = table_at lobby tables (desk_of c.in-Ok.plan) (tables_count lobby tables c.requires.whole) d in
-    if_ok (λ (r : Reply). r ≡ plan_reply c.in-Ok.plan found.0)
-    (λ (r : Reply). reply house (parts_of lobby tables) c.args.session (record { moment = c.args.moment; act = Pair c.args.act.now }) ≡ Some r)
+    let desks : List DeskState = c.args.desks.now in
+    let d = planned_number lobby desks c.args.session c.args.act.now c.in-Ok.plan c.requires.whole c.requires.names c.in-Ok.ensures.plan in
+    let found = desk_with lobby desks (desk_of c.in-Ok.plan) (count_of_desks lobby desks c.requires.whole) d in
+    if_ok (λ (r : Reply). r ≡ PairReplied (plan_reply c.in-Ok.plan found.0))
+    (λ (r : Reply). reply house (parts_of lobby desks) c.args.session (record { moment = c.args.moment; act = Pair c.args.act.now }) ≡ Some r)
     c.carry_out.result
-    (λ r e. reply_planned lobby tables c.args.session c.args.moment c.args.act.now c.in-Ok.plan found.0 c.in-Ok.ensures.plan d found.1 r e)
+    (λ r e. reply_planned lobby desks c.args.session c.args.moment c.args.act.now c.in-Ok.plan found.0 c.in-Ok.ensures.plan d found.1 r e)
     (c.carry_out.ensures.reply found.0 found.1)
 
 pub returns-clause-after : goal.returns-clause-after
 returns-clause-after c =
     let lobby : LobbyState = c.args.lobby.now in
-    let tables : List DeskState = c.args.tables.now in
-    let d = planned_number lobby tables c.args.session c.args.act.now c.in-Ok.plan c.requires.whole c.requires.names c.in-Ok.ensures.plan in
-    let found = table_at lobby tables (desk_of c.in-Ok.plan) (tables_count lobby tables c.requires.whole) d in
+    let desks : List DeskState = c.args.desks.now in
+    let d = planned_number lobby desks c.args.session c.args.act.now c.in-Ok.plan c.requires.whole c.requires.names c.in-Ok.ensures.plan in
+    let found = desk_with lobby desks (desk_of c.in-Ok.plan) (count_of_desks lobby desks c.requires.whole) d in
     on_both (c.carry_out.new.lobby ≡ plan_lobby lobby c.in-Ok.plan found.0)
-    (c.carry_out.new.tables ≡ set tables (desk_of c.in-Ok.plan - 1) (plan_desk c.in-Ok.plan found.0 c.args.moment))
-    (after house (parts_of lobby tables) c.args.session (record { moment = c.args.moment; act = Pair c.args.act.now }) ≡ parts_of c.carry_out.new.lobby c.carry_out.new.tables)
+    (c.carry_out.new.desks ≡ set desks (desk_of c.in-Ok.plan - 1) (plan_desk c.in-Ok.plan found.0 c.args.moment))
+    (after house (parts_of lobby desks) c.args.session (record { moment = c.args.moment; act = Pair c.args.act.now }) ≡ parts_of c.carry_out.new.lobby c.carry_out.new.desks)
     c.carry_out.result
-    (λ e f. after_planned lobby tables c.args.session c.args.moment c.args.act.now c.in-Ok.plan found.0 c.in-Ok.ensures.plan d found.1 c.carry_out.new.lobby c.carry_out.new.tables e f)
-    (c.carry_out.ensures.lobby found.0 found.1) (c.carry_out.ensures.tables found.0 found.1)
+    (λ e f. after_planned lobby desks c.args.session c.args.moment c.args.act.now c.in-Ok.plan found.0 c.in-Ok.ensures.plan d found.1 c.carry_out.new.lobby c.carry_out.new.desks e f)
+    (c.carry_out.ensures.lobby found.0 found.1) (c.carry_out.ensures.desks found.0 found.1)

@@ -2,8 +2,8 @@ use Rattle.histories.specs.History.{state}
 use Rattle.histories.proofs.Histories.{stays_whole}
 use Rattle.one_server.specs.declared.part.Part.TheVariants.{Desk as ADesk}
 use Rattle.one_server.specs.House.{house}
-use Rattle.one_server.specs.KeptWhole.{formed_is, place_is}
-use Rattle.one_server.specs.Lawful.{house_lawful}
+use Rattle.one_server.specs.WholeProof.{formed_is, place_is}
+use Rattle.one_server.specs.LawfulProof.{house_lawful}
 use Rattle.one_server.specs.Whole.{opened}
 use Rattle.one_server.proofs.Opens.{IsOpening-empty}
 use Rattle.one_server.proofs.Serving.{whole_opening}

@@ -1,32 +1,50 @@
-use Rattle.std.proofs.Common.{[], refl}
-use Rattle.session_core.specs.Script.{Done}
-use Rattle.session_core.specs.Session.{leave_places, leaving}
-use Rattle.session_core.proofs.Oks.{on_err}
-use Rattle.session_core.proofs.Passing.{left_in_part, passed_act, passed_next}
-use Rattle.session_core.proofs.Going.{went_ask, went_next, left}
+use Rattle.std.proofs.Common.{◌≡◌, [], refl, ap, sym, subst, ◌∙◌}
+use Rattle.session_core.specs.Course.{Course, Asks}
+use Rattle.session_core.specs.Going.{Passed, Went}
+use Rattle.session_core.specs.Session.{leaving}
+use Rattle.session_core.specs.Stages.{IsReady, LeavesDesk, course_of, leaves}
+use Rattle.session_core.specs.declared.leaving_stage.LeavingStage.{LeavingStage}
+use Rattle.session_core.specs.declared.next.Next.{Next}
+use Rattle.session_core.proofs.Going.{left, went_both, went_none}
+use Rattle.session_core.proofs.Passing.{passed_after, passed_end, passed_none}
 use Rattle.session_core.proofs.leaving.leave.Goals as goal
 
-pub returns-clause-left : goal.returns-clause-left
-returns-clause-left g c =
-    let before = c.leave_all-places.ensures in
-    left _ _ _ c.args.moment _ _ _ _ _
-    (went_next _ _ _ c.args.moment _ _ _ _ _ _ _ _ _ _ _ _ _ _ _ _ before.opening before.number before.alone refl c.in_ok-places.ensures.went
-    (went_ask _ _ _ c.args.moment _ _ c.in_ok-_gone._gone _ _ _ _ _ c.in_ok-_gone.ensures.ok c.in_ok-_gone.ensures.only))
+pub loop-next-init : goal.loop-next-init
+loop-next-init g c =
+    let old = g.R.Runner.state c.args.r.now in
+    let is : leaving c.args.memory ≡ course_of leaves c.ask_going-next.result c.args.memory = sym (ap (λ (n : Next LeavingStage). course_of leaves n c.args.memory) c.ask_going-next.ensures) in
+    record {
+      ready = subst (IsReady LeavesDesk) (sym c.ask_going-next.ensures) (tt, tt);
+      home = refl;
+      went = subst (λ (x : Course). Went (leaving c.args.memory) x c.args.moment old [] old []) is (went_none c.args.moment (leaving c.args.memory) old [] c.session-session.ensures.known);
+      passed = subst (λ (x : Course). Passed (leaving c.args.memory) x c.args.moment old old) is (passed_none c.args.moment (leaving c.args.memory) old c.session-session.ensures.known);
+    }
 
-pub returns-in_err-places-clause-part : goal.returns-in_err-places-clause-part
-returns-in_err-places-clause-part g c =
-    let before = c.leave_all-places.ensures in
-    let last = c.run-gone.ensures in
-    on_err c.from_residual.result
-    (left_in_part _ _ _ c.args.moment leaving _ _ _ _
-    (passed_next _ _ _ c.args.moment leaving (leave_places []) (leave_places []) Done _ _ _ _ _ _ _ _ _ before.opening before.number before.alone refl before.passed
-    (passed_act _ _ _ c.args.moment _ Done c.run-gone.result _ _ _ _ last.ok last.only last.err last.only_err)))
+pub returns-in-End-clause-left : goal.returns-in-End-clause-left
+returns-in-End-clause-left g c =
+    left c.args.moment c.loop-next.all (leaving c.args.memory) (course_of leaves c.loop-next.next c.loop-next.memory) c.loop-next.memory
+    (g.R.Runner.state c.args.r.now) (g.R.Runner.state c.loop-next.r) c.loop-next.invariant.went (ap (λ (n : Next LeavingStage). course_of leaves n c.loop-next.memory) c.in-End.is)
 
-pub returns-in_err-_gone-clause-part : goal.returns-in_err-_gone-clause-part
-returns-in_err-_gone-clause-part g c =
-    let before = c.leave_all-places.ensures in
-    let last = c.run-gone.ensures in
-    on_err c.from_residual-in_err-_gone.result
-    (left_in_part _ _ _ c.args.moment leaving _ _ _ _
-    (passed_next _ _ _ c.args.moment leaving (leave_places []) (leave_places []) Done _ _ _ _ _ _ _ _ _ before.opening before.number before.alone refl before.passed
-    (passed_act _ _ _ c.args.moment _ Done c.run-gone.result _ _ _ _ last.ok last.only last.err last.only_err)))
+pub returns-in-End-clause-part : goal.returns-in-End-clause-part
+returns-in-End-clause-part g c =
+    passed_end c.args.moment c.loop-next.all (leaving c.args.memory) (course_of leaves c.loop-next.next c.loop-next.memory) c.loop-next.memory
+    (g.R.Runner.state c.args.r.now) (g.R.Runner.state c.loop-next.r) c.loop-next.invariant.passed (ap (λ (n : Next LeavingStage). course_of leaves n c.loop-next.memory) c.in-End.is)
+
+pub loop-next-preserved : goal.loop-next-preserved
+loop-next-preserved g c =
+    let start = leaving c.args.memory in
+    let here = course_of leaves c.loop-next.next c.loop-next.memory in
+    let asks = Asks c.in-Ask.act (leaves c.in-Ask.stage c.loop-next.memory) in
+    let next = course_of leaves c.ask_or_pass-done.result.1 c.ask_or_pass-done.new.memory in
+    let old = g.R.Runner.state c.args.r.now in
+    let mid = g.R.Runner.state c.loop-next.r in
+    let new = g.R.Runner.state c.ask_or_pass-done.new.r in
+    let is : here ≡ asks = ap (λ (n : Next LeavingStage). course_of leaves n c.loop-next.memory) c.in-Ask.is in
+    record {
+      ready = c.ask_or_pass-done.ensures.ready;
+      home = c.ask_or_pass-done.ensures.home ∙ c.loop-next.invariant.home;
+      went =
+          went_both c.args.moment c.loop-next.all c.ask_or_pass-done.result.0 c.and-all.result start here asks next old mid new c.and-all.ensures
+          c.loop-next.invariant.went is c.ask_or_pass-done.ensures.went;
+      passed = passed_after c.args.moment start here asks next old mid new c.loop-next.invariant.passed is c.ask_or_pass-done.ensures.passed;
+    }

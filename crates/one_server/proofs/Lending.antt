@@ -1,0 +1,64 @@
+-- In a whole state an act finds the parts that it is to be lent.
+use Rattle.std.proofs.Common.{◌≡◌, ℕ, ◌≤◌, List, refl, sym, subst, ◌∙◌}
+use Rattle.std.specs.List.{slice_get}
+use Rattle.std.specs.declared.option.Option.TheVariants.{None, Some}
+use Rattle.std.specs.declared.result.Result.{Result}
+use Rattle.std.specs.declared.result.Result.TheVariants.{Ok, Err}
+use Rattle.fics_words.specs.declared.refusal.Refusal.{Refusal}
+use Rattle.linked_desk.specs.Desk.{DeskState}
+use Rattle.lobby_state.specs.declared.acts.PairAct.{PairAct}
+use Rattle.lobby_state.specs.declared.acts.Plan.{Plan}
+use Rattle.lobby_state.specs.Acts.{IsDesk, NamesDesk, plan_of, desk_of}
+use Rattle.lobby_state.specs.Lobby.{LobbyState}
+use Rattle.lobby_state.specs.Planned.{IsPlanned}
+use Rattle.lobby_state.proofs.Planned.{plan_of-is, desk_of-is, SeatsTwo-plan_of}
+use Rattle.one_server.specs.declared.act.Act.{Act}
+use Rattle.one_server.specs.declared.act.Act.TheVariants.{Lobby, Desk, Pair}
+use Rattle.one_server.specs.declared.part.Part.{Part}
+use Rattle.one_server.specs.declared.part.Part.TheVariants.{Lobby as TheLobby, Desk as ADesk}
+use Rattle.one_server.specs.Acts.{FitsAct, first_part, planned_desk, second_part}
+use Rattle.one_server.specs.Lent.{AreBothOf, IsCarried, IsFirstOf}
+use Rattle.one_server.specs.Whole.{IsInPlace, IsWhole}
+use Rattle.one_server.specs.ForTwoProof.{for_two-plan_of}
+use Rattle.one_server.specs.WholeProof.{desk_at, formed_is, place_is, two_is}
+use Rattle.one_server.proofs.Serving.{front}
+use Rattle.one_server.proofs.Stepping.{carried_by}
+
+-- what stands first is the lobby, and what stands at a desk's number is a desk
+pub lends_first : (parts : List Part) (act : Act) (one : Part) → IsWhole parts → FitsAct act → slice_get parts (first_part act) ≡ Some one → IsFirstOf one act
+lends_first parts (Lobby act) one w f e = subst (λ (p : Part). IsFirstOf p (Lobby act)) (front (TheLobby w.lobby) one (sym w.first ∙ e)) tt
+lends_first parts (Pair act) one w f e = subst (λ (p : Part). IsFirstOf p (Pair act)) (front (TheLobby w.lobby) one (sym w.first ∙ e)) tt
+lends_first parts (Desk number serial act) one w f e =
+    let found = desk_at parts number w f in
+    subst (λ (p : Part). IsFirstOf p (Desk number serial act)) (front (ADesk found.0) one (sym found.1 ∙ e)) tt
+
+-- a plan is carried out at the desk with its number
+lends_carried : (parts : List Part) (lobby : LobbyState) (session : ℕ) (act : PairAct) (two : Part) (number : ℕ) (r : Result Plan Refusal) → IsWhole parts → NamesDesk act
+    → slice_get parts 0 ≡ Some (TheLobby lobby) → plan_of lobby session act ≡ r → planned_desk r ≡ Some number → slice_get parts number ≡ Some two
+    → (desk : DeskState) × (two ≡ ADesk desk) × IsCarried r desk
+lends_carried parts lobby session act two number (Err cause) w names e is s t = absurd cc
+lends_carried parts lobby session act two number (Ok plan) w names e is s t =
+    let same : desk_of plan ≡ number = cc in
+    let formed = formed_is parts lobby w e in
+    let planned : IsPlanned lobby plan = plan_of-is lobby session act plan formed.games names is in
+    let d : IsDesk (desk_of plan) = desk_of-is lobby plan planned in
+    let found = desk_at parts (desk_of plan) w d in
+    let there : slice_get parts (desk_of plan) ≡ Some two = subst (λ (n : ℕ). slice_get parts n ≡ Some two) (sym same) t in
+    let place : IsInPlace lobby (desk_of plan) (ADesk found.0) = place_is parts lobby w e (desk_of plan) (ADesk found.0) found.1 in (
+      found.0,
+      front two (ADesk found.0) (sym there ∙ found.1),
+      (d, carried_by lobby plan found.0 place.1 planned (SeatsTwo-plan_of lobby session act plan formed is) (for_two-plan_of lobby session act plan (two_is parts lobby w e) is)),
+    )
+
+lends_pair : (parts : List Part) (lobby : LobbyState) (session : ℕ) (act : PairAct) (two : Part) (number : ℕ) → IsWhole parts → NamesDesk act → slice_get parts 0 ≡ Some (TheLobby lobby)
+    → planned_desk (plan_of lobby session act) ≡ Some number → slice_get parts number ≡ Some two → AreBothOf (TheLobby lobby) two session (Pair act)
+lends_pair parts lobby session act two number w names e s t =
+    let h = lends_carried parts lobby session act two number (plan_of lobby session act) w names e refl s t in
+    subst (λ (p : Part). AreBothOf (TheLobby lobby) p session (Pair act)) (sym h.1) h.2
+
+pub lends_second : (parts : List Part) (session : ℕ) (act : Act) (one two : Part) (number : ℕ) → IsWhole parts → FitsAct act → slice_get parts (first_part act) ≡ Some one
+    → second_part one session act ≡ Some number → slice_get parts number ≡ Some two → AreBothOf one two session act
+lends_second parts session (Pair act) (TheLobby lobby) two number w f e s t = lends_pair parts lobby session act two number w f e s t
+lends_second parts session (Lobby act) (TheLobby lobby) two number w f e s t = absurd cc
+lends_second parts session (Desk desk serial act) (TheLobby lobby) two number w f e s t = absurd cc
+lends_second parts session act (ADesk desk) two number w f e s t = absurd cc

@@ -1,5 +1,0 @@
-use Rattle.one_server.proofs.Serving.{vacant_push}
-use Rattle.one_server.proofs.server.vacant_tables.Goals as goal
-
-pub loop-slot-preserved : goal.loop-slot-preserved
-loop-slot-preserved c = vacant_push c.loop-slot.slot c.loop-slot.tables c.push.new.self c.vacant.result c.loop-slot.invariant c.vacant.ensures c.in_ok-push.ensures.ok

@@ -1,0 +1,63 @@
+//! The loop that makes a session's acts.
+ghost use Rattle.std.specs.Prelude.{◌≡◌, ◌≤◌, ◌<◌, ◌^◌, IfOk, OnOk, OnErr};
+ghost use Rattle.one_server.specs.Acts.{FitsAct};
+ghost use Rattle.session_core.specs.Course.{Asks};
+ghost use Rattle.session_core.specs.Going.{Answered, Stopped, Went};
+ghost use Rattle.session_core.specs.Stages.{IsAtDesk, IsReady, acts_after, acts_left, continues, course_of};
+
+use crate::next::Next;
+use crate::session_memory::Memory;
+use crate::stage::Stage;
+use fics_words::NoMemory;
+use one_server::{Act, Runner};
+use std::alloc::Global;
+
+/// Makes the acts of a course, all at `moment`, in milliseconds and at most 2^48, and appends what it writes. After want
+/// of memory the acts that were answered stay made: they are the first ones of the course.
+pub(crate) fn follow<R: Runner>(
+    alloc: Global,
+    r: &mut R,
+    moment: u64,
+    memory: &mut Memory,
+    first: Next<Stage>,
+    out: &mut Vec<u8>,
+) -> Result<(), NoMemory>
+    requires moment { moment ≤ 2 ^ 48 }
+    requires ready { IsReady IsAtDesk first }
+    ensures home { R.home r.new ≡ R.home r.old }
+    ensures followed { OnOk result (Answered (course_of continues first memory.old) (λ text. text) moment (R.state r.old) out.old.items (R.state r.new) out.new.items memory.new) }
+    ensures stopped { OnErr result (Stopped (course_of continues first memory.old) moment (R.state r.old) (R.state r.new)) }
+{
+    // What is known of every runner is known from here on.
+    let _session = r.session();
+    let mut next = first;
+    loop {
+        match next {
+            Next::End => return Ok(()),
+            Next::Ask(act, stage) => next = ask(alloc, r, moment, memory, act, stage, out)?,
+        }
+    }
+}
+
+/// Makes an act, and goes on by its reply.
+fn ask<R: Runner>(
+    alloc: Global,
+    r: &mut R,
+    moment: u64,
+    memory: &mut Memory,
+    act: Act,
+    stage: Stage,
+    out: &mut Vec<u8>,
+) -> Result<Next<Stage>, NoMemory>
+    requires moment { moment ≤ 2 ^ 48 }
+    requires fits { FitsAct act }
+    requires desk { IsAtDesk stage }
+    ensures home { R.home r.new ≡ R.home r.old }
+    ensures went { IfOk result (λ next. Went (Asks act (continues stage memory.old)) (course_of continues next memory.new) moment (R.state r.old) out.old.items (R.state r.new) out.new.items) }
+    ensures stopped { OnErr result (Stopped (Asks act (continues stage memory.old)) moment (R.state r.old) (R.state r.new)) }
+    ensures ready { IfOk result (IsReady IsAtDesk) }
+    ensures fewer { IfOk result (λ next. acts_left acts_after next ≤ acts_after stage) }
+{
+    let reply = r.run(alloc, moment, act)?;
+    stage.next(memory, &reply, out)
+}

@@ -1,0 +1,77 @@
+//! The stages of leaving.
+ghost use Rattle.std.specs.Prelude.{◌≡◌, ◌≤◌, ◌*◌, ◌+◌, length};
+ghost use Rattle.one_server.specs.Replies.{IsReply};
+ghost use Rattle.session_core.specs.Memory.{MemoryState};
+ghost use Rattle.session_core.specs.Session.{leave_places};
+ghost use Rattle.session_core.specs.Stages.{IsReady, LeavesDesk, acts_left, acts_of_leaving, course_of, leaves};
+
+use crate::next::Next;
+use crate::rest::Rest;
+use crate::session_memory::Memory;
+use crate::stage::{at_place, clear_at};
+use linked_desk::DeskAct;
+use lobby_state::{LobbyAct, Place};
+use one_server::{Act, Reply};
+
+/// What stands between an act of leaving and its reply.
+#[derive(Debug, Drop)]
+pub(crate) enum LeavingStage {
+    /// The member begins to leave.
+    Going,
+    /// A place is left, and these places come next.
+    Leaving(Place, Rest),
+    /// A place is given up, and these places come next.
+    Clearing(Rest),
+    /// The member is gone.
+    Gone,
+}
+
+impl LeavingStage {
+    /// Goes on by the reply to the next act or the end.
+    pub(crate) fn next(self, memory: &mut Memory, reply: &Reply) -> Next<LeavingStage>
+        requires desk { LeavesDesk self }
+        requires fits { IsReply reply.now }
+        ensures goes { course_of leaves result memory.new ≡ leaves self memory.old reply.now }
+        ensures ready { IsReady LeavesDesk result }
+        ensures fewer { acts_left acts_of_leaving result ≤ acts_of_leaving self }
+    {
+        match self {
+            LeavingStage::Going => {
+                memory.note(reply);
+                leave_next(memory.places())
+            }
+            LeavingStage::Leaving(place, rest) => {
+                Next::Ask(clear_at(&place), LeavingStage::Clearing(rest))
+            }
+            LeavingStage::Clearing(rest) => leave_next(rest),
+            LeavingStage::Gone => {
+                *memory = Memory::new();
+                Next::End
+            }
+        }
+    }
+}
+
+/// The act that begins to leave.
+pub(crate) fn ask_going() -> Next<LeavingStage>
+    ensures { result ≡ Next.Ask (Act.Lobby LobbyAct.Going) LeavingStage.Going }
+{
+    Next::Ask(Act::Lobby(LobbyAct::Going), LeavingStage::Going)
+}
+
+/// The act that leaves the first of these places; behind the last one the member is gone.
+fn leave_next(rest: Rest) -> Next<LeavingStage>
+    ensures goes { (memory : MemoryState) → course_of leaves result memory ≡ leave_places rest }
+    ensures ready { IsReady LeavesDesk result }
+    ensures fewer { acts_left acts_of_leaving result ≤ 2 * length rest + 1 }
+{
+    match rest.pop() {
+        None => Next::Ask(Act::Lobby(LobbyAct::Bye), LeavingStage::Gone),
+        Some((place, rest)) => {
+            Next::Ask(
+                at_place(&place, DeskAct::Leave),
+                LeavingStage::Leaving(place, rest),
+            )
+        }
+    }
+}
