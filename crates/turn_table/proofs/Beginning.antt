@@ -88,6 +88,7 @@ module _ {P A R : Type 0} (c : Core P A R) where
       look = record {
         on = fit.seen_begins;
         legal = subst (λ (xs : List P). Legal c xs n.log) (sym fit.same_opening) rule.legal;
+        whole = subst (λ (xs : List P). c.whole (state c xs n.log)) (sym fit.same_opening) whole;
         own = fit.own_calls;
         joined = fit.joined_calls;
         no_others = λ e m far. rule.undrawn m (let d : v.splits ≡ n.drawn = fit.counts_drawn e in omega arith);

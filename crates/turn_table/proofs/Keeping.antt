@@ -3,7 +3,6 @@ use Rattle.std.proofs.Common.{◌≡◌, ◌≢◌, ℕ, ◌+◌, ◌<◌, ◌�
 use Rattle.std.specs.declared.option.Option.{Option}
 use Rattle.std.specs.declared.option.Option.TheVariants.{None, Some}
 use Rattle.atomic_table.specs.Table.{Me, turned}
-use Rattle.histories.specs.declared.entry.Entry.{Entry}
 use Rattle.histories.specs.Core.{Core}
 use Rattle.histories.specs.History.{calls_of}
 use Rattle.turn_table.specs.declared.view.View.{View}
@@ -41,10 +40,10 @@ module _ {P : Type 0} where
       (λ e. not_held x.1 (inl (λ i. (e i, x.1)))) (λ e. not_held y.1 (inr (inl (λ i. (e i, y.1))))) (λ e. t.2 (sym t.0 ∙ (e ∙ t.1))))
   topped_more last before k p (x ∷ y ∷ z ∷ zs) may t few allowed not_held = absurd t
 
-  dropped : (k : ℕ) (x : ℕ × P) (xs : List (ℕ × P)) → x.0 ≡ k → let_go k (x ∷ xs) ≡ let_go k xs
+  pub dropped : (k : ℕ) (x : ℕ × P) (xs : List (ℕ × P)) → x.0 ≡ k → let_go k (x ∷ xs) ≡ let_go k xs
   dropped k x xs e = ap (λ b. cond (not b) (x ∷ let_go k xs) (let_go k xs)) (eq-eqb x.0 k e)
 
-  left_in : (k : ℕ) (x : ℕ × P) (xs : List (ℕ × P)) → x.0 ≢ k → let_go k (x ∷ xs) ≡ x ∷ let_go k xs
+  pub left_in : (k : ℕ) (x : ℕ × P) (xs : List (ℕ × P)) → x.0 ≢ k → let_go k (x ∷ xs) ≡ x ∷ let_go k xs
   left_in k x xs ne = ap (λ b. cond (not b) (x ∷ let_go k xs) (let_go k xs)) (ne_eqb x.0 k ne)
 
   -- the slot in front, and what is left once it is given

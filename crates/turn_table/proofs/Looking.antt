@@ -5,10 +5,8 @@ use Rattle.std.specs.Prelude.{nat_lt}
 use Rattle.std.specs.List.{slice_get}
 use Rattle.std.specs.declared.option.Option.{Option}
 use Rattle.std.specs.declared.option.Option.TheVariants.{Some}
-use mathlib.Core.Option.{some, none}
-use lib.ListN.{get_elem?}
-use Rattle.atomic_table.specs.Table.{State, step, keeps, Allows}
-use Rattle.histories.specs.declared.entry.Entry.{Entry}
+use mathlib.Core.Option.{none}
+use Rattle.atomic_table.specs.Table.{step, keeps, Allows}
 use Rattle.histories.specs.Core.{Core, Lawful}
 use Rattle.histories.specs.History.{IsPrefix, state}
 use Rattle.histories.proofs.Histories.{prefix_refl}

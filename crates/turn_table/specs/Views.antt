@@ -52,10 +52,13 @@ module _ {P A R : Type 0} where
   abbrev pub numbers_of : View P A R → List ℕ
   numbers_of v = v.number ∷ map joined_number v.joined
 
-  -- the history so far was seen. It begins with all that the pass had seen, it is legal, the pass's entries in it are its calls, and those of a pass that was joined into it are that one's calls. Where the pass is the first one, no number that it hasn't split has an entry
+  -- the history so far was seen. It begins with all that the pass had seen, it is legal, its state is whole, the pass's
+  -- entries in it are its calls, and those of a pass that was joined into it are that one's calls. Where the pass is the
+  -- first one, no number that it hasn't split has an entry
   pub record Looks (c : Core P A R) (v : View P A R) (seen : List (Entry A R)) : Type 0 where
     pub on : IsPrefix v.seen seen
     pub legal : Legal c v.opening seen
+    pub whole : c.whole (state c v.opening seen)
     pub own : calls_of v.number seen ≡ v.made
     pub joined : (j : Joined A R) → In j v.joined → calls_of j.number seen ≡ j.calls
     pub no_others : v.number ≡ 0 → (m : ℕ) → v.splits < m → calls_of m seen ≡ []

@@ -4,7 +4,6 @@ use Rattle.turn_table.specs.Plays.{LooksOn}
 use Rattle.turn_table.specs.Passes.{Sound}
 use Rattle.turn_table.proofs.Passing.{joins}
 use Rattle.turn_table.proofs.Keeping.{sound_joined, no_slot}
-use Rattle.turn_table.proofs.Looking.{both_begin}
 use Rattle.turn_table.proofs.turns.Turns.join.Goals as goal
 
 pub join_seat-requires : goal.join_seat-requires
