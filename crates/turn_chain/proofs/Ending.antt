@@ -1,18 +1,15 @@
 -- The second half of an act: it is committed, and its parts are given back.
-use Rattle.std.proofs.Common.{◌≡◌, ◌≢◌, ℕ, cond, not, eqb, List, [], ◌∷◌, ◌++◌, map, refl, ap, sym, subst, ◌∙◌, inl, inr, eq-eqb, ne_eqb}
+use Rattle.std.proofs.Common.{◌≡◌, ◌≢◌, ℕ, cond, List, [], ◌∷◌, map, refl, ap, sym, subst, ◌∙◌, inl, inr, eq-eqb, ne_eqb}
 use Rattle.std.specs.List.{slice_get}
-use Rattle.std.specs.declared.option.Option.{Option}
 use Rattle.std.specs.declared.option.Option.TheVariants.{None, Some}
 use Rattle.histories.specs.Core.{Core, Lawful}
 use Rattle.histories.specs.History.{state}
-use Rattle.histories.proofs.Histories.{prefix_refl}
 use Rattle.turn_table.specs.declared.view.View.{View}
 use Rattle.turn_table.specs.Views.{In, AllOut, SecondOut, done, given, left_by, let_go}
 use Rattle.turn_table.specs.Passes.{Committed}
-use Rattle.turn_table.proofs.Among.{map_in, keeps, is_other}
 use Rattle.turn_table.proofs.Keeping.{dropped, left_in}
 use Rattle.turn_chain.specs.Lent.{IsFirst, AreBoth}
-use Rattle.turn_chain.specs.Chain.{fixed, Ran, Unmade, Ready}
+use Rattle.turn_chain.specs.Chain.{fixed, Ran, Ready}
 
 module _ {P A R : Type 0} (c : Core P A R) (v : View P A R) (a : A) where
   -- an act of one part

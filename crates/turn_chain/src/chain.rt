@@ -95,7 +95,5 @@ pub fn try_run<S: Steps>(
         number: second,
         value,
     };
-    Ok(Tried::Done(last::together(
-        alloc, table, pass, one, two, &act,
-    )?))
+    Ok(Tried::Done(last::together(alloc, table, pass, one, two, &act)?))
 }

@@ -73,9 +73,15 @@ pub fn together<S: Steps>(
     ensures err { OnErr result (Unmade S.core pass.old.view pass.new.view) }
     ensures sure { S.sure act.now → IsOk result }
 {
-    let Lent { number: first, value } = one;
+    let Lent {
+        number: first,
+        value,
+    } = one;
     let mut left = value;
-    let Lent { number: second, value } = two;
+    let Lent {
+        number: second,
+        value,
+    } = two;
     let mut right = value;
     match S::together(alloc, &mut left, &mut right, pass.number(), act) {
         Ok(reply) => {

@@ -24,7 +24,12 @@ pub trait Steps: Served {
         ensures { result ≡ Self.core.second one.now session act.now };
 
     /// Makes an act that has one part on that part. Want of memory changes nothing.
-    fn alone(alloc: Global, one: &mut Self::Part, session: u32, act: &Self::Act) -> Result<Self::Reply, NoMemory>
+    fn alone(
+        alloc: Global,
+        one: &mut Self::Part,
+        session: u32,
+        act: &Self::Act,
+    ) -> Result<Self::Reply, NoMemory>
         requires fits { Self.core.fits act.now }
         requires first { IsFirst Self.core act.now one.old }
         requires single { Self.core.second one.old session act.now ≡ None }

@@ -1,4 +1,4 @@
-use Rattle.std.proofs.Common.{◌≡◌, None, ap, ◌∙◌}
+use Rattle.std.proofs.Common.{None, ap, ◌∙◌}
 use Rattle.turn_chain.proofs.Ending.{lent_first, out_alone, named_alone, idle_alone, same_alone, ran_alone}
 use Rattle.turn_chain.proofs.last.alone.Goals as goal
 

@@ -1,4 +1,4 @@
-use Rattle.std.proofs.Common.{◌≡◌, Some, ap, sym, subst, ◌∙◌}
+use Rattle.std.proofs.Common.{Some, ap, sym, subst, ◌∙◌}
 use Rattle.turn_chain.specs.Lent.{AreBoth}
 use Rattle.turn_chain.proofs.Ending.{lent_both, out_both, named_again, named_first, named_second, idle_both, same_both, ran_both}
 use Rattle.turn_chain.proofs.last.together.Goals as goal
