@@ -85,7 +85,14 @@ module _ {P A R : Type 0} (c : Core P A R) where
       count = length_state c opening n.log
 
       pub look : Looks c v n.log
-      look = record { on = fit.seen_begins; legal = subst (λ (xs : List P). Legal c xs n.log) (sym fit.same_opening) rule.legal; own = fit.own_calls }
+      look = record {
+        on = fit.seen_begins;
+        legal = subst (λ (xs : List P). Legal c xs n.log) (sym fit.same_opening) rule.legal;
+        whole = subst (λ (xs : List P). c.whole (state c xs n.log)) (sym fit.same_opening) whole;
+        own = fit.own_calls;
+        joined = fit.joined_calls;
+        no_others = λ e m far. rule.undrawn m (let d : v.splits ≡ n.drawn = fit.counts_drawn e in omega arith);
+      }
 
       -- the view holds what the rule says that it holds
       pub holds_here : (k : ℕ) → k < length opening → n.holder k ≡ Some id → (slice_index s.words k ≡ 1) × Holds v k
@@ -106,6 +113,7 @@ module _ {P A R : Type 0} (c : Core P A R) where
         let g : Fits c opening (renamed c opening n n.log n.holder) id w = record {
           same_opening = f.same_opening;
           seen_begins = prefix_refl n.log;
+          shorter_begins = f.shorter_begins;
           own_calls = f.own_calls;
           may_fly = λ b e. let d : a ≡ b = cc in subst c.fits d may;
           holds_own = f.holds_own;
@@ -136,6 +144,7 @@ module _ {P A R : Type 0} (c : Core P A R) where
           others_had = λ k j r ne h. (h, refl);
           free = rule.free;
           mine = λ k r h. holds_here s n id v rule at live k r h;
+          out = rule.out;
           fits = g;
           newest = inl refl;
         } in

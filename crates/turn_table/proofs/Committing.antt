@@ -14,7 +14,7 @@ use Rattle.histories.specs.Core.{Core, Lawful, second_of, reply, after}
 use Rattle.histories.specs.History.{calls_of, state, Legal}
 use Rattle.histories.proofs.Parts.{get_set_same, get_set_else, slice_get_length}
 use Rattle.histories.proofs.Steps.{leaves_others, after_alone, after_together, reply_alone, reply_together}
-use Rattle.histories.proofs.Histories.{prefix_refl, prefix_more, grows_legally, steps_once, calls_own, calls_else}
+use Rattle.histories.proofs.Histories.{prefix_refl, prefix_more, prefix_trans, grows_legally, steps_once, calls_own, calls_else}
 use Rattle.turn_table.specs.declared.view.Joined.{Joined}
 use Rattle.turn_table.specs.declared.view.View.{View}
 use Rattle.turn_table.specs.Views.{In, Holds, AllOut, SecondOut, done, left_by, second_left, entry_by}
@@ -134,10 +134,15 @@ module _ {P A R : Type 0} (c : Core P A R) (law : Lawful c) (opening : List P) w
     not_joined : (j : Joined A R) → In j v.joined → j.number ≢ v.number
     not_joined j h e = now_f.differ.0 (subst (λ m. In m (map (λ (z : Joined A R). z.number) v.joined)) e (map_in (λ (z : Joined A R). z.number) j v.joined h))
 
+    -- no other pass has an entry more
+    drawn_only : v.number ≡ 0 → (m : ℕ) → v.splits < m → calls_of m log' ≡ []
+    drawn_only e m far = let d : v.splits ≡ n.drawn = now_f.counts_drawn e in none_else m (λ x. omega arith) ∙ rule.undrawn m (omega arith)
+
     done_fits : Fits c opening (renamed c opening n log' n.holder) id w
     done_fits = record {
       same_opening = now_f.same_opening;
       seen_begins = prefix_refl log';
+      shorter_begins = prefix_trans v.shorter n.log log' now_f.shorter_begins (prefix_more n.log (last_entry ∷ []));
       own_calls = made_all;
       may_fly = now_f.may_fly;
       holds_own = λ k q h. let b = held_before k q h in now_f.holds_own k b.0 b.1;
@@ -189,6 +194,7 @@ module _ {P A R : Type 0} (c : Core P A R) (law : Lawful c) (opening : List P) w
       others_had = λ k j r ne h. (h, other_word k (λ e. omega arith));
       free = λ k r h. let old = rule.free k r h in (other_word k (λ e. omega arith) ∙ old.0, λ q g. old.1 q (sym (others_stay k (λ e. let z : None ≡ Some id = sym h ∙ e in cc)) ∙ g));
       mine = λ k r h. let old = holds_here c law opening s n id v rule at live k r h in (other_word k (λ e. omega arith) ∙ old.0, ((left_by c v.number a p o (k, old.1.0)).1, map_in (left_by c v.number a p o) (k, old.1.0) v.held old.1.1));
+      out = rule.out;
       fits = done_fits;
       newest = inl refl;
     }
@@ -197,7 +203,7 @@ module _ {P A R : Type 0} (c : Core P A R) (law : Lawful c) (opening : List P) w
     was_held k q h = (λ i. slice_get (state c (now_f.same_opening i) (now_f.seen_begins.1 i)) k) ∙ now_f.named k q h
 
     done_told : (cs : List (ℕ × Option P)) → CommitsAct c (v, cs) a p o (w, cs)
-    done_told cs = record { view = refl; slots = refl; between = now_f.seen_begins.0; last = ap (λ es. es ++ last_entry ∷ []) (sym now_f.seen_begins.1); legal = subst (λ (xs : List P). Legal c xs log') (sym now_f.same_opening) now_legal; own = made_all; before = was_held; held = subst (λ (xs : List P). (k : ℕ) (q : P) → In (k, q) w.held → slice_get (state c xs log') k ≡ Some q) (sym now_f.same_opening) done_fits.named }
+    done_told cs = record { view = refl; slots = refl; between = now_f.seen_begins.0; last = ap (λ es. es ++ last_entry ∷ []) (sym now_f.seen_begins.1); legal = subst (λ (xs : List P). Legal c xs log') (sym now_f.same_opening) now_legal; own = made_all; joined = done_fits.joined_calls; no_others = drawn_only; before = was_held; held = subst (λ (xs : List P). (k : ℕ) (q : P) → In (k, q) w.held → slice_get (state c xs log') k ≡ Some q) (sym now_f.same_opening) done_fits.named }
 
     -- no other act is all out, and none with other values
     module _ (a' : A) (p' : P) (o' : Option P) (others : AllOut c v a' p' o') where

@@ -50,6 +50,7 @@ module _ {P A R : Type 0} (c : Core P A R) (law : Lawful c) (opening : List P) w
     give_fits = record {
       same_opening = give_f.same_opening;
       seen_begins = give_f.seen_begins;
+      shorter_begins = give_f.shorter_begins;
       own_calls = give_f.own_calls;
       may_fly = give_f.may_fly;
       holds_own = λ j q h. let r = still j q h in at_one_else n.holder k None j r.1 ∙ give_f.holds_own j q r.0;
@@ -98,6 +99,9 @@ module _ {P A R : Type 0} (c : Core P A R) (law : Lawful c) (opening : List P) w
       mine = λ m r h. split_on m k
           (λ e. absurd (let a : None ≡ Some id = sym (at_one_same n.holder k None m e) ∙ h in cc))
           (λ d. let old = holds_here c law opening s n id v rule at live m r (sym (at_one_else n.holder k None m d) ∙ h) in (get_or-set_other s.words k m 0 0 d ∙ old.0, (old.1.0, stays_held m old.1.0 d old.1.1)));
+      out = λ m j r h. split_on m k
+          (λ e. absurd (let a : None ≡ Some j = sym (at_one_same n.holder k None m e) ∙ h in cc))
+          (λ d. set_else s.homes k m (some (Some p)) d ∙ rule.out m j r (sym (at_one_else n.holder k None m d) ∙ h));
       fits = give_fits;
       newest = inr (refl, refl);
     }

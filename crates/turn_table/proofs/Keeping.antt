@@ -4,9 +4,10 @@ use Rattle.std.specs.declared.option.Option.{Option}
 use Rattle.std.specs.declared.option.Option.TheVariants.{None, Some}
 use Rattle.atomic_table.specs.Table.{Me, turned}
 use Rattle.histories.specs.Core.{Core}
+use Rattle.histories.specs.History.{calls_of}
 use Rattle.turn_table.specs.declared.view.View.{View}
-use Rattle.turn_table.specs.Views.{In, Holds, begun, taken, tried, done, left_by, given, let_go, divided, split_from, joined_with, newcomer}
-use Rattle.turn_table.specs.Plays.{Sat, BeginsAct, TakesPart, FindsBusy, CommitsAct}
+use Rattle.turn_table.specs.Views.{In, Holds, Looks, Knows, looked, begun, taken, tried, done, left_by, given, let_go, divided, split_from, merged, joined_with, newcomer}
+use Rattle.turn_table.specs.Plays.{Sat, LooksOn, BeginsAct, TakesPart, FindsBusy, CommitsAct}
 use Rattle.turn_table.specs.Passes.{out, Topped, IsPass, Sound, TookPart, Committed}
 use Rattle.turn_table.proofs.Among.{in_map, kept_was}
 
@@ -39,10 +40,10 @@ module _ {P : Type 0} where
       (λ e. not_held x.1 (inl (λ i. (e i, x.1)))) (λ e. not_held y.1 (inr (inl (λ i. (e i, y.1))))) (λ e. t.2 (sym t.0 ∙ (e ∙ t.1))))
   topped_more last before k p (x ∷ y ∷ z ∷ zs) may t few allowed not_held = absurd t
 
-  dropped : (k : ℕ) (x : ℕ × P) (xs : List (ℕ × P)) → x.0 ≡ k → let_go k (x ∷ xs) ≡ let_go k xs
+  pub dropped : (k : ℕ) (x : ℕ × P) (xs : List (ℕ × P)) → x.0 ≡ k → let_go k (x ∷ xs) ≡ let_go k xs
   dropped k x xs e = ap (λ b. cond (not b) (x ∷ let_go k xs) (let_go k xs)) (eq-eqb x.0 k e)
 
-  left_in : (k : ℕ) (x : ℕ × P) (xs : List (ℕ × P)) → x.0 ≢ k → let_go k (x ∷ xs) ≡ x ∷ let_go k xs
+  pub left_in : (k : ℕ) (x : ℕ × P) (xs : List (ℕ × P)) → x.0 ≢ k → let_go k (x ∷ xs) ≡ x ∷ let_go k xs
   left_in k x xs ne = ap (λ b. cond (not b) (x ∷ let_go k xs) (let_go k xs)) (ne_eqb x.0 k ne)
 
   -- the slot in front, and what is left once it is given
@@ -84,14 +85,14 @@ module _ {P A R : Type 0} (c : Core P A R) (slots number splits : ℕ) where
   V = View P A R
 
   -- it is enough to look at a view and its slots by themselves
-  along : (last before : ℕ) (v w : View P A R) (xs ys : List (ℕ × Option P)) → v ≡ w → xs ≡ ys → Sound slots number splits last before (w, ys) → Sound slots number splits last before (v, xs)
-  along last before v w xs ys e d h = subst (λ (me : Me (Option P) (View P A R)). Sound slots number splits last before me) (λ i. (sym e i, sym d i)) h
+  along : (last before : ℕ) (v w : View P A R) (xs ys : List (ℕ × Option P)) → v ≡ w → xs ≡ ys → Sound c slots number splits last before (w, ys) → Sound c slots number splits last before (v, xs)
+  along last before v w xs ys e d h = subst (λ (me : Me (Option P) (View P A R)). Sound c slots number splits last before me) (λ i. (sym e i, sym d i)) h
 
-  module _ (last before : ℕ) (m : Sat c) (sound : Sound slots number splits last before m) where
-    p0 : IsPass slots last before m
+  module _ (last before : ℕ) (m : Sat c) (sound : Sound c slots number splits last before m) where
+    p0 : IsPass c slots last before m
     p0 = sound.0
 
-    pub sound_begun : (a : A) (m' : Sat c) → m.0.held ≡ [] → BeginsAct c m a m' → Sound slots number splits last before m'
+    pub sound_begun : (a : A) (m' : Sat c) → m.0.held ≡ [] → BeginsAct c m a m' → Sound c slots number splits last before m'
     sound_begun a m' empty told =
         let w : View P A R = begun c m.0 a m'.0.seen in
         along last before m'.0 w m'.1 m.1 told.0 told.1 (
@@ -102,12 +103,13 @@ module _ {P A R : Type 0} (c : Core P A R) (slots number splits : ℕ) where
             order = p0.order;
             may_there = λ k h. ⊎_elim (λ e. let d : c.first a < length m.0.opening = told.3 in let z = p0.sized in omega arith) (λ h. absurd h) h;
             held_there = p0.held_there;
+            knows = let l = told.2 in record { legal = l.legal; own = l.own; joined = l.joined; no_others = l.no_others };
           },
           sound.1,
           sound.2,
         )
 
-    pub sound_took : (k : ℕ) (p : P) (m' : Sat c) → In k m.0.may → (Holds m.0 k → ⊥) → TookPart c m k p m' → Sound slots number splits k last m'
+    pub sound_took : (k : ℕ) (p : P) (m' : Sat c) → In k m.0.may → (Holds m.0 k → ⊥) → TookPart c m k p m' → Sound c slots number splits k last m'
     sound_took k p m' may not_held told =
         let t : TakesPart c m k p (m'.0, (k, Some p) ∷ m.1) = told.0 in
         let w : View P A R = taken c m.0 k p m'.0.seen in
@@ -122,17 +124,28 @@ module _ {P A R : Type 0} (c : Core P A R) (slots number splits : ℕ) where
             order = topped_more last before k p m.0.held w.may p0.order few allowed (λ q h. not_held (q, h));
             may_there = λ j h. let d = there j h in let z = p0.sized in omega arith;
             held_there = λ j q h. let d = there j (allowed j q h) in let z = p0.sized in omega arith;
+            knows = let l = t.looks in record { legal = l.legal; own = l.own; joined = l.joined; no_others = l.no_others };
           },
           sound.1,
           sound.2,
         )
 
-    pub sound_busy : (k : ℕ) (m' : Sat c) → FindsBusy c m k m' → Sound slots number splits last before m'
+    pub sound_busy : (k : ℕ) (m' : Sat c) → FindsBusy c m k m' → Sound c slots number splits last before m'
     sound_busy k m' told =
         along last before m'.0 (tried m.0 k) m'.1 m.1 told.0 told.1
-        (record { alive = p0.alive; sized = p0.sized; slots_out = p0.slots_out; order = p0.order; may_there = p0.may_there; held_there = p0.held_there }, sound.1, sound.2)
+        (record { alive = p0.alive; sized = p0.sized; slots_out = p0.slots_out; order = p0.order; may_there = p0.may_there; held_there = p0.held_there; knows = let l = p0.knows in record { legal = l.legal; own = l.own; joined = l.joined; no_others = l.no_others } }, sound.1, sound.2)
 
-    pub sound_done : (a : A) (p : P) (o : Option P) (m' : Sat c) → CommitsAct c m a p o m' → Sound slots number splits last before m'
+    -- a look
+    pub sound_looked : (m' : Sat c) → LooksOn c m m' → Sound c slots number splits last before m'
+    sound_looked m' told =
+        let w : View P A R = looked m.0 m'.0.seen in
+        along last before m'.0 w m'.1 m.1 told.view told.slots (
+          record { alive = p0.alive; sized = p0.sized; slots_out = p0.slots_out; order = p0.order; may_there = p0.may_there; held_there = p0.held_there; knows = let l = told.looks in record { legal = l.legal; own = l.own; joined = l.joined; no_others = l.no_others } },
+          sound.1,
+          sound.2,
+        )
+
+    pub sound_done : (a : A) (p : P) (o : Option P) (m' : Sat c) → CommitsAct c m a p o m' → Sound c slots number splits last before m'
     sound_done a p o m' told =
         let f : ℕ × P → ℕ × P = left_by c m.0.number a p o in
         along last before m'.0 (done c m.0 a p o m'.0.seen) m'.1 m.1 told.view told.slots (
@@ -143,12 +156,13 @@ module _ {P A R : Type 0} (c : Core P A R) (slots number splits : ℕ) where
             order = topped_map last before f (λ x. refl) m.0.held p0.order;
             may_there = p0.may_there;
             held_there = λ k q h. let r = in_map f (k, q) m.0.held h in let d : k ≡ r.0.0 = ap (λ (z : ℕ × P). z.0) r.2 in let b = p0.held_there r.0.0 r.0.1 r.1 in omega arith;
+            knows = let own : calls_of m.0.number m'.0.seen ≡ (done c m.0 a p o m'.0.seen).made = told.own ∙ ap (λ (u : View P A R). u.made) told.view in record { legal = told.legal; own = own; joined = told.joined; no_others = told.no_others };
           },
           sound.1,
           sound.2,
         )
 
-    pub sound_given : (next k : ℕ) (m' : Sat c) → Topped next before (let_go k m.0.held) → m'.0 ≡ given m.0 k → m'.1 ≡ map out (let_go k m.0.held) → Sound slots number splits next before m'
+    pub sound_given : (next k : ℕ) (m' : Sat c) → Topped next before (let_go k m.0.held) → m'.0 ≡ given m.0 k → m'.1 ≡ map out (let_go k m.0.held) → Sound c slots number splits next before m'
     sound_given next k m' order e d =
         along next before m'.0 (given m.0 k) m'.1 (map out (let_go k m.0.held)) e d (
           record {
@@ -158,30 +172,84 @@ module _ {P A R : Type 0} (c : Core P A R) (slots number splits : ℕ) where
             order = order;
             may_there = λ j h. p0.may_there j (kept_was (λ x. not (eqb x k)) j m.0.may h).0;
             held_there = λ j q h. p0.held_there j q (kept_was (λ x. not (eqb x.0 k)) (j, q) m.0.held h).0;
+            knows = let l = p0.knows in record { legal = l.legal; own = l.own; joined = l.joined; no_others = l.no_others };
           },
           sound.1,
           sound.2,
         )
 
-    pub sound_divided : (more : ℕ) → more ≡ splits + 1 → Sound slots number more last before (divided m.0, m.1)
+    pub sound_divided : (more : ℕ) → more ≡ splits + 1 → Sound c slots number more last before (divided m.0, m.1)
     sound_divided more e =
-        (record { alive = p0.alive; sized = p0.sized; slots_out = p0.slots_out; order = p0.order; may_there = p0.may_there; held_there = p0.held_there }, sound.1, e ∙ ap (λ k. k + 1) sound.2)
+        let k : Knows c m.0 = p0.knows in (
+          record {
+            alive = p0.alive;
+            sized = p0.sized;
+            slots_out = p0.slots_out;
+            order = p0.order;
+            may_there = p0.may_there;
+            held_there = p0.held_there;
+            knows = record { legal = k.legal; own = k.own; joined = k.joined; no_others = λ z n far. k.no_others z n (omega arith) };
+          },
+          sound.1,
+          e ∙ ap (λ k. k + 1) sound.2,
+        )
 
-    pub sound_split : (more : ℕ) → more ≡ splits + 1 → Sound slots more 0 0 0 (split_from m.0, [])
-    sound_split more e =
-        (record { alive = refl; sized = p0.sized; slots_out = refl; order = tt; may_there = λ k h. absurd h; held_there = λ k p h. absurd h }, e ∙ ap (λ k. k + 1) sound.2, refl)
+    -- the new pass has no entry in what was seen
+    pub no_entry : m.0.number ≡ 0 → calls_of (m.0.splits + 1) m.0.seen ≡ []
+    no_entry first = p0.knows.no_others first (m.0.splits + 1) (omega arith)
 
-    pub sound_joined : (w : View P A R) → Sound slots number splits last before (joined_with m.0 w, m.1)
-    sound_joined w =
-        (record { alive = p0.alive; sized = p0.sized; slots_out = p0.slots_out; order = p0.order; may_there = p0.may_there; held_there = p0.held_there }, sound.1, sound.2)
+    pub sound_split : m.0.number ≡ 0 → (more : ℕ) → more ≡ splits + 1 → Sound c slots more 0 0 0 (split_from m.0, [])
+    sound_split first more e = (
+      record {
+        alive = refl;
+        sized = p0.sized;
+        slots_out = refl;
+        order = tt;
+        may_there = λ k h. absurd h;
+        held_there = λ k p h. absurd h;
+        knows = record { legal = p0.knows.legal; own = no_entry first; joined = λ j h. absurd h; no_others = λ z n far. absurd (omega arith) };
+      },
+      e ∙ ap (λ k. k + 1) sound.2,
+      refl,
+    )
+
+    -- a join, and the look after it
+    pub sound_joined : (w : View P A R) (m' : Sat c) → LooksOn c (merged m.0 w, m.1) m' → Sound c slots number splits last before m'
+    sound_joined w m' told =
+        let l : Looks c (merged m.0 w) m'.0.seen = told.looks in
+        along last before m'.0 (joined_with m.0 w m'.0.seen) m'.1 m.1 told.view told.slots (
+          record {
+            alive = p0.alive;
+            sized = p0.sized;
+            slots_out = p0.slots_out;
+            order = p0.order;
+            may_there = p0.may_there;
+            held_there = p0.held_there;
+            knows = record { legal = l.legal; own = l.own; joined = l.joined; no_others = l.no_others };
+          },
+          sound.1,
+          sound.2,
+        )
 
     -- a pass that holds nothing has no slot
     pub no_slot : m.0.held ≡ [] → m.1 ≡ []
     no_slot e = p0.slots_out ∙ ap (λ (xs : List (ℕ × P)). map out xs) e
 
 -- a new pass
-pub sound_new : {P A R : Type 0} (opening : List P) (slots : ℕ) → length opening ≡ slots → Sound {P = P} {A = A} {R = R} slots 0 0 0 0 (newcomer opening, [])
-sound_new opening slots e = (record { alive = refl; sized = e; slots_out = refl; order = tt; may_there = λ k h. absurd h; held_there = λ k p h. absurd h }, refl, refl)
+pub sound_new : {P A R : Type 0} (c : Core P A R) (opening : List P) (slots : ℕ) → length opening ≡ slots → Sound c slots 0 0 0 0 (newcomer opening, [])
+sound_new c opening slots e = (
+  record {
+    alive = refl;
+    sized = e;
+    slots_out = refl;
+    order = tt;
+    may_there = λ k h. absurd h;
+    held_there = λ k p h. absurd h;
+    knows = record { legal = tt; own = refl; joined = λ j h. absurd h; no_others = λ z n far. refl };
+  },
+  refl,
+  refl,
+)
 
 -- what a caller is told of a commit
 pub committed : {P A R : Type 0} (c : Core P A R) (m : Sat c) (a : A) (p : P) (o : Option P) (m' : Sat c) → CommitsAct c m a p o m' → Committed c m.0 a p o m'.0

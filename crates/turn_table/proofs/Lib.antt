@@ -6,4 +6,5 @@ pub mod Committing
 pub mod Giving
 pub mod Passing
 pub mod Keeping
+pub mod Looking
 pub mod Ends

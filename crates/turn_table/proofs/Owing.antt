@@ -46,6 +46,7 @@ module _ {P A R : Type 0} (c : Core P A R) (opening : List P) where
     pub others_had : (k j : ℕ) → k < length opening → j ≢ id → holder k ≡ Some j → (n.holder k ≡ Some j) × (slice_index words k ≡ slice_index s.words k)
     pub free : (k : ℕ) → k < length opening → holder k ≡ None → (slice_index words k ≡ 0) × IsHome c opening log (moved s words homes id w) k
     pub mine : (k : ℕ) → k < length opening → holder k ≡ Some id → (slice_index words k ≡ 1) × Holds w k
+    pub out : (k j : ℕ) → k < length opening → holder k ≡ Some j → get_elem? homes k ≡ some maybe.none
     pub fits : Fits c opening (renamed n log holder) id w
     pub newest : (w.seen ≡ log) ⊎ ((w.seen ≡ v.seen) × (log ≡ n.log))
 
@@ -68,6 +69,7 @@ module _ {P A R : Type 0} (c : Core P A R) (opening : List P) where
         record {
           same_opening = f.same_opening;
           seen_begins = prefix_trans u.seen n.log log f.seen_begins owes.on;
+          shorter_begins = prefix_trans u.shorter n.log log f.shorter_begins owes.on;
           own_calls = owes.quiet u.number (other_numbers j u ne there alive u.number (inl refl)) ∙ f.own_calls;
           may_fly = f.may_fly;
           holds_own = λ k p h. owes.others_keep k j ne (f.holds_own k p h);
@@ -111,6 +113,7 @@ module _ {P A R : Type 0} (c : Core P A R) (opening : List P) where
       legal = owes.legal;
       free = owes.free;
       held = held_after;
+      out = owes.out;
       fits = λ j u there alive. ⊎_elim
           (λ t. subst (λ (x : View P A R). Fits c opening (renamed n log holder) j x) t.1 (subst (λ i. Fits c opening (renamed n log holder) i w) (sym t.0) owes.fits))
           (λ t. fits_else j u t.0 t.1 alive)

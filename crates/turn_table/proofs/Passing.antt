@@ -15,7 +15,7 @@ use Rattle.histories.proofs.Parts.{slice_get_length}
 use Rattle.histories.proofs.Histories.{prefix_refl, prefix_whole, prefix_length, length_state}
 use Rattle.turn_table.specs.declared.view.Joined.{Joined}
 use Rattle.turn_table.specs.declared.view.View.{View}
-use Rattle.turn_table.specs.Views.{In, Distinct, Holds, numbers_of, joined_number, divided, split_from, as_joined, joined_with, spent, newcomer}
+use Rattle.turn_table.specs.Views.{In, Distinct, Holds, numbers_of, joined_number, divided, split_from, as_joined, merged, spent, newcomer}
 use Rattle.turn_table.specs.Rule.{Names, Fits, Rule, Ruled}
 use Rattle.turn_table.proofs.Among.{in_append, split_on, at_one, at_one_same, at_one_else, at_length}
 use Rattle.turn_table.proofs.Beginning.{some_or_none, bool_cases, none_held}
@@ -66,6 +66,7 @@ module _ {P A R : Type 0} (c : Core P A R) (law : Lawful c) (opening : List P) w
     old_fits j u g not_first = record {
       same_opening = g.same_opening;
       seen_begins = g.seen_begins;
+      shorter_begins = g.shorter_begins;
       own_calls = g.own_calls;
       may_fly = g.may_fly;
       holds_own = g.holds_own;
@@ -87,6 +88,7 @@ module _ {P A R : Type 0} (c : Core P A R) (law : Lawful c) (opening : List P) w
     own_fits = record {
       same_opening = f.same_opening;
       seen_begins = f.seen_begins;
+      shorter_begins = f.shorter_begins;
       own_calls = f.own_calls;
       may_fly = f.may_fly;
       holds_own = f.holds_own;
@@ -112,6 +114,7 @@ module _ {P A R : Type 0} (c : Core P A R) (law : Lawful c) (opening : List P) w
     new_fits = record {
       same_opening = f.same_opening;
       seen_begins = f.seen_begins;
+      shorter_begins = (n.log, refl);
       own_calls = rule.undrawn (v.splits + 1) (let d = drawn_is in omega arith);
       may_fly = λ a e. absurd cc;
       holds_own = λ k p h. absurd h;
@@ -162,6 +165,7 @@ module _ {P A R : Type 0} (c : Core P A R) (law : Lawful c) (opening : List P) w
             (λ e. let same : old.1.0 ≡ v = here j old.1.0 e old.1.1 in (divided v, ap (get_elem? (set s.views id (divided v) ++ split_from v ∷ [])) e ∙ own_at, subst (λ (x : View P A R). Holds x k) same old.1.2))
             (λ ne. (old.1.0, else_at j old.1.0 ne old.1.1, old.1.2)),
       );
+      out = rule.out;
       fits = λ j u there alive. ⊎_elim
           (λ t. subst (λ (x : View P A R). Fits c opening after j x) t.1 (subst (λ i. Fits c opening after i (divided v)) (sym t.0) own_fits))
           (⊎_elim
@@ -200,10 +204,10 @@ module _ {P A R : Type 0} (c : Core P A R) (law : Lawful c) (opening : List P) w
     joint = record { log = n.log; holder = n.holder; owner = λ m. moved_to (n.owner m); drawn = n.drawn }
 
     abbrev both : View P A R
-    both = joined_with v w
+    both = merged v w
 
-    abbrev merged : State (Option P) (View P A R)
-    merged = record { words = s.words; homes = s.homes; views = set (set s.views id both) other spent }
+    abbrev met : State (Option P) (View P A R)
+    met = record { words = s.words; homes = s.homes; views = set (set s.views id both) other spent }
 
     other_owner : (m j : ℕ) → n.owner m ≡ Some j → j ≢ other → moved_to (n.owner m) ≡ Some j
     unfolding moved_to
@@ -223,10 +227,15 @@ module _ {P A R : Type 0} (c : Core P A R) (law : Lawful c) (opening : List P) w
     either_seen true = f2.seen_begins
     either_seen false = f1.seen_begins
 
+    either_shorter : (b : Bool) → IsPrefix (cond b v.seen w.seen) n.log
+    either_shorter true = f1.seen_begins
+    either_shorter false = f2.seen_begins
+
     both_fits : Fits c opening joint id both
     both_fits = record {
       same_opening = f1.same_opening;
       seen_begins = either_seen (nat_lt (length v.seen) (length w.seen));
+      shorter_begins = either_shorter (nat_lt (length v.seen) (length w.seen));
       own_calls = f1.own_calls;
       may_fly = f1.may_fly;
       holds_own = f1.holds_own;
@@ -256,6 +265,7 @@ module _ {P A R : Type 0} (c : Core P A R) (law : Lawful c) (opening : List P) w
     else_fits j u d g = record {
       same_opening = g.same_opening;
       seen_begins = g.seen_begins;
+      shorter_begins = g.shorter_begins;
       own_calls = g.own_calls;
       may_fly = g.may_fly;
       holds_own = g.holds_own;
@@ -298,7 +308,7 @@ module _ {P A R : Type 0} (c : Core P A R) (law : Lawful c) (opening : List P) w
         (λ lt. ap (λ b. cond b w.seen v.seen) (lt-ltb (length v.seen) (length w.seen) lt) ∙ e)
         (λ le. ap (λ b. cond b w.seen v.seen) (le-ltb (length v.seen) (length w.seen) le) ∙ prefix_whole v.seen n.log f1.seen_begins (let l : length w.seen ≡ length n.log = ap length e in omega arith))
 
-    join_kept : Rule c opening merged joint
+    join_kept : Rule c opening met joint
     join_kept = record {
       words_there = rule.words_there;
       slots_there = rule.slots_there;
@@ -314,6 +324,7 @@ module _ {P A R : Type 0} (c : Core P A R) (law : Lawful c) (opening : List P) w
             (λ e. absurd (none_held c v empty k (subst (λ (x : View P A R). Holds x k) (at_one_place j id old.1.0 v e old.1.1 at) old.1.2)))
             (λ e. (old.1.0, third_at j old.1.0 d e old.1.1, old.1.2))),
       );
+      out = rule.out;
       fits = λ j u there alive. ⊎_elim
           (λ t. absurd (let a : false ≡ u.live = ap (λ (x : View P A R). x.live) t.1 in let e : false ≡ true = a ∙ alive in cc))
           (⊎_elim
@@ -334,9 +345,9 @@ module _ {P A R : Type 0} (c : Core P A R) (law : Lawful c) (opening : List P) w
       undrawn = rule.undrawn;
     }
 
-  pub joins : (id : ℕ) (v : View P A R) (other : ℕ) (w : View P A R) → v.live ≡ true → w.live ≡ true → v.held ≡ [] → w.held ≡ [] → Joins (Ruled c opening) id v other w (joined_with v w) spent
+  pub joins : (id : ℕ) (v : View P A R) (other : ℕ) (w : View P A R) → v.live ≡ true → w.live ≡ true → v.held ≡ [] → w.held ≡ [] → Joins (Ruled c opening) id v other w (merged v w) spent
   joins id v other w live live_w empty empty_w s ruled there ne at_w =
-      let here : get_elem? s.views other ≡ some w = sym (set_else s.views id other (joined_with v w) ne) ∙ at_w in
+      let here : get_elem? s.views other ≡ some w = sym (set_else s.views id other (merged v w) ne) ∙ at_w in
       (joint s ruled.0 id v other w ruled.1 there ne here live live_w empty empty_w, join_kept s ruled.0 id v other w ruled.1 there ne here live live_w empty empty_w)
 
   -- the table when it opens
@@ -359,6 +370,7 @@ module _ {P A R : Type 0} (c : Core P A R) (law : Lawful c) (opening : List P) w
       let first : Fits c opening n 0 (newcomer opening) = record {
         same_opening = refl;
         seen_begins = prefix_refl [];
+        shorter_begins = prefix_refl [];
         own_calls = refl;
         may_fly = λ a e. absurd cc;
         holds_own = λ k p h. absurd h;
@@ -384,6 +396,7 @@ module _ {P A R : Type 0} (c : Core P A R) (law : Lawful c) (opening : List P) w
           legal = tt;
           free = λ k r e. (zeros k, λ p h. ap (λ (xs : List (Option P)). get_elem? (map some xs) k) is ∙ homes_of opening k p h);
           held = λ k id r e. absurd cc;
+          out = λ k id r e. absurd cc;
           fits = λ j u there alive. let t = only_view (newcomer opening) u j there in subst (λ (x : View P A R). Fits c opening n j x) t.1 (subst (λ i. Fits c opening n i (newcomer opening)) (sym t.0) first);
           spent_holds_none = λ j u there dead. ap (λ (x : View P A R). x.held) (sym (only_view (newcomer opening) u j there).1);
           newest = (0, newcomer opening, refl, refl, refl);

@@ -10,7 +10,7 @@ use mathlib.Core.Option.{some, none}
 use lib.ListN.{get_elem?}
 use prog.Atomic.{either}
 use Rattle.atomic_table.specs.Table.{State, Me, Step, step, Act, keeps, takes, gives, Allows, rest}
-use Rattle.atomic_table.proofs.Lists.{set_else}
+use Rattle.atomic_table.proofs.Lists.{set_here, set_else}
 use Rattle.histories.specs.Core.{Core, Lawful}
 use Rattle.histories.specs.History.{state}
 use Rattle.histories.proofs.Parts.{get_within}
@@ -99,6 +99,7 @@ module _ {P A R : Type 0} (c : Core P A R) (law : Lawful c) (opening : List P) w
       take_fits = record {
         same_opening = f.same_opening;
         seen_begins = prefix_refl n.log;
+        shorter_begins = f.shorter_begins;
         own_calls = f.own_calls;
         may_fly = f.may_fly;
         holds_own = take_own;
@@ -139,6 +140,9 @@ module _ {P A R : Type 0} (c : Core P A R) (law : Lawful c) (opening : List P) w
         mine = λ m r h. split_on m k
             (λ e. (ap (λ i. get_or (set s.words k 1) i 0) e ∙ get_or-set_same s.words k 1 0 (let t = k_there in let y = rule.words_there in omega arith), (p, inl (λ i. (e i, p)))))
             (λ d. let old = holds_here c law opening s n id v rule at live m r (sym (at_one_else n.holder k (Some id) m d) ∙ h) in (get_or-set_other s.words k m 1 0 d ∙ old.0, (old.1.0, inr old.1.1)));
+        out = λ m j r h. split_on m k
+            (λ e. ap (get_elem? (set s.homes k none)) e ∙ set_here s.homes k none (let t = k_there in let y = rule.slots_there in omega arith))
+            (λ d. set_else s.homes k m none d ∙ rule.out m j r (sym (at_one_else n.holder k (Some id) m d) ∙ h));
         fits = take_fits;
         newest = inl refl;
       }
@@ -149,6 +153,7 @@ module _ {P A R : Type 0} (c : Core P A R) (law : Lawful c) (opening : List P) w
       try_fits = record {
         same_opening = f.same_opening;
         seen_begins = f.seen_begins;
+        shorter_begins = f.shorter_begins;
         own_calls = f.own_calls;
         may_fly = f.may_fly;
         holds_own = f.holds_own;
@@ -181,6 +186,7 @@ module _ {P A R : Type 0} (c : Core P A R) (law : Lawful c) (opening : List P) w
         others_had = λ m j r ne h. (h, refl);
         free = rule.free;
         mine = λ m r h. holds_here c law opening s n id v rule at live m r h;
+        out = rule.out;
         fits = try_fits;
         newest = inr (refl, refl);
       }

@@ -11,7 +11,7 @@ use Rattle.atomic_table.specs.declared.shared.Seat.{Seat}
 use Rattle.histories.specs.Core.{Core}
 use Rattle.histories.specs.declared.entry.Entry.{Entry}
 use Rattle.histories.specs.History.{calls_of, state, Legal}
-use Rattle.turn_table.specs.Views.{In, HoldsState, joined_number, done, entry_by}
+use Rattle.turn_table.specs.Views.{In, HoldsState, Knows, joined_number, done, entry_by}
 use Rattle.turn_table.specs.Plays.{TakesPart}
 
 -- which table the pass is of, and what it knows
@@ -30,7 +30,7 @@ Topped last before (x ∷ []) = x.0 ≡ last
 Topped last before (x ∷ y ∷ []) = (x.0 ≡ last) × (y.0 ≡ before) × (last ≢ before)
 Topped last before (x ∷ y ∷ z ∷ zs) = ⊥
 
-module _ {P A R : Type 0} where
+module _ {P A R : Type 0} (c : Core P A R) where
   pub record IsPass (slots last before : ℕ) (me : Me (Option P) (View P A R)) : Type 0 where
     pub alive : me.0.live ≡ true
     pub sized : length me.0.opening ≡ slots
@@ -38,10 +38,11 @@ module _ {P A R : Type 0} where
     pub order : Topped last before me.0.held
     pub may_there : (k : ℕ) → In k me.0.may → k < slots
     pub held_there : (k : ℕ) (p : P) → In (k, p) me.0.held → k < slots
+    pub knows : Knows c me.0
 
--- and the numbers that the pass keeps are those of its view
-abbrev pub Sound : {P A R : Type 0} → ℕ → ℕ → ℕ → ℕ → ℕ → Me (Option P) (View P A R) → Type 0
-Sound slots number splits last before me = IsPass slots last before me × (number ≡ me.0.number) × (splits ≡ me.0.splits)
+  -- and the numbers that the pass keeps are those of its view
+  abbrev pub Sound : ℕ → ℕ → ℕ → ℕ → ℕ → Me (Option P) (View P A R) → Type 0
+  Sound slots number splits last before me = IsPass slots last before me × (number ≡ me.0.number) × (splits ≡ me.0.splits)
 
 -- a seat at a table that has a turn word for each part and the count word, and that opened with so many parts
 pub record IsAt (seat home : TableId) (parts : ℕ) : Type 0 where

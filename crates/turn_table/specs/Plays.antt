@@ -6,13 +6,25 @@ use Rattle.std.specs.declared.option.Option.TheVariants.{Some}
 use Rattle.atomic_table.specs.Table.{Me, Step, rest}
 use Rattle.histories.specs.declared.entry.Entry.{Entry}
 use Rattle.histories.specs.Core.{Core}
-use Rattle.histories.specs.History.{calls_of, state, Legal}
+use Rattle.histories.specs.History.{IsPrefix, calls_of, state, Legal}
+use Rattle.turn_table.specs.declared.view.Joined.{Joined}
 use Rattle.turn_table.specs.declared.view.View.{View}
-use Rattle.turn_table.specs.Views.{In, HoldsState, Looks, begun, taken, tried, AllOut, done, entry_by, given}
+use Rattle.turn_table.specs.Views.{In, HoldsState, Looks, looked, begun, taken, tried, AllOut, done, entry_by, given}
 
 module _ {P A R : Type 0} (c : Core P A R) where
   abbrev pub Sat : Type 0
   Sat = Me (Option P) (View P A R)
+
+  -- the history so far was seen, and nothing else changes
+  pub record LooksOn (m m' : Sat) : Type 0 where
+    pub view : m'.0 ≡ looked m.0 m'.0.seen
+    pub slots : m'.1 ≡ m.1
+    pub looks : Looks c m.0 m'.0.seen
+    pub shorter : IsPrefix m.0.shorter m'.0.seen
+    pub held : HoldsState c m'.0
+
+  abbrev pub Sees : Step (Option P) → Sat → ℕ → Sat → Type 0
+  Sees st m found m' = LooksOn m m'
 
   -- the act is begun, and the history so far was seen
   abbrev pub BeginsAct : Sat → A → Sat → Type 0
@@ -47,6 +59,8 @@ module _ {P A R : Type 0} (c : Core P A R) where
     pub last : m'.0.seen ≡ (m.0.seen ++ between) ++ entry_by c m.0 a p o ∷ []
     pub legal : Legal c m.0.opening m'.0.seen
     pub own : calls_of m.0.number m'.0.seen ≡ m'.0.made
+    pub joined : (j : Joined A R) → In j m.0.joined → calls_of j.number m'.0.seen ≡ j.calls
+    pub no_others : m.0.number ≡ 0 → (n : ℕ) → m.0.splits < n → calls_of n m'.0.seen ≡ []
     pub before : (k : ℕ) (q : P) → In (k, q) m.0.held → slice_get (state c m.0.opening (m.0.seen ++ between)) k ≡ Some q
     pub held : HoldsState c m'.0
 

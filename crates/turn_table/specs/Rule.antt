@@ -3,7 +3,7 @@
 use Rattle.std.specs.Prelude.{◌≡◌, ℕ, ◌+◌, ◌%◌, ◌^◌, ◌<◌, ◌≤◌, ◌⊎◌, true, false, List, [], ◌∷◌, length, slice_index, slice_get}
 use Rattle.std.specs.declared.option.Option.{Option}
 use Rattle.std.specs.declared.option.Option.TheVariants.{None, Some}
-use mathlib.Core.Option.{some}
+use mathlib.Core.Option.{some, none}
 use lib.ListN.{get_elem?}
 use Rattle.atomic_table.specs.Table.{State}
 use Rattle.histories.specs.declared.entry.Entry.{Entry}
@@ -35,6 +35,7 @@ module _ {P A R : Type 0} (c : Core P A R) (opening : List P) where
     pub same_opening : v.opening ≡ opening
     -- what a view has seen begins the history
     pub seen_begins : IsPrefix v.seen n.log
+    pub shorter_begins : IsPrefix v.shorter n.log
     -- its calls are the entries of its number in the history
     pub own_calls : calls_of v.number n.log ≡ v.made
     -- the act in flight passes the test of acts
@@ -77,6 +78,8 @@ module _ {P A R : Type 0} (c : Core P A R) (opening : List P) where
     pub free : (k : ℕ) → k < length opening → n.holder k ≡ None → (slice_index s.words k ≡ 0) × IsHome n.log s k
     -- where a view holds the turn of a part, its turn word is 1
     pub held : (k id : ℕ) → k < length opening → n.holder k ≡ Some id → (slice_index s.words k ≡ 1) × HoldsAt s id k
+    -- and then the part is out of its slot, with the pass of that view
+    pub out : (k id : ℕ) → k < length opening → n.holder k ≡ Some id → get_elem? s.homes k ≡ some none
     -- each live view fits
     pub fits : (id : ℕ) (v : View P A R) → get_elem? s.views id ≡ some v → v.live ≡ true → Fits n id v
     -- a view that was joined into another one holds nothing

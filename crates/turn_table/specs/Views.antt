@@ -1,5 +1,5 @@
 -- The view of a pass, and how each kind of step changes it.
-use Rattle.std.specs.Prelude.{◌≡◌, ℕ, ◌+◌, ◌==◌, ◌⊎◌, true, false, cond, not, nat_lt, List, [], ◌∷◌, ◌++◌, map, length, filter, slice_get}
+use Rattle.std.specs.Prelude.{◌≡◌, ℕ, ◌+◌, ◌<◌, ◌==◌, ◌⊎◌, true, false, cond, not, nat_lt, List, [], ◌∷◌, ◌++◌, map, length, filter, slice_get}
 use Rattle.std.specs.Option.{option_to_list}
 use Rattle.std.specs.declared.option.Option.{Option}
 use Rattle.std.specs.declared.option.Option.TheVariants.{None, Some}
@@ -39,6 +39,10 @@ SecondOut {P} (Some s) o held = (q : P) × (o ≡ Some q) × In (s, q) held
 abbrev pub longer : {A R : Type 0} → List (Entry A R) → List (Entry A R) → List (Entry A R)
 longer xs ys = cond (nat_lt (length xs) (length ys)) ys xs
 
+-- and the shorter one
+abbrev pub shorter_of : {A R : Type 0} → List (Entry A R) → List (Entry A R) → List (Entry A R)
+shorter_of xs ys = cond (nat_lt (length xs) (length ys)) xs ys
+
 module _ {P A R : Type 0} where
   -- it holds the turn of this part
   abbrev pub Holds : View P A R → ℕ → Type 0
@@ -48,11 +52,27 @@ module _ {P A R : Type 0} where
   abbrev pub numbers_of : View P A R → List ℕ
   numbers_of v = v.number ∷ map joined_number v.joined
 
-  -- the history so far was seen. It begins with all that the pass had seen, it is legal, and the pass's entries in it are its calls
+  -- the history so far was seen. It begins with all that the pass had seen, it is legal, its state is whole, the pass's
+  -- entries in it are its calls, and those of a pass that was joined into it are that one's calls. Where the pass is the
+  -- first one, no number that it hasn't split has an entry
   pub record Looks (c : Core P A R) (v : View P A R) (seen : List (Entry A R)) : Type 0 where
     pub on : IsPrefix v.seen seen
     pub legal : Legal c v.opening seen
+    pub whole : c.whole (state c v.opening seen)
     pub own : calls_of v.number seen ≡ v.made
+    pub joined : (j : Joined A R) → In j v.joined → calls_of j.number seen ≡ j.calls
+    pub no_others : v.number ≡ 0 → (m : ℕ) → v.splits < m → calls_of m seen ≡ []
+
+  -- what a pass knows at any time: what it has seen is legal, its entries there are its calls, and so on
+  pub record Knows (c : Core P A R) (v : View P A R) : Type 0 where
+    pub legal : Legal c v.opening v.seen
+    pub own : calls_of v.number v.seen ≡ v.made
+    pub joined : (j : Joined A R) → In j v.joined → calls_of j.number v.seen ≡ j.calls
+    pub no_others : v.number ≡ 0 → (m : ℕ) → v.splits < m → calls_of m v.seen ≡ []
+
+  -- the history was looked at
+  abbrev pub looked : View P A R → List (Entry A R) → View P A R
+  looked v seen = record v { seen = seen; shorter = [] }
 
   -- each part that it holds is the part of the state of what it has seen
   abbrev pub HoldsState : Core P A R → View P A R → Type 0
@@ -108,19 +128,23 @@ module _ {P A R : Type 0} where
 
   -- the pass that was split from it
   abbrev pub split_from : View P A R → View P A R
-  split_from v = record { live = true; number = v.splits + 1; splits = 0; opening = v.opening; seen = v.seen; made = []; flight = None; committed = false; may = []; held = []; busy = []; joined = [] }
+  split_from v = record { live = true; number = v.splits + 1; splits = 0; opening = v.opening; seen = v.seen; shorter = []; made = []; flight = None; committed = false; may = []; held = []; busy = []; joined = [] }
 
   abbrev pub as_joined : View P A R → Joined A R
   as_joined w = record { number = w.number; calls = w.made }
 
-  -- another pass was joined into it
-  abbrev pub joined_with : View P A R → View P A R → View P A R
-  joined_with v w = record v { seen = longer v.seen w.seen; joined = v.joined ++ as_joined w ∷ w.joined }
+  -- another pass is being joined into it: of what the two had seen it takes the longer, and remembers the shorter
+  abbrev pub merged : View P A R → View P A R → View P A R
+  merged v w = record v { seen = longer v.seen w.seen; shorter = shorter_of v.seen w.seen; joined = v.joined ++ as_joined w ∷ w.joined }
+
+  -- another pass was joined into it, and the history was looked at
+  abbrev pub joined_with : View P A R → View P A R → List (Entry A R) → View P A R
+  joined_with v w seen = looked (merged v w) seen
 
   -- what is left of a pass that was joined into another one
   abbrev pub spent : View P A R
-  spent = record { live = false; number = 0; splits = 0; opening = []; seen = []; made = []; flight = None; committed = false; may = []; held = []; busy = []; joined = [] }
+  spent = record { live = false; number = 0; splits = 0; opening = []; seen = []; shorter = []; made = []; flight = None; committed = false; may = []; held = []; busy = []; joined = [] }
 
   -- the first pass, when the table opens
   abbrev pub newcomer : List P → View P A R
-  newcomer opening = record { live = true; number = 0; splits = 0; opening = opening; seen = []; made = []; flight = None; committed = false; may = []; held = []; busy = []; joined = [] }
+  newcomer opening = record { live = true; number = 0; splits = 0; opening = opening; seen = []; shorter = []; made = []; flight = None; committed = false; may = []; held = []; busy = []; joined = [] }

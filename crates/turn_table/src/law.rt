@@ -36,6 +36,17 @@ impl<S: Served> TableRule<Option<S::Part>, View<S::Part, S::Act, S::Reply>, Snap
     ghost first = { λ told. newcomer told.value.items };
 }
 
+/// The history is looked at.
+pub struct Looking<S> {
+    of: PhantomData<S>,
+}
+
+impl<S: Served> Play<Option<S::Part>, View<S::Part, S::Act, S::Reply>> for Looking<S> {
+    ghost use Rattle.turn_table.specs.Plays.{Sees};
+
+    ghost then = { Sees S.core };
+}
+
 /// Which act a beginning is of. Each call picks it.
 pub trait Meant<A> {
     ghost use Rattle.std.specs.declared.option.Option.{Option};
@@ -109,9 +120,9 @@ impl<P, A, R> Split<View<P, A, R>> for Splitting {
 pub struct Joining;
 
 impl<P, A, R> Join<View<P, A, R>> for Joining {
-    ghost use Rattle.turn_table.specs.Views.{joined_with, spent};
+    ghost use Rattle.turn_table.specs.Views.{merged, spent};
 
-    ghost both = { joined_with };
+    ghost both = { merged };
 
     ghost spent = { spent };
 }

@@ -23,7 +23,7 @@ impl<S: Served> Model for Pass<S> {
 
     ghost view = { λ p. record { home = p.seat.table_id; view = p.seat.me.0 } };
 
-    ghost invariant = { λ p. Sound p.seat.table_id.slots p.number p.splits p.last p.before p.seat.me };
+    ghost invariant = { λ p. Sound S.core p.seat.table_id.slots p.number p.splits p.last p.before p.seat.me };
 }
 
 impl<S: Served> Pass<S> {

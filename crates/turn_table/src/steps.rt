@@ -4,11 +4,22 @@ ghost use Rattle.std.specs.Prelude.{◌≡◌, ◌+◌, ◌==◌, ◌<◌, true,
 ghost use Rattle.std.specs.declared.option.Option.{Option};
 ghost use Rattle.atomic_table.specs.Table.{rest};
 ghost use Rattle.turn_table.specs.Views.{In, Holds, AllOut, given, let_go};
-ghost use Rattle.turn_table.specs.Plays.{BeginsAct, FindsBusy, CommitsAct};
+ghost use Rattle.turn_table.specs.Plays.{LooksOn, BeginsAct, FindsBusy, CommitsAct};
 ghost use Rattle.turn_table.specs.Passes.{IsAt, SameSeat, TookPart, Topped, out};
 
-use crate::law::{Beginning, Committing, Giving, Meant, Stand, Taking, Token};
+use crate::law::{Beginning, Committing, Giving, Looking, Meant, Stand, Taking, Token};
 use histories::Served;
+
+/// Looks at the history: all of it so far is seen.
+pub fn look<S: Served>(table: &Stand<S>, seat: &mut Token<S>, count: usize)
+    requires table { IsAt seat.old.table_id table.now.table_id (length table.now.key.value.items) }
+    requires count { count ≡ table.now.table_id.slots }
+    requires alive { seat.old.me.0.live ≡ true }
+    ensures same { SameSeat seat.old seat.new }
+    ensures looked { LooksOn S.core seat.old.me seat.new.me }
+{
+    table.load::<Looking<S>>(seat, count);
+}
 
 /// Begins an act: the history so far is seen.
 pub fn begin<S: Served, M: Meant<S::Act>>(

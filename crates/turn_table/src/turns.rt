@@ -2,9 +2,9 @@
 
 ghost use Rattle.std.specs.Prelude.{◌≡◌, ◌≢◌, ℕ, ◌-◌, ◌^◌, ◌<◌, ◌≤◌, [], Some, slice_get, vec_len, IfOk, IfNone, IfSome, OnSome};
 ghost use Rattle.std.specs.declared.option.Option.{Option};
-ghost use Rattle.histories.specs.History.{calls_of, state, Legal};
+ghost use Rattle.histories.specs.History.{IsPrefix, calls_of, state, Legal};
 ghost use Rattle.turn_table.specs.declared.view.Joined.{Joined};
-ghost use Rattle.turn_table.specs.Views.{In, Holds, HoldsState, Looks, begun, taken, tried, AllOut, done, given, divided, split_from, joined_with, newcomer};
+ghost use Rattle.turn_table.specs.Views.{In, Holds, HoldsState, Looks, Knows, looked, begun, taken, tried, AllOut, done, given, divided, split_from, joined_with, newcomer};
 ghost use Rattle.turn_table.specs.Passes.{busy_more, with_busy, AllJoined, Committed};
 
 use crate::law::{Joining, Law, Opening, Slot, Splitting};
@@ -65,6 +65,21 @@ impl<S: Served> Turns<S> {
             before: 0,
         };
         Ok((turns, pass))
+    }
+
+    /// Looks at the history: the pass then sees all of it so far, and nothing else changes. It begins with what the pass had
+    /// seen, and each part that the pass holds is its state's. It is legal; it has as the pass's own entries the calls that
+    /// it made, and as the entries of each pass that was joined into it that one's calls. Seen by the first pass, it has no
+    /// entry of a number that wasn't split: once all are joined, it has none but the calls of these passes.
+    pub fn look(&self, pass: &mut Pass<S>)
+        requires here { pass.old.home ≡ self.now }
+        ensures here { pass.new.home ≡ pass.old.home }
+        ensures looked { pass.new.view ≡ looked pass.old.view pass.new.view.seen }
+        ensures seen { Looks S.core pass.old.view pass.new.view.seen }
+        ensures held { HoldsState S.core pass.new.view }
+    {
+        let count = self.table.slot_count();
+        steps::look::<S>(&self.table.shared, &mut pass.seat, count);
     }
 
     /// Begins an act: the pass sees the history so far, and may take the act's first part. It holds no part, and an act
@@ -147,7 +162,8 @@ impl<S: Served> Turns<S> {
         steps::give::<S>(&self.table.shared, &mut pass.seat, part as usize, value);
     }
 
-    /// Splits a new pass from the first one, fewer than 2^32 - 1 times. It has seen as much, and made nothing.
+    /// Splits a new pass from the first one, fewer than 2^32 - 1 times. It has seen as much, which is legal, and made
+    /// nothing: there is no entry of its own in what it has seen.
     pub fn split(&self, pass: &mut Pass<S>) -> Pass<S>
         requires here { pass.old.home ≡ self.now }
         requires first { pass.old.view.number ≡ 0 }
@@ -155,6 +171,8 @@ impl<S: Served> Turns<S> {
         ensures here { (pass.new.home ≡ pass.old.home) × (result.home ≡ pass.old.home) }
         ensures counted { pass.new.view ≡ divided pass.old.view }
         ensures new { result.view ≡ split_from pass.old.view }
+        ensures legal { Legal S.core result.view.opening result.view.seen }
+        ensures no_entry { calls_of result.view.number result.view.seen ≡ [] }
     {
         pass.splits += 1;
         let seat = self.table.shared.split_seat::<Splitting>(&mut pass.seat);
@@ -167,18 +185,23 @@ impl<S: Served> Turns<S> {
         }
     }
 
-    /// Joins another pass into this one, which keeps its number and its calls. Neither holds a part, and the other isn't
-    /// the first pass.
+    /// Joins another pass into this one, which keeps its number and its calls, and looks at the history, which begins with
+    /// what either of the two had seen. Neither holds a part, and the other isn't the first pass.
     pub fn join(&self, pass: &mut Pass<S>, other: Pass<S>)
         requires here { (pass.old.home ≡ self.now) × (other.home ≡ self.now) }
         requires idle { pass.old.view.held ≡ [] }
         requires other_idle { other.view.held ≡ [] }
         requires other_not_first { other.view.number ≢ 0 }
         ensures here { pass.new.home ≡ pass.old.home }
-        ensures joined { pass.new.view ≡ joined_with pass.old.view other.view }
+        ensures joined { pass.new.view ≡ joined_with pass.old.view other.view pass.new.view.seen }
+        ensures seen { IsPrefix pass.old.view.seen pass.new.view.seen }
+        ensures other_seen { IsPrefix other.view.seen pass.new.view.seen }
+        ensures known { Knows S.core pass.new.view }
     {
         let Pass { seat, .. } = other;
+        let count = self.table.slot_count();
         self.table.shared.join_seat::<Joining>(&mut pass.seat, seat);
+        steps::look::<S>(&self.table.shared, &mut pass.seat, count);
     }
 
     /// Gives the parts back, once every pass that was split was joined into the first one, which holds no part. They are

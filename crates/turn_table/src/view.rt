@@ -21,6 +21,8 @@ pub struct View<P, A, R> {
     pub opening: LinkedList<P>,
     /// The beginning of the history that it has seen.
     pub seen: LinkedList<Entry<A, R>>,
+    /// While another pass is being joined into it: what the one of the two had seen that had seen less. Else nothing.
+    pub shorter: LinkedList<Entry<A, R>>,
     /// Its own entries of the history.
     pub made: LinkedList<Entry<A, R>>,
     /// The act in flight, from its beginning on.

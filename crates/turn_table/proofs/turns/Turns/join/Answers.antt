@@ -1,4 +1,6 @@
 use Rattle.std.proofs.Common.{ℕ, arith, sym, ap, subst, ◌∙◌}
+use Rattle.turn_table.specs.Views.{merged}
+use Rattle.turn_table.specs.Plays.{LooksOn}
 use Rattle.turn_table.specs.Passes.{Sound}
 use Rattle.turn_table.proofs.Passing.{joins}
 use Rattle.turn_table.proofs.Keeping.{sound_joined, no_slot}
@@ -22,7 +24,9 @@ join_seat-requires g c =
 pub invariant_of-pass : goal.invariant_of-pass
 invariant_of-pass g c =
     let p = c.pass.inside in
+    let w = c.other.inside.seat.me.0 in
     let e = c.join_seat.ensures in
-    subst (λ (n : ℕ). Sound n p.number p.splits p.last p.before c.join_seat.new.seat.me) (ap (λ z. z.slots) (sym e.0))
-    (subst (λ me. Sound p.seat.table_id.slots p.number p.splits p.last p.before me) (sym e.2)
-    (sound_joined g.S.Served.core p.seat.table_id.slots p.number p.splits p.last p.before p.seat.me c.pass.invariant c.other.inside.seat.me.0))
+    let m' = c.look.new.seat.me in
+    let told : LooksOn g.S.Served.core (merged p.seat.me.0 w, p.seat.me.1) m' = subst (λ me. LooksOn g.S.Served.core me m') e.2 c.look.ensures.looked in
+    subst (λ (n : ℕ). Sound g.S.Served.core n p.number p.splits p.last p.before m') (ap (λ z. z.slots) (sym (c.look.ensures.same.0 ∙ e.0)))
+    (sound_joined g.S.Served.core p.seat.table_id.slots p.number p.splits p.last p.before p.seat.me c.pass.invariant w m' told)

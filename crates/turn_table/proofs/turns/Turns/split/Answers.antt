@@ -14,6 +14,6 @@ pub invariant_of-pass : goal.invariant_of-pass
 invariant_of-pass g c =
     let p = c.pass.inside in
     let e = c.split_seat-seat.ensures in
-    subst (λ (n : ℕ). Sound n p.number (p.splits + 1) p.last p.before c.split_seat-seat.new.seat.me) (ap (λ z. z.slots) (sym e.0))
-    (subst (λ me. Sound p.seat.table_id.slots p.number (p.splits + 1) p.last p.before me) (sym e.2)
+    subst (λ (n : ℕ). Sound g.S.Served.core n p.number (p.splits + 1) p.last p.before c.split_seat-seat.new.seat.me) (ap (λ z. z.slots) (sym e.0))
+    (subst (λ me. Sound g.S.Served.core p.seat.table_id.slots p.number (p.splits + 1) p.last p.before me) (sym e.2)
     (sound_divided g.S.Served.core p.seat.table_id.slots p.number p.splits p.last p.before p.seat.me c.pass.invariant (p.splits + 1) refl))

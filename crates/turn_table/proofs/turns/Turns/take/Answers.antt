@@ -31,7 +31,7 @@ returns-in-Some-try_take-clause-seen g c =
     let i = c.loop.invariant.3 in
     let seen = c.try_take.new.pass.view.seen in
     let l : Looks g.S.Served.core (with_busy (busy_more i.0 c.args.part c.args.pass.now.view.busy) c.args.pass.now.view) seen = subst (λ v. Looks g.S.Served.core v seen) i.1 c.in-Some-try_take.ensures.seen in
-    record { on = l.on; legal = l.legal; own = l.own }
+    record { on = l.on; legal = l.legal; whole = l.whole; own = l.own; joined = l.joined; no_others = l.no_others }
 
 pub returns-in-Some-try_take-clause-value : goal.returns-in-Some-try_take-clause-value
 returns-in-Some-try_take-clause-value g c =

@@ -1,0 +1,67 @@
+use Rattle.std.proofs.Common.{sym, ap, ◌∙◌}
+use Rattle.turn_chain.proofs.Going.{since_trans, since_begun, since_taken, second_free, ok_since, err_since}
+use Rattle.turn_chain.proofs.chain.run.Goals as goal
+
+pub returns-in_default-clause-ok : goal.returns-in_default-clause-ok
+returns-in_default-clause-ok g c =
+    let b = c.begin.ensures in
+    let t = c.take-value.ensures in
+    let u = c.begin.new.pass.view in
+    let w = c.take-value.new.pass.view in
+    let v = c.args.pass.now.view in
+    let a = c.args.act.now in
+    let core = g.S.Served.core in
+    let once = since_trans v u w (since_begun core v u a b.begun b.seen) (since_taken core u w c.first_part-first.result c.take-value.result t.taken t.seen) in
+    ok_since core v w c.alone.new.pass.view a once c.alone.result c.alone.ensures.ok
+
+pub returns-in_default-clause-err : goal.returns-in_default-clause-err
+returns-in_default-clause-err g c =
+    let b = c.begin.ensures in
+    let t = c.take-value.ensures in
+    let u = c.begin.new.pass.view in
+    let w = c.take-value.new.pass.view in
+    let v = c.args.pass.now.view in
+    let a = c.args.act.now in
+    let core = g.S.Served.core in
+    let once = since_trans v u w (since_begun core v u a b.begun b.seen) (since_taken core u w c.first_part-first.result c.take-value.result t.taken t.seen) in
+    err_since core v w c.alone.new.pass.view a once c.alone.result c.alone.ensures.err
+
+pub take-value-requires-2-clause-not_held : goal.take-value-requires-2-clause-not_held
+take-value-requires-2-clause-not_held g c κs within =
+    let b = c.begin.ensures in
+    let t = c.take-value.ensures in
+    let core = g.S.Served.core in
+    let a = c.args.act.now in
+    let p = c.take-value.result in
+    second_free core g.S.Served.lawful c.args.pass.now.view c.begin.new.pass.view c.take-value.new.pass.view a c.first_part-first.result p c.in-Some.second c.requires.fits c.requires.idle b.begun t.taken t.seen t.value c.first_part-first.ensures
+    (ap (λ n. core.second p n a) (sym c.number.ensures) ∙ (sym c.second_part-second.ensures ∙ c.in-Some.is))
+
+pub returns-clause-ok : goal.returns-clause-ok
+returns-clause-ok g c =
+    let b = c.begin.ensures in
+    let t = c.take-value.ensures in
+    let u = c.begin.new.pass.view in
+    let w = c.take-value.new.pass.view in
+    let v = c.args.pass.now.view in
+    let a = c.args.act.now in
+    let core = g.S.Served.core in
+    let once = since_trans v u w (since_begun core v u a b.begun b.seen) (since_taken core u w c.first_part-first.result c.take-value.result t.taken t.seen) in
+    let x = c.take-value-2.new.pass.view in
+    let d = c.take-value-2.ensures in
+    let twice = since_trans v w x once (since_taken core w x c.in-Some.second c.take-value-2.result d.taken d.seen) in
+    ok_since core v x c.together.new.pass.view a twice c.together.result c.together.ensures.ok
+
+pub returns-clause-err : goal.returns-clause-err
+returns-clause-err g c =
+    let b = c.begin.ensures in
+    let t = c.take-value.ensures in
+    let u = c.begin.new.pass.view in
+    let w = c.take-value.new.pass.view in
+    let v = c.args.pass.now.view in
+    let a = c.args.act.now in
+    let core = g.S.Served.core in
+    let once = since_trans v u w (since_begun core v u a b.begun b.seen) (since_taken core u w c.first_part-first.result c.take-value.result t.taken t.seen) in
+    let x = c.take-value-2.new.pass.view in
+    let d = c.take-value-2.ensures in
+    let twice = since_trans v w x once (since_taken core w x c.in-Some.second c.take-value-2.result d.taken d.seen) in
+    err_since core v x c.together.new.pass.view a twice c.together.result c.together.ensures.err

@@ -1,0 +1,99 @@
+//! The second half of an act: its parts are out, it is made on them, and they go back.
+
+ghost use Rattle.std.specs.Prelude.{◌≡◌, [], ◌∷◌, None, Some, IfOk, IsOk, OnErr};
+ghost use Rattle.turn_chain.specs.Chain.{fixed, Ran, Unmade, Ready};
+
+use crate::steps::Steps;
+use memory::NoMemory;
+use std::alloc::Global;
+use turn_table::{Pass, Turns};
+
+/// A part that is out of its slot, with its number.
+#[derive(Drop)]
+pub struct Lent<P> {
+    /// The number of the part.
+    pub number: u8,
+    /// What it holds.
+    pub value: P,
+}
+
+/// Makes an act that has one part, which is out. After want of memory the part goes back as it was.
+pub fn alone<S: Steps>(
+    alloc: Global,
+    table: &Turns<S>,
+    pass: &mut Pass<S>,
+    one: Lent<S::Part>,
+    act: &S::Act,
+) -> Result<S::Reply, NoMemory>
+    requires here { pass.old.home ≡ table.now }
+    requires fits { S.core.fits act.now }
+    requires ready { Ready S.core pass.old.view act.now ((one.number, one.value) ∷ []) }
+    requires first { one.number ≡ S.core.first act.now }
+    requires single { S.core.second one.value pass.old.view.number act.now ≡ None }
+    ensures here { pass.new.home ≡ pass.old.home }
+    ensures idle { pass.new.view.held ≡ [] }
+    ensures same { fixed pass.new.view ≡ fixed pass.old.view }
+    ensures ok { IfOk result (λ reply. Ran S.core pass.old.view act.now reply pass.new.view) }
+    ensures err { OnErr result (Unmade S.core pass.old.view pass.new.view) }
+    ensures sure { S.sure act.now → IsOk result }
+{
+    let Lent { number, value } = one;
+    let mut part = value;
+    match S::alone(alloc, &mut part, pass.number(), act) {
+        Ok(reply) => {
+            table.commit(pass);
+            table.give(pass, number, part);
+            Ok(reply)
+        }
+        Err(NoMemory) => {
+            table.give(pass, number, part);
+            Err(NoMemory)
+        }
+    }
+}
+
+/// Makes an act that has two parts, which are out. After want of memory both go back as they were.
+pub fn together<S: Steps>(
+    alloc: Global,
+    table: &Turns<S>,
+    pass: &mut Pass<S>,
+    one: Lent<S::Part>,
+    two: Lent<S::Part>,
+    act: &S::Act,
+) -> Result<S::Reply, NoMemory>
+    requires here { pass.old.home ≡ table.now }
+    requires fits { S.core.fits act.now }
+    requires ready { Ready S.core pass.old.view act.now ((two.number, two.value) ∷ (one.number, one.value) ∷ []) }
+    requires first { one.number ≡ S.core.first act.now }
+    requires second { S.core.second one.value pass.old.view.number act.now ≡ Some two.number }
+    ensures here { pass.new.home ≡ pass.old.home }
+    ensures idle { pass.new.view.held ≡ [] }
+    ensures same { fixed pass.new.view ≡ fixed pass.old.view }
+    ensures ok { IfOk result (λ reply. Ran S.core pass.old.view act.now reply pass.new.view) }
+    ensures err { OnErr result (Unmade S.core pass.old.view pass.new.view) }
+    ensures sure { S.sure act.now → IsOk result }
+{
+    let Lent {
+        number: first,
+        value,
+    } = one;
+    let mut left = value;
+    let Lent {
+        number: second,
+        value,
+    } = two;
+    let mut right = value;
+    match S::together(alloc, &mut left, &mut right, pass.number(), act) {
+        Ok(reply) => {
+            table.commit(pass);
+            table.give(pass, first, left);
+            table.give(pass, second, right);
+            Ok(reply)
+        }
+        Err(NoMemory) => {
+            table.give(pass, first, left);
+            table.give(pass, second, right);
+            Err(NoMemory)
+        }
+    }
+}

@@ -1,0 +1,57 @@
+//! A server of parts that can make its acts.
+
+use histories::Served;
+use memory::NoMemory;
+use std::alloc::Global;
+
+/// A server of parts that can make each act on the parts that it is lent: on one part, or on two.
+pub trait Steps: Served {
+    ghost use Rattle.std.specs.Prelude.{◌≡◌, None, Some, IfOk, IsOk, OnOk, OnErr};
+    ghost use Rattle.turn_chain.specs.Lent.{IsFirst, AreBoth};
+
+    /// The acts that never meet want of memory.
+    ghost sure: { Self.Act → Type 0 };
+
+    /// The number of an act's first part.
+    fn first_part(act: &Self::Act) -> u8
+        requires fits { Self.core.fits act.now }
+        ensures { result ≡ Self.core.first act.now };
+
+    /// The number of its second part, if it has one, by the first part's value.
+    fn second_part(one: &Self::Part, session: u32, act: &Self::Act) -> Option<u8>
+        requires fits { Self.core.fits act.now }
+        requires first { IsFirst Self.core act.now one.now }
+        ensures { result ≡ Self.core.second one.now session act.now };
+
+    /// Makes an act that has one part on that part. Want of memory changes nothing.
+    fn alone(
+        alloc: Global,
+        one: &mut Self::Part,
+        session: u32,
+        act: &Self::Act,
+    ) -> Result<Self::Reply, NoMemory>
+        requires fits { Self.core.fits act.now }
+        requires first { IsFirst Self.core act.now one.old }
+        requires single { Self.core.second one.old session act.now ≡ None }
+        ensures reply { IfOk result (λ r. r ≡ Self.core.answer one.old None session act.now) }
+        ensures after { OnOk result (one.new ≡ Self.core.one one.old None session act.now) }
+        ensures err { OnErr result (one.new ≡ one.old) }
+        ensures sure { sure act.now → IsOk result };
+
+    /// Makes an act that has two parts on both. Want of memory changes nothing.
+    fn together(
+        alloc: Global,
+        one: &mut Self::Part,
+        two: &mut Self::Part,
+        session: u32,
+        act: &Self::Act,
+    ) -> Result<Self::Reply, NoMemory>
+        requires fits { Self.core.fits act.now }
+        requires both { AreBoth Self.core session act.now one.old two.old }
+        ensures reply { IfOk result (λ r. r ≡ Self.core.answer one.old (Some two.old) session act.now) }
+        ensures one { OnOk result (one.new ≡ Self.core.one one.old (Some two.old) session act.now) }
+        ensures two { OnOk result (two.new ≡ Self.core.two one.old two.old session act.now) }
+        ensures err_one { OnErr result (one.new ≡ one.old) }
+        ensures err_two { OnErr result (two.new ≡ two.old) }
+        ensures sure { sure act.now → IsOk result };
+}
