@@ -1,13 +1,12 @@
 -- What an act keeps of the game at a desk, and what is shared by the acts that end it.
-use Rattle.std.proofs.Common.{◌≡◌, ℕ, ◌==◌, ◌≤◌, Bool, true, false, if◌then◌else◌, List, [], ◌∷◌, ◌++◌, max, Option, Some, None, refl, sym, ap, subst, ◌∙◌, All, arith}
-use Rattle.std.specs.Prelude.{◌↔◌, IsSome, IsTrue, IfSome}
+use Rattle.std.proofs.Common.{◌≡◌, ℕ, ◌==◌, Bool, true, false, if◌then◌else◌, List, [], ◌∷◌, Option, Some, None, refl, All, arith}
+use Rattle.std.specs.Prelude.{◌↔◌, IsSome, IsTrue}
 use Rattle.std.specs.Option.{option_map}
 use Rattle.std.proofs.lemmas.List.Elements.{All-nil, All-cons, All-append, All-push}
 use Rattle.chess_model.specs.declared.man.Colour.{Colour}
 use Rattle.chess_model.specs.Placement.{opposite}
 use Rattle.fics_words.specs.declared.seats.Opponents.{Opponents}
 use Rattle.fics_words.specs.Effect.{Effect}
-use Rattle.style12_writer.specs.declared.item.Item.{Item}
 use Rattle.style12_writer.specs.declared.item.Item.TheVariants as item
 use Rattle.style12_writer.specs.declared.view.BoardView.{BoardView}
 use Rattle.style12_writer.specs.EndLine.{is_decisive}
@@ -15,7 +14,7 @@ use Rattle.game_board.specs.Board.{Board}
 use Rattle.linked_desk.specs.declared.acts.DeskReply.{DeskReply}
 use Rattle.linked_desk.specs.declared.ended.Ended.{Ended}
 use Rattle.linked_desk.specs.Desk.{GameState, occupant}
-use Rattle.linked_desk.specs.Ends.{winner_on, end_item, end_items, ended_by}
+use Rattle.linked_desk.specs.Ends.{end_item, end_items, ended_by}
 use Rattle.linked_desk.specs.Seats.{pairs_of}
 use Rattle.linked_desk.specs.Sound.{Names, NamesWinner, IsSound, TellsWinners}
 use Rattle.linked_desk.specs.Views.{each_board, with_view}

@@ -1,15 +1,13 @@
 -- What each act at a desk keeps, in one table; and what follows for a desk, whatever the act.
-use Rattle.std.proofs.Common.{◌≡◌, ◌≢◌, ℕ, ◌==◌, Bool, true, false, if◌then◌else◌, List, [], Option, Some, None, Result, Ok, Err, refl, sym, ap, subst, ◌∙◌}
-use Rattle.std.specs.Prelude.{IfSome}
-use Rattle.std.specs.Option.{option_map}
-use Rattle.fics_words.specs.Effect.{Effect, first_cause, answered, unless, answer_of, state_of}
+use Rattle.std.proofs.Common.{◌≡◌, ◌≢◌, ℕ, ◌==◌, Bool, true, false, if◌then◌else◌, [], Option, Some, None, refl, sym, ap, ◌∙◌}
+use Rattle.fics_words.specs.Effect.{Effect, first_cause, answered, unless}
 use Rattle.fics_words.specs.declared.refusal.Refusal.{Refusal}
 use Rattle.linked_desk.specs.declared.acts.DeskAct.{DeskAct}
 use Rattle.linked_desk.specs.declared.acts.DeskAct.TheVariants as act
 use Rattle.linked_desk.specs.declared.acts.DeskReply.{DeskReply}
 use Rattle.linked_desk.specs.Acts.{game_effect, missing_effect, at_desk, effect_by, desk_effect, desk_answer, desk_after, needs_memory, items_told}
-use Rattle.linked_desk.specs.Desk.{GameState, DeskState, occupant, occupant_of}
-use Rattle.linked_desk.specs.Sound.{IsSound, HasSoundGame, TellsWinners, AnswersSoundly}
+use Rattle.linked_desk.specs.Desk.{GameState, DeskState, occupant_of}
+use Rattle.linked_desk.specs.Sound.{HasSoundGame, TellsWinners, AnswersSoundly}
 use Rattle.linked_desk.proofs.Keeps.{Keeps}
 use Rattle.linked_desk.proofs.KeepsFetch.{Keeps-fetch_effect}
 use Rattle.linked_desk.proofs.KeepsFlag.{Keeps-flag_effect}

@@ -1,11 +1,11 @@
 -- What a visit keeps.
-use Rattle.std.proofs.Common.{◌≡◌, ℕ, true, max, List, Option, Some, None, All, refl, arith}
+use Rattle.std.proofs.Common.{ℕ, true, List, Option, Some, None, All, refl, arith}
 use Rattle.std.proofs.lemmas.List.Elements.{All-nil, All-drop}
 use Rattle.style12_writer.specs.declared.item.Item.{Item}
 use Rattle.linked_desk.specs.declared.cursor.Cursor.{Cursor}
 use Rattle.linked_desk.specs.Desk.{GameState, past, cursor_of}
 use Rattle.linked_desk.specs.Fetch.{fetch_effect}
-use Rattle.linked_desk.specs.Sound.{NamesWinner, IsSound}
+use Rattle.linked_desk.specs.Sound.{NamesWinner}
 use Rattle.linked_desk.proofs.Keeps.{Keeps}
 
 names_past : (feed : List Item) (cursor : Option Cursor) → All NamesWinner feed → All NamesWinner (past feed cursor)

@@ -1,5 +1,5 @@
 -- What leaving keeps.
-use Rattle.std.proofs.Common.{◌≡◌, ℕ, Bool, true, false, max, if◌then◌else◌, Option, Some, None, refl, arith}
+use Rattle.std.proofs.Common.{◌≡◌, ℕ, Bool, true, false, if◌then◌else◌, Option, Some, None, refl, arith}
 use Rattle.std.specs.Prelude.{is_some}
 use Rattle.linked_desk.specs.Desk.{GameState, seat_of, occupant}
 use Rattle.linked_desk.specs.Ends.{ended_by}

@@ -1,5 +1,5 @@
 -- A game that begins is sound.
-use Rattle.std.proofs.Common.{◌≡◌, ◌≢◌, ℕ, ◌*◌, ◌+◌, ◌≤◌, max, List, [], ◌∷◌, ◌++◌, length, map, Option, Some, None, All, refl, sym, ap, subst, ◌∙◌, arith}
+use Rattle.std.proofs.Common.{◌≡◌, ℕ, ◌*◌, ◌≤◌, List, [], ◌∷◌, length, map, Option, Some, None, All, refl, ap, arith}
 use Rattle.std.specs.Prelude.{IsSome}
 use Rattle.std.proofs.lemmas.List.Elements.{All-nil, All-cons, All-append}
 use Rattle.chess_model.specs.declared.variant.Terms.{Terms}
@@ -12,7 +12,6 @@ use Rattle.game_board.specs.Board.{Board, new_board}
 use Rattle.game_board.specs.Scoresheet.{IsTrueScore}
 use Rattle.game_board.proofs.Scoresheet.{IsTrueScore-new_board}
 use Rattle.linked_desk.specs.Boards.{board_numbers, new_boards, latest}
-use Rattle.linked_desk.specs.Desk.{GameState}
 use Rattle.linked_desk.specs.Seating.{HasPairsFor, created_item, board_item, opening_items, opened}
 use Rattle.linked_desk.specs.Seats.{pairs_of}
 use Rattle.linked_desk.specs.Sound.{NamesWinner, IsSound}

@@ -1,5 +1,5 @@
 -- The boards of a game: one, or two in bughouse.
-use Rattle.std.specs.Prelude.{ℕ, zero, suc, max, List, [], ◌∷◌, map, Option, Some, None, Result, Ok, Err, slice_get, slice_set}
+use Rattle.std.specs.Prelude.{ℕ, zero, suc, max, List, [], ◌∷◌, map, Option, Some, None, Result, Err, slice_get, slice_set}
 use Rattle.std.specs.Option.{option_map}
 use Rattle.chess_model.specs.declared.man.Colour.{Colour}
 use Rattle.chess_model.specs.declared.moves.Move.{Move}

@@ -1,5 +1,5 @@
 -- How a game ends: the end of one board ends all of the game, and the viewers are told at each board.
-use Rattle.std.specs.Prelude.{ℕ, ◌==◌, is_some, is_none, if◌then◌else◌, Option, Some, None, List}
+use Rattle.std.specs.Prelude.{ℕ, ◌==◌, is_some, is_none, if◌then◌else◌, Option, Some, List}
 use Rattle.std.specs.Option.{option_map}
 use Rattle.chess_model.specs.declared.man.Colour.{Colour}
 use Rattle.chess_model.specs.Placement.{opposite}

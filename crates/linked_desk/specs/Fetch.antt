@@ -1,5 +1,5 @@
 -- How a viewer is given the items of a game.
-use Rattle.std.specs.Prelude.{ℕ, ◌==◌, true, not, is_some, if◌then◌else◌, List, [], ◌∷◌, length, map}
+use Rattle.std.specs.Prelude.{ℕ, true, not, is_some, if◌then◌else◌, List, [], ◌∷◌, length, map}
 use Rattle.fics_words.specs.Effect.{Effect}
 use Rattle.fics_words.specs.declared.refusal.Refusal.TheVariants.{NotWatching}
 use Rattle.linked_desk.specs.declared.acts.DeskReply.{DeskReply}

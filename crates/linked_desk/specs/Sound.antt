@@ -1,5 +1,5 @@
 -- What holds of the game at a desk in every state.
-use Rattle.std.specs.Prelude.{◌≡◌, ℕ, ◌*◌, ◌≤◌, ◌↔◌, IsSome, IsTrue, IfSome, All, List, length, map, Option, Result, Ok, Err}
+use Rattle.std.specs.Prelude.{◌≡◌, ◌*◌, ◌≤◌, ◌↔◌, IsSome, IsTrue, IfSome, All, length, map, Option, Result, Ok, Err}
 use Rattle.chess_model.specs.declared.man.Colour.{Colour}
 use Rattle.chess_model.specs.declared.why.Why.{Why}
 use Rattle.fics_words.specs.Seats.{seat_list}
