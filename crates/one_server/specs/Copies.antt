@@ -49,5 +49,6 @@ LinesFor lobby session (Lobby act) lines = LinesOf lobby session act lines
 LinesFor lobby session _ lines = Unit {0}
 
 abbrev pub ItemsFor : List DeskState → ℕ → Act → List Item → Type 0
-ItemsFor desks session (Desk number serial act) items = (desk : DeskState) → slice_get desks (number - 1) ≡ Some desk → ItemsOf desk session act items
+ItemsFor desks session (Desk number serial act) items = (desk : DeskState) → slice_get desks (number - 1) ≡ Some desk
+    → ItemsOf desk session act items
 ItemsFor desks session _ items = Unit {0}

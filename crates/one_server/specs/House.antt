@@ -44,19 +44,22 @@ pair_desk (Err cause) desk moment = desk
 abbrev pub house_answer : Part → Option Part → ℕ → ℕ → Act → Reply
 house_answer (TheLobby lobby) other session moment (Lobby act) = lobby_reply (lobby_answer lobby session act)
 house_answer (TheLobby lobby) other session moment (Pair act) = pair_reply (plan_of lobby session act) other
-house_answer (ADesk desk) other session moment (Desk number serial act) = desk_reply (desk_answer desk session moment serial act)
+house_answer (ADesk desk) other session moment (Desk number serial act) =
+    desk_reply (desk_answer desk session moment serial act)
 house_answer _ other session moment _ = no_parts
 
 -- the first part afterwards
 abbrev pub house_one : Part → Option Part → ℕ → ℕ → Act → Part
 house_one (TheLobby lobby) other session moment (Lobby act) = TheLobby (lobby_after lobby session act)
-house_one (TheLobby lobby) other session moment (Pair act) = TheLobby (pair_lobby lobby (plan_of lobby session act) other)
+house_one (TheLobby lobby) other session moment (Pair act) =
+    TheLobby (pair_lobby lobby (plan_of lobby session act) other)
 house_one (ADesk desk) other session moment (Desk number serial act) = ADesk (desk_after desk session moment serial act)
 house_one part other session moment _ = part
 
 -- the second part afterwards: the desk of a pair act
 abbrev pub house_two : Part → Part → ℕ → ℕ → Act → Part
-house_two (TheLobby lobby) (ADesk desk) session moment (Pair act) = ADesk (pair_desk (plan_of lobby session act) desk moment)
+house_two (TheLobby lobby) (ADesk desk) session moment (Pair act) =
+    ADesk (pair_desk (plan_of lobby session act) desk moment)
 house_two _ other session moment _ = other
 
 abbrev pub house : Core Part Timed Reply

@@ -17,15 +17,18 @@ use Rattle.one_server.specs.declared.reply.PairReply.TheVariants.{Started, Kept,
 abbrev pub AreForTwo : Terms → Type 0
 AreForTwo terms = terms.variant ≢ Bughouse
 
--- a Clear is Kept where no game of that serial has ended at the desk, Freed where somebody still looks on, and else Cleared
+-- a Clear is Kept where no game of that serial has ended at the desk, Freed where somebody still looks on, and else
+-- Cleared
 abbrev pub plan_reply : Plan → DeskState → PairReply
 plan_reply (Seat number serial terms seats) desk = Started
 plan_reply (Clear session number serial) desk = cond (has_ended desk serial) (cond (is_left desk) Cleared Freed) Kept
 
--- the lobby afterwards: a game starts; or the caller has no place there any more, and nobody has where the desk is cleared
+-- the lobby afterwards: a game starts; or the caller has no place there any more, and nobody has where the desk is
+-- cleared
 abbrev pub plan_lobby : LobbyState → Plan → DeskState → LobbyState
 plan_lobby lobby (Seat number serial terms seats) desk = seated lobby number serial terms seats
-plan_lobby lobby (Clear session number serial) desk = cond (has_ended desk serial) (committed lobby (Clear session number serial) (is_left desk)) lobby
+plan_lobby lobby (Clear session number serial) desk =
+    cond (has_ended desk serial) (committed lobby (Clear session number serial) (is_left desk)) lobby
 
 -- the desk afterwards: a game starts, or the desk is vacant where it is cleared
 abbrev pub plan_desk : Plan → DeskState → ℕ → DeskState

@@ -21,7 +21,8 @@ abbrev pub parts_in : ServerState → List Part
 parts_in server = state house server.opening server.log
 
 -- the history is legal from a whole opening, and this lobby and these desks are its state
-pub record IsServed (opening : List Part) (log : List (Entry Timed Reply)) (lobby : LobbyState) (desks : List DeskState) : Type 0 where
+pub record IsServed (opening : List Part) (log : List (Entry Timed Reply)) (lobby : LobbyState)
+    (desks : List DeskState) : Type 0 where
   pub whole : IsWhole opening
   pub legal : Legal house opening log
   pub state : state house opening log ≡ parts_of lobby desks

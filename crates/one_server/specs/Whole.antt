@@ -1,5 +1,6 @@
 -- Whole states: what holds of the lobby and the desks together, in every state. This server's own.
-use Rattle.std.specs.Prelude.{◌≡◌, ℕ, ◌+◌, ◌-◌, ◌≤◌, zero, suc, List, [], ◌∷◌, All, length, map, replicate, None, Some, slice_get}
+use Rattle.std.specs.Prelude.{◌≡◌, ℕ, ◌+◌, ◌-◌, ◌≤◌, zero, suc, List}
+use Rattle.std.specs.Prelude.{[], ◌∷◌, All, length, map, replicate, None, Some, slice_get}
 use Rattle.lobby_state.specs.Lobby.{LobbyState, desks as desk_count}
 use Rattle.lobby_state.specs.WellFormed.{IsWellFormed}
 use Rattle.lobby_state.specs.declared.challenge.Challenge.{Challenge}

@@ -31,7 +31,8 @@ pub(crate) fn act_step(
     requires event { IsEvent timed.now }
     requires whole { IsWhole (parts_of lobby.old desks.old) }
     ensures reply { IfOk result (λ r. reply house (parts_of lobby.old desks.old) session timed.now ≡ Some r) }
-    ensures after { OnOk result (after house (parts_of lobby.old desks.old) session timed.now ≡ parts_of lobby.new desks.new) }
+    ensures after { OnOk result (after house (parts_of lobby.old desks.old) session timed.now
+        ≡ parts_of lobby.new desks.new) }
     ensures err_lobby { OnErr result (lobby.new ≡ lobby.old) }
     ensures err_desks { OnErr result (desks.new ≡ desks.old) }
 {
@@ -56,8 +57,10 @@ fn step_at_desk(
     requires moment { moment ≤ 2 ^ 48 }
     requires number { IsDesk number }
     requires count { length desks.old ≡ desk_count }
-    ensures reply { (desk : DeskState) → slice_get desks.old (number - 1) ≡ Some desk → IfOk result (λ r. r ≡ desk_reply (desk_answer desk session moment serial act.now)) }
-    ensures after { (desk : DeskState) → slice_get desks.old (number - 1) ≡ Some desk → OnOk result (desks.new ≡ slice_set desks.old (number - 1) (desk_after desk session moment serial act.now)) }
+    ensures reply { (desk : DeskState) → slice_get desks.old (number - 1) ≡ Some desk
+        → IfOk result (λ r. r ≡ desk_reply (desk_answer desk session moment serial act.now)) }
+    ensures after { (desk : DeskState) → slice_get desks.old (number - 1) ≡ Some desk
+        → OnOk result (desks.new ≡ slice_set desks.old (number - 1) (desk_after desk session moment serial act.now)) }
     ensures err { OnErr result (desks.new ≡ desks.old) }
 {
     let desk = desks.item_mut(number as usize - 1);
@@ -76,8 +79,12 @@ fn planned_step(
     requires moment { moment ≤ 2 ^ 48 }
     requires names { NamesDesk act.now }
     requires whole { IsWhole (parts_of lobby.old desks.old) }
-    ensures reply { IfOk result (λ r. reply house (parts_of lobby.old desks.old) session (record { moment = moment; act = Pair act.now }) ≡ Some r) }
-    ensures after { OnOk result (after house (parts_of lobby.old desks.old) session (record { moment = moment; act = Pair act.now }) ≡ parts_of lobby.new desks.new) }
+    ensures reply { IfOk result
+        (λ r. reply house (parts_of lobby.old desks.old) session (record { moment = moment; act = Pair act.now })
+        ≡ Some r) }
+    ensures after { OnOk result
+        (after house (parts_of lobby.old desks.old) session (record { moment = moment; act = Pair act.now })
+        ≡ parts_of lobby.new desks.new) }
     ensures err_lobby { OnErr result (lobby.new ≡ lobby.old) }
     ensures err_desks { OnErr result (desks.new ≡ desks.old) }
 {
@@ -99,10 +106,14 @@ fn carry_out(
     requires moment { moment ≤ 2 ^ 48 }
     requires number { IsDesk (desk_of plan.now) }
     requires count { length desks.old ≡ desk_count }
-    requires ready { (desk : DeskState) → slice_get desks.old (desk_of plan.now - 1) ≡ Some desk → CanCarry plan.now desk }
-    ensures reply { (desk : DeskState) → slice_get desks.old (desk_of plan.now - 1) ≡ Some desk → IfOk result (λ r. r ≡ Reply.Pair (plan_reply plan.now desk)) }
-    ensures lobby { (desk : DeskState) → slice_get desks.old (desk_of plan.now - 1) ≡ Some desk → OnOk result (lobby.new ≡ plan_lobby lobby.old plan.now desk) }
-    ensures desks { (desk : DeskState) → slice_get desks.old (desk_of plan.now - 1) ≡ Some desk → OnOk result (desks.new ≡ slice_set desks.old (desk_of plan.now - 1) (plan_desk plan.now desk moment)) }
+    requires ready { (desk : DeskState) → slice_get desks.old (desk_of plan.now - 1) ≡ Some desk
+        → CanCarry plan.now desk }
+    ensures reply { (desk : DeskState) → slice_get desks.old (desk_of plan.now - 1) ≡ Some desk
+        → IfOk result (λ r. r ≡ Reply.Pair (plan_reply plan.now desk)) }
+    ensures lobby { (desk : DeskState) → slice_get desks.old (desk_of plan.now - 1) ≡ Some desk
+        → OnOk result (lobby.new ≡ plan_lobby lobby.old plan.now desk) }
+    ensures desks { (desk : DeskState) → slice_get desks.old (desk_of plan.now - 1) ≡ Some desk
+        → OnOk result (desks.new ≡ slice_set desks.old (desk_of plan.now - 1) (plan_desk plan.now desk moment)) }
     ensures err_lobby { OnErr result (lobby.new ≡ lobby.old) }
     ensures err_desks { OnErr result (desks.new ≡ desks.old) }
 {

@@ -2,7 +2,8 @@
 ghost use Rattle.histories.specs.Laws.{LeavesOthers, RepliesLocally, ChangesLocally, RepliesCommute, StatesCommute};
 ghost use Rattle.lobby_state.specs.Lobby.{LobbyState, opening};
 ghost use Rattle.one_server.specs.House.{house};
-ghost use Rattle.one_server.specs.Laws.{HoldsInEachState, HoldsOnceOpened, LendsFirst, LendsSecond, ListsItsDesks, NamesItsWinners, RepliesWell, SeatsItsMembers, ShowsItsLedgers};
+ghost use Rattle.one_server.specs.Laws.{HoldsInEachState, HoldsOnceOpened, LendsFirst, LendsSecond};
+ghost use Rattle.one_server.specs.Laws.{ListsItsDesks, NamesItsWinners, RepliesWell, SeatsItsMembers, ShowsItsLedgers};
 ghost use Rattle.one_server.specs.Whole.{IsOpening, IsWhole, opened};
 
 use crate::house::House;
@@ -50,8 +51,8 @@ pub fn parts_are_lent()
     ensures second { LendsSecond }
 {}
 
-/// Each reply of a server that opened with vacant desks tells places at desks 1 to 128 alone, and of each end the winner
-/// exactly where somebody won: whoever prints it needs no check of it.
+/// Each reply of a server that opened with vacant desks tells places at desks 1 to 128 alone, and of each end the
+/// winner exactly where somebody won: whoever prints it needs no check of it.
 pub fn every_reply_can_be_told()
     ensures { RepliesWell }
 {}

@@ -5,8 +5,8 @@ use crate::reply::Reply;
 use memory::NoMemory;
 use std::alloc::Global;
 
-/// Runs the acts of one session. Its meanings are its home, which is the server that it was lent and stays the same, and
-/// its state: what is known of the session, of what it has seen and of what it made.
+/// Runs the acts of one session. Its meanings are its home, which is the server that it was lent and stays the same,
+/// and its state: what is known of the session, of what it has seen and of what it made.
 pub trait Runner {
     ghost use Rattle.std.specs.Prelude.{◌≡◌, true, IsOk};
     ghost use Rattle.one_server.specs.Acts.{IsEvent, NeedsNoMemory};

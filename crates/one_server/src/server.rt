@@ -69,7 +69,9 @@ impl OneServer {
     /// won.
     pub fn run(&mut self, session: u32, moment: u64, act: Act) -> Result<Reply, NoMemory>
         requires { IsEvent (record { moment = moment; act = act }) }
-        ensures ok { IfOk result (λ reply. self.new ≡ record self.old { log = self.old.log ++ entry session (record { moment = moment; act = act }) reply ∷ [] }) }
+        ensures ok { IfOk result (λ reply. self.new ≡ record self.old {
+          log = self.old.log ++ entry session (record { moment = moment; act = act }) reply ∷ [];
+        }) }
         ensures legal { Legal house self.new.opening self.new.log }
         ensures fits { IfOk result IsReply }
         ensures err { OnErr result (self.new ≡ self.old) }

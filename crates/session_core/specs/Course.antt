@@ -44,20 +44,23 @@ memory_by (Asks act rest) (reply ∷ replies) = memory_by (rest reply) replies
 abbrev pub timed : ℕ → Act → Timed
 timed moment act = record { moment = moment; act = act }
 
--- the session followed the course to its end: these entries are its acts, all made at this moment, this is the text, and
--- this is what it remembers
+-- the session followed the course to its end: these entries are its acts, all made at this moment, this is the text,
+-- and this is what it remembers
 abbrev pub Follows : Course → ℕ → ℕ → Log → List ℕ → MemoryState → Type 0
 Follows (Done kept) session moment made text memory = (made ≡ []) × (text ≡ []) × (memory ≡ kept)
-Follows (Writes put rest) session moment made text memory = (more : List ℕ) × (text ≡ put ++ more) × Follows rest session moment made more memory
+Follows (Writes put rest) session moment made text memory = (more : List ℕ) × (text ≡ put ++ more)
+    × Follows rest session moment made more memory
 Follows (Asks act rest) session moment [] text memory = ⊥
-Follows (Asks act rest) session moment (e ∷ made) text memory = (e ≡ entry session (timed moment act) e.reply) × Follows (rest e.reply) session moment made text memory
+Follows (Asks act rest) session moment (e ∷ made) text memory = (e ≡ entry session (timed moment act) e.reply)
+    × Follows (rest e.reply) session moment made text memory
 
 -- the session has followed the course so far: these entries are its first acts
 abbrev pub Begins : Course → ℕ → ℕ → Log → Type 0
 Begins (Done memory) session moment made = made ≡ []
 Begins (Writes put rest) session moment made = Begins rest session moment made
 Begins (Asks act rest) session moment [] = Unit {0}
-Begins (Asks act rest) session moment (e ∷ made) = (e ≡ entry session (timed moment act) e.reply) × Begins (rest e.reply) session moment made
+Begins (Asks act rest) session moment (e ∷ made) = (e ≡ entry session (timed moment act) e.reply)
+    × Begins (rest e.reply) session moment made
 
 -- a reply that tells nothing, as which an act counts that was passed over
 abbrev pub nothing_told : Reply
@@ -72,7 +75,8 @@ abbrev pub Passes : Bool → Course → ℕ → ℕ → Log → Type 0
 Passes mark (Done memory) session moment made = made ≡ []
 Passes mark (Writes put rest) session moment made = Passes mark rest session moment made
 Passes mark (Asks act rest) session moment made =
-    ((reply : Reply) × (later : Log) × (made ≡ entry session (timed moment act) reply ∷ later) × Passes mark (rest reply) session moment later)
+    ((reply : Reply) × (later : Log) × (made ≡ entry session (timed moment act) reply ∷ later)
+    × Passes mark (rest reply) session moment later)
     ⊎ (MayPass mark act × Passes mark (rest nothing_told) session moment made)
 
 -- the replies of entries

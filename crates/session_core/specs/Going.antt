@@ -7,11 +7,13 @@ use Rattle.session_core.specs.Memory.{MemoryState}
 -- whoever follows the rest of a course from here, to its end or so far, has followed the whole one, with these entries
 -- and this text before
 pub record Leads (course rest : Course) (session moment : ℕ) (entries : Log) (put : List ℕ) : Type 0 where
-  pub whole : (more : Log) (text : List ℕ) (memory : MemoryState) → Follows rest session moment more text memory → Follows course session moment (entries ++ more) (put ++ text) memory
+  pub whole : (more : Log) (text : List ℕ) (memory : MemoryState) → Follows rest session moment more text memory
+      → Follows course session moment (entries ++ more) (put ++ text) memory
   pub part : (more : Log) → Begins rest session moment more → Begins course session moment (entries ++ more)
 
 -- the session went on in its course, and appended what that says
-pub record Went (course rest : Course) (moment : ℕ) (old : RunnerState) (out : List ℕ) (new : RunnerState) (out_now : List ℕ) : Type 0 where
+pub record Went (course rest : Course) (moment : ℕ) (old : RunnerState) (out : List ℕ) (new : RunnerState)
+    (out_now : List ℕ) : Type 0 where
   pub entries : Log
   pub put : List ℕ
   pub grew : Made old entries new
@@ -19,7 +21,8 @@ pub record Went (course rest : Course) (moment : ℕ) (old : RunnerState) (out :
   pub appended : out_now ≡ out ++ put
 
 -- the session followed its course to the end, appended a text that is made of the course's, and remembers this
-pub record Answered (course : Course) (answer : List ℕ → List ℕ) (moment : ℕ) (old : RunnerState) (out : List ℕ) (new : RunnerState) (out_now : List ℕ) (memory : MemoryState) : Type 0 where
+pub record Answered (course : Course) (answer : List ℕ → List ℕ) (moment : ℕ) (old : RunnerState) (out : List ℕ)
+    (new : RunnerState) (out_now : List ℕ) (memory : MemoryState) : Type 0 where
   pub entries : Log
   pub text : List ℕ
   pub grew : Made old entries new
@@ -36,7 +39,8 @@ pub record Stopped (course : Course) (moment : ℕ) (old new : RunnerState) : Ty
 pub record Passed (course rest : Course) (moment : ℕ) (old new : RunnerState) : Type 0 where
   pub entries : Log
   pub grew : Made old entries new
-  pub passes : (more : Log) → Passes old.mark rest old.number moment more → Passes old.mark course old.number moment (entries ++ more)
+  pub passes : (more : Log) → Passes old.mark rest old.number moment more
+      → Passes old.mark course old.number moment (entries ++ more)
 
 -- the session left, and passed over what met want of memory
 pub record LeftInPart (course : Course) (moment : ℕ) (old new : RunnerState) : Type 0 where

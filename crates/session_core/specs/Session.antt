@@ -41,7 +41,8 @@ given_up place false rest = rest
 abbrev pub visits : List Place → MemoryState → Course
 visits [] memory = Done memory
 visits (place ∷ places) memory =
-    Asks (at_place place desk_act.Fetch) (λ reply. Writes (news_text place reply) (given_up place (says_over reply) (visits places memory)))
+    Asks (at_place place desk_act.Fetch)
+    (λ reply. Writes (news_text place reply) (given_up place (says_over reply) (visits places memory)))
 
 -- the lobby has told what waits there and which places there are, and the visits follow
 abbrev pub rounding : MemoryState → Course
@@ -54,7 +55,8 @@ round memory = Asks (Lobby lobby_act.Fetch) (λ reply. Writes (waiting_text repl
 -- an act at this place and its reply, and then the round; without a place the session itself answers
 abbrev pub at_present : DeskAct → Option Place → MemoryState → Course
 at_present act None memory = Writes (refusal_line NotPlaying) (round memory)
-at_present act (Some place) memory = Asks (at_place place act) (λ reply. Writes (reply_text (asked_of (at_place place act)) reply) (round memory))
+at_present act (Some place) memory =
+    Asks (at_place place act) (λ reply. Writes (reply_text (asked_of (at_place place act)) reply) (round memory))
 
 -- the lobby has told which place is the present one, and the act is made there
 abbrev pub placing : DeskAct → MemoryState → Course
@@ -89,7 +91,8 @@ answer_text input.Quiet text = unasked text
 -- each place is left and given up, in order, and then the member is gone
 abbrev pub leave_places : List Place → Course
 leave_places [] = Asks (Lobby lobby_act.Bye) (λ reply. Done untold)
-leave_places (place ∷ places) = Asks (at_place place desk_act.Leave) (λ left. Asks (clear_at place) (λ cleared. leave_places places))
+leave_places (place ∷ places) =
+    Asks (at_place place desk_act.Leave) (λ left. Asks (clear_at place) (λ cleared. leave_places places))
 
 -- what a session does when it leaves. Where Going is passed over, it leaves the places that it remembers
 abbrev pub leaving : MemoryState → Course

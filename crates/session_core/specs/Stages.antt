@@ -20,7 +20,8 @@ abbrev pub continues : Stage → MemoryState → Reply → Course
 continues (stage.Placing act) memory reply = placing act (told memory reply)
 continues (stage.Answering asked) memory reply = Writes (reply_text asked reply) (round memory)
 continues stage.Rounding memory reply = Writes (waiting_text reply) (rounding (told memory reply))
-continues (stage.Visiting place rest) memory reply = Writes (news_text place reply) (given_up place (says_over reply) (visits rest memory))
+continues (stage.Visiting place rest) memory reply =
+    Writes (news_text place reply) (given_up place (says_over reply) (visits rest memory))
 continues (stage.Clearing rest) memory reply = visits rest memory
 
 -- and when it leaves

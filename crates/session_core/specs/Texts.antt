@@ -1,6 +1,7 @@
 -- What a session writes: the texts of replies, of what waits for it, and of the news of its games. Each line ends with
 -- line feed and carriage return, as on FICS.
-use Rattle.std.specs.Prelude.{ℕ, ◌==◌, Bool, true, false, ℤ, pos, negsuc, if◌then◌else◌, List, [], ◌∷◌, ◌++◌, codes, decimal}
+use Rattle.std.specs.Prelude.{ℕ, ◌==◌, Bool, true, false, ℤ, pos}
+use Rattle.std.specs.Prelude.{negsuc, if◌then◌else◌, List, [], ◌∷◌, ◌++◌, codes, decimal}
 use Rattle.chess_model.specs.declared.man.Colour.{Colour}
 use Rattle.chess_model.specs.declared.man.Colour.TheVariants.{White, Black}
 use Rattle.fics_words.specs.declared.refusal.Refusal.{Refusal}

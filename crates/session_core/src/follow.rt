@@ -12,8 +12,8 @@ use fics_words::NoMemory;
 use one_server::{Act, Runner};
 use std::alloc::Global;
 
-/// Makes the acts of a course, all at `moment`, in milliseconds and at most 2^48, and appends what it writes. After want
-/// of memory the acts that were answered stay made: they are the first ones of the course.
+/// Makes the acts of a course, all at `moment`, in milliseconds and at most 2^48, and appends what it writes. After
+/// want of memory the acts that were answered stay made: they are the first ones of the course.
 pub(crate) fn follow<R: Runner>(
     alloc: Global,
     r: &mut R,
@@ -25,8 +25,10 @@ pub(crate) fn follow<R: Runner>(
     requires moment { moment ≤ 2 ^ 48 }
     requires ready { IsReady IsAtDesk first }
     ensures home { R.home r.new ≡ R.home r.old }
-    ensures followed { OnOk result (Answered (course_of continues first memory.old) (λ text. text) moment (R.state r.old) out.old.items (R.state r.new) out.new.items memory.new) }
-    ensures stopped { OnErr result (Stopped (course_of continues first memory.old) moment (R.state r.old) (R.state r.new)) }
+    ensures followed { OnOk result (Answered (course_of continues first memory.old) (λ text. text) moment
+        (R.state r.old) out.old.items (R.state r.new) out.new.items memory.new) }
+    ensures stopped { OnErr result
+        (Stopped (course_of continues first memory.old) moment (R.state r.old) (R.state r.new)) }
 {
     // What is known of every runner is known from here on.
     let _session = r.session();
@@ -53,8 +55,10 @@ fn ask<R: Runner>(
     requires fits { FitsAct act }
     requires desk { IsAtDesk stage }
     ensures home { R.home r.new ≡ R.home r.old }
-    ensures went { IfOk result (λ next. Went (Asks act (continues stage memory.old)) (course_of continues next memory.new) moment (R.state r.old) out.old.items (R.state r.new) out.new.items) }
-    ensures stopped { OnErr result (Stopped (Asks act (continues stage memory.old)) moment (R.state r.old) (R.state r.new)) }
+    ensures went { IfOk result (λ next. Went (Asks act (continues stage memory.old))
+        (course_of continues next memory.new) moment (R.state r.old) out.old.items (R.state r.new) out.new.items) }
+    ensures stopped { OnErr result
+        (Stopped (Asks act (continues stage memory.old)) moment (R.state r.old) (R.state r.new)) }
     ensures ready { IfOk result (IsReady IsAtDesk) }
     ensures fewer { IfOk result (λ next. acts_left acts_after next ≤ acts_after stage) }
 {

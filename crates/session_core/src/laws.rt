@@ -10,7 +10,8 @@ ghost use Rattle.session_core.specs.Memory.{MemoryState};
 /// Who follows a course makes, after each reply, the act that the replies so far name, at the course's moment and under
 /// its own number, until they name none; the text is the one that the replies say, and so is what is remembered.
 pub fn courses()
-    ensures acts { (course : Course) (session moment : ℕ) (before : Log) (e : Entry Timed Reply) (later : Log) (text : List ℕ) (memory : MemoryState)
+    ensures acts { (course : Course) (session moment : ℕ) (before : Log) (e : Entry Timed Reply) (later : Log)
+        (text : List ℕ) (memory : MemoryState)
         → Follows course session moment (before ++ e ∷ later) text memory
         → (e.session ≡ session) × (e.act.moment ≡ moment) × (next_act course (replies_of before) ≡ Some e.act.act) }
     ensures end { (course : Course) (session moment : ℕ) (made : Log) (text : List ℕ) (memory : MemoryState)

@@ -59,8 +59,11 @@ fn ask_or_pass<R: Runner>(
     requires fits { FitsAct act }
     requires desk { LeavesDesk stage }
     ensures home { R.home r.new ≡ R.home r.old }
-    ensures went { OnOk result.0 (Went (Asks act (leaves stage memory.old)) (course_of leaves result.1 memory.new) moment (R.state r.old) [] (R.state r.new) []) }
-    ensures passed { Passed (Asks act (leaves stage memory.old)) (course_of leaves result.1 memory.new) moment (R.state r.old) (R.state r.new) }
+    ensures went { OnOk result.0
+        (Went (Asks act (leaves stage memory.old)) (course_of leaves result.1 memory.new) moment
+        (R.state r.old) [] (R.state r.new) []) }
+    ensures passed { Passed (Asks act (leaves stage memory.old)) (course_of leaves result.1 memory.new) moment
+        (R.state r.old) (R.state r.new) }
     ensures ready { IsReady LeavesDesk result.1 }
     ensures fewer { acts_left acts_of_leaving result.1 ≤ acts_of_leaving stage }
 {

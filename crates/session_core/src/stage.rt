@@ -43,7 +43,8 @@ impl Stage {
     ) -> Result<Next<Stage>, NoMemory>
         requires desk { IsAtDesk self }
         requires fits { IsReply reply.now }
-        ensures settles { IfOk result (λ next. Settles (continues self memory.old reply.now) (course_of continues next memory.new) out.old.items out.new.items) }
+        ensures settles { IfOk result (λ next. Settles (continues self memory.old reply.now)
+            (course_of continues next memory.new) out.old.items out.new.items) }
         ensures ready { IfOk result (IsReady IsAtDesk) }
         ensures fewer { IfOk result (λ next. acts_left acts_after next ≤ acts_after self) }
     {
@@ -65,7 +66,8 @@ fn placed(
     out: &mut Vec<u8>,
 ) -> Result<Next<Stage>, NoMemory>
     requires { IsReply reply.now }
-    ensures settles { IfOk result (λ next. Settles (placing act (told memory.old reply.now)) (course_of continues next memory.new) out.old.items out.new.items) }
+    ensures settles { IfOk result (λ next. Settles (placing act (told memory.old reply.now))
+        (course_of continues next memory.new) out.old.items out.new.items) }
     ensures ready { IfOk result (IsReady IsAtDesk) }
     ensures fewer { IfOk result (λ next. acts_left acts_after next ≤ 67) }
 {
@@ -87,7 +89,8 @@ fn answered(
     out: &mut Vec<u8>,
 ) -> Result<Next<Stage>, NoMemory>
     requires { IsReply reply.now }
-    ensures settles { IfOk result (λ next. Settles (Writes (reply_text asked reply.now) (round memory.old)) (course_of continues next memory.new) out.old.items out.new.items) }
+    ensures settles { IfOk result (λ next. Settles (Writes (reply_text asked reply.now) (round memory.old))
+        (course_of continues next memory.new) out.old.items out.new.items) }
     ensures ready { IfOk result (IsReady IsAtDesk) }
     ensures fewer { IfOk result (λ next. acts_left acts_after next ≤ 66) }
 {
@@ -98,7 +101,9 @@ fn answered(
 /// The lobby has told what waits there, and the places: these are visited.
 fn rounded(memory: &mut Memory, reply: &Reply, out: &mut Vec<u8>) -> Result<Next<Stage>, NoMemory>
     requires { IsReply reply.now }
-    ensures settles { IfOk result (λ next. Settles (Writes (waiting_text reply.now) (rounding (told memory.old reply.now))) (course_of continues next memory.new) out.old.items out.new.items) }
+    ensures settles { IfOk result
+        (λ next. Settles (Writes (waiting_text reply.now) (rounding (told memory.old reply.now)))
+        (course_of continues next memory.new) out.old.items out.new.items) }
     ensures ready { IfOk result (IsReady IsAtDesk) }
     ensures fewer { IfOk result (λ next. acts_left acts_after next ≤ 65) }
 {
@@ -117,7 +122,9 @@ fn visited(
 ) -> Result<Next<Stage>, NoMemory>
     requires desk { IsDesk place.now.desk }
     requires fits { IsReply reply.now }
-    ensures settles { IfOk result (λ next. Settles (Writes (news_text place.now reply.now) (given_up place.now (says_over reply.now) (visits rest memory.old))) (course_of continues next memory.new) out.old.items out.new.items) }
+    ensures settles { IfOk result (λ next. Settles
+        (Writes (news_text place.now reply.now) (given_up place.now (says_over reply.now) (visits rest memory.old)))
+        (course_of continues next memory.new) out.old.items out.new.items) }
     ensures ready { IfOk result (IsReady IsAtDesk) }
     ensures fewer { IfOk result (λ next. acts_left acts_after next ≤ 2 * length rest + 1) }
 {

@@ -31,7 +31,8 @@ pub fn take<R: Runner>(
 ) -> Result<(), NoMemory>
     requires { moment ≤ 2 ^ 48 }
     ensures home { R.home r.new ≡ R.home r.old }
-    ensures answered { OnOk result (Answered (input_course input memory.old) (answer_text input) moment (R.state r.old) out.old.items (R.state r.new) out.new.items memory.new) }
+    ensures answered { OnOk result (Answered (input_course input memory.old) (answer_text input) moment
+        (R.state r.old) out.old.items (R.state r.new) out.new.items memory.new) }
     ensures stopped { OnErr result (Stopped (input_course input memory.old) moment (R.state r.old) (R.state r.new)) }
 {
     match input {

@@ -1,7 +1,9 @@
 //! What a session writes.
 ghost use Rattle.std.specs.Prelude.{◌≡◌, ◌++◌, All, OnOk};
 ghost use Rattle.one_server.specs.Replies.{IsItem, IsReply};
-ghost use Rattle.session_core.specs.Texts.{colour_at, is_turn, item_text, items_text, line_end, lines_text, news_text, prompt, refusal_line, reply_text, sees_flipped, viewer_of, waiting_text};
+ghost use Rattle.session_core.specs.Texts.{colour_at, is_turn, item_text, items_text, line_end, lines_text};
+ghost use Rattle.session_core.specs.Texts.{news_text, prompt, refusal_line, reply_text, sees_flipped, viewer_of};
+ghost use Rattle.session_core.specs.Texts.{waiting_text};
 
 use crate::asked::Asked;
 use chess_model::Colour;

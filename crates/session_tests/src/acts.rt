@@ -1,8 +1,6 @@
 //! The acts of sessions, in order.
 
-use crate::evenings::{
-    Asked, Comes, Step, first_differing, first_failing, leaves, seat, server, takes,
-};
+use crate::evenings::{Asked, Comes, Step, first_failing, seat, server, takes};
 use std::test::Fail;
 
 #[test]
@@ -44,22 +42,5 @@ fn a_player_without_a_place_is_answered_by_the_session(rt: HostRuntime) -> Resul
     assert!(rt; answer.as_slice() == b"refused 20 NotPlaying\n\rfics% ".as_slice());
     let silence = takes(rt.alloc(), &mut server, 7, 0, Comes::Quiet)?;
     assert!(rt; silence.is_empty());
-    Ok(())
-}
-
-#[test]
-fn a_session_that_leaves_gives_its_place_up(rt: HostRuntime) -> Result<(), Fail> {
-    let mut server = server(rt.alloc())?;
-    seat(&mut server)?;
-    let acts = [Asked::Going, Asked::Leave, Asked::Clear, Asked::Bye];
-    let start = server.history().len();
-    leaves(rt.alloc(), &mut server, 2, 9_000)?;
-    assert_eq!(rt; first_differing(&server, start, 2, 9_000, &acts), None);
-    let start = server.history().len();
-    leaves(rt.alloc(), &mut server, 2, 9_000)?;
-    assert_eq!(rt;
-        first_differing(&server, start, 2, 9_000, &[Asked::Going, Asked::Bye]),
-        None
-    );
     Ok(())
 }

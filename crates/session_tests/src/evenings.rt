@@ -1,5 +1,6 @@
 //! A server with two seated players, and what its sessions do there.
 
+use crate::short::ShortSeat;
 use chess_model::{Colour, MoveWord, Square, Terms, Variant};
 use fics_words::{Fail, Handle, Refusal};
 use linked_desk::DeskAct;
@@ -156,6 +157,29 @@ pub fn leaves(
         Memory::new(),
     )?;
     Ok(())
+}
+
+/// The session makes a round, and leaves at a seat at which the act of leaving behind `before` others meets want of
+/// memory; the answer says whether leaving met it.
+pub fn leaves_short(
+    alloc: Global,
+    server: &mut OneServer,
+    session: u32,
+    moment: u32,
+    before: u32,
+) -> Result<bool, Fail> {
+    let mut memory = Memory::new();
+    let mut out = Vec::new(alloc);
+    take(
+        alloc,
+        &mut server.seat(session),
+        u64::from(moment),
+        &mut memory,
+        Input::Quiet,
+        &mut out,
+    )?;
+    let mut seat = ShortSeat::new(server, session, before);
+    Ok(leave(alloc, &mut seat, u64::from(moment), memory).is_err())
 }
 
 fn square(number: u8) -> Result<Square, Fail> {

@@ -9,3 +9,7 @@
 mod acts;
 #[cfg(test)]
 mod evenings;
+#[cfg(test)]
+mod leaving;
+#[cfg(test)]
+mod short;
