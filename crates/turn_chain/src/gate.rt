@@ -12,6 +12,7 @@ pub trait Gate {
 }
 
 /// A gate that holds nobody.
+#[derive(Drop)]
 pub struct OpenGate;
 
 impl OpenGate {

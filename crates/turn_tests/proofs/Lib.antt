@@ -1,3 +1,4 @@
 pub mod Weighing
 pub mod Working
 pub mod Closing
+pub mod SeenOnce

@@ -81,10 +81,10 @@ sums_none f zero = refl
 sums_none f (suc s) = let h = sums_none f s in omega arith
 
 -- an entry's session has a call
-session_there : (e : Entry Bump ℕ) (es : List (Entry Bump ℕ)) → calls_of e.session (e ∷ es) ≡ [] → ⊥
+pub session_there : (e : Entry Bump ℕ) (es : List (Entry Bump ℕ)) → calls_of e.session (e ∷ es) ≡ [] → ⊥
 session_there e es h = let g : cond (eqb e.session e.session) (e ∷ calls_of e.session es) (calls_of e.session es) ≡ [] = h in let k : e ∷ calls_of e.session es ≡ [] = subst (λ b. cond b (e ∷ calls_of e.session es) (calls_of e.session es) ≡ []) (eq-eqb e.session e.session refl) g in cc
 
-none_after : (e : Entry Bump ℕ) (es : List (Entry Bump ℕ)) (m : ℕ) → calls_of m (e ∷ es) ≡ [] → calls_of m es ≡ []
+pub none_after : (e : Entry Bump ℕ) (es : List (Entry Bump ℕ)) (m : ℕ) → calls_of m (e ∷ es) ≡ [] → calls_of m es ≡ []
 none_after e es m h = split_on e.session m
     (λ d. absurd (session_there e es (ap (λ k. calls_of k (e ∷ es)) d ∙ h)))
     (λ d. ap (λ b. cond b (e ∷ calls_of m es) (calls_of m es)) (sym (ne_eqb e.session m d)) ∙ h)
