@@ -125,6 +125,7 @@ planned_where lobby session name accepting offer offering slot first second thir
       is_next = refl;
       apart = opponents_apart white offering accepting sessions keys;
       boards = one_board offer.terms.variant (opponents_of white offering accepting) is_offer.1.for_two;
+      for_two = is_offer.1.for_two;
     }
 
 planned_by : (lobby : LobbyState) (session : ℕ) (name : Option (List ℕ)) (accepting : Option Member) (offer : Option Challenge) (offering : Option Member)

@@ -1,5 +1,5 @@
 -- What a plan that a lobby gave promises. This server's own.
-use Rattle.std.specs.Prelude.{◌≡◌, ◌≢◌, ℕ, ◌+◌, ◌-◌, IsNone, IsSome, None, Some, slice_get}
+use Rattle.std.specs.Prelude.{◌≡◌, ◌≢◌, ℕ, ◌+◌, ◌-◌, IsNone, IsSome, None, Some, false, slice_get}
 use Rattle.std.specs.List.{AllPairs}
 use Rattle.chess_model.specs.declared.variant.Terms.{Terms}
 use Rattle.chess_model.specs.declared.variant.Variant.{Variant}
@@ -11,6 +11,7 @@ use Rattle.lobby_state.specs.declared.acts.Plan.{Plan}
 use Rattle.lobby_state.specs.declared.acts.Plan.TheVariants.{Start, Clear}
 use Rattle.lobby_state.specs.Desks.{IsDesk}
 use Rattle.lobby_state.specs.Lobby.{LobbyState}
+use Rattle.lobby_state.specs.Match.{needs_partners}
 
 -- no two of the players are one, by their sessions or by their handles
 pub record AreApart (seats : Seats) : Type 0 where
@@ -23,13 +24,14 @@ FitsVariant Bughouse seats = IsSome seats.second
 FitsVariant _ seats = IsNone seats.second
 
 -- a game on these terms can start at this desk under this serial with these players: the desk is free, the serial is
--- the next one, and the players are as many as the variant has, and apart
+-- the next one, the players are as many as the variant has, and apart, and nobody needs a partner yet
 pub record CanStart (lobby : LobbyState) (desk serial : ℕ) (terms : Terms) (seats : Seats) : Type 0 where
   pub is_desk : IsDesk desk
   pub is_free : slice_get lobby.games (desk - 1) ≡ Some None
   pub is_next : serial ≡ lobby.started + 1
   pub apart : AreApart seats
   pub boards : FitsVariant terms.variant seats
+  pub for_two : needs_partners terms.variant ≡ false
 
 -- the plan can be carried out in this lobby
 abbrev pub IsPlanned : LobbyState → Plan → Type 0

@@ -1,16 +1,17 @@
 -- What an act is: the parts that it needs, the conditions on its numbers, and how the answer of its part is replied.
 -- This server's own.
-use Rattle.std.specs.Prelude.{ℕ, ◌≤◌, ◌^◌, Option, None, Some, Result, Ok, Err}
+use Rattle.std.specs.Prelude.{◌≡◌, ℕ, ◌≤◌, ◌^◌, false, Option, None, Result, Ok, Err}
 use Rattle.chess_model.specs.declared.variant.Terms.{Terms}
 use Rattle.fics_words.specs.declared.refusal.Refusal.{Refusal}
-use Rattle.linked_desk.specs.declared.acts.DeskAct.{DeskAct}
-use Rattle.linked_desk.specs.declared.acts.DeskAct.TheVariants.{Leave}
 use Rattle.linked_desk.specs.declared.acts.DeskReply.{DeskReply}
+use Rattle.linked_desk.specs.Acts.{needs_memory}
 use Rattle.lobby_state.specs.declared.acts.LobbyAct.{LobbyAct}
-use Rattle.lobby_state.specs.declared.acts.LobbyAct.TheVariants.{Match, Where, Going, Bye}
+use Rattle.lobby_state.specs.declared.acts.LobbyAct.TheVariants.{Match}
 use Rattle.lobby_state.specs.declared.acts.LobbyReply.{LobbyReply}
 use Rattle.lobby_state.specs.declared.acts.Plan.{Plan}
-use Rattle.lobby_state.specs.Acts.{IsDesk, NamesDesk, plan_of, desk_of}
+use Rattle.lobby_state.specs.Acts.{LobbyNeedsNoMemory}
+use Rattle.lobby_state.specs.Desks.{IsDesk}
+use Rattle.lobby_state.specs.Plans.{NamesDesk, plan_of, desk_of}
 use Rattle.one_server.specs.declared.act.Act.{Act}
 use Rattle.one_server.specs.declared.act.Act.TheVariants.{Lobby, Desk, Pair}
 use Rattle.one_server.specs.declared.act.Timed.{Timed}
@@ -25,9 +26,9 @@ first_part (Lobby act) = 0
 first_part (Desk desk serial act) = desk
 first_part (Pair act) = 0
 
--- the desk of a plan, where there is a plan
+-- the desk of a plan, where there is a plan and it has one
 abbrev pub planned_desk : Result Plan Refusal → Option ℕ
-planned_desk (Ok plan) = Some (desk_of plan)
+planned_desk (Ok plan) = desk_of plan
 planned_desk (Err cause) = None
 
 -- the number of an act's second part: the desk of the plan that a pair act has
@@ -66,20 +67,9 @@ abbrev pub desk_reply : Result DeskReply Refusal → Reply
 desk_reply (Ok answer) = reply.Desk answer
 desk_reply (Err cause) = reply.Refused cause
 
--- the lobby acts that need no memory of their own
-abbrev pub LobbyNeedsNoMemory : LobbyAct → Type 0
-LobbyNeedsNoMemory Where = Unit {0}
-LobbyNeedsNoMemory Going = Unit {0}
-LobbyNeedsNoMemory Bye = Unit {0}
-LobbyNeedsNoMemory _ = ⊥
-
--- and the desk acts
-abbrev pub DeskNeedsNoMemory : DeskAct → Type 0
-DeskNeedsNoMemory Leave = Unit {0}
-DeskNeedsNoMemory _ = ⊥
-
--- Where, Going, Bye and Leave need no memory of their own
+-- the acts that need no memory of their own: in the lobby Where, Going and Bye, and at a desk all but those that tell
+-- boards or items
 abbrev pub NeedsNoMemory : Act → Type 0
 NeedsNoMemory (Lobby act) = LobbyNeedsNoMemory act
-NeedsNoMemory (Desk desk serial act) = DeskNeedsNoMemory act
+NeedsNoMemory (Desk desk serial act) = needs_memory act ≡ false
 NeedsNoMemory (Pair act) = ⊥

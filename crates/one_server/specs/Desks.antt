@@ -1,15 +1,12 @@
 -- What the lobby and the server's rules ask of a desk. This server's own.
 use Rattle.std.specs.Prelude.{ℕ, Bool, false, ◌==◌, ◌&&◌, is_some, Option, None, Some}
 use Rattle.std.specs.Option.{option_map}
-use Rattle.chess_model.specs.declared.variant.Terms.{Terms}
 use Rattle.lobby_state.specs.declared.game.Game.{Game}
-use Rattle.lobby_state.specs.declared.seats.Seats.{Seats}
 use Rattle.linked_desk.specs.Desk.{DeskState, Occupant, occupant_of, serial_of, end_of, viewer_count}
-use Rattle.linked_desk.specs.Seating.{seated}
 
 -- who plays at a desk, as the lobby lists it: the serial, the terms and the seats
 abbrev pub listing : Occupant → Game
-listing o = record { serial = o.serial; terms = o.terms; seats = record { white = o.white; black = o.black } }
+listing o = record { serial = o.serial; terms = o.terms; seats = o.seats }
 
 -- the game that the desk is in use for, as the lobby lists it; none where the desk is vacant
 abbrev pub game_of : DeskState → Option Game
@@ -31,10 +28,6 @@ is_left desk = viewer_count desk == 0
 -- a desk without a game
 abbrev pub vacant : ℕ → DeskState
 vacant number = record { number = number; game = None }
-
--- the desk once a game has started there
-abbrev pub with_game : DeskState → ℕ → Terms → Seats → ℕ → DeskState
-with_game desk serial terms seats moment = seated desk serial terms seats.white seats.black moment
 
 -- the desk once it is vacant again
 abbrev pub emptied : DeskState → DeskState

@@ -6,8 +6,9 @@ use Rattle.histories.specs.Core.{Core}
 use Rattle.linked_desk.specs.Acts.{desk_answer, desk_after}
 use Rattle.linked_desk.specs.Desk.{DeskState}
 use Rattle.lobby_state.specs.declared.acts.Plan.{Plan}
-use Rattle.lobby_state.specs.Acts.{lobby_answer, lobby_after, plan_of}
+use Rattle.lobby_state.specs.Acts.{lobby_answer, lobby_after}
 use Rattle.lobby_state.specs.Lobby.{LobbyState}
+use Rattle.lobby_state.specs.Plans.{plan_of}
 use Rattle.one_server.specs.declared.act.Act.{Act}
 use Rattle.one_server.specs.declared.act.Act.TheVariants.{Lobby, Desk, Pair}
 use Rattle.one_server.specs.declared.act.Timed.{Timed}

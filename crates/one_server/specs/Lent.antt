@@ -1,9 +1,10 @@
 -- The parts that an act is lent. This server's own.
-use Rattle.std.specs.Prelude.{ℕ, Result, Ok, Err}
+use Rattle.std.specs.Prelude.{ℕ, IsSome, IfSome, Result, Ok, Err}
 use Rattle.fics_words.specs.declared.refusal.Refusal.{Refusal}
 use Rattle.linked_desk.specs.Desk.{DeskState}
 use Rattle.lobby_state.specs.declared.acts.Plan.{Plan}
-use Rattle.lobby_state.specs.Acts.{IsDesk, plan_of, desk_of}
+use Rattle.lobby_state.specs.Desks.{IsDesk}
+use Rattle.lobby_state.specs.Plans.{plan_of, desk_of}
 use Rattle.one_server.specs.declared.act.Act.{Act}
 use Rattle.one_server.specs.declared.act.Act.TheVariants.{Lobby, Desk, Pair}
 use Rattle.one_server.specs.declared.part.Part.{Part}
@@ -17,9 +18,9 @@ IsFirstOf (TheLobby lobby) (Pair act) = Unit {0}
 IsFirstOf (ADesk desk) (Desk number serial act) = Unit {0}
 IsFirstOf _ _ = ⊥
 
--- there is a plan, and it can be carried out at the desk
+-- there is a plan with a desk, and it can be carried out there
 abbrev pub IsCarried : Result Plan Refusal → DeskState → Type 0
-IsCarried (Ok plan) desk = IsDesk (desk_of plan) × CanCarry plan desk
+IsCarried (Ok plan) desk = IsSome (desk_of plan) × IfSome (desk_of plan) IsDesk × CanCarry plan desk
 IsCarried (Err cause) desk = ⊥
 
 -- the parts are the lobby and the desk of the plan that a pair act has

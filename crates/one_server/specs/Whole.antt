@@ -1,14 +1,13 @@
 -- Whole states: what holds of the lobby and the desks together, in every state. This server's own.
 use Rattle.std.specs.Prelude.{◌≡◌, ℕ, ◌+◌, ◌-◌, ◌≤◌, zero, suc, List}
-use Rattle.std.specs.Prelude.{[], ◌∷◌, All, length, map, replicate, None, Some, slice_get}
-use Rattle.lobby_state.specs.Lobby.{LobbyState, desks as desk_count}
+use Rattle.std.specs.Prelude.{[], ◌∷◌, length, map, replicate, None, Some, slice_get}
+use Rattle.lobby_state.specs.Desks.{desks as desk_count}
+use Rattle.lobby_state.specs.Lobby.{LobbyState}
 use Rattle.lobby_state.specs.WellFormed.{IsWellFormed}
-use Rattle.lobby_state.specs.declared.challenge.Challenge.{Challenge}
 use Rattle.linked_desk.specs.Desk.{DeskState}
 use Rattle.one_server.specs.declared.part.Part.{Part}
 use Rattle.one_server.specs.declared.part.Part.TheVariants.{Lobby as TheLobby, Desk as ADesk}
 use Rattle.one_server.specs.Desks.{game_of, vacant}
-use Rattle.one_server.specs.Plans.{AreForTwo}
 
 -- the desk has its number, and the lobby lists for it the game that it is in use for: none exactly where the desk is
 -- vacant, and else that serial, those terms and those seats
@@ -21,17 +20,12 @@ abbrev pub IsInPlace : LobbyState → ℕ → Part → Type 0
 IsInPlace lobby place (TheLobby other) = place ≡ 0
 IsInPlace lobby place (ADesk desk) = (1 ≤ place) × IsListed lobby place desk
 
--- each challenge is to a game of two players
-abbrev pub AreAllForTwo : List Challenge → Type 0
-AreAllForTwo challenges = All (λ challenge. AreForTwo challenge.terms) challenges
-
 -- a state of one lobby and 128 desks, of which each is listed, beside a lobby that is well-formed
 pub record IsWhole (parts : List Part) : Type 0 where
   pub count : length parts ≡ desk_count + 1
   pub lobby : LobbyState
   pub first : slice_get parts 0 ≡ Some (TheLobby lobby)
   pub formed : IsWellFormed lobby
-  pub for_two : AreAllForTwo lobby.challenges
   pub places : (place : ℕ) (part : Part) → slice_get parts place ≡ Some part → IsInPlace lobby place part
 
 -- the state of this lobby and these desks
