@@ -1,11 +1,11 @@
 //! The acts at a desk, and which game answers them.
-ghost use Rattle.std.specs.Prelude.{◌≤◌, ◌^◌};
+ghost use Rattle.std.specs.Prelude.{◌≡◌, ◌≤◌, ◌^◌};
 ghost use Rattle.fics_words.specs.Effect.{Takes};
-ghost use Rattle.linked_desk.specs.Acts.{game_effect};
+ghost use Rattle.linked_desk.specs.Acts.{game_effect, items_told};
 
 use crate::game::Game;
 use chess_model::MoveWord;
-use fics_words::{Duplicate, Fail, NoMemory};
+use fics_words::Fail;
 use style12_writer::ItemList;
 
 /// What a session does at a desk.
@@ -32,14 +32,15 @@ pub enum DeskReply {
     Items { items: ItemList, over: bool },
 }
 
-impl Duplicate for DeskReply {
-    fn duplicate(&self) -> Result<DeskReply, NoMemory> {
+impl DeskReply {
+    /// A reply equal to this one, made of a copy of the items that it gives.
+    pub fn twin(&self, items: ItemList) -> DeskReply
+        requires { items ≡ items_told self.now }
+        ensures { result ≡ self.now }
+    {
         match self {
-            DeskReply::Done => Ok(DeskReply::Done),
-            DeskReply::Items { items, over } => Ok(DeskReply::Items {
-                items: items.duplicate()?,
-                over: *over,
-            }),
+            DeskReply::Done => DeskReply::Done,
+            DeskReply::Items { over, .. } => DeskReply::Items { items, over: *over },
         }
     }
 }

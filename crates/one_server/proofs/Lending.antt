@@ -1,6 +1,8 @@
 -- In a whole state an act finds the parts that it is to be lent.
 use Rattle.std.proofs.Common.{◌≡◌, ℕ, ◌≤◌, List, refl, sym, subst, ◌∙◌}
 use Rattle.std.specs.List.{slice_get}
+use Rattle.std.specs.Prelude.{IfSome, IsSome}
+use Rattle.std.specs.declared.option.Option.{Option}
 use Rattle.std.specs.declared.option.Option.TheVariants.{None, Some}
 use Rattle.std.specs.declared.result.Result.{Result}
 use Rattle.std.specs.declared.result.Result.TheVariants.{Ok, Err}
@@ -8,10 +10,11 @@ use Rattle.fics_words.specs.declared.refusal.Refusal.{Refusal}
 use Rattle.linked_desk.specs.Desk.{DeskState}
 use Rattle.lobby_state.specs.declared.acts.PairAct.{PairAct}
 use Rattle.lobby_state.specs.declared.acts.Plan.{Plan}
-use Rattle.lobby_state.specs.Acts.{IsDesk, NamesDesk, plan_of, desk_of}
+use Rattle.lobby_state.specs.Desks.{IsDesk}
+use Rattle.lobby_state.specs.Plans.{NamesDesk, plan_of, desk_of}
 use Rattle.lobby_state.specs.Lobby.{LobbyState}
 use Rattle.lobby_state.specs.Planned.{IsPlanned}
-use Rattle.lobby_state.proofs.Planned.{plan_of-is, desk_of-is, SeatsTwo-plan_of}
+use Rattle.lobby_state.proofs.KeepsPlans.{plan_of-is, desk_of-is}
 use Rattle.one_server.specs.declared.act.Act.{Act}
 use Rattle.one_server.specs.declared.act.Act.TheVariants.{Lobby, Desk, Pair}
 use Rattle.one_server.specs.declared.part.Part.{Part}
@@ -19,8 +22,7 @@ use Rattle.one_server.specs.declared.part.Part.TheVariants.{Lobby as TheLobby, D
 use Rattle.one_server.specs.Acts.{FitsAct, first_part, planned_desk, second_part}
 use Rattle.one_server.specs.Lent.{AreBothOf, IsCarried, IsFirstOf}
 use Rattle.one_server.specs.Whole.{IsInPlace, IsWhole}
-use Rattle.one_server.specs.ForTwoProof.{for_two-plan_of}
-use Rattle.one_server.specs.WholeProof.{desk_at, formed_is, place_is, two_is}
+use Rattle.one_server.specs.WholeProof.{desk_at, formed_is, place_is}
 use Rattle.one_server.proofs.Serving.{front}
 use Rattle.one_server.proofs.Stepping.{carried_by}
 
@@ -32,22 +34,23 @@ lends_first parts (Desk number serial act) one w f e =
     let found = desk_at parts number w f in
     subst (λ (p : Part). IsFirstOf p (Desk number serial act)) (front (ADesk found.0) one (sym found.1 ∙ e)) tt
 
+some_is : (o : Option ℕ) (number : ℕ) → o ≡ Some number → IsSome o
+some_is o number e = subst IsSome (sym e) refl
+
 -- a plan is carried out at the desk with its number
 lends_carried : (parts : List Part) (lobby : LobbyState) (session : ℕ) (act : PairAct) (two : Part) (number : ℕ) (r : Result Plan Refusal) → IsWhole parts → NamesDesk act
     → slice_get parts 0 ≡ Some (TheLobby lobby) → plan_of lobby session act ≡ r → planned_desk r ≡ Some number → slice_get parts number ≡ Some two
     → (desk : DeskState) × (two ≡ ADesk desk) × IsCarried r desk
 lends_carried parts lobby session act two number (Err cause) w names e is s t = absurd cc
 lends_carried parts lobby session act two number (Ok plan) w names e is s t =
-    let same : desk_of plan ≡ number = cc in
-    let formed = formed_is parts lobby w e in
-    let planned : IsPlanned lobby plan = plan_of-is lobby session act plan formed.games names is in
-    let d : IsDesk (desk_of plan) = desk_of-is lobby plan planned in
-    let found = desk_at parts (desk_of plan) w d in
-    let there : slice_get parts (desk_of plan) ≡ Some two = subst (λ (n : ℕ). slice_get parts n ≡ Some two) (sym same) t in
-    let place : IsInPlace lobby (desk_of plan) (ADesk found.0) = place_is parts lobby w e (desk_of plan) (ADesk found.0) found.1 in (
+    let planned : IsPlanned lobby plan = plan_of-is lobby session act plan (formed_is parts lobby w e) names is in
+    let own = desk_of-is lobby plan planned in
+    let d : IsDesk number = subst (λ (x : Option ℕ). IfSome x IsDesk) s own in
+    let found = desk_at parts number w d in
+    let place = place_is parts lobby w e number (ADesk found.0) found.1 in (
       found.0,
-      front two (ADesk found.0) (sym there ∙ found.1),
-      (d, carried_by lobby plan found.0 place.1 planned (SeatsTwo-plan_of lobby session act plan formed is) (for_two-plan_of lobby session act plan (two_is parts lobby w e) is)),
+      front two (ADesk found.0) (sym t ∙ found.1),
+      (some_is (desk_of plan) number s, own, carried_by lobby plan number found.0 s place.1 planned),
     )
 
 lends_pair : (parts : List Part) (lobby : LobbyState) (session : ℕ) (act : PairAct) (two : Part) (number : ℕ) → IsWhole parts → NamesDesk act → slice_get parts 0 ≡ Some (TheLobby lobby)

@@ -6,13 +6,14 @@ use Rattle.std.specs.declared.option.Option.TheVariants.{None, Some}
 use Rattle.std.specs.Option.{option_map}
 use Rattle.std.proofs.lemmas.List.{length-map}
 use Rattle.std.proofs.lemmas.Option.{slice_get-map}
-use Rattle.std.proofs.lemmas.List.Elements.{All-nil}
 use Rattle.histories.specs.Core.{reply, after}
 use Rattle.histories.specs.declared.entry.Entry.{Entry}
 use Rattle.histories.specs.History.{entry}
 use Rattle.histories.proofs.Histories.{grows_legally, steps_once, stays_whole}
 use Rattle.lobby_state.specs.declared.game.Game.{Game}
-use Rattle.lobby_state.specs.Lobby.{LobbyState, desks as desk_count}
+use Rattle.lobby_state.specs.Desks.{desks as desk_count}
+use Rattle.lobby_state.specs.Lobby.{LobbyState}
+use Rattle.lobby_state.specs.WellFormed.{IsWellFormed}
 use Rattle.linked_desk.specs.Desk.{DeskState}
 use Rattle.one_server.specs.declared.act.Timed.{Timed}
 use Rattle.one_server.specs.declared.part.Part.{Part}
@@ -22,9 +23,7 @@ use Rattle.one_server.specs.House.{house}
 use Rattle.one_server.specs.Server.{IsServed}
 use Rattle.one_server.specs.Desks.{vacant}
 use Rattle.one_server.specs.declared.part.Part.TheVariants.{Lobby as TheLobby, Desk as ADesk}
-use Rattle.one_server.specs.Plans.{AreForTwo}
-use Rattle.lobby_state.specs.declared.challenge.Challenge.{Challenge}
-use Rattle.one_server.specs.Whole.{AreAllForTwo, IsInPlace, IsOpening, IsWhole, parts_of, vacant_from, opened}
+use Rattle.one_server.specs.Whole.{IsInPlace, IsOpening, IsWhole, parts_of, vacant_from, opened}
 use Rattle.one_server.specs.LawfulProof.{house_lawful}
 
 -- the parts of a server are whole
@@ -83,6 +82,7 @@ open_desk lobby none i part (Some desk) e h =
       omega arith,
       record {
         numbered = refl;
+        sound = tt;
         listed = ap (slice_get lobby.games) slot ∙ ap (λ (gs : List (Option Game)). slice_get gs i) none ∙ none_there desk_count i there.0;
       },
     )
@@ -92,23 +92,22 @@ open_place lobby none zero part e = subst (IsInPlace lobby 0) (front (TheLobby l
 open_place lobby none (suc i) part e = open_desk lobby none i part (slice_get (vacant_from 1 desk_count) i) refl (sym (slice_get-map ADesk (vacant_from 1 desk_count) i) ∙ e)
 
 -- a server opens in a whole state
-pub whole_opening : (lobby : LobbyState) → IsOpening lobby → IsWhole (parts_of lobby (vacant_from 1 desk_count))
-whole_opening lobby o = record {
+pub whole_opening : (lobby : LobbyState) → IsWellFormed lobby → IsOpening lobby → IsWhole (parts_of lobby (vacant_from 1 desk_count))
+whole_opening lobby formed o = record {
   count =
       let all : length (map ADesk (vacant_from 1 desk_count)) ≡ length (vacant_from 1 desk_count) = length-map (vacant_from 1 desk_count) ADesk in
       let some : length (vacant_from 1 desk_count) ≡ desk_count = length-vacant 1 desk_count in
       omega (arith, all, some);
   lobby = lobby;
   first = refl;
-  formed = o.formed;
-  for_two = subst AreAllForTwo (sym o.nothing) (All-nil (λ (challenge : Challenge). AreForTwo challenge.terms));
+  formed = formed;
   places = open_place lobby o.no_game;
 }
 
-pub fresh : (opening lobby : LobbyState) (desks : List DeskState) (log : List (Entry Timed Reply)) → IsOpening lobby → opening ≡ lobby → desks ≡ vacant_from 1 desk_count → log ≡ [] → IsServed (opened opening) log lobby desks
+pub fresh : (opening lobby : LobbyState) (desks : List DeskState) (log : List (Entry Timed Reply)) → IsWellFormed lobby → IsOpening lobby → opening ≡ lobby → desks ≡ vacant_from 1 desk_count → log ≡ [] → IsServed (opened opening) log lobby desks
 unfolding opened
-fresh opening lobby desks log o same e empty =
-    let whole = whole_opening lobby o in
+fresh opening lobby desks log formed o same e empty =
+    let whole = whole_opening lobby formed o in
     let made : IsServed (opened lobby) [] lobby (vacant_from 1 desk_count) = record { whole = whole; legal = tt; state = refl } in
     subst (λ (l : LobbyState). IsServed (opened l) log lobby desks) (sym same)
     (subst (λ (ds : List DeskState). IsServed (opened lobby) log lobby ds) (sym e)

@@ -18,13 +18,17 @@ use Rattle.linked_desk.specs.Desk.{GameState, DeskState, occupant}
 use Rattle.lobby_state.specs.declared.acts.LobbyAct.{LobbyAct}
 use Rattle.lobby_state.specs.declared.acts.PairAct.{PairAct}
 use Rattle.lobby_state.specs.declared.acts.Plan.{Plan}
-use Rattle.lobby_state.specs.declared.acts.Plan.TheVariants.{Seat, Clear}
+use Rattle.lobby_state.specs.declared.acts.Plan.TheVariants.{Start, Clear}
 use Rattle.lobby_state.specs.declared.game.Game.{Game}
-use Rattle.lobby_state.specs.Acts.{IsDesk, NamesDesk, lobby_answer, lobby_after, plan_of, desk_of}
-use Rattle.lobby_state.specs.Lobby.{LobbyState, desks as desk_count}
-use Rattle.lobby_state.specs.Planned.{IsPlanned, SeatsTwo}
-use Rattle.lobby_state.proofs.Planned.{plan_of-is, desk_of-is, SeatsTwo-plan_of}
-use Rattle.std.specs.Prelude.{IfOk, OnOk}
+use Rattle.fics_words.specs.Handle.{key_of}
+use Rattle.fics_words.specs.Seats.{seat_list}
+use Rattle.lobby_state.specs.Acts.{lobby_answer, lobby_after}
+use Rattle.lobby_state.specs.Desks.{IsDesk, desks as desk_count}
+use Rattle.lobby_state.specs.Lobby.{LobbyState}
+use Rattle.lobby_state.specs.Planned.{IsPlanned}
+use Rattle.lobby_state.specs.Plans.{NamesDesk, plan_of, desk_of}
+use Rattle.lobby_state.proofs.KeepsPlans.{plan_of-is, desk_of-is}
+use Rattle.std.specs.Prelude.{IfOk, IfSome, OnOk}
 use Rattle.one_server.specs.declared.act.Act.{Act}
 use Rattle.one_server.specs.declared.act.Act.TheVariants.{Lobby, Desk, Pair}
 use Rattle.one_server.specs.declared.act.Timed.{Timed}
@@ -32,13 +36,13 @@ use Rattle.one_server.specs.declared.part.Part.{Part}
 use Rattle.one_server.specs.declared.part.Part.TheVariants.{Lobby as TheLobby, Desk as ADesk}
 use Rattle.one_server.specs.declared.reply.Reply.{Reply}
 use Rattle.one_server.specs.declared.reply.Reply.TheVariants.{Refused, Pair as PairReplied}
+use Rattle.one_server.specs.StartingProof.{all_differ, pairs_for, not_bughouse}
 use Rattle.one_server.specs.Acts.{planned_desk, lobby_reply, desk_reply}
 use Rattle.one_server.specs.Desks.{listing, game_of}
-use Rattle.one_server.specs.House.{house, pair_reply, pair_lobby, pair_desk}
+use Rattle.one_server.specs.House.{house, no_parts, pair_reply, pair_lobby, pair_desk}
 use Rattle.one_server.specs.Plans.{CanCarry, plan_reply, plan_lobby, plan_desk}
 use Rattle.one_server.specs.Whole.{IsListed, IsWhole, parts_of}
-use Rattle.one_server.specs.ForTwoProof.{SeatsForTwo, for_two-plan_of}
-use Rattle.one_server.specs.WholeProof.{formed_is, two_is, place_is}
+use Rattle.one_server.specs.WholeProof.{formed_is, place_is}
 
 -- the desk with a number stands at its place in the list of parts
 pub part_there : (lobby : LobbyState) (desks : List DeskState) (number : ℕ) (desk : DeskState) → 1 ≤ number → slice_get desks (number - 1) ≡ Some desk
@@ -121,25 +125,38 @@ module _ (lobby : LobbyState) (desks : List DeskState) (session moment : ℕ) wh
         after_alone house (parts_of lobby desks) session timed (TheLobby lobby) refl (ap planned_desk (sym is))
         ∙ ap (λ r. parts_of (pair_lobby lobby r None) desks) (sym is)
 
-  module _ (act : PairAct) (plan : Plan) (desk : DeskState) (is : Ok plan ≡ plan_of lobby session act) (d : IsDesk (desk_of plan))
-      (there : slice_get desks (desk_of plan - 1) ≡ Some desk) where
+  module _ (act : PairAct) (plan : Plan) (is : Ok plan ≡ plan_of lobby session act) (none : desk_of plan ≡ None) where
+    pub reply_nowhere : reply house (parts_of lobby desks) session (record { moment = moment; act = Pair act }) ≡ Some no_parts
+    reply_nowhere =
+        let timed : Timed = record { moment = moment; act = Pair act } in
+        reply_alone house (parts_of lobby desks) session timed (TheLobby lobby) refl (ap planned_desk (sym is) ∙ none)
+        ∙ ap (λ r. Some (pair_reply r None)) (sym is)
+
+    pub after_nowhere : after house (parts_of lobby desks) session (record { moment = moment; act = Pair act }) ≡ parts_of lobby desks
+    after_nowhere =
+        let timed : Timed = record { moment = moment; act = Pair act } in
+        after_alone house (parts_of lobby desks) session timed (TheLobby lobby) refl (ap planned_desk (sym is) ∙ none)
+        ∙ ap (λ r. parts_of (pair_lobby lobby r None) desks) (sym is)
+
+  module _ (act : PairAct) (plan : Plan) (number : ℕ) (desk : DeskState) (is : Ok plan ≡ plan_of lobby session act) (own : desk_of plan ≡ Some number) (d : IsDesk number)
+      (there : slice_get desks (number - 1) ≡ Some desk) where
     pub reply_planned : (r : Reply) → r ≡ PairReplied (plan_reply plan desk)
         → reply house (parts_of lobby desks) session (record { moment = moment; act = Pair act }) ≡ Some r
     reply_planned r e =
         let timed : Timed = record { moment = moment; act = Pair act } in
-        reply_together house (parts_of lobby desks) session timed (TheLobby lobby) (ADesk desk) (desk_of plan) refl (ap planned_desk (sym is))
-        (part_there lobby desks (desk_of plan) desk d.0 there)
+        reply_together house (parts_of lobby desks) session timed (TheLobby lobby) (ADesk desk) number refl (ap planned_desk (sym is) ∙ own)
+        (part_there lobby desks number desk d.0 there)
         ∙ ap (λ p. Some (pair_reply p (Some (ADesk desk)))) (sym is) ∙ ap Some (sym e)
 
-    pub after_planned : (new : LobbyState) (news : List DeskState) → new ≡ plan_lobby lobby plan desk → news ≡ set desks (desk_of plan - 1) (plan_desk plan desk moment)
+    pub after_planned : (new : LobbyState) (news : List DeskState) → new ≡ plan_lobby lobby plan desk → news ≡ set desks (number - 1) (plan_desk plan desk moment)
         → after house (parts_of lobby desks) session (record { moment = moment; act = Pair act }) ≡ parts_of new news
     after_planned new news e f =
         let timed : Timed = record { moment = moment; act = Pair act } in
-        let both = after_together house (parts_of lobby desks) session timed (TheLobby lobby) (ADesk desk) (desk_of plan) refl (ap planned_desk (sym is))
-        (part_there lobby desks (desk_of plan) desk d.0 there) in
+        let both = after_together house (parts_of lobby desks) session timed (TheLobby lobby) (ADesk desk) number refl (ap planned_desk (sym is) ∙ own)
+        (part_there lobby desks number desk d.0 there) in
         both
-        ∙ ap (λ p. set (parts_of (pair_lobby lobby p (Some (ADesk desk))) desks) (desk_of plan) (ADesk (pair_desk p desk moment))) (sym is)
-        ∙ written (plan_lobby lobby plan desk) desks (desk_of plan) (plan_desk plan desk moment) d.0
+        ∙ ap (λ p. set (parts_of (pair_lobby lobby p (Some (ADesk desk))) desks) number (ADesk (pair_desk p desk moment))) (sym is)
+        ∙ written (plan_lobby lobby plan desk) desks number (plan_desk plan desk moment) d.0
         ∙ (λ i. parts_of (sym e i) (sym f i))
 
 -- each number of a desk has its desk
@@ -157,25 +174,31 @@ nothing_listed game e = cc
 vacant_by : (desk : DeskState) → Some None ≡ Some (game_of desk) → desk.game ≡ None
 vacant_by desk e = vacant_in desk.game (nothing_listed (game_of desk) e)
 
-pub carried_by : (lobby : LobbyState) (plan : Plan) (desk : DeskState) → IsListed lobby (desk_of plan) desk → IsPlanned lobby plan → SeatsTwo plan → SeatsForTwo plan → CanCarry plan desk
-carried_by lobby (Seat number serial terms seats) desk listed planned two one = (vacant_by desk (sym planned.is_free ∙ listed.listed), two, one)
-carried_by lobby (Clear session number serial) desk listed planned two one = tt
+pub carried_by : (lobby : LobbyState) (plan : Plan) (number : ℕ) (desk : DeskState) → desk_of plan ≡ Some number → IsListed lobby number desk → IsPlanned lobby plan → CanCarry plan desk
+carried_by lobby (Start own serial terms seats) number desk o listed planned =
+    let same : own ≡ number = cc in
+    record {
+      vacant = vacant_by desk (sym planned.is_free ∙ ap (λ n. slice_get lobby.games (n - 1)) same ∙ listed.listed);
+      sessions = all_differ (λ p. p.session) (seat_list seats) planned.apart.sessions;
+      names = all_differ (λ p. key_of p.name) (seat_list seats) planned.apart.handles;
+      pairs = pairs_for terms.variant seats planned.boards planned.for_two;
+      one_board = not_bughouse terms.variant planned.for_two;
+    }
+carried_by lobby (Clear session own serial) number desk o listed planned = tt
 
 -- a plan that the lobby gave can be carried out at its desk
-pub can_carry : (lobby : LobbyState) (desks : List DeskState) (session : ℕ) (act : PairAct) (plan : Plan) → IsWhole (parts_of lobby desks) → NamesDesk act → Ok plan ≡ plan_of lobby session act
-    → (desk : DeskState) → slice_get desks (desk_of plan - 1) ≡ Some desk → CanCarry plan desk
-can_carry lobby desks session act plan w names is desk there =
-    let xs : List Part = parts_of lobby desks in
-    let formed = formed_is xs lobby w refl in
-    let planned : IsPlanned lobby plan = plan_of-is lobby session act plan formed.games names (sym is) in
-    let d : IsDesk (desk_of plan) = desk_of-is lobby plan planned in
-    let place = place_is xs lobby w refl (desk_of plan) (ADesk desk) (part_there lobby desks (desk_of plan) desk d.0 there) in
-    carried_by lobby plan desk place.1 planned (SeatsTwo-plan_of lobby session act plan formed (sym is)) (for_two-plan_of lobby session act plan (two_is xs lobby w refl) (sym is))
+module _ (lobby : LobbyState) (desks : List DeskState) (session : ℕ) (act : PairAct) (plan : Plan) (w : IsWhole (parts_of lobby desks)) (names : NamesDesk act) (is : Ok plan ≡ plan_of lobby session act)
+    (number : ℕ) (own : desk_of plan ≡ Some number) where
+  planned_now : IsPlanned lobby plan
+  planned_now = plan_of-is lobby session act plan (formed_is (parts_of lobby desks) lobby w refl) names (sym is)
 
-pub planned_number : (lobby : LobbyState) (desks : List DeskState) (session : ℕ) (act : PairAct) (plan : Plan) → IsWhole (parts_of lobby desks) → NamesDesk act → Ok plan ≡ plan_of lobby session act
-    → IsDesk (desk_of plan)
-planned_number lobby desks session act plan w names is =
-    desk_of-is lobby plan (plan_of-is lobby session act plan (formed_is (parts_of lobby desks) lobby w refl).games names (sym is))
+  pub planned_number : IsDesk number
+  planned_number = subst (λ (x : Option ℕ). IfSome x IsDesk) own (desk_of-is lobby plan planned_now)
+
+  pub can_carry : (desk : DeskState) → slice_get desks (number - 1) ≡ Some desk → CanCarry plan desk
+  can_carry desk there =
+      let place = place_is (parts_of lobby desks) lobby w refl number (ADesk desk) (part_there lobby desks number desk planned_number.0 there) in
+      carried_by lobby plan number desk own place.1 planned_now
 
 -- an act behind its moment
 pub at_act : (timed : Timed) (act : Act) (Q : Timed → Type 0) → timed.act ≡ act → Q (record { moment = timed.moment; act = act }) → Q timed

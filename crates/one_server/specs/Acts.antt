@@ -1,15 +1,12 @@
 -- What an act is: the parts that it needs, the conditions on its numbers, and how the answer of its part is replied.
 -- This server's own.
 use Rattle.std.specs.Prelude.{◌≡◌, ℕ, ◌≤◌, ◌^◌, false, Option, None, Result, Ok, Err}
-use Rattle.chess_model.specs.declared.variant.Terms.{Terms}
 use Rattle.fics_words.specs.declared.refusal.Refusal.{Refusal}
 use Rattle.linked_desk.specs.declared.acts.DeskReply.{DeskReply}
 use Rattle.linked_desk.specs.Acts.{needs_memory}
-use Rattle.lobby_state.specs.declared.acts.LobbyAct.{LobbyAct}
-use Rattle.lobby_state.specs.declared.acts.LobbyAct.TheVariants.{Match}
 use Rattle.lobby_state.specs.declared.acts.LobbyReply.{LobbyReply}
 use Rattle.lobby_state.specs.declared.acts.Plan.{Plan}
-use Rattle.lobby_state.specs.Acts.{LobbyNeedsNoMemory}
+use Rattle.lobby_state.specs.Acts.{FitsLobby, LobbyNeedsNoMemory}
 use Rattle.lobby_state.specs.Desks.{IsDesk}
 use Rattle.lobby_state.specs.Plans.{NamesDesk, plan_of, desk_of}
 use Rattle.one_server.specs.declared.act.Act.{Act}
@@ -35,16 +32,6 @@ planned_desk (Err cause) = None
 abbrev pub second_part : Part → ℕ → Act → Option ℕ
 second_part (TheLobby lobby) session (Pair act) = planned_desk (plan_of lobby session act)
 second_part _ session _ = None
-
--- at most ten hours at the start, and at most ten minutes for a half-move
-pub record AreTerms (terms : Terms) : Type 0 where
-  pub minutes : terms.minutes ≤ 600
-  pub increment : terms.increment ≤ 600
-
--- the numbers of a game that is asked for are in range; no other lobby act has any
-abbrev pub FitsLobby : LobbyAct → Type 0
-FitsLobby (Match to terms) = AreTerms terms
-FitsLobby _ = Unit {0}
 
 -- the conditions on the numbers of an act: a desk is 1 to 128, minutes and increments are at most 600
 abbrev pub FitsAct : Act → Type 0

@@ -3,6 +3,8 @@
 use Rattle.std.proofs.Common.{◌≡◌, ◌≢◌, ℕ, ◌<◌, Bool, true, false, cond, ◌&&◌, List, length, set, refl, ap, sym, subst, ◌∙◌, arith}
 use Rattle.std.specs.List.{slice_get}
 use Rattle.std.specs.Option.{option_map}
+use Rattle.std.specs.Prelude.{IfSome}
+use Rattle.std.specs.declared.option.Option.{Option}
 use Rattle.std.specs.declared.option.Option.TheVariants.{None, Some}
 use Rattle.std.specs.declared.result.Result.{Result}
 use Rattle.std.specs.declared.result.Result.TheVariants.{Ok, Err}
@@ -13,16 +15,20 @@ use Rattle.histories.proofs.Steps.{after_alone, after_together}
 use Rattle.linked_desk.specs.declared.acts.DeskAct.{DeskAct}
 use Rattle.linked_desk.specs.Acts.{desk_after}
 use Rattle.linked_desk.specs.Desk.{DeskState}
-use Rattle.linked_desk.proofs.Players.{occupant-after_at}
+use Rattle.linked_desk.specs.Sound.{HasSoundGame}
+use Rattle.linked_desk.proofs.KeepsActs.{number-desk_after, players-desk_after, sound-desk_after}
+use Rattle.linked_desk.proofs.KeepsStart.{IsSound-opened}
 use Rattle.lobby_state.specs.declared.acts.Plan.{Plan}
-use Rattle.lobby_state.specs.declared.acts.Plan.TheVariants.{Seat, Clear}
+use Rattle.lobby_state.specs.declared.acts.Plan.TheVariants.{Start, Clear}
 use Rattle.lobby_state.specs.declared.acts.PairAct.{PairAct}
-use Rattle.lobby_state.specs.Acts.{IsDesk, NamesDesk, lobby_after, plan_of, desk_of, committed}
+use Rattle.lobby_state.specs.Acts.{lobby_after}
+use Rattle.lobby_state.specs.Desks.{IsDesk}
+use Rattle.lobby_state.specs.Plans.{NamesDesk, plan_of, desk_of, committed}
 use Rattle.lobby_state.specs.Lobby.{LobbyState}
 use Rattle.lobby_state.specs.Planned.{IsPlanned}
 use Rattle.lobby_state.specs.WellFormed.{IsWellFormed}
-use Rattle.lobby_state.proofs.WellFormed.{IsWellFormed-lobby_after, games-lobby_after}
-use Rattle.lobby_state.proofs.Planned.{plan_of-is, desk_of-is, IsWellFormed-committed}
+use Rattle.lobby_state.proofs.KeepsActs.{IsWellFormed-lobby_after, games-lobby_after}
+use Rattle.lobby_state.proofs.KeepsPlans.{plan_of-is, desk_of-is, IsWellFormed-committed}
 use Rattle.one_server.specs.declared.act.Act.{Act}
 use Rattle.one_server.specs.declared.act.Act.TheVariants.{Lobby, Desk, Pair}
 use Rattle.one_server.specs.declared.act.Timed.{Timed}
@@ -33,12 +39,12 @@ use Rattle.one_server.specs.Desks.{listing, game_of, has_ended, is_left, emptied
 use Rattle.one_server.specs.House.{house, pair_lobby, pair_desk}
 use Rattle.one_server.specs.Plans.{plan_lobby, plan_desk}
 use Rattle.one_server.specs.Whole.{IsWhole}
-use Rattle.one_server.specs.ForTwoProof.{for_two-lobby_after, for_two-committed}
-use Rattle.one_server.specs.WholeProof.{formed_is, two_is, desk_at, whole_lobby, whole_desk, whole_both}
+use Rattle.one_server.specs.StartingProof.{pairs_for}
+use Rattle.one_server.specs.WholeProof.{formed_is, place_is, desk_at, whole_lobby, whole_desk, whole_both}
 
 -- a desk act leaves the game that the desk is in use for
 pub keeps_game : (desk : DeskState) (session moment serial : ℕ) (act : DeskAct) → game_of (desk_after desk session moment serial act) ≡ game_of desk
-keeps_game desk session moment serial act = ap (option_map listing) (occupant-after_at desk.number desk.game session moment serial act)
+keeps_game desk session moment serial act = ap (option_map listing) (players-desk_after desk session moment serial act)
 
 first_in : (xs : List Part) (act : Act) → IsWhole xs → FitsAct act → first_part act < length xs
 first_in xs (Lobby act) w f = omega (arith, w.count)
@@ -49,8 +55,7 @@ planned_in : (lobby : LobbyState) (session : ℕ) (act : PairAct) (r : Result Pl
     → plan_of lobby session act ≡ r → planned_desk r ≡ Some s → IsDesk s
 planned_in lobby session act (Err cause) s formed f is e = absurd cc
 planned_in lobby session act (Ok plan) s formed f is e =
-    let same : desk_of plan ≡ s = cc in
-    subst IsDesk same (desk_of-is lobby plan (plan_of-is lobby session act plan formed.games f is))
+    subst (λ (d : Option ℕ). IfSome d IsDesk) e (desk_of-is lobby plan (plan_of-is lobby session act plan formed f is))
 
 second_in : (xs : List Part) (session : ℕ) (act : Act) (part : Part) (s : ℕ) → IsWhole xs → FitsAct act → slice_get xs (first_part act) ≡ Some part
     → second_part part session act ≡ Some s → (s < length xs) × (s ≢ first_part act)
@@ -63,67 +68,92 @@ second_in xs session (Lobby act) (ADesk desk) s w f e h = absurd cc
 second_in xs session (Desk number serial act) (ADesk desk) s w f e h = absurd cc
 second_in xs session (Pair act) (ADesk desk) s w f e h = absurd cc
 
+-- a pair act that is made on the lobby alone leaves it
+left_alone : (lobby : LobbyState) (r : Result Plan Refusal) → pair_lobby lobby r None ≡ lobby
+left_alone lobby (Ok plan) = refl
+left_alone lobby (Err cause) = refl
+
 -- what a Clear leaves is whole, by whether the game has ended and whether nobody looks on
 stays_cleared : (xs : List Part) (lobby : LobbyState) (session number serial : ℕ) (desk : DeskState) → IsWhole xs → slice_get xs 0 ≡ Some (TheLobby lobby)
     → slice_get xs number ≡ Some (ADesk desk) → IsDesk number → (is_over is_alone : Bool)
     → IsWhole (set (set xs 0 (TheLobby (cond is_over (committed lobby (Clear session number serial) is_alone) lobby))) number (ADesk (cond (is_over && is_alone) (emptied desk) desk)))
 stays_cleared xs lobby session number serial desk w e d p true true =
     whole_both xs lobby (committed lobby (Clear session number serial) true) number desk (emptied desk) w e d
-    (IsWellFormed-committed lobby (Clear session number serial) true p (formed_is xs lobby w e)) (two_is xs lobby w e) refl refl
+    (IsWellFormed-committed lobby (Clear session number serial) true p (formed_is xs lobby w e)) refl refl tt
 stays_cleared xs lobby session number serial desk w e d p true false =
     let new = committed lobby (Clear session number serial) false in
     whole_desk (set xs 0 (TheLobby new)) number desk desk
-    (whole_lobby xs lobby new w e (IsWellFormed-committed lobby (Clear session number serial) false p (formed_is xs lobby w e)) (two_is xs lobby w e) refl)
-    (get_set_else xs 0 number (TheLobby new) (λ z. omega (arith, p)) ∙ d) refl refl
+    (whole_lobby xs lobby new w e (IsWellFormed-committed lobby (Clear session number serial) false p (formed_is xs lobby w e)) refl)
+    (get_set_else xs 0 number (TheLobby new) (λ z. omega (arith, p)) ∙ d) refl refl (place_is xs lobby w e number (ADesk desk) d).1.sound
 stays_cleared xs lobby session number serial desk w e d p false is_alone =
     whole_desk (set xs 0 (TheLobby lobby)) number desk desk
-    (whole_lobby xs lobby lobby w e (formed_is xs lobby w e) (two_is xs lobby w e) refl)
-    (get_set_else xs 0 number (TheLobby lobby) (λ z. omega (arith, p)) ∙ d) refl refl
+    (whole_lobby xs lobby lobby w e (formed_is xs lobby w e) refl)
+    (get_set_else xs 0 number (TheLobby lobby) (λ z. omega (arith, p)) ∙ d) refl refl (place_is xs lobby w e number (ADesk desk) d).1.sound
 
 -- what a plan leaves is whole
-stays_planned : (xs : List Part) (lobby : LobbyState) (plan : Plan) (desk : DeskState) (moment : ℕ) → IsWhole xs → slice_get xs 0 ≡ Some (TheLobby lobby)
-    → slice_get xs (desk_of plan) ≡ Some (ADesk desk) → IsPlanned lobby plan
-    → IsWhole (set (set xs 0 (TheLobby (plan_lobby lobby plan desk))) (desk_of plan) (ADesk (plan_desk plan desk moment)))
-stays_planned xs lobby (Seat number serial terms seats) desk moment w e d p =
-    let plan : Plan = Seat number serial terms seats in
-    whole_both xs lobby (plan_lobby lobby plan desk) number desk (plan_desk plan desk moment) w e d
-    (IsWellFormed-committed lobby plan true p (formed_is xs lobby w e)) (for_two-committed lobby plan true (two_is xs lobby w e)) refl refl
-stays_planned xs lobby (Clear session number serial) desk moment w e d p = stays_cleared xs lobby session number serial desk w e d p (has_ended desk serial) (is_left desk)
+stays_planned : (xs : List Part) (lobby : LobbyState) (plan : Plan) (number : ℕ) (desk : DeskState) (moment : ℕ) → IsWhole xs → slice_get xs 0 ≡ Some (TheLobby lobby)
+    → desk_of plan ≡ Some number → slice_get xs number ≡ Some (ADesk desk) → IsPlanned lobby plan
+    → IsWhole (set (set xs 0 (TheLobby (plan_lobby lobby plan desk))) number (ADesk (plan_desk plan desk moment)))
+stays_planned xs lobby (Start own serial terms seats) number desk moment w e o d p =
+    let plan : Plan = Start own serial terms seats in
+    let same : own ≡ number = cc in
+    subst (λ (n : ℕ). IsWhole (set (set xs 0 (TheLobby (plan_lobby lobby plan desk))) n (ADesk (plan_desk plan desk moment)))) same
+    (whole_both xs lobby (plan_lobby lobby plan desk) own desk (plan_desk plan desk moment) w e (subst (λ (n : ℕ). slice_get xs n ≡ Some (ADesk desk)) (sym same) d)
+    (IsWellFormed-committed lobby plan true p (formed_is xs lobby w e)) refl refl
+    (IsSound-opened desk.number serial terms seats moment (pairs_for terms.variant seats p.boards p.for_two)))
+stays_planned xs lobby (Clear session own serial) number desk moment w e o d p =
+    let same : own ≡ number = cc in
+    let there = subst (λ (n : ℕ). slice_get xs n ≡ Some (ADesk desk)) (sym same) d in
+    subst (λ (n : ℕ). IsWhole (set (set xs 0 (TheLobby (plan_lobby lobby (Clear session own serial) desk))) n (ADesk (plan_desk (Clear session own serial) desk moment)))) same
+    (stays_cleared xs lobby session own serial desk w e there p (has_ended desk serial) (is_left desk))
 
-stays_pair : (xs : List Part) (session moment : ℕ) (act : PairAct) (lobby : LobbyState) (r : Result Plan Refusal) → IsWhole xs → slice_get xs 0 ≡ Some (TheLobby lobby) → NamesDesk act
-    → plan_of lobby session act ≡ r → IsWhole (after house xs session (record { moment = moment; act = Pair act }))
-stays_pair xs session moment act lobby (Err cause) w e f is =
-    let timed : Timed = record { moment = moment; act = Pair act } in
-    let alone : after house xs session timed ≡ set xs 0 (TheLobby (pair_lobby lobby (plan_of lobby session act) None)) =
-    after_alone house xs session timed (TheLobby lobby) e (ap planned_desk is) in
-    let left : pair_lobby lobby (plan_of lobby session act) None ≡ lobby = ap (λ r. pair_lobby lobby r None) is in
-    subst IsWhole (sym (alone ∙ ap (λ l. set xs 0 (TheLobby l)) left)) (whole_lobby xs lobby lobby w e (formed_is xs lobby w e) (two_is xs lobby w e) refl)
-stays_pair xs session moment act lobby (Ok plan) w e f is =
-    let timed : Timed = record { moment = moment; act = Pair act } in
-    let formed = formed_is xs lobby w e in
-    let planned : IsPlanned lobby plan = plan_of-is lobby session act plan formed.games f is in
-    let found = desk_at xs (desk_of plan) w (desk_of-is lobby plan planned) in
-    let both : after house xs session timed
-    ≡ set (set xs 0 (TheLobby (pair_lobby lobby (plan_of lobby session act) (Some (ADesk found.0))))) (desk_of plan) (ADesk (pair_desk (plan_of lobby session act) found.0 moment)) =
-    after_together house xs session timed (TheLobby lobby) (ADesk found.0) (desk_of plan) e (ap planned_desk is) found.1 in
-    let carried : set (set xs 0 (TheLobby (pair_lobby lobby (plan_of lobby session act) (Some (ADesk found.0))))) (desk_of plan) (ADesk (pair_desk (plan_of lobby session act) found.0 moment))
-    ≡ set (set xs 0 (TheLobby (plan_lobby lobby plan found.0))) (desk_of plan) (ADesk (plan_desk plan found.0 moment)) =
-    ap (λ r. set (set xs 0 (TheLobby (pair_lobby lobby r (Some (ADesk found.0))))) (desk_of plan) (ADesk (pair_desk r found.0 moment))) is in
-    subst IsWhole (sym (both ∙ carried)) (stays_planned xs lobby plan found.0 moment w e found.1 planned)
+-- what a pair act leaves is whole: nothing is done where there is no plan, or it has no desk
+module _ (xs : List Part) (session moment : ℕ) (act : PairAct) (lobby : LobbyState) (w : IsWhole xs) (e : slice_get xs 0 ≡ Some (TheLobby lobby)) (f : NamesDesk act) where
+  abbrev timed : Timed
+  timed = record { moment = moment; act = Pair act }
+
+  stays_alone : (r : Result Plan Refusal) → plan_of lobby session act ≡ r → planned_desk r ≡ None → IsWhole (after house xs session timed)
+  stays_alone r is none =
+      let alone : after house xs session timed ≡ set xs 0 (TheLobby (pair_lobby lobby (plan_of lobby session act) None)) =
+      after_alone house xs session timed (TheLobby lobby) e (ap planned_desk is ∙ none) in
+      let left : pair_lobby lobby (plan_of lobby session act) None ≡ lobby = left_alone lobby (plan_of lobby session act) in
+      subst IsWhole (sym (alone ∙ ap (λ l. set xs 0 (TheLobby l)) left)) (whole_lobby xs lobby lobby w e (formed_is xs lobby w e) refl)
+
+  stays_with : (plan : Plan) (number : ℕ) → plan_of lobby session act ≡ Ok plan → desk_of plan ≡ Some number → IsWhole (after house xs session timed)
+  stays_with plan number is o =
+      let planned : IsPlanned lobby plan = plan_of-is lobby session act plan (formed_is xs lobby w e) f is in
+      let d : IsDesk number = subst (λ (x : Option ℕ). IfSome x IsDesk) o (desk_of-is lobby plan planned) in
+      let found = desk_at xs number w d in
+      let both : after house xs session timed
+      ≡ set (set xs 0 (TheLobby (pair_lobby lobby (plan_of lobby session act) (Some (ADesk found.0))))) number (ADesk (pair_desk (plan_of lobby session act) found.0 moment)) =
+      after_together house xs session timed (TheLobby lobby) (ADesk found.0) number e (ap planned_desk is ∙ o) found.1 in
+      let carried : set (set xs 0 (TheLobby (pair_lobby lobby (plan_of lobby session act) (Some (ADesk found.0))))) number (ADesk (pair_desk (plan_of lobby session act) found.0 moment))
+      ≡ set (set xs 0 (TheLobby (plan_lobby lobby plan found.0))) number (ADesk (plan_desk plan found.0 moment)) =
+      ap (λ r. set (set xs 0 (TheLobby (pair_lobby lobby r (Some (ADesk found.0))))) number (ADesk (pair_desk r found.0 moment))) is in
+      subst IsWhole (sym (both ∙ carried)) (stays_planned xs lobby plan number found.0 moment w e o found.1 planned)
+
+  stays_plan : (plan : Plan) (number : Option ℕ) → plan_of lobby session act ≡ Ok plan → desk_of plan ≡ number → IsWhole (after house xs session timed)
+  stays_plan plan None is o = stays_alone (Ok plan) is o
+  stays_plan plan (Some number) is o = stays_with plan number is o
+
+  stays_pair : (r : Result Plan Refusal) → plan_of lobby session act ≡ r → IsWhole (after house xs session timed)
+  stays_pair (Err cause) is = stays_alone (Err cause) is refl
+  stays_pair (Ok plan) is = stays_plan plan (desk_of plan) is refl
 
 stays_act : (xs : List Part) (session moment : ℕ) (act : Act) → IsWhole xs → FitsAct act → IsWhole (after house xs session (record { moment = moment; act = act }))
 stays_act xs session moment (Lobby act) w f =
     let timed : Timed = record { moment = moment; act = Lobby act } in
     let alone : after house xs session timed ≡ set xs 0 (TheLobby (lobby_after w.lobby session act)) =
     after_alone house xs session timed (TheLobby w.lobby) w.first refl in
-    subst IsWhole (sym alone) (whole_lobby xs w.lobby (lobby_after w.lobby session act) w w.first (IsWellFormed-lobby_after w.lobby session act w.formed) (for_two-lobby_after w.lobby session act w.for_two) (games-lobby_after w.lobby session act))
+    subst IsWhole (sym alone) (whole_lobby xs w.lobby (lobby_after w.lobby session act) w w.first (IsWellFormed-lobby_after w.lobby session act w.formed) (games-lobby_after w.lobby session act))
 stays_act xs session moment (Desk number serial act) w f =
     let timed : Timed = record { moment = moment; act = Desk number serial act } in
     let found = desk_at xs number w f in
     let alone : after house xs session timed ≡ set xs number (ADesk (desk_after found.0 session moment serial act)) =
     after_alone house xs session timed (ADesk found.0) found.1 refl in
-    subst IsWhole (sym alone) (whole_desk xs number found.0 (desk_after found.0 session moment serial act) w found.1 refl (keeps_game found.0 session moment serial act))
-stays_act xs session moment (Pair act) w f = stays_pair xs session moment act w.lobby (plan_of w.lobby session act) w w.first f refl
+    subst IsWhole (sym alone) (whole_desk xs number found.0 (desk_after found.0 session moment serial act) w found.1 (number-desk_after found.0 session moment serial act) (keeps_game found.0 session moment serial act)
+    (sound-desk_after found.0 session moment serial act (w.places number (ADesk found.0) found.1).1.sound))
+stays_act xs session moment (Pair act) w f = stays_pair xs session moment act w.lobby w w.first f (plan_of w.lobby session act) refl
 
 pub house_lawful : Lawful house
 house_lawful = record {

@@ -9,6 +9,6 @@ pub mod Running
 pub mod Server
 pub mod Lent
 pub mod Laws
-pub mod ForTwoProof
+pub mod StartingProof
 pub mod WholeProof
 pub mod LawfulProof

@@ -1,13 +1,14 @@
 -- What a plan does to its lobby and to its desk, and what is replied. This server's own.
-use Rattle.std.specs.Prelude.{◌≡◌, ℕ, None, false, true, cond, ◌&&◌}
+use Rattle.std.specs.Prelude.{◌≡◌, ◌≢◌, ℕ, None, true, cond, ◌&&◌}
+use Rattle.chess_model.specs.declared.variant.Terms.{Terms}
+use Rattle.chess_model.specs.declared.variant.Variant.TheVariants.{Bughouse}
+use Rattle.fics_words.specs.declared.seats.Seats.{Seats}
 use Rattle.lobby_state.specs.declared.acts.Plan.{Plan}
 use Rattle.lobby_state.specs.declared.acts.Plan.TheVariants.{Start, Clear}
 use Rattle.lobby_state.specs.Lobby.{LobbyState}
-use Rattle.lobby_state.specs.Planned.{AreApart, FitsVariant}
 use Rattle.lobby_state.specs.Plans.{committed}
-use Rattle.lobby_state.specs.Match.{needs_partners}
 use Rattle.linked_desk.specs.Desk.{DeskState}
-use Rattle.linked_desk.specs.Seating.{started}
+use Rattle.linked_desk.specs.Seating.{AllDiffer, HasPairsFor, names_of, sessions_of, started}
 use Rattle.one_server.specs.Desks.{has_ended, is_left, emptied}
 use Rattle.one_server.specs.declared.reply.PairReply.{PairReply}
 use Rattle.one_server.specs.declared.reply.PairReply.TheVariants.{Started, Kept, Freed, Cleared}
@@ -30,11 +31,18 @@ abbrev pub plan_desk : Plan → DeskState → ℕ → DeskState
 plan_desk (Start number serial terms seats) desk moment = started desk serial terms seats moment
 plan_desk (Clear session number serial) desk moment = cond (has_ended desk serial && is_left desk) (emptied desk) desk
 
--- the plan can be carried out at this desk: a game needs a vacant one, players who are apart and as many as its variant
--- has, and no partners, since nobody has one yet
+-- a game can start at this desk: it is vacant, no two of the players are one, and there are as many as its variant has;
+-- nobody has a partner yet
+pub record CanStartAt (desk : DeskState) (terms : Terms) (seats : Seats) : Type 0 where
+  pub vacant : desk.game ≡ None
+  pub sessions : AllDiffer (sessions_of seats)
+  pub names : AllDiffer (names_of seats)
+  pub pairs : HasPairsFor terms seats
+  pub one_board : terms.variant ≢ Bughouse
+
+-- the plan can be carried out at this desk
 abbrev pub CanCarry : Plan → DeskState → Type 0
-CanCarry (Start number serial terms seats) desk =
-    (desk.game ≡ None) × AreApart seats × FitsVariant terms.variant seats × (needs_partners terms.variant ≡ false)
+CanCarry (Start number serial terms seats) desk = CanStartAt desk terms seats
 CanCarry (Clear session number serial) desk = Unit {0}
 
 -- the plan starts a game, for which memory is taken; a Clear takes none

@@ -5,14 +5,16 @@ use Rattle.lobby_state.specs.Desks.{desks as desk_count}
 use Rattle.lobby_state.specs.Lobby.{LobbyState}
 use Rattle.lobby_state.specs.WellFormed.{IsWellFormed}
 use Rattle.linked_desk.specs.Desk.{DeskState}
+use Rattle.linked_desk.specs.Sound.{HasSoundGame}
 use Rattle.one_server.specs.declared.part.Part.{Part}
 use Rattle.one_server.specs.declared.part.Part.TheVariants.{Lobby as TheLobby, Desk as ADesk}
 use Rattle.one_server.specs.Desks.{game_of, vacant}
 
--- the desk has its number, and the lobby lists for it the game that it is in use for: none exactly where the desk is
--- vacant, and else that serial, those terms and those seats
+-- the desk has its number and its game is sound, and the lobby lists for it the game that it is in use for: none exactly
+-- where the desk is vacant, and else that serial, those terms and those seats
 pub record IsListed (lobby : LobbyState) (number : ℕ) (desk : DeskState) : Type 0 where
   pub numbered : desk.number ≡ number
+  pub sound : HasSoundGame desk
   pub listed : slice_get lobby.games (number - 1) ≡ Some (game_of desk)
 
 -- the part stands at its place: the lobby first, and then the desks
@@ -37,11 +39,9 @@ abbrev pub vacant_from : ℕ → ℕ → List DeskState
 vacant_from number zero = []
 vacant_from number (suc more) = vacant number ∷ vacant_from (number + 1) more
 
--- a lobby with which a server may open: well-formed, without a member and without a desk in use
+-- a lobby with which a server may open: without a member and without a desk in use
 pub record IsOpening (lobby : LobbyState) : Type 0 where
-  pub formed : IsWellFormed lobby
   pub nobody : lobby.members ≡ []
-  pub nothing : lobby.challenges ≡ []
   pub no_game : lobby.games ≡ replicate desk_count None
 
 -- the opening state: a lobby, and 128 vacant desks

@@ -3,8 +3,9 @@ ghost use Rattle.std.specs.Prelude.{◌≡◌, ◌≤◌, ◌-◌, ◌^◌, IfOk
 ghost use Rattle.histories.specs.Core.{reply, after};
 ghost use Rattle.linked_desk.specs.Acts.{desk_answer, desk_after};
 ghost use Rattle.linked_desk.specs.Desk.{DeskState};
-ghost use Rattle.lobby_state.specs.Acts.{IsDesk, NamesDesk, desk_of};
-ghost use Rattle.lobby_state.specs.Lobby.{desks as desk_count};
+ghost use Rattle.lobby_state.specs.Desks.{IsDesk, desks as desk_count};
+ghost use Rattle.lobby_state.specs.Planned.{IsPlanned};
+ghost use Rattle.lobby_state.specs.Plans.{NamesDesk};
 ghost use Rattle.one_server.specs.declared.act.Act.TheVariants.{Pair};
 ghost use Rattle.one_server.specs.Acts.{IsEvent, desk_reply};
 ghost use Rattle.one_server.specs.House.{house};
@@ -12,7 +13,7 @@ ghost use Rattle.one_server.specs.Plans.{CanCarry, plan_reply, plan_lobby, plan_
 ghost use Rattle.one_server.specs.Whole.{IsWhole, parts_of};
 
 use crate::act::{Act, Timed};
-use crate::reply::Reply;
+use crate::reply::{PairReply, Reply};
 use crate::steps::{desk_step, lobby_step, pair_step};
 use collections::Listed;
 use linked_desk::{Desk, DeskAct};
@@ -67,7 +68,7 @@ fn step_at_desk(
     desk_step(desk, session, moment, serial, act)
 }
 
-/// Makes a pair act: what the lobby plans is carried out with the plan's desk.
+/// Makes a pair act: what the lobby plans is carried out with the plan's desk, and nothing is done where it has none.
 fn planned_step(
     alloc: Global,
     lobby: &mut Lobby,
@@ -92,41 +93,36 @@ fn planned_step(
         Ok(plan) => plan,
         Err(cause) => return Ok(Reply::Refused(cause)),
     };
-    carry_out(alloc, lobby, desks, moment, &plan)
+    match plan.desk() {
+        Some(number) => carry_out(alloc, lobby, desks, moment, number, &plan),
+        None => Ok(Reply::Pair(PairReply::Kept)),
+    }
 }
 
-/// Carries out a plan with its desk.
+/// Carries out a plan with its desk, the one of that number.
 fn carry_out(
     alloc: Global,
     lobby: &mut Lobby,
     desks: &mut Listed<Desk>,
     moment: u64,
+    number: u8,
     plan: &Plan,
 ) -> Result<Reply, NoMemory>
     requires moment { moment ≤ 2 ^ 48 }
-    requires number { IsDesk (desk_of plan.now) }
+    requires number { IsDesk number }
+    requires planned { IsPlanned lobby.old plan.now }
     requires count { length desks.old ≡ desk_count }
-    requires ready { (desk : DeskState) → slice_get desks.old (desk_of plan.now - 1) ≡ Some desk
+    requires ready { (desk : DeskState) → slice_get desks.old (number - 1) ≡ Some desk
         → CanCarry plan.now desk }
-    ensures reply { (desk : DeskState) → slice_get desks.old (desk_of plan.now - 1) ≡ Some desk
+    ensures reply { (desk : DeskState) → slice_get desks.old (number - 1) ≡ Some desk
         → IfOk result (λ r. r ≡ Reply.Pair (plan_reply plan.now desk)) }
-    ensures lobby { (desk : DeskState) → slice_get desks.old (desk_of plan.now - 1) ≡ Some desk
+    ensures lobby { (desk : DeskState) → slice_get desks.old (number - 1) ≡ Some desk
         → OnOk result (lobby.new ≡ plan_lobby lobby.old plan.now desk) }
-    ensures desks { (desk : DeskState) → slice_get desks.old (desk_of plan.now - 1) ≡ Some desk
-        → OnOk result (desks.new ≡ slice_set desks.old (desk_of plan.now - 1) (plan_desk plan.now desk moment)) }
+    ensures desks { (desk : DeskState) → slice_get desks.old (number - 1) ≡ Some desk
+        → OnOk result (desks.new ≡ slice_set desks.old (number - 1) (plan_desk plan.now desk moment)) }
     ensures err_lobby { OnErr result (lobby.new ≡ lobby.old) }
     ensures err_desks { OnErr result (desks.new ≡ desks.old) }
 {
-    let desk = desks.item_mut(desk_of(plan) as usize - 1);
+    let desk = desks.item_mut(number as usize - 1);
     pair_step(alloc, lobby, desk, moment, plan)
-}
-
-/// The desk of a plan.
-pub(crate) fn desk_of(plan: &Plan) -> u8
-    ensures { result ≡ desk_of plan.now }
-{
-    match plan {
-        Plan::Seat { desk, .. } => *desk,
-        Plan::Clear { desk, .. } => *desk,
-    }
 }

@@ -1,14 +1,13 @@
 //! Copies of what an act will answer, made before the act, so that want of memory for them changes nothing.
 ghost use Rattle.std.specs.Prelude.{◌≡◌, IfOk, length};
-ghost use Rattle.lobby_state.specs.Lobby.{desks as desk_count};
+ghost use Rattle.lobby_state.specs.Desks.{desks as desk_count};
 ghost use Rattle.one_server.specs.Acts.{FitsAct};
-ghost use Rattle.one_server.specs.Copies.{AreOf, HasItems, HasLines, LinesFor, ItemsFor};
+ghost use Rattle.one_server.specs.Copies.{AreOf, LinesFor, ItemsFor};
 
 use crate::act::Act;
 use crate::reply::Reply;
-use fics_words::Duplicate;
-use linked_desk::{Desk, DeskAct, DeskReply, Item, ItemList};
-use lobby_state::{Lobby, LobbyAct, LobbyReply};
+use linked_desk::{Desk, ItemList};
+use lobby_state::Lobby;
 use memory::NoMemory;
 use std::alloc::Global;
 use style12_writer::LineList;
@@ -46,37 +45,10 @@ impl Copies {
     {
         match reply {
             Reply::Refused(cause) => Reply::Refused(*cause),
-            Reply::Lobby(answer) => Reply::Lobby(lobby_twin(answer, self.lines)),
-            Reply::Desk(answer) => Reply::Desk(desk_twin(answer, self.items)),
+            Reply::Lobby(answer) => Reply::Lobby(answer.twin(self.lines)),
+            Reply::Desk(answer) => Reply::Desk(answer.twin(self.items)),
             Reply::Pair(answer) => Reply::Pair(*answer),
         }
-    }
-}
-
-/// A reply of the lobby equal to this one, made of a copy of its lines.
-fn lobby_twin(reply: &LobbyReply, lines: LineList) -> LobbyReply
-    requires { HasLines lines reply.now }
-    ensures { result ≡ reply.now }
-{
-    match reply {
-        LobbyReply::Done => LobbyReply::Done,
-        LobbyReply::Entered(name) => LobbyReply::Entered(*name),
-        LobbyReply::Places(places) => LobbyReply::Places(*places),
-        LobbyReply::Waiting { places, .. } => LobbyReply::Waiting {
-            lines,
-            places: *places,
-        },
-    }
-}
-
-/// A reply of a desk equal to this one, made of a copy of its items.
-fn desk_twin(reply: &DeskReply, items: ItemList) -> DeskReply
-    requires { HasItems items reply.now }
-    ensures { result ≡ reply.now }
-{
-    match reply {
-        DeskReply::Done => DeskReply::Done,
-        DeskReply::Items { over, .. } => DeskReply::Items { items, over: *over },
     }
 }
 
@@ -85,7 +57,7 @@ fn lines_ahead(alloc: Global, lobby: &Lobby, session: u32, act: &Act) -> Result<
     ensures { IfOk result (λ lines. LinesFor lobby.now session act.now lines) }
 {
     match act {
-        Act::Lobby(LobbyAct::Fetch) => lobby.waiting_copy(session),
+        Act::Lobby(act) => lobby.lines_ahead(session, act),
         _ => Ok(LineList::new(alloc)),
     }
 }
@@ -97,25 +69,9 @@ fn items_ahead(alloc: Global, desks: &[Desk], session: u32, act: &Act) -> Result
     ensures { IfOk result (λ items. ItemsFor desks.now session act.now items) }
 {
     match act {
-        Act::Desk {
-            desk,
-            act: DeskAct::Fetch,
-            ..
-        } => {
-            let desk = &desks[*desk as usize - 1];
-            copied(alloc, desk.ahead(session))
+        Act::Desk { desk, serial, act } => {
+            desks[*desk as usize - 1].items_ahead(alloc, session, *serial, act)
         }
         _ => Ok(ItemList::new(alloc)),
     }
-}
-
-/// Copies of items.
-fn copied(alloc: Global, items: &[Item]) -> Result<ItemList, NoMemory>
-    ensures { IfOk result (λ list. list ≡ items.now) }
-{
-    let mut list = ItemList::new(alloc);
-    for item in items {
-        list.push(item.duplicate()?)?;
-    }
-    Ok(list)
 }

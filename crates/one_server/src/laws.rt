@@ -2,8 +2,9 @@
 ghost use Rattle.histories.specs.Laws.{LeavesOthers, RepliesLocally, ChangesLocally, RepliesCommute, StatesCommute};
 ghost use Rattle.lobby_state.specs.Lobby.{LobbyState, opening};
 ghost use Rattle.one_server.specs.House.{house};
-ghost use Rattle.one_server.specs.Laws.{HoldsInEachState, HoldsOnceOpened, LendsFirst, LendsSecond};
-ghost use Rattle.one_server.specs.Laws.{ListsItsDesks, NamesItsWinners, RepliesWell, SeatsItsMembers, ShowsItsLedgers};
+ghost use Rattle.lobby_state.specs.WellFormed.{IsWellFormed};
+ghost use Rattle.one_server.specs.Laws.{HoldsInEachState, KeepsTrueScores, LendsFirst, LendsSecond};
+ghost use Rattle.one_server.specs.Laws.{ListsItsDesks, NamesItsWinners, RepliesWell, SeatsItsMembers};
 ghost use Rattle.one_server.specs.Whole.{IsOpening, IsWhole, opened};
 
 use crate::house::House;
@@ -27,21 +28,22 @@ pub fn acts_keep_to_their_parts()
 /// under that serial.
 pub fn every_state_agrees()
     ensures empty { IsOpening opening }
-    ensures opens { (lobby : LobbyState) → IsOpening lobby → IsWhole (opened lobby) }
+    ensures opens { (lobby : LobbyState) → IsWellFormed lobby → IsOpening lobby → IsWhole (opened lobby) }
     ensures whole { HoldsInEachState IsWhole }
     ensures desks { HoldsInEachState ListsItsDesks }
     ensures members { HoldsInEachState SeatsItsMembers }
 {}
 
-/// In every state each clock is its ledger's sum.
-pub fn every_clock_is_its_ledger()
-    ensures { HoldsInEachState ShowsItsLedgers }
+/// In every state the list of each board is a true score of its game: each half-move was allowed after those before it,
+/// charges stand where and for what they should, and each clock is its ledger's sum.
+pub fn every_board_keeps_a_true_score()
+    ensures { HoldsInEachState KeepsTrueScores }
 {}
 
-/// In every state of a server that opened with vacant desks each end that the viewers of a desk are told names a winner
-/// exactly where somebody won, so its line can be written.
+/// In every state each end that the viewers of a desk are told names a winner exactly where somebody won, so its line can
+/// be written.
 pub fn every_end_names_its_winner()
-    ensures { HoldsOnceOpened NamesItsWinners }
+    ensures { HoldsInEachState NamesItsWinners }
 {}
 
 /// In a whole state the part that an act names is what `alone` asks for as its one part, and `together` as its first;
@@ -51,7 +53,7 @@ pub fn parts_are_lent()
     ensures second { LendsSecond }
 {}
 
-/// Each reply of a server that opened with vacant desks tells places at desks 1 to 128 alone, and of each end the
+/// Each reply of a legal history from a whole state tells places at desks 1 to 128 alone, and of each end the
 /// winner exactly where somebody won: whoever prints it needs no check of it.
 pub fn every_reply_can_be_told()
     ensures { RepliesWell }

@@ -6,9 +6,8 @@ ghost use Rattle.one_server.specs.House.{house_answer, house_one, house_two};
 ghost use Rattle.one_server.specs.Lent.{IsFirstOf, AreBothOf};
 
 use crate::act::{Act, Timed};
-use crate::act_step::desk_of;
 use crate::part::Part;
-use crate::reply::Reply;
+use crate::reply::{PairReply, Reply};
 use crate::steps::{desk_step, lobby_step, pair_step};
 use lobby_state::Lobby;
 use memory::NoMemory;
@@ -25,7 +24,7 @@ pub fn first_part(act: &Act) -> u8
     }
 }
 
-/// The number of an act's second part: the desk of the plan that the lobby has for a pair act.
+/// The number of an act's second part: the desk of the plan that the lobby has for a pair act, if it has one.
 pub fn second_part(lobby: &Lobby, session: u32, act: &Act) -> Option<u8>
     requires { FitsAct act.now }
     ensures { result ≡ second_part (TheLobby lobby.now) session act.now }
@@ -34,7 +33,7 @@ pub fn second_part(lobby: &Lobby, session: u32, act: &Act) -> Option<u8>
         return None;
     };
     match lobby.plan(session, act) {
-        Ok(plan) => Some(desk_of(&plan)),
+        Ok(plan) => plan.desk(),
         Err(_) => None,
     }
 }
@@ -55,7 +54,7 @@ pub fn alone(one: &mut Part, session: u32, timed: &Timed) -> Result<Reply, NoMem
             Act::Lobby(act) => lobby_step(lobby, session, timed.moment, act),
             Act::Pair(act) => match lobby.plan(session, act) {
                 Err(cause) => Ok(Reply::Refused(cause)),
-                Ok(_) => unreachable!(),
+                Ok(_) => Ok(Reply::Pair(PairReply::Kept)),
             },
             Act::Desk { .. } => unreachable!(),
         },

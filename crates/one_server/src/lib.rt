@@ -23,7 +23,7 @@ mod steps;
 pub use act::{Act, Timed};
 pub use house::House;
 pub use laws::{
-    acts_keep_to_their_parts, every_clock_is_its_ledger, every_end_names_its_winner,
+    acts_keep_to_their_parts, every_board_keeps_a_true_score, every_end_names_its_winner,
     every_reply_can_be_told, every_state_agrees, parts_are_lent,
 };
 pub use lent::{alone, first_part, second_part, together};

@@ -1,7 +1,6 @@
 //! The server of one thread.
 ghost use Rattle.std.specs.Prelude.{◌≡◌, ◌≤◌, ◌++◌, ◌∷◌, [], Some, IfOk, OnErr, slice_get};
-ghost use Rattle.lobby_state.specs.Acts.{IsDesk};
-ghost use Rattle.lobby_state.specs.Lobby.{desks as desk_count};
+ghost use Rattle.lobby_state.specs.Desks.{IsDesk, desks as desk_count};
 ghost use Rattle.one_server.specs.Whole.{vacant_from};
 
 use crate::act::{Act, Timed};
@@ -48,11 +47,13 @@ impl OneServer {
     ghost use Rattle.one_server.specs.Server.{parts_in};
     ghost use Rattle.one_server.specs.Whole.{IsOpening, IsWhole, opened};
 
-    /// A server that opens with this lobby and vacant desks. It isn't made for want of memory alone.
+    /// A server that opens with this lobby, which has no member and no desk in use, and with vacant desks. It isn't made
+    /// for want of memory alone.
     pub fn new(alloc: Global, lobby: Lobby) -> Result<OneServer, NoMemory>
         requires { IsOpening lobby }
         ensures { IfOk result (λ server. server ≡ record { opening = opened lobby; log = [] }) }
     {
+        lobby.is_well_formed();
         let desks = vacant_desks(alloc)?;
         Ok(OneServer {
             alloc,

@@ -1,7 +1,8 @@
 //! The three kinds of step: on the lobby alone, on a desk alone, and on both.
-ghost use Rattle.std.specs.Prelude.{◌≡◌, ◌≤◌, ◌^◌, IfOk, IsOk, OnOk, OnErr, false};
-ghost use Rattle.linked_desk.specs.Acts.{desk_answer, desk_after, TakesMemory};
-ghost use Rattle.lobby_state.specs.Acts.{IsDesk, lobby_answer, lobby_after, desk_of, takes_memory};
+ghost use Rattle.std.specs.Prelude.{◌≡◌, ◌≤◌, ◌^◌, IfOk, IsOk, OnOk, OnErr, true};
+ghost use Rattle.linked_desk.specs.Acts.{desk_answer, desk_after, needs_memory};
+ghost use Rattle.lobby_state.specs.Acts.{LobbyNeedsNoMemory, lobby_answer, lobby_after};
+ghost use Rattle.lobby_state.specs.Planned.{IsPlanned};
 ghost use Rattle.one_server.specs.Acts.{lobby_reply, desk_reply};
 ghost use Rattle.one_server.specs.Desks.{has_ended, is_left};
 ghost use Rattle.one_server.specs.Plans.{CanCarry, StartsGame, plan_reply, plan_lobby, plan_desk};
@@ -13,7 +14,7 @@ use lobby_state::{Lobby, LobbyAct, Plan};
 use memory::NoMemory;
 use std::alloc::Global;
 
-/// Makes an act that needs the lobby alone. Want of memory, which Enter and Match alone can meet, changes nothing.
+/// Makes an act that needs the lobby alone. Want of memory changes nothing, and acts that need none don't meet it.
 pub fn lobby_step(
     lobby: &mut Lobby,
     session: u32,
@@ -23,7 +24,7 @@ pub fn lobby_step(
     ensures reply { IfOk result (λ reply. reply ≡ lobby_reply (lobby_answer lobby.old session act.now)) }
     ensures after { OnOk result (lobby.new ≡ lobby_after lobby.old session act.now) }
     ensures err { OnErr result (lobby.new ≡ lobby.old) }
-    ensures sure { takes_memory act.now ≡ false → IsOk result }
+    ensures sure { LobbyNeedsNoMemory act.now → IsOk result }
 {
     match lobby.act(session, moment, act) {
         Ok(reply) => Ok(Reply::Lobby(reply)),
@@ -32,8 +33,8 @@ pub fn lobby_step(
     }
 }
 
-/// Makes an act at the game of that serial that needs its desk alone. Want of memory, which a move and a fetch
-/// alone can meet, changes nothing.
+/// Makes an act at the game of that serial that needs its desk alone. Want of memory, which only acts that tell boards or
+/// items can meet, changes nothing.
 pub fn desk_step(
     desk: &mut Desk,
     session: u32,
@@ -45,7 +46,7 @@ pub fn desk_step(
     ensures reply { IfOk result (λ reply. reply ≡ desk_reply (desk_answer desk.old session moment serial act.now)) }
     ensures after { OnOk result (desk.new ≡ desk_after desk.old session moment serial act.now) }
     ensures err { OnErr result (desk.new ≡ desk.old) }
-    ensures memory { OnErr result (TakesMemory act.now) }
+    ensures memory { OnErr result (needs_memory act.now ≡ true) }
 {
     match desk.act(session, moment, serial, act) {
         Ok(reply) => Ok(Reply::Desk(reply)),
@@ -64,7 +65,7 @@ pub fn pair_step(
     plan: &Plan,
 ) -> Result<Reply, NoMemory>
     requires moment { moment ≤ 2 ^ 48 }
-    requires number { IsDesk (desk_of plan.now) }
+    requires planned { IsPlanned lobby.old plan.now }
     requires ready { CanCarry plan.now desk.old }
     ensures reply { IfOk result (λ reply. reply ≡ Reply.Pair (plan_reply plan.now desk.old)) }
     ensures lobby { OnOk result (lobby.new ≡ plan_lobby lobby.old plan.now desk.old) }
@@ -74,13 +75,13 @@ pub fn pair_step(
     ensures memory { OnErr result (StartsGame plan.now) }
 {
     match plan {
-        Plan::Seat {
+        Plan::Start {
             serial,
             terms,
             seats,
             ..
         } => {
-            desk.seat(alloc, *serial, *terms, seats.white, seats.black, moment)?;
+            desk.start(alloc, *serial, *terms, seats, moment)?;
             lobby.commit(plan, true);
             Ok(Reply::Pair(PairReply::Started))
         }

@@ -2,7 +2,8 @@ use Rattle.std.proofs.Common.{◌≡◌, Some, List, set, ◌-◌, subst}
 use Rattle.histories.specs.Core.{reply, after}
 use Rattle.linked_desk.specs.Acts.{desk_answer, desk_after}
 use Rattle.linked_desk.specs.Desk.{DeskState}
-use Rattle.lobby_state.specs.Acts.{IsDesk, lobby_after}
+use Rattle.lobby_state.specs.Acts.{lobby_after}
+use Rattle.lobby_state.specs.Desks.{IsDesk}
 use Rattle.lobby_state.specs.Lobby.{LobbyState}
 use Rattle.one_server.specs.declared.act.Act.TheVariants.{Lobby, Desk, Pair}
 use Rattle.one_server.specs.declared.act.Timed.{Timed}

@@ -2,7 +2,7 @@ use Rattle.std.proofs.Common.{◌≡◌, ◌<◌, ◌-◌, Some, List, length, g
 use Rattle.std.proofs.lemmas.Option.{get_or_from_slice_get}
 use Rattle.histories.proofs.Parts.{get_within}
 use Rattle.linked_desk.specs.Desk.{DeskState}
-use Rattle.lobby_state.specs.Lobby.{desks as desk_count}
+use Rattle.lobby_state.specs.Desks.{desks as desk_count}
 use Rattle.one_server.specs.declared.part.Part.{Part}
 use Rattle.one_server.specs.Server.{parts_in}
 use Rattle.one_server.proofs.Stepping.{part_there, count_of_desks}

@@ -44,4 +44,4 @@ returns-clause-fits c =
     let timed : Timed = record { moment = c.args.moment; act = c.args.act } in
     let served = one_more (opened c.self.inside.opening.value) c.self.inside.log.items c.self.inside.lobby c.act_step.new.lobby c.self.inside.desks c.act_step.new.desks c.args.session timed c.in_ok-reply.reply
     c.self.invariant c.requires c.in_ok-reply.ensures.reply c.in_ok-reply.ensures.after in
-    last_reply c.self.inside.opening.value c.self.inside.log.items c.args.session timed c.in_ok-reply.reply served.whole served.legal
+    last_reply (opened c.self.inside.opening.value) c.self.inside.log.items c.args.session timed c.in_ok-reply.reply served.whole served.legal

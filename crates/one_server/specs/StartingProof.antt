@@ -1,0 +1,38 @@
+-- What a plan of a game asks of its desk: players who are apart, as many as the variant has, and nobody with a partner.
+use Rattle.std.proofs.Common.{◌≡◌, ◌≢◌, ℕ, ◌<◌, suc, false, List, [], ◌∷◌, length, map, slice_index_or, refl, arith, Option, None, Some}
+use Rattle.std.specs.List.{AllPairs}
+use Rattle.std.specs.Prelude.{◌↔◌, IsNone, IsSome}
+use Rattle.chess_model.specs.declared.variant.Variant.{Variant}
+use Rattle.chess_model.specs.declared.variant.Variant.TheVariants.{Chess, Crazyhouse, Bughouse}
+use Rattle.fics_words.specs.declared.seats.Seats.{Seats}
+use Rattle.linked_desk.specs.Seating.{AllDiffer, NoneIs}
+use Rattle.lobby_state.specs.Match.{needs_partners}
+use Rattle.lobby_state.specs.Planned.{FitsVariant}
+
+none_is : {X Y : Type 0} (f : X → Y) (x : X) (xs : List X) → ((j : ℕ) (d : X) → j < length xs → f x ≢ f (slice_index_or xs j d)) → NoneIs (f x) (map f xs)
+none_is f x [] h = tt
+none_is f x (y ∷ ys) h = (h 0 y (omega arith), none_is f x ys (λ j d l. h (suc j) d (omega (arith, l))))
+
+-- items of which no two have the same mark have marks that all differ
+pub all_differ : {X Y : Type 0} (f : X → Y) (xs : List X) → AllPairs (λ one another. f one ≢ f another) xs → AllDiffer (map f xs)
+all_differ f [] h = tt
+all_differ f (x ∷ xs) h = (
+  none_is f x xs (λ j d l. h 0 (suc j) d (omega arith) (omega (arith, l))),
+  all_differ f xs (λ i j d before l. h (suc i) (suc j) d (omega (arith, before)) (omega (arith, l))),
+)
+
+none_some : {X : Type 0} (o : Option X) → IsNone o → IsSome o → ⊥
+none_some None n s = cc
+none_some (Some x) n s = cc
+
+-- there is a second pair exactly for bughouse
+pub pairs_for : (variant : Variant) (seats : Seats) → FitsVariant variant seats → needs_partners variant ≡ false → IsSome seats.second ↔ (variant ≡ Bughouse)
+pairs_for Chess seats fits two = (λ some. absurd (none_some seats.second fits some), λ e. absurd cc)
+pairs_for Crazyhouse seats fits two = (λ some. absurd (none_some seats.second fits some), λ e. absurd cc)
+pairs_for Bughouse seats fits two = cc
+
+-- and where nobody needs a partner the game isn't bughouse
+pub not_bughouse : (variant : Variant) → needs_partners variant ≡ false → variant ≢ Bughouse
+not_bughouse Chess two = λ e. cc
+not_bughouse Crazyhouse two = λ e. cc
+not_bughouse Bughouse two = cc
