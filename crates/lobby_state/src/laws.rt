@@ -1,4 +1,4 @@
-//! What holds of every act, as calls that do nothing: each says by its contract what was proved of all acts.
+//! What holds of every lobby and of every act, as calls that do nothing: each says by its contract what was proved.
 ghost use Rattle.std.specs.Prelude.{◌≡◌, Ok};
 ghost use Rattle.lobby_state.specs.Acts.{lobby_effect};
 ghost use Rattle.lobby_state.specs.Keeps.{Keeps, KeepsPlan};
@@ -8,6 +8,13 @@ ghost use Rattle.lobby_state.specs.WellFormed.{IsWellFormed};
 
 use crate::acts::{LobbyAct, PairAct, Plan};
 use crate::lobby::Lobby;
+
+/// Every lobby is well-formed.
+pub fn lobbies_are_well_formed(lobby: &Lobby)
+    ensures { IsWellFormed lobby.now }
+{
+    let _ = &lobby.register;
+}
 
 /// Each lobby act, made or refused, leaves a lobby well-formed, starts and ends no game, and tells of desks alone.
 pub fn acts_keep(lobby: &Lobby, session: u32, act: &LobbyAct)

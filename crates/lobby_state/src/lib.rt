@@ -31,7 +31,7 @@ mod where_is;
 pub use acts::{LobbyAct, LobbyReply, PairAct, Plan};
 pub use challenge::Challenge;
 pub use game::{DESKS, Game};
-pub use laws::{acts_keep, plans_keep};
+pub use laws::{acts_keep, lobbies_are_well_formed, plans_keep};
 pub use lobby::Lobby;
 pub use member::Member;
 pub use place::Place;

@@ -6,7 +6,6 @@ ghost use Rattle.lobby_state.specs.Desks.{IsDesk};
 ghost use Rattle.lobby_state.specs.Lobby.{game_at, opening, places_of, waiting_of};
 ghost use Rattle.lobby_state.specs.Planned.{IsPlanned};
 ghost use Rattle.lobby_state.specs.Plans.{NamesDesk, committed, desk_of, plan_of};
-ghost use Rattle.lobby_state.specs.WellFormed.{IsWellFormed};
 
 use crate::acts::{LobbyAct, LobbyReply, PairAct, Plan};
 use crate::game::Game;
@@ -20,7 +19,7 @@ use std::marker::Model;
 /// Who is in the hall, which challenges stand, and which desks are in use. Every lobby is well-formed.
 #[derive(Debug, Drop)]
 pub struct Lobby {
-    register: Register,
+    pub(crate) register: Register,
 }
 
 impl Model for Lobby {
@@ -42,13 +41,6 @@ impl Lobby {
         Ok(Lobby {
             register: Register::new(alloc)?,
         })
-    }
-
-    /// Does nothing: its contract says what holds of every lobby.
-    pub fn is_well_formed(&self)
-        ensures { IsWellFormed self.now }
-    {
-        let _ = &self.register;
     }
 
     /// The places of the session: none where it isn't a member.
