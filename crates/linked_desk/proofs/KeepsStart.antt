@@ -1,13 +1,9 @@
 -- A game that begins is sound.
-use Rattle.std.proofs.Common.{◌≡◌, ℕ, ◌*◌, ◌≤◌, List, [], ◌∷◌, length, map, Option, Some, None, All, refl, ap, arith}
-use Rattle.std.specs.Prelude.{IsSome}
+use Rattle.std.proofs.Common.{◌≡◌, ℕ, ◌*◌, ◌≤◌, List, [], ◌∷◌, length, map, All, refl, sym, ap, ◌∙◌, suc, arith}
 use Rattle.std.proofs.lemmas.List.Elements.{All-nil, All-cons, All-append}
 use Rattle.chess_model.specs.declared.variant.Terms.{Terms}
-use Rattle.chess_model.specs.declared.variant.Variant.{Variant}
-use Rattle.chess_model.specs.declared.variant.Variant.TheVariants.{Chess, Crazyhouse, Bughouse}
 use Rattle.fics_words.specs.declared.seats.Opponents.{Opponents}
 use Rattle.fics_words.specs.declared.seats.Seats.{Seats}
-use Rattle.fics_words.specs.Seats.{seat_list}
 use Rattle.game_board.specs.Board.{Board, new_board}
 use Rattle.game_board.specs.Scoresheet.{IsTrueScore}
 use Rattle.game_board.proofs.Scoresheet.{IsTrueScore-new_board}
@@ -34,15 +30,9 @@ All-from : (P : Board → Type 0) (numbers : List ℕ) (terms : Terms) (moment :
 All-from P [] terms moment h = All-nil P
 All-from P (n ∷ ns) terms moment h = All-cons P (new_board n terms moment) (boards_from ns terms moment) (h n) (All-from P ns terms moment h)
 
-seats_for : (variant : Variant) (first : Opponents) (second : Option Opponents) (terms : Terms) (moment : ℕ) →
-    (IsSome second → variant ≡ Bughouse) → (variant ≡ Bughouse → IsSome second) →
-    length (seat_list (record { first = first; second = second })) ≡ 2 * length (boards_from (board_numbers variant) terms moment)
-seats_for Chess first None terms moment h k = refl
-seats_for Chess first (Some more) terms moment h k = let wrong : Chess ≡ Bughouse = h refl in absurd cc
-seats_for Crazyhouse first None terms moment h k = refl
-seats_for Crazyhouse first (Some more) terms moment h k = let wrong : Crazyhouse ≡ Bughouse = h refl in absurd cc
-seats_for Bughouse first None terms moment h k = absurd (let wrong = k refl in cc)
-seats_for Bughouse first (Some more) terms moment h k = refl
+length_from : (numbers : List ℕ) (terms : Terms) (moment : ℕ) → length (boards_from numbers terms moment) ≡ length numbers
+length_from [] terms moment = refl
+length_from (n ∷ ns) terms moment = ap suc (length_from ns terms moment)
 
 names_opening : (desk : ℕ) (terms : Terms) (pairs : List Opponents) (boards : List Board) → All NamesWinner (opening_items desk terms pairs boards)
 names_opening desk terms pairs boards =
@@ -53,7 +43,7 @@ names_opening desk terms pairs boards =
 pub IsSound-opened : (desk serial : ℕ) (terms : Terms) (seats : Seats) (moment : ℕ) → HasPairsFor terms seats → IsSound (opened desk serial terms seats moment)
 IsSound-opened desk serial terms seats moment pairs = record {
   numbers = numbers_from (board_numbers terms.variant) terms moment;
-  seated = seats_for terms.variant seats.first seats.second terms moment pairs.0 pairs.1;
+  seated = pairs ∙ ap (λ n. 2 * n) (sym (length_from (board_numbers terms.variant) terms moment));
   terms = All-from (λ (b : Board). b.terms ≡ terms) (board_numbers terms.variant) terms moment (λ n. refl);
   scores = All-from IsTrueScore (board_numbers terms.variant) terms moment (λ n. IsTrueScore-new_board n terms moment);
   order = latest_from (board_numbers terms.variant) terms moment;

@@ -1,8 +1,7 @@
 -- How a game begins at a desk.
-use Rattle.std.specs.Prelude.{◌≡◌, ◌≢◌, ◌↔◌, ℕ, IsSome, [], ◌∷◌, ◌++◌, map, List, Some, None}
+use Rattle.std.specs.Prelude.{◌≡◌, ◌≢◌, ◌*◌, ℕ, [], ◌∷◌, ◌++◌, length, map, List, Some, None}
 use Rattle.fics_words.specs.Handle.{key_of}
 use Rattle.chess_model.specs.declared.variant.Terms.{Terms}
-use Rattle.chess_model.specs.declared.variant.Variant.TheVariants.{Bughouse}
 use Rattle.fics_words.specs.declared.player.Player.{Player}
 use Rattle.fics_words.specs.declared.seats.Opponents.{Opponents}
 use Rattle.fics_words.specs.declared.seats.Seats.{Seats}
@@ -12,7 +11,7 @@ use Rattle.style12_writer.specs.declared.item.Item.TheVariants as item
 use Rattle.style12_writer.specs.CreatedLine.{created_text}
 use Rattle.game_board.specs.Board.{Board}
 use Rattle.linked_desk.specs.declared.cursor.Cursor.{Cursor}
-use Rattle.linked_desk.specs.Boards.{new_boards}
+use Rattle.linked_desk.specs.Boards.{board_numbers, new_boards}
 use Rattle.linked_desk.specs.Desk.{GameState, DeskState, game_number}
 use Rattle.linked_desk.specs.Seats.{pairs_of}
 use Rattle.linked_desk.specs.Views.{view_of, each_board}
@@ -34,9 +33,9 @@ sessions_of seats = map (λ (p : Player). p.session) (seat_list seats)
 abbrev pub names_of : Seats → List (List ℕ)
 names_of seats = map (λ (p : Player). key_of p.name) (seat_list seats)
 
--- there is a second pair exactly where the game is bughouse
+-- two players sit at each board of the variant, so there is a second pair exactly for bughouse
 abbrev pub HasPairsFor : Terms → Seats → Type 0
-HasPairsFor terms seats = IsSome seats.second ↔ (terms.variant ≡ Bughouse)
+HasPairsFor terms seats = length (seat_list seats) ≡ 2 * length (board_numbers terms.variant)
 
 -- a viewer from the start of the feed
 abbrev pub from_start : Player → Cursor
