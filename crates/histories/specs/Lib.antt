@@ -1,3 +1,4 @@
 pub mod Core
 pub mod History
 pub mod Laws
+pub mod Running

@@ -9,7 +9,7 @@ use Rattle.turn_table.specs.Views.{In, AllOut, SecondOut, done, given, left_by, 
 use Rattle.turn_table.specs.Passes.{Committed}
 use Rattle.turn_table.proofs.Keeping.{dropped, left_in}
 use Rattle.turn_chain.specs.Lent.{IsFirst, AreBoth}
-use Rattle.turn_chain.specs.Chain.{fixed, Ran, Ready}
+use Rattle.turn_chain.specs.Chain.{fixed, HasRun, Ready}
 
 module _ {P A R : Type 0} (c : Core P A R) (v : View P A R) (a : A) where
   -- an act of one part
@@ -49,17 +49,17 @@ module _ {P A R : Type 0} (c : Core P A R) (v : View P A R) (a : A) where
           pub same_alone : fixed u ≡ fixed v
           same_alone = ap fixed back ∙ ap fixed told.view
 
-          pub ran_alone : (r : R) → r ≡ c.answer p None v.number a → Ran c v a r u
+          pub ran_alone : (r : R) → r ≡ c.answer p None v.number a → HasRun c v a r u
           ran_alone r e =
               let told_view : w ≡ done c v a p None w.seen = told.view in
-              let at_end : Ran c v a (c.answer p None v.number a) (given w k) = record {
+              let at_end : HasRun c v a (c.answer p None v.number a) (given w k) = record {
                 others = told.between;
                 ends = told.last;
                 legal = told.legal;
-                own = told.own;
+                own = sym told.own;
                 more = ap (λ (x : View P A R). x.made) told_view;
               } in
-              subst (λ x. Ran c v a x u) (sym e) (subst (Ran c v a (c.answer p None v.number a)) (sym back) at_end)
+              subst (λ x. HasRun c v a x u) (sym e) (subst (HasRun c v a (c.answer p None v.number a)) (sym back) at_end)
 
   -- an act of two parts
   module _ (law : Lawful c) (fits : c.fits a) (k : ℕ) (p : P) (s : ℕ) (q : P) (ready : Ready c v a ((s, q) ∷ (k, p) ∷ [])) (first : k ≡ c.first a) (second : c.second p v.number a ≡ Some s) where
@@ -127,13 +127,13 @@ module _ {P A R : Type 0} (c : Core P A R) (v : View P A R) (a : A) where
           pub same_both : fixed u ≡ fixed v
           same_both = ap fixed u_is ∙ ap fixed told.view
 
-          pub ran_both : (r : R) → r ≡ c.answer p (Some q) v.number a → Ran c v a r u
+          pub ran_both : (r : R) → r ≡ c.answer p (Some q) v.number a → HasRun c v a r u
           ran_both r e =
-              let at_end : Ran c v a (c.answer p (Some q) v.number a) (given (given w k) s) = record {
+              let at_end : HasRun c v a (c.answer p (Some q) v.number a) (given (given w k) s) = record {
                 others = told.between;
                 ends = told.last;
                 legal = told.legal;
-                own = told.own;
+                own = sym told.own;
                 more = ap (λ (x : View P A R). x.made) told.view;
               } in
-              subst (λ x. Ran c v a x u) (sym e) (subst (Ran c v a (c.answer p (Some q) v.number a)) (sym u_is) at_end)
+              subst (λ x. HasRun c v a x u) (sym e) (subst (HasRun c v a (c.answer p (Some q) v.number a)) (sym u_is) at_end)

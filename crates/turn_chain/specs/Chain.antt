@@ -2,7 +2,8 @@
 use Rattle.std.specs.Prelude.{◌≡◌, ℕ, List, [], ◌∷◌, ◌++◌, false, None, Some}
 use Rattle.histories.specs.declared.entry.Entry.{Entry}
 use Rattle.histories.specs.Core.{Core, Touches}
-use Rattle.histories.specs.History.{IsPrefix, calls_of, entry, state, Legal}
+use Rattle.histories.specs.History.{calls_of, state, Legal}
+use Rattle.histories.specs.Running.{Ran, Unmade}
 use Rattle.turn_table.specs.declared.view.View.{View}
 use Rattle.turn_table.specs.Views.{HoldsState}
 use Rattle.turn_chain.specs.declared.tried.Tried.{Tried}
@@ -14,22 +15,13 @@ module _ {P A R : Type 0} where
   fixed v = record v { seen = []; shorter = []; made = []; flight = None; committed = false; may = []; held = []; busy = [] }
 
 module _ {P A R : Type 0} (c : Core P A R) where
-  -- the act was made and got this reply: it is the last entry of what is seen, which begins with what was seen before and
-  -- is legal, and the pass's own entries there are one more than before
-  pub record Ran (v : View P A R) (a : A) (r : R) (w : View P A R) : Type 0 where
-    -- what others made meanwhile
-    pub others : List (Entry A R)
-    pub ends : w.seen ≡ (v.seen ++ others) ++ entry v.number a r ∷ []
-    pub legal : Legal c v.opening w.seen
-    pub own : calls_of v.number w.seen ≡ w.made
-    pub more : w.made ≡ v.made ++ entry v.number a r ∷ []
+  -- the act was made and got this reply
+  abbrev pub HasRun : View P A R → A → R → View P A R → Type 0
+  HasRun v a r w = Ran c v.opening v.number a r v.seen v.made w.seen w.made
 
-  -- no act was made: what is seen begins with what was seen before and is legal, without a new entry of the pass
-  pub record Unmade (v w : View P A R) : Type 0 where
-    pub begins : IsPrefix v.seen w.seen
-    pub legal : Legal c v.opening w.seen
-    pub own : calls_of v.number w.seen ≡ w.made
-    pub same : w.made ≡ v.made
+  -- no act was made
+  abbrev pub HasNotRun : View P A R → View P A R → Type 0
+  HasNotRun v w = Unmade c v.opening v.number v.seen v.made w.seen w.made
 
   -- the last try of a turn found the word of the part s at 1, and s is a part of the act, as what is seen says
   pub record FoundBusy (v : View P A R) (a : A) (s : ℕ) (w : View P A R) : Type 0 where
@@ -37,8 +29,8 @@ module _ {P A R : Type 0} (c : Core P A R) where
     pub last : w.busy ≡ v.busy ++ s ∷ []
 
   abbrev pub CameTo : View P A R → A → Tried A R → View P A R → Type 0
-  CameTo v a (Done r) w = Ran v a r w
-  CameTo v a (Busy s b) w = Unmade v w × (b ≡ a) × FoundBusy v a s w
+  CameTo v a (Done r) w = HasRun v a r w
+  CameTo v a (Busy s b) w = HasNotRun v w × (b ≡ a) × FoundBusy v a s w
 
   -- the act is in flight and not committed, and these of its parts are out, the one taken last first
   pub record Ready (v : View P A R) (a : A) (held : List (ℕ × P)) : Type 0 where

@@ -1,7 +1,7 @@
 //! One act of a pass, from its beginning to the parts given back.
 
 ghost use Rattle.std.specs.Prelude.{◌≡◌, [], IfOk, IsOk, OnErr};
-ghost use Rattle.turn_chain.specs.Chain.{fixed, Ran, Unmade, CameTo};
+ghost use Rattle.turn_chain.specs.Chain.{fixed, HasRun, HasNotRun, CameTo};
 
 use crate::gate::{Gate, tell};
 use crate::last::{self, Lent};
@@ -29,8 +29,8 @@ pub fn run<S: Steps, G: Gate, R: Wait>(
     ensures here { pass.new.home ≡ pass.old.home }
     ensures idle { pass.new.view.held ≡ [] }
     ensures same { fixed pass.new.view ≡ fixed pass.old.view }
-    ensures ok { IfOk result (λ reply. Ran S.core pass.old.view act.now reply pass.new.view) }
-    ensures err { OnErr result (Unmade S.core pass.old.view pass.new.view) }
+    ensures ok { IfOk result (λ reply. HasRun S.core pass.old.view act.now reply pass.new.view) }
+    ensures err { OnErr result (HasNotRun S.core pass.old.view pass.new.view) }
     ensures sure { S.sure act.now → IsOk result }
 {
     table.begin(pass, act);
@@ -71,7 +71,7 @@ pub fn try_run<S: Steps>(
     ensures idle { pass.new.view.held ≡ [] }
     ensures same { fixed pass.new.view ≡ fixed pass.old.view }
     ensures ok { IfOk result (λ tried. CameTo S.core pass.old.view act tried pass.new.view) }
-    ensures err { OnErr result (Unmade S.core pass.old.view pass.new.view) }
+    ensures err { OnErr result (HasNotRun S.core pass.old.view pass.new.view) }
     ensures sure { S.sure act → IsOk result }
 {
     table.begin(pass, &act);

@@ -1,7 +1,7 @@
 //! The second half of an act: its parts are out, it is made on them, and they go back.
 
 ghost use Rattle.std.specs.Prelude.{◌≡◌, [], ◌∷◌, None, Some, IfOk, IsOk, OnErr};
-ghost use Rattle.turn_chain.specs.Chain.{fixed, Ran, Unmade, Ready};
+ghost use Rattle.turn_chain.specs.Chain.{fixed, HasRun, HasNotRun, Ready};
 
 use crate::steps::Steps;
 use memory::NoMemory;
@@ -33,8 +33,8 @@ pub fn alone<S: Steps>(
     ensures here { pass.new.home ≡ pass.old.home }
     ensures idle { pass.new.view.held ≡ [] }
     ensures same { fixed pass.new.view ≡ fixed pass.old.view }
-    ensures ok { IfOk result (λ reply. Ran S.core pass.old.view act.now reply pass.new.view) }
-    ensures err { OnErr result (Unmade S.core pass.old.view pass.new.view) }
+    ensures ok { IfOk result (λ reply. HasRun S.core pass.old.view act.now reply pass.new.view) }
+    ensures err { OnErr result (HasNotRun S.core pass.old.view pass.new.view) }
     ensures sure { S.sure act.now → IsOk result }
 {
     let Lent { number, value } = one;
@@ -69,8 +69,8 @@ pub fn together<S: Steps>(
     ensures here { pass.new.home ≡ pass.old.home }
     ensures idle { pass.new.view.held ≡ [] }
     ensures same { fixed pass.new.view ≡ fixed pass.old.view }
-    ensures ok { IfOk result (λ reply. Ran S.core pass.old.view act.now reply pass.new.view) }
-    ensures err { OnErr result (Unmade S.core pass.old.view pass.new.view) }
+    ensures ok { IfOk result (λ reply. HasRun S.core pass.old.view act.now reply pass.new.view) }
+    ensures err { OnErr result (HasNotRun S.core pass.old.view pass.new.view) }
     ensures sure { S.sure act.now → IsOk result }
 {
     let Lent {
