@@ -181,7 +181,7 @@ carried_by lobby (Start own serial terms seats) number desk o listed planned =
       vacant = vacant_by desk (sym planned.is_free ∙ ap (λ n. slice_get lobby.games (n - 1)) same ∙ listed.listed);
       sessions = all_differ (λ p. p.session) (seat_list seats) planned.apart.sessions;
       names = all_differ (λ p. key_of p.name) (seat_list seats) planned.apart.handles;
-      pairs = pairs_for terms.variant seats planned.boards planned.for_two;
+      pairs = pairs_for terms.variant seats.first seats.second planned.boards planned.for_two;
       one_board = not_bughouse terms.variant planned.for_two;
     }
 carried_by lobby (Clear session own serial) number desk o listed planned = tt

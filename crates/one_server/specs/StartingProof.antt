@@ -1,10 +1,11 @@
 -- What a plan of a game asks of its desk: players who are apart, as many as the variant has, and nobody with a partner.
-use Rattle.std.proofs.Common.{◌≡◌, ◌≢◌, ℕ, ◌<◌, suc, false, List, [], ◌∷◌, length, map, slice_index_or, refl, arith, Option, None, Some}
+use Rattle.std.proofs.Common.{◌≡◌, ◌≢◌, ℕ, ◌<◌, ◌*◌, suc, false, List, [], ◌∷◌, length, map, slice_index_or, refl, arith, Option, None, Some}
 use Rattle.std.specs.List.{AllPairs}
-use Rattle.std.specs.Prelude.{◌↔◌, IsNone, IsSome}
 use Rattle.chess_model.specs.declared.variant.Variant.{Variant}
 use Rattle.chess_model.specs.declared.variant.Variant.TheVariants.{Chess, Crazyhouse, Bughouse}
-use Rattle.fics_words.specs.declared.seats.Seats.{Seats}
+use Rattle.fics_words.specs.declared.seats.Opponents.{Opponents}
+use Rattle.fics_words.specs.Seats.{seat_list}
+use Rattle.linked_desk.specs.Boards.{board_numbers}
 use Rattle.linked_desk.specs.Seating.{AllDiffer, NoneIs}
 use Rattle.lobby_state.specs.Match.{needs_partners}
 use Rattle.lobby_state.specs.Planned.{FitsVariant}
@@ -21,15 +22,14 @@ all_differ f (x ∷ xs) h = (
   all_differ f xs (λ i j d before l. h (suc i) (suc j) d (omega (arith, before)) (omega (arith, l))),
 )
 
-none_some : {X : Type 0} (o : Option X) → IsNone o → IsSome o → ⊥
-none_some None n s = cc
-none_some (Some x) n s = cc
-
--- there is a second pair exactly for bughouse
-pub pairs_for : (variant : Variant) (seats : Seats) → FitsVariant variant seats → needs_partners variant ≡ false → IsSome seats.second ↔ (variant ≡ Bughouse)
-pairs_for Chess seats fits two = (λ some. absurd (none_some seats.second fits some), λ e. absurd cc)
-pairs_for Crazyhouse seats fits two = (λ some. absurd (none_some seats.second fits some), λ e. absurd cc)
-pairs_for Bughouse seats fits two = cc
+-- two players sit at each board of the variant
+pub pairs_for : (variant : Variant) (first : Opponents) (second : Option Opponents) → FitsVariant variant (record { first = first; second = second }) → needs_partners variant ≡ false
+    → length (seat_list (record { first = first; second = second })) ≡ 2 * length (board_numbers variant)
+pairs_for Chess first None fits two = refl
+pairs_for Chess first (Some more) fits two = cc
+pairs_for Crazyhouse first None fits two = refl
+pairs_for Crazyhouse first (Some more) fits two = cc
+pairs_for Bughouse first second fits two = cc
 
 -- and where nobody needs a partner the game isn't bughouse
 pub not_bughouse : (variant : Variant) → needs_partners variant ≡ false → variant ≢ Bughouse

@@ -106,7 +106,7 @@ whole_both xs lobby other number desk new w e d formed games numbered sound =
       lobby = other;
       first = get_set_else front number 0 (ADesk new) (λ z. omega (arith, place.0)) ∙ get_set_same xs 0 (TheLobby other) (omega (arith, w.count));
       formed = formed;
-          places = λ at part h. elim (after_write front number at (ADesk new) part h) [
+      places = λ at part h. elim (after_write front number at (ADesk new) part h) [
         | inl here ↦ subst (IsInPlace other at) here.1 (subst (λ (n : ℕ). IsInPlace other n (ADesk new)) (sym here.0) (
           place.0,
           record {

@@ -10,7 +10,7 @@ use crate::reply::Reply;
 use collections::Listed;
 use histories::Entry;
 use linked_desk::Desk;
-use lobby_state::{DESKS, Lobby};
+use lobby_state::{DESKS, Lobby, lobbies_are_well_formed};
 use memory::NoMemory;
 use std::alloc::Global;
 use std::marker::Model;
@@ -53,7 +53,7 @@ impl OneServer {
         requires { IsOpening lobby }
         ensures { IfOk result (λ server. server ≡ record { opening = opened lobby; log = [] }) }
     {
-        lobby.is_well_formed();
+        lobbies_are_well_formed(&lobby);
         let desks = vacant_desks(alloc)?;
         Ok(OneServer {
             alloc,
