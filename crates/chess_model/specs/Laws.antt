@@ -8,7 +8,7 @@ use Rattle.chess_model.specs.declared.variant.Variant.{Variant}
 use Rattle.chess_model.specs.Placement.{Placement, man_at, opposite, unpromoted, king_home, rook_home, king_end, rook_end}
 use Rattle.chess_model.specs.Reach.{Strikes}
 use Rattle.chess_model.specs.Attacked.{IsAttacked}
-use Rattle.chess_model.specs.MoveList.{HalfMove, Played, is_pawn, place_after, taken, taking_square, landed, history}
+use Rattle.chess_model.specs.MoveList.{HalfMove, Ply, is_pawn, place_after, taken, taking_square, landed, history}
 use Rattle.chess_model.specs.RightsAndCounts.{right_stands, quiet_count}
 use Rattle.chess_model.specs.Census.{all_men}
 use Rattle.chess_model.specs.Position.{Position, position_after, Stands}
@@ -73,8 +73,8 @@ IsIrreversible P (Drop k to) = ⊤
 
 -- the quiet count is 0 after a pawn's move, a capture or a drop, and grows by 1 after any other half-move
 pub record CountsQuietMoves : Type 0 where
-  pub to_zero : (H : List Played) (x : Played) → IsIrreversible x.before x.what → quiet_count (H ++ x ∷ []) ≡ 0
-  pub one_more : (H : List Played) (x : Played) → ¬ IsIrreversible x.before x.what →
+  pub to_zero : (H : List Ply) (x : Ply) → IsIrreversible x.before x.what → quiet_count (H ++ x ∷ []) ≡ 0
+  pub one_more : (H : List Ply) (x : Ply) → ¬ IsIrreversible x.before x.what →
       quiet_count (H ++ x ∷ []) ≡ quiet_count H + 1
 
 -- an allowed half-move leaves no more men on the board and in its two hands than there were

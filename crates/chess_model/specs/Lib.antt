@@ -5,6 +5,7 @@ pub mod Census
 pub mod Examples
 pub mod Holdings
 pub mod Laws
+pub mod Men
 pub mod MoveList
 pub mod MoveText
 pub mod MoveTextFields
