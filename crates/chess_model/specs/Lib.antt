@@ -17,4 +17,6 @@ pub mod Position
 pub mod Reach
 pub mod RightsAndCounts
 pub mod Squares
+pub mod Tests
 pub mod VariantWord
+pub mod WordAnswer

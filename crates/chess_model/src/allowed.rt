@@ -1,6 +1,7 @@
 ghost use Rattle.std.specs.Prelude.{◌≡◌, ◌↔◌, IsTrue};
 ghost use Rattle.chess_model.specs.Placement.{man_at};
 ghost use Rattle.chess_model.specs.Allowed.{IsPromotion, HasPromotion, GoesAs, IsPlainMove, right_of, IsUnattackedWay, IsFreeFor, IsFreeWay, CanCastle, HasDrops, MayDropOn, CanDrop, IsMove, IsSafeAfter, Allowed};
+ghost use Rattle.chess_model.specs.Tests.{is_allowed};
 
 use crate::attack::{is_attacked, is_king_safe};
 use crate::changes::with_move;
@@ -199,7 +200,8 @@ impl PlainBoard {
 
     /// Whether the move is allowed (FIDE Laws, article 3; the rules of drops in crazyhouse and bughouse).
     pub fn allowed(&self, m: Move) -> bool
-        ensures { IsTrue result ↔ Allowed self.now m }
+        ensures rule { IsTrue result ↔ Allowed self.now m }
+        ensures value { result ≡ is_allowed self.now m }
     {
         self.is_allowed(&m)
     }

@@ -1,6 +1,6 @@
 //! What the definitions of the rules mean, in the words of the game. Each call does nothing: its contract is the law.
 
-ghost use Rattle.chess_model.specs.Laws.{EachSquareIsKnown, AttackGoesBothWays, RightsNeverComeBack, CountsQuietMoves, NoMenAreMade, LegalListsGrow};
+ghost use Rattle.chess_model.specs.Laws.{EachSquareIsKnown, AttackGoesBothWays, RightsNeverComeBack, CountsQuietMoves, NoMenAreMade, LegalListsGrow, TestsSayTheRules, WordsAreAnswered};
 ghost use Rattle.chess_model.specs.Examples.{WorkedExamples};
 
 /// What an allowed half-move does to each square: the man that moves or comes stands on its target, the squares that
@@ -33,6 +33,16 @@ pub fn no_men_are_made()
 /// A legal list of half-moves stays legal with an allowed half-move at its end and without its last one.
 pub fn legal_lists_grow()
     ensures { LegalListsGrow }
+{}
+
+/// The tests that compute which half-moves are allowed say what the relations say.
+pub fn tests_say_the_rules()
+    ensures { TestsSayTheRules }
+{}
+
+/// The answer to a word that computes is the one allowed match, or else the first refusal that applies.
+pub fn words_are_answered()
+    ensures { WordsAreAnswered }
 {}
 
 /// What the definitions give in positions that everybody knows.
