@@ -1,5 +1,5 @@
 -- What the definitions mean square by square and half-move by half-move, in the words of the game.
-use Rattle.std.specs.Prelude.{◌≡◌, ◌≢◌, ℕ, ◌+◌, ◌≤◌, ◌<◌, ◌⊎◌, ◌↔◌, ◌++◌, ◌∷◌, [], List, Bool, true, IsTrue, IsSome, MatchResult, length, Option, Some, None, ⊤}
+use Rattle.std.specs.Prelude.{◌≡◌, ◌≢◌, ℕ, ◌+◌, ◌≤◌, ◌<◌, ◌⊎◌, ◌↔◌, ◌++◌, ◌∷◌, [], List, Bool, true, IsTrue, IsSome, length, Option, Some, None, ⊤}
 use Rattle.chess_model.specs.declared.man.Colour.{Colour}
 use Rattle.chess_model.specs.declared.man.Kind.{Kind}
 use Rattle.chess_model.specs.declared.moves.Move.{Move}
@@ -14,9 +14,8 @@ use Rattle.chess_model.specs.RightsAndCounts.{right_stands, quiet_count}
 use Rattle.chess_model.specs.Census.{all_men}
 use Rattle.chess_model.specs.Position.{Position, position_after, Stands}
 use Rattle.chess_model.specs.Allowed.{IsMove, IsSafeAfter, Allowed, IsLegal}
-use Rattle.chess_model.specs.Answer.{IsAnswer, IsRefusal}
 use Rattle.chess_model.specs.Tests.{is_attacked, is_king_safe, is_move, is_safe_after, is_allowed}
-use Rattle.chess_model.specs.WordAnswer.{word_answer}
+use Rattle.chess_model.specs.WordAnswer.{word_answer, IsWordAnswer}
 
 -- after a plain move the target holds the man that moved or what it became, the origin and the square of a man
 -- taken en passant are empty, and every other square is as before
@@ -105,4 +104,4 @@ pub record TestsSayTheRules : Type 0 where
 
 -- the answer to a word that computes is the one allowed match, or else the first refusal that applies
 abbrev pub WordsAreAnswered : Type 0
-WordsAreAnswered = (p : Position) (w : MoveWord) → MatchResult (word_answer p w) (IsAnswer p w) (IsRefusal p w)
+WordsAreAnswered = (p : Position) (w : MoveWord) → IsWordAnswer p w (word_answer p w)

@@ -20,3 +20,4 @@ pub mod Squares
 pub mod Tests
 pub mod VariantWord
 pub mod WordAnswer
+pub mod WordExamples

@@ -1,6 +1,6 @@
 -- The answer to a written move word, as a function that computes: this server's own rules.
 -- `Answer` has the same as relations, and `WordsAreAnswered` of `Laws` says that they agree.
-use Rattle.std.specs.Prelude.{ℕ, Bool, true, false, ◌&&◌, not, nat_eq, nat_lt, is_none, is_some, List, [], ◌∷◌, length, map, Option, Some, None, Result, Ok, Err}
+use Rattle.std.specs.Prelude.{ℕ, Bool, true, false, ◌&&◌, not, nat_eq, nat_lt, is_none, is_some, List, [], ◌∷◌, length, map, Option, Some, None, Result, Ok, Err, MatchResult}
 use Rattle.std.specs.List.{list_any, filter}
 use Rattle.chess_model.specs.declared.man.Kind.{Kind}
 use Rattle.chess_model.specs.declared.moves.Move.{Move}
@@ -14,7 +14,7 @@ use Rattle.chess_model.specs.Men.{is_held_by, is_held_as}
 use Rattle.chess_model.specs.Placement.{man_at}
 use Rattle.chess_model.specs.Holdings.{count_in}
 use Rattle.chess_model.specs.Position.{Position, hand_of_side}
-use Rattle.chess_model.specs.Answer.{promotion_of, castling_of, coordinate_move}
+use Rattle.chess_model.specs.Answer.{promotion_of, castling_of, coordinate_move, IsAnswer, IsRefusal}
 use Rattle.chess_model.specs.Tests.{squares, has_drops, may_drop_on, is_move, is_safe_after, is_allowed}
 
 -- whether a number is the one that is given, if one is given
@@ -103,3 +103,7 @@ only_one (m ∷ n ∷ ms) r = Err r
 -- the answer to a word: the one allowed match, or else the first refusal that holds
 unfoldable pub word_answer : Position → MoveWord → Result Move Rejection
 word_answer p w = only_one (choices p w) (refusal p w)
+
+-- a move is the answer to a word, a refusal its refusal, by the relations of `Answer`
+abbrev pub IsWordAnswer : Position → MoveWord → Result Move Rejection → Type 0
+IsWordAnswer p w r = MatchResult r (IsAnswer p w) (IsRefusal p w)

@@ -2,6 +2,7 @@
 
 ghost use Rattle.chess_model.specs.Laws.{EachSquareIsKnown, AttackGoesBothWays, RightsNeverComeBack, CountsQuietMoves, NoMenAreMade, LegalListsGrow, TestsSayTheRules, WordsAreAnswered};
 ghost use Rattle.chess_model.specs.Examples.{WorkedExamples};
+ghost use Rattle.chess_model.specs.WordExamples.{AllowedExamples, WordExamples};
 
 /// What an allowed half-move does to each square: the man that moves or comes stands on its target, the squares that
 /// are left or taken on are empty, and every other square is as before.
@@ -48,4 +49,14 @@ pub fn words_are_answered()
 /// What the definitions give in positions that everybody knows.
 pub fn worked_examples()
     ensures { WorkedExamples }
+{}
+
+/// What is allowed and what is not: a pinned man, en passant, castling by the attacked squares, promotion.
+pub fn worked_moves()
+    ensures { AllowedExamples }
+{}
+
+/// What words stand for, and each refusal.
+pub fn worked_words()
+    ensures { WordExamples }
 {}
