@@ -109,7 +109,7 @@ pub record AllowedExamples : Type 0 where
   pub out_of_check : is_allowed (castling_past 60) (move.Castle false) ≡ false
   pub rook_attacked : is_allowed (castling_past 63) (move.Castle false) ≡ true
   pub long_past_b1 : is_allowed (castling_past 57) (move.Castle true) ≡ true
-  pub long_past_d1 : is_allowed (castling_past 59) (move.Castle true) ≡ false
+  pub long_past_d1 : is_allowed (castling_past 35) (move.Castle true) ≡ false
   pub black_castles : is_allowed black_long (move.Castle true) ≡ true
   pub black_rook : man_at (place_after Chess black_long.men Black (move.Castle true)) 59 ≡ unpromoted Black Rook
   -- promotion: to a queen and not to a king, and not without a kind
