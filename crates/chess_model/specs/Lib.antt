@@ -1,7 +1,9 @@
+pub mod AllMoves
 pub mod Allowed
 pub mod Answer
 pub mod Attacked
 pub mod Census
+pub mod Claims
 pub mod Examples
 pub mod Holdings
 pub mod Laws
@@ -15,6 +17,8 @@ pub mod Placement
 pub mod PlainBoardFields
 pub mod Position
 pub mod Reach
+pub mod Result
+pub mod ResultExamples
 pub mod RightsAndCounts
 pub mod Squares
 pub mod Tests

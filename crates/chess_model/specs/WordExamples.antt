@@ -1,4 +1,4 @@
--- Worked examples of allowed half-moves and of answers to words, in small positions.
+-- Worked examples: allowed half-moves and answers to words, in small positions.
 use Rattle.std.specs.Prelude.{◌≡◌, ℕ, Bool, true, false, List, [], ◌∷◌, replicate, Option, Some, None, Result, Ok, Err, slice_set}
 use Rattle.chess_model.specs.declared.man.Colour.{Colour}
 use Rattle.chess_model.specs.declared.man.Colour.TheVariants.{White, Black}

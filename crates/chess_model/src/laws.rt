@@ -3,6 +3,7 @@
 ghost use Rattle.chess_model.specs.Laws.{EachSquareIsKnown, AttackGoesBothWays, RightsNeverComeBack, CountsQuietMoves, NoMenAreMade, LegalListsGrow, TestsSayTheRules, WordsAreAnswered};
 ghost use Rattle.chess_model.specs.Examples.{WorkedExamples};
 ghost use Rattle.chess_model.specs.WordExamples.{AllowedExamples, WordExamples};
+ghost use Rattle.chess_model.specs.ResultExamples.{ResultExamples, ClaimExamples};
 
 /// What an allowed half-move does to each square: the man that moves or comes stands on its target, the squares that
 /// are left or taken on are empty, and every other square is as before.
@@ -59,4 +60,14 @@ pub fn worked_moves()
 /// What words stand for, and each refusal.
 pub fn worked_words()
     ensures { WordExamples }
+{}
+
+/// Mates, stalemates, and positions that are neither, in the three variants.
+pub fn worked_results()
+    ensures { ResultExamples }
+{}
+
+/// What stands for the third time, and which en passant squares count for it.
+pub fn worked_claims()
+    ensures { ClaimExamples }
 {}
