@@ -1,7 +1,7 @@
 -- What is among the elements of a list, and what tests over lists decide.
-use Rattle.std.proofs.Common.{arith, ◌≡◌, ℕ, ◌+◌, ◌-◌, ◌<◌, ◌≤◌, ◌⊎◌, inl, inr, suc, zero, List, [], ◌∷◌, map, Bool, true, false, ◌&&◌, ◌||◌, cond, length, nat_lt, refl, sym, ap, subst, ◌∙◌}
+use Rattle.std.proofs.Common.{arith, ◌≡◌, ℕ, ◌+◌, ◌-◌, ◌<◌, ◌≤◌, ◌⊎◌, inl, inr, suc, zero, List, [], ◌∷◌, map, Bool, true, false, ◌&&◌, ◌||◌, cond, length, nat_lt, ◌++◌, slice_index_or, refl, sym, ap, subst, ◌∙◌}
 use Rattle.std.specs.Bool.{Decides}
-use Rattle.std.specs.List.{list_all, list_any, filter, range_with_len}
+use Rattle.std.specs.List.{list_all, list_any, filter, flat_map, range_with_len, Contains}
 use Rattle.std.proofs.lemmas.Bool.Decides.{Decides-ltb}
 use Rattle.std.proofs.lemmas.Bool.{cases_eq, and_parts, and_from, or_left, or_right}
 
@@ -159,3 +159,43 @@ from_two (x ∷ y ∷ ys) t = omega arith
 
 pub Decides-two : {A : Type 0} (xs : List A) → Apart xs → Decides (nat_lt 1 (length xs)) (Two xs)
 Decides-two xs apart = (λ e. two_of xs apart ((Decides-ltb 1 (length xs)).0 e), λ t. (Decides-ltb 1 (length xs)).1 (from_two xs t))
+
+pub Among-append_left : {A : Type 0} (xs ys : List A) (x : A) → Among x xs → Among x (xs ++ ys)
+Among-append_left [] ys x a = absurd a
+Among-append_left (y ∷ xs) ys x (inl same) = inl same
+Among-append_left (y ∷ xs) ys x (inr later) = inr (Among-append_left xs ys x later)
+
+pub Among-append_right : {A : Type 0} (xs ys : List A) (x : A) → Among x ys → Among x (xs ++ ys)
+Among-append_right [] ys x a = a
+Among-append_right (y ∷ xs) ys x a = inr (Among-append_right xs ys x a)
+
+pub Among-appended : {A : Type 0} (xs ys : List A) (x : A) → Among x (xs ++ ys) → Among x xs ⊎ Among x ys
+Among-appended [] ys x a = inr a
+Among-appended (y ∷ xs) ys x (inl same) = inl (inl same)
+Among-appended (y ∷ xs) ys x (inr later) = elim (Among-appended xs ys x later) [ inl a ↦ inl (inr a) | inr a ↦ inr a ]
+
+pub Among-flat_map : {A B : Type 0} (f : A → List B) (xs : List A) (x : A) (y : B) → Among x xs → Among y (f x) → Among y (flat_map f xs)
+Among-flat_map f [] x y a h = absurd a
+Among-flat_map f (z ∷ xs) x y (inl same) h = Among-append_left (f z) (flat_map f xs) y (subst (λ w. Among y (f w)) same h)
+Among-flat_map f (z ∷ xs) x y (inr later) h = Among-append_right (f z) (flat_map f xs) y (Among-flat_map f xs x y later h)
+
+pub Among-flat_mapped : {A B : Type 0} (f : A → List B) (xs : List A) (y : B) → Among y (flat_map f xs) →
+    (x : A) × Among x xs × Among y (f x)
+Among-flat_mapped f [] y a = absurd a
+Among-flat_mapped f (z ∷ xs) y a = elim (Among-appended (f z) (flat_map f xs) y a) [
+  | inl here ↦ (z, inl refl, here)
+  | inr later ↦ let t = Among-flat_mapped f xs y later in (t.0, inr t.1, t.2)
+]
+
+pub Contains-among : {A : Type 0} (xs : List A) (x : A) → Among x xs → Contains xs x
+Contains-among [] x a = absurd a
+Contains-among (y ∷ ys) x (inl same) = (0, omega arith, sym same)
+Contains-among (y ∷ ys) x (inr later) = let t = Contains-among ys x later in (suc t.0, omega (arith, t.1), t.2)
+
+pub Among-contains : {A : Type 0} (xs : List A) (x : A) → Contains xs x → Among x xs
+Among-contains xs x c = at xs c.0 c.1 c.2
+  where
+    at : {A : Type 0} {x : A} (xs : List A) (k : ℕ) → k < length xs → slice_index_or xs k x ≡ x → Among x xs
+    at [] k h e = absurd (omega arith)
+    at (y ∷ ys) zero h e = inl (sym e)
+    at (y ∷ ys) (suc k) h e = inr (at ys k (omega arith) e)

@@ -64,7 +64,7 @@ Clear-back P a b line clear = record {
       ap (man_at P) (along-back a b k line back.2) ∙ clear.empty (distance a b - k) back.0 back.1;
 }
 
-Clear-near : (P : Placement) (a b : ℕ) → distance a b ≤ 1 → Clear P a b
+pub Clear-near : (P : Placement) (a b : ℕ) → distance a b ≤ 1 → Clear P a b
 Clear-near P a b near = record { empty = λ k some less. absurd (omega (arith, near, some, less)) }
 
 apart : (x y d : ℕ) → abs_diff x y ≡ d → (x + d ≡ y) ⊎ (y + d ≡ x)
@@ -157,7 +157,7 @@ Strikes-back P c k a b h = record {
   open_way = way-back P c k a b h.step h.open_way;
 }
 
-opposite-opposite : (c : Colour) → opposite (opposite c) ≡ c
+pub opposite-opposite : (c : Colour) → opposite (opposite c) ≡ c
 opposite-opposite White = refl
 opposite-opposite Black = refl
 

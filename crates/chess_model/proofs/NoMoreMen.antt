@@ -135,7 +135,7 @@ men_in-more : (h : Hand) (man : Option Man) →
 men_in-more h None = omega arith
 men_in-more h (Some m) = men_in-more_of h (handed_kind m)
 
-cond_and-false : (x : Bool) → cond {A = ℕ} (x && false) 1 0 ≡ 0
+pub cond_and-false : (x : Bool) → cond {A = ℕ} (x && false) 1 0 ≡ 0
 cond_and-false true = refl
 cond_and-false false = refl
 

@@ -1,5 +1,6 @@
 -- What the definitions mean square by square and half-move by half-move, in the words of the game.
-use Rattle.std.specs.Prelude.{◌≡◌, ◌≢◌, ℕ, ◌+◌, ◌≤◌, ◌<◌, ◌⊎◌, ◌↔◌, ◌++◌, ◌∷◌, [], List, Bool, true, IsTrue, IsSome, length, Option, Some, None, ⊤}
+use Rattle.std.specs.Prelude.{◌≡◌, ◌≢◌, ℕ, ◌+◌, ◌≤◌, ◌<◌, ◌⊎◌, ◌↔◌, ◌++◌, ◌∷◌, [], List, Bool, true, IsTrue, IsSome, length, map, Option, Some, None, ⊤}
+use Rattle.std.specs.List.{Contains, AllPairs, range_with_len}
 use Rattle.chess_model.specs.declared.man.Colour.{Colour}
 use Rattle.chess_model.specs.declared.man.Kind.{Kind}
 use Rattle.chess_model.specs.declared.moves.Move.{Move}
@@ -15,6 +16,8 @@ use Rattle.chess_model.specs.Census.{all_men}
 use Rattle.chess_model.specs.Position.{Position, position_after, Stands}
 use Rattle.chess_model.specs.Allowed.{IsMove, IsSafeAfter, Allowed, IsLegal}
 use Rattle.chess_model.specs.Tests.{is_attacked, is_king_safe, is_move, is_safe_after, is_allowed}
+use Rattle.chess_model.specs.AllMoves.{board_moves, drop_moves, allowed_moves, move_place}
+use Rattle.chess_model.specs.Result.{result, IsState}
 use Rattle.chess_model.specs.WordAnswer.{word_answer, IsWordAnswer}
 
 -- after a plain move the target holds the man that moved or what it became, the origin and the square of a man
@@ -105,3 +108,14 @@ pub record TestsSayTheRules : Type 0 where
 -- the answer to a word that computes is the one allowed match, or else the first refusal that applies
 abbrev pub WordsAreAnswered : Type 0
 WordsAreAnswered = (p : Position) (w : MoveWord) → IsWordAnswer p w (word_answer p w)
+
+-- the list of allowed half-moves has exactly these, in the order of their places; the places are those of the list of
+-- all half-moves that there could be
+pub record MovesAreListed : Type 0 where
+  pub exact : (p : Position) (m : Move) → Contains (allowed_moves p) m ↔ Allowed p m
+  pub ordered : (p : Position) → AllPairs (λ x y. move_place x < move_place y) (allowed_moves p)
+  pub places : map move_place (board_moves ++ drop_moves) ≡ range_with_len 0 20802
+
+-- the state that computes is the one that the words of the rules give
+abbrev pub StatesAreTold : Type 0
+StatesAreTold = (p : Position) → IsState p (result p)

@@ -8,6 +8,7 @@ pub mod Examples
 pub mod Holdings
 pub mod Laws
 pub mod Men
+pub mod LegalPositions
 pub mod MoveList
 pub mod MoveText
 pub mod MoveTextFields

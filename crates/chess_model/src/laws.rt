@@ -1,6 +1,7 @@
 //! What the definitions of the rules mean, in the words of the game. Each call does nothing: its contract is the law.
 
-ghost use Rattle.chess_model.specs.Laws.{EachSquareIsKnown, AttackGoesBothWays, RightsNeverComeBack, CountsQuietMoves, NoMenAreMade, LegalListsGrow, TestsSayTheRules, WordsAreAnswered};
+ghost use Rattle.chess_model.specs.Laws.{EachSquareIsKnown, AttackGoesBothWays, RightsNeverComeBack, CountsQuietMoves, NoMenAreMade, LegalListsGrow, TestsSayTheRules, WordsAreAnswered, MovesAreListed, StatesAreTold};
+ghost use Rattle.chess_model.specs.LegalPositions.{LegalPositionsAreSound};
 ghost use Rattle.chess_model.specs.Examples.{WorkedExamples};
 ghost use Rattle.chess_model.specs.WordExamples.{AllowedExamples, WordExamples};
 ghost use Rattle.chess_model.specs.ResultExamples.{ResultExamples, ClaimExamples};
@@ -45,6 +46,23 @@ pub fn tests_say_the_rules()
 /// The answer to a word that computes is the one allowed match, or else the first refusal that applies.
 pub fn words_are_answered()
     ensures { WordsAreAnswered }
+{}
+
+/// The list of allowed half-moves has exactly these, in their order.
+pub fn moves_are_listed()
+    ensures { MovesAreListed }
+{}
+
+/// Check, mate and stalemate are what the words of the rules say.
+pub fn states_are_told()
+    ensures { StatesAreTold }
+{}
+
+/// After every legal list of half-moves each colour has one king, the side that isn't to move isn't in check, king and
+/// rook stand on their homes where a right stands, and an enemy pawn stands behind the en passant square, which is
+/// empty. A capture takes an enemy man, and never a king.
+pub fn legal_positions_are_sound()
+    ensures { LegalPositionsAreSound }
 {}
 
 /// What the definitions give in positions that everybody knows.
