@@ -1,5 +1,6 @@
 pub mod Among
 pub mod Captures
+pub mod Censuses
 pub mod ChessLaws
 pub mod LegalLists
 pub mod MoreMoves
@@ -11,5 +12,6 @@ pub mod StandsAfter
 pub mod StatesTold
 pub mod TestsDecide
 pub mod Texts
+pub mod Turns
 pub mod Weights
 pub mod WordsDecide

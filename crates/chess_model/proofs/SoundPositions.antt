@@ -61,7 +61,7 @@ kings_steady c = record {
       sym (not_king (same_colour m.colour c) m.kind (λ king. let f : Pawn ≡ King = sym e ∙ king in cc));
 }
 
-king_not_held : (h : Hand) (k : Kind) → 0 < count_in h k → k ≢ King
+pub king_not_held : (h : Hand) (k : Kind) → 0 < count_in h k → k ≢ King
 king_not_held h Pawn held e = cc
 king_not_held h Knight held e = cc
 king_not_held h Bishop held e = cc
@@ -370,18 +370,25 @@ sound_start v = record {
   passed = λ s e. absurd (let f : None ≡ Some s = e in cc);
 }
 
+-- the first half-moves of a legal list are legal
+legal_front : (v : Variant) (done rest : List HalfMove) → IsLegal v (done ++ rest) → IsLegal v done
+legal_front v done rest legal = record {
+  each = λ before after x e.
+      legal.each before (after ++ rest) x (ap (λ (hs : List HalfMove). hs ++ rest) e ∙ append_assoc before (x ∷ after) rest);
+}
+
 -- a fact of the empty list that each allowed half-move keeps holds of each legal list
 legal_from : (v : Variant) (P : List HalfMove → Type 0) →
-    ((T : List HalfMove) (h : HalfMove) → Allowed (position_after v T h.board) h.what → P T → P (T ++ h ∷ [])) →
+    ((T : List HalfMove) (h : HalfMove) → IsLegal v T → Allowed (position_after v T h.board) h.what → P T → P (T ++ h ∷ [])) →
     (done rest : List HalfMove) → IsLegal v (done ++ rest) → P done → P (done ++ rest)
 legal_from v P step done [] legal p = subst P (sym (append-nil done)) p
 legal_from v P step done (h ∷ rest) legal p =
     let split : (done ++ h ∷ []) ++ rest ≡ done ++ h ∷ rest = append_assoc done (h ∷ []) rest in
-    let grown : P (done ++ h ∷ []) = step done h (legal.each done rest h refl) p in
+    let grown : P (done ++ h ∷ []) = step done h (legal_front v done (h ∷ rest) legal) (legal.each done rest h refl) p in
     subst P split (legal_from v P step (done ++ h ∷ []) rest (subst (IsLegal v) (sym split) legal) grown)
 
 pub legal_induction : (v : Variant) (P : List HalfMove → Type 0) → P [] →
-    ((T : List HalfMove) (h : HalfMove) → Allowed (position_after v T h.board) h.what → P T → P (T ++ h ∷ [])) →
+    ((T : List HalfMove) (h : HalfMove) → IsLegal v T → Allowed (position_after v T h.board) h.what → P T → P (T ++ h ∷ [])) →
     (T : List HalfMove) → IsLegal v T → P T
 legal_induction v P none step T legal = legal_from v P step [] T legal none
 
@@ -403,7 +410,7 @@ sound_step v b T h allowed s = elim (cases_eq h.board b) [
 pub sound_after : (v : Variant) (T : List HalfMove) (b : ℕ) → IsLegal v T → IsSound (position_after v T b)
 sound_after v T b legal =
     let s : IsSound (bare v (moves_of b T)) =
-    legal_induction v (λ U. IsSound (bare v (moves_of b U))) (sound_start v) (sound_step v b) T legal in
+    legal_induction v (λ U. IsSound (bare v (moves_of b U))) (sound_start v) (λ U h front allowed s. sound_step v b U h allowed s) T legal in
     record { squares = s.squares; one_king = s.one_king; other_safe = s.other_safe; rights = s.rights; passed = s.passed }
 
 pub legal_sound : LegalPositionsAreSound

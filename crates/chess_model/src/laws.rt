@@ -1,7 +1,8 @@
 //! What the definitions of the rules mean, in the words of the game. Each call does nothing: its contract is the law.
 
 ghost use Rattle.chess_model.specs.Laws.{EachSquareIsKnown, AttackGoesBothWays, RightsNeverComeBack, CountsQuietMoves, NoMenAreMade, LegalListsGrow, TestsSayTheRules, WordsAreAnswered, MovesAreListed, StatesAreTold};
-ghost use Rattle.chess_model.specs.LegalPositions.{LegalPositionsAreSound};
+ghost use Rattle.chess_model.specs.LegalPositions.{LegalPositionsAreSound, OtherBoardStays, ColoursTakeTurns, HomesAreInTheArray};
+ghost use Rattle.chess_model.specs.Census.{CensusStays};
 ghost use Rattle.chess_model.specs.Examples.{WorkedExamples};
 ghost use Rattle.chess_model.specs.WordExamples.{AllowedExamples, WordExamples};
 ghost use Rattle.chess_model.specs.ResultExamples.{ResultExamples, ClaimExamples};
@@ -63,6 +64,27 @@ pub fn states_are_told()
 /// empty. A capture takes an enemy man, and never a king.
 pub fn legal_positions_are_sound()
     ensures { LegalPositionsAreSound }
+{}
+
+/// A half-move of another board leaves this board alone, but for its hands.
+pub fn other_board_stays()
+    ensures { OtherBoardStays }
+{}
+
+/// Of the half-moves of a board, counted from 0, those with an even number are White's.
+pub fn colours_take_turns()
+    ensures { ColoursTakeTurns }
+{}
+
+/// The homes of kings and rooks are where these stand in the array.
+pub fn homes_are_in_the_array()
+    ensures { HomesAreInTheArray }
+{}
+
+/// No legal list of half-moves makes or loses a man, by colour and kind: in chess with the captured men, in crazyhouse
+/// with both hands, and in a pair of boards with the hands of both boards. A promoted man counts as a pawn.
+pub fn census_stays()
+    ensures { CensusStays }
 {}
 
 /// What the definitions give in positions that everybody knows.
