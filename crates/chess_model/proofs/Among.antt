@@ -1,5 +1,5 @@
 -- What is among the elements of a list, and what tests over lists decide.
-use Rattle.std.proofs.Common.{arith, ◌≡◌, ℕ, ◌+◌, ◌-◌, ◌<◌, ◌≤◌, ◌⊎◌, inl, inr, suc, zero, List, [], ◌∷◌, map, Bool, true, false, ◌&&◌, ◌||◌, cond, length, nat_lt, ◌++◌, slice_index_or, refl, sym, ap, subst, ◌∙◌}
+use Rattle.std.proofs.Common.{arith, ◌≡◌, ℕ, ◌+◌, ◌<◌, ◌≤◌, ◌⊎◌, inl, inr, suc, zero, List, [], ◌∷◌, map, Bool, true, false, ◌||◌, cond, length, nat_lt, ◌++◌, slice_index_or, refl, sym, ap, subst, ◌∙◌}
 use Rattle.std.specs.Bool.{Decides}
 use Rattle.std.specs.List.{list_all, list_any, filter, flat_map, range_with_len, Contains}
 use Rattle.std.proofs.lemmas.Bool.Decides.{Decides-ltb}

@@ -1,6 +1,6 @@
 -- What a plain move takes in a sound position: nothing, an enemy man that isn't a king, or the pawn that has just passed.
-use Rattle.std.proofs.Common.{arith, ◌≡◌, ◌≢◌, ℕ, ◌+◌, ◌-◌, ◌<◌, ◌≤◌, ◌⊎◌, inl, inr, Bool, true, false, ◌&&◌, not, cond, is_none, nat_eq, length, Option, Some, None, refl, sym, ap, subst, ◌∙◌}
-use Rattle.std.proofs.lemmas.Bool.{eqb-false, ne_eqb, eq-eqb}
+use Rattle.std.proofs.Common.{arith, ◌≡◌, ◌≢◌, ℕ, ◌<◌, ◌≤◌, inl, inr, Bool, true, false, ◌&&◌, not, cond, is_none, nat_eq, Option, Some, None, refl, sym, ap, subst, ◌∙◌}
+use Rattle.std.proofs.lemmas.Bool.{ne_eqb, eq-eqb}
 use Rattle.chess_model.specs.declared.man.Colour.{Colour}
 use Rattle.chess_model.specs.declared.man.Colour.TheVariants.{White, Black}
 use Rattle.chess_model.specs.declared.man.Kind.{Kind}
@@ -8,9 +8,9 @@ use Rattle.chess_model.specs.declared.man.Kind.TheVariants.{Pawn, Knight, Bishop
 use Rattle.chess_model.specs.declared.man.Man.{Man}
 use Rattle.chess_model.specs.declared.moves.Move.{Move}
 use Rattle.chess_model.specs.declared.moves.Move.TheVariants.{Plain, Castle, Drop}
-use Rattle.chess_model.specs.Squares.{file_of, rank_of, files_apart, ranks_apart, square_at, distance}
-use Rattle.chess_model.specs.Placement.{Placement, man_at, opposite, IsHeldBy, IsHeldAs}
-use Rattle.chess_model.specs.Reach.{IsForward, IsStep, Clear, IsOpen, Strikes, Advances, PawnTakes, Goes, Reaches}
+use Rattle.chess_model.specs.Squares.{file_of, rank_of, files_apart, square_at, distance}
+use Rattle.chess_model.specs.Placement.{man_at, opposite, IsHeldBy, IsHeldAs}
+use Rattle.chess_model.specs.Reach.{IsForward, IsStep, Strikes, Goes, Reaches}
 use Rattle.chess_model.specs.Attacked.{StrikesAs, IsAttacked, IsKingSafe}
 use Rattle.chess_model.specs.MoveList.{is_pawn_kind, is_pawn, is_en_passant, taking_square, taken}
 use Rattle.chess_model.specs.Position.{Position}

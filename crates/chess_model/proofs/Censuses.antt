@@ -1,5 +1,5 @@
 -- No legal list of half-moves makes or loses a man.
-use Rattle.std.proofs.Common.{arith, ◌≡◌, ◌≢◌, ℕ, ◌+◌, ◌-◌, ◌*◌, ◌<◌, ◌≤◌, ◌⊎◌, inl, inr, List, [], ◌∷◌, ◌++◌, Bool, true, false, ◌&&◌, cond, Option, Some, None, refl, sym, ap, subst, ◌∙◌}
+use Rattle.std.proofs.Common.{arith, ◌≡◌, ◌≢◌, ℕ, ◌+◌, ◌-◌, ◌*◌, ◌≤◌, inl, inr, List, [], ◌∷◌, ◌++◌, Bool, true, false, ◌&&◌, cond, Option, Some, None, refl, sym, ap, subst, ◌∙◌}
 use Rattle.std.specs.List.{sum_by, count_by}
 use Rattle.std.proofs.lemmas.Bool.{cases_eq, false_from_ne_true}
 use Rattle.std.proofs.lemmas.List.Sums.{sum_by-cons, sum_by_push}
@@ -15,7 +15,7 @@ use Rattle.chess_model.specs.declared.variant.Variant.TheVariants.{Chess, Crazyh
 use Rattle.chess_model.specs.Men.{same_colour, same_kind, is_held_by}
 use Rattle.chess_model.specs.Placement.{Placement, array_of}
 use Rattle.chess_model.specs.MoveList.{HalfMove, Ply, moves_of, settings, place_after, place_from, side_from, taken, history}
-use Rattle.chess_model.specs.Holdings.{handed_kind, hands_over, captures, loses, drops, other_board, gained, spent, count_in, hand_of, hand_after}
+use Rattle.chess_model.specs.Holdings.{hands_over, captures, loses, drops, other_board, gained, spent, count_in, hand_after}
 use Rattle.chess_model.specs.Position.{Position, position_after, hand_of_side}
 use Rattle.chess_model.specs.Allowed.{Allowed, IsLegal}
 use Rattle.chess_model.specs.LegalPositions.{IsSound, IsPrey}
@@ -214,8 +214,15 @@ captures_shared k [] = refl
 captures_shared k (x ∷ H) =
     let here = shared_capture x.by k (taken x.before x.what) in
     let rest = captures_shared k H in
-    omega (arith, here, rest, count_cons (captures White k) x H, count_cons (captures Black k) x H,
-    count_cons (loses White k) x H, count_cons (loses Black k) x H)
+    omega (
+      arith,
+      here,
+      rest,
+      count_cons (captures White k) x H,
+      count_cons (captures Black k) x H,
+      count_cons (loses White k) x H,
+      count_cons (loses Black k) x H,
+    )
 
 -- how many of a kind are in the hand that is what came less what went
 in_hand : (v : Variant) (T : List HalfMove) (b : ℕ) (c : Colour) (k : Kind) → (k ≡ King → gained v T b c k ≡ spent v T b c k) →
@@ -253,8 +260,16 @@ crazyhouse_kept T b k legal =
     λ c e. subst (λ j. gained Crazyhouse T b c j ≡ spent Crazyhouse T b c j) (sym e) (king_in_crazyhouse T b legal c) in
     let w = in_hand Crazyhouse T b White k (king White) in
     let x = in_hand Crazyhouse T b Black k (king Black) in
-    omega (arith, s.men White k, s.men Black k, captures_shared k (history Crazyhouse T b), w, x,
-    legal_paid Crazyhouse T legal b White k, legal_paid Crazyhouse T legal b Black k)
+    omega (
+      arith,
+      s.men White k,
+      s.men Black k,
+      captures_shared k (history Crazyhouse T b),
+      w,
+      x,
+      legal_paid Crazyhouse T legal b White k,
+      legal_paid Crazyhouse T legal b Black k,
+    )
 
 king_in_pair : (T : List HalfMove) (b : ℕ) → IsLegal Bughouse T → (c : Colour) → gained Bughouse T b c King ≡ spent Bughouse T b c King
 king_in_pair T b legal c =
@@ -267,9 +282,15 @@ pair_kept : (T : List HalfMove) (c : Colour) (k : Kind) → IsLegal Bughouse T �
 pair_kept T c k legal =
     let king : (b : ℕ) → k ≡ King → gained Bughouse T b c k ≡ spent Bughouse T b c k =
     λ b e. subst (λ j. gained Bughouse T b c j ≡ spent Bughouse T b c j) (sym e) (king_in_pair T b legal c) in
-    omega (arith, (balanced Bughouse 1 T legal).men c k, (balanced Bughouse 2 T legal).men c k,
-    in_hand Bughouse T 1 c k (king 1), in_hand Bughouse T 2 c k (king 2),
-    legal_paid Bughouse T legal 1 c k, legal_paid Bughouse T legal 2 c k)
+    omega (
+      arith,
+      (balanced Bughouse 1 T legal).men c k,
+      (balanced Bughouse 2 T legal).men c k,
+      in_hand Bughouse T 1 c k (king 1),
+      in_hand Bughouse T 2 c k (king 2),
+      legal_paid Bughouse T legal 1 c k,
+      legal_paid Bughouse T legal 2 c k,
+    )
 
 pub census_kept : CensusStays
 census_kept = record { chess = chess_kept; crazyhouse = crazyhouse_kept; pair = pair_kept }

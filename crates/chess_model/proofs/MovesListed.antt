@@ -1,7 +1,7 @@
 -- The list of allowed half-moves has exactly these, in their order.
-use Rattle.std.proofs.Common.{arith, ◌≡◌, ◌≢◌, ℕ, ◌+◌, ◌<◌, ◌≤◌, ◌⊎◌, inl, inr, suc, zero, List, [], ◌∷◌, ◌++◌, map, length, Bool, true, false, Option, Some, None, IsTrue, cond, slice_index_or, refl, sym, ap, subst, ◌∙◌}
+use Rattle.std.proofs.Common.{arith, ◌≡◌, ℕ, ◌+◌, ◌<◌, ◌≤◌, inl, inr, suc, zero, List, [], ◌∷◌, ◌++◌, map, length, Bool, true, false, Option, Some, None, cond, slice_index_or, refl, sym, subst}
 use Rattle.std.specs.Prelude.{⊤}
-use Rattle.std.specs.List.{filter, flat_map, range_with_len, Contains, AllPairs}
+use Rattle.std.specs.List.{filter, flat_map, range_with_len}
 use Rattle.chess_model.specs.declared.man.Kind.{Kind}
 use Rattle.chess_model.specs.declared.man.Kind.TheVariants.{Pawn, Knight, Bishop, Rook, Queen, King}
 use Rattle.chess_model.specs.declared.man.Man.{Man}
@@ -16,7 +16,7 @@ use Rattle.chess_model.specs.AllMoves.{promotions, dropped_kinds, moves_from, bo
 use Rattle.chess_model.specs.Result.{IsOnBoard}
 use Rattle.chess_model.specs.Laws.{MovesAreListed}
 use Rattle.chess_model.proofs.TestsDecide.{Decides-allowed}
-use Rattle.chess_model.proofs.Among.{Among, Among-filter, Among-filtered, Among-map, Among-mapped, Among-range, Among-append_left, Among-append_right, Among-flat_map, Among-flat_mapped, Contains-among, Among-contains}
+use Rattle.chess_model.proofs.Among.{Among, Among-filter, Among-filtered, Among-map, Among-range, Among-append_left, Among-append_right, Among-flat_map, Contains-among, Among-contains}
 
 among_squares : (s : ℕ) → s < 64 → Among s squares
 among_squares s less = Among-range 0 64 s (omega arith) (omega arith)
@@ -142,8 +142,8 @@ pub moves_listed : MovesAreListed
 unfolding allowed_moves
 moves_listed = record {
   exact = λ p m. (
-      λ c. allowed-among p m (Among-contains (allowed_moves p) m c),
-      λ h. Contains-among (allowed_moves p) m (Among-allowed p m h),
+    λ c. allowed-among p m (Among-contains (allowed_moves p) m c),
+    λ h. Contains-among (allowed_moves p) m (Among-allowed p m h),
   );
   ordered = λ p i j d less within.
       pairs (allowed_moves p) 0 i j d

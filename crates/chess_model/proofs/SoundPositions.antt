@@ -1,6 +1,5 @@
 -- A legal list of half-moves leads to a sound position.
-use Rattle.std.proofs.Common.{arith, ◌≡◌, ◌≢◌, ℕ, ◌+◌, ◌-◌, ◌<◌, ◌≤◌, ◌⊎◌, ◌/◌, inl, inr, List, [], ◌∷◌, ◌++◌, Bool, true, false, ◌&&◌, ◌||◌, not, cond, is_none, nat_eq, IsTrue, length, min, max, Option, Some, None, slice_set, refl, sym, ap, subst, ◌∙◌, append_assoc}
-use Rattle.std.specs.Bool.{Decides}
+use Rattle.std.proofs.Common.{arith, ◌≡◌, ◌≢◌, ℕ, ◌+◌, ◌<◌, ◌/◌, inl, inr, List, [], ◌∷◌, ◌++◌, Bool, true, false, ◌&&◌, not, cond, is_none, nat_eq, IsTrue, Option, Some, None, refl, sym, ap, subst, ◌∙◌, append_assoc}
 use Rattle.std.specs.List.{sum_by, count_by}
 use Rattle.std.proofs.lemmas.Bool.{cases_eq, eqb-true, eqb-false, eq-eqb, and_parts, or_parts, false_from_ne_true}
 use Rattle.std.proofs.lemmas.List.{append-nil}
@@ -14,16 +13,16 @@ use Rattle.chess_model.specs.declared.rights.Rights.{Rights}
 use Rattle.chess_model.specs.declared.moves.Move.{Move}
 use Rattle.chess_model.specs.declared.moves.Move.TheVariants.{Plain, Castle, Drop}
 use Rattle.chess_model.specs.declared.variant.Variant.{Variant}
-use Rattle.chess_model.specs.Squares.{file_of, rank_of, files_apart, ranks_apart, distance, along, square_at}
+use Rattle.chess_model.specs.Squares.{file_of, rank_of, ranks_apart, distance, along, square_at}
 use Rattle.chess_model.specs.Men.{same_colour, same_kind, is_held_as}
-use Rattle.chess_model.specs.Placement.{Placement, man_at, opposite, IsHeldAs, unpromoted, home_rank, second_rank, last_rank, array_of, king_home, rook_home, king_end, rook_end}
-use Rattle.chess_model.specs.Reach.{IsForward, IsStep, IsAhead, Clear, Advances, Reaches}
+use Rattle.chess_model.specs.Placement.{Placement, man_at, opposite, IsHeldAs, home_rank, second_rank, last_rank, array_of, king_home, rook_home, king_end, rook_end}
+use Rattle.chess_model.specs.Reach.{IsForward, IsStep, Clear, Reaches}
 use Rattle.chess_model.specs.Attacked.{IsKingSafe}
 use Rattle.chess_model.specs.MoveList.{HalfMove, Ply, is_pawn, is_pawn_kind, moves_of, settings, place_after, place_from, side_from, taking_square, landed, taken}
 use Rattle.chess_model.specs.RightsAndCounts.{touches, keeps_right, rights_after, en_passant_after, passed_over}
 use Rattle.chess_model.specs.Holdings.{count_in}
 use Rattle.chess_model.specs.Position.{Position, position_after, hand_of_side}
-use Rattle.chess_model.specs.Allowed.{IsPromotion, HasPromotion, IsPlainMove, right_of, Allowed, IsLegal}
+use Rattle.chess_model.specs.Allowed.{IsPromotion, HasPromotion, right_of, Allowed, IsLegal}
 use Rattle.chess_model.specs.Tests as test
 use Rattle.chess_model.specs.Next.{next, next_rights}
 use Rattle.chess_model.specs.Laws.{MovesOneMan, MovesKingAndRook}
@@ -145,7 +144,7 @@ stays p (Plain a b promo) c s sound h rank piece untouched king =
 stays p (Castle long) c s sound h rank piece untouched king =
     let own : c ≡ p.to_move → ⊥ =
     (λ e. let hit : nat_eq (king_home p.variant p.to_move) (king_home p.variant c) ≡ true = eq-eqb (king_home p.variant p.to_move) (king_home p.variant c) (ap (king_home p.variant) (sym e)) in
-        let f : true ≡ false = sym hit ∙ king in cc) in
+    let f : true ≡ false = sym hit ∙ king in cc) in
     let at = on_home_rank p.variant p.to_move long in
     let known : MovesKingAndRook p.variant p.men p.to_move long (place_after p.variant p.men p.to_move (Castle long)) =
     known_squares p (Castle long) sound.squares h in

@@ -1,9 +1,9 @@
 -- The state that computes is the one that the words of the rules give.
-use Rattle.std.proofs.Common.{arith, ◌≡◌, ◌≢◌, ℕ, ◌+◌, ◌<◌, ◌⊎◌, inl, inr, List, [], ◌∷◌, map, Bool, true, false, ◌&&◌, ◌||◌, not, is_none, Option, Some, None, slice_set, refl, sym, ap, subst, ◌∙◌}
+use Rattle.std.proofs.Common.{◌≡◌, ℕ, ◌⊎◌, inl, inr, [], ◌∷◌, map, Bool, true, false, ◌||◌, not, is_none, None, slice_set, refl, sym, ◌∙◌}
 use Rattle.std.specs.Bool.{Decides}
-use Rattle.std.specs.List.{list_any, flat_map, range_with_len}
+use Rattle.std.specs.List.{list_any, flat_map}
 use Rattle.std.proofs.lemmas.Bool.{or_left, or_right}
-use Rattle.std.proofs.lemmas.Bool.Decides.{Decides-and, Decides-or, Decides-not, Decides-like, not_from_Decides}
+use Rattle.std.proofs.lemmas.Bool.Decides.{Decides-and, Decides-or, Decides-like, not_from_Decides}
 use Rattle.chess_model.specs.declared.man.Kind.TheVariants.{Knight}
 use Rattle.chess_model.specs.declared.moves.Move.{Move}
 use Rattle.chess_model.specs.declared.moves.Move.TheVariants.{Plain, Castle, Drop}
@@ -14,10 +14,10 @@ use Rattle.chess_model.specs.Attacked.{IsKingSafe}
 use Rattle.chess_model.specs.Position.{Position}
 use Rattle.chess_model.specs.Allowed.{Allowed}
 use Rattle.chess_model.specs.Tests as test
-use Rattle.chess_model.specs.AllMoves.{board_moves, drop_moves, moves_from, dropped_kinds, promotions}
-use Rattle.chess_model.specs.Result.{is_in_check, can_move, can_drop_any, shields, has_answer, state_of, result, IsOnBoard, Shields, HasAnswer, IsState}
+use Rattle.chess_model.specs.AllMoves.{board_moves, drop_moves, moves_from, promotions}
+use Rattle.chess_model.specs.Result.{can_move, can_drop_any, shields, has_answer, state_of, result, IsOnBoard, Shields, HasAnswer, IsState}
 use Rattle.chess_model.specs.Laws.{StatesAreTold}
-use Rattle.chess_model.proofs.TestsDecide.{Decides-none, Decides-three, Decides-king_safe, Decides-allowed}
+use Rattle.chess_model.proofs.TestsDecide.{Decides-none, Decides-king_safe, Decides-allowed}
 use Rattle.chess_model.proofs.Among.{Among, list_any-some, list_any-from, Among-appended, Among-flat_mapped, Among-mapped, Decides-some_below}
 use Rattle.chess_model.proofs.MovesListed.{on_board, from_hand}
 
@@ -57,6 +57,7 @@ any_move p = (
     either : (x y : Bool) → (x || y) ≡ true → (x ≡ true) ⊎ (y ≡ true)
     either true y h = inl refl
     either false y h = inr h
+
     found : (m : Move) → Allowed p m → (can_move p || can_drop_any p) ≡ true
     found (Plain a b promo) h = or_left (can_move p) (can_drop_any p) ((Decides-can_move p).1 (Plain a b promo, tt, h))
     found (Castle long) h = or_left (can_move p) (can_drop_any p) ((Decides-can_move p).1 (Castle long, tt, h))

@@ -1,7 +1,6 @@
 -- Each test of specs/Tests.antt decides its relation.
-use Rattle.std.proofs.Common.{arith, ◌≡◌, ◌≢◌, ℕ, ◌+◌, ◌-◌, ◌<◌, ◌≤◌, ◌⊎◌, inl, inr, List, [], ◌∷◌, map, Bool, true, false, ◌&&◌, ◌||◌, not, is_none, nat_eq, nat_lt, IsTrue, Option, Some, None, refl, sym, ap, subst, ◌∙◌}
+use Rattle.std.proofs.Common.{arith, ◌≡◌, ℕ, ◌+◌, ◌-◌, ◌<◌, ◌≤◌, ◌⊎◌, Bool, true, false, ◌&&◌, ◌||◌, not, is_none, nat_eq, nat_lt, IsTrue, Option, Some, None, refl, sym, ap, ◌∙◌}
 use Rattle.std.specs.Bool.{Decides}
-use Rattle.std.specs.List.{list_all, list_any, filter, range_with_len}
 use Rattle.std.proofs.lemmas.Bool.Decides.{Decides-eqb, Decides-ltb, Decides-and, Decides-or, Decides-not, Decides-like}
 use Rattle.chess_model.specs.declared.man.Colour.{Colour}
 use Rattle.chess_model.specs.declared.man.Colour.TheVariants.{White, Black}
@@ -12,11 +11,11 @@ use Rattle.chess_model.specs.declared.moves.Move.{Move}
 use Rattle.chess_model.specs.declared.moves.Move.TheVariants.{Plain, Castle, Drop}
 use Rattle.chess_model.specs.declared.variant.Variant.{Variant}
 use Rattle.chess_model.specs.declared.variant.Variant.TheVariants.{Chess, Crazyhouse, Bughouse}
-use Rattle.chess_model.specs.Squares.{file_of, rank_of, files_apart, ranks_apart, distance, along}
+use Rattle.chess_model.specs.Squares.{rank_of, files_apart, ranks_apart, distance, along}
 use Rattle.chess_model.specs.Men.{same_colour, same_kind, is_held_by, is_held_as}
 use Rattle.chess_model.specs.Placement.{Placement, man_at, opposite, IsHeldBy, IsHeldAs, second_rank, last_rank, king_home, rook_home, king_end, rook_end}
 use Rattle.chess_model.specs.Reach.{IsForward, IsStraight, IsDiagonal, IsKnightStep, IsStep, Clear, IsOpen, Strikes, IsAhead, Advances, PawnTakes, Goes, Reaches}
-use Rattle.chess_model.specs.Attacked.{StrikesAs, StrikesFrom, IsAttacked, IsInCheckOn, IsKingSafe}
+use Rattle.chess_model.specs.Attacked.{StrikesAs, StrikesFrom, IsAttacked, IsKingSafe}
 use Rattle.chess_model.specs.MoveList.{place_after}
 use Rattle.chess_model.specs.Holdings.{count_in}
 use Rattle.chess_model.specs.Position.{Position, hand_of_side}
@@ -163,8 +162,10 @@ unfolding test.is_king_safe
 Decides-king_safe P c =
     let free : (s : ℕ) → Decides (not (test.is_attacked P (opposite c) s)) (¬ IsAttacked P (opposite c) s) =
     λ s. Decides-not (test.is_attacked P (opposite c) s) (Decides-attacked P (opposite c) s) in (
-      λ e. record { safe = λ s less check.
-          (free s).0 (list_all-each (λ s. not (test.is_attacked P (opposite c) s)) (test.kings P c) e s (king_among P c s less check.0)) check.1 },
+      λ e. record {
+        safe = λ s less check.
+            (free s).0 (list_all-each (λ s. not (test.is_attacked P (opposite c) s)) (test.kings P c) e s (king_among P c s less check.0)) check.1;
+      },
       λ safe. list_all-from (λ s. not (test.is_attacked P (opposite c) s)) (test.kings P c) (λ s a.
           let king = king_on_board P c s a in
           (free s).1 (λ attacked. safe.safe s king.0 (king.1, attacked))),
@@ -265,8 +266,8 @@ Decides-free_way P king rook a b =
     (Decides-each_mapped (λ s. nat_eq s king || (nat_eq s rook || is_none (man_at P s))) (along a b)
     (λ k. IsFreeFor P king rook (along a b k))
     (λ k. let s : ℕ = along a b k in
-        Decides-or (nat_eq s king) (nat_eq s rook || is_none (man_at P s)) (Decides-eqb s king)
-        (Decides-or (nat_eq s rook) (is_none (man_at P s)) (Decides-eqb s rook) (Decides-none (man_at P s))))
+    Decides-or (nat_eq s king) (nat_eq s rook || is_none (man_at P s)) (Decides-eqb s king)
+    (Decides-or (nat_eq s rook) (is_none (man_at P s)) (Decides-eqb s rook) (Decides-none (man_at P s))))
     0 (distance a b + 1))
 
 Decides-unattacked_way : (P : Placement) (by : Colour) (a b : ℕ) → Decides (test.is_unattacked_way P by a b) (IsUnattackedWay P by a b)

@@ -1,5 +1,5 @@
 -- What the other board leaves alone, whose half-move is whose, and where the homes are.
-use Rattle.std.proofs.Common.{arith, ◌≡◌, ◌≢◌, ℕ, ◌+◌, ◌%◌, ◌<◌, suc, zero, List, [], ◌∷◌, ◌++◌, Bool, true, false, length, min, slice_index_or, refl, sym, ap, ◌∙◌}
+use Rattle.std.proofs.Common.{arith, ◌≡◌, ℕ, ◌%◌, ◌<◌, suc, zero, List, [], ◌∷◌, Bool, true, false, length, min, slice_index_or, refl, ap, ◌∙◌}
 use Rattle.chess_model.specs.declared.man.Colour.{Colour}
 use Rattle.chess_model.specs.declared.man.Colour.TheVariants.{White, Black}
 use Rattle.chess_model.specs.declared.man.Kind.TheVariants.{Rook, King}
@@ -7,9 +7,9 @@ use Rattle.chess_model.specs.declared.moves.Move.{Move}
 use Rattle.chess_model.specs.declared.variant.Variant.{Variant}
 use Rattle.chess_model.specs.Squares.{rank_of}
 use Rattle.chess_model.specs.Placement.{Placement, man_at, opposite, unpromoted, home_rank, array_of, king_home, rook_home}
-use Rattle.chess_model.specs.MoveList.{HalfMove, Ply, moves_of, settings, place_after, place_from, side_from}
+use Rattle.chess_model.specs.MoveList.{Ply, moves_of, settings, place_after, place_from, side_from}
 use Rattle.chess_model.specs.RightsAndCounts.{rights_after, en_passant_after, quiet_count}
-use Rattle.chess_model.specs.LegalPositions.{IsAsBefore, OtherBoardStays, ColoursTakeTurns, HomesAreInTheArray}
+use Rattle.chess_model.specs.LegalPositions.{OtherBoardStays, ColoursTakeTurns, HomesAreInTheArray}
 use Rattle.chess_model.proofs.MoreMoves.{moves_of-other}
 use Rattle.chess_model.proofs.ChessLaws.{opposite-opposite}
 

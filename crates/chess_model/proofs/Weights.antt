@@ -1,5 +1,5 @@
 -- What the men of a placement weigh, each by the same measure, before and after a half-move.
-use Rattle.std.proofs.Common.{arith, ◌≡◌, ◌≢◌, ℕ, ◌+◌, ◌-◌, ◌<◌, ◌≤◌, ◌⊎◌, inl, inr, Bool, true, false, ◌&&◌, cond, length, min, max, Option, Some, None, slice_set, refl, sym, ap, subst, ◌∙◌}
+use Rattle.std.proofs.Common.{arith, ◌≡◌, ◌≢◌, ℕ, ◌+◌, ◌<◌, ◌≤◌, ◌⊎◌, inl, inr, true, length, Option, Some, None, slice_set, refl, sym, ap, subst, ◌∙◌}
 use Rattle.std.specs.List.{sum_by}
 use Rattle.std.proofs.lemmas.Bool.{cases_eq}
 use Rattle.std.proofs.lemmas.List.{length-set, get_or-set_other, get_or-set_same}
@@ -10,14 +10,13 @@ use Rattle.chess_model.specs.declared.man.Kind.TheVariants.{Pawn, Knight, Bishop
 use Rattle.chess_model.specs.declared.man.Man.{Man}
 use Rattle.chess_model.specs.declared.moves.Move.{Move}
 use Rattle.chess_model.specs.declared.moves.Move.TheVariants.{Plain, Castle, Drop}
-use Rattle.chess_model.specs.declared.variant.Variant.{Variant}
 use Rattle.chess_model.specs.Squares.{file_of, rank_of, square_at, toward, along, distance}
-use Rattle.chess_model.specs.Placement.{Placement, man_at, opposite, unpromoted, king_home, rook_home, king_end, rook_end}
+use Rattle.chess_model.specs.Placement.{Placement, man_at, unpromoted, king_home, rook_home, king_end, rook_end}
 use Rattle.chess_model.specs.MoveList.{taking_square, landed, two_moved, place_after, taken}
 use Rattle.chess_model.specs.Position.{Position}
-use Rattle.chess_model.specs.Allowed.{IsPromotion, HasPromotion, IsFreeFor, IsFreeWay, CanCastle, IsMove, Allowed}
-use Rattle.chess_model.specs.LegalPositions.{behind, HasPassed, IsSound}
-use Rattle.chess_model.proofs.Captures.{IsMover, mover, Take, nothing, on_target, passing, take_of}
+use Rattle.chess_model.specs.Allowed.{IsPromotion, HasPromotion, IsFreeFor, IsFreeWay, Allowed}
+use Rattle.chess_model.specs.LegalPositions.{IsSound}
+use Rattle.chess_model.proofs.Captures.{mover, Take, nothing, on_target, passing, take_of}
 use Rattle.chess_model.proofs.NoMoreMen.{taking_square-lt, taking_square-differs, origin, homes}
 
 -- clearing a square

@@ -1,8 +1,8 @@
 -- The answer to a word that computes is the answer of the relations.
-use Rattle.std.proofs.Common.{arith, ◌≡◌, ◌≢◌, ℕ, ◌+◌, ◌<◌, ◌≤◌, ◌⊎◌, inl, inr, List, [], ◌∷◌, map, length, Bool, true, false, ◌&&◌, not, cond, is_none, is_some, nat_eq, nat_lt, IsSome, Option, Some, None, Result, Ok, Err, refl, sym, ap, subst, ◌∙◌}
+use Rattle.std.proofs.Common.{arith, ◌≡◌, ◌≢◌, ℕ, ◌<◌, ◌⊎◌, inl, inr, List, [], ◌∷◌, map, length, Bool, true, false, ◌&&◌, not, cond, is_none, is_some, nat_eq, nat_lt, IsSome, Option, Some, None, Result, Ok, Err, refl, sym, ap, subst, ◌∙◌}
 use Rattle.std.specs.Prelude.{MatchResult, IfOk, IfErr}
 use Rattle.std.specs.Bool.{Decides}
-use Rattle.std.specs.List.{list_all, list_any, filter, range_with_len}
+use Rattle.std.specs.List.{list_all, list_any, filter}
 use Rattle.std.proofs.lemmas.Bool.{and_parts, false_from_ne_true}
 use Rattle.std.proofs.lemmas.Bool.Decides.{Decides-eqb, Decides-ltb, Decides-and, Decides-not, Decides-like, not_from_Decides}
 use Rattle.chess_model.specs.declared.man.Kind.{Kind}
@@ -14,12 +14,12 @@ use Rattle.chess_model.specs.declared.moves.Rejection.{Rejection}
 use Rattle.chess_model.specs.declared.moves.Rejection.TheVariants.{Ambiguous, LeavesKing, CastleForbidden, NoDrops, NotInHand, Occupied, EndRank, NoPiece, CannotReach}
 use Rattle.chess_model.specs.Squares.{file_of, rank_of}
 use Rattle.chess_model.specs.Men.{is_held_by, is_held_as}
-use Rattle.chess_model.specs.Placement.{man_at, IsHeldBy, IsHeldAs}
+use Rattle.chess_model.specs.Placement.{man_at, IsHeldAs}
 use Rattle.chess_model.specs.Holdings.{count_in}
 use Rattle.chess_model.specs.Position.{Position, hand_of_side}
-use Rattle.chess_model.specs.Allowed.{HasDrops, MayDropOn, IsMove, IsSafeAfter, Allowed}
+use Rattle.chess_model.specs.Allowed.{HasDrops, MayDropOn, IsMove, IsSafeAfter}
 use Rattle.chess_model.specs.Tests as test
-use Rattle.chess_model.specs.Answer.{promotion_of, castling_of, coordinate_move, IsAsGiven, IsNamed, Matches, IsChoice, IsAnswer, IsCastlingWord, IsDropWith, HasNoPiece, IsAmbiguous, LeavesKingBy, Applies, place_of, IsRefusal}
+use Rattle.chess_model.specs.Answer.{promotion_of, castling_of, IsAsGiven, IsNamed, Matches, IsChoice, IsAnswer, IsCastlingWord, IsDropWith, HasNoPiece, IsAmbiguous, LeavesKingBy, Applies, place_of, IsRefusal}
 use Rattle.chess_model.specs.WordAnswer.{is_as_given, is_named, named_squares, matches, choices, leaves_king, is_castling_word, is_drop_with, has_no_piece, applies, refusals, first_refusal, refusal, only_one, word_answer}
 use Rattle.chess_model.proofs.Among.{Among, list_all-each, list_any-some, list_any-from, Among-filter, Among-filtered, Among-map, Among-mapped, Among-range, Among-ranged, Apart, Apart-range, Apart-filter, Apart-map, single, Two, Decides-two}
 use Rattle.chess_model.proofs.TestsDecide.{never, always, Decides-none, Decides-held_by, Decides-held_as, Decides-three, Decides-has_drops, Decides-may_drop_on, Decides-move, Decides-safe_after, Decides-allowed}
@@ -120,7 +120,7 @@ Decides-exposed : (p : Position) (w : MoveWord) → Decides (list_any (leaves_ki
 Decides-exposed p w =
     let bare : (m : Move) → Decides (leaves_king p m) (IsMove p m × (¬ IsSafeAfter p m)) =
     λ m. Decides-and (test.is_move p m) (not (test.is_safe_after p m)) (Decides-move p m)
-        (Decides-not (test.is_safe_after p m) (Decides-safe_after p m)) in (
+    (Decides-not (test.is_safe_after p m) (Decides-safe_after p m)) in (
       λ e. let t = list_any-some (leaves_king p) (matches p w) e in
           let h = (bare t.0).0 t.2 in
           (t.0, record { matches = matches-among p w t.0 t.1; move = h.0; unsafe_after = h.1 }),

@@ -1,6 +1,6 @@
 -- What a position is for the player to move: check, mate and stalemate (FIDE Laws 1.4.1, 3.9, 5.1.1, 5.2.1; FICS help
 -- page `bughouse`).
-use Rattle.std.specs.Prelude.{◌≡◌, ◌≢◌, ℕ, ◌<◌, ◌⊎◌, Bool, true, false, ◌&&◌, ◌||◌, not, is_none, Option, None, slice_set, ⊤}
+use Rattle.std.specs.Prelude.{◌≡◌, ◌≢◌, ℕ, ◌<◌, ◌⊎◌, Bool, true, false, ◌&&◌, ◌||◌, not, is_none, None, slice_set, ⊤}
 use Rattle.std.specs.List.{list_any}
 use Rattle.chess_model.specs.declared.man.Kind.TheVariants.{Knight}
 use Rattle.chess_model.specs.declared.moves.Move.{Move}

@@ -1,15 +1,15 @@
 -- Worked examples: mates, stalemates, claims, and how many half-moves are allowed.
-use Rattle.std.specs.Prelude.{◌≡◌, ℕ, Bool, true, false, List, [], ◌∷◌, length, Option, Some, None}
+use Rattle.std.specs.Prelude.{◌≡◌, ℕ, true, false, List, [], ◌∷◌, length, Option, Some, None}
 use Rattle.chess_model.specs.declared.hand.Hand.{Hand}
 use Rattle.chess_model.specs.declared.man.Colour.TheVariants.{White, Black}
-use Rattle.chess_model.specs.declared.man.Kind.TheVariants.{Pawn, Knight, Bishop, Rook, Queen, King}
+use Rattle.chess_model.specs.declared.man.Kind.TheVariants.{Pawn, Knight, Rook, Queen, King}
 use Rattle.chess_model.specs.declared.moves.Move.{Move}
 use Rattle.chess_model.specs.declared.states.State.TheVariants.{Safe, Check, Mate, Stalemate}
 use Rattle.chess_model.specs.declared.variant.Variant.{Variant}
 use Rattle.chess_model.specs.declared.variant.Variant.TheVariants.{Chess, Crazyhouse, Bughouse}
 use Rattle.chess_model.specs.Position.{Position, position_after}
 use Rattle.chess_model.specs.Examples.{go, on_board}
-use Rattle.chess_model.specs.WordExamples.{Standing, white, black, board, chess, start, empty_hand}
+use Rattle.chess_model.specs.WordExamples.{Standing, white, black, board, start, empty_hand}
 use Rattle.chess_model.specs.AllMoves.{allowed_moves}
 use Rattle.chess_model.specs.Result.{result}
 use Rattle.chess_model.specs.Claims.{same_position, is_threefold}

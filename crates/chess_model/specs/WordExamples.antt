@@ -1,18 +1,17 @@
 -- Worked examples: allowed half-moves and answers to words, in small positions.
-use Rattle.std.specs.Prelude.{◌≡◌, ℕ, Bool, true, false, List, [], ◌∷◌, replicate, Option, Some, None, Result, Ok, Err, slice_set}
+use Rattle.std.specs.Prelude.{◌≡◌, ℕ, true, false, List, [], ◌∷◌, replicate, Option, Some, None, Ok, Err, slice_set}
 use Rattle.chess_model.specs.declared.man.Colour.{Colour}
 use Rattle.chess_model.specs.declared.man.Colour.TheVariants.{White, Black}
 use Rattle.chess_model.specs.declared.man.Kind.{Kind}
-use Rattle.chess_model.specs.declared.man.Kind.TheVariants.{Pawn, Knight, Bishop, Rook, Queen, King}
+use Rattle.chess_model.specs.declared.man.Kind.TheVariants.{Pawn, Knight, Rook, Queen, King}
 use Rattle.chess_model.specs.declared.moves.Move.TheVariants as move
 use Rattle.chess_model.specs.declared.moves.MoveWord.{MoveWord}
 use Rattle.chess_model.specs.declared.moves.MoveWord.TheVariants as word
 use Rattle.chess_model.specs.declared.moves.Rejection.TheVariants.{Ambiguous, LeavesKing, CastleForbidden, NoDrops, NotInHand, Occupied, EndRank, NoPiece, CannotReach}
 use Rattle.chess_model.specs.declared.hand.Hand.{Hand}
-use Rattle.chess_model.specs.declared.rights.Rights.{Rights}
 use Rattle.chess_model.specs.declared.variant.Variant.{Variant}
 use Rattle.chess_model.specs.declared.variant.Variant.TheVariants.{Chess, Crazyhouse}
-use Rattle.chess_model.specs.Placement.{Placement, man_at, unpromoted, opposite}
+use Rattle.chess_model.specs.Placement.{Placement, man_at, unpromoted}
 use Rattle.chess_model.specs.MoveList.{place_after}
 use Rattle.chess_model.specs.Position.{Position, position_after}
 use Rattle.chess_model.specs.Tests.{is_allowed}

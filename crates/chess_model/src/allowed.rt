@@ -7,7 +7,9 @@ use crate::attack::{is_attacked, is_king_safe};
 use crate::changes::with_move;
 use crate::man::{Colour, Kind};
 use crate::moves::Move;
-use crate::placement::{Men, end_of_king, end_of_rook, home_of_king, home_of_rook, last_rank_of, man_on};
+use crate::placement::{
+    Men, end_of_king, end_of_rook, home_of_king, home_of_rook, last_rank_of, man_on,
+};
 use crate::plain_board::PlainBoard;
 use crate::reach::reaches;
 use crate::rights::Rights;
