@@ -1,7 +1,17 @@
+pub mod Among
+pub mod Captures
+pub mod Censuses
 pub mod ChessLaws
 pub mod LegalLists
 pub mod MoreMoves
+pub mod MovesListed
 pub mod NamedAnswers
 pub mod NoMoreMen
+pub mod SoundPositions
 pub mod StandsAfter
+pub mod StatesTold
+pub mod TestsDecide
 pub mod Texts
+pub mod Turns
+pub mod Weights
+pub mod WordsDecide

@@ -1,9 +1,7 @@
 -- What a written move word stands for in a position, and why it may have no answer: this server's own rules.
 use Rattle.std.specs.Prelude.{◌≡◌, ◌≢◌, ℕ, ◌+◌, ◌<◌, Bool, true, false, ◌&&◌, nat_eq, if◌then◌else◌, Option, Some, None, IsSome, unwrap_or, ⊤}
-use Rattle.chess_model.specs.declared.man.Colour.{Colour}
 use Rattle.chess_model.specs.declared.man.Kind.{Kind}
 use Rattle.chess_model.specs.declared.man.Kind.TheVariants.{Pawn, Queen, King}
-use Rattle.chess_model.specs.declared.man.Man.{Man}
 use Rattle.chess_model.specs.declared.moves.Move.{Move}
 use Rattle.chess_model.specs.declared.moves.Move.TheVariants as move
 use Rattle.chess_model.specs.declared.moves.MoveWord.{MoveWord}
@@ -12,14 +10,10 @@ use Rattle.chess_model.specs.declared.moves.Rejection.{Rejection}
 use Rattle.chess_model.specs.declared.moves.Rejection.TheVariants.{Ambiguous, LeavesKing, CastleForbidden, NoDrops, NotInHand, Occupied, EndRank, NoPiece, CannotReach}
 use Rattle.chess_model.specs.Squares.{file_of, rank_of}
 use Rattle.chess_model.specs.Placement.{man_at, IsHeldBy, IsHeldAs, last_rank, king_home}
-use Rattle.chess_model.specs.Holdings.{count_in, same_colour, same_kind}
+use Rattle.chess_model.specs.Men.{is_held_as}
+use Rattle.chess_model.specs.Holdings.{count_in}
 use Rattle.chess_model.specs.Position.{Position, hand_of_side}
 use Rattle.chess_model.specs.Allowed.{HasDrops, MayDropOn, IsMove, IsSafeAfter, Allowed}
-
--- whether a man of that colour and kind stands there
-abbrev pub is_held_as : Colour → Kind → Option Man → Bool
-is_held_as c k None = false
-is_held_as c k (Some m) = same_colour m.colour c && same_kind m.kind k
 
 -- whether a plain move from a to b brings an own pawn to its last rank
 abbrev pub is_promotion : Position → ℕ → ℕ → Bool

@@ -1,10 +1,14 @@
+pub mod AllMoves
 pub mod Allowed
 pub mod Answer
 pub mod Attacked
 pub mod Census
+pub mod Claims
 pub mod Examples
 pub mod Holdings
 pub mod Laws
+pub mod Men
+pub mod LegalPositions
 pub mod MoveList
 pub mod MoveText
 pub mod MoveTextFields
@@ -14,6 +18,11 @@ pub mod Placement
 pub mod PlainBoardFields
 pub mod Position
 pub mod Reach
+pub mod Result
+pub mod ResultExamples
 pub mod RightsAndCounts
 pub mod Squares
+pub mod Tests
 pub mod VariantWord
+pub mod WordAnswer
+pub mod WordExamples

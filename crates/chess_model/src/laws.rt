@@ -1,7 +1,11 @@
 //! What the definitions of the rules mean, in the words of the game. Each call does nothing: its contract is the law.
 
-ghost use Rattle.chess_model.specs.Laws.{EachSquareIsKnown, AttackGoesBothWays, RightsNeverComeBack, CountsQuietMoves, NoMenAreMade, LegalListsGrow};
+ghost use Rattle.chess_model.specs.Laws.{EachSquareIsKnown, AttackGoesBothWays, RightsNeverComeBack, CountsQuietMoves, NoMenAreMade, LegalListsGrow, TestsSayTheRules, WordsAreAnswered, MovesAreListed, StatesAreTold};
+ghost use Rattle.chess_model.specs.LegalPositions.{LegalPositionsAreSound, OtherBoardStays, ColoursTakeTurns, HomesAreInTheArray};
+ghost use Rattle.chess_model.specs.Census.{CensusStays};
 ghost use Rattle.chess_model.specs.Examples.{WorkedExamples};
+ghost use Rattle.chess_model.specs.WordExamples.{AllowedExamples, WordExamples};
+ghost use Rattle.chess_model.specs.ResultExamples.{ResultExamples, ClaimExamples};
 
 /// What an allowed half-move does to each square: the man that moves or comes stands on its target, the squares that
 /// are left or taken on are empty, and every other square is as before.
@@ -35,7 +39,75 @@ pub fn legal_lists_grow()
     ensures { LegalListsGrow }
 {}
 
+/// The tests that compute which half-moves are allowed say what the relations say.
+pub fn tests_say_the_rules()
+    ensures { TestsSayTheRules }
+{}
+
+/// The answer to a word that computes is the one allowed match, or else the first refusal that applies.
+pub fn words_are_answered()
+    ensures { WordsAreAnswered }
+{}
+
+/// The list of allowed half-moves has exactly these, in their order.
+pub fn moves_are_listed()
+    ensures { MovesAreListed }
+{}
+
+/// Check, mate and stalemate are what the words of the rules say.
+pub fn states_are_told()
+    ensures { StatesAreTold }
+{}
+
+/// After every legal list of half-moves each colour has one king, the side that isn't to move isn't in check, king and
+/// rook stand on their homes where a right stands, and an enemy pawn stands behind the en passant square, which is
+/// empty. A capture takes an enemy man, and never a king.
+pub fn legal_positions_are_sound()
+    ensures { LegalPositionsAreSound }
+{}
+
+/// A half-move of another board leaves this board alone, but for its hands.
+pub fn other_board_stays()
+    ensures { OtherBoardStays }
+{}
+
+/// Of the half-moves of a board, counted from 0, those with an even number are White's.
+pub fn colours_take_turns()
+    ensures { ColoursTakeTurns }
+{}
+
+/// The homes of kings and rooks are where these stand in the array.
+pub fn homes_are_in_the_array()
+    ensures { HomesAreInTheArray }
+{}
+
+/// No legal list of half-moves makes or loses a man, by colour and kind: in chess with the captured men, in crazyhouse
+/// with both hands, and in a pair of boards with the hands of both boards. A promoted man counts as a pawn.
+pub fn census_stays()
+    ensures { CensusStays }
+{}
+
 /// What the definitions give in positions that everybody knows.
 pub fn worked_examples()
     ensures { WorkedExamples }
+{}
+
+/// What is allowed and what is not: a pinned man, en passant, castling by the attacked squares, promotion.
+pub fn worked_moves()
+    ensures { AllowedExamples }
+{}
+
+/// What words stand for, and each refusal.
+pub fn worked_words()
+    ensures { WordExamples }
+{}
+
+/// Mates, stalemates, and positions that are neither, in the three variants.
+pub fn worked_results()
+    ensures { ResultExamples }
+{}
+
+/// What stands for the third time, and which en passant squares count for it.
+pub fn worked_claims()
+    ensures { ClaimExamples }
 {}

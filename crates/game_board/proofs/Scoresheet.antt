@@ -22,7 +22,8 @@ use Rattle.game_board.specs.Board.{Board, new_board, to_move, turn_after, positi
 use Rattle.game_board.specs.Charges.{charges_of, is_timed, remaining_of}
 use Rattle.game_board.specs.Causes.{in_words}
 use Rattle.game_board.specs.Play.{move_refused, move_answer, next_charge, with_half_move, play_after}
-use Rattle.game_board.specs.WordAnswer.{IsWordAnswer, word_answer, word_answer-holds}
+use Rattle.chess_model.specs.WordAnswer.{IsWordAnswer, word_answer}
+use Rattle.chess_model.proofs.WordsDecide.{word_answer-holds}
 use Rattle.game_board.specs.Scoresheet.{DontFall, IsCharged, IsTrueScore}
 use Rattle.game_board.proofs.Grown.{IsLegal-grown}
 use Rattle.game_board.proofs.LastPlayed.{slice_get-append_end}

@@ -2,10 +2,7 @@ pub mod Board
 pub mod BoardFace
 pub mod Causes
 pub mod Charges
-pub mod Decisions
-pub mod DecidedRules
 pub mod Flag
 pub mod Holds
 pub mod Play
 pub mod Scoresheet
-pub mod WordAnswer
