@@ -13,7 +13,7 @@ use Rattle.turn_tests.specs.Counters.{counters}
 use Rattle.turn_tests.specs.Worked.{MadeOne}
 use Rattle.turn_tests.proofs.Weighing.{session_there, none_after}
 
-W : Type 0
+abbrev pub W : Type 0
 W = View ℕ Bump ℕ
 
 -- a history with no entry but those of session 1 is the list of these
