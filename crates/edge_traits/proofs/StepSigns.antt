@@ -1,5 +1,5 @@
 -- What the steps of a link give, step by step.
-use Rattle.std.proofs.Common.{◌≡◌, ℕ, zero, suc, ◌+◌, ◌-◌, ◌^◌, ◌<◌, ◌≤◌, List, [], ◌∷◌, ◌++◌, length, map, take, drop, refl, sym, ap, ◌∙◌, arith, append_assoc, append-nil, take-append-drop}
+use Rattle.std.proofs.Common.{◌≡◌, ℕ, ◌+◌, ◌-◌, ◌^◌, ◌<◌, ◌≤◌, List, [], ◌∷◌, ◌++◌, length, map, take, drop, refl, sym, ap, ◌∙◌, arith, append_assoc, append-nil, take-append-drop}
 use Rattle.std.proofs.Math.Seq.{take-add}
 use Rattle.std.proofs.Math.ListN.{drop_of_length-le}
 use Rattle.std.proofs.lemmas.List.{drop-drop, map-append, take_all, length-drop}
@@ -8,7 +8,6 @@ use Rattle.edge_traits.specs.Wire.{signs_in, front_of, rest_of, taken_at, left_a
 use Rattle.edge_traits.specs.declared.steps.Look.TheVariants.{Gives, Pauses, Passes, Ends}
 use Rattle.edge_traits.specs.declared.steps.LinkStep.{LinkStep}
 use Rattle.edge_traits.specs.declared.steps.LinkStep.TheVariants.{Piece, Quiet}
-use Rattle.edge_traits.specs.declared.steps.Spot.{Spot}
 
 signs_in-append : (a b : List LinkStep) → signs_in (a ++ b) ≡ signs_in a ++ signs_in b
 signs_in-append [] b = refl

@@ -1,7 +1,6 @@
 -- What a read, a write and a close do to what a link tells.
-use Rattle.std.specs.Prelude.{◌≡◌, ℕ, ◌<◌, ◌≤◌, ⊤, Bool, true, false, List, [], ◌∷◌, ◌++◌, length, map, take, Some, None}
+use Rattle.std.specs.Prelude.{◌≡◌, ℕ, ⊤, Bool, true, false, List, [], ◌∷◌, ◌++◌, length, map, take, Some, None}
 use Rattle.std.specs.declared.option.Option.{Option}
-use Rattle.edge_traits.specs.Faults.{Plan}
 use Rattle.edge_traits.specs.declared.link.Heard.{Heard}
 use Rattle.edge_traits.specs.declared.link.Heard.TheVariants.{Bytes, Quiet, End, Failed}
 use Rattle.edge_traits.specs.declared.sink.Sent.{Sent}

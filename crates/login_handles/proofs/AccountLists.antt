@@ -23,8 +23,7 @@ pub HasOneEach-append : (accounts : List Account) (last : Account) → HasOneEac
     → HasOneEach (accounts ++ last ∷ [])
 HasOneEach-append [] last each none = (refl, tt)
 HasOneEach-append (first ∷ accounts) last each none =
-    let both = neither (bytes_eq (key_of first.name) (key_of last.name)) first (account_of accounts (key_of last.name)) none in
-    (
+    let both = neither (bytes_eq (key_of first.name) (key_of last.name)) first (account_of accounts (key_of last.name)) none in (
       account_of-append accounts last (key_of first.name) each.0 (nat_list_eq_equiv.symm (key_of last.name) (key_of first.name) ∙ both.0),
       HasOneEach-append accounts last each.1 both.1,
     )

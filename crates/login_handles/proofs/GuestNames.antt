@@ -1,7 +1,7 @@
 -- Guests' names differ, so fewer keys than there are guests leave a name free.
-use Rattle.std.proofs.Common.{◌≡◌, ◌≢◌, ℕ, zero, suc, ◌+◌, ◌-◌, ◌*◌, ◌/◌, ◌%◌, ◌<◌, ◌≤◌, Bool, true, false, not, cond, List, [], ◌∷◌, ◌++◌, length, map, refl, sym, ap, subst, ◌∙◌, arith, inl, inr}
+use Rattle.std.proofs.Common.{◌≡◌, ℕ, zero, suc, ◌+◌, ◌/◌, ◌%◌, ◌<◌, ◌≤◌, Bool, true, false, not, cond, List, [], ◌∷◌, length, refl, sym, ap, subst, ◌∙◌, arith, inl, inr}
 use Rattle.std.specs.Prelude.{◌⊎◌, ◌||◌, bytes_eq}
-use Rattle.std.specs.List.{filter, list_any}
+use Rattle.std.specs.List.{filter}
 use Rattle.std.specs.Char.{to_ascii_lowercase}
 use Rattle.std.specs.Cmp.Lexicographic.{nat_list_eq_equiv}
 use Rattle.std.proofs.lemmas.Slice.Eq.{bytes_eq-Decides}
@@ -60,6 +60,7 @@ taken-without (first ∷ taken) key gone differ h =
           | true ↦ λ same. absurd (differ (sym there ∙ (bytes_eq-Decides first gone).0 same))
           | false ↦ λ differs. refl
         ] refl
+
     later : (t : Bool) → is_taken (without gone taken) key ≡ true → is_taken (cond (not t) (first ∷ without gone taken) (without gone taken)) key ≡ true
     later true h = h
     later false h = or_true (bytes_eq first key) _ h
@@ -131,7 +132,9 @@ AllTaken-length (suc n) taken small_enough all =
   where
     not_below : (k n : ℕ) → k < n → k ≡ n → ⊥
     not_below k n h e = omega arith
+
     below : (k n : ℕ) → k < n → suc n ≤ 456976 → k < 456976
     below k n h s = omega arith
+
     more : (k n : ℕ) → k < n → k < suc n
     more k n h = omega arith

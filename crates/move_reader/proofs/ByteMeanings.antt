@@ -1,11 +1,10 @@
 -- What single bytes stand for, and the texts of one byte.
-use Rattle.std.proofs.Common.{◌≡◌, ℕ, ◌+◌, ◌-◌, ◌*◌, ◌/◌, ◌%◌, ◌<◌, ◌≤◌, Bool, true, false, cond, List, [], ◌∷◌, ◌++◌, refl, sym, ap, subst, ◌∙◌, arith, Some, None, inl, inr}
-use Rattle.std.specs.Prelude.{◌⊎◌, ◌&&◌, ◌==◌, nat_le, nat_lt, Option}
+use Rattle.std.proofs.Common.{◌≡◌, ℕ, ◌+◌, ◌-◌, ◌*◌, ◌/◌, ◌%◌, ◌<◌, ◌≤◌, Bool, true, false, cond, List, [], ◌∷◌, refl, sym, ap, subst, ◌∙◌, arith, Some, None, inl, inr}
+use Rattle.std.specs.Prelude.{◌&&◌, ◌==◌, nat_le, nat_lt}
 use Rattle.std.proofs.lemmas.Bool.{eqb-true}
 use Rattle.std.proofs.lemmas.Bool.Decides.{nat_tests}
 use Rattle.chess_model.specs.declared.man.Kind.{Kind}
-use Rattle.chess_model.specs.declared.man.Kind.TheVariants.{Pawn, Knight, Bishop, Rook, Queen, King}
-use Rattle.move_reader.specs.Spellings.{Text, OneOf, file_letters, rank_digits, square_names, man_letters, promotion_letters, drop_letters}
+use Rattle.move_reader.specs.Spellings.{Text, OneOf, square_names, man_letters, promotion_letters, drop_letters}
 use Rattle.move_reader.specs.Reading.{lookup, men, promotions, droppable, man_of, file_of_letter, rank_of_digit}
 
 pub not_some : {V : Type 0} {C : Type 0} (v : V) → None ≡ Some v → C

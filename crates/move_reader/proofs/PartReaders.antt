@@ -1,9 +1,9 @@
 -- The readers of a word's parts: what they take stands at the front of the text.
-use Rattle.std.proofs.Common.{◌≡◌, ℕ, ◌+◌, ◌*◌, ◌<◌, Bool, true, false, cond, List, [], ◌∷◌, ◌++◌, refl, sym, ap, subst, ◌∙◌, arith, Some, None, inl, inr}
+use Rattle.std.proofs.Common.{◌≡◌, ℕ, ◌+◌, ◌*◌, Bool, true, false, cond, List, [], ◌∷◌, refl, sym, ap, subst, Some, None, inl, inr}
 use Rattle.std.specs.Prelude.{◌⊎◌, ◌==◌, ◌||◌, Option}
 use Rattle.std.proofs.lemmas.Bool.{eqb-true}
 use Rattle.chess_model.specs.declared.man.Kind.{Kind}
-use Rattle.move_reader.specs.Spellings.{Text, OneOf, MadeOf, square_names, man_letters, origin_files, origin_ranks, promotion_letters, promotion_and, equals, marks}
+use Rattle.move_reader.specs.Spellings.{Text, OneOf, MadeOf, square_names, man_letters, origin_files, origin_ranks, promotion_letters, promotion_and, marks}
 use Rattle.move_reader.specs.Reading.{lookup, promotions, man_of, file_of_letter, rank_of_digit, told, leading, behind, squared, leading_square, ended, is_mark, is_empty, promoted, promotion_of, or_pawn}
 use Rattle.move_reader.proofs.ByteMeanings.{not_some, man_letter, promotion_letter, OneOf-if, is_below, file_read, rank_read, name_of_square}
 

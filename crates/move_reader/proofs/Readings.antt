@@ -1,10 +1,9 @@
 -- Reading is the way back from the spellings, both ways.
-use Rattle.std.proofs.Common.{◌≡◌, ℕ, List, refl, sym, ap, subst, ◌∙◌, Some, None}
+use Rattle.std.proofs.Common.{◌≡◌, refl, sym, ap, subst, ◌∙◌, Some, None}
 use Rattle.std.specs.Prelude.{Option}
-use Rattle.chess_model.specs.declared.man.Kind.{Kind}
 use Rattle.chess_model.specs.declared.moves.MoveWord.{MoveWord}
 use Rattle.chess_model.specs.declared.moves.MoveWord.TheVariants.{Coordinate, Named, Castle, Drop}
-use Rattle.move_reader.specs.Spellings.{Text, Spells, SpellsSquares, IsReading, HasOneReading}
+use Rattle.move_reader.specs.Spellings.{Text, SpellsSquares, IsReading, HasOneReading}
 use Rattle.move_reader.specs.Reading.{coordinate_of, named_of, castle_of, drop_of, first_of_two, reading}
 use Rattle.move_reader.proofs.ByteMeanings.{not_some}
 use Rattle.move_reader.proofs.WhatIsRead.{IsSquares, IsNamed, IsCastling, IsDrop, coordinate-sound, named-sound, castle-sound, drop-sound}

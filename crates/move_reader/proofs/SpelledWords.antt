@@ -1,16 +1,13 @@
 -- Each spelling of a word is read as the word.
-use Rattle.std.proofs.Common.{◌≡◌, ◌≢◌, ℕ, ◌+◌, ◌*◌, ◌/◌, ◌%◌, ◌<◌, ◌≤◌, Bool, true, false, cond, List, [], ◌∷◌, ◌++◌, refl, sym, ap, subst, ◌∙◌, arith, Some, None, inl, inr}
-use Rattle.std.specs.Prelude.{◌⊎◌, ◌==◌, nat_lt, Option, codes}
+use Rattle.std.proofs.Common.{◌≡◌, ℕ, ◌+◌, ◌*◌, ◌/◌, ◌%◌, ◌<◌, Bool, true, false, cond, List, [], ◌∷◌, ◌++◌, refl, sym, ap, subst, ◌∙◌, arith, Some, None, inl, inr}
+use Rattle.std.specs.Prelude.{◌==◌, nat_lt, Option, codes}
 use Rattle.chess_model.specs.declared.man.Kind.{Kind}
 use Rattle.chess_model.specs.declared.man.Kind.TheVariants.{Pawn, Knight, Bishop, Rook, Queen, King}
 use Rattle.chess_model.specs.declared.moves.MoveWord.{MoveWord}
 use Rattle.chess_model.specs.declared.moves.MoveWord.TheVariants.{Coordinate, Named, Castle, Drop}
-use Rattle.move_reader.specs.Spellings.{Text, OneOf, MadeOf, Spells, square_names, man_letters, origin_files, origin_ranks, captures, dashes, equals, marks, promotion_letters, drop_letters, promotion_and, castlings}
-use Rattle.move_reader.specs.Reading.{lookup, men, promotions, droppable, man_of, file_of_letter, rank_of_digit, told, leading, behind, squared, leading_square, ended, is_mark, is_empty, promoted, promotion_of, to_square, target_of, coordinate_from, coordinate_of, or_pawn, named_by, named_of, castle_of, dropped_at, dropped, drop_of, first_of_two, reading}
+use Rattle.move_reader.specs.Spellings.{Text, OneOf, MadeOf, Spells, square_names, man_letters, origin_files, origin_ranks, captures, equals, marks, promotion_letters, drop_letters, promotion_and, castlings}
+use Rattle.move_reader.specs.Reading.{lookup, promotions, man_of, file_of_letter, rank_of_digit, told, leading, behind, squared, leading_square, ended, is_mark, is_empty, promoted, promotion_of, to_square, target_of, coordinate_from, coordinate_of, or_pawn, named_by, named_of, dropped_at, reading}
 use Rattle.move_reader.proofs.ByteMeanings.{if-OneOf, below, above, under, file_again, rank_again, digit_no_file, letter_no_rank, letter_no_man, digit_no_man}
-
-
-
 
 -- the name of a square stands first
 pub record Begins (text : Text) (s : ℕ) (rest : Text) : Type 0 where
@@ -202,8 +199,7 @@ rank_taken : (text first rest : Text) (r : ℕ) → OneOf (origin_ranks (Some r)
 rank_taken text first rest r one e =
     let name = if-OneOf (nat_lt r 8) ((49 + r) ∷ []) first one in
     let fits = below r 8 name.0 in
-    let bytes : text ≡ (49 + r) ∷ rest = e ∙ ap (λ (x : Text). x ++ rest) name.1 in
-    (
+    let bytes : text ≡ (49 + r) ∷ rest = e ∙ ap (λ (x : Text). x ++ rest) name.1 in (
       fits,
       bytes,
       ap (leading rank_of_digit) bytes ∙ ap (λ (o : Option ℕ). told o (49 + r) rest) (rank_again r fits),

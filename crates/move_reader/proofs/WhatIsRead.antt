@@ -1,15 +1,15 @@
 -- What is read as a word is a spelling of it.
 use Rattle.std.proofs.Common.{◌≡◌, ℕ, ◌+◌, ◌*◌, Bool, true, false, cond, List, [], ◌∷◌, ◌++◌, length, take, drop, refl, sym, ap, subst, ◌∙◌, Some, None, inl, inr, take-append-drop}
-use Rattle.std.specs.Prelude.{◌⊎◌, ◌==◌, ◌&&◌, ◌||◌, Option, codes, bytes_eq}
+use Rattle.std.specs.Prelude.{◌==◌, ◌&&◌, ◌||◌, Option, codes, bytes_eq}
 use Rattle.std.proofs.lemmas.Bool.{eqb-true}
 use Rattle.std.proofs.lemmas.Slice.Eq.{bytes_eq-Decides}
 use Rattle.chess_model.specs.declared.man.Kind.{Kind}
 use Rattle.chess_model.specs.declared.moves.MoveWord.{MoveWord}
 use Rattle.chess_model.specs.declared.moves.MoveWord.TheVariants.{Coordinate, Named, Castle, Drop}
-use Rattle.move_reader.specs.Spellings.{Text, OneOf, MadeOf, Spells, square_names, man_letters, origin_files, origin_ranks, captures, dashes, marks, promotion_and, castlings}
+use Rattle.move_reader.specs.Spellings.{Text, OneOf, MadeOf, Spells, square_names, origin_files, origin_ranks, captures, dashes, marks, promotion_and}
 use Rattle.move_reader.specs.Reading.{lookup, droppable, man_of, file_of_letter, rank_of_digit, leading, behind, squared, leading_square, is_mark, is_empty, promotion_of, to_square, target_of, coordinate_from, coordinate_of, or_pawn, named_by, named_of, is_marked, is_castling, castle_of, dropped_at, dropped, drop_of}
 use Rattle.move_reader.proofs.ByteMeanings.{not_some, drop_letter}
-use Rattle.move_reader.proofs.PartReaders.{Takes, leading-takes, man-sound, file-sound, rank-sound, behind-sound, squared-both, square_named, square-sound, ended-both, promotion-sound, is_empty-sound, is_mark-sound}
+use Rattle.move_reader.proofs.PartReaders.{Takes, leading-takes, man-sound, file-sound, rank-sound, behind-sound, squared-both, square_named, square-sound, promotion-sound, is_empty-sound, is_mark-sound}
 
 -- a target and a promotion that were read
 pub target-both : (word : ℕ → Option Kind → MoveWord) (is_end : Text → Bool) (found : Option (ℕ × Text)) (w : MoveWord) → target_of word is_end found ≡ Some w
@@ -32,11 +32,15 @@ coordinate-step text (Some from) w is e =
     let got = target-both (Coordinate from.0) is_empty (leading_square (behind 45 from.1)) w e in
     let to = got.0 in
     let rest = got.1 in
-    let promo = got.2 in
-    (from.0, to, promo, got.5,
+    let promo = got.2 in (
+      from.0,
+      to,
+      promo,
+      got.5,
       square-sound text from (dashes ∷ square_names to ∷ promotion_and promo []) is
-      (behind-sound 45 from.1 (square_names to ∷ promotion_and promo [])
-      (square-sound (behind 45 from.1) (to, rest) (promotion_and promo []) got.3 (promotion-sound is_empty [] rest promo is_empty-sound got.4))))
+          (behind-sound 45 from.1 (square_names to ∷ promotion_and promo [])
+          (square-sound (behind 45 from.1) (to, rest) (promotion_and promo []) got.3 (promotion-sound is_empty [] rest promo is_empty-sound got.4))),
+    )
 
 pub coordinate-sound : (text : Text) (w : MoveWord) → coordinate_of text ≡ Some w → IsSquares text w
 coordinate-sound text w e = coordinate-step text (leading_square text) w refl e
@@ -72,13 +76,19 @@ named-step text w (Some found) is e =
     let to = got.0 in
     let rest = got.1 in
     let promo = got.2 in
-    let ends = promotion_and promo (marks ∷ []) in
-    (or_pawn man.0, file.0, rank.0, to, promo, got.5,
+    let ends = promotion_and promo (marks ∷ []) in (
+      or_pawn man.0,
+      file.0,
+      rank.0,
+      to,
+      promo,
+      got.5,
       man-sound text (origin_files file.0 ∷ origin_ranks rank.0 ∷ captures ∷ square_names to ∷ ends)
-      (file-sound man.1 (origin_ranks rank.0 ∷ captures ∷ square_names to ∷ ends)
-      (rank-sound file.1 (captures ∷ square_names to ∷ ends)
-      (behind-sound 120 rank.1 (square_names to ∷ ends)
-      (square-sound (behind 120 rank.1) (to, rest) ends (is ∙ got.3) (promotion-sound is_mark (marks ∷ []) rest promo is_mark-sound got.4))))))
+          (file-sound man.1 (origin_ranks rank.0 ∷ captures ∷ square_names to ∷ ends)
+          (rank-sound file.1 (captures ∷ square_names to ∷ ends)
+          (behind-sound 120 rank.1 (square_names to ∷ ends)
+          (square-sound (behind 120 rank.1) (to, rest) ends (is ∙ got.3) (promotion-sound is_mark (marks ∷ []) rest promo is_mark-sound got.4))))),
+    )
 named-step text w None is e =
     let man = leading man_of text in
     let file = leading file_of_letter man.1 in
@@ -91,12 +101,34 @@ named-step text w None is e =
     let ends = promotion_and promo (marks ∷ []) in
     let target : 8 * r + f ≡ got.0 = sym (ap (λ (x : ℕ × Text). x.0) both.4) in
     let end : rank.1 ≡ got.1 = sym (ap (λ (x : ℕ × Text). x.1) both.4) in
-    let promotion : promotion_of is_mark rank.1 ≡ Some promo = ap (λ (x : Text). promotion_of is_mark x) end ∙ got.4 in
-    (or_pawn man.0, None, None, 8 * r + f, promo, ap (λ (x : ℕ). Named (or_pawn man.0) None None x promo) target ∙ got.5,
-      man-sound text (([] ∷ []) ∷ ([] ∷ []) ∷ captures ∷ square_names (8 * r + f) ∷ ends)
-      ([], man.1, inl refl, ([], man.1, inl refl, ([], man.1, inl refl,
-      file-rank-rest man.1 f r file rank ends (leading-takes file_of_letter man.1) (leading-takes rank_of_digit file.1) both.2 both.3
-      (promotion-sound is_mark (marks ∷ []) rank.1 promo is_mark-sound promotion), refl), refl), refl))
+    let promotion : promotion_of is_mark rank.1 ≡ Some promo = ap (λ (x : Text). promotion_of is_mark x) end ∙ got.4 in (
+      or_pawn man.0,
+      None,
+      None,
+      8 * r + f,
+      promo,
+      ap (λ (x : ℕ). Named (or_pawn man.0) None None x promo) target ∙ got.5,
+      man-sound text (([] ∷ []) ∷ ([] ∷ []) ∷ captures ∷ square_names (8 * r + f) ∷ ends) (
+        [],
+        man.1,
+        inl refl,
+        (
+          [],
+          man.1,
+          inl refl,
+          (
+            [],
+            man.1,
+            inl refl,
+            file-rank-rest man.1 f r file rank ends (leading-takes file_of_letter man.1) (leading-takes rank_of_digit file.1) both.2 both.3
+                (promotion-sound is_mark (marks ∷ []) rank.1 promo is_mark-sound promotion),
+            refl,
+          ),
+          refl,
+        ),
+        refl,
+      ),
+    )
 
 pub named-sound : (text : Text) (w : MoveWord) → named_of text ≡ Some w → IsNamed text w
 named-sound text w e = named-step text w (leading_square (behind 120 (leading rank_of_digit (leading file_of_letter (leading man_of text).1).1).1)) refl e
@@ -108,9 +140,13 @@ both_true false b e = absurd (let bad : false ≡ true = e in cc)
 marked : (word text : Text) (choices : List Text) → OneOf choices word → is_marked word text ≡ true → MadeOf (choices ∷ marks ∷ []) text
 marked word text choices one e =
     let both = both_true (bytes_eq (take (length word) text) word) (is_mark (drop (length word) text)) e in
-    let front : take (length word) text ≡ word = (bytes_eq-Decides (take (length word) text) word).0 both.0 in
-    (word, drop (length word) text, one, is_mark-sound (drop (length word) text) both.1,
-      sym (take-append-drop (length word) text) ∙ ap (λ (x : Text). x ++ drop (length word) text) front)
+    let front : take (length word) text ≡ word = (bytes_eq-Decides (take (length word) text) word).0 both.0 in (
+      word,
+      drop (length word) text,
+      one,
+      is_mark-sound (drop (length word) text) both.1,
+      sym (take-append-drop (length word) text) ∙ ap (λ (x : Text). x ++ drop (length word) text) front,
+    )
 
 one_of_three : (a b c text : Text) → is_castling a b c text ≡ true → MadeOf ((a ∷ b ∷ c ∷ []) ∷ marks ∷ []) text
 one_of_three a b c text e =
@@ -147,9 +183,12 @@ dropped-step : (letter : ℕ) (rest : Text) (w : MoveWord) (man : Kind) (found :
 dropped-step letter rest w man None is found e = not_some w e
 dropped-step letter rest w man (Some at) is found e =
     elim (is_mark at.1) as (λ t. is_mark at.1 ≡ t → cond t (Some (Drop man at.0)) None ≡ Some w → IsDrop (letter ∷ 64 ∷ rest) w) [
-      | true ↦ λ end e.
-          (man, at.0, let same : Drop man at.0 ≡ w = cc in same,
-            (letter ∷ [], 64 ∷ rest, drop_letter letter man is, (64 ∷ [], rest, inl refl, square-sound rest at (marks ∷ []) found (is_mark-sound at.1 end), refl), refl))
+      | true ↦ λ end e. (
+        man,
+        at.0,
+        let same : Drop man at.0 ≡ w = cc in same,
+        (letter ∷ [], 64 ∷ rest, drop_letter letter man is, (64 ∷ [], rest, inl refl, square-sound rest at (marks ∷ []) found (is_mark-sound at.1 end), refl), refl),
+      )
       | false ↦ λ end e. not_some w e
     ] refl e
 

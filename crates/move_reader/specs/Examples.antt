@@ -1,6 +1,6 @@
 -- Worked examples: what players type, and the words that it is read as.
-use Rattle.std.specs.Prelude.{◌≡◌, true, false, Some, None, codes, refl}
-use Rattle.chess_model.specs.declared.man.Kind.TheVariants.{Pawn, Knight, Bishop, Rook, Queen, King}
+use Rattle.std.specs.Prelude.{◌≡◌, true, Some, None, codes, refl}
+use Rattle.chess_model.specs.declared.man.Kind.TheVariants.{Pawn, Knight, Bishop, Queen}
 use Rattle.chess_model.specs.declared.moves.MoveWord.TheVariants.{Coordinate, Named, Castle, Drop}
 use Rattle.move_reader.specs.Reading.{reading}
 

@@ -19,6 +19,8 @@ use chess_model::{Kind, MoveWord};
 pub fn read_word(bytes: &[u8]) -> Option<MoveWord>
     ensures read { IfSome result (λ word. IsReading bytes.now word) }
     ensures none { IfNone result ((word : MoveWord) → IsReading bytes.now word → ⊥) }
+    // from left to right, as a function that computes
+    ensures computed { result ≡ reading bytes.now }
 {
     read_first(bytes)
 }

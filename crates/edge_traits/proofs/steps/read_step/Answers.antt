@@ -1,4 +1,4 @@
-use Rattle.std.proofs.Common.{◌≡◌, ◌+◌, ◌-◌, ◌<◌, ◌≤◌, ◌^◌, ℕ, List, [], ◌∷◌, ◌++◌, length, map, take, refl, sym, ap, ◌∙◌, arith, append-nil}
+use Rattle.std.proofs.Common.{◌≡◌, ◌+◌, List, [], ◌∷◌, ◌++◌, map, take, refl, sym, ap, ◌∙◌, arith, append-nil}
 use Rattle.edge_traits.specs.Link.{Sign, Byte, Pause}
 use Rattle.edge_traits.specs.Wire.{taken_at, left_at}
 use Rattle.edge_traits.specs.declared.steps.Spot.{Spot}
@@ -52,8 +52,7 @@ loop-n-smaller c =
 pub loop-n-preserved : goal.loop-n-preserved
 loop-n-preserved c =
     let seen = at_pass c.split_at.result.1.now c.args.steps.now c.loop-n.at.step c.loop-n.at.offset c.look_at.new.buf c.split_at.ensures.back c.in-Passes.ensures in
-    let next : c.next_step-at.result.step ≡ c.loop-n.at.step + 1 = ap (λ (s : Spot). s.step) c.next_step-at.ensures in
-    (
+    let next : c.next_step-at.result.step ≡ c.loop-n.at.step + 1 = ap (λ (s : Spot). s.step) c.next_step-at.ensures in (
       ap (left_at c.args.steps.now) c.next_step-at.ensures ∙ seen.left ∙ c.loop-n.invariant.0,
       ap (taken_at c.args.steps.now) c.next_step-at.ensures ∙ seen.taken ∙ c.loop-n.invariant.1,
       omega (arith, seen.within, next),

@@ -1,4 +1,4 @@
-use Rattle.std.proofs.Common.{◌≡◌, ◌+◌, ◌<◌, ◌≤◌, ℕ, Bool, true, false, List, length, sym, ap, ◌∙◌, arith}
+use Rattle.std.proofs.Common.{◌≡◌, ◌+◌, ◌<◌, ℕ, Bool, true, List, length, sym, ap, ◌∙◌, arith}
 use Rattle.fics_words.specs.Handle.{key_of}
 use Rattle.login_handles.specs.Guests.{guest_of, is_taken}
 use Rattle.login_handles.proofs.GuestNames.{AllTaken, AllTaken-none, AllTaken-more, AllTaken-length}

@@ -1,5 +1,4 @@
-use Rattle.std.proofs.Common.{◌≡◌, Bool, false, List, None, sym, ap, subst, ◌∙◌, arith}
-use Rattle.std.specs.Prelude.{Option, is_some}
+use Rattle.std.proofs.Common.{◌≡◌, List, None, sym, ap, subst, ◌∙◌, arith}
 use Rattle.fics_words.specs.declared.account.Account.{Account}
 use Rattle.fics_words.specs.Handle.{key_of}
 use Rattle.login_handles.specs.Accounts.{account_of, AreAccounts}
