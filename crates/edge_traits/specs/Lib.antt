@@ -1,5 +1,7 @@
 pub mod Faults
 pub mod Keeper
+pub mod Link
 pub mod Pairs
 pub mod Sink
 pub mod Source
+pub mod Wire

@@ -4,17 +4,27 @@
 //! tells it. Code that is generic in these traits can't raise a count by itself.
 #![tactic(auto)]
 
+mod clock;
 mod fault_plan;
+mod gate;
 mod keeper;
+mod link;
 mod mem_keeper;
+mod mem_link;
 mod mem_sink;
 mod mem_source;
 mod sink;
 mod source;
+mod steps;
 
+pub use clock::{Clock, StillClock};
+pub use gate::{Gate, OpenGate};
 pub use keeper::{Keeper, KeeperFail, Kept, Pair};
+pub use link::{Heard, Link};
 pub use mem_keeper::MemKeeper;
+pub use mem_link::MemLink;
 pub use mem_sink::MemSink;
 pub use mem_source::MemSource;
 pub use sink::{Sent, Sink};
 pub use source::{Got, Source};
+pub use steps::LinkStep;

@@ -1,0 +1,2 @@
+pub mod AccountLists
+pub mod GuestNames

@@ -1,0 +1,108 @@
+//! Accounts: the registered handles and their passwords' digests.
+
+ghost use Rattle.std.specs.Prelude.{◌≡◌, IfOk, option_copied};
+ghost use Rattle.login_handles.specs.Accounts.{account_of};
+
+use crate::check::Check;
+use collections::Listed;
+use fics_words::{Account, Digest, Duplicate, Fail, Handle, HandleKey, NoMemory, Refusal};
+use std::alloc::Global;
+use std::marker::Model;
+
+/// The most accounts.
+const MOST: usize = 4_096;
+
+/// The accounts of a server, in the order in which they were made. Contracts see the list of them.
+#[derive(Debug, Drop)]
+pub struct Accounts {
+    rows: Listed<Account>,
+}
+
+impl Model for Accounts {
+    ghost use Rattle.std.specs.Prelude.{List};
+    ghost use Rattle.fics_words.specs.declared.account.Account.{Account};
+    ghost use Rattle.login_handles.specs.Accounts.{AreAccounts};
+
+    ghost Value = { List Account };
+
+    ghost view = { λ accounts. accounts.rows };
+
+    ghost invariant = { λ accounts. AreAccounts accounts.rows };
+}
+
+impl Accounts {
+    ghost use Rattle.std.specs.Prelude.{◌≡◌, []};
+    ghost use Rattle.fics_words.specs.Effect.{Takes};
+    ghost use Rattle.login_handles.specs.Accounts.{AreAccounts, account_of, check_of, registering};
+
+    /// No accounts; takes no memory.
+    pub fn new(alloc: Global) -> Accounts
+        ensures { result ≡ [] }
+    {
+        Accounts {
+            rows: Listed::new(alloc),
+        }
+    }
+
+    /// What a login under this name finds with this digest, or with none.
+    pub fn check(&self, name: HandleKey, digest: Option<Digest>) -> Check
+        ensures { result ≡ check_of (account_of self.now name) digest }
+    {
+        let Some(account) = find_account(self.rows.as_slice(), &name) else {
+            return Check::Free;
+        };
+        let Some(digest) = digest else {
+            return Check::NeedPassword;
+        };
+        if digest == account.digest {
+            Check::Right
+        } else {
+            Check::Wrong
+        }
+    }
+
+    /// The account of the handle that has this key, if there is one.
+    pub fn get(&self, name: HandleKey) -> Option<Account>
+        ensures { result ≡ account_of self.now name }
+    {
+        find_account(self.rows.as_slice(), &name).copied()
+    }
+
+    /// Makes an account of the handle, behind the others. Refuses with `AlreadyRegistered` where the handle has one,
+    /// and else with `AccountsFull` where there are 4,096.
+    pub fn add(&mut self, name: Handle, digest: Digest) -> Result<(), Fail>
+        ensures { Takes (registering self.old name digest) self.old self.new result }
+    {
+        if find_account(self.rows.as_slice(), &name.key()).is_some() {
+            return Err(Fail::Refused(Refusal::AlreadyRegistered));
+        }
+        if self.rows.len() >= MOST {
+            return Err(Fail::Refused(Refusal::AccountsFull));
+        }
+        self.rows.push(Account { name, digest })?;
+        Ok(())
+    }
+
+    /// The accounts, in the order in which they were made.
+    pub fn rows(&self) -> &[Account]
+        ensures rows { result.now ≡ self.now }
+        ensures accounts { AreAccounts self.now }
+    {
+        self.rows.as_slice()
+    }
+}
+
+impl Duplicate for Accounts {
+    fn duplicate(&self) -> Result<Accounts, NoMemory> {
+        Ok(Accounts {
+            rows: self.rows.duplicate()?,
+        })
+    }
+}
+
+/// The account of the handle that has this key, if there is one.
+fn find_account<'a>(rows: &'a [Account], key: &HandleKey) -> Option<&'a Account>
+    ensures { option_copied result ≡ account_of rows.now key.now }
+{
+    rows.iter().find(|row| row.name.key() == *key)
+}

@@ -1,0 +1,4 @@
+pub mod Ends
+pub mod Examples
+pub mod Reading
+pub mod Spellings

@@ -1,0 +1,10 @@
+//! Tests of the words that players type and of what stands behind a login: tables whose expected values come from the
+//! standards of chess notation, from FIPS 180-4 and from the server's rules, written out by hand.
+#![tactic(auto)]
+
+#[cfg(test)]
+mod links;
+#[cfg(test)]
+mod logins;
+#[cfg(test)]
+mod spellings;
