@@ -12,11 +12,12 @@ use Rattle.chess_model.specs.Squares.{file_of, rank_of, files_apart, square_at, 
 use Rattle.chess_model.specs.Placement.{man_at, opposite, IsHeldBy, IsHeldAs}
 use Rattle.chess_model.specs.Reach.{IsForward, IsStep, Strikes, Goes, Reaches}
 use Rattle.chess_model.specs.Attacked.{StrikesAs, IsAttacked, IsKingSafe}
-use Rattle.chess_model.specs.MoveList.{is_pawn_kind, is_pawn, is_en_passant, taking_square, taken}
+use Rattle.chess_model.specs.MoveList.{is_pawn_kind, is_pawn, is_en_passant, taking_square, taken, landed, place_after}
 use Rattle.chess_model.specs.Position.{Position}
 use Rattle.chess_model.specs.Allowed.{HasPromotion, GoesAs, IsPlainMove, Allowed}
-use Rattle.chess_model.specs.LegalPositions.{behind, HasPassed, IsSound, IsPrey}
-use Rattle.chess_model.proofs.ChessLaws.{Clear-near, opposite-opposite}
+use Rattle.chess_model.specs.Laws.{MovesOneMan}
+use Rattle.chess_model.specs.LegalPositions.{behind, HasPassed, IsSound, IsPrey, IsPassing, MovesAMan}
+use Rattle.chess_model.proofs.ChessLaws.{Clear-near, opposite-opposite, known_squares}
 
 -- the own man that makes a plain move
 pub record IsMover (p : Position) (a b : ℕ) (promo : Option Kind) (m : Man) : Type 0 where
@@ -38,7 +39,7 @@ pub data Take (p : Position) (a b : ℕ) : Type 0 where
   nothing : taking_square p.men a b ≡ b → man_at p.men b ≡ None → Take p a b
   on_target : (x : Man) → taking_square p.men a b ≡ b → man_at p.men b ≡ Some x → IsPrey p x → Take p a b
   passing : taking_square p.men a b ≡ behind (opposite p.to_move) b → HasPassed p.men (opposite p.to_move) b →
-      taking_square p.men a b ≢ b → Take p a b
+      taking_square p.men a b ≢ b → IsPassing p a b → Take p a b
 
 take_on : (q : Bool) (s b : ℕ) → q ≡ false → cond q s b ≡ b
 take_on true s b e = cc
@@ -163,7 +164,12 @@ pawn_takes p a b m sound ha hb from own pawn (inr takes) = elim (takes.enemy) [
       (not_equal (file_of a) (file_of b) (files_differ a b takes.step.0)) in
       let there : taking_square p.men a b ≡ behind (opposite p.to_move) b =
       take_beside (is_en_passant p.men a b) (square_at (file_of b) (rank_of a)) b q ∙ beside p.to_move a b takes.step.1 in
-      passing there passed (λ e. behind_differs p.to_move a b takes.step.1 (sym there ∙ e))
+      let how : IsPassing p a b = record {
+        pawn = subst (λ o. IsHeldAs p.to_move Pawn o) (sym from) (own, pawn);
+        square = square;
+        files = files_differ a b takes.step.0;
+      } in
+      passing there passed (λ e. behind_differs p.to_move a b takes.step.1 (sym there ∙ e)) how
 ]
 
 take_by : (p : Position) (a b : ℕ) (m : Man) → IsSound p → a < 64 → b < 64 → man_at p.men a ≡ Some m → m.colour ≡ p.to_move →
@@ -197,10 +203,56 @@ prey_of p a b x (on_target y square there prey) e =
     let f : Some y ≡ Some x = sym there ∙ ap (man_at p.men) (sym square) ∙ e in
     let same : y ≡ x = cc in
     subst (λ z. IsPrey p z) same prey
-prey_of p a b x (passing square passed differ) e =
+prey_of p a b x (passing square passed differ how) e =
     pawn_is_prey p (man_at p.men (behind (opposite p.to_move) b)) x (ap (man_at p.men) (sym square) ∙ e) passed.pawn
 
 pub captures_prey : (p : Position) (m : Move) → IsSound p → Allowed p m → (x : Man) → taken p.men m ≡ Some x → IsPrey p x
 captures_prey p (Plain a b promo) sound h x e = prey_of p a b x (take_of p a b promo sound h.move) e
 captures_prey p (Castle long) sound h x e = cc
 captures_prey p (Drop k to) sound h x e = cc
+
+-- an en passant capture, by its squares
+passing_square : (p : Position) (a b : ℕ) (m : Man) → IsSound p → man_at p.men a ≡ Some m → m.kind ≡ Pawn → IsPassing p a b →
+    Reaches p.men p.en_passant p.to_move Pawn a b →
+    (taking_square p.men a b ≡ behind (opposite p.to_move) b) × (taking_square p.men a b ≢ b)
+unfolding IsStep
+passing_square p a b m sound from pawn how (inl ahead) = absurd (how.files (omega (arith, ahead.file)))
+passing_square p a b m sound from pawn how (inr takes) =
+    let passed = sound.passed b how.square in
+    let q : is_en_passant p.men a b ≡ true =
+    all_three (is_pawn (man_at p.men a)) (is_none (man_at p.men b)) (not (nat_eq (file_of a) (file_of b)))
+    (ap is_pawn from ∙ ap is_pawn_kind pawn) (ap is_none passed.empty) (not_equal (file_of a) (file_of b) how.files) in
+    let there : taking_square p.men a b ≡ behind (opposite p.to_move) b =
+    take_beside (is_en_passant p.men a b) (square_at (file_of b) (rank_of a)) b q ∙ beside p.to_move a b takes.step.1 in
+    (there, λ e. behind_differs p.to_move a b takes.step.1 (sym there ∙ e))
+
+held_kind : (c : Colour) (k : Kind) (o : Option Man) (m : Man) → o ≡ Some m → IsHeldAs c k o → m.kind ≡ k
+held_kind c k None m e h = absurd h
+held_kind c k (Some x) m e h = (let same : x ≡ m = cc in ap (λ (y : Man). y.kind) (sym same)) ∙ h.1
+
+-- the square that a move takes on is its target, or the move is en passant
+takes_where : (p : Position) (a b s : ℕ) → Take p a b → s ≢ b → (IsPassing p a b → s ≢ behind (opposite p.to_move) b) →
+    s ≢ taking_square p.men a b
+takes_where p a b s (nothing square free) other away e = other (e ∙ square)
+takes_where p a b s (on_target x square there prey) other away e = other (e ∙ square)
+takes_where p a b s (passing square passed differ how) other away e = away how (e ∙ square)
+
+pub moves_a_man : (p : Position) (a b : ℕ) (promo : Option Kind) → IsSound p → Allowed p (Plain a b promo) →
+    MovesAMan p a b promo (place_after p.variant p.men p.to_move (Plain a b promo))
+moves_a_man p a b promo sound h =
+    let known : MovesOneMan p.men a b promo (place_after p.variant p.men p.to_move (Plain a b promo)) = known_squares p (Plain a b promo) sound.squares h in
+    let who = mover p a b promo h.move in
+    record {
+      leaves = known.origin;
+      arrives = λ e. known.target ∙ ap (landed (man_at p.men a)) e;
+      becomes = λ k e.
+          known.target ∙ ap (landed (man_at p.men a)) e ∙ ap (λ o. landed o (Some k)) who.1.there ∙
+          ap (λ (c : Colour). Some (record { colour = c; kind = k; promoted = true })) who.1.own;
+      passes = λ how.
+          let pawn : who.0.kind ≡ Pawn = held_kind p.to_move Pawn (man_at p.men a) who.0 who.1.there how.pawn in
+          let reach : Reaches p.men p.en_passant p.to_move Pawn a b =
+          subst (λ k. Reaches p.men p.en_passant p.to_move k a b) pawn who.1.reaches in
+          let t = passing_square p a b who.0 sound who.1.there pawn how reach in
+          ap (man_at (place_after p.variant p.men p.to_move (Plain a b promo))) (sym t.0) ∙ known.taken t.1;
+      others = λ s from to away. known.others s from to (takes_where p a b s (take_of p a b promo sound h.move) to away);
+    }

@@ -12,6 +12,7 @@ pub mod StandsAfter
 pub mod StatesTold
 pub mod TestsDecide
 pub mod Texts
+pub mod Threefold
 pub mod Turns
 pub mod Weights
 pub mod WordsDecide

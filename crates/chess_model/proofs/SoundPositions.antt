@@ -26,12 +26,12 @@ use Rattle.chess_model.specs.Allowed.{IsPromotion, HasPromotion, right_of, Allow
 use Rattle.chess_model.specs.Tests as test
 use Rattle.chess_model.specs.Next.{next, next_rights}
 use Rattle.chess_model.specs.Laws.{MovesOneMan, MovesKingAndRook}
-use Rattle.chess_model.specs.LegalPositions.{behind, HasPassed, AreAtHome, IsSound, IsPrey, LegalPositionsAreSound}
+use Rattle.chess_model.specs.LegalPositions.{behind, HasPassed, AreAtHome, IsSound, IsPrey, LegalPositionsAreSound, MovesAMan}
 use Rattle.chess_model.proofs.MoreMoves.{one, moves_of-same, moves_of-other, place_from-append, side_from-append, settings-append, rights_after-append, en_passant_after-append}
 use Rattle.chess_model.proofs.NoMoreMen.{cond_and-false, length-place_after}
 use Rattle.chess_model.proofs.ChessLaws.{known_squares, opposite-opposite}
 use Rattle.chess_model.proofs.TestsDecide.{Decides-kind, Decides-king_safe}
-use Rattle.chess_model.proofs.Captures.{IsMover, mover, Take, nothing, on_target, passing, take_of, captures_prey}
+use Rattle.chess_model.proofs.Captures.{IsMover, mover, Take, nothing, on_target, passing, take_of, captures_prey, moves_a_man}
 use Rattle.chess_model.proofs.Weights.{IsSteady, brought, weight-after}
 
 -- kings
@@ -104,7 +104,7 @@ record IsPieceOn (P : Placement) (s : ℕ) : Type 0 where
 not_taken : (p : Position) (a b s : ℕ) → IsPieceOn p.men s → s ≢ b → Take p a b → s ≢ taking_square p.men a b
 not_taken p a b s piece differ (nothing square free) e = differ (e ∙ square)
 not_taken p a b s piece differ (on_target x square there prey) e = differ (e ∙ square)
-not_taken p a b s piece differ (passing square passed beside) e =
+not_taken p a b s piece differ (passing square passed beside how) e =
     piece.piece (held_apart piece.colour (opposite p.to_move) piece.kind Pawn (man_at p.men s) piece.there
     (subst (λ t. IsHeldAs (opposite p.to_move) Pawn (man_at p.men t)) (sym (e ∙ square)) passed.pawn))
 
@@ -416,4 +416,10 @@ pub legal_sound : LegalPositionsAreSound
 legal_sound = record {
   sound = sound_after;
   captures = λ v T b m legal h. captures_prey (position_after v T b) m (sound_after v T b legal) h;
+  plain_moves = λ v T n a b promo legal h.
+      let grown : place_after v (position_after v T n).men (position_after v T n).to_move (Plain a b promo)
+      ≡ (position_after v (T ++ one n (Plain a b promo)) n).men =
+      sym (ap (place_from v (array_of v) White) (moves_of-same n T (Plain a b promo)) ∙ place_from-append v (array_of v) White (moves_of n T) (Plain a b promo)) in
+      subst (λ Q. MovesAMan (position_after v T n) a b promo Q) grown
+      (moves_a_man (position_after v T n) a b promo (sound_after v T n legal) h);
 }

@@ -33,11 +33,11 @@ always a = (λ _. a, λ _. refl)
 itself : (b : Bool) → Decides b (IsTrue b)
 itself b = (λ e. e, λ e. e)
 
-same_colour-self : (c : Colour) → same_colour c c ≡ true
+pub same_colour-self : (c : Colour) → same_colour c c ≡ true
 same_colour-self White = refl
 same_colour-self Black = refl
 
-same_kind-self : (k : Kind) → same_kind k k ≡ true
+pub same_kind-self : (k : Kind) → same_kind k k ≡ true
 same_kind-self Pawn = refl
 same_kind-self Knight = refl
 same_kind-self Bishop = refl

@@ -135,7 +135,7 @@ target_free p a b ha ht take =
     why : {p : Position} {a b : ℕ} → Take p a b → (b ≡ taking_square p.men a b) ⊎ (man_at p.men b ≡ None)
     why (nothing square free) = inr free
     why (on_target x square there prey) = inl (sym square)
-    why (passing square passed differ) = inr passed.empty
+    why (passing square passed differ how) = inr passed.empty
 
 -- what stands after a half-move and what it took weigh what stood before and what it brought
 pub weight-after : (f : Option Man → ℕ) → IsSteady f → (p : Position) (m : Move) → IsSound p → Allowed p m →

@@ -1,6 +1,6 @@
 -- The draws that a player may claim: fifty moves without a pawn's move or a capture, and a position that stands for the
 -- third time (FIDE Laws 9.2 and 9.3).
-use Rattle.std.specs.Prelude.{ℕ, ◌+◌, Bool, true, false, ◌&&◌, nat_eq, nat_le, if◌then◌else◌, List, length, map, take, count_by, Option, Some, None}
+use Rattle.std.specs.Prelude.{ℕ, ◌+◌, ◌<◌, ◌↔◌, IsTrue, Bool, true, false, ◌&&◌, nat_eq, nat_le, if◌then◌else◌, List, length, map, take, count_by, Option, Some, None}
 use Rattle.std.specs.Bool.{beq}
 use Rattle.std.specs.List.{list_all, list_any, range_with_len}
 use Rattle.chess_model.specs.declared.man.Man.{Man}
@@ -62,11 +62,27 @@ same_position p q =
 abbrev pub alone_on : ℕ → List Move → List HalfMove
 alone_on b ms = map (λ m. record { board = b; what = m }) ms
 
+-- the position of a board after its first n half-moves
+abbrev pub after_first : Variant → List HalfMove → ℕ → ℕ → Position
+after_first v T b n = position_after v (alone_on b (take n (moves_of b T))) b
+
 -- the positions of a board from the start of the game to the present one
 unfoldable pub positions_of : Variant → List HalfMove → ℕ → List Position
-positions_of v T b =
-    map (λ n. position_after v (alone_on b (take n (moves_of b T))) b) (range_with_len 0 (length (moves_of b T) + 1))
+positions_of v T b = map (after_first v T b) (range_with_len 0 (length (moves_of b T) + 1))
 
 -- the present position stands at least for the third time
 unfoldable pub is_threefold : Variant → List HalfMove → ℕ → Bool
 is_threefold v T b = nat_le 3 (count_by (same_position (position_after v T b)) (positions_of v T b))
+
+-- the present position of a board has stood after two earlier numbers of half-moves
+pub record HasStoodTwice (v : Variant) (T : List HalfMove) (b : ℕ) : Type 0 where
+  pub first : ℕ
+  pub second : ℕ
+  pub order : first < second
+  pub before : second < length (moves_of b T)
+  pub first_same : IsTrue (same_position (position_after v T b) (after_first v T b first))
+  pub second_same : IsTrue (same_position (position_after v T b) (after_first v T b second))
+
+-- a position stands for the third time exactly where it has stood twice before
+abbrev pub ThirdTimes : Type 0
+ThirdTimes = (v : Variant) (T : List HalfMove) (b : ℕ) → IsTrue (is_threefold v T b) ↔ HasStoodTwice v T b

@@ -1,12 +1,14 @@
 -- What holds in every position that a legal list of half-moves leads to.
-use Rattle.std.specs.Prelude.{◌≡◌, ◌≢◌, ℕ, ◌+◌, ◌-◌, ◌%◌, ◌<◌, Bool, true, false, IsTrue, List, [], ◌∷◌, ◌++◌, count_by, Some, None, length, slice_index_or}
+use Rattle.std.specs.Prelude.{◌≡◌, ◌≢◌, ℕ, ◌+◌, ◌-◌, ◌%◌, ◌<◌, Bool, true, false, IsTrue, List, [], ◌∷◌, ◌++◌, count_by, Option, Some, None, length, slice_index_or}
 use Rattle.chess_model.specs.declared.man.Colour.{Colour}
 use Rattle.chess_model.specs.declared.man.Colour.TheVariants.{White, Black}
+use Rattle.chess_model.specs.declared.man.Kind.{Kind}
 use Rattle.chess_model.specs.declared.man.Kind.TheVariants.{Pawn, Rook, King}
 use Rattle.chess_model.specs.declared.man.Man.{Man}
 use Rattle.chess_model.specs.declared.moves.Move.{Move}
+use Rattle.chess_model.specs.declared.moves.Move.TheVariants.{Plain}
 use Rattle.chess_model.specs.declared.variant.Variant.{Variant}
-use Rattle.chess_model.specs.Squares.{rank_of}
+use Rattle.chess_model.specs.Squares.{file_of, rank_of}
 use Rattle.chess_model.specs.Men.{is_held_as}
 use Rattle.chess_model.specs.Placement.{Placement, man_at, opposite, IsHeldAs, unpromoted, home_rank, array_of, king_home, rook_home}
 use Rattle.chess_model.specs.Attacked.{IsKingSafe}
@@ -45,11 +47,29 @@ pub record IsPrey (p : Position) (man : Man) : Type 0 where
   pub enemy : man.colour ≡ opposite p.to_move
   pub no_king : man.kind ≢ King
 
+-- a pawn of the side to move goes from a to the en passant square b, which is on another file
+pub record IsPassing (p : Position) (a b : ℕ) : Type 0 where
+  pub pawn : IsHeldAs p.to_move Pawn (man_at p.men a)
+  pub square : p.en_passant ≡ Some b
+  pub files : file_of a ≢ file_of b
+
+-- what a plain move from a to b does: the man leaves a and stands on b, or there stands what the pawn became; a pawn
+-- that goes to the en passant square takes the pawn behind it; every other square is as before
+pub record MovesAMan (p : Position) (a b : ℕ) (promo : Option Kind) (Q : Placement) : Type 0 where
+  pub leaves : man_at Q a ≡ None
+  pub arrives : promo ≡ None → man_at Q b ≡ man_at p.men a
+  pub becomes : (k : Kind) → promo ≡ Some k → man_at Q b ≡ Some (record { colour = p.to_move; kind = k; promoted = true })
+  pub passes : IsPassing p a b → man_at Q (behind (opposite p.to_move) b) ≡ None
+  pub others : (s : ℕ) → s ≢ a → s ≢ b → (IsPassing p a b → s ≢ behind (opposite p.to_move) b) → man_at Q s ≡ man_at p.men s
+
 pub record LegalPositionsAreSound : Type 0 where
   pub sound : (v : Variant) (T : List HalfMove) (b : ℕ) → IsLegal v T → IsSound (position_after v T b)
   -- a capture takes an enemy man, and never a king
   pub captures : (v : Variant) (T : List HalfMove) (b : ℕ) (m : Move) → IsLegal v T → Allowed (position_after v T b) m →
       (man : Man) → taken (position_after v T b).men m ≡ Some man → IsPrey (position_after v T b) man
+  pub plain_moves : (v : Variant) (T : List HalfMove) (n a b : ℕ) (promo : Option Kind) → IsLegal v T →
+      Allowed (position_after v T n) (Plain a b promo) →
+      MovesAMan (position_after v T n) a b promo (position_after v (T ++ record { board = n; what = Plain a b promo } ∷ []) n).men
 
 -- a half-move of another board leaves the men of this one, its turn, its en passant square and its rights as they were
 pub record IsAsBefore (p q : Position) : Type 0 where

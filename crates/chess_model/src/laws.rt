@@ -3,6 +3,7 @@
 ghost use Rattle.chess_model.specs.Laws.{EachSquareIsKnown, AttackGoesBothWays, RightsNeverComeBack, CountsQuietMoves, NoMenAreMade, LegalListsGrow, TestsSayTheRules, WordsAreAnswered, MovesAreListed, StatesAreTold};
 ghost use Rattle.chess_model.specs.LegalPositions.{LegalPositionsAreSound, OtherBoardStays, ColoursTakeTurns, HomesAreInTheArray};
 ghost use Rattle.chess_model.specs.Census.{CensusStays};
+ghost use Rattle.chess_model.specs.Claims.{ThirdTimes};
 ghost use Rattle.chess_model.specs.Examples.{WorkedExamples};
 ghost use Rattle.chess_model.specs.WordExamples.{AllowedExamples, WordExamples};
 ghost use Rattle.chess_model.specs.ResultExamples.{ResultExamples, ClaimExamples};
@@ -79,6 +80,11 @@ pub fn colours_take_turns()
 /// The homes of kings and rooks are where these stand in the array.
 pub fn homes_are_in_the_array()
     ensures { HomesAreInTheArray }
+{}
+
+/// A position stands for the third time exactly where it has stood twice before.
+pub fn third_times_are_counted()
+    ensures { ThirdTimes }
 {}
 
 /// No legal list of half-moves makes or loses a man, by colour and kind: in chess with the captured men, in crazyhouse

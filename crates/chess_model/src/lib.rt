@@ -35,8 +35,8 @@ pub use laws::{
     attack_goes_both_ways, census_stays, colours_take_turns, each_square_is_known,
     homes_are_in_the_array, legal_lists_grow, legal_positions_are_sound, moves_are_listed,
     no_men_are_made, other_board_stays, quiet_moves_are_counted, rights_never_come_back,
-    states_are_told, tests_say_the_rules, words_are_answered, worked_claims, worked_examples,
-    worked_moves, worked_results, worked_words,
+    states_are_told, tests_say_the_rules, third_times_are_counted, words_are_answered,
+    worked_claims, worked_examples, worked_moves, worked_results, worked_words,
 };
 pub use man::{Colour, Kind, Man};
 pub use moves::{Move, MoveWord, Rejection};
