@@ -1,5 +1,5 @@
 -- Going on in a course: by an act, by a text, and one step after the other.
-use Rattle.std.proofs.Common.{◌≡◌, ℕ, Bool, true, List, [], ◌∷◌, ◌++◌, refl, sym, ap, subst, ◌∙◌, append_assoc, append-nil, Ok, Err, Result}
+use Rattle.std.proofs.Common.{◌≡◌, ℕ, List, [], ◌∷◌, ◌++◌, refl, sym, ap, subst, ◌∙◌, append_assoc, append-nil, Ok, Err, Result}
 use Rattle.std.specs.Result.{IfOk, OnErr, OnOk, result_and}
 use Rattle.memory.specs.declared.NoMemory.{NoMemory}
 use Rattle.histories.specs.History.{entry}

@@ -1,5 +1,5 @@
 -- Going on in a course past acts that met want of memory.
-use Rattle.std.proofs.Common.{◌≡◌, ℕ, Bool, List, [], ◌∷◌, ◌++◌, refl, sym, ap, subst, ◌∙◌, append_assoc, append-nil, inl, inr, Ok, Err, Result}
+use Rattle.std.proofs.Common.{◌≡◌, ℕ, Bool, [], ◌∷◌, ◌++◌, refl, sym, ap, subst, ◌∙◌, append_assoc, append-nil, inl, inr, Ok, Err, Result}
 use Rattle.std.specs.Result.{OnErr}
 use Rattle.memory.specs.declared.NoMemory.{NoMemory}
 use Rattle.histories.specs.History.{entry}

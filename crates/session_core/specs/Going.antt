@@ -1,5 +1,5 @@
 -- How far a session has come in its course, and what it has made and written on the way.
-use Rattle.std.specs.Prelude.{◌≡◌, ℕ, Bool, List, [], ◌++◌}
+use Rattle.std.specs.Prelude.{◌≡◌, ℕ, List, [], ◌++◌}
 use Rattle.one_server.specs.Running.{Log, Made, RunnerState}
 use Rattle.session_core.specs.Course.{Course, Follows, Begins, Passes}
 use Rattle.session_core.specs.Memory.{MemoryState}

@@ -1,5 +1,4 @@
 pub mod Memory
-pub mod Rest
 pub mod Course
 pub mod Texts
 pub mod Session

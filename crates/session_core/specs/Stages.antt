@@ -1,7 +1,6 @@
 -- The stages of a session: what stands between an act and its reply, and what follows. This server's own.
-use Rattle.std.specs.Prelude.{◌≡◌, ℕ, ◌+◌, ◌*◌, List, [], ◌∷◌, ◌++◌, length}
-use Rattle.lobby_state.specs.declared.place.Place.{Place}
-use Rattle.lobby_state.specs.Acts.{IsDesk}
+use Rattle.std.specs.Prelude.{◌≡◌, ℕ, ◌+◌, ◌*◌, List, ◌++◌, length}
+use Rattle.lobby_state.specs.Desks.{IsDesk}
 use Rattle.one_server.specs.declared.reply.Reply.{Reply}
 use Rattle.one_server.specs.Acts.{FitsAct}
 use Rattle.session_core.specs.declared.next.Next.{Next}

@@ -1,6 +1,5 @@
 //! The stages of leaving.
 ghost use Rattle.std.specs.Prelude.{◌≡◌, ◌≤◌, ◌*◌, ◌+◌, length};
-ghost use Rattle.one_server.specs.Replies.{IsReply};
 ghost use Rattle.session_core.specs.Memory.{MemoryState};
 ghost use Rattle.session_core.specs.Session.{leave_places};
 ghost use Rattle.session_core.specs.Stages.{IsReady, LeavesDesk, acts_left, acts_of_leaving, course_of, leaves};
@@ -29,8 +28,7 @@ pub(crate) enum LeavingStage {
 impl LeavingStage {
     /// Goes on by the reply to the next act or the end.
     pub(crate) fn next(self, memory: &mut Memory, reply: &Reply) -> Next<LeavingStage>
-        requires desk { LeavesDesk self }
-        requires fits { IsReply reply.now }
+        requires { LeavesDesk self }
         ensures goes { course_of leaves result memory.new ≡ leaves self memory.old reply.now }
         ensures ready { IsReady LeavesDesk result }
         ensures fewer { acts_left acts_of_leaving result ≤ acts_of_leaving self }

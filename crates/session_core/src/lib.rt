@@ -26,4 +26,4 @@ pub use laws::courses;
 pub use leaving::leave;
 pub use session_memory::Memory;
 pub use taking::take;
-pub use texts::{colour_at, is_turn, put_refusal};
+pub use texts::put_refusal;

@@ -1,7 +1,6 @@
 //! The places that a session has still to go to.
 ghost use Rattle.std.specs.Prelude.{◌≡◌, ◌≤◌, ◌∷◌, [], IfSome, MatchOption, length};
-ghost use Rattle.lobby_state.specs.Acts.{IsDesk};
-ghost use Rattle.one_server.specs.Replies.{AreAtDesks};
+ghost use Rattle.lobby_state.specs.Desks.{IsDesk};
 
 use lobby_state::{Place, Places};
 use std::marker::Model;
@@ -17,19 +16,17 @@ pub(crate) struct Rest {
 impl Model for Rest {
     ghost use Rattle.std.specs.Prelude.{◌≤◌, List, drop, length};
     ghost use Rattle.lobby_state.specs.declared.place.Place.{Place};
-    ghost use Rattle.session_core.specs.Rest.{AreLeft};
 
     ghost Value = { List Place };
 
     ghost view = { λ rest. drop rest.taken rest.places.rows };
 
-    ghost invariant = { λ rest. AreLeft rest.places rest.taken };
+    ghost invariant = { λ rest. rest.taken ≤ length rest.places.rows };
 }
 
 impl Rest {
     /// All of these places.
     pub(crate) fn all(places: Places) -> Rest
-        requires { AreAtDesks places }
         ensures places { result ≡ places.rows }
         ensures most { length places.rows ≤ 32 }
     {

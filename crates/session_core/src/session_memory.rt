@@ -1,7 +1,6 @@
 //! What a session remembers from one input to the next.
 ghost use Rattle.std.specs.Prelude.{◌≡◌, ◌≤◌, IfSome, length};
-ghost use Rattle.lobby_state.specs.Acts.{IsDesk};
-ghost use Rattle.one_server.specs.Replies.{IsReply};
+ghost use Rattle.lobby_state.specs.Desks.{IsDesk};
 ghost use Rattle.session_core.specs.Memory.{present_in, told, untold};
 
 use crate::rest::Rest;
@@ -9,21 +8,18 @@ use lobby_state::{LobbyReply, Place, Places};
 use one_server::Reply;
 use std::marker::Model;
 
-/// What a session remembers: its places, as the lobby told them last. Each is at a desk from 1 to 128.
+/// What a session remembers: its places, as the lobby told them last.
 #[derive(Debug, Drop)]
 pub struct Memory {
     places: Places,
 }
 
 impl Model for Memory {
-    ghost use Rattle.one_server.specs.Replies.{AreAtDesks};
     ghost use Rattle.session_core.specs.Memory.{MemoryState};
 
     ghost Value = { MemoryState };
 
     ghost view = { λ memory. record { places = memory.places } };
-
-    ghost invariant = { λ memory. AreAtDesks memory.places };
 }
 
 impl Memory {
@@ -38,7 +34,6 @@ impl Memory {
 
     /// Remembers what a reply tells.
     pub(crate) fn note(&mut self, reply: &Reply)
-        requires { IsReply reply.now }
         ensures { self.new ≡ told self.old reply.now }
     {
         match reply {

@@ -1,6 +1,6 @@
 //! The stages of a session: all that it decides between an act and its reply.
 ghost use Rattle.std.specs.Prelude.{◌≡◌, ◌≤◌, ◌*◌, ◌+◌, IfOk, length};
-ghost use Rattle.lobby_state.specs.Acts.{IsDesk};
+ghost use Rattle.lobby_state.specs.Desks.{IsDesk};
 ghost use Rattle.one_server.specs.Replies.{IsReply};
 ghost use Rattle.session_core.specs.Course.{Writes};
 ghost use Rattle.session_core.specs.Memory.{MemoryState, told};
@@ -65,7 +65,6 @@ fn placed(
     reply: &Reply,
     out: &mut Vec<u8>,
 ) -> Result<Next<Stage>, NoMemory>
-    requires { IsReply reply.now }
     ensures settles { IfOk result (λ next. Settles (placing act (told memory.old reply.now))
         (course_of continues next memory.new) out.old.items out.new.items) }
     ensures ready { IfOk result (IsReady IsAtDesk) }
@@ -88,7 +87,6 @@ fn answered(
     reply: &Reply,
     out: &mut Vec<u8>,
 ) -> Result<Next<Stage>, NoMemory>
-    requires { IsReply reply.now }
     ensures settles { IfOk result (λ next. Settles (Writes (reply_text asked reply.now) (round memory.old))
         (course_of continues next memory.new) out.old.items out.new.items) }
     ensures ready { IfOk result (IsReady IsAtDesk) }
@@ -100,7 +98,6 @@ fn answered(
 
 /// The lobby has told what waits there, and the places: these are visited.
 fn rounded(memory: &mut Memory, reply: &Reply, out: &mut Vec<u8>) -> Result<Next<Stage>, NoMemory>
-    requires { IsReply reply.now }
     ensures settles { IfOk result
         (λ next. Settles (Writes (waiting_text reply.now) (rounding (told memory.old reply.now)))
         (course_of continues next memory.new) out.old.items out.new.items) }

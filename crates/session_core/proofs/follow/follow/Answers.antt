@@ -1,5 +1,4 @@
 use Rattle.std.proofs.Common.{refl, ap, ◌∙◌}
-use Rattle.one_server.specs.declared.act.Act.{Act}
 use Rattle.session_core.specs.Course.{Asks}
 use Rattle.session_core.specs.Stages.{continues, course_of}
 use Rattle.session_core.specs.declared.next.Next.{Next}
