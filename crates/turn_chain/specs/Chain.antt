@@ -1,6 +1,5 @@
 -- What one act of a pass makes of what the pass knows.
 use Rattle.std.specs.Prelude.{◌≡◌, ℕ, List, [], ◌∷◌, ◌++◌, false, None, Some}
-use Rattle.histories.specs.declared.entry.Entry.{Entry}
 use Rattle.histories.specs.Core.{Core, Touches}
 use Rattle.histories.specs.History.{calls_of, state, Legal}
 use Rattle.histories.specs.Running.{Ran, Unmade}

@@ -1,12 +1,11 @@
 -- A history in which one session made one act.
-use Rattle.std.proofs.Common.{◌≡◌, ◌≢◌, ℕ, ◌+◌, ◌<◌, ◌≤◌, cond, List, [], ◌∷◌, ◌++◌, refl, ap, sym, subst, ◌∙◌, inl, arith, eq-eqb, ne_eqb}
+use Rattle.std.proofs.Common.{◌≡◌, ◌≢◌, ℕ, cond, List, [], ◌∷◌, ◌++◌, refl, ap, sym, subst, ◌∙◌, inl, arith, eq-eqb}
 use Rattle.std.specs.declared.option.Option.TheVariants.{Some}
 use Rattle.histories.specs.declared.entry.Entry.{Entry}
-use Rattle.histories.specs.Core.{reply}
 use Rattle.histories.specs.History.{calls_of, entry, Legal}
 use Rattle.turn_table.specs.declared.view.View.{View}
-use Rattle.turn_table.specs.Views.{In, Looks, Knows, newcomer, divided, split_from, joined_with, looked, as_joined}
-use Rattle.turn_table.proofs.Among.{split_on, in_back}
+use Rattle.turn_table.specs.Views.{In, Looks, newcomer, divided, split_from, joined_with, looked, as_joined}
+use Rattle.turn_table.proofs.Among.{split_on}
 use Rattle.turn_tests.specs.declared.bump.Bump.{Bump}
 use Rattle.turn_tests.specs.declared.bump.Bump.TheVariants.{First}
 use Rattle.turn_tests.specs.Counters.{counters}
@@ -38,8 +37,8 @@ seen_is v0 v1 v2 v3 u w e0 e1 d made e2 e3 looks =
     let first : v2.number ≡ 0 = ap (λ (v : W). v.number) f2 in
     let splits : v2.splits ≡ 1 = ap (λ (v : W). v.splits) f2 in
     let none : (m : ℕ) → m ≢ 1 → calls_of m v3.seen ≡ [] = λ m ne. split_on m 0
-        (λ z. ap (λ k. calls_of k v3.seen) (z ∙ sym first) ∙ (looks.own ∙ ap (λ (v : W). v.made) f2))
-        (λ nz. looks.no_others first m (omega arith)) in
+    (λ z. ap (λ k. calls_of k v3.seen) (z ∙ sym first) ∙ (looks.own ∙ ap (λ (v : W). v.made) f2))
+    (λ nz. looks.no_others first m (omega arith)) in
     let whole : v3.seen ≡ entry 1 First made.reply ∷ [] = sym (only_calls v3.seen none) ∙ ones in
     let legal : Legal counters (0 ∷ 0 ∷ []) (entry 1 First made.reply ∷ []) = subst (Legal counters (0 ∷ 0 ∷ [])) whole (subst (λ xs. Legal counters xs v3.seen) (ap (λ (v : W). v.opening) f2) looks.legal) in
     whole ∙ ap (λ r. entry 1 First r ∷ []) (first_reply made.reply legal)
