@@ -1,0 +1,3 @@
+pub mod CommandOfLine
+pub mod Forms
+pub mod WordsOfText

@@ -1,0 +1,53 @@
+-- Words of a line: what stands between its blanks. A blank is the space alone.
+use Rattle.std.specs.Prelude.{◌≡◌, ℕ, zero, suc, ◌-◌, ◌==◌, not, Bool, unwrap_or, position, List, length, take, drop, reverse, codes, refl}
+
+abbrev pub is_blank : ℕ → Bool
+is_blank b = b == 32
+
+-- how many blanks the text begins with
+abbrev pub blanks_of : List ℕ → ℕ
+blanks_of text = unwrap_or (position (λ b. not (is_blank b)) text) (length text)
+
+-- the text behind the blanks with which it begins
+abbrev pub behind_blanks : List ℕ → List ℕ
+behind_blanks text = drop (blanks_of text) text
+
+-- the text before the blanks with which it ends
+abbrev pub before_blanks : List ℕ → List ℕ
+before_blanks text = take (length text - blanks_of (reverse text)) text
+
+-- the text without blanks at its ends
+abbrev pub trimmed : List ℕ → List ℕ
+trimmed text = before_blanks (behind_blanks text)
+
+-- how long the word is with which the text begins
+abbrev pub word_length : List ℕ → ℕ
+word_length text = unwrap_or (position is_blank text) (length text)
+
+-- the word with which the text begins
+abbrev pub first_word : List ℕ → List ℕ
+first_word text = take (word_length text) text
+
+-- the rest of the text, from the next byte behind its first word that isn't a blank
+abbrev pub rest_of : List ℕ → List ℕ
+rest_of text = behind_blanks (drop (word_length text) text)
+
+-- the word of that number, from 0; empty where there are fewer. The text begins with no blank.
+abbrev pub word_at : ℕ → List ℕ → List ℕ
+word_at zero text = first_word text
+word_at (suc n) text = word_at n (rest_of text)
+
+example_trimmed : trimmed (codes "  a b  ") ≡ codes "a b"
+example_trimmed = refl
+
+example_blanks : trimmed (codes "   ") ≡ codes ""
+example_blanks = refl
+
+example_word : word_at 1 (codes "tell  bob hi") ≡ codes "bob"
+example_word = refl
+
+example_rest : rest_of (codes "tell  bob hi") ≡ codes "bob hi"
+example_rest = refl
+
+example_no_word : word_at 3 (codes "tell  bob hi") ≡ codes ""
+example_no_word = refl

@@ -1,0 +1,10 @@
+pub mod Accept
+pub mod Aliases
+pub mod Blanks
+pub mod Commands
+pub mod Flag
+pub mod Quit
+pub mod Register
+pub mod Resign
+pub mod Texts
+pub mod Verbs

@@ -1,0 +1,63 @@
+-- The table of commands, and the rule by which a word names one. This server's own.
+use Rattle.std.specs.Prelude.{◌≡◌, ℕ, nat_lt, nat_eq, bytes_eq, ◌||◌, if◌then◌else◌, Bool, List, [], ◌∷◌, Option, Some, None, Result, Ok, Err, codes, count_by, find, refl}
+use Rattle.std.specs.List.{starts_with}
+use Rattle.fics_words.specs.declared.refusal.Refusal.{Refusal}
+use Rattle.fics_words.specs.declared.refusal.Refusal.TheVariants.{Unknown, AmbiguousWord}
+use Rattle.command_words.specs.declared.verbs.Verb.{Verb}
+use Rattle.command_words.specs.declared.verbs.Verb.TheVariants.{Accept, Flag, Quit, Register, Resign}
+
+-- the commands
+abbrev pub verbs : List Verb
+verbs = Accept ∷ Flag ∷ Quit ∷ Register ∷ Resign ∷ []
+
+-- a command's name
+abbrev pub name_of : Verb → List ℕ
+name_of Accept = codes "accept"
+name_of Flag = codes "flag"
+name_of Quit = codes "quit"
+name_of Register = codes "register"
+name_of Resign = codes "resign"
+
+-- a command's short form; its name where it has none
+abbrev pub short_of : Verb → List ℕ
+short_of Accept = codes "a"
+short_of verb = name_of verb
+
+-- the word is the command's name or its short form
+abbrev pub is_called : List ℕ → Verb → Bool
+is_called word verb = bytes_eq word (name_of verb) || bytes_eq word (short_of verb)
+
+-- the command's name begins with the word
+abbrev pub begins : List ℕ → Verb → Bool
+begins word verb = starts_with nat_eq (name_of verb) word
+
+abbrev pub or_unknown : Option Verb → Result Verb Refusal
+or_unknown None = Err Unknown
+or_unknown (Some verb) = Ok verb
+
+-- the one command whose name begins with a word, by how many there are and the first of them
+abbrev pub one_by_front : ℕ → Option Verb → Result Verb Refusal
+one_by_front count begun = if nat_lt 1 count then Err AmbiguousWord else or_unknown begun
+
+-- the command of that name or short form, and else the one whose name begins with the word
+abbrev pub called_or : Option Verb → Result Verb Refusal → Result Verb Refusal
+called_or None other = other
+called_or (Some verb) other = Ok verb
+
+abbrev pub verb_of : List ℕ → Result Verb Refusal
+verb_of word = called_or (find (is_called word) verbs) (one_by_front (count_by (begins word) verbs) (find (begins word) verbs))
+
+example_name : verb_of (codes "quit") ≡ Ok Quit
+example_name = refl
+
+example_short : verb_of (codes "a") ≡ Ok Accept
+example_short = refl
+
+example_front : verb_of (codes "resi") ≡ Ok Resign
+example_front = refl
+
+example_two : verb_of (codes "re") ≡ Err AmbiguousWord
+example_two = refl
+
+example_none : verb_of (codes "zz") ≡ Err Unknown
+example_none = refl

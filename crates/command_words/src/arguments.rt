@@ -1,0 +1,67 @@
+//! Arguments of commands: texts, handles, and none.
+
+ghost use Rattle.std.specs.Prelude.{◌≡◌, ◌&&◌, nat_le, IfOk, Some, None, if◌then◌else◌};
+ghost use Rattle.std.specs.List.{list_all};
+ghost use Rattle.command_words.specs.Texts.{alone, handle_of, is_text};
+
+use crate::command::Command;
+use fics_words::{Handle, Line, NoMemory, Refusal};
+use std::alloc::Global;
+
+/// The most bytes that a text has.
+const MOST_TEXT: usize = 800;
+
+/// The command, where nothing stands behind its word; refuses with `BadArguments` where something does.
+pub(crate) fn alone(command: Command, rest: &[u8]) -> Result<Command, Refusal>
+    ensures { result ≡ alone command rest.now }
+{
+    if rest.is_empty() {
+        Ok(command)
+    } else {
+        Err(Refusal::BadArguments)
+    }
+}
+
+/// The handle that the bytes spell.
+pub(crate) fn handle_of(bytes: &[u8]) -> Option<Handle>
+    ensures { result ≡ handle_of bytes.now }
+{
+    Handle::read(bytes)
+}
+
+/// Whether the bytes are a text: 1 to 800 printable ones.
+pub(crate) fn is_text(bytes: &[u8]) -> bool
+    ensures { result ≡ is_text bytes.now }
+{
+    if bytes.is_empty() {
+        return false;
+    }
+    if bytes.len() > MOST_TEXT {
+        return false;
+    }
+    are_within(bytes, 0x20, 0x7E)
+}
+
+/// Whether all the bytes are at least the one and at most the other.
+pub(crate) fn are_within(bytes: &[u8], least: u8, most: u8) -> bool
+    ensures { result ≡ list_all (λ b. nat_le least b && nat_le b most) bytes.now }
+{
+    bytes.iter().all(|byte| is_within(*byte, least, most))
+}
+
+/// Whether the byte is at least the one and at most the other.
+fn is_within(byte: u8, least: u8, most: u8) -> bool
+    ensures { result ≡ (nat_le least byte && nat_le byte most) }
+{
+    least <= byte && byte <= most
+}
+
+/// The text of these bytes, if they are one.
+pub(crate) fn text_of(alloc: Global, bytes: &[u8]) -> Result<Option<Line>, NoMemory>
+    ensures { IfOk result (λ text. text ≡ (if is_text bytes.now then Some bytes.now else None)) }
+{
+    if !is_text(bytes) {
+        return Ok(None);
+    }
+    Ok(Some(Line::from_bytes(Vec::from_slice(alloc, bytes)?)))
+}

@@ -1,0 +1,7 @@
+//! The commands, each in a file of its own.
+
+pub(crate) mod accept;
+pub(crate) mod flag;
+pub(crate) mod quit;
+pub(crate) mod register;
+pub(crate) mod resign;

@@ -1,0 +1,18 @@
+//! Reading the lines that players type: aliases, the rule of command words, and each command's arguments.
+//!
+//! The contract: `read_command` gives the command of `specs/Commands.antt` for the line, or the first refusal that
+//! holds, and nothing but want of memory stands in its place. Each command is a file of its own here and in `specs/`.
+#![tactic(auto)]
+
+mod aliases;
+mod arguments;
+mod blanks;
+mod command;
+mod commands;
+mod expansion;
+mod reading;
+mod verbs;
+
+pub use aliases::{Alias, Aliases};
+pub use command::Command;
+pub use reading::read_command;
