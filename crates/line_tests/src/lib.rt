@@ -4,9 +4,9 @@
 #[cfg(test)]
 mod limits;
 #[cfg(test)]
-mod places;
-#[cfg(test)]
 mod pieces;
+#[cfg(test)]
+mod places;
 #[cfg(test)]
 mod stamps;
 #[cfg(test)]

@@ -21,11 +21,7 @@ pub fn told(alloc: Global, text: &[u8], cut: usize) -> Result<Vec<u8>, NoMemory>
 }
 
 /// Takes the lines that have come: at most `most`, and `None` behind them.
-pub fn drain(
-    reader: &mut LineReader,
-    most: usize,
-    told: &mut Vec<u8>,
-) -> Result<(), NoMemory> {
+pub fn drain(reader: &mut LineReader, most: usize, told: &mut Vec<u8>) -> Result<(), NoMemory> {
     for _turn in 0..most {
         let Some(incoming) = reader.next()? else {
             return Ok(());
