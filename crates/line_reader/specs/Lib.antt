@@ -1,0 +1,7 @@
+-- What the contracts of this crate cite.
+pub mod Pieces
+pub mod Telnet
+pub mod Cutting
+pub mod Reading
+pub mod Reader
+pub mod Grammar

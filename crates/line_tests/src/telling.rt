@@ -1,0 +1,55 @@
+//! What a reader gives, told as text: a letter for the kind of line, its stamp and its text, and a line feed.
+
+use fics_words::{NoMemory, write_number};
+use line_reader::{Incoming, LineReader};
+use std::alloc::Global;
+
+/// The lines of `text`, which is fed in two pieces, and then the rest behind a `>`.
+pub fn told(alloc: Global, text: &[u8], cut: usize) -> Result<Vec<u8>, NoMemory> {
+    let mut told = Vec::new(alloc);
+    let mut reader = LineReader::new(alloc)?;
+    let (front, back) = text.split_at(cut.min(text.len()));
+    reader.feed(front)?;
+    drain(&mut reader, front.len(), &mut told)?;
+    reader.feed(back)?;
+    drain(&mut reader, text.len(), &mut told)?;
+    if let Some(rest) = reader.rest()? {
+        told.push(b'>')?;
+        tell(&rest, &mut told)?;
+    }
+    Ok(told)
+}
+
+/// Takes the lines that have come: at most `most`, and `None` behind them.
+pub fn drain(reader: &mut LineReader, most: usize, told: &mut Vec<u8>) -> Result<(), NoMemory> {
+    for _turn in 0..most {
+        let Some(incoming) = reader.next()? else {
+            return Ok(());
+        };
+        tell(&incoming, told)?;
+    }
+    Ok(())
+}
+
+fn tell(incoming: &Incoming, told: &mut Vec<u8>) -> Result<(), NoMemory> {
+    match incoming {
+        Incoming::Plain(line) => {
+            told.push(b'P')?;
+            told.extend_from_slice(line.bytes())?;
+        }
+        Incoming::Stamped(line, stamp) => {
+            told.push(b'S')?;
+            write_number(told, u64::from(*stamp))?;
+            told.push(b' ')?;
+            told.extend_from_slice(line.bytes())?;
+        }
+        Incoming::Ack(stamp) => {
+            told.push(b'A')?;
+            write_number(told, u64::from(*stamp))?;
+        }
+        Incoming::TooLong => told.push(b'L')?,
+        Incoming::BadByte => told.push(b'B')?,
+    }
+    told.push(b'\n')?;
+    Ok(())
+}
