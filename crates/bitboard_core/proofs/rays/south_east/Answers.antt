@@ -1,0 +1,7 @@
+use Rattle.std.proofs.Common.{subst, ◌<◌, ℕ}
+use Rattle.bitboard_core.proofs.RayLemmas.{south_east_ray}
+use Rattle.bitboard_core.specs.Rays.{Sense, IsRaySet}
+use Rattle.bitboard_core.proofs.rays.south_east.Goals as goal
+
+pub returns : goal.returns
+returns c = rw c.number.ensures.value at (south_east_ray c.number.result c.args.occupied c.down_to_stop.result c.number.ensures.within c.down_to_stop.ensures)

@@ -1,0 +1,4 @@
+pub mod Rays
+pub mod Sets
+pub mod Stops
+pub mod Strikers
