@@ -231,7 +231,7 @@ sinks-steps f r a t u way la on onu lt = elim (cases_order (distance a u) (dista
 
 -- the test of a way
 
-Decides-leads : (s : Sense) (x y d : ℕ) → Decides (leads s x y d) (Leads s x y d)
+pub Decides-leads : (s : Sense) (x y d : ℕ) → Decides (leads s x y d) (Leads s x y d)
 Decides-leads Rises x y d = Decides-eqb y (x + d)
 Decides-leads Stays x y d = Decides-eqb y x
 Decides-leads Falls x y d = Decides-eqb x (y + d)
@@ -260,7 +260,7 @@ is_on-Has f r a t ray lt e on =
 
 pub up_ray : (f r : Sense) (a occupied ray set : ℕ) → Climbs f r → a < 64 → ray ≡ set_of (is_on f r a) → IsUpStop ray occupied set →
     IsRaySet f r a occupied set
-up_ray f r a occupied ray set way la e stop = record { each = λ t lt. (to t lt, from t lt) }
+up_ray f r a occupied ray set way la e stop = record { square = la; each = λ t lt. (to t lt, from t lt) }
   where
     to : (t : ℕ) → t < 64 → Has set t → (IsOn f r a t × IsOpenIn occupied a t)
     to t lt h =
@@ -280,7 +280,7 @@ up_ray f r a occupied ray set way la e stop = record { each = λ t lt. (to t lt,
 
 pub down_ray : (f r : Sense) (a occupied ray set : ℕ) → Sinks f r → a < 64 → ray ≡ set_of (is_on f r a) → IsDownStop ray occupied set →
     IsRaySet f r a occupied set
-down_ray f r a occupied ray set way la e stop = record { each = λ t lt. (to t lt, from t lt) }
+down_ray f r a occupied ray set way la e stop = record { square = la; each = λ t lt. (to t lt, from t lt) }
   where
     to : (t : ℕ) → t < 64 → Has set t → (IsOn f r a t × IsOpenIn occupied a t)
     to t lt h =
@@ -300,7 +300,7 @@ down_ray f r a occupied ray set way la e stop = record { each = λ t lt. (to t l
 
 -- the rays from the printed tables
 
-at_table : (table : List ℕ) (f : ℕ → ℕ → Bool) (a : ℕ) → a < 64 → table ≡ table_of f → get_or table a 0 ≡ set_of (f a)
+pub at_table : (table : List ℕ) (f : ℕ → ℕ → Bool) (a : ℕ) → a < 64 → table ≡ table_of f → get_or table a 0 ≡ set_of (f a)
 at_table table f a la e = ap (λ xs. get_or xs a 0) e ∙ table_of-at f a la
 
 pub north_ray : (a occupied set : ℕ) → a < 64 → IsUpStop (get_or NORTH a 0) occupied set → IsRaySet Stays Rises a occupied set

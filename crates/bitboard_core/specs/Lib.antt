@@ -1,3 +1,4 @@
+pub mod BitsFields
 pub mod Rays
 pub mod Sets
 pub mod Stops

@@ -37,6 +37,7 @@ pub record IsOpenIn (occupied a t : ℕ) : Type 0 where
 
 -- the set has the squares that way from a up to the first occupied one, this included
 pub record IsRaySet (f r : Sense) (a occupied set : ℕ) : Type 0 where
+  pub square : a < 64
   pub each : (t : ℕ) → t < 64 → Has set t ↔ (IsOn f r a t × IsOpenIn occupied a t)
 
 -- whether a knight on a strikes t (FIDE 3.6)

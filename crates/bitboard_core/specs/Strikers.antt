@@ -1,14 +1,16 @@
 -- What sets of men say of a placement that they stand for.
-use Rattle.std.specs.Prelude.{◌≡◌, ℕ, ◌+◌, ◌<◌, ◌↔◌, Bool, true, false, nat_eq, is_some, Option, Some, None}
+use Rattle.std.specs.Prelude.{◌≡◌, ℕ, ◌+◌, ◌<◌, ◌↔◌, Bool, true, false, nat_eq, is_some, slice_index, Option, Some, None}
 use Rattle.chess_model.specs.declared.man.Colour.{Colour}
 use Rattle.chess_model.specs.declared.man.Colour.TheVariants.{White, Black}
 use Rattle.chess_model.specs.declared.man.Kind.{Kind}
 use Rattle.chess_model.specs.declared.man.Kind.TheVariants.{Pawn, Knight, Bishop, Rook, Queen, King}
 use Rattle.chess_model.specs.declared.man.Man.{Man}
 use Rattle.chess_model.specs.Placement.{Placement, man_at}
+use Rattle.chess_model.specs.Holdings.{same_colour}
 use Rattle.chess_model.specs.Reach.{Strikes, Advances, Reaches}
 use Rattle.chess_model.specs.Attacked.{StrikesFrom}
-use Rattle.bitboard_core.specs.declared.strikers.Side.{Side}
+use Rattle.bitboard_core.specs.declared.bits.BitSets.{BitSets}
+use Rattle.bitboard_core.specs.declared.sides.Side.{Side}
 use Rattle.bitboard_core.specs.Sets.{Has, IsSetOf}
 
 -- the place of the men of a colour and kind among the twelve sets: White's P N B R Q K, then Black's
@@ -31,6 +33,11 @@ man_place c k = side_place c + kind_place k
 abbrev pub is_placed : ℕ → Option Man → Bool
 is_placed i None = false
 is_placed i (Some m) = nat_eq (man_place m.colour m.kind) i
+
+-- whether a man of that colour stands there
+abbrev pub is_held_by : Colour → Option Man → Bool
+is_held_by c None = false
+is_held_by c (Some m) = same_colour m.colour c
 
 -- whether a promoted man stands there
 abbrev pub is_promoted : Option Man → Bool
@@ -70,3 +77,9 @@ IsReachOf P a set (Some m) = IsReachSet P m.colour m.kind a set
 -- the set has the squares to which a pawn of that colour on a may push
 pub record IsPushSet (P : Placement) (c : Colour) (a set : ℕ) : Type 0 where
   pub each : (t : ℕ) → t < 64 → Has set t ↔ Advances P c a t
+
+-- a set for each colour and kind, one for the promoted men and one for all
+pub record AreSetsOf (P : Placement) (sets : BitSets) : Type 0 where
+  pub men : (c : Colour) (k : Kind) → IsSetOf (is_placed (man_place c k)) P (slice_index sets.men (man_place c k))
+  pub promoted : IsSetOf is_promoted P sets.promoted
+  pub occupied : IsOccupied P sets.occupied

@@ -1,13 +1,15 @@
 //! A placement as sets of squares, one bit a square.
 #![tactic(auto)]
 
+mod bits;
 mod rays;
 mod steps;
 mod stops;
-mod strikers;
+mod sides;
 mod tables;
 
+pub use bits::{BitSets, Bits};
 pub use steps::{
     bishop_squares, king_squares, knight_squares, pawn_pushes, pawn_squares, queen_squares, rook_squares,
 };
-pub use strikers::{Side, strikers};
+pub use sides::{Side, strikers};
