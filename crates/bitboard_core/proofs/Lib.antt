@@ -1,3 +1,4 @@
+pub mod BitsLemmas
 pub mod RayLemmas
 pub mod SetLemmas
 pub mod StepLemmas

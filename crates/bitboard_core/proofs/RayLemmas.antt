@@ -173,8 +173,8 @@ between f r a t k way la lt on some less =
     let by_file : Leads f (file_of a) p k = toward-leads f (file_of a) (file_of t) k (distance a t) on.file le in
     let by_rank : Leads r (rank_of a) q k = toward-leads r (rank_of a) (rank_of t) k (distance a t) on.rank le in
     let apart : distance a u ≡ k =
-        (λ i. max (abs_diff (file_of a) (file i)) (abs_diff (rank_of a) (rank i)))
-        ∙ steps_apart f r (file_of a) (rank_of a) p q k way by_file by_rank in
+    (λ i. max (abs_diff (file_of a) (file i)) (abs_diff (rank_of a) (rank i)))
+    ∙ steps_apart f r (file_of a) (rank_of a) p q k way by_file by_rank in
     record {
       square = omega (arith, small_p, small_q);
       on = record {
@@ -197,8 +197,15 @@ along-of f r a t u on onu le =
 steps-of : (f r : Sense) (a t u : ℕ) → a < 64 → IsOn f r a t → IsOn f r a u → distance a u < distance a t →
     Steps f r (file_of a) (rank_of a) (file_of t) (rank_of t) (distance a t) (file_of u) (rank_of u) (distance a u)
 steps-of f r a t u la on onu less = record {
-  file = on.file; rank = on.rank; file_k = onu.file; rank_k = onu.rank;
-  on_x = file-lt a; on_y = rank-lt a la; on_z = file-lt t; on_p = file-lt u; less = less;
+  file = on.file;
+  rank = on.rank;
+  file_k = onu.file;
+  rank_k = onu.rank;
+  on_x = file-lt a;
+  on_y = rank-lt a la;
+  on_z = file-lt t;
+  on_p = file-lt u;
+  less = less;
 }
 
 parts-lt : (u t : ℕ) → 8 * rank_of u + file_of u < 8 * rank_of t + file_of t → u < t
@@ -217,15 +224,23 @@ sinks-lt f r a t u way la on onu less =
 -- the one with the lesser number has fewer steps on a way that climbs
 climbs-steps : (f r : Sense) (a t u : ℕ) → Climbs f r → a < 64 → IsOn f r a t → IsOn f r a u → u < t → distance a u < distance a t
 climbs-steps f r a t u way la on onu lt = elim (cases_order (distance a u) (distance a t)) [
-  | inl same ↦ absurd (omega (arith, lt, sym (along-of f r a t u on onu (omega (arith, same))) ∙ ap (along a t) same
-      ∙ along-of f r a t t on on (omega arith)))
+  | inl same ↦ absurd (omega (
+    arith,
+    lt,
+    sym (along-of f r a t u on onu (omega (arith, same))) ∙ ap (along a t) same
+        ∙ along-of f r a t t on on (omega arith),
+  ))
   | inr other ↦ elim other [ inl less ↦ less | inr more ↦ absurd (omega (arith, lt, climbs-lt f r a u t way la onu on more)) ]
 ]
 
 sinks-steps : (f r : Sense) (a t u : ℕ) → Sinks f r → a < 64 → IsOn f r a t → IsOn f r a u → t < u → distance a u < distance a t
 sinks-steps f r a t u way la on onu lt = elim (cases_order (distance a u) (distance a t)) [
-  | inl same ↦ absurd (omega (arith, lt, sym (along-of f r a t u on onu (omega (arith, same))) ∙ ap (along a t) same
-      ∙ along-of f r a t t on on (omega arith)))
+  | inl same ↦ absurd (omega (
+    arith,
+    lt,
+    sym (along-of f r a t u on onu (omega (arith, same))) ∙ ap (along a t) same
+        ∙ along-of f r a t t on on (omega arith),
+  ))
   | inr other ↦ elim other [ inl less ↦ less | inr more ↦ absurd (omega (arith, lt, sinks-lt f r a u t way la onu on more)) ]
 ]
 
@@ -265,18 +280,24 @@ up_ray f r a occupied ray set way la e stop = record { square = la; each = λ t 
     to : (t : ℕ) → t < 64 → Has set t → (IsOn f r a t × IsOpenIn occupied a t)
     to t lt h =
         let parts = (stop.each t lt).0 h in
-        let on : IsOn f r a t = Has-is_on f r a t ray lt e parts.0 in
-        (on, record {
-          empty = λ k some less.
-              let b = between f r a t k (Climbs-goes f r way) la lt on some less in
-              let lower : along a t k < t = climbs-lt f r a t (along a t k) way la on b.on (omega (arith, b.steps, less)) in
-              parts.1 (along a t k) lower (is_on-Has f r a (along a t k) ray b.square e b.on);
-        })
+        let on : IsOn f r a t = Has-is_on f r a t ray lt e parts.0 in (
+          on,
+          record {
+            empty = λ k some less.
+                let b = between f r a t k (Climbs-goes f r way) la lt on some less in
+                let lower : along a t k < t = climbs-lt f r a t (along a t k) way la on b.on (omega (arith, b.steps, less)) in
+                parts.1 (along a t k) lower (is_on-Has f r a (along a t k) ray b.square e b.on);
+          },
+        )
+
     from : (t : ℕ) → t < 64 → (IsOn f r a t × IsOpenIn occupied a t) → Has set t
-    from t lt h = (stop.each t lt).1 (is_on-Has f r a t ray lt e h.0, λ u less on.
-        let onu : IsOn f r a u = Has-is_on f r a u ray (omega (arith, less, lt)) e on in
-        let fewer : distance a u < distance a t = climbs-steps f r a t u way la h.0 onu less in
-        ap (bit_at occupied) (sym (along-of f r a t u h.0 onu (omega (arith, fewer)))) ∙ h.1.empty (distance a u) onu.away fewer)
+    from t lt h = (stop.each t lt).1 (
+      is_on-Has f r a t ray lt e h.0,
+      λ u less on.
+          let onu : IsOn f r a u = Has-is_on f r a u ray (omega (arith, less, lt)) e on in
+          let fewer : distance a u < distance a t = climbs-steps f r a t u way la h.0 onu less in
+          ap (bit_at occupied) (sym (along-of f r a t u h.0 onu (omega (arith, fewer)))) ∙ h.1.empty (distance a u) onu.away fewer,
+    )
 
 pub down_ray : (f r : Sense) (a occupied ray set : ℕ) → Sinks f r → a < 64 → ray ≡ set_of (is_on f r a) → IsDownStop ray occupied set →
     IsRaySet f r a occupied set
@@ -285,18 +306,24 @@ down_ray f r a occupied ray set way la e stop = record { square = la; each = λ 
     to : (t : ℕ) → t < 64 → Has set t → (IsOn f r a t × IsOpenIn occupied a t)
     to t lt h =
         let parts = (stop.each t lt).0 h in
-        let on : IsOn f r a t = Has-is_on f r a t ray lt e parts.0 in
-        (on, record {
-          empty = λ k some less.
-              let b = between f r a t k (Sinks-goes f r way) la lt on some less in
-              let higher : t < along a t k = sinks-lt f r a t (along a t k) way la on b.on (omega (arith, b.steps, less)) in
-              parts.1 (along a t k) b.square higher (is_on-Has f r a (along a t k) ray b.square e b.on);
-        })
+        let on : IsOn f r a t = Has-is_on f r a t ray lt e parts.0 in (
+          on,
+          record {
+            empty = λ k some less.
+                let b = between f r a t k (Sinks-goes f r way) la lt on some less in
+                let higher : t < along a t k = sinks-lt f r a t (along a t k) way la on b.on (omega (arith, b.steps, less)) in
+                parts.1 (along a t k) b.square higher (is_on-Has f r a (along a t k) ray b.square e b.on);
+          },
+        )
+
     from : (t : ℕ) → t < 64 → (IsOn f r a t × IsOpenIn occupied a t) → Has set t
-    from t lt h = (stop.each t lt).1 (is_on-Has f r a t ray lt e h.0, λ u high less on.
-        let onu : IsOn f r a u = Has-is_on f r a u ray high e on in
-        let fewer : distance a u < distance a t = sinks-steps f r a t u way la h.0 onu less in
-        ap (bit_at occupied) (sym (along-of f r a t u h.0 onu (omega (arith, fewer)))) ∙ h.1.empty (distance a u) onu.away fewer)
+    from t lt h = (stop.each t lt).1 (
+      is_on-Has f r a t ray lt e h.0,
+      λ u high less on.
+          let onu : IsOn f r a u = Has-is_on f r a u ray high e on in
+          let fewer : distance a u < distance a t = sinks-steps f r a t u way la h.0 onu less in
+          ap (bit_at occupied) (sym (along-of f r a t u h.0 onu (omega (arith, fewer)))) ∙ h.1.empty (distance a u) onu.away fewer,
+    )
 
 -- the rays from the printed tables
 

@@ -234,8 +234,8 @@ knight_set P c a la = record {
       let three = nat_eq (files_apart a t) 2 in
       let four = nat_eq (ranks_apart a t) 1 in
       let d : Decides (is_knight_step a t) (IsKnightStep a t) =
-          Decides-or (one && two) (three && four) (Decides-and one two (Decides-eqb (files_apart a t) 1) (Decides-eqb (ranks_apart a t) 2))
-          (Decides-and three four (Decides-eqb (files_apart a t) 2) (Decides-eqb (ranks_apart a t) 1)) in
+      Decides-or (one && two) (three && four) (Decides-and one two (Decides-eqb (files_apart a t) 1) (Decides-eqb (ranks_apart a t) 2))
+      (Decides-and three four (Decides-eqb (files_apart a t) 2) (Decides-eqb (ranks_apart a t) 1)) in
       let has = Has-test (is_knight_step a) (get_or KNIGHT a 0) t (IsKnightStep a t) (at_table KNIGHT is_knight_step a la knight_is) lt d in
       (λ h. record { step = has.0 h; open_way = tt }, λ s. has.1 s.step);
 }
@@ -264,7 +264,7 @@ unfolding IsStep
 white_pawn_set P a la = record {
   each = λ t lt.
       let has = Has-test (is_pawn_strike Rises a) (get_or WHITE_STRIKES a 0) t ((files_apart a t ≡ 1) × Leads Rises (rank_of a) (rank_of t) 1)
-          (at_table WHITE_STRIKES (is_pawn_strike Rises) a la white_strikes_is) lt (Decides-strike Rises a t) in
+      (at_table WHITE_STRIKES (is_pawn_strike Rises) a la white_strikes_is) lt (Decides-strike Rises a t) in
       (λ h. let p = has.0 h in record { step = p; open_way = Clear-near P a t (strike-near Rises a t p.0 p.1) }, λ s. has.1 s.step);
 }
 
@@ -273,7 +273,7 @@ unfolding IsStep
 black_pawn_set P a la = record {
   each = λ t lt.
       let has = Has-test (is_pawn_strike Falls a) (get_or BLACK_STRIKES a 0) t ((files_apart a t ≡ 1) × Leads Falls (rank_of a) (rank_of t) 1)
-          (at_table BLACK_STRIKES (is_pawn_strike Falls) a la black_strikes_is) lt (Decides-strike Falls a t) in
+      (at_table BLACK_STRIKES (is_pawn_strike Falls) a la black_strikes_is) lt (Decides-strike Falls a t) in
       (λ h. let p = has.0 h in record { step = p; open_way = Clear-near P a t (strike-near Falls a t p.0 p.1) }, λ s. has.1 s.step);
 }
 
@@ -316,19 +316,20 @@ white_push_set P a occupied ray la fits all hray = record {
   each = λ t lt.
       let table = get_or WHITE_AHEAD a 0 in
       let ahead = Has-test (is_pawn_push Rises 1 a) table t (IsPush Rises 1 a t)
-          (at_table WHITE_AHEAD (is_pawn_push Rises 1) a la white_ahead_is) lt (Decides-push Rises 1 a t) in
-      let empty = free_bit P occupied t fits all lt in
-      (λ h.
-          let outer = Has-and (bit_and ray table) (bit_not w64 occupied) t h in
-          let inner = Has-and ray table t outer.0 in
-          let way = (hray.each t lt).0 inner.0 in
-          let push = ahead.0 inner.1 in
-          record { file = push.0; ahead = push.1; way = clear_of_open P occupied a t all la lt way.1; free = empty.0 outer.1 },
-      λ h.
-          let on = push-on Rises a t h.file (one_or_two h.ahead) rises in
-          Has-and_both (bit_and ray table) (bit_not w64 occupied) t
-          (Has-and_both ray table t ((hray.each t lt).1 (on, open_of_clear P occupied a t all la lt h.way)) (ahead.1 (h.file, h.ahead)))
-          (empty.1 h.free));
+      (at_table WHITE_AHEAD (is_pawn_push Rises 1) a la white_ahead_is) lt (Decides-push Rises 1 a t) in
+      let empty = free_bit P occupied t fits all lt in (
+        λ h.
+            let outer = Has-and (bit_and ray table) (bit_not w64 occupied) t h in
+            let inner = Has-and ray table t outer.0 in
+            let way = (hray.each t lt).0 inner.0 in
+            let push = ahead.0 inner.1 in
+            record { file = push.0; ahead = push.1; way = clear_of_open P occupied a t all la lt way.1; free = empty.0 outer.1 },
+        λ h.
+            let on = push-on Rises a t h.file (one_or_two h.ahead) rises in
+            Has-and_both (bit_and ray table) (bit_not w64 occupied) t
+            (Has-and_both ray table t ((hray.each t lt).1 (on, open_of_clear P occupied a t all la lt h.way)) (ahead.1 (h.file, h.ahead)))
+            (empty.1 h.free),
+      );
 }
 
 pub black_push_set : (P : Placement) (a occupied ray : ℕ) → a < 64 → occupied < 2 ^ 64 → IsOccupied P occupied →
@@ -339,17 +340,18 @@ black_push_set P a occupied ray la fits all hray = record {
   each = λ t lt.
       let table = get_or BLACK_AHEAD a 0 in
       let ahead = Has-test (is_pawn_push Falls 6 a) table t (IsPush Falls 6 a t)
-          (at_table BLACK_AHEAD (is_pawn_push Falls 6) a la black_ahead_is) lt (Decides-push Falls 6 a t) in
-      let empty = free_bit P occupied t fits all lt in
-      (λ h.
-          let outer = Has-and (bit_and ray table) (bit_not w64 occupied) t h in
-          let inner = Has-and ray table t outer.0 in
-          let way = (hray.each t lt).0 inner.0 in
-          let push = ahead.0 inner.1 in
-          record { file = push.0; ahead = push.1; way = clear_of_open P occupied a t all la lt way.1; free = empty.0 outer.1 },
-      λ h.
-          let on = push-on Falls a t h.file (one_or_two h.ahead) falls in
-          Has-and_both (bit_and ray table) (bit_not w64 occupied) t
-          (Has-and_both ray table t ((hray.each t lt).1 (on, open_of_clear P occupied a t all la lt h.way)) (ahead.1 (h.file, h.ahead)))
-          (empty.1 h.free));
+      (at_table BLACK_AHEAD (is_pawn_push Falls 6) a la black_ahead_is) lt (Decides-push Falls 6 a t) in
+      let empty = free_bit P occupied t fits all lt in (
+        λ h.
+            let outer = Has-and (bit_and ray table) (bit_not w64 occupied) t h in
+            let inner = Has-and ray table t outer.0 in
+            let way = (hray.each t lt).0 inner.0 in
+            let push = ahead.0 inner.1 in
+            record { file = push.0; ahead = push.1; way = clear_of_open P occupied a t all la lt way.1; free = empty.0 outer.1 },
+        λ h.
+            let on = push-on Falls a t h.file (one_or_two h.ahead) falls in
+            Has-and_both (bit_and ray table) (bit_not w64 occupied) t
+            (Has-and_both ray table t ((hray.each t lt).1 (on, open_of_clear P occupied a t all la lt h.way)) (ahead.1 (h.file, h.ahead)))
+            (empty.1 h.free),
+      );
 }

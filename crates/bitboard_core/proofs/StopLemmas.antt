@@ -23,12 +23,14 @@ up_stop ray occupied stop mask within here below e = record { each = λ t lt. (t
   where
     clear : (u : ℕ) → u < stop → Has ray u → bit_at occupied u ≡ 0
     clear u lt on = omega (arith, on, below u lt, bit_at_or (bit_and ray occupied) (2 ^ 63) u, bit_at_and ray occupied u, bit_at-lt occupied u)
+
     to : (t : ℕ) → t < 64 → Has (bit_and ray mask) t → (Has ray t × ((u : ℕ) → u < t → Has ray u → bit_at occupied u ≡ 0))
     to t lt h = let both = Has-and ray mask t h in (both.0, λ u less on. clear u (near (cases_lt t (stop + 1)) both.1 less) on)
       where
         near : (t < stop + 1) ⊎ (stop + 1 ≤ t) → Has mask t → {u : ℕ} → u < t → u < stop
         near (inl l) m less = omega arith
         near (inr l) m less = absurd (omega (arith, m, ap (λ x. bit_at x t) e, bit_at_ones_above (stop + 1) t l))
+
     from : (t : ℕ) → t < 64 → (Has ray t × ((u : ℕ) → u < t → Has ray u → bit_at occupied u ≡ 0)) → Has (bit_and ray mask) t
     from t lt h = Has-and_both ray mask t h.0 (inside (cases_lt t (stop + 1)))
       where
@@ -37,7 +39,7 @@ up_stop ray occupied stop mask within here below e = record { each = λ t lt. (t
         inside (inr l) =
             let other : stop ≢ 63 = omega arith in
             let both : bit_at (bit_and ray occupied) stop ≡ 1 =
-                omega (arith, here, bit_at_or (bit_and ray occupied) (2 ^ 63) stop, bit_at-pow_other 63 stop other) in
+            omega (arith, here, bit_at_or (bit_and ray occupied) (2 ^ 63) stop, bit_at-pow_other 63 stop other) in
             let parts = Has-and ray occupied stop both in
             let less : stop < t = omega arith in
             absurd (omega (arith, parts.1, h.1 stop less parts.0))
@@ -50,12 +52,14 @@ down_stop ray occupied stop mask within here above e = record { each = λ t lt. 
   where
     clear : (u : ℕ) → stop < u → Has ray u → bit_at occupied u ≡ 0
     clear u lt on = omega (arith, on, above u lt, bit_at_or (bit_and ray occupied) 1 u, bit_at_and ray occupied u, bit_at-lt occupied u)
+
     to : (t : ℕ) → t < 64 → Has (bit_and ray mask) t → (Has ray t × ((u : ℕ) → u < 64 → t < u → Has ray u → bit_at occupied u ≡ 0))
     to t lt h = let both = Has-and ray mask t h in (both.0, λ u high less on. clear u (near (cases_lt t stop) both.1 less) on)
       where
         near : (t < stop) ⊎ (stop ≤ t) → Has mask t → {u : ℕ} → t < u → stop < u
         near (inr l) m less = omega arith
         near (inl l) m less = absurd (omega (arith, m, ap (λ x. bit_at x t) e, bit_at_mask_below stop 64 t l))
+
     from : (t : ℕ) → t < 64 → (Has ray t × ((u : ℕ) → u < 64 → t < u → Has ray u → bit_at occupied u ≡ 0)) → Has (bit_and ray mask) t
     from t lt h = Has-and_both ray mask t h.0 (inside (cases_lt t stop))
       where
@@ -64,7 +68,7 @@ down_stop ray occupied stop mask within here above e = record { each = λ t lt. 
         inside (inl l) =
             let other : stop ≢ 0 = omega arith in
             let both : bit_at (bit_and ray occupied) stop ≡ 1 =
-                omega (arith, here, bit_at_or (bit_and ray occupied) 1 stop, bit_at-pow_other 0 stop other) in
+            omega (arith, here, bit_at_or (bit_and ray occupied) 1 stop, bit_at-pow_other 0 stop other) in
             let parts = Has-and ray occupied stop both in
             absurd (omega (arith, parts.1, h.1 stop within l parts.0))
 

@@ -198,14 +198,14 @@ module _ (P : Placement) (c : Colour) (s pawn knight king bishop rook : ℕ) (si
   unfolding all_strikers diagonal
   in_diagonal a there here =
       let both : Has (bit_or side.bishops side.queens) a =
-          elim here [ inl x ↦ Has-or_left side.bishops side.queens a x | inr x ↦ Has-or_right side.bishops side.queens a x ] in
+      elim here [ inl x ↦ Has-or_left side.bishops side.queens a x | inr x ↦ Has-or_right side.bishops side.queens a x ] in
       Has-or_left _ _ a (Has-or_right _ _ a (Has-and_both bishop (bit_or side.bishops side.queens) a there both))
 
   in_straight : (a : ℕ) → Has rook a → Has side.rooks a ⊎ Has side.queens a → Has all_strikers a
   unfolding all_strikers straight
   in_straight a there here =
       let both : Has (bit_or side.rooks side.queens) a =
-          elim here [ inl x ↦ Has-or_left side.rooks side.queens a x | inr x ↦ Has-or_right side.rooks side.queens a x ] in
+      elim here [ inl x ↦ Has-or_left side.rooks side.queens a x | inr x ↦ Has-or_right side.rooks side.queens a x ] in
       Has-or_right _ _ a (Has-and_both rook (bit_or side.rooks side.queens) a there both)
 
   by_kind : (a : ℕ) (k : Kind) → a < 64 → is_placed (man_place c k) (man_at P a) ≡ true → Strikes P c k a s → Has all_strikers a

@@ -139,4 +139,3 @@ Strikes-back P c k a b h = record {
   step = IsStep-back c k a b h.step;
   open_way = way-back P c k a b h.step h.open_way;
 }
-

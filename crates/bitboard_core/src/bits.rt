@@ -1,11 +1,12 @@
 ghost use Rattle.std.specs.Prelude.{◌≡◌, ◌≢◌, ℕ, ◌<◌, IsSome, Some, None, slice_set, replicate};
 ghost use Rattle.chess_model.specs.Placement.{man_at};
 ghost use Rattle.bitboard_core.specs.Sets.{IsSetOf};
-ghost use Rattle.bitboard_core.specs.Strikers.{side_place, kind_place, man_place, is_held_by, IsOccupied, AreMenOf, IsStrikerSet, IsReachOf, AreSetsOf};
+ghost use Rattle.bitboard_core.specs.Strikers.{side_place, kind_place, man_place, is_held_by, IsOccupied, AreMenOf, IsStruckSet, IsStrikerSet, IsReachSet, IsReachOf, AreSetsOf};
 
 use crate::sides::{Side, strikers};
 use crate::steps::{
-    bishop_squares, king_squares, knight_squares, pawn_pushes, pawn_squares, queen_squares, rook_squares,
+    bishop_squares, king_squares, knight_squares, pawn_pushes, pawn_squares, queen_squares,
+    rook_squares,
 };
 use chess_model::{Colour, Kind, Man, Square};
 use std::marker::Model;
@@ -122,9 +123,10 @@ impl Bits {
         requires { man_at self.old s ≡ None }
         ensures { self.new ≡ slice_set self.old s (Some man) }
     {
-        let bit = 1_u64 << s.number();
+        let at = s.number() as usize;
+        let bit = 1_u64 << at;
         let place = place_of(man);
-        self.squares[s.number() as usize] = Some(man);
+        self.squares[at] = Some(man);
         self.men[place] |= bit;
         self.occupied |= bit;
         if man.promoted {
@@ -139,10 +141,11 @@ impl Bits {
         ensures lifted { man_at self.old s ≡ Some result }
         ensures left { self.new ≡ slice_set self.old s None }
     {
-        let man = self.squares[s.number() as usize].unwrap();
-        let bit = 1_u64 << s.number();
+        let at = s.number() as usize;
+        let man = self.squares[at].unwrap();
+        let bit = 1_u64 << at;
         let place = place_of(man);
-        self.squares[s.number() as usize] = None;
+        self.squares[at] = None;
         self.men[place] &= !bit;
         self.occupied &= !bit;
         self.promoted &= !bit;
@@ -196,6 +199,37 @@ impl Bits {
         side.pawns | side.knights | side.bishops | side.rooks | side.queens | side.kings
     }
 
+    /// What a man of that colour strikes, without the squares of its own men.
+    #[inline]
+    fn without_own(&self, struck: u64, c: Colour) -> u64
+        ensures { (k : Kind) (s : ℕ) → k ≢ Kind.Pawn → IsStruckSet self.now c k s struck → IsReachSet self.now c k s result }
+    {
+        struck & !self.held_by(c)
+    }
+
+    /// The squares that a pawn of that colour on s reaches, en passant aside.
+    #[inline]
+    fn pawn_reach(&self, c: Colour, s: Square) -> u64
+        ensures { IsReachSet self.now c Kind.Pawn s result }
+    {
+        pawn_pushes(c, s, self.occupied()) | pawn_squares(c, s) & self.held_by(c.opposite())
+    }
+
+    /// The squares that a man of that colour and kind on s reaches; castling, en passant and the safety of the own king
+    /// aside (FIDE Laws, 3.1 to 3.8.1).
+    pub fn reach_of(&self, c: Colour, k: Kind, s: Square) -> u64
+        ensures { IsReachSet self.now c k s result }
+    {
+        match k {
+            Kind::Pawn => self.pawn_reach(c, s),
+            Kind::Knight => self.without_own(knight_squares(s), c),
+            Kind::Bishop => self.without_own(bishop_squares(s, self.occupied()), c),
+            Kind::Rook => self.without_own(rook_squares(s, self.occupied()), c),
+            Kind::Queen => self.without_own(queen_squares(s, self.occupied()), c),
+            Kind::King => self.without_own(king_squares(s), c),
+        }
+    }
+
     /// The squares that the man on an occupied square reaches; castling, en passant and the safety of the own king
     /// aside (FIDE Laws, 3.1 to 3.8.1).
     pub fn reach(&self, s: Square) -> u64
@@ -203,18 +237,7 @@ impl Bits {
         ensures { IsReachOf self.now s result (man_at self.now s) }
     {
         let man = self.man(s).unwrap();
-        let others = !self.held_by(man.colour);
-        match man.kind {
-            Kind::Pawn => {
-                pawn_pushes(man.colour, s, self.occupied)
-                    | pawn_squares(man.colour, s) & self.held_by(man.colour.opposite())
-            }
-            Kind::Knight => knight_squares(s) & others,
-            Kind::Bishop => bishop_squares(s, self.occupied) & others,
-            Kind::Rook => rook_squares(s, self.occupied) & others,
-            Kind::Queen => queen_squares(s, self.occupied) & others,
-            Kind::King => king_squares(s) & others,
-        }
+        self.reach_of(man.colour, man.kind, s)
     }
 
     /// The squares of the men of a colour that strike s.

@@ -3,13 +3,14 @@
 
 mod bits;
 mod rays;
+mod sides;
 mod steps;
 mod stops;
-mod sides;
 mod tables;
 
 pub use bits::{BitSets, Bits};
-pub use steps::{
-    bishop_squares, king_squares, knight_squares, pawn_pushes, pawn_squares, queen_squares, rook_squares,
-};
 pub use sides::{Side, strikers};
+pub use steps::{
+    bishop_squares, king_squares, knight_squares, pawn_pushes, pawn_squares, queen_squares,
+    rook_squares,
+};

@@ -2,9 +2,7 @@ ghost use Rattle.std.specs.Prelude.{◌≡◌};
 ghost use Rattle.bitboard_core.specs.Rays.{Sense, IsRaySet};
 
 use crate::stops::{down_to_stop, up_to_stop};
-use crate::tables::{
-    EAST, NORTH, NORTH_EAST, NORTH_WEST, SOUTH, SOUTH_EAST, SOUTH_WEST, WEST,
-};
+use crate::tables::{EAST, NORTH, NORTH_EAST, NORTH_WEST, SOUTH, SOUTH_EAST, SOUTH_WEST, WEST};
 use chess_model::Square;
 
 #[inline(always)]

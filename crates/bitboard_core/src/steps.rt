@@ -2,9 +2,7 @@ ghost use Rattle.std.specs.Prelude.{◌≡◌};
 ghost use Rattle.chess_model.specs.Placement.{Placement};
 ghost use Rattle.bitboard_core.specs.Strikers.{IsOccupied, IsStruckSet, IsPushSet};
 
-use crate::rays::{
-    east, north, north_east, north_west, south, south_east, south_west, west,
-};
+use crate::rays::{east, north, north_east, north_west, south, south_east, south_west, west};
 use crate::tables::{BLACK_AHEAD, BLACK_STRIKES, KING, KNIGHT, WHITE_AHEAD, WHITE_STRIKES};
 use chess_model::{Colour, Kind, Square};
 
