@@ -17,12 +17,12 @@ use Rattle.chess_model.specs.Squares.{file_of, rank_of, square_at, files_apart, 
 use Rattle.chess_model.specs.Placement.{Placement, man_at, opposite, unpromoted, array_of, king_home, rook_home, king_end, rook_end}
 use Rattle.chess_model.specs.Reach.{IsForward, IsStraight, IsDiagonal, IsStep, Clear, IsOpen, Strikes}
 use Rattle.chess_model.specs.Attacked.{StrikesAs, IsAttacked}
-use Rattle.chess_model.specs.MoveList.{HalfMove, Played, is_pawn, moves_of, place_after, place_from, taken, taking_square, landed, history}
+use Rattle.chess_model.specs.MoveList.{HalfMove, Ply, is_pawn, moves_of, place_after, place_from, taken, taking_square, landed, history}
 use Rattle.chess_model.specs.RightsAndCounts.{right_stands, keeps_right, is_quiet, quiet_count}
 use Rattle.chess_model.specs.Census.{all_men}
 use Rattle.chess_model.specs.Position.{Position}
 use Rattle.chess_model.specs.Laws.{MovesOneMan, MovesKingAndRook, MeetsOwnKind, IsIrreversible, CountsQuietMoves, EachSquareIsKnown, AttackGoesBothWays, RightsNeverComeBack, NoMenAreMade}
-use Rattle.chess_model.proofs.MoreMoves.{last_played, history-same, history-other, right_stands-append}
+use Rattle.chess_model.proofs.MoreMoves.{last_ply, history-same, history-other, right_stands-append}
 use Rattle.chess_model.proofs.StandsAfter.{Stands-next}
 use Rattle.chess_model.proofs.NoMoreMen.{all_men-next, length-place_after, taking_square-lt, taking_square-differs, origin, homes}
 
@@ -263,12 +263,12 @@ right_before : (v : Variant) (T : List HalfMove) (h : HalfMove) (b : ℕ) (c : C
 right_before v T h b c long stands =
     let own : right_stands v (history v (T ++ h ∷ []) h.board) c long ≡ true → right_stands v (history v T h.board) c long ≡ true =
     (λ now.
-    let grown = ap (λ (H : List Played). right_stands v H c long) (history-same v T h.board h.what) ∙
-    right_stands-append v (history v T h.board) (last_played v T h.board h.what) c long in
+    let grown = ap (λ (H : List Ply). right_stands v H c long) (history-same v T h.board h.what) ∙
+    right_stands-append v (history v T h.board) (last_ply v T h.board h.what) c long in
     first_true (right_stands v (history v T h.board) c long)
-    (keeps_right v c long (last_played v T h.board h.what).by h.what) (sym grown ∙ now)) in
+    (keeps_right v c long (last_ply v T h.board h.what).by h.what) (sym grown ∙ now)) in
     let other : h.board ≢ b → right_stands v (history v T b) c long ≡ true =
-    (λ differ. sym (ap (λ (H : List Played). right_stands v H c long) (history-other v T h.board b h.what differ)) ∙ stands) in
+    (λ differ. sym (ap (λ (H : List Ply). right_stands v H c long) (history-other v T h.board b h.what differ)) ∙ stands) in
     let P : ℕ → Type 0 = λ x.
     right_stands v (history v (T ++ h ∷ []) x) c long ≡ true → right_stands v (history v T x) c long ≡ true in
     elim (cases_order h.board b) [
@@ -286,14 +286,14 @@ rights_before v T (h ∷ more) b c long stands =
 
 -- the quiet count
 
-length_cond : (q : Bool) (x : Played) (xs : List Played) → length (cond q (x ∷ xs) []) ≡ cond q (length xs + 1) 0
+length_cond : (q : Bool) (x : Ply) (xs : List Ply) → length (cond q (x ∷ xs) []) ≡ cond q (length xs + 1) 0
 length_cond true x xs = omega arith
 length_cond false x xs = refl
 
-quiet_step : (H : List Played) (x : Played) → quiet_count (H ++ x ∷ []) ≡ cond (is_quiet x.before x.what) (quiet_count H + 1) 0
+quiet_step : (H : List Ply) (x : Ply) → quiet_count (H ++ x ∷ []) ≡ cond (is_quiet x.before x.what) (quiet_count H + 1) 0
 quiet_step H x =
-    let quiet : Played → Bool = λ h. is_quiet h.before h.what in
-    ap (λ (hs : List Played). length (take_while quiet hs)) (reverse-append H (x ∷ [])) ∙
+    let quiet : Ply → Bool = λ h. is_quiet h.before h.what in
+    ap (λ (hs : List Ply). length (take_while quiet hs)) (reverse-append H (x ∷ [])) ∙
     ap length (take_while-cons quiet x (reverse H)) ∙
     length_cond (quiet x) x (take_while quiet (reverse H))
 

@@ -1,7 +1,10 @@
+pub mod Among
 pub mod ChessLaws
 pub mod LegalLists
 pub mod MoreMoves
 pub mod NamedAnswers
 pub mod NoMoreMen
 pub mod StandsAfter
+pub mod TestsDecide
 pub mod Texts
+pub mod WordsDecide

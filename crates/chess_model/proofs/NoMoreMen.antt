@@ -16,7 +16,7 @@ use Rattle.chess_model.specs.declared.variant.Variant.TheVariants.{Chess, Crazyh
 use Rattle.chess_model.specs.Squares.{file_of, rank_of, square_at}
 use Rattle.chess_model.specs.Placement.{Placement, man_at, unpromoted, king_home, rook_home, king_end, rook_end}
 use Rattle.chess_model.specs.Reach.{IsForward, IsStep, Reaches}
-use Rattle.chess_model.specs.MoveList.{Played, is_pawn, is_en_passant, taking_square, landed, two_moved, place_after, taken}
+use Rattle.chess_model.specs.MoveList.{Ply, is_pawn, is_en_passant, taking_square, landed, two_moved, place_after, taken}
 use Rattle.chess_model.specs.Holdings.{same_colour, same_kind, handed_kind, hands_over, count_in, hand_of}
 use Rattle.chess_model.specs.Census.{men_on, men_in, all_men}
 use Rattle.chess_model.specs.Position.{Position, hand_of_side}
@@ -81,17 +81,17 @@ IsStep-differs c Rook a b step e = step.0 e
 IsStep-differs c Queen a b step e = elim step [ inl h ↦ h.0 e | inr h ↦ h.0 e ]
 IsStep-differs c King a b step e = omega (arith, step)
 
-pub Reaches-differs : (P : Placement) (push : Option ℕ) (c : Colour) (k : Kind) (a b : ℕ) → Reaches P push c k a b → a ≢ b
-Reaches-differs P push c Pawn a b (inl h) e = elim h.ahead [
+pub Reaches-differs : (P : Placement) (en_passant : Option ℕ) (c : Colour) (k : Kind) (a b : ℕ) → Reaches P en_passant c k a b → a ≢ b
+Reaches-differs P en_passant c Pawn a b (inl h) e = elim h.ahead [
   | inl near ↦ IsForward-differs c 1 a b (omega arith) near e
   | inr far ↦ IsForward-differs c 2 a b (omega arith) far.0 e
 ]
-Reaches-differs P push c Pawn a b (inr h) e = IsStep-differs c Pawn a b h.step e
-Reaches-differs P push c Knight a b h e = IsStep-differs c Knight a b h.strikes.step e
-Reaches-differs P push c Bishop a b h e = IsStep-differs c Bishop a b h.strikes.step e
-Reaches-differs P push c Rook a b h e = IsStep-differs c Rook a b h.strikes.step e
-Reaches-differs P push c Queen a b h e = IsStep-differs c Queen a b h.strikes.step e
-Reaches-differs P push c King a b h e = IsStep-differs c King a b h.strikes.step e
+Reaches-differs P en_passant c Pawn a b (inr h) e = IsStep-differs c Pawn a b h.step e
+Reaches-differs P en_passant c Knight a b h e = IsStep-differs c Knight a b h.strikes.step e
+Reaches-differs P en_passant c Bishop a b h e = IsStep-differs c Bishop a b h.strikes.step e
+Reaches-differs P en_passant c Rook a b h e = IsStep-differs c Rook a b h.strikes.step e
+Reaches-differs P en_passant c Queen a b h e = IsStep-differs c Queen a b h.strikes.step e
+Reaches-differs P en_passant c King a b h e = IsStep-differs c King a b h.strikes.step e
 
 -- a square or the one beside a on the file of b, where b is on another file
 choice-differs : (q : Bool) (a b : ℕ) → a ≢ b → (q ≡ true → file_of a ≢ file_of b) →
@@ -146,7 +146,7 @@ hand-plain Crazyhouse hand White White P a b promo = omega (arith, men_in-more h
 hand-plain Crazyhouse hand Black Black P a b promo = omega (arith, men_in-more hand (taken P (Plain a b promo)))
 hand-plain _ hand _ _ P a b promo = omega arith
 
-no_gain : (v : Variant) (c : Colour) (k : Kind) (h : Played) → hands_over k (taken h.before h.what) ≡ false → gain v c k h ≡ 0
+no_gain : (v : Variant) (c : Colour) (k : Kind) (h : Ply) → hands_over k (taken h.before h.what) ≡ false → gain v c k h ≡ 0
 no_gain Chess c k h e = refl
 no_gain Crazyhouse c k h e = rw e (cond_and-false (same_colour h.by c))
 no_gain Bughouse c k h e = refl
@@ -171,10 +171,10 @@ hand-drop : (v : Variant) (hand : Hand) (c by : Colour) (P : Placement) (j : Kin
     (same_colour by c ≡ true → 0 < count_in hand j) →
     men_in (next_hand v hand c (record { before = P; by = by; what = Drop j to })) + cond (same_colour by c) 1 0 ≤ men_in hand
 hand-drop v hand White White P j to held =
-    let h : Played = record { before = P; by = White; what = Drop j to } in
+    let h : Ply = record { before = P; by = White; what = Drop j to } in
     drop_own hand j (λ k. gain v White k h) (λ k. no_gain v White k h refl) (held refl)
 hand-drop v hand Black Black P j to held =
-    let h : Played = record { before = P; by = Black; what = Drop j to } in
+    let h : Ply = record { before = P; by = Black; what = Drop j to } in
     drop_own hand j (λ k. gain v Black k h) (λ k. no_gain v Black k h refl) (held refl)
 hand-drop v hand White Black P j to held =
     let none : (k : Kind) → gain v White k (record { before = P; by = Black; what = Drop j to }) ≡ 0 = λ k. no_gain v White k _ refl in
@@ -192,7 +192,7 @@ shared Black n = omega arith
 pub origin : (p : Position) (a b : ℕ) (promo : Option Kind) (man : Option Man) → GoesAs p a b promo man →
     (one_if man ≡ 1) × (a ≢ b)
 origin p a b promo None goes = absurd goes
-origin p a b promo (Some m) goes = (refl, Reaches-differs p.men p.push p.to_move m.kind a b goes.1)
+origin p a b promo (Some m) goes = (refl, Reaches-differs p.men p.en_passant p.to_move m.kind a b goes.1)
 
 -- the four squares of castling
 pub record Homes (v : Variant) (c : Colour) (long : Bool) : Type 0 where

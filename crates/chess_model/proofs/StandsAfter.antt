@@ -9,13 +9,13 @@ use Rattle.chess_model.specs.declared.moves.Move.{Move}
 use Rattle.chess_model.specs.declared.moves.Move.TheVariants.{Plain, Castle, Drop}
 use Rattle.chess_model.specs.declared.variant.Variant.{Variant}
 use Rattle.chess_model.specs.Placement.{array_of}
-use Rattle.chess_model.specs.MoveList.{HalfMove, Played, moves_of, place_from, side_from, history}
-use Rattle.chess_model.specs.RightsAndCounts.{rights_after, push_after, quiet_count}
+use Rattle.chess_model.specs.MoveList.{HalfMove, Ply, moves_of, place_from, side_from, history}
+use Rattle.chess_model.specs.RightsAndCounts.{rights_after, en_passant_after, quiet_count}
 use Rattle.chess_model.specs.Holdings.{same_colour, same_kind, drops, count_in, gained, spent, hand_after}
 use Rattle.chess_model.specs.Position.{Position, position_after, Stands, hand_of_side}
 use Rattle.chess_model.specs.Allowed.{Allowed}
 use Rattle.chess_model.specs.Next.{gain, next}
-use Rattle.chess_model.proofs.MoreMoves.{one, last_played, moves_of-same, place_from-append, side_from-append, history-same, rights_after-append, push_after-append, quiet_count-append, spent-append, gained-append, hand_after-append}
+use Rattle.chess_model.proofs.MoreMoves.{one, last_ply, moves_of-same, place_from-append, side_from-append, history-same, rights_after-append, en_passant_after-append, quiet_count-append, spent-append, gained-append, hand_after-append}
 
 pub position_after-append : (v : Variant) (T : List HalfMove) (b : ℕ) (m : Move) →
     ((c : Colour) (k : Kind) → spent v T b c k ≤ gained v T b c k) →
@@ -23,16 +23,16 @@ pub position_after-append : (v : Variant) (T : List HalfMove) (b : ℕ) (m : Mov
 position_after-append v T b m paid =
     let men = ap (place_from v (array_of v) White) (moves_of-same b T m) ∙ place_from-append v (array_of v) White (moves_of b T) m in
     let to_move = ap (side_from White) (moves_of-same b T m) ∙ side_from-append White (moves_of b T) m in
-    let push = ap push_after (history-same v T b m) ∙ push_after-append (history v T b) (last_played v T b m) in
-    let rights = ap (rights_after v) (history-same v T b m) ∙ rights_after-append v (history v T b) (last_played v T b m) in
-    let quiet = ap (λ (H : List Played). min (quiet_count H) 65535) (history-same v T b m) ∙ quiet_count-append (history v T b) (last_played v T b m) in
+    let en_passant = ap en_passant_after (history-same v T b m) ∙ en_passant_after-append (history v T b) (last_ply v T b m) in
+    let rights = ap (rights_after v) (history-same v T b m) ∙ rights_after-append v (history v T b) (last_ply v T b m) in
+    let quiet = ap (λ (H : List Ply). min (quiet_count H) 65535) (history-same v T b m) ∙ quiet_count-append (history v T b) (last_ply v T b m) in
     let white = hand_after-append v T b m White (paid White) in
     let black = hand_after-append v T b m Black (paid Black) in
     λ i. record {
       variant = v;
       men = sym men i;
       to_move = sym to_move i;
-      push = sym push i;
+      en_passant = sym en_passant i;
       rights = sym rights i;
       quiet = sym quiet i;
       white = sym white i;
@@ -81,7 +81,7 @@ both false false h = cc
 
 -- what an allowed half-move drops was in hand
 drop_is_paid : (v : Variant) (T : List HalfMove) (b : ℕ) (m : Move) → Allowed (position_after v T b) m →
-    (c : Colour) (k : Kind) → drops c k (last_played v T b m) ≡ true → spent v T b c k < gained v T b c k
+    (c : Colour) (k : Kind) → drops c k (last_ply v T b m) ≡ true → spent v T b c k < gained v T b c k
 drop_is_paid v T b (Plain from to promo) h c k d = absurd (never (same_colour (side_from White (moves_of b T)) c) d)
 drop_is_paid v T b (Castle long) h c k d = absurd (never (same_colour (side_from White (moves_of b T)) c) d)
 drop_is_paid v T b (Drop j to) h c k d =
@@ -103,7 +103,7 @@ pub paid-append : (v : Variant) (T : List HalfMove) (b : ℕ) (m : Move) →
     ((c : Colour) (k : Kind) → spent v T b c k ≤ gained v T b c k) → Allowed (position_after v T b) m →
     (c : Colour) (k : Kind) → spent v (T ++ one b m) b c k ≤ gained v (T ++ one b m) b c k
 paid-append v T b m paid h c k =
-    let step = paid_step (drops c k (last_played v T b m)) (spent v T b c k) (gained v T b c k) (gain v c k (last_played v T b m))
+    let step = paid_step (drops c k (last_ply v T b m)) (spent v T b c k) (gained v T b c k) (gain v c k (last_ply v T b m))
     (paid c k) (drop_is_paid v T b m h c k) in
     omega (arith, step, spent-append v T b m c k, gained-append v T b m c k)
 

@@ -11,8 +11,8 @@ use Rattle.chess_model.specs.declared.rights.Rights.{Rights}
 use Rattle.chess_model.specs.declared.variant.Variant.{Variant}
 use Rattle.chess_model.specs.declared.variant.Variant.TheVariants.{Chess, Crazyhouse, Bughouse}
 use Rattle.chess_model.specs.Squares.{rank_of, distance, along}
-use Rattle.chess_model.specs.Placement.{Placement, man_at, opposite, last_rank, king_home, rook_home, king_end}
-use Rattle.chess_model.specs.Reach.{Clear, Reaches}
+use Rattle.chess_model.specs.Placement.{Placement, man_at, opposite, last_rank, king_home, rook_home, king_end, rook_end}
+use Rattle.chess_model.specs.Reach.{Reaches}
 use Rattle.chess_model.specs.Attacked.{IsAttacked, IsKingSafe}
 use Rattle.chess_model.specs.MoveList.{HalfMove, place_after}
 use Rattle.chess_model.specs.Holdings.{count_in}
@@ -42,7 +42,7 @@ HasPromotion c King b promo = promo ≡ None
 abbrev pub GoesAs : Position → ℕ → ℕ → Option Kind → Option Man → Type 0
 GoesAs p a b promo None = ⊥
 GoesAs p a b promo (Some m) =
-    (m.colour ≡ p.to_move) × Reaches p.men p.push p.to_move m.kind a b × HasPromotion p.to_move m.kind b promo
+    (m.colour ≡ p.to_move) × Reaches p.men p.en_passant p.to_move m.kind a b × HasPromotion p.to_move m.kind b promo
 
 -- a plain move, the safety of the king aside
 pub record IsPlainMove (p : Position) (a b : ℕ) (promo : Option Kind) : Type 0 where
@@ -61,11 +61,22 @@ right_of r Black true = r.black_long
 pub record IsUnattackedWay (P : Placement) (by : Colour) (a b : ℕ) : Type 0 where
   pub free : (k : ℕ) → k < distance a b + 1 → ¬ IsAttacked P by (along a b k)
 
--- castling: its right stands, nothing is between king and rook, and neither the king's square nor one that it
--- passes or reaches is attacked (FIDE 3.8.2)
+-- a square that is empty, or the home of the king or of the rook that castle
+abbrev pub IsFreeFor : Placement → ℕ → ℕ → ℕ → Type 0
+IsFreeFor P king rook s = (s ≡ king) ⊎ ((s ≡ rook) ⊎ (man_at P s ≡ None))
+
+-- each square from a to b, both included, is empty, or the home of the king or of the rook that castle
+pub record IsFreeWay (P : Placement) (king rook a b : ℕ) : Type 0 where
+  pub free : (k : ℕ) → k < distance a b + 1 → IsFreeFor P king rook (along a b k)
+
+-- castling: its right stands, nothing but the king and the rook stands on the ways of these two to their ends, and
+-- neither the king's square nor one that it passes or reaches is attacked (FIDE 3.8.2)
 pub record CanCastle (p : Position) (long : Bool) : Type 0 where
   pub right : IsTrue (right_of p.rights p.to_move long)
-  pub way : Clear p.men (king_home p.variant p.to_move) (rook_home p.variant p.to_move long)
+  pub king_way : IsFreeWay p.men (king_home p.variant p.to_move) (rook_home p.variant p.to_move long)
+      (king_home p.variant p.to_move) (king_end p.to_move long)
+  pub rook_way : IsFreeWay p.men (king_home p.variant p.to_move) (rook_home p.variant p.to_move long)
+      (rook_home p.variant p.to_move long) (rook_end p.to_move long)
   pub walk : IsUnattackedWay p.men (opposite p.to_move) (king_home p.variant p.to_move) (king_end p.to_move long)
 
 -- men in hand may be dropped in crazyhouse and in bughouse

@@ -12,14 +12,10 @@ use Rattle.chess_model.specs.declared.moves.Rejection.{Rejection}
 use Rattle.chess_model.specs.declared.moves.Rejection.TheVariants.{Ambiguous, LeavesKing, CastleForbidden, NoDrops, NotInHand, Occupied, EndRank, NoPiece, CannotReach}
 use Rattle.chess_model.specs.Squares.{file_of, rank_of}
 use Rattle.chess_model.specs.Placement.{man_at, IsHeldBy, IsHeldAs, last_rank, king_home}
-use Rattle.chess_model.specs.Holdings.{count_in, same_colour, same_kind}
+use Rattle.chess_model.specs.Men.{is_held_as}
+use Rattle.chess_model.specs.Holdings.{count_in}
 use Rattle.chess_model.specs.Position.{Position, hand_of_side}
 use Rattle.chess_model.specs.Allowed.{HasDrops, MayDropOn, IsMove, IsSafeAfter, Allowed}
-
--- whether a man of that colour and kind stands there
-abbrev pub is_held_as : Colour → Kind → Option Man → Bool
-is_held_as c k None = false
-is_held_as c k (Some m) = same_colour m.colour c && same_kind m.kind k
 
 -- whether a plain move from a to b brings an own pawn to its last rank
 abbrev pub is_promotion : Position → ℕ → ℕ → Bool

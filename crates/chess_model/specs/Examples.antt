@@ -7,7 +7,7 @@ use Rattle.chess_model.specs.declared.moves.Move.TheVariants.{Plain, Castle}
 use Rattle.chess_model.specs.declared.variant.Variant.TheVariants.{Chess, Crazyhouse, Bughouse}
 use Rattle.chess_model.specs.Placement.{Placement, man_at, unpromoted, array_of}
 use Rattle.chess_model.specs.MoveList.{HalfMove, place_from, history}
-use Rattle.chess_model.specs.RightsAndCounts.{right_stands, push_after, quiet_count}
+use Rattle.chess_model.specs.RightsAndCounts.{right_stands, en_passant_after, quiet_count}
 use Rattle.chess_model.specs.Holdings.{count_in, hand_after}
 
 -- a plain move without promotion
@@ -50,7 +50,7 @@ pub record WorkedExamples : Type 0 where
   pub array_king : man_at (array_of Chess) 4 ≡ unpromoted White King
   pub array_pawn : man_at (array_of Bughouse) 52 ≡ unpromoted Black Pawn
   pub pawn_on_e4 : man_at (placed king_pawn) 28 ≡ unpromoted White Pawn
-  pub e3_passed : push_after (history Chess (on_board 1 king_pawn) 1) ≡ Some 20
+  pub e3_passed : en_passant_after (history Chess (on_board 1 king_pawn) 1) ≡ Some 20
   pub d5_empty : man_at (placed passing) 35 ≡ None
   pub quiet_bishops : quiet_count (history Chess (on_board 1 before_castling) 1) ≡ 2
   pub castled_rook : man_at (place_from Chess (placed before_castling) White (Castle false ∷ [])) 5 ≡ unpromoted White Rook

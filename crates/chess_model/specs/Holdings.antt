@@ -10,22 +10,8 @@ use Rattle.chess_model.specs.declared.moves.Move.TheVariants.{Plain, Castle, Dro
 use Rattle.chess_model.specs.declared.variant.Variant.{Variant}
 use Rattle.chess_model.specs.declared.variant.Variant.TheVariants.{Chess, Crazyhouse, Bughouse}
 use Rattle.chess_model.specs.declared.hand.Hand.{Hand}
-use Rattle.chess_model.specs.MoveList.{HalfMove, Played, taken, history}
-
-abbrev pub same_colour : Colour → Colour → Bool
-same_colour White White = true
-same_colour White Black = false
-same_colour Black White = false
-same_colour Black Black = true
-
-abbrev pub same_kind : Kind → Kind → Bool
-same_kind Pawn Pawn = true
-same_kind Knight Knight = true
-same_kind Bishop Bishop = true
-same_kind Rook Rook = true
-same_kind Queen Queen = true
-same_kind King King = true
-same_kind _ _ = false
+pub use Rattle.chess_model.specs.Men.{same_colour, same_kind, is_held_by}
+use Rattle.chess_model.specs.MoveList.{HalfMove, Ply, taken, history}
 
 -- the kind as which a captured man is handed over: a promoted one is a pawn again
 abbrev pub handed_kind : Man → Kind
@@ -36,18 +22,13 @@ abbrev pub hands_over : Kind → Option Man → Bool
 hands_over k None = false
 hands_over k (Some m) = same_kind (handed_kind m) k
 
--- whether there is a captured man of that colour
-abbrev pub has_colour : Colour → Option Man → Bool
-has_colour c None = false
-has_colour c (Some m) = same_colour m.colour c
-
 -- whether a half-move of the colour c captures a man that is handed over as k
-abbrev pub captures : Colour → Kind → Played → Bool
+abbrev pub captures : Colour → Kind → Ply → Bool
 captures c k h = same_colour h.by c && hands_over k (taken h.before h.what)
 
 -- whether a half-move captures a man of the colour c that is handed over as k
-abbrev pub loses : Colour → Kind → Played → Bool
-loses c k h = has_colour c (taken h.before h.what) && hands_over k (taken h.before h.what)
+abbrev pub loses : Colour → Kind → Ply → Bool
+loses c k h = is_held_by c (taken h.before h.what) && hands_over k (taken h.before h.what)
 
 -- whether a move drops a man of the kind k
 abbrev pub is_drop_of : Kind → Move → Bool
@@ -56,7 +37,7 @@ is_drop_of k (Castle long) = false
 is_drop_of k (Drop kind to) = same_kind kind k
 
 -- whether a half-move of the colour c drops a man of the kind k
-abbrev pub drops : Colour → Kind → Played → Bool
+abbrev pub drops : Colour → Kind → Ply → Bool
 drops c k h = same_colour h.by c && is_drop_of k h.what
 
 -- the other board of a pair

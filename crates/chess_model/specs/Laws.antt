@@ -4,15 +4,18 @@ use Rattle.chess_model.specs.declared.man.Colour.{Colour}
 use Rattle.chess_model.specs.declared.man.Kind.{Kind}
 use Rattle.chess_model.specs.declared.moves.Move.{Move}
 use Rattle.chess_model.specs.declared.moves.Move.TheVariants.{Plain, Castle, Drop}
+use Rattle.chess_model.specs.declared.moves.MoveWord.{MoveWord}
 use Rattle.chess_model.specs.declared.variant.Variant.{Variant}
 use Rattle.chess_model.specs.Placement.{Placement, man_at, opposite, unpromoted, king_home, rook_home, king_end, rook_end}
 use Rattle.chess_model.specs.Reach.{Strikes}
-use Rattle.chess_model.specs.Attacked.{IsAttacked}
-use Rattle.chess_model.specs.MoveList.{HalfMove, Played, is_pawn, place_after, taken, taking_square, landed, history}
+use Rattle.chess_model.specs.Attacked.{IsAttacked, IsKingSafe}
+use Rattle.chess_model.specs.MoveList.{HalfMove, Ply, is_pawn, place_after, taken, taking_square, landed, history}
 use Rattle.chess_model.specs.RightsAndCounts.{right_stands, quiet_count}
 use Rattle.chess_model.specs.Census.{all_men}
 use Rattle.chess_model.specs.Position.{Position, position_after, Stands}
-use Rattle.chess_model.specs.Allowed.{Allowed, IsLegal}
+use Rattle.chess_model.specs.Allowed.{IsMove, IsSafeAfter, Allowed, IsLegal}
+use Rattle.chess_model.specs.Tests.{is_attacked, is_king_safe, is_move, is_safe_after, is_allowed}
+use Rattle.chess_model.specs.WordAnswer.{word_answer, IsWordAnswer}
 
 -- after a plain move the target holds the man that moved or what it became, the origin and the square of a man
 -- taken en passant are empty, and every other square is as before
@@ -73,8 +76,8 @@ IsIrreversible P (Drop k to) = ⊤
 
 -- the quiet count is 0 after a pawn's move, a capture or a drop, and grows by 1 after any other half-move
 pub record CountsQuietMoves : Type 0 where
-  pub to_zero : (H : List Played) (x : Played) → IsIrreversible x.before x.what → quiet_count (H ++ x ∷ []) ≡ 0
-  pub one_more : (H : List Played) (x : Played) → ¬ IsIrreversible x.before x.what →
+  pub to_zero : (H : List Ply) (x : Ply) → IsIrreversible x.before x.what → quiet_count (H ++ x ∷ []) ≡ 0
+  pub one_more : (H : List Ply) (x : Ply) → ¬ IsIrreversible x.before x.what →
       quiet_count (H ++ x ∷ []) ≡ quiet_count H + 1
 
 -- an allowed half-move leaves no more men on the board and in its two hands than there were
@@ -90,3 +93,15 @@ pub record LegalListsGrow : Type 0 where
       IsLegal v (T ++ h ∷ [])
   pub shrinks : (v : Variant) (T : List HalfMove) (h : HalfMove) → IsLegal v (T ++ h ∷ []) → IsLegal v T
   pub last : (v : Variant) (T : List HalfMove) (h : HalfMove) → IsLegal v (T ++ h ∷ []) → Allowed (position_after v T h.board) h.what
+
+-- each test of `Tests` says what its relation says
+pub record TestsSayTheRules : Type 0 where
+  pub attacked : (P : Placement) (c : Colour) (s : ℕ) → IsTrue (is_attacked P c s) ↔ IsAttacked P c s
+  pub king_safe : (P : Placement) (c : Colour) → IsTrue (is_king_safe P c) ↔ IsKingSafe P c
+  pub move : (p : Position) (m : Move) → IsTrue (is_move p m) ↔ IsMove p m
+  pub safe_after : (p : Position) (m : Move) → IsTrue (is_safe_after p m) ↔ IsSafeAfter p m
+  pub allowed : (p : Position) (m : Move) → IsTrue (is_allowed p m) ↔ Allowed p m
+
+-- the answer to a word that computes is the one allowed match, or else the first refusal that applies
+abbrev pub WordsAreAnswered : Type 0
+WordsAreAnswered = (p : Position) (w : MoveWord) → IsWordAnswer p w (word_answer p w)

@@ -5,6 +5,7 @@ pub mod Census
 pub mod Examples
 pub mod Holdings
 pub mod Laws
+pub mod Men
 pub mod MoveList
 pub mod MoveText
 pub mod MoveTextFields
@@ -16,4 +17,7 @@ pub mod Position
 pub mod Reach
 pub mod RightsAndCounts
 pub mod Squares
+pub mod Tests
 pub mod VariantWord
+pub mod WordAnswer
+pub mod WordExamples

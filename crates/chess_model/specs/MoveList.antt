@@ -65,13 +65,13 @@ abbrev pub moves_of : ℕ → List HalfMove → List Move
 moves_of b T = map (λ h. h.what) (filter (λ h. nat_eq h.board b) T)
 
 -- a half-move in its setting: the placement before it, and whose it is
-pub record Played : Type 0 where
+pub record Ply : Type 0 where
   pub before : Placement
   pub by : Colour
   pub what : Move
 
 -- each half-move of a list in its setting; the colours take turns (FIDE 1.1)
-abbrev pub settings : Variant → Placement → Colour → List Move → List Played
+abbrev pub settings : Variant → Placement → Colour → List Move → List Ply
 settings v P c [] = []
 settings v P c (m ∷ ms) = record { before = P; by = c; what = m } ∷ settings v (place_after v P c m) (opposite c) ms
 
@@ -86,5 +86,5 @@ side_from c [] = c
 side_from c (m ∷ ms) = side_from (opposite c) ms
 
 -- the half-moves of a board in their settings, from the start of the game; White begins
-abbrev pub history : Variant → List HalfMove → ℕ → List Played
+abbrev pub history : Variant → List HalfMove → ℕ → List Ply
 history v T b = settings v (array_of v) White (moves_of b T)

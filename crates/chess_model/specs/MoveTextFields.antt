@@ -9,7 +9,7 @@ abbrev pub text_of : Inside → List ℕ
 text_of t = take t.len t.bytes
 
 -- the first bytes are a text, and zeros stand behind them
-pub record IsKept (t : Inside) : Type 0 where
+pub record IsPadded (t : Inside) : Type 0 where
   pub text : IsMoveText (take t.len t.bytes)
   pub whole : t.len ≤ length t.bytes
   pub rest : drop t.len t.bytes ≡ replicate (12 - t.len) 0
@@ -18,7 +18,7 @@ pub record IsKept (t : Inside) : Type 0 where
 abbrev pub fields_of : List ℕ → Inside
 fields_of text = record { bytes = text ++ replicate (12 - length text) 0; len = length text }
 
-pub fields_of-text_of : (t : Inside) → IsKept t → fields_of (text_of t) ≡ t
+pub fields_of-text_of : (t : Inside) → IsPadded t → fields_of (text_of t) ≡ t
 fields_of-text_of t h =
     let long : length (take t.len t.bytes) ≡ t.len = length-take-le t.len t.bytes h.whole in
     let bytes : take t.len t.bytes ++ replicate (12 - length (take t.len t.bytes)) 0 ≡ t.bytes =

@@ -9,7 +9,7 @@ use Rattle.chess_model.specs.declared.rights.Rights.{Rights}
 use Rattle.chess_model.specs.declared.variant.Variant.{Variant}
 use Rattle.chess_model.specs.declared.variant.Variant.TheVariants.{Chess, Crazyhouse, Bughouse}
 use Rattle.chess_model.specs.Placement.{Placement, opposite}
-use Rattle.chess_model.specs.MoveList.{Played, place_after}
+use Rattle.chess_model.specs.MoveList.{Ply, place_after}
 use Rattle.chess_model.specs.RightsAndCounts.{keeps_right, passed_over, is_quiet}
 use Rattle.chess_model.specs.Holdings.{captures, drops, count_in, hand_of}
 use Rattle.chess_model.specs.Position.{Position}
@@ -28,18 +28,18 @@ abbrev pub next_quiet : Placement → ℕ → Move → ℕ
 next_quiet P quiet m = if is_quiet P m then min (quiet + 1) 65535 else 0
 
 -- how many men of a kind a half-move of the own board brings into the hand of c
-abbrev pub gain : Variant → Colour → Kind → Played → ℕ
+abbrev pub gain : Variant → Colour → Kind → Ply → ℕ
 gain Chess c k h = 0
 gain Crazyhouse c k h = cond (captures c k h) 1 0
 gain Bughouse c k h = 0
 
 -- the hand of c
-abbrev pub next_hand : Variant → Hand → Colour → Played → Hand
+abbrev pub next_hand : Variant → Hand → Colour → Ply → Hand
 next_hand v hand c h = hand_of (λ k. count_in hand k + gain v c k h - cond (drops c k h) 1 0)
 
 -- the next half-move in its setting
-abbrev pub played : Position → Move → Played
-played p m = record { before = p.men; by = p.to_move; what = m }
+abbrev pub ply_of : Position → Move → Ply
+ply_of p m = record { before = p.men; by = p.to_move; what = m }
 
 -- the next position
 abbrev pub next : Position → Move → Position
@@ -47,9 +47,9 @@ next p m = record {
   variant = p.variant;
   men = place_after p.variant p.men p.to_move m;
   to_move = opposite p.to_move;
-  push = passed_over p.men m;
+  en_passant = passed_over p.men m;
   rights = next_rights p.variant p.rights p.to_move m;
   quiet = next_quiet p.men p.quiet m;
-  white = next_hand p.variant p.white White (played p m);
-  black = next_hand p.variant p.black Black (played p m);
+  white = next_hand p.variant p.white White (ply_of p m);
+  black = next_hand p.variant p.black Black (ply_of p m);
 }

@@ -1,11 +1,12 @@
 -- Placements: which man stands on which square, and the placement at the start (FIDE Laws 2.2 and 2.3).
-use Rattle.std.specs.Prelude.{◌≡◌, ℕ, Bool, true, false, List, [], ◌∷◌, ◌++◌, map, replicate, Option, Some, None, slice_index_or}
+use Rattle.std.specs.Prelude.{◌≡◌, ℕ, ◌-◌, Bool, true, false, not, List, [], ◌∷◌, ◌++◌, length, map, replicate, reverse, take_while, Option, Some, None, slice_index_or}
 use Rattle.chess_model.specs.declared.man.Colour.{Colour}
 use Rattle.chess_model.specs.declared.man.Colour.TheVariants.{White, Black}
 use Rattle.chess_model.specs.declared.man.Kind.{Kind}
 use Rattle.chess_model.specs.declared.man.Kind.TheVariants.{Pawn, Knight, Bishop, Rook, Queen, King}
 use Rattle.chess_model.specs.declared.man.Man.{Man}
 use Rattle.chess_model.specs.declared.variant.Variant.{Variant}
+use Rattle.chess_model.specs.Men.{same_kind}
 use Rattle.chess_model.specs.Squares.{square_at}
 
 -- the man on each square, by the square's number
@@ -49,14 +50,22 @@ last_rank Black = 0
 abbrev pub back_rank : Variant → List Kind
 back_rank v = Rook ∷ Knight ∷ Bishop ∷ Queen ∷ King ∷ Bishop ∷ Knight ∷ Rook ∷ []
 
--- the file of the king in `back_rank`
-abbrev pub king_file : Variant → ℕ
-king_file v = 4
+-- the file of the first man of a kind in a rank that is told from file a
+abbrev pub first_file : Kind → List Kind → ℕ
+first_file k rank = length (take_while (λ j. not (same_kind j k)) rank)
 
--- the files of the rooks in `back_rank`, the one for long castling on the lesser file
+-- the file of the last man of a kind in a rank of eight that is told from file a
+abbrev pub last_file : Kind → List Kind → ℕ
+last_file k rank = 7 - first_file k (reverse rank)
+
+-- the file of the king at the start
+abbrev pub king_file : Variant → ℕ
+king_file v = first_file King (back_rank v)
+
+-- the file of a rook at the start: for long castling the rook on the lesser file, for short the one on the greater
 abbrev pub rook_file : Variant → Bool → ℕ
-rook_file v true = 0
-rook_file v false = 7
+rook_file v true = first_file Rook (back_rank v)
+rook_file v false = last_file Rook (back_rank v)
 
 -- a man that isn't promoted
 abbrev pub unpromoted : Colour → Kind → Option Man

@@ -8,7 +8,7 @@ use Rattle.chess_model.specs.declared.rights.Rights.{Rights}
 use Rattle.chess_model.specs.declared.variant.Variant.{Variant}
 use Rattle.chess_model.specs.Placement.{Placement, array_of}
 use Rattle.chess_model.specs.MoveList.{HalfMove, moves_of, place_from, side_from, history}
-use Rattle.chess_model.specs.RightsAndCounts.{rights_after, push_after, quiet_count}
+use Rattle.chess_model.specs.RightsAndCounts.{rights_after, en_passant_after, quiet_count}
 use Rattle.chess_model.specs.Holdings.{gained, spent, hand_after}
 
 -- what the rules of the next half-move depend on
@@ -17,7 +17,7 @@ pub record Position : Type 0 where
   pub men : Placement
   pub to_move : Colour
   -- the en passant square
-  pub push : Option ℕ
+  pub en_passant : Option ℕ
   pub rights : Rights
   -- quiet half-moves, counted to 65,535
   pub quiet : ℕ
@@ -30,7 +30,7 @@ position_after v T b = record {
   variant = v;
   men = place_from v (array_of v) White (moves_of b T);
   to_move = side_from White (moves_of b T);
-  push = push_after (history v T b);
+  en_passant = en_passant_after (history v T b);
   rights = rights_after v (history v T b);
   quiet = min (quiet_count (history v T b)) 65535;
   white = hand_after v T b White;

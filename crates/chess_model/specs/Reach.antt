@@ -63,20 +63,20 @@ pub record Advances (P : Placement) (c : Colour) (a b : ℕ) : Type 0 where
   pub free : man_at P b ≡ None
 
 -- a pawn takes an enemy man diagonally ahead, or the pawn that has just passed that square (FIDE 3.7.3)
-pub record PawnTakes (P : Placement) (push : Option ℕ) (c : Colour) (a b : ℕ) : Type 0 where
+pub record PawnTakes (P : Placement) (en_passant : Option ℕ) (c : Colour) (a b : ℕ) : Type 0 where
   pub step : IsStep c Pawn a b
-  pub enemy : IsHeldBy (opposite c) (man_at P b) ⊎ (push ≡ Some b)
+  pub enemy : IsHeldBy (opposite c) (man_at P b) ⊎ (en_passant ≡ Some b)
 
 -- any other man goes where it strikes and no own man stands (FIDE 3.1)
 pub record Goes (P : Placement) (c : Colour) (k : Kind) (a b : ℕ) : Type 0 where
   pub strikes : Strikes P c k a b
   pub not_own : ¬ IsHeldBy c (man_at P b)
 
--- a man of that colour and kind on a reaches b; `push` is the en passant square
+-- a man of that colour and kind on a reaches b; `en_passant` is the en passant square
 abbrev pub Reaches : Placement → Option ℕ → Colour → Kind → ℕ → ℕ → Type 0
-Reaches P push c Pawn a b = Advances P c a b ⊎ PawnTakes P push c a b
-Reaches P push c Knight a b = Goes P c Knight a b
-Reaches P push c Bishop a b = Goes P c Bishop a b
-Reaches P push c Rook a b = Goes P c Rook a b
-Reaches P push c Queen a b = Goes P c Queen a b
-Reaches P push c King a b = Goes P c King a b
+Reaches P en_passant c Pawn a b = Advances P c a b ⊎ PawnTakes P en_passant c a b
+Reaches P en_passant c Knight a b = Goes P c Knight a b
+Reaches P en_passant c Bishop a b = Goes P c Bishop a b
+Reaches P en_passant c Rook a b = Goes P c Rook a b
+Reaches P en_passant c Queen a b = Goes P c Queen a b
+Reaches P en_passant c King a b = Goes P c King a b

@@ -9,7 +9,7 @@ use Rattle.chess_model.specs.declared.rights.Rights.{Rights}
 use Rattle.chess_model.specs.declared.variant.Variant.{Variant}
 use Rattle.chess_model.specs.Squares.{ranks_apart}
 use Rattle.chess_model.specs.Placement.{Placement, man_at, king_home, rook_home}
-use Rattle.chess_model.specs.MoveList.{is_pawn, taken, Played}
+use Rattle.chess_model.specs.MoveList.{is_pawn, taken, Ply}
 
 -- whether a half-move of that colour leaves or reaches the square s; castling leaves the king's home
 abbrev pub touches : Variant → Colour → Move → ℕ → Bool
@@ -22,11 +22,11 @@ abbrev pub keeps_right : Variant → Colour → Bool → Colour → Move → Boo
 keeps_right v c long by m = not (touches v by m (king_home v c)) && not (touches v by m (rook_home v c long))
 
 -- a right stands while no half-move has left or reached the homes of that king and rook
-abbrev pub right_stands : Variant → List Played → Colour → Bool → Bool
+abbrev pub right_stands : Variant → List Ply → Colour → Bool → Bool
 right_stands v H c long = list_all (λ h. keeps_right v c long h.by h.what) H
 
 -- the four rights
-abbrev pub rights_after : Variant → List Played → Rights
+abbrev pub rights_after : Variant → List Ply → Rights
 rights_after v H = record {
   white_short = right_stands v H White false;
   white_long = right_stands v H White true;
@@ -41,8 +41,8 @@ passed_over P (Castle long) = None
 passed_over P (Drop k to) = None
 
 -- the en passant square: the one that the last half-move passed over
-abbrev pub push_after : List Played → Option ℕ
-push_after H = option_and_then (λ h. passed_over h.before h.what) (last_or None H)
+abbrev pub en_passant_after : List Ply → Option ℕ
+en_passant_after H = option_and_then (λ h. passed_over h.before h.what) (last_or None H)
 
 -- whether a half-move is neither a pawn's, nor a capture, nor a drop
 abbrev pub is_quiet : Placement → Move → Bool
@@ -51,5 +51,5 @@ is_quiet P (Castle long) = true
 is_quiet P (Drop k to) = false
 
 -- how many half-moves at the end are quiet
-abbrev pub quiet_count : List Played → ℕ
+abbrev pub quiet_count : List Ply → ℕ
 quiet_count H = length (take_while (λ h. is_quiet h.before h.what) (reverse H))

@@ -1,14 +1,15 @@
 ghost use Rattle.std.specs.Prelude.{◌≡◌, ◌↔◌, IsTrue};
 ghost use Rattle.chess_model.specs.Placement.{man_at};
-ghost use Rattle.chess_model.specs.Allowed.{IsPromotion, HasPromotion, GoesAs, IsPlainMove, right_of, IsUnattackedWay, CanCastle, HasDrops, MayDropOn, CanDrop, IsMove, IsSafeAfter, Allowed};
+ghost use Rattle.chess_model.specs.Allowed.{IsPromotion, HasPromotion, GoesAs, IsPlainMove, right_of, IsUnattackedWay, IsFreeFor, IsFreeWay, CanCastle, HasDrops, MayDropOn, CanDrop, IsMove, IsSafeAfter, Allowed};
+ghost use Rattle.chess_model.specs.Tests.{is_allowed};
 
 use crate::attack::{is_attacked, is_king_safe};
 use crate::changes::with_move;
 use crate::man::{Colour, Kind};
 use crate::moves::Move;
-use crate::placement::{Men, end_of_king, home_of_king, home_of_rook, last_rank_of, man_on};
+use crate::placement::{Men, end_of_king, end_of_rook, home_of_king, home_of_rook, last_rank_of, man_on};
 use crate::plain_board::PlainBoard;
-use crate::reach::{is_clear, reaches};
+use crate::reach::reaches;
 use crate::rights::Rights;
 use crate::square::{Square, stepped, steps_between};
 use crate::variant::Variant;
@@ -83,6 +84,29 @@ fn is_unattacked_way(men: &Men, by: Colour, a: Square, b: Square) -> bool
     true
 }
 
+/// Whether a square is empty, or the home of the king or of the rook that castle.
+fn is_free_for(men: &Men, king: Square, rook: Square, s: Square) -> bool
+    ensures { IsTrue result ↔ IsFreeFor men.now king rook s }
+{
+    if s == king || s == rook {
+        return true;
+    }
+    man_on(men, s).is_none()
+}
+
+/// Whether each square from a to b, both included, is empty or the home of the king or of the rook that castle.
+fn is_free_way(men: &Men, king: Square, rook: Square, a: Square, b: Square) -> bool
+    ensures { IsTrue result ↔ IsFreeWay men.now king rook a b }
+{
+    let steps = steps_between(a, b);
+    for k in 0..steps + 1 {
+        if !is_free_for(men, king, rook, stepped(a, b, k)) {
+            return false;
+        }
+    }
+    true
+}
+
 pub(crate) fn has_drops(v: Variant) -> bool
     ensures { IsTrue result ↔ HasDrops v }
 {
@@ -117,7 +141,7 @@ impl PlainBoard {
         if m.colour != self.to_move {
             return false;
         }
-        reaches(&self.men, self.push, self.to_move, m.kind, from, to)
+        reaches(&self.men, self.en_passant, self.to_move, m.kind, from, to)
             && has_promotion(self.to_move, m.kind, to, promo)
     }
 
@@ -136,7 +160,11 @@ impl PlainBoard {
         if !has_right(self.rights, self.to_move, long) {
             return false;
         }
-        is_clear(&self.men, king, rook)
+        if !is_free_way(&self.men, king, rook, king, end) {
+            return false;
+        }
+        let rook_end = end_of_rook(self.to_move, long);
+        is_free_way(&self.men, king, rook, rook, rook_end)
             && is_unattacked_way(&self.men, self.to_move.opposite(), king, end)
     }
 
@@ -172,7 +200,8 @@ impl PlainBoard {
 
     /// Whether the move is allowed (FIDE Laws, article 3; the rules of drops in crazyhouse and bughouse).
     pub fn allowed(&self, m: Move) -> bool
-        ensures { IsTrue result ↔ Allowed self.now m }
+        ensures rule { IsTrue result ↔ Allowed self.now m }
+        ensures value { result ≡ is_allowed self.now m }
     {
         self.is_allowed(&m)
     }

@@ -1,7 +1,8 @@
 ghost use Rattle.std.specs.Prelude.{◌≡◌, ℕ, ◌<◌, ◌≤◌, ◌↔◌, IsTrue, IsFalse, ◌+◌, IfOk, IfErr, IfSome, IfNone, Some, None};
 ghost use Rattle.chess_model.specs.Placement.{man_at};
-ghost use Rattle.chess_model.specs.Holdings.{same_kind};
-ghost use Rattle.chess_model.specs.Answer.{is_held_as, is_promotion, promotion_of, is_king_at_home, castling_of, IsAsGiven, IsNamed, IsAnswer, IsRefusal};
+ghost use Rattle.chess_model.specs.Men.{same_kind, is_held_as};
+ghost use Rattle.chess_model.specs.Answer.{is_promotion, promotion_of, is_king_at_home, castling_of, IsAsGiven, IsNamed, IsAnswer, IsRefusal};
+ghost use Rattle.chess_model.specs.WordAnswer.{word_answer};
 ghost use Rattle.chess_model.specs.Allowed.{IsMove, IsSafeAfter, Allowed};
 
 use crate::allowed::{has_drops, may_drop_on};
@@ -283,12 +284,7 @@ impl PlainBoard {
         }
     }
 
-    /// The answer to a written word: the one allowed move that matches it, or the first cause why there is none.
-    ///
-    /// Two squares stand for the move between them, or for castling where the own king stands at home on file e and
-    /// goes two squares. A kind and a target stand for the moves of the own men of that kind. A pawn that reaches
-    /// the last rank without a letter becomes a queen; a letter on another move is ignored.
-    pub fn answer(&self, word: &MoveWord) -> Result<Move, Rejection>
+    fn matched(&self, word: &MoveWord) -> Result<Move, Rejection>
         ensures answered { IfOk result (IsAnswer self.now word.now) }
         ensures refused { IfErr result (IsRefusal self.now word.now) }
     {
@@ -313,5 +309,18 @@ impl PlainBoard {
             MoveWord::Castle { long } => self.castle_answer(*long),
             MoveWord::Drop { kind, to } => self.drop_answer(*kind, *to),
         }
+    }
+
+    /// The answer to a written word: the one allowed move that matches it, or the first cause why there is none.
+    ///
+    /// Two squares stand for the move between them, or for castling where the own king stands at home on file e and
+    /// goes two squares. A kind and a target stand for the moves of the own men of that kind. A pawn that reaches
+    /// the last rank without a letter becomes a queen; a letter on another move is ignored.
+    pub fn answer(&self, word: &MoveWord) -> Result<Move, Rejection>
+        ensures value { result ≡ word_answer self.now word.now }
+        ensures answered { IfOk result (IsAnswer self.now word.now) }
+        ensures refused { IfErr result (IsRefusal self.now word.now) }
+    {
+        self.matched(word)
     }
 }

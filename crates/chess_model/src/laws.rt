@@ -1,7 +1,8 @@
 //! What the definitions of the rules mean, in the words of the game. Each call does nothing: its contract is the law.
 
-ghost use Rattle.chess_model.specs.Laws.{EachSquareIsKnown, AttackGoesBothWays, RightsNeverComeBack, CountsQuietMoves, NoMenAreMade, LegalListsGrow};
+ghost use Rattle.chess_model.specs.Laws.{EachSquareIsKnown, AttackGoesBothWays, RightsNeverComeBack, CountsQuietMoves, NoMenAreMade, LegalListsGrow, TestsSayTheRules, WordsAreAnswered};
 ghost use Rattle.chess_model.specs.Examples.{WorkedExamples};
+ghost use Rattle.chess_model.specs.WordExamples.{AllowedExamples, WordExamples};
 
 /// What an allowed half-move does to each square: the man that moves or comes stands on its target, the squares that
 /// are left or taken on are empty, and every other square is as before.
@@ -35,7 +36,27 @@ pub fn legal_lists_grow()
     ensures { LegalListsGrow }
 {}
 
+/// The tests that compute which half-moves are allowed say what the relations say.
+pub fn tests_say_the_rules()
+    ensures { TestsSayTheRules }
+{}
+
+/// The answer to a word that computes is the one allowed match, or else the first refusal that applies.
+pub fn words_are_answered()
+    ensures { WordsAreAnswered }
+{}
+
 /// What the definitions give in positions that everybody knows.
 pub fn worked_examples()
     ensures { WorkedExamples }
+{}
+
+/// What is allowed and what is not: a pinned man, en passant, castling by the attacked squares, promotion.
+pub fn worked_moves()
+    ensures { AllowedExamples }
+{}
+
+/// What words stand for, and each refusal.
+pub fn worked_words()
+    ensures { WordExamples }
 {}

@@ -33,7 +33,7 @@ pub use face::Face;
 pub use hand::Hand;
 pub use laws::{
     attack_goes_both_ways, each_square_is_known, legal_lists_grow, no_men_are_made,
-    quiet_moves_are_counted, rights_never_come_back, worked_examples,
+    quiet_moves_are_counted, rights_never_come_back, tests_say_the_rules, words_are_answered, worked_examples, worked_moves, worked_words,
 };
 pub use man::{Colour, Kind, Man};
 pub use moves::{Move, MoveWord, Rejection};

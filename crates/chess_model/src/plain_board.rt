@@ -24,7 +24,7 @@ pub struct PlainBoard {
     pub(crate) variant: Variant,
     pub(crate) men: Men,
     pub(crate) to_move: Colour,
-    pub(crate) push: Option<Square>,
+    pub(crate) en_passant: Option<Square>,
     pub(crate) rights: Rights,
     pub(crate) quiet: u16,
     pub(crate) white: Hand,
@@ -36,13 +36,13 @@ impl Model for PlainBoard {
 
     ghost Value = { Position };
 
-    ghost view = { λ b. record { variant = b.variant; men = b.men; to_move = b.to_move; push = b.push; rights = b.rights; quiet = b.quiet; white = b.white; black = b.black } };
+    ghost view = { λ b. record { variant = b.variant; men = b.men; to_move = b.to_move; en_passant = b.en_passant; rights = b.rights; quiet = b.quiet; white = b.white; black = b.black } };
 
     ghost use Rattle.chess_model.specs.PlainBoardFields.{IsOneSetEach};
 
     ghost invariant = { IsOneSetEach };
 
-    ghost inverse = { λ p. record { variant = p.variant; men = p.men; to_move = p.to_move; push = p.push; rights = p.rights; quiet = p.quiet; white = p.white; black = p.black } };
+    ghost inverse = { λ p. record { variant = p.variant; men = p.men; to_move = p.to_move; en_passant = p.en_passant; rights = p.rights; quiet = p.quiet; white = p.white; black = p.black } };
 }
 
 impl PlainBoard {
@@ -55,7 +55,7 @@ impl PlainBoard {
             variant: v,
             men: array_for(v),
             to_move: Colour::White,
-            push: None,
+            en_passant: None,
             rights: Rights {
                 white_short: true,
                 white_long: true,
@@ -90,10 +90,10 @@ impl PlainBoard {
     }
 
     /// The en passant square: the one that the last half-move passed over, where it was a double push of a pawn.
-    pub fn push(&self) -> Option<Square>
-        ensures { result ≡ self.now.push }
+    pub fn en_passant(&self) -> Option<Square>
+        ensures { result ≡ self.now.en_passant }
     {
-        self.push
+        self.en_passant
     }
 
     /// The castling rights that stand.
@@ -135,7 +135,7 @@ impl PlainBoard {
             variant: self.variant,
             men: with_move(&self.men, self.variant, self.to_move, m),
             to_move: self.to_move.opposite(),
-            push: passed_square(&self.men, m),
+            en_passant: passed_square(&self.men, m),
             rights: rights_left(self.variant, self.rights, self.to_move, m),
             quiet: quiet_after(&self.men, self.quiet, m),
             white: hand_next(

@@ -52,7 +52,7 @@ fn is_step(c: Colour, k: Kind, a: Square, b: Square) -> bool
 }
 
 /// Whether the squares between a and b are empty.
-pub(crate) fn is_clear(men: &Men, a: Square, b: Square) -> bool
+fn is_clear(men: &Men, a: Square, b: Square) -> bool
     ensures { IsTrue result ↔ Clear men.now a b }
 {
     let steps = steps_between(a, b);
@@ -103,13 +103,13 @@ fn advances(men: &Men, c: Colour, a: Square, b: Square) -> bool
     is_clear(men, a, b) && man_on(men, b).is_none()
 }
 
-fn pawn_takes(men: &Men, push: Option<Square>, c: Colour, a: Square, b: Square) -> bool
-    ensures { IsTrue result ↔ PawnTakes men.now push c a b }
+fn pawn_takes(men: &Men, en_passant: Option<Square>, c: Colour, a: Square, b: Square) -> bool
+    ensures { IsTrue result ↔ PawnTakes men.now en_passant c a b }
 {
     if !is_step(c, Kind::Pawn, a, b) {
         return false;
     }
-    is_held_by(c.opposite(), man_on(men, b)) || push == Some(b)
+    is_held_by(c.opposite(), man_on(men, b)) || en_passant == Some(b)
 }
 
 fn goes(men: &Men, c: Colour, k: Kind, a: Square, b: Square) -> bool
@@ -118,19 +118,19 @@ fn goes(men: &Men, c: Colour, k: Kind, a: Square, b: Square) -> bool
     strikes(men, c, k, a, b) && !is_held_by(c, man_on(men, b))
 }
 
-/// Whether a man of that colour and kind on a reaches b; `push` is the en passant square.
+/// Whether a man of that colour and kind on a reaches b; `en_passant` is the en passant square.
 pub(crate) fn reaches(
     men: &Men,
-    push: Option<Square>,
+    en_passant: Option<Square>,
     c: Colour,
     k: Kind,
     a: Square,
     b: Square,
 ) -> bool
-    ensures { IsTrue result ↔ Reaches men.now push c k a b }
+    ensures { IsTrue result ↔ Reaches men.now en_passant c k a b }
 {
     match k {
-        Kind::Pawn => advances(men, c, a, b) || pawn_takes(men, push, c, a, b),
+        Kind::Pawn => advances(men, c, a, b) || pawn_takes(men, en_passant, c, a, b),
         Kind::Knight => goes(men, c, k, a, b),
         Kind::Bishop => goes(men, c, k, a, b),
         Kind::Rook => goes(men, c, k, a, b),

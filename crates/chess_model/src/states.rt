@@ -4,7 +4,7 @@ use crate::moves::Move;
 /// What a position is for the player who is to move.
 #[derive(Clone, Copy, Debug, PartialEq, Eq)]
 pub enum State {
-    Going,
+    Safe,
     Check,
     Mate,
     Stalemate,

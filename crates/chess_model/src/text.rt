@@ -16,11 +16,11 @@ impl Model for MoveText {
 
     ghost Value = { List ℕ };
 
-    ghost use Rattle.chess_model.specs.MoveTextFields.{IsKept, text_of, fields_of, fields_of-text_of};
+    ghost use Rattle.chess_model.specs.MoveTextFields.{IsPadded, text_of, fields_of, fields_of-text_of};
 
     ghost view = { text_of };
 
-    ghost invariant = { IsKept };
+    ghost invariant = { IsPadded };
 
     ghost inverse = { fields_of };
 

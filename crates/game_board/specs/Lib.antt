@@ -2,9 +2,6 @@ pub mod Board
 pub mod BoardFace
 pub mod Causes
 pub mod Charges
-pub mod Decisions
-pub mod DecidedRules
 pub mod Flag
 pub mod Kept
 pub mod Play
-pub mod WordAnswer

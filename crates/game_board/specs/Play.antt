@@ -12,7 +12,7 @@ use Rattle.clock_ledger.specs.declared.charges.Charge.{Charge}
 use Rattle.game_board.specs.Board.{Board, to_move, position_of, has_moved}
 use Rattle.game_board.specs.Causes.{first_cause, answered, in_words}
 use Rattle.game_board.specs.Charges.{is_timed}
-use Rattle.game_board.specs.WordAnswer.{word_answer}
+use Rattle.chess_model.specs.WordAnswer.{word_answer}
 
 -- how many half-moves may be played on a board
 abbrev pub most_played : ℕ

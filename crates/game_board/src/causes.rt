@@ -2,7 +2,7 @@ ghost use Rattle.std.specs.Prelude.{◌≡◌, IfOk};
 ghost use Rattle.chess_model.specs.Allowed.{Allowed};
 ghost use Rattle.chess_model.specs.MoveList.{taken, taking_square};
 ghost use Rattle.game_board.specs.Causes.{refusal_of, in_words};
-ghost use Rattle.game_board.specs.WordAnswer.{word_answer};
+ghost use Rattle.chess_model.specs.WordAnswer.{word_answer};
 
 use chess_model::{Kind, Man, Move, MoveWord, PlainBoard, Rejection, Square};
 use fics_words::Refusal;

@@ -8,11 +8,10 @@ ghost use Rattle.chess_model.specs.Answer.{IsAnswer};
 ghost use Rattle.game_board.specs.Board.{to_move, turn_after, position_of};
 ghost use Rattle.game_board.specs.Charges.{charges_of};
 ghost use Rattle.game_board.specs.Play.{move_answer};
-ghost use Rattle.game_board.specs.WordAnswer.{IsWordAnswer, word_answer};
 
 use crate::game_board::GameBoard;
 use crate::played::Played;
-use chess_model::{Colour, MoveWord, PlainBoard};
+use chess_model::{Colour, MoveWord};
 use fics_words::Refusal;
 
 /// The charges of the colours follow the list of half-moves: there are none at the start, and a half-move adds its
@@ -21,12 +20,6 @@ pub fn charges_follow_the_list(list: &[Played], next: &Played)
     ensures start { (c : Colour) → charges_of c [] ≡ [] }
     ensures own { (c : Colour) → turn_after list.now ≡ c → charges_of c (list.now ++ next.now ∷ []) ≡ charges_of c list.now ++ option_to_list next.now.charge }
     ensures other { (c : Colour) → turn_after list.now ≡ opposite c → charges_of c (list.now ++ next.now ∷ []) ≡ charges_of c list.now }
-{}
-
-/// The answer to a word is the one of the rules: the allowed move that alone matches it, or the first refusal that
-/// applies.
-pub fn words_are_answered_by_the_rules(position: &PlainBoard, word: &MoveWord)
-    ensures { IsWordAnswer position.now word.now (word_answer position.now word.now) }
 {}
 
 /// A board with room takes from the colour to move exactly the words that have an answer by the rules, and takes

@@ -13,7 +13,5 @@ mod played;
 
 pub use clock_ledger::{Charge, ClockLedger};
 pub use game_board::{GameBoard, MOST_PLAYED};
-pub use laws::{
-    charges_follow_the_list, play_takes_exactly_the_answers, words_are_answered_by_the_rules,
-};
+pub use laws::{charges_follow_the_list, play_takes_exactly_the_answers};
 pub use played::Played;

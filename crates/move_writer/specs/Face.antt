@@ -8,7 +8,7 @@ use Rattle.chess_model.specs.declared.moves.Move.{Move}
 use Rattle.chess_model.specs.declared.moves.Move.TheVariants.{Plain, Castle, Drop}
 use Rattle.chess_model.specs.declared.rights.Rights.{Rights}
 use Rattle.chess_model.specs.declared.states.Shown.{Shown}
-use Rattle.chess_model.specs.declared.states.State.TheVariants.{Going}
+use Rattle.chess_model.specs.declared.states.State.TheVariants.{Safe}
 use Rattle.chess_model.specs.MoveList.{is_pawn_kind, taken}
 use Rattle.chess_model.specs.Placement.{Placement, man_at}
 use Rattle.chess_model.specs.Position.{Position}
@@ -36,7 +36,7 @@ plain_shown_of p m = record {
   takes = is_some (taken p.men m);
   by_file = not (is_pawn_kind (moved_kind p.men m));
   by_rank = not (is_pawn_kind (moved_kind p.men m));
-  after = Going;
+  after = Safe;
 }
 
 -- the four rights in the order of a board line
@@ -57,7 +57,7 @@ abbrev pub face_of : Position → ℕ → Option Shown → Face
 face_of p half_moves last = record {
   men = p.men;
   to_move = p.to_move;
-  push = option_map file_of p.push;
+  push = option_map file_of p.en_passant;
   rights = rights_in_order p.rights;
   quiet = p.quiet;
   number = move_number half_moves;

@@ -7,7 +7,7 @@ use Rattle.chess_model.specs.declared.moves.Move.{Move}
 use Rattle.chess_model.specs.declared.moves.Move.TheVariants.{Plain, Castle, Drop}
 use Rattle.chess_model.specs.declared.states.Shown.{Shown}
 use Rattle.chess_model.specs.declared.states.State.{State}
-use Rattle.chess_model.specs.declared.states.State.TheVariants.{Going, Check, Mate, Stalemate}
+use Rattle.chess_model.specs.declared.states.State.TheVariants.{Safe, Check, Mate, Stalemate}
 use Rattle.move_writer.specs.Letters.{letter_of, file_letter, rank_digit, square_text, promotion_text}
 
 -- a byte that stands where the text has it
@@ -32,7 +32,7 @@ pretty_move shown (Drop dropped to) = letter_of dropped ∷ codes "@" ++ square_
 
 -- the mark of a check, or of a mate
 abbrev pub mark_text : State → List ℕ
-mark_text Going = []
+mark_text Safe = []
 mark_text Check = codes "+"
 mark_text Mate = codes "#"
 mark_text Stalemate = []
@@ -41,11 +41,11 @@ abbrev pub pretty_of : Shown → List ℕ
 pretty_of shown = pretty_move shown shown.what ++ mark_text shown.after
 
 -- White's pawn on e2 goes to e4
-example_push : pretty_of (record { what = Plain 12 28 None; kind = Pawn; takes = false; by_file = false; by_rank = false; after = Going }) ≡ codes "e4"
+example_push : pretty_of (record { what = Plain 12 28 None; kind = Pawn; takes = false; by_file = false; by_rank = false; after = Safe }) ≡ codes "e4"
 example_push = refl
 
 -- White's pawn on e4 takes on d5
-example_capture : pretty_of (record { what = Plain 28 35 None; kind = Pawn; takes = true; by_file = false; by_rank = false; after = Going }) ≡ codes "exd5"
+example_capture : pretty_of (record { what = Plain 28 35 None; kind = Pawn; takes = true; by_file = false; by_rank = false; after = Safe }) ≡ codes "exd5"
 example_capture = refl
 
 -- a pawn becomes a queen on e8 and mates
@@ -57,11 +57,11 @@ example_knight : pretty_of (record { what = Plain 1 11 None; kind = Knight; take
 example_knight = refl
 
 -- a rook on a1 takes on a5, where one on the same file might too
-example_rook : pretty_of (record { what = Plain 0 32 None; kind = Rook; takes = true; by_file = false; by_rank = true; after = Going }) ≡ codes "R1xa5"
+example_rook : pretty_of (record { what = Plain 0 32 None; kind = Rook; takes = true; by_file = false; by_rank = true; after = Safe }) ≡ codes "R1xa5"
 example_rook = refl
 
 example_castle : pretty_of (record { what = Castle true; kind = King; takes = false; by_file = false; by_rank = false; after = Check }) ≡ codes "O-O-O+"
 example_castle = refl
 
-example_drop : pretty_of (record { what = Drop Pawn 28; kind = Pawn; takes = false; by_file = false; by_rank = false; after = Going }) ≡ codes "P@e4"
+example_drop : pretty_of (record { what = Drop Pawn 28; kind = Pawn; takes = false; by_file = false; by_rank = false; after = Safe }) ≡ codes "P@e4"
 example_drop = refl

@@ -23,7 +23,7 @@ pub fn face(board: &PlainBoard, half_moves: u16, last: Option<&Shown>) -> Face
     Face {
         men: *board.men(),
         to_move: board.to_move(),
-        push: board.push().map(Square::file),
+        push: board.en_passant().map(Square::file),
         rights: [
             rights.white_short,
             rights.white_long,
@@ -50,7 +50,7 @@ pub fn plain_shown(board: &PlainBoard, m: &Move) -> Shown
         takes: takes(board, m),
         by_file: is_piece,
         by_rank: is_piece,
-        after: State::Going,
+        after: State::Safe,
     }
 }
 

@@ -64,6 +64,6 @@ fn push_mark(text: &mut Draft, after: State)
     match after {
         State::Check => text.push(b'+'),
         State::Mate => text.push(b'#'),
-        State::Going | State::Stalemate => {}
+        State::Safe | State::Stalemate => {}
     }
 }

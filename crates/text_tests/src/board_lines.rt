@@ -129,7 +129,7 @@ fn timed(
 #[test]
 fn shows_marks(rt: HostRuntime) -> Result<(), Fail> {
     let knights = played(Variant::Chess, "d2d4 d7d5 g1f3 g8f6 b1d2").ok_or("a game")?;
-    let knights = shown_as(&knights, true, State::Going);
+    let knights = shown_as(&knights, true, State::Safe);
     let view = untimed(knights.face(), "White", "Black").ok_or("names")?;
     let line = line_of(rt.alloc(), &view, OBSERVER)?;
     let text =
@@ -187,7 +187,7 @@ fn shows_clocks(rt: HostRuntime) -> Result<(), Fail> {
         "<12> rnbqkbnr pppp-ppp -------- ----p--- ----P--- -----N-- PPPP-PPP RNBQKB-R B -1 1 1 1 1 1 1 Ann Ben 1 2 12 39 39 128 120 2 N/g1-f3 (0:04) Ng1f3 1";
     assert_eq!(rt; line.bytes(), text.as_bytes());
 
-    let unmarked = shown_as(&knight, false, State::Going);
+    let unmarked = shown_as(&knight, false, State::Safe);
     let view = untimed(unmarked.face(), "Ann", "Ben").ok_or("names")?;
     let view = timed(view, 2, 12, [128_000, 120_000], 4_000);
     let ann = Viewer {

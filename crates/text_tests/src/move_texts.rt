@@ -32,7 +32,7 @@ fn becomes(kind: Kind, from: &[u8; 2], to: &[u8; 2], promo: Option<Kind>) -> Opt
         takes: false,
         by_file: false,
         by_rank: false,
-        after: State::Going,
+        after: State::Safe,
     })
 }
 
@@ -148,12 +148,12 @@ fn writes_pieces(rt: HostRuntime) -> Result<(), Fail> {
 #[test]
 fn writes_castlings_and_drops(rt: HostRuntime) -> Result<(), Fail> {
     let rows = [
-        (castles(false, State::Going), "o-o", "O-O"),
-        (castles(true, State::Going), "o-o-o", "O-O-O"),
+        (castles(false, State::Safe), "o-o", "O-O"),
+        (castles(true, State::Safe), "o-o-o", "O-O-O"),
         (castles(false, State::Check), "o-o", "O-O+"),
         (castles(true, State::Mate), "o-o-o", "O-O-O#"),
         (
-            dropped(Kind::Pawn, b"e4", State::Going).ok_or("a drop")?,
+            dropped(Kind::Pawn, b"e4", State::Safe).ok_or("a drop")?,
             "P/@@-e4",
             "P@e4",
         ),

@@ -5,7 +5,8 @@ use Rattle.fics_words.specs.declared.refusal.Refusal.{Refusal}
 use Rattle.game_board.specs.Board.{position_of}
 use Rattle.game_board.specs.Causes.{answered, in_words}
 use Rattle.game_board.specs.Play.{move_answer}
-use Rattle.game_board.specs.WordAnswer.{IsWordAnswer, word_answer, word_answer-holds, word_answer-is}
+use Rattle.chess_model.specs.WordAnswer.{IsWordAnswer, word_answer}
+use Rattle.chess_model.proofs.WordsDecide.{word_answer-holds, word_answer-is}
 use Rattle.game_board.proofs.Sides.{move_refused-none, move_refused-turn, move_refused-full, in_words-ok}
 use Rattle.game_board.proofs.laws.play_takes_exactly_the_answers.Goals as goal
 
