@@ -13,7 +13,7 @@ use Rattle.chess_model.specs.declared.man.Colour.TheVariants.{White, Black}
 use Rattle.chess_model.specs.declared.man.Kind.{Kind}
 use Rattle.chess_model.specs.declared.man.Kind.TheVariants.{Pawn, Knight, Bishop, Rook, Queen, King}
 use Rattle.chess_model.specs.declared.man.Man.{Man}
-use Rattle.chess_model.specs.Holdings.{same_colour}
+use Rattle.chess_model.specs.Men.{same_colour, is_held_by}
 use Rattle.chess_model.specs.Placement.{Placement, man_at, opposite, IsHeldBy}
 use Rattle.chess_model.specs.Squares.{files_apart, distance}
 use Rattle.bitboard_core.proofs.StrikesBack.{Clear-near}
@@ -22,7 +22,7 @@ use Rattle.bitboard_core.specs.declared.bits.Bits.TheInside.{Inside}
 use Rattle.bitboard_core.specs.declared.sides.Side.{Side}
 use Rattle.bitboard_core.specs.BitsFields.{AreKept}
 use Rattle.bitboard_core.specs.Sets.{Has, IsSetOf, bit_if}
-use Rattle.bitboard_core.specs.Strikers.{man_place, is_placed, is_held_by, is_promoted, AreMenOf, IsStruckSet, IsPushSet, IsReachSet}
+use Rattle.bitboard_core.specs.Strikers.{man_place, is_placed, is_promoted, AreMenOf, IsStruckSet, IsPushSet, IsReachSet}
 use Rattle.bitboard_core.proofs.SetLemmas.{bit_if-true, bit_if-of_true, Has-or, Has-or_left, Has-or_right, Has-and, Has-and_both}
 use Rattle.bitboard_core.proofs.StrikerLemmas.{same_place}
 

@@ -6,7 +6,6 @@ use Rattle.chess_model.specs.declared.man.Kind.{Kind}
 use Rattle.chess_model.specs.declared.man.Kind.TheVariants.{Pawn, Knight, Bishop, Rook, Queen, King}
 use Rattle.chess_model.specs.declared.man.Man.{Man}
 use Rattle.chess_model.specs.Placement.{Placement, man_at}
-use Rattle.chess_model.specs.Holdings.{same_colour}
 use Rattle.chess_model.specs.Reach.{Strikes, Advances, Reaches}
 use Rattle.chess_model.specs.Attacked.{StrikesFrom}
 use Rattle.bitboard_core.specs.declared.bits.BitSets.{BitSets}
@@ -33,11 +32,6 @@ man_place c k = side_place c + kind_place k
 abbrev pub is_placed : ℕ → Option Man → Bool
 is_placed i None = false
 is_placed i (Some m) = nat_eq (man_place m.colour m.kind) i
-
--- whether a man of that colour stands there
-abbrev pub is_held_by : Colour → Option Man → Bool
-is_held_by c None = false
-is_held_by c (Some m) = same_colour m.colour c
 
 -- whether a promoted man stands there
 abbrev pub is_promoted : Option Man → Bool

@@ -1,7 +1,8 @@
 ghost use Rattle.std.specs.Prelude.{◌≡◌, ◌≢◌, ℕ, ◌<◌, IsSome, Some, None, slice_set, replicate};
 ghost use Rattle.chess_model.specs.Placement.{man_at};
+ghost use Rattle.chess_model.specs.Men.{is_held_by};
 ghost use Rattle.bitboard_core.specs.Sets.{IsSetOf};
-ghost use Rattle.bitboard_core.specs.Strikers.{side_place, kind_place, man_place, is_held_by, IsOccupied, AreMenOf, IsStruckSet, IsStrikerSet, IsReachSet, IsReachOf, AreSetsOf};
+ghost use Rattle.bitboard_core.specs.Strikers.{side_place, kind_place, man_place, IsOccupied, AreMenOf, IsStruckSet, IsStrikerSet, IsReachSet, IsReachOf, AreSetsOf};
 
 use crate::sides::{Side, strikers};
 use crate::steps::{

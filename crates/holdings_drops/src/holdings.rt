@@ -1,5 +1,6 @@
 ghost use Rattle.std.specs.Prelude.{◌≡◌, ◌≢◌, ℕ, ◌+◌, ◌-◌, ◌<◌, cond};
-ghost use Rattle.chess_model.specs.Holdings.{same_kind, count_in, hand_of};
+ghost use Rattle.chess_model.specs.Holdings.{count_in, hand_of};
+ghost use Rattle.chess_model.specs.Men.{same_kind};
 ghost use Rattle.chess_model.specs.declared.man.Kind.TheVariants.{King};
 
 use chess_model::{Hand, Kind};

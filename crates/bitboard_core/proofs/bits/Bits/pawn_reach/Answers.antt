@@ -2,7 +2,7 @@ use Rattle.std.proofs.Common.{ℕ, Option, subst}
 use Rattle.chess_model.specs.declared.man.Colour.{Colour}
 use Rattle.chess_model.specs.declared.man.Man.{Man}
 use Rattle.bitboard_core.specs.Sets.{IsSetOf}
-use Rattle.bitboard_core.specs.Strikers.{is_held_by}
+use Rattle.chess_model.specs.Men.{is_held_by}
 use Rattle.bitboard_core.proofs.BitsLemmas.{reach_of_pawn}
 use Rattle.bitboard_core.proofs.bits.Bits.pawn_reach.Goals as goal
 
