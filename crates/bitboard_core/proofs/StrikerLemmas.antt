@@ -18,7 +18,7 @@ use Rattle.bitboard_core.specs.Strikers.{man_place, is_placed, IsOccupied, AreMe
 use Rattle.bitboard_core.proofs.SetLemmas.{bit_if-true, bit_if-of_true, Has-or, Has-or_left, Has-or_right, Has-and, Has-and_both}
 use Rattle.bitboard_core.proofs.StrikesBack.{Strikes-back}
 
-opposite-opposite : (c : Colour) → opposite (opposite c) ≡ c
+pub opposite-opposite : (c : Colour) → opposite (opposite c) ≡ c
 opposite-opposite White = refl
 opposite-opposite Black = refl
 

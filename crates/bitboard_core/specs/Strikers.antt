@@ -51,6 +51,10 @@ pub record AreMenOf (P : Placement) (c : Colour) (side : Side) : Type 0 where
   pub queens : IsSetOf (is_placed (man_place c Queen)) P side.queens
   pub kings : IsSetOf (is_placed (man_place c King)) P side.kings
 
+-- the set has the squares of a colour's kings
+abbrev pub AreKingsOf : Placement → Colour → ℕ → Type 0
+AreKingsOf P c kings = IsSetOf (is_placed (man_place c King)) P kings
+
 -- the set has the squares that a man of that colour and kind on a strikes
 pub record IsStruckSet (P : Placement) (c : Colour) (k : Kind) (a set : ℕ) : Type 0 where
   pub each : (t : ℕ) → t < 64 → Has set t ↔ Strikes P c k a t

@@ -5,6 +5,7 @@ ghost use Rattle.bitboard_core.specs.Sets.{IsSetOf};
 ghost use Rattle.bitboard_core.specs.Strikers.{side_place, kind_place, man_place, IsOccupied, AreMenOf, IsStruckSet, IsStrikerSet, IsReachSet, IsReachOf, AreSetsOf};
 
 use crate::sides::{Side, strikers};
+use crate::squares::square_of;
 use crate::steps::{
     bishop_squares, king_squares, knight_squares, pawn_pushes, pawn_squares, queen_squares,
     rook_squares,
@@ -88,6 +89,17 @@ impl Bits {
             promoted: 0,
             occupied: 0,
         }
+    }
+
+    /// The placement with these men on its squares.
+    pub fn of(squares: &[Option<Man>; 64]) -> Bits
+        ensures { result ≡ squares.now }
+    {
+        let mut bits = Bits::empty();
+        for s in 0..64_u8 {
+            bits.place(square_of(s), squares[s as usize]);
+        }
+        bits
     }
 
     /// The same placement once more.

@@ -1,13 +1,6 @@
-// A library with one function.
+//! Tests of the crates that keep a position as sets of squares. There is nothing else here: what is tested stands in
+//! the crates below, and a crate with tests is proved twice.
 #![tactic(auto)]
 
-ghost use Rattle.std.specs.Prelude.{◌≡◌};
-ghost use Rattle.bits_tests.specs.Echo.{echo_of};
-
-// The `ensures` clause is the contract: what `echo` returns is `echo_of` of its argument, a definition
-// in `specs/Echo.antt`, which a caller's clause can cite too.
-pub fn echo(x: usize) -> usize
-    ensures { result ≡ echo_of x }
-{
-    x
-}
+#[cfg(test)]
+mod placements;

@@ -76,4 +76,37 @@ impl Holdings {
             Kind::King => {}
         }
     }
+
+    /// The hand with one man more, where there are less than 255 of its kind; a king isn't counted.
+    pub fn with_one_more(self, k: Kind) -> Holdings
+        requires { count_in self k < 255 }
+        ensures { result ≡ hand_of (λ j. count_in self j + cond (same_kind k j) 1 0) }
+    {
+        let mut more = self.hand;
+        match k {
+            Kind::Pawn => more.pawns += 1,
+            Kind::Knight => more.knights += 1,
+            Kind::Bishop => more.bishops += 1,
+            Kind::Rook => more.rooks += 1,
+            Kind::Queen => more.queens += 1,
+            Kind::King => {}
+        }
+        Holdings { hand: more }
+    }
+
+    /// The hand with one man less, where there is one of the kind.
+    pub fn with_one_less(self, k: Kind) -> Holdings
+        ensures { result ≡ hand_of (λ j. count_in self j - cond (same_kind k j) 1 0) }
+    {
+        let mut less = self.hand;
+        match k {
+            Kind::Pawn => less.pawns = less.pawns.saturating_sub(1),
+            Kind::Knight => less.knights = less.knights.saturating_sub(1),
+            Kind::Bishop => less.bishops = less.bishops.saturating_sub(1),
+            Kind::Rook => less.rooks = less.rooks.saturating_sub(1),
+            Kind::Queen => less.queens = less.queens.saturating_sub(1),
+            Kind::King => {}
+        }
+        Holdings { hand: less }
+    }
 }

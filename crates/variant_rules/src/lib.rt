@@ -1,13 +1,16 @@
-// A library with one function.
+//! The referee of one board: a position that half-moves change and that takes them back.
+//!
+//! It stands over sets of squares, for chess, crazyhouse and bughouse at once. The contract: a `Position` stands for a
+//! list of half-moves, as the slow board of chess_model does; `allowed` is the rule for every move, `make` appends a
+//! move to the list and `unmake` takes it back, `hand` is what a colour may drop, and in bughouse `receive` hands a man
+//! over from the other board.
 #![tactic(auto)]
 
-ghost use Rattle.std.specs.Prelude.{◌≡◌};
-ghost use Rattle.variant_rules.specs.Echo.{echo_of};
+mod changes;
+mod homes;
+mod make;
+mod position;
+mod rules;
 
-// The `ensures` clause is the contract: what `echo` returns is `echo_of` of its argument, a definition
-// in `specs/Echo.antt`, which a caller's clause can cite too.
-pub fn echo(x: usize) -> usize
-    ensures { result ≡ echo_of x }
-{
-    x
-}
+pub use make::Undo;
+pub use position::{Look, Position};
