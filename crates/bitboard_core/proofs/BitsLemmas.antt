@@ -1,5 +1,5 @@
 -- Sets of a placement after one square has changed.
-use Rattle.std.proofs.Common.{arith, ◌≡◌, ◌≢◌, ◌↔◌, ℕ, ◌+◌, ◌-◌, ◌*◌, ◌%◌, ◌^◌, ◌<◌, ◌≤◌, ◌⊎◌, Bool, true, false, nat_eq, is_some, length, refl, sym, ap, subst, ◌∙◌, inl, inr, Option, Some, None, List, w64, get_or, replicate}
+use Rattle.std.proofs.Common.{arith, ◌≡◌, ◌≢◌, ◌↔◌, ℕ, ◌-◌, ◌*◌, ◌%◌, ◌^◌, ◌<◌, ◌≤◌, ◌⊎◌, Bool, true, false, nat_eq, is_some, length, refl, sym, ap, subst, ◌∙◌, inl, inr, Option, Some, None, List, w64, replicate}
 use Rattle.std.specs.Prelude.{slice_set, slice_index}
 use Rattle.std.specs.Int.{bit_at, bit_not}
 use Rattle.std.specs.Int.RustNames.{bit_or}
@@ -17,7 +17,7 @@ use Rattle.chess_model.specs.Men.{same_colour, is_held_by}
 use Rattle.chess_model.specs.Placement.{Placement, man_at, opposite, IsHeldBy}
 use Rattle.chess_model.specs.Squares.{files_apart, distance}
 use Rattle.bitboard_core.proofs.StrikesBack.{Clear-near}
-use Rattle.chess_model.specs.Reach.{IsForward, IsStep, Clear, Strikes, Advances, PawnTakes, Goes, Reaches}
+use Rattle.chess_model.specs.Reach.{IsForward, IsStep, Clear, Goes}
 use Rattle.bitboard_core.specs.declared.bits.Bits.TheInside.{Inside}
 use Rattle.bitboard_core.specs.declared.sides.Side.{Side}
 use Rattle.bitboard_core.specs.BitsFields.{AreKept}

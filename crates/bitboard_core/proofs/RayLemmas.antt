@@ -1,12 +1,12 @@
 -- The squares of a way in order, and the squares between two of them.
-use Rattle.std.proofs.Common.{arith, ◌≡◌, ◌≢◌, ◌↔◌, ℕ, ◌+◌, ◌-◌, ◌*◌, ◌/◌, ◌%◌, ◌<◌, ◌≤◌, ◌⊎◌, Bool, true, false, ◌&&◌, nat_eq, nat_lt, refl, sym, ap, subst, ◌∙◌, inl, inr, min, max, get_or, List}
-use Rattle.std.specs.Prelude.{⊤, IsTrue}
+use Rattle.std.proofs.Common.{arith, ◌≡◌, ℕ, ◌+◌, ◌*◌, ◌<◌, ◌≤◌, ◌⊎◌, Bool, ◌&&◌, nat_lt, sym, ap, subst, ◌∙◌, inl, inr, max, get_or, List}
+use Rattle.std.specs.Prelude.{⊤}
 use Rattle.std.specs.Bool.{Decides}
 use Rattle.std.proofs.lemmas.Bool.Decides.{Decides-eqb, Decides-ltb, Decides-and}
 use Rattle.std.proofs.lemmas.Bool.{cases_order}
 use Rattle.std.specs.Int.{bit_at, abs_diff}
-use Rattle.chess_model.specs.Squares.{file_of, rank_of, square_at, files_apart, ranks_apart, distance, toward, along}
-use Rattle.bitboard_core.specs.Sets.{Has, bit_if, set_of, table_of}
+use Rattle.chess_model.specs.Squares.{file_of, rank_of, square_at, distance, toward, along}
+use Rattle.bitboard_core.specs.Sets.{Has, set_of, table_of}
 use Rattle.bitboard_core.specs.Rays.{Sense, Rises, Stays, Falls, Leads, is_on, leads, IsOn, IsOpenIn, IsRaySet}
 use Rattle.bitboard_core.specs.Stops.{IsUpStop, IsDownStop}
 use Rattle.bitboard_core.specs.declared.tables.TheConstants.{NORTH, EAST, SOUTH, WEST, NORTH_EAST, NORTH_WEST, SOUTH_EAST, SOUTH_WEST}

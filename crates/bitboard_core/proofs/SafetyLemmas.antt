@@ -1,5 +1,5 @@
 -- Kings that are looked at one after the other.
-use Rattle.std.proofs.Common.{arith, ◌≡◌, ◌≢◌, ℕ, ◌+◌, ◌-◌, ◌<◌, ◌≤◌, ◌⊎◌, Bool, true, false, refl, sym, ap, subst, ◌∙◌, inl, inr, Option, Some, None, IsTrue, ◌↔◌}
+use Rattle.std.proofs.Common.{arith, ◌≡◌, ◌≢◌, ℕ, ◌+◌, ◌<◌, ◌≤◌, true, sym, ap, subst, ◌∙◌, inl, inr, Option, Some, None, IsTrue, ◌↔◌}
 use Rattle.std.specs.Int.{bit_at}
 use Rattle.std.proofs.lemmas.Bool.{cases_order, eqb-true, eq-eqb, true≢false}
 use Rattle.std.proofs.lemmas.Nat.Bits.{bit_at-zero}
@@ -8,9 +8,9 @@ use Rattle.chess_model.specs.declared.man.Kind.{Kind}
 use Rattle.chess_model.specs.declared.man.Kind.TheVariants.{King}
 use Rattle.chess_model.specs.declared.man.Man.{Man}
 use Rattle.chess_model.specs.Placement.{Placement, man_at, opposite, IsHeldAs}
-use Rattle.chess_model.specs.Attacked.{StrikesFrom, IsAttacked, IsInCheckOn, IsKingSafe}
+use Rattle.chess_model.specs.Attacked.{IsAttacked, IsInCheckOn, IsKingSafe}
 use Rattle.bitboard_core.specs.declared.sides.Side.{Side}
-use Rattle.bitboard_core.specs.Sets.{Has, IsSetOf, bit_if}
+use Rattle.bitboard_core.specs.Sets.{Has}
 use Rattle.bitboard_core.specs.Strikers.{man_place, is_placed, IsOccupied, AreMenOf, AreKingsOf, IsStrikerSet}
 use Rattle.bitboard_core.proofs.SetLemmas.{bit_if-true, bit_if-of_true}
 use Rattle.bitboard_core.proofs.StrikerLemmas.{same_place, opposite-opposite}

@@ -1,27 +1,26 @@
 -- What each man strikes, as a set.
-use Rattle.std.proofs.Common.{arith, ◌≡◌, ◌≢◌, ◌↔◌, ℕ, ◌+◌, ◌-◌, ◌*◌, ◌/◌, ◌%◌, ◌^◌, ◌<◌, ◌≤◌, ◌⊎◌, Bool, true, false, ◌&&◌, ◌||◌, nat_eq, is_some, List, get_or, refl, sym, ap, subst, ◌∙◌, inl, inr, max, Option, Some, None, w64}
+use Rattle.std.proofs.Common.{arith, ◌≡◌, ◌≢◌, ◌↔◌, ℕ, ◌+◌, ◌^◌, ◌<◌, ◌≤◌, ◌⊎◌, Bool, ◌&&◌, ◌||◌, nat_eq, is_some, get_or, refl, sym, ap, ◌∙◌, inl, inr, max, Option, Some, None, w64}
 use Rattle.std.specs.Bool.{Decides}
 use Rattle.std.specs.Int.{bit_at, abs_diff, bit_not}
 use Rattle.std.specs.Int.RustNames.{bit_or}
 use lib.Bits.{bit_and}
 use Rattle.std.proofs.lemmas.Bool.{cases_order}
 use Rattle.std.proofs.lemmas.Bool.Decides.{Decides-eqb, Decides-and, Decides-or}
-use Rattle.std.proofs.lemmas.Nat.Bits.{bit_at_not, bit_at-lt}
+use Rattle.std.proofs.lemmas.Nat.Bits.{bit_at_not}
 use Rattle.chess_model.specs.declared.man.Colour.{Colour}
 use Rattle.chess_model.specs.declared.man.Colour.TheVariants.{White, Black}
-use Rattle.chess_model.specs.declared.man.Kind.{Kind}
 use Rattle.chess_model.specs.declared.man.Kind.TheVariants.{Pawn, Knight, Bishop, Rook, Queen, King}
 use Rattle.chess_model.specs.declared.man.Man.{Man}
-use Rattle.chess_model.specs.Squares.{file_of, rank_of, files_apart, ranks_apart, distance, toward, along}
-use Rattle.chess_model.specs.Placement.{Placement, man_at, second_rank}
-use Rattle.chess_model.specs.Reach.{IsForward, IsStraight, IsDiagonal, IsKnightStep, IsStep, Clear, IsOpen, Strikes, IsAhead, Advances}
+use Rattle.chess_model.specs.Squares.{file_of, rank_of, files_apart, ranks_apart, distance, along}
+use Rattle.chess_model.specs.Placement.{Placement, man_at}
+use Rattle.chess_model.specs.Reach.{IsStraight, IsDiagonal, IsKnightStep, IsStep, Clear}
 use Rattle.bitboard_core.specs.declared.tables.TheConstants.{KNIGHT, KING, WHITE_STRIKES, BLACK_STRIKES, WHITE_AHEAD, BLACK_AHEAD}
-use Rattle.bitboard_core.specs.Sets.{Has, IsSetOf, bit_if, set_of, table_of}
+use Rattle.bitboard_core.specs.Sets.{Has, bit_if, set_of}
 use Rattle.bitboard_core.specs.Rays.{Sense, Rises, Stays, Falls, leads, Leads, IsOn, IsOpenIn, IsRaySet, is_knight_step, is_king_step, is_pawn_strike, is_pawn_push}
 use Rattle.bitboard_core.specs.Strikers.{IsOccupied, IsStruckSet, IsPushSet}
-use Rattle.bitboard_core.proofs.SetLemmas.{bit_at-set_of, table_of-at, bit_if-true, bit_if-of_true, Has-or, Has-or_left, Has-or_right, Has-and, Has-and_both}
+use Rattle.bitboard_core.proofs.SetLemmas.{bit_at-set_of, bit_if-true, bit_if-of_true, Has-or, Has-or_left, Has-or_right, Has-and, Has-and_both}
 use Rattle.bitboard_core.proofs.TableFacts.{knight_is, king_is, white_strikes_is, black_strikes_is, white_ahead_is, black_ahead_is}
-use Rattle.bitboard_core.proofs.RayLemmas.{toward-lt, file-lt, rank-lt, square_at-parts, Decides-leads, at_table}
+use Rattle.bitboard_core.proofs.RayLemmas.{toward-lt, file-lt, rank-lt, Decides-leads, at_table}
 use Rattle.bitboard_core.proofs.StrikesBack.{Clear-near}
 
 -- empty squares of a placement, and bits that aren't set

@@ -1,6 +1,5 @@
 -- The men that strike a square, from the sets of their kinds.
-use Rattle.std.proofs.Common.{arith, ◌≡◌, ℕ, ◌+◌, ◌<◌, ◌⊎◌, Bool, true, false, nat_eq, nat_lt, cond, ◌%◌, refl, sym, ap, subst, ◌∙◌, inl, inr, Option, Some, None}
-use Rattle.std.specs.Int.{bit_at}
+use Rattle.std.proofs.Common.{◌≡◌, ℕ, ◌<◌, ◌⊎◌, true, nat_eq, nat_lt, cond, ◌%◌, refl, sym, ap, subst, ◌∙◌, inl, inr, Option, Some, None}
 use Rattle.std.specs.Int.RustNames.{bit_or}
 use lib.Bits.{bit_and}
 use Rattle.std.proofs.lemmas.Bool.{eqb-true, eq-eqb, true≢false}
@@ -13,8 +12,8 @@ use Rattle.chess_model.specs.Placement.{Placement, man_at, opposite}
 use Rattle.chess_model.specs.Reach.{IsStep, Strikes}
 use Rattle.chess_model.specs.Attacked.{StrikesAs, StrikesFrom}
 use Rattle.bitboard_core.specs.declared.sides.Side.{Side}
-use Rattle.bitboard_core.specs.Sets.{Has, IsSetOf, bit_if}
-use Rattle.bitboard_core.specs.Strikers.{man_place, is_placed, IsOccupied, AreMenOf, IsStruckSet, IsStrikerSet}
+use Rattle.bitboard_core.specs.Sets.{Has, IsSetOf}
+use Rattle.bitboard_core.specs.Strikers.{man_place, is_placed, AreMenOf, IsStruckSet, IsStrikerSet}
 use Rattle.bitboard_core.proofs.SetLemmas.{bit_if-true, bit_if-of_true, Has-or, Has-or_left, Has-or_right, Has-and, Has-and_both}
 use Rattle.bitboard_core.proofs.StrikesBack.{Strikes-back}
 

@@ -1,5 +1,5 @@
 -- A man strikes a square exactly where a man of its kind and of the other colour would strike back.
-use Rattle.std.proofs.Common.{arith, ◌≡◌, ◌≢◌, ℕ, ◌+◌, ◌-◌, ◌<◌, ◌≤◌, ◌⊎◌, max, refl, sym, ap, ◌∙◌, inl, inr}
+use Rattle.std.proofs.Common.{arith, ◌≡◌, ℕ, ◌+◌, ◌-◌, ◌<◌, ◌≤◌, ◌⊎◌, max, sym, ap, ◌∙◌, inl, inr}
 use Rattle.std.proofs.lemmas.Bool.{cases_order}
 use Rattle.std.specs.Int.{abs_diff}
 use Rattle.chess_model.specs.declared.man.Colour.{Colour}

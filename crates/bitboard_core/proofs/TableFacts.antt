@@ -2,7 +2,7 @@
 use Rattle.std.proofs.Common.{◌≡◌, refl}
 use Rattle.bitboard_core.specs.declared.tables.TheConstants.{NORTH, EAST, SOUTH, WEST, NORTH_EAST, NORTH_WEST, SOUTH_EAST, SOUTH_WEST, KNIGHT, KING, WHITE_STRIKES, BLACK_STRIKES, WHITE_AHEAD, BLACK_AHEAD}
 use Rattle.bitboard_core.specs.Sets.{set_below, set_of, table_of}
-use Rattle.bitboard_core.specs.Rays.{Sense, Rises, Stays, Falls, is_on, is_knight_step, is_king_step, is_pawn_strike, is_pawn_push}
+use Rattle.bitboard_core.specs.Rays.{Rises, Stays, Falls, is_on, is_knight_step, is_king_step, is_pawn_strike, is_pawn_push}
 
 pub north_is : NORTH ≡ table_of (is_on Stays Rises)
 unfolding table_of set_of set_below is_on

@@ -1,5 +1,5 @@
 -- The eight ways that lead from a square to the edge of the board (FIDE Laws 2.4, 3.2 to 3.4).
-use Rattle.std.specs.Prelude.{◌≡◌, ℕ, ◌+◌, ◌<◌, ◌↔◌, Bool, true, false, ◌&&◌, ◌||◌, nat_eq, nat_lt, ⊤}
+use Rattle.std.specs.Prelude.{◌≡◌, ℕ, ◌+◌, ◌<◌, ◌↔◌, Bool, ◌&&◌, ◌||◌, nat_eq, nat_lt}
 use Rattle.std.specs.Int.{bit_at}
 use Rattle.chess_model.specs.Squares.{file_of, rank_of, files_apart, ranks_apart, distance, along}
 use Rattle.bitboard_core.specs.Sets.{Has}

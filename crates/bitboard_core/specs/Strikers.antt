@@ -1,11 +1,11 @@
 -- What sets of men say of a placement that they stand for.
-use Rattle.std.specs.Prelude.{◌≡◌, ℕ, ◌+◌, ◌<◌, ◌↔◌, Bool, true, false, nat_eq, is_some, slice_index, Option, Some, None}
+use Rattle.std.specs.Prelude.{ℕ, ◌+◌, ◌<◌, ◌↔◌, Bool, false, nat_eq, is_some, slice_index, Option, Some, None}
 use Rattle.chess_model.specs.declared.man.Colour.{Colour}
 use Rattle.chess_model.specs.declared.man.Colour.TheVariants.{White, Black}
 use Rattle.chess_model.specs.declared.man.Kind.{Kind}
 use Rattle.chess_model.specs.declared.man.Kind.TheVariants.{Pawn, Knight, Bishop, Rook, Queen, King}
 use Rattle.chess_model.specs.declared.man.Man.{Man}
-use Rattle.chess_model.specs.Placement.{Placement, man_at}
+use Rattle.chess_model.specs.Placement.{Placement}
 use Rattle.chess_model.specs.Reach.{Strikes, Advances, Reaches}
 use Rattle.chess_model.specs.Attacked.{StrikesFrom}
 use Rattle.bitboard_core.specs.declared.bits.BitSets.{BitSets}

@@ -14,7 +14,7 @@ use chess_model::{Colour, Kind, Man, Square};
 use std::marker::Model;
 
 /// A placement as sets of squares, beside the man on each square. Contracts see the placement.
-#[derive(Debug)]
+#[derive(Debug, Drop)]
 pub struct Bits {
     squares: [Option<Man>; 64],
     men: [u64; 12],

@@ -15,7 +15,7 @@ mod stops;
 mod tables;
 
 pub use bits::{BitSets, Bits};
-pub use sides::{Side, are_safe, strikers};
+pub use sides::{Side, are_safe, is_struck, strikers};
 pub use squares::{has_square, next_square, square_of};
 pub use steps::{
     bishop_squares, king_squares, knight_squares, pawn_pushes, pawn_squares, queen_squares,

@@ -25,7 +25,7 @@ fn reach_of(rt: &impl Abort, bits: &Bits, n: u8) -> u64 {
 }
 
 #[test]
-fn sets_of_the_start(rt: &impl Abort) {
+fn sets_of_the_start(rt: HostRuntime) {
     let sets = Bits::of(PlainBoard::start(Variant::Chess).men()).sets();
     let expected: [u64; 12] = [
         0xFF00,
@@ -47,25 +47,25 @@ fn sets_of_the_start(rt: &impl Abort) {
 }
 
 #[test]
-fn reach_at_the_start(rt: &impl Abort) {
+fn reach_at_the_start(rt: HostRuntime) {
     let bits = Bits::of(PlainBoard::start(Variant::Chess).men());
-    assert!(rt; reach_of(rt, &bits, 0) == 0, "Ra1 is shut in");
-    assert!(rt; reach_of(rt, &bits, 1) == 0x0005_0000, "Nb1: a3, c3");
-    assert!(rt; reach_of(rt, &bits, 12) == 0x1010_0000, "e2: e3, e4");
+    assert!(rt; reach_of(&rt, &bits, 0) == 0, "Ra1 is shut in");
+    assert!(rt; reach_of(&rt, &bits, 1) == 0x0005_0000, "Nb1: a3, c3");
+    assert!(rt; reach_of(&rt, &bits, 12) == 0x1010_0000, "e2: e3, e4");
     assert!(rt;
-        reach_of(rt, &bits, 52) == 0x0000_1010_0000_0000,
+        reach_of(&rt, &bits, 52) == 0x0000_1010_0000_0000,
         "e7: e6, e5"
     );
 }
 
 #[test]
-fn rays_stop_at_men(rt: &impl Abort) {
+fn rays_stop_at_men(rt: HostRuntime) {
     let mut bits = Bits::empty();
-    let d4 = square(rt, 27);
+    let d4 = square(&rt, 27);
     bits.place(d4, Some(man(Colour::White, Kind::Queen)));
-    bits.place(square(rt, 43), Some(man(Colour::White, Kind::Pawn)));
-    bits.place(square(rt, 25), Some(man(Colour::Black, Kind::Rook)));
-    bits.place(square(rt, 54), Some(man(Colour::Black, Kind::King)));
+    bits.place(square(&rt, 43), Some(man(Colour::White, Kind::Pawn)));
+    bits.place(square(&rt, 25), Some(man(Colour::Black, Kind::Rook)));
+    bits.place(square(&rt, 54), Some(man(Colour::Black, Kind::King)));
     // d5; e4 to h4; d3, d2, d1; c4, b4; e5, f6, g7; c5, b6, a7; e3, f2, g1; c3, b2, a1
     let expected: u64 = 1 << 35
         | 0xF000_0000
@@ -83,25 +83,28 @@ fn rays_stop_at_men(rt: &impl Abort) {
         | 1 << 18
         | 1 << 9
         | 1;
-    assert!(rt; reach_of(rt, &bits, 27) == expected, "a queen's eight ways");
     assert!(rt;
-        bits.attackers(square(rt, 54), Colour::White) == 1 << 27,
+        reach_of(&rt, &bits, 27) == expected,
+        "a queen's eight ways"
+    );
+    assert!(rt;
+        bits.attackers(square(&rt, 54), Colour::White) == 1 << 27,
         "the king on g7 is in check"
     );
     assert!(rt;
-        bits.attackers(square(rt, 26), Colour::Black) == 1 << 25,
+        bits.attackers(square(&rt, 26), Colour::Black) == 1 << 25,
         "c4 is struck by the rook"
     );
     assert!(rt;
-        bits.attackers(square(rt, 28), Colour::Black) == 0,
+        bits.attackers(square(&rt, 28), Colour::Black) == 0,
         "e4 lies behind the queen"
     );
 }
 
 #[test]
-fn promoted_men_come_and_go(rt: &impl Abort) {
+fn promoted_men_come_and_go(rt: HostRuntime) {
     let mut bits = Bits::empty();
-    let e8 = square(rt, 60);
+    let e8 = square(&rt, 60);
     let queen = Man {
         colour: Colour::White,
         kind: Kind::Queen,
@@ -120,7 +123,7 @@ fn promoted_men_come_and_go(rt: &impl Abort) {
 }
 
 #[test]
-fn hands_are_counted(rt: &impl Abort) {
+fn hands_are_counted(rt: HostRuntime) {
     let mut hand = Holdings::empty();
     hand.give(Kind::Pawn);
     assert!(rt; hand.count(Kind::Knight) < 255, "there is room");

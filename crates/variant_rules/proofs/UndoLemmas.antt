@@ -12,7 +12,13 @@ use Rattle.chess_model.specs.declared.variant.Variant.{Variant}
 use Rattle.chess_model.specs.Placement.{Placement, man_at, opposite, unpromoted, king_home, rook_home, king_end, rook_end}
 use Rattle.chess_model.specs.MoveList.{place_after, two_moved, taking_square, landed}
 use Rattle.variant_rules.specs.declared.make.Squares.{Squares}
-use Rattle.variant_rules.specs.Undos.{changed_squares, DifferOn}
+use Rattle.chess_model.specs.declared.variant.Variant.TheVariants.{Bughouse}
+use Rattle.chess_model.specs.Census.{men_on, men_in}
+use Rattle.chess_model.specs.Position.{Position}
+use Rattle.chess_model.specs.Next.{next}
+use Rattle.chess_model.proofs.NoMoreMen.{length-place_after}
+use Rattle.variant_rules.specs.declared.make.Undo.{Undo}
+use Rattle.variant_rules.specs.Undos.{changed_squares, DifferOn, StoodIn, IsUndoOf}
 
 pub differ-after : (v : Variant) (P : Placement) (c : Colour) (m : Move) →
     DifferOn P (place_after v P c m) (changed_squares v P c m).one (changed_squares v P c m).two (changed_squares v P c m).three (changed_squares v P c m).four
@@ -125,3 +131,74 @@ pub set_four_back : (P Q : Placement) (a b c d : ℕ) → length P ≡ 64 → le
 unfolding four three two one
 set_four_back P Q a b c d size kept differ =
     same_placement (four P Q a b c d size kept differ) P (size_four P Q a b c d size kept differ) size (each_back P Q a b c d size kept differ)
+
+-- what was kept, from its parts
+pub undo_made : (p : Position) (m : Move) (u : Undo) (squares : Squares) → length p.men ≡ 64 →
+    (p.variant ≢ Bughouse → men_on p.men + (men_in p.white + men_in p.black) ≤ 32) →
+    squares ≡ changed_squares p.variant p.men p.to_move m →
+    u.first.on ≡ squares.one → u.second.on ≡ squares.two → u.third.on ≡ squares.three → u.fourth.on ≡ squares.four →
+    StoodIn p.men u.first → StoodIn p.men u.second → StoodIn p.men u.third → StoodIn p.men u.fourth →
+    u.en_passant ≡ p.en_passant → u.rights ≡ p.rights → u.quiet ≡ p.quiet → u.white ≡ p.white → u.black ≡ p.black →
+    IsUndoOf u p (next p m)
+undo_made p m u squares size few which on1 on2 on3 on4 s1 s2 s3 s4 passed rights quiet white black =
+    let differ = differ-after p.variant p.men p.to_move m in
+    let one : u.first.on ≡ (changed_squares p.variant p.men p.to_move m).one = on1 ∙ ap (λ (q : Squares). q.one) which in
+    let two : u.second.on ≡ (changed_squares p.variant p.men p.to_move m).two = on2 ∙ ap (λ (q : Squares). q.two) which in
+    let three : u.third.on ≡ (changed_squares p.variant p.men p.to_move m).three = on3 ∙ ap (λ (q : Squares). q.three) which in
+    let four : u.fourth.on ≡ (changed_squares p.variant p.men p.to_move m).four = on4 ∙ ap (λ (q : Squares). q.four) which in
+    record {
+      size = size;
+      kept_size = length-place_after p.variant p.men p.to_move m ∙ size;
+      few = few;
+      others = record {
+        others = λ s na nb nc nd. differ.others s (λ e. na (e ∙ sym one)) (λ e. nb (e ∙ sym two)) (λ e. nc (e ∙ sym three)) (λ e. nd (e ∙ sym four));
+      };
+      first = s1;
+      second = s2;
+      third = s3;
+      fourth = s4;
+      variant = refl;
+      to_move = refl;
+      en_passant = passed;
+      rights = rights;
+      quiet = quiet;
+      white = white;
+      black = black;
+    }
+
+opposite-opposite : (c : Colour) → opposite (opposite c) ≡ c
+opposite-opposite White = refl
+opposite-opposite Black = refl
+
+-- the men after the taking back
+pub men_back : (u : Undo) (p q : Position) → IsUndoOf u p q →
+    slice_set (slice_set (slice_set (slice_set q.men u.first.on u.first.man) u.second.on u.second.man) u.third.on u.third.man) u.fourth.on u.fourth.man
+    ≡ p.men
+men_back u p q h =
+    (λ i. slice_set (slice_set (slice_set (slice_set q.men u.first.on (h.first i)) u.second.on (h.second i)) u.third.on (h.third i)) u.fourth.on (h.fourth i))
+    ∙ set_four_back p.men q.men u.first.on u.second.on u.third.on u.fourth.on h.size h.kept_size h.others
+
+-- the position after the taking back
+pub position_back : (u : Undo) (p q new : Position) → IsUndoOf u p q → new.variant ≡ q.variant →
+    new.men ≡ slice_set (slice_set (slice_set (slice_set q.men u.first.on u.first.man) u.second.on u.second.man) u.third.on u.third.man) u.fourth.on u.fourth.man →
+    new.to_move ≡ opposite q.to_move → new.en_passant ≡ u.en_passant → new.rights ≡ u.rights → new.quiet ≡ u.quiet →
+    new.white ≡ u.white → new.black ≡ u.black → new ≡ p
+position_back u p q new h v men side passed rights quiet white black =
+    let men_is = men ∙ men_back u p q h in
+    let side_is = side ∙ ap opposite h.to_move ∙ opposite-opposite p.to_move in
+    let variant_is = v ∙ h.variant in
+    let passed_is = passed ∙ h.en_passant in
+    let rights_is = rights ∙ h.rights in
+    let quiet_is = quiet ∙ h.quiet in
+    let white_is = white ∙ h.white in
+    let black_is = black ∙ h.black in
+    λ i. record {
+      variant = variant_is i;
+      men = men_is i;
+      to_move = side_is i;
+      en_passant = passed_is i;
+      rights = rights_is i;
+      quiet = quiet_is i;
+      white = white_is i;
+      black = black_is i;
+    }

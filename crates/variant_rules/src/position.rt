@@ -13,7 +13,7 @@ use std::marker::Model;
 
 /// The position of one board. Contracts see what chess_model calls a position: the men, whose turn it is, the en
 /// passant square, the rights, the quiet count and both hands.
-#[derive(Debug)]
+#[derive(Debug, Drop)]
 pub struct Position {
     pub(crate) variant: Variant,
     pub(crate) men: Bits,

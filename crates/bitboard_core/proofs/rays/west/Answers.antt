@@ -1,6 +1,4 @@
-use Rattle.std.proofs.Common.{subst, ◌<◌, ℕ}
 use Rattle.bitboard_core.proofs.RayLemmas.{west_ray}
-use Rattle.bitboard_core.specs.Rays.{Sense, IsRaySet}
 use Rattle.bitboard_core.proofs.rays.west.Goals as goal
 
 pub returns : goal.returns

@@ -3,7 +3,7 @@ use Rattle.std.specs.Int.{bit_not}
 use lib.Bits.{bit_and}
 use Rattle.chess_model.specs.declared.man.Colour.TheVariants.{Black}
 use Rattle.bitboard_core.specs.Strikers.{IsPushSet}
-use Rattle.bitboard_core.specs.Rays.{Stays, Rises, Falls, IsRaySet}
+use Rattle.bitboard_core.specs.Rays.{Stays, Falls, IsRaySet}
 use Rattle.bitboard_core.specs.declared.tables.TheConstants.{BLACK_AHEAD}
 use Rattle.bitboard_core.proofs.StepLemmas.{black_push_set}
 use Rattle.std.proofs.Common.{sym}

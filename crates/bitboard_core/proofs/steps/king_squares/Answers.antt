@@ -1,7 +1,6 @@
 use Rattle.std.proofs.Common.{ℕ, subst, get_or}
 use Rattle.bitboard_core.specs.Strikers.{IsStruckSet}
-use Rattle.chess_model.specs.declared.man.Kind.TheVariants.{Pawn, Knight, King}
-use Rattle.chess_model.specs.declared.man.Colour.TheVariants.{White, Black}
+use Rattle.chess_model.specs.declared.man.Kind.TheVariants.{King}
 use Rattle.bitboard_core.specs.declared.tables.TheConstants.{KING}
 use Rattle.bitboard_core.proofs.StepLemmas.{king_set}
 use Rattle.bitboard_core.proofs.steps.king_squares.Goals as goal

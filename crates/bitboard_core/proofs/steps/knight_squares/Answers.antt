@@ -1,7 +1,6 @@
 use Rattle.std.proofs.Common.{ℕ, subst, get_or}
 use Rattle.bitboard_core.specs.Strikers.{IsStruckSet}
-use Rattle.chess_model.specs.declared.man.Kind.TheVariants.{Pawn, Knight, King}
-use Rattle.chess_model.specs.declared.man.Colour.TheVariants.{White, Black}
+use Rattle.chess_model.specs.declared.man.Kind.TheVariants.{Knight}
 use Rattle.bitboard_core.specs.declared.tables.TheConstants.{KNIGHT}
 use Rattle.bitboard_core.proofs.StepLemmas.{knight_set}
 use Rattle.bitboard_core.proofs.steps.knight_squares.Goals as goal

@@ -1,6 +1,6 @@
 use Rattle.std.proofs.Common.{ℕ, subst, get_or}
 use Rattle.bitboard_core.specs.Strikers.{IsStruckSet}
-use Rattle.chess_model.specs.declared.man.Kind.TheVariants.{Pawn, Knight, King}
+use Rattle.chess_model.specs.declared.man.Kind.TheVariants.{Pawn}
 use Rattle.chess_model.specs.declared.man.Colour.TheVariants.{White, Black}
 use Rattle.bitboard_core.specs.declared.tables.TheConstants.{WHITE_STRIKES, BLACK_STRIKES}
 use Rattle.bitboard_core.proofs.StepLemmas.{white_pawn_set, black_pawn_set}

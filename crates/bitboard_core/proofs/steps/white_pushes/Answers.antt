@@ -3,7 +3,7 @@ use Rattle.std.specs.Int.{bit_not}
 use lib.Bits.{bit_and}
 use Rattle.chess_model.specs.declared.man.Colour.TheVariants.{White}
 use Rattle.bitboard_core.specs.Strikers.{IsPushSet}
-use Rattle.bitboard_core.specs.Rays.{Stays, Rises, Falls, IsRaySet}
+use Rattle.bitboard_core.specs.Rays.{Stays, Rises, IsRaySet}
 use Rattle.bitboard_core.specs.declared.tables.TheConstants.{WHITE_AHEAD}
 use Rattle.bitboard_core.proofs.StepLemmas.{white_push_set}
 use Rattle.std.proofs.Common.{sym}

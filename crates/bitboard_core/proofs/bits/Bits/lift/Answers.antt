@@ -1,4 +1,3 @@
-use Rattle.std.proofs.Common.{◌≡◌, ℕ, ◌∙◌, ap, sym, subst}
 use Rattle.bitboard_core.proofs.BitsLemmas.{kept_lift}
 use Rattle.bitboard_core.proofs.bits.Bits.lift.Goals as goal
 

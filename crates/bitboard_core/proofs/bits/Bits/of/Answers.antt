@@ -1,4 +1,4 @@
-use Rattle.std.proofs.Common.{◌≡◌, ℕ, ◌+◌, ◌∙◌, sym, ap, subst, get_or, None}
+use Rattle.std.proofs.Common.{ℕ, ◌+◌, ◌∙◌, sym, ap, subst}
 use Rattle.std.specs.Prelude.{slice_set}
 use Rattle.chess_model.specs.Placement.{Placement, man_at}
 use Rattle.bitboard_core.proofs.CopyLemmas.{IsCopiedBelow, copied-none, copied-more, copied-all}

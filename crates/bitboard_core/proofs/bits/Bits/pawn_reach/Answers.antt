@@ -1,6 +1,5 @@
-use Rattle.std.proofs.Common.{ℕ, Option, subst}
+use Rattle.std.proofs.Common.{subst}
 use Rattle.chess_model.specs.declared.man.Colour.{Colour}
-use Rattle.chess_model.specs.declared.man.Man.{Man}
 use Rattle.bitboard_core.specs.Sets.{IsSetOf}
 use Rattle.chess_model.specs.Men.{is_held_by}
 use Rattle.bitboard_core.proofs.BitsLemmas.{reach_of_pawn}

@@ -1,7 +1,6 @@
-use Rattle.std.proofs.Common.{◌≡◌, ap, sym, ◌∙◌, Option, Some, set-set}
+use Rattle.std.proofs.Common.{ap, sym, ◌∙◌, Some, set-set}
 use Rattle.std.specs.Prelude.{slice_set}
 use Rattle.chess_model.specs.Placement.{Placement}
-use Rattle.chess_model.specs.declared.man.Man.{Man}
 use Rattle.bitboard_core.proofs.bits.Bits.place.Goals as goal
 use Rattle.bitboard_core.proofs.bits.Bits.place.Goals.{then-is_some, else-is_some}
 

@@ -1,4 +1,4 @@
-use Rattle.std.proofs.Common.{◌≡◌, ℕ, ◌∙◌, ap, sym, subst, None}
+use Rattle.std.proofs.Common.{◌≡◌, ◌∙◌, None}
 use Rattle.chess_model.specs.Placement.{man_at}
 use Rattle.bitboard_core.proofs.BitsLemmas.{kept_put, marked_put, unmarked_put}
 use Rattle.bitboard_core.proofs.bits.Bits.put.Goals as goal
