@@ -29,7 +29,8 @@ pub fn next_square(set: u64, n: u8) -> u8
 /// Whether a square is in a set.
 #[inline]
 pub fn has_square(set: u64, s: Square) -> bool
-    ensures { IsTrue result ↔ Has set s }
+    ensures value { IsTrue result ↔ Has set s }
+    ensures within { s < 64 }
 {
     set >> s.number() & 1 == 1
 }

@@ -83,7 +83,7 @@ module _ (P Q : Placement) (a b c d : ℕ) (size : length P ≡ 64) (kept : leng
   unfolding three
   size_three = length-set two c (man_at P c) ∙ size_two
 
-  pub size_four : length four ≡ 64
+  size_four : length four ≡ 64
   unfolding four
   size_four = length-set three d (man_at P d) ∙ size_three
 
@@ -166,7 +166,7 @@ undo_made p m u squares size few which on1 on2 on3 on4 s1 s2 s3 s4 passed rights
       black = black;
     }
 
-opposite-opposite : (c : Colour) → opposite (opposite c) ≡ c
+pub opposite-opposite : (c : Colour) → opposite (opposite c) ≡ c
 opposite-opposite White = refl
 opposite-opposite Black = refl
 

@@ -1,6 +1,6 @@
-ghost use Rattle.std.specs.Prelude.{◌≡◌, ◌<◌, ◌↔◌, IsTrue};
+ghost use Rattle.std.specs.Prelude.{◌≡◌, ◌<◌, ◌↔◌, IsTrue, Some};
 ghost use Rattle.chess_model.specs.Placement.{man_at};
-ghost use Rattle.chess_model.specs.Reach.{Reaches};
+ghost use Rattle.chess_model.specs.Reach.{Strikes, Reaches};
 ghost use Rattle.chess_model.specs.Attacked.{IsAttacked, IsKingSafe};
 ghost use Rattle.chess_model.specs.Allowed.{IsPromotion, HasPromotion, GoesAs, IsPlainMove, right_of, IsUnattackedWay, IsFreeFor, IsFreeWay, CanCastle, HasDrops, MayDropOn, CanDrop, IsMove, IsSafeAfter, Allowed};
 ghost use Rattle.chess_model.specs.Squares.{distance, along, toward};
@@ -8,7 +8,7 @@ ghost use Rattle.chess_model.specs.Squares.{distance, along, toward};
 use crate::changes::change_men;
 use crate::homes::{end_of_king, end_of_rook, home_of_king, home_of_rook, last_rank_of};
 use crate::position::Position;
-use bitboard_core::{Bits, are_safe, has_square, is_struck};
+use bitboard_core::{Bits, are_safe, has_square, is_struck, pawn_squares};
 use chess_model::{Colour, Kind, Move, Rights, Square, Variant};
 
 /// Whether a pawn may become that kind.
@@ -164,16 +164,37 @@ pub(crate) fn may_drop_on(k: Kind, to: Square) -> bool
     }
 }
 
+/// Whether a pawn on a strikes the en passant square b.
+fn strikes_passed(men: &Bits, en_passant: Option<Square>, c: Colour, a: Square, b: Square) -> bool
+    ensures { IsTrue result ↔ ((en_passant ≡ Some b) × Strikes men.now c Kind.Pawn a b) }
+{
+    if en_passant == Some(b) {
+        return has_square(pawn_squares(c, a), b);
+    }
+    false
+}
+
+fn pawn_reaches(men: &Bits, en_passant: Option<Square>, c: Colour, a: Square, b: Square) -> bool
+    ensures { IsTrue result ↔ Reaches men.now en_passant c Kind.Pawn a b }
+{
+    if has_square(men.reach_of(c, Kind::Pawn, a), b) {
+        return true;
+    }
+    strikes_passed(men, en_passant, c, a, b)
+}
+
 /// Whether a man of that colour and kind on a reaches b.
 fn reaches(men: &Bits, en_passant: Option<Square>, c: Colour, k: Kind, a: Square, b: Square) -> bool
     ensures { IsTrue result ↔ Reaches men.now en_passant c k a b }
 {
-    if has_square(men.reach_of(c, k, a), b) {
-        return true;
+    match k {
+        Kind::Pawn => pawn_reaches(men, en_passant, c, a, b),
+        Kind::Knight => has_square(men.reach_of(c, Kind::Knight, a), b),
+        Kind::Bishop => has_square(men.reach_of(c, Kind::Bishop, a), b),
+        Kind::Rook => has_square(men.reach_of(c, Kind::Rook, a), b),
+        Kind::Queen => has_square(men.reach_of(c, Kind::Queen, a), b),
+        Kind::King => has_square(men.reach_of(c, Kind::King, a), b),
     }
-    matches!(k, Kind::Pawn)
-        && en_passant == Some(b)
-        && has_square(bitboard_core::pawn_squares(c, a), b)
 }
 
 impl Position {

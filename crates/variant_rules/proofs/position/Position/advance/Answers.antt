@@ -6,14 +6,7 @@ use Rattle.chess_model.specs.Census.{men_on, men_in, all_men}
 use Rattle.chess_model.specs.Allowed.{Allowed}
 use Rattle.chess_model.specs.Next.{next}
 use Rattle.chess_model.proofs.NoMoreMen.{all_men-next, length-place_after}
-use Rattle.variant_rules.proofs.HandLemmas.{one_variant}
-use Rattle.variant_rules.proofs.make.Position.advance.Goals as goal
-
-pub hand_next-white-requires : goal.hand_next-white-requires
-hand_next-white-requires c crazy = omega (arith, c.self.invariant.men (one_variant c.self.inside.variant crazy))
-
-pub hand_next-black-requires : goal.hand_next-black-requires
-hand_next-black-requires c crazy = omega (arith, c.self.invariant.men (one_variant c.self.inside.variant crazy))
+use Rattle.variant_rules.proofs.position.Position.advance.Goals as goal
 
 pub invariant_of-self : goal.invariant_of-self
 invariant_of-self c =

@@ -5,7 +5,7 @@ use Rattle.chess_model.specs.Next.{next}
 use Rattle.variant_rules.specs.declared.make.Undo.{Undo}
 use Rattle.variant_rules.specs.Undos.{IsUndoOf}
 use Rattle.variant_rules.proofs.UndoLemmas.{undo_made}
-use Rattle.variant_rules.proofs.make.Position.undo_of.Goals as goal
+use Rattle.variant_rules.proofs.position.Position.undo_of.Goals as goal
 
 pub returns-clause-undo : goal.returns-clause-undo
 returns-clause-undo c =

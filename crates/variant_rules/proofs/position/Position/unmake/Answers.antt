@@ -5,7 +5,7 @@ use Rattle.chess_model.specs.Placement.{Placement, opposite}
 use Rattle.chess_model.specs.Census.{men_on, men_in}
 use Rattle.chess_model.specs.Position.{Position}
 use Rattle.variant_rules.proofs.UndoLemmas.{position_back}
-use Rattle.variant_rules.proofs.make.Position.unmake.Goals as goal
+use Rattle.variant_rules.proofs.position.Position.unmake.Goals as goal
 
 pub returns : goal.returns
 returns c p h =
@@ -15,7 +15,7 @@ returns c p h =
     let new : Position = record {
       variant = b.variant;
       men = c.place-4.new.self;
-      to_move = c.opposite.result;
+      to_move = c.opposite-self-inside.result;
       en_passant = c.args.u.en_passant;
       rights = c.args.u.rights;
       quiet = c.args.u.quiet;
@@ -26,7 +26,7 @@ returns c p h =
     let two = c.place-2.ensures ∙ ap (λ (P : Placement). slice_set P u.second.on u.second.man) one in
     let three = c.place-3.ensures ∙ ap (λ (P : Placement). slice_set P u.third.on u.third.man) two in
     let four = c.place-4.ensures ∙ ap (λ (P : Placement). slice_set P u.fourth.on u.fourth.man) three in
-    let side = c.opposite.ensures ∙ ap (λ (x : Position). opposite x.to_move) c.self.view_is in
+    let side = c.opposite-self-inside.ensures ∙ ap (λ (x : Position). opposite x.to_move) c.self.view_is in
     let variant = ap (λ (x : Position). x.variant) c.self.view_is in
     position_back u p q new h variant four side refl refl refl refl refl
 
@@ -38,7 +38,7 @@ invariant_of-self c =
     let new : Position = record {
       variant = b.variant;
       men = c.place-4.new.self;
-      to_move = c.opposite.result;
+      to_move = c.opposite-self-inside.result;
       en_passant = c.args.u.en_passant;
       rights = c.args.u.rights;
       quiet = c.args.u.quiet;
@@ -49,7 +49,7 @@ invariant_of-self c =
     let two = c.place-2.ensures ∙ ap (λ (P : Placement). slice_set P u.second.on u.second.man) one in
     let three = c.place-3.ensures ∙ ap (λ (P : Placement). slice_set P u.third.on u.third.man) two in
     let four = c.place-4.ensures ∙ ap (λ (P : Placement). slice_set P u.fourth.on u.fourth.man) three in
-    let side = c.opposite.ensures ∙ ap (λ (x : Position). opposite x.to_move) c.self.view_is in
+    let side = c.opposite-self-inside.ensures ∙ ap (λ (x : Position). opposite x.to_move) c.self.view_is in
     let variant = ap (λ (x : Position). x.variant) c.self.view_is in
     let p = c.requires.0 in
     let h = c.requires.1 in
