@@ -1,3 +1,0 @@
-pub mod HandLemmas
-pub mod ReachLemmas
-pub mod UndoLemmas
