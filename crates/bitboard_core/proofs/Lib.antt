@@ -1,0 +1,11 @@
+pub mod BitsLemmas
+pub mod CopyLemmas
+pub mod RayLemmas
+pub mod SafetyLemmas
+pub mod SetLemmas
+pub mod SquareLemmas
+pub mod StepLemmas
+pub mod StopLemmas
+pub mod StrikerLemmas
+pub mod StrikesBack
+pub mod TableFacts
