@@ -1,6 +1,6 @@
 -- The score of a board is true at its start, and stays so by a half-move.
-use Rattle.std.proofs.Common.{◌≡◌, ℕ, ◌+◌, ◌*◌, ◌-◌, ◌≤◌, ◌<◌, ◌⊎◌, inl, inr, zero, suc, Bool, true, false, ◌&&◌, if◌then◌else◌, List, [], ◌∷◌, ◌++◌, length, Option, Some, None, Result, Ok, Err, refl, sym, ap, subst, ◌∙◌, length-append, arith}
-use Rattle.std.specs.Prelude.{ℤ, pos, ◌-ℤ◌, ◌↔◌, IsTrue, IfSome, IsSome, slice_get, nat_lt}
+use Rattle.std.proofs.Common.{◌≡◌, ℕ, ◌+◌, ◌*◌, ◌≤◌, ◌<◌, ◌⊎◌, inl, inr, zero, suc, Bool, true, false, ◌&&◌, if◌then◌else◌, List, [], ◌∷◌, ◌++◌, length, Option, Some, None, Result, Ok, Err, refl, sym, ap, subst, ◌∙◌, length-append, arith}
+use Rattle.std.specs.Prelude.{ℤ, pos, ◌-ℤ◌, ◌↔◌, IsTrue, IfSome, slice_get, nat_lt}
 use Rattle.std.specs.List.{sum_by}
 use Rattle.std.proofs.lemmas.Bool.Decides.{nat_tests}
 use Rattle.std.proofs.lemmas.Option.{slice_get_within}
@@ -10,7 +10,7 @@ use Rattle.chess_model.specs.declared.moves.Move.{Move}
 use Rattle.chess_model.specs.declared.moves.MoveWord.{MoveWord}
 use Rattle.chess_model.specs.declared.moves.Rejection.{Rejection}
 use Rattle.chess_model.specs.declared.variant.Terms.{Terms}
-use Rattle.chess_model.specs.Allowed.{Allowed, IsLegal}
+use Rattle.chess_model.specs.Allowed.{Allowed}
 use Rattle.chess_model.specs.Position.{Position}
 use Rattle.std.specs.Option.{option_map_or}
 use Rattle.clock_ledger.specs.declared.charges.Charge.{Charge}

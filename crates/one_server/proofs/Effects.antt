@@ -1,8 +1,7 @@
 -- What a call that carries out an act answers and leaves, by the act's effect.
-use Rattle.std.proofs.Common.{◌≡◌, true, Option, None, Some, Result, Ok, Err, refl, ap, sym, ◌∙◌}
-use Rattle.fics_words.specs.Effect.{Effect, Takes, answer_of, state_of, answered, unless, first_cause}
-use Rattle.fics_words.specs.declared.fail.Fail.{Fail}
-use Rattle.fics_words.specs.declared.fail.Fail.TheVariants.{Refused, Memory}
+use Rattle.std.proofs.Common.{◌≡◌, Ok, Err, ap, sym, ◌∙◌}
+use Rattle.fics_words.specs.Effect.{Effect, Takes, answer_of, state_of, answered, unless}
+use Rattle.fics_words.specs.declared.fail.Fail.TheVariants.{Refused}
 use Rattle.fics_words.specs.declared.refusal.Refusal.{Refusal}
 
 module _ {S R : Type 0} (effect : Effect S R) (old new : S) where

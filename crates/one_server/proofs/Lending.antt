@@ -1,9 +1,9 @@
 -- In a whole state an act finds the parts that it is to be lent.
-use Rattle.std.proofs.Common.{◌≡◌, ℕ, ◌≤◌, List, refl, sym, subst, ◌∙◌}
+use Rattle.std.proofs.Common.{◌≡◌, ℕ, List, refl, sym, subst, ◌∙◌}
 use Rattle.std.specs.List.{slice_get}
 use Rattle.std.specs.Prelude.{IfSome, IsSome}
 use Rattle.std.specs.declared.option.Option.{Option}
-use Rattle.std.specs.declared.option.Option.TheVariants.{None, Some}
+use Rattle.std.specs.declared.option.Option.TheVariants.{Some}
 use Rattle.std.specs.declared.result.Result.{Result}
 use Rattle.std.specs.declared.result.Result.TheVariants.{Ok, Err}
 use Rattle.fics_words.specs.declared.refusal.Refusal.{Refusal}
@@ -21,7 +21,7 @@ use Rattle.one_server.specs.declared.part.Part.{Part}
 use Rattle.one_server.specs.declared.part.Part.TheVariants.{Lobby as TheLobby, Desk as ADesk}
 use Rattle.one_server.specs.Acts.{FitsAct, first_part, planned_desk, second_part}
 use Rattle.one_server.specs.Lent.{AreBothOf, IsCarried, IsFirstOf}
-use Rattle.one_server.specs.Whole.{IsInPlace, IsWhole}
+use Rattle.one_server.specs.Whole.{IsWhole}
 use Rattle.one_server.specs.WholeProof.{desk_at, formed_is, place_is}
 use Rattle.one_server.proofs.Serving.{front}
 use Rattle.one_server.proofs.Stepping.{carried_by}

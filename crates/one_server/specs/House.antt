@@ -1,6 +1,6 @@
 -- The server of one lobby and 128 desks: what an act replies, and what it leaves of the parts that it was lent.
 -- This server's own.
-use Rattle.std.specs.Prelude.{ℕ, Option, None, Some, Result, Ok, Err}
+use Rattle.std.specs.Prelude.{ℕ, Option, Some, Result, Ok, Err}
 use Rattle.fics_words.specs.declared.refusal.Refusal.{Refusal}
 use Rattle.histories.specs.Core.{Core}
 use Rattle.linked_desk.specs.Acts.{desk_answer, desk_after}

@@ -15,7 +15,6 @@ use Rattle.histories.proofs.Steps.{after_alone, after_together}
 use Rattle.linked_desk.specs.declared.acts.DeskAct.{DeskAct}
 use Rattle.linked_desk.specs.Acts.{desk_after}
 use Rattle.linked_desk.specs.Desk.{DeskState}
-use Rattle.linked_desk.specs.Sound.{HasSoundGame}
 use Rattle.linked_desk.proofs.KeepsActs.{number-desk_after, players-desk_after, sound-desk_after}
 use Rattle.linked_desk.proofs.KeepsStart.{IsSound-opened}
 use Rattle.lobby_state.specs.declared.acts.Plan.{Plan}

@@ -63,18 +63,18 @@ fn remaining(board: &GameBoard, colour: Colour) -> i64 {
 /// 120,000 at the start, 4 s of thought and 12 s of increment leave 128,000; the first half-moves cost and earn nothing.
 #[test]
 fn thought_and_increment(rt: HostRuntime) -> Result<(), Fail> {
-    let mut board = GameBoard::start(rt.alloc(), chess(2, 12), 0)?;
+    let mut board = GameBoard::start(rt.alloc(), 1, chess(2, 12), 0)?;
     play_all(&rt, &mut board, &[(3_000, "e2e4"), (5_000, "e7e5")]);
     assert_eq!(rt; remaining(&board, Colour::White), 120_000);
     assert_eq!(rt; remaining(&board, Colour::Black), 120_000);
-    assert_eq!(rt; board.time_taken(), 0);
+    assert_eq!(rt; board.last_taken(), 0);
     play_all(&rt, &mut board, &[(9_000, "g1f3")]);
     assert_eq!(rt; remaining(&board, Colour::White), 128_000);
     assert_eq!(rt; remaining(&board, Colour::Black), 120_000);
-    assert_eq!(rt; board.time_taken(), 4_000);
+    assert_eq!(rt; board.last_taken(), 4_000);
     play_all(&rt, &mut board, &[(9_500, "b8c6")]);
     assert_eq!(rt; remaining(&board, Colour::Black), 131_500);
-    assert_eq!(rt; board.time_taken(), 500);
+    assert_eq!(rt; board.last_taken(), 500);
     assert_eq!(rt; board.list().len(), 4);
     Ok(())
 }
@@ -82,7 +82,7 @@ fn thought_and_increment(rt: HostRuntime) -> Result<(), Fail> {
 /// 0 minutes with an increment start at 10,000, and a clock may go below 0.
 #[test]
 fn a_clock_below_nothing(rt: HostRuntime) -> Result<(), Fail> {
-    let mut board = GameBoard::start(rt.alloc(), chess(0, 5), 0)?;
+    let mut board = GameBoard::start(rt.alloc(), 1, chess(0, 5), 0)?;
     assert_eq!(rt; remaining(&board, Colour::White), 10_000);
     play_all(
         &rt,
@@ -96,14 +96,14 @@ fn a_clock_below_nothing(rt: HostRuntime) -> Result<(), Fail> {
 
 #[test]
 fn no_clocks_without_terms(rt: HostRuntime) -> Result<(), Fail> {
-    let mut board = GameBoard::start(rt.alloc(), chess(0, 0), 0)?;
+    let mut board = GameBoard::start(rt.alloc(), 1, chess(0, 0), 0)?;
     play_all(
         &rt,
         &mut board,
         &[(1_000, "e2e4"), (2_000, "e7e5"), (9_000, "g1f3")],
     );
     assert_eq!(rt; remaining(&board, Colour::White), 0);
-    assert_eq!(rt; board.time_taken(), 0);
+    assert_eq!(rt; board.last_taken(), 0);
     assert_eq!(rt;
         flag(&rt, &board, Colour::White, 90_000_000),
         Err(Refusal::NotFallen)
@@ -114,7 +114,7 @@ fn no_clocks_without_terms(rt: HostRuntime) -> Result<(), Fail> {
 /// A refused word changes nothing: the clock goes on from the half-move before.
 #[test]
 fn refusals_charge_nothing(rt: HostRuntime) -> Result<(), Fail> {
-    let mut board = GameBoard::start(rt.alloc(), chess(2, 0), 0)?;
+    let mut board = GameBoard::start(rt.alloc(), 1, chess(2, 0), 0)?;
     play_all(&rt, &mut board, &[(0, "e2e4"), (0, "e7e5")]);
     let white = Colour::White;
     assert_eq!(rt;
@@ -138,7 +138,7 @@ fn refusals_charge_nothing(rt: HostRuntime) -> Result<(), Fail> {
 /// White has a minute and thinks from moment 0 on; the opponent's flag is asked for, and not the own one.
 #[test]
 fn flags_of_one_minute(rt: HostRuntime) -> Result<(), Fail> {
-    let mut board = GameBoard::start(rt.alloc(), chess(1, 0), 0)?;
+    let mut board = GameBoard::start(rt.alloc(), 1, chess(1, 0), 0)?;
     assert_eq!(rt;
         flag(&rt, &board, Colour::Black, 600_000),
         Err(Refusal::NotFallen),
@@ -185,7 +185,7 @@ fn flags_of_one_minute(rt: HostRuntime) -> Result<(), Fail> {
 fn a_king_alone_draws(rt: HostRuntime) -> Result<(), Fail> {
     let words =
         "e2e3 a7a6 f1a6 h7h5 d1h5 g8h6 a6b7 g7g6 b7a8 d7d5 h5h6 c8h3 g1h3 f7f6 h6h8 e8d7 a8d5 d8c8 h8f8 c8b7 d5b7 f6f5 f8b8 d7e6 b8c7 f5f4 h3f4 e6f6 c7e7 f6f5 f4g6 f5g4";
-    let mut board = GameBoard::start(rt.alloc(), chess(1, 0), 0)?;
+    let mut board = GameBoard::start(rt.alloc(), 1, chess(1, 0), 0)?;
     for text in words.split_whitespace() {
         assert_eq!(rt;
             flag(&rt, &board, Colour::Black, 0),
