@@ -1,3 +1,4 @@
+pub mod ActsMade
 pub mod BoardEnds
 pub mod BoardLines
 pub mod Completeness
@@ -6,6 +7,7 @@ pub mod Feeding
 pub mod HandlerLines
 pub mod Leaving
 pub mod LineAnswers
+pub mod Memories
 pub mod MoveWords
 pub mod Names
 pub mod NextLines

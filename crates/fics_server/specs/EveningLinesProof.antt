@@ -1,12 +1,14 @@
 -- The lines that bring an evening to where it stands: one line more, fronts, and lines that no evening has.
-use Rattle.std.proofs.Common.{◌≡◌, ◌≢◌, ◌↔◌, ℕ, ◌+◌, ◌≤◌, max, Bool, true, cond, List, [], ◌∷◌, ◌++◌, map, length, Option, None, Some, filter, append-nil, refl, sym, ap, subst, ◌∙◌, arith}
+use Rattle.std.proofs.Common.{◌≡◌, ◌≢◌, ◌↔◌, ℕ, ◌+◌, ◌-◌, ◌≤◌, max, Bool, true, cond, List, [], ◌∷◌, ◌++◌, map, length, Option, None, Some, filter, append-nil, refl, sym, ap, subst, ◌∙◌, arith}
 use Rattle.std.specs.List.{AllByRecursion, range_with_len}
 use Rattle.std.proofs.lemmas.List.Elements.{All-from_recursion, recursion_from_All, filter-append}
-use Rattle.std.proofs.lemmas.List.FromFn.{get_or-map-range_with_len}
+use Rattle.std.proofs.lemmas.List.FromFn.{get_or-map-range_with_len, length-map-range_with_len}
+use Rattle.std.proofs.lemmas.Option.{slice_get-get_or}
 use Rattle.replay_core.specs.declared.order.Attendance.{Attendance}
 use Rattle.replay_core.specs.Order.{Arrival}
 use Rattle.replay_core.specs.Attendance.{IsAfter, presence_of}
-use Rattle.fics_server.specs.Evening.{Row, Seats, Comes, EveningState, IsOrdered, Reached, IsEvening, MayFollow, is_written, line_of, entries_of, text_of_row, history_of, transcript_of, arrivals_of, last_moment, opening_parts, seats}
+use Rattle.session_core.specs.Memory.{MemoryState, untold}
+use Rattle.fics_server.specs.Evening.{Row, Seats, Comes, AreMemories, EveningState, IsOrdered, Reached, IsEvening, MayFollow, is_written, line_of, entries_of, text_of_row, history_of, transcript_of, arrivals_of, last_moment, opening_parts, remembered, seats}
 use Rattle.fics_server.specs.Handling.{AreLines, IsOutside}
 use Rattle.fics_server.specs.EveningsProof.{evening_step, history-push, transcript-push, lines-append, one_evening}
 
@@ -51,14 +53,34 @@ unfolding order_of
 order_kept [] = refl
 order_kept (row ∷ rows) = (λ e. absurd cc, progress_after seats (arrivals_of (row ∷ rows)))
 
+-- what each session remembers
+memories_of : (ℕ → MemoryState) → List MemoryState
+memories_of remember = map remember (range_with_len 1 64)
+
+memories_kept : (remember : ℕ → MemoryState) → AreMemories (memories_of remember) remember
+unfolding memories_of
+memories_kept remember =
+    let count : length (map remember (range_with_len 1 64)) ≡ 64 = length-map-range_with_len remember 1 64 in
+    record {
+      count = count;
+      each = λ session first last.
+          slice_get-get_or (map remember (range_with_len 1 64)) (session - 1) untold (omega (arith, count, first, last))
+          ∙ ap Some (get_or-map-range_with_len remember 1 64 (session - 1) session untold (omega (arith, first, last)) (omega (arith, first, last)));
+    }
+
 -- the place that some rows bring an evening to
 pub standing_of : List Row → EveningState
-standing_of rows = record { server = record { opening = opening_parts; log = history_of rows }; order = order_of rows; moment = last_moment (arrivals_of rows) }
+standing_of rows = record {
+  server = record { opening = opening_parts; log = history_of rows };
+  order = order_of rows;
+  moment = last_moment (arrivals_of rows);
+  memories = memories_of (remembered rows);
+}
 
 -- each evening stands somewhere
 pub reached_by : (lines : List (List ℕ)) (rows : List Row) → IsEvening rows → filter is_written lines ≡ map line_of rows → Reached lines (standing_of rows) (transcript_of rows)
 unfolding standing_of
-reached_by lines rows follow spelled = record { rows = rows; follow = follow; spelled = spelled; text = refl; server = refl; ordered = order_kept rows; last = refl }
+reached_by lines rows follow spelled = record { rows = rows; follow = follow; spelled = spelled; text = refl; server = refl; ordered = order_kept rows; last = refl; memories = memories_kept (remembered rows) }
 
 -- ---- the last of some rows
 
@@ -106,9 +128,9 @@ empty_push lines = filter-append is_written lines ([] ∷ []) ∙ append-nil (fi
 pub one_line_more : (lines : List (List ℕ)) (evening next : EveningState) (due : List ℕ) (at : Reached lines evening due) (line : List ℕ) (row : Row)
     → is_written line ≡ true → line ≡ line_of row → MayFollow at.rows row
     → next.server ≡ record { opening = opening_parts; log = history_of at.rows ++ entries_of row } → IsOrdered next.order (at.rows ++ row ∷ [])
-    → next.moment ≡ last_moment (arrivals_of (at.rows ++ row ∷ []))
+    → next.moment ≡ last_moment (arrivals_of (at.rows ++ row ∷ [])) → AreMemories next.memories (remembered (at.rows ++ row ∷ []))
     → Reached (lines ++ line ∷ []) next (due ++ text_of_row row)
-one_line_more lines evening next due at line row written spelled follows server ordered last = record {
+one_line_more lines evening next due at line row written spelled follows server ordered last memories = record {
   rows = at.rows ++ row ∷ [];
   follow = (evening_step at.rows row).1 (at.follow, follows);
   spelled = written_push lines line written ∙ ap (λ (l : List (List ℕ)). l ++ line ∷ []) at.spelled ∙ ap (λ (l : List ℕ). map line_of at.rows ++ l ∷ []) spelled ∙ sym (lines-append at.rows (row ∷ []));
@@ -116,6 +138,7 @@ one_line_more lines evening next due at line row written spelled follows server 
   server = server ∙ ap (λ (h : List _). record { opening = opening_parts; log = h }) (sym (history-push at.rows row));
   ordered = ordered;
   last = last;
+  memories = memories;
 }
 
 -- no evening has a line behind these where no row of it may follow
@@ -131,7 +154,7 @@ none_has lines evening due at line written none other text reached =
 
 row_short : (before : List Row) (row : Row) → MayFollow before row → length (line_of row) ≤ 1023
 row_short before (Seats seat made) h = h.short.0
-row_short before (Comes line asked made text) h = h.short.0
+row_short before (Comes line asked made text memory) h = h.short.0
 
 empty_line : (lines : List (List ℕ)) (evening : EveningState) (due : List ℕ) → Reached lines evening due → Reached (lines ++ [] ∷ []) evening due
 empty_line lines evening due at = record {
@@ -142,6 +165,7 @@ empty_line lines evening due at = record {
   server = at.server;
   ordered = at.ordered;
   last = at.last;
+  memories = at.memories;
 }
 
 front_of : (lines : List (List ℕ)) (line : List ℕ) (evening : EveningState) (due : List ℕ) → Reached (lines ++ line ∷ []) evening due → (before : EveningState) × (text : List ℕ) × Reached lines before text
@@ -156,6 +180,7 @@ front_of lines [] evening due at = (
     server = at.server;
     ordered = at.ordered;
     last = at.last;
+    memories = at.memories;
   },
 )
 front_of lines (byte ∷ line) evening due at =

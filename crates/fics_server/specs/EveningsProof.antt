@@ -1,5 +1,6 @@
 -- Evenings: one row more, fronts, legal histories, and that the lines fix the rows.
 use Rattle.std.proofs.Common.{◌≡◌, ◌↔◌, false, ℕ, List, [], ◌∷◌, ◌++◌, map, append_assoc, append-nil, refl, sym, ap, subst, ◌∙◌}
+use Rattle.std.proofs.lemmas.List.Sums.{fold-append}
 use Rattle.std.proofs.lemmas.Option.{same_Some}
 use Rattle.histories.specs.History.{state, Legal}
 use Rattle.histories.proofs.Histories.{state-append, legal-append}
@@ -12,9 +13,10 @@ use Rattle.replay_core.specs.Order.{Arrival}
 use Rattle.replay_core.proofs.Events.{one_line}
 use Rattle.replay_core.proofs.Seats.{one_seat_line}
 use Rattle.session_core.specs.declared.input.Input.{Input}
-use Rattle.session_core.specs.Script.{Follows}
-use Rattle.session_core.specs.Session.{input_script}
-use Rattle.fics_server.specs.Evening.{Row, Seats, Comes, line_of, entries_of, text_of_row, history_of, transcript_of, arrivals_of, opening_parts, parts_after, seating_acts, IsSeating, IsComing, MayFollow, FollowInOrder, IsEvening, input_of, asked_of}
+use Rattle.session_core.specs.Course.{Follows}
+use Rattle.session_core.specs.Memory.{MemoryState, untold}
+use Rattle.session_core.specs.Session.{input_course}
+use Rattle.fics_server.specs.Evening.{Row, Seats, Comes, line_of, entries_of, text_of_row, history_of, transcript_of, arrivals_of, opening_parts, parts_after, remembered, remembered_after, seating_acts, IsSeating, IsComing, MayFollow, FollowInOrder, IsEvening, input_of, asked_of}
 use Rattle.fics_server.specs.FollowingProof.{one_following, one_asking}
 
 -- ---- rows one after another
@@ -30,7 +32,7 @@ transcript-append (row ∷ rows) more = ap (λ (t : List ℕ). text_of_row row +
 pub came-append : (rows more : List Row) → arrivals_of (rows ++ more) ≡ arrivals_of rows ++ arrivals_of more
 came-append [] more = refl
 came-append (Seats seat made ∷ rows) more = came-append rows more
-came-append (Comes line asked made text ∷ rows) more = ap (λ (c : List Arrival). record { line = line; quit = false } ∷ c) (came-append rows more)
+came-append (Comes line asked made text memory ∷ rows) more = ap (λ (c : List Arrival). record { line = line; quit = false } ∷ c) (came-append rows more)
 
 pub lines-append : (rows more : List Row) → map line_of (rows ++ more) ≡ map line_of rows ++ map line_of more
 lines-append [] more = refl
@@ -42,6 +44,10 @@ history-push rows row = history-append rows (row ∷ []) ∙ ap (λ (h : Log). h
 
 pub transcript-push : (rows : List Row) (row : Row) → transcript_of (rows ++ row ∷ []) ≡ transcript_of rows ++ text_of_row row
 transcript-push rows row = transcript-append rows (row ∷ []) ∙ ap (λ (t : List ℕ). transcript_of rows ++ t) (append-nil (text_of_row row))
+
+-- what a session remembers
+pub remembered-push : (rows : List Row) (row : Row) (session : ℕ) → remembered (rows ++ row ∷ []) session ≡ remembered_after session (remembered rows session) row
+remembered-push rows row session = fold-append (remembered_after session) untold rows (row ∷ [])
 
 -- the state after the entries of more rows
 pub parts-append : (rows more : List Row) → parts_after (rows ++ more) ≡ state house (parts_after rows) (history_of more)
@@ -71,7 +77,7 @@ evening_step rows row = follow_step [] rows row
 -- what a row made is legal in the state before it
 pub row_legal : (before : List Row) (row : Row) → MayFollow before row → Legal house (parts_after before) (entries_of row)
 row_legal before (Seats seat made) h = subst (λ (rows : List Row). Legal house (parts_after rows) made) (sym h.first) h.legal
-row_legal before (Comes line asked made text) h = h.legal
+row_legal before (Comes line asked made text memory) h = h.legal
 
 rows_legal : (before later : List Row) → FollowInOrder before later → Legal house (parts_after before) (history_of later)
 rows_legal before [] h = tt
@@ -92,25 +98,29 @@ same_seats before seat other made made' h k e =
     let asked : map asked_of made ≡ map asked_of made' = h.acts ∙ ap (λ (s : SeatLine). seating_acts s.names s.terms) one ∙ sym k.acts in
     ap (λ (s : SeatLine). Seats s made) one ∙ ap (Seats other) (one_asking opening_parts made made' asked h.legal k.legal)
 
-same_comes : (before : List Row) (line line' : ScriptLine) (asked asked' : Input) (made made' : Log) (text text' : List ℕ)
-    → IsComing before line asked made text → IsComing before line' asked' made' text' → line_of (Comes line asked made text) ≡ line_of (Comes line' asked' made' text') → Comes line asked made text ≡ Comes line' asked' made' text'
-same_comes before line line' asked asked' made made' text text' h k e =
+same_comes : (before : List Row) (line line' : ScriptLine) (asked asked' : Input) (made made' : Log) (text text' : List ℕ) (memory memory' : MemoryState)
+    → IsComing before line asked made text memory → IsComing before line' asked' made' text' memory' → line_of (Comes line asked made text memory) ≡ line_of (Comes line' asked' made' text' memory')
+    → Comes line asked made text memory ≡ Comes line' asked' made' text' memory'
+same_comes before line line' asked asked' made made' text text' memory memory' h k e =
     let one : line ≡ line' = one_line line line' h.spelled k.spelled e in
     let input : asked ≡ asked' = same_Some asked asked' (sym h.reads ∙ ap (λ (l : ScriptLine). input_of l.event) one ∙ k.reads) in
-    let other : Follows (input_script asked) line.session line.moment made' text' =
-    subst (λ (a : Input). Follows (input_script a) line.session line.moment made' text') (sym input) (subst (λ (l : ScriptLine). Follows (input_script asked') l.session l.moment made' text') (sym one) k.follows) in
-    let same = one_following (input_script asked) line.session line.moment (parts_after before) made made' text text' h.follows other h.legal k.legal in
-    ap (λ (l : ScriptLine). Comes l asked made text) one
-    ∙ ap (λ (a : Input). Comes line' a made text) input
-    ∙ ap (λ (m : Log). Comes line' asked' m text) same.0
-    ∙ ap (Comes line' asked' made') same.1
+    let other : Follows (input_course asked (remembered before line.session)) line.session line.moment made' text' memory' =
+    subst (λ (a : Input). Follows (input_course a (remembered before line.session)) line.session line.moment made' text' memory') (sym input)
+    (subst (λ (l : ScriptLine). Follows (input_course asked' (remembered before l.session)) l.session l.moment made' text' memory') (sym one) k.follows) in
+    let same =
+    one_following (input_course asked (remembered before line.session)) line.session line.moment (parts_after before) made made' text text' memory memory' h.follows other h.legal k.legal in
+    ap (λ (l : ScriptLine). Comes l asked made text memory) one
+    ∙ ap (λ (a : Input). Comes line' a made text memory) input
+    ∙ ap (λ (m : Log). Comes line' asked' m text memory) same.0
+    ∙ ap (λ (t : List ℕ). Comes line' asked' made' t memory) same.1
+    ∙ ap (Comes line' asked' made' text') same.2
 
 -- behind the same rows one line makes one row
 pub one_row : (before : List Row) (row other : Row) → MayFollow before row → MayFollow before other → line_of row ≡ line_of other → row ≡ other
 one_row before (Seats seat made) (Seats other made') h k e = same_seats before seat other made made' h k e
-one_row before (Seats seat made) (Comes line asked made' text) h k e = absurd (k.seated h.first)
-one_row before (Comes line asked made text) (Seats seat made') h k e = absurd (h.seated k.first)
-one_row before (Comes line asked made text) (Comes line' asked' made' text') h k e = same_comes before line line' asked asked' made made' text text' h k e
+one_row before (Seats seat made) (Comes line asked made' text memory) h k e = absurd (k.seated h.first)
+one_row before (Comes line asked made text memory) (Seats seat made') h k e = absurd (h.seated k.first)
+one_row before (Comes line asked made text memory) (Comes line' asked' made' text' memory') h k e = same_comes before line line' asked asked' made made' text text' memory memory' h k e
 
 rows_once : (before rows other : List Row) → FollowInOrder before rows → FollowInOrder before other → map line_of rows ≡ map line_of other → rows ≡ other
 rows_once before [] [] h k e = refl

@@ -6,8 +6,8 @@ use Rattle.chess_model.specs.declared.moves.Move.{Move}
 use Rattle.chess_model.specs.declared.moves.MoveWord.TheVariants.{Coordinate}
 use Rattle.chess_model.specs.Answer.{castling_of, is_promotion}
 use Rattle.fics_words.specs.declared.refusal.Refusal.{Refusal}
-use Rattle.game_board.specs.Board.{Board, to_move, position_of}
-use Rattle.game_board.specs.BoardFace.{board_face, time_taken}
+use Rattle.game_board.specs.Board.{Board, new_board, to_move, position_of}
+use Rattle.game_board.specs.BoardFace.{board_face, last_taken}
 use Rattle.game_board.specs.Play.{move_answer, with_half_move}
 use Rattle.style12_writer.specs.declared.view.BoardView.{BoardView}
 use Rattle.style12_writer.specs.declared.view.Viewer.{Viewer}
@@ -26,7 +26,7 @@ untimed = record { minutes = 0; increment = 0; variant = Chess; colour = None }
 
 -- a game before its first half-move
 abbrev pub new_game : GameState
-new_game = record { terms = untimed; list = []; begin = 0; played = 0 }
+new_game = new_board 1 untimed 0
 
 -- what the line of the board shows
 abbrev pub view_of : GameState → BoardView
@@ -38,7 +38,7 @@ view_of b = record {
   minutes = 0;
   increment = 0;
   remaining = pos 0 ∷ pos 0 ∷ [];
-  taken = time_taken b.list;
+  taken = last_taken b.list;
 }
 
 -- who looks on, with White at the bottom

@@ -88,7 +88,11 @@ fn finish<K: Sink, T: LineHandler>(machine: &mut Machine<T>, out: &mut Vec<u8>, 
 }
 
 /// Writes the last bytes, and then closes the handler: so want of memory in closing loses no answer.
-fn send_and_close<K: Sink, T: LineHandler>(machine: &mut Machine<T>, bytes: &[u8], sink: &mut K) -> End
+fn send_and_close<K: Sink, T: LineHandler>(
+    machine: &mut Machine<T>,
+    bytes: &[u8],
+    sink: &mut K,
+) -> End
     ensures sent { AfterSendAndClose T.closed (K.written sink.old) (K.written sink.new) bytes.now machine.old.handler machine.new.handler result }
     ensures cause { OnWriteFault result (Rose (K.faults sink.old) (K.faults sink.new)) }
 {

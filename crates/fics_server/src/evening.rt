@@ -1,12 +1,12 @@
 //! An evening: what the lines of a script make of one server.
 
-ghost use Rattle.std.specs.Prelude.{◌≡◌, ◌≢◌, ◌≤◌, ◌<◌, ◌^◌, [], IfOk, IfNone, IfSome, OnOk};
+ghost use Rattle.std.specs.Prelude.{◌≡◌, ◌≢◌, ◌≤◌, ◌<◌, ◌^◌, [], IfOk, IfNone, IfSome, OnOk, length, replicate};
 ghost use Rattle.chess_model.specs.declared.variant.Variant.TheVariants.{Chess};
 ghost use Rattle.replay_core.specs.SeatLine.{IsSeatLine, seat_text};
 ghost use Rattle.replay_core.specs.declared.seat_line.SeatLine.{SeatLine};
-ghost use Rattle.session_core.specs.Session.{leaving};
+ghost use Rattle.session_core.specs.Memory.{untold};
 ghost use Rattle.one_server.specs.Server.{parts_in};
-ghost use Rattle.fics_server.specs.Evening.{AfterLeaving, HasAnswered, HasFollowed, IsNext, IsNoNext};
+ghost use Rattle.fics_server.specs.Evening.{AfterLeaving, HasAnswered, HasLeft, IsNext, IsNoNext};
 
 use crate::grammar::read_input;
 use crate::line_handler::LineHandler;
@@ -14,13 +14,15 @@ use crate::seating::seat;
 use crate::tagged::put_tagged;
 use crate::waiting::is_beyond_grammar;
 use chess_model::Variant;
+use collections::Listed;
 use fics_words::{Line, NoMemory};
 use lobby_state::Lobby;
 use one_server::OneServer;
 use replay_core::{Attendance, ScriptLine, SeatLine, read_script, read_seat};
-use session_core::{Input, leave, take};
+use session_core::{Input, Memory, leave, take};
 use std::alloc::Global;
 use std::marker::Model;
+use std::mem;
 
 /// How many sessions a seat line seats.
 const SEATS: u32 = 2;
@@ -28,25 +30,35 @@ const SEATS: u32 = 2;
 /// The most sessions that a script may have.
 const SESSIONS: u32 = 64;
 
-/// One server, and how far a script has come: nowhere before its seat line. Contracts see the server, the order of the
-/// lines, and the moment of the last of them.
+/// One server, how far a script has come, which is nowhere before its seat line, and what each of its sessions
+/// remembers. Contracts see the server, the order of the lines, the moment of the last of them, and the memories.
 #[derive(Drop)]
 pub struct Evening {
     alloc: Global,
     server: OneServer,
     order: Option<Attendance>,
     moment: u64,
+    /// What the sessions from 1 on remember.
+    memories: Listed<Memory>,
 }
 
 impl Model for Evening {
-    ghost use Rattle.std.specs.Prelude.{◌≤◌, ◌^◌};
+    ghost use Rattle.std.specs.Prelude.{◌≡◌, ◌≤◌, ◌^◌, length};
     ghost use Rattle.fics_server.specs.Evening.{EveningState};
 
     ghost Value = { EveningState };
 
-    ghost view = { λ evening. record { server = evening.server; order = evening.order; moment = evening.moment } };
+    ghost view = { λ evening. record {
+      server = evening.server;
+      order = evening.order;
+      moment = evening.moment;
+      memories = evening.memories;
+    } };
 
-    ghost invariant = { λ evening. evening.moment ≤ 2 ^ 48 };
+    ghost invariant = { λ evening. record {
+      moment : evening.moment ≤ 2 ^ 48;
+      memories : length evening.memories ≡ 64;
+    } };
 }
 
 impl Evening {
@@ -65,6 +77,7 @@ impl Evening {
             server: OneServer::new(alloc, Lobby::new(alloc)?)?,
             order: None,
             moment: 0,
+            memories: untold_memories(alloc)?,
         })
     }
 
@@ -104,7 +117,8 @@ impl Evening {
             &mut self.server,
             next.session,
             next.moment,
-            &input,
+            self.memories.item_mut(next.session as usize - 1),
+            input,
             out,
         )?;
         let _history = self.server.history();
@@ -143,7 +157,13 @@ impl LineHandler for Evening {
         let Some(order) = self.order else {
             return Ok(());
         };
-        close_sessions(self.alloc, &mut self.server, &order, self.moment)?;
+        close_sessions(
+            self.alloc,
+            &mut self.server,
+            &mut self.memories,
+            &order,
+            self.moment,
+        )?;
         let _history = self.server.history();
         Ok(())
     }
@@ -178,53 +198,78 @@ fn read_next(
     Ok(Some((next, input)))
 }
 
-/// Makes those sessions leave that are here, in the order of their numbers.
+/// The memories of the sessions from 1 on, of whom none was told anything.
+fn untold_memories(alloc: Global) -> Result<Listed<Memory>, NoMemory>
+    ensures { IfOk result (λ memories. memories ≡ replicate 64 untold) }
+{
+    let mut memories = Listed::new(alloc);
+    for _place in 0..SESSIONS {
+        memories.push(Memory::new())?;
+    }
+    Ok(memories)
+}
+
+/// Makes those sessions leave that are here, in the order of their numbers, each with its memory.
 fn close_sessions(
     alloc: Global,
     server: &mut OneServer,
+    memories: &mut Listed<Memory>,
     order: &Attendance,
     moment: u64,
 ) -> Result<(), NoMemory>
-    requires { moment ≤ 2 ^ 48 }
-    ensures { OnOk result (AfterLeaving order.now moment 64 server.old server.new) }
+    requires moment { moment ≤ 2 ^ 48 }
+    requires memories { length memories.old ≡ 64 }
+    ensures left { OnOk result (AfterLeaving order.now memories.old moment 64 server.old server.new) }
+    ensures count { length memories.new ≡ 64 }
 {
     for place in 0..SESSIONS {
         let session = place + 1;
         if order.is_here(session) {
-            leave_server(alloc, server, session, moment)?;
+            let memory = mem::replace(memories.item_mut(place as usize), Memory::new());
+            leave_server(alloc, server, session, moment, memory)?;
         }
     }
     Ok(())
 }
 
-/// Makes a session answer an input, and appends what it writes under the session's number.
+/// Makes a session answer an input by its memory, and appends what it writes under the session's number.
 fn answer_input(
     alloc: Global,
     server: &mut OneServer,
     session: u32,
     moment: u64,
-    input: &Input,
+    memory: &mut Memory,
+    input: Input,
     out: &mut Vec<u8>,
 ) -> Result<(), NoMemory>
     requires { moment ≤ 2 ^ 48 }
-    ensures { OnOk result (HasAnswered session moment input.now server.old out.old.items server.new out.new.items) }
+    ensures { OnOk result (HasAnswered session moment input server.old memory.old out.old.items
+        server.new memory.new out.new.items) }
 {
     let mut bytes = Vec::new(alloc);
-    take(alloc, &mut server.seat(session), moment, input, &mut bytes)?;
+    take(
+        alloc,
+        &mut server.seat(session),
+        moment,
+        memory,
+        input,
+        &mut bytes,
+    )?;
     put_tagged(session, bytes.as_slice(), out)
 }
 
-/// Makes a session leave.
+/// Makes a session leave by its memory.
 fn leave_server(
     alloc: Global,
     server: &mut OneServer,
     session: u32,
     moment: u64,
+    memory: Memory,
 ) -> Result<(), NoMemory>
     requires { moment ≤ 2 ^ 48 }
-    ensures { OnOk result (HasFollowed leaving session moment [] server.old server.new) }
+    ensures { OnOk result (HasLeft memory session moment server.old server.new) }
 {
-    leave(alloc, &mut server.seat(session), moment)
+    leave(alloc, &mut server.seat(session), moment, memory)
 }
 
 /// Reads the seat line of two players of chess.

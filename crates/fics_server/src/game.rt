@@ -44,7 +44,7 @@ impl Game {
         ensures { IfOk result (λ game. game ≡ new_game) }
     {
         Ok(Game {
-            board: GameBoard::start(alloc, untimed(), 0)?,
+            board: GameBoard::start(alloc, 1, untimed(), 0)?,
         })
     }
 
@@ -133,7 +133,7 @@ fn view(board: &GameBoard) -> BoardView
         minutes: 0,
         increment: 0,
         remaining: [0, 0],
-        taken: board.time_taken(),
+        taken: board.last_taken(),
     }
 }
 

@@ -1,17 +1,18 @@
 //! Words that aren't in the grammar where a board waits for them.
 
 ghost use Rattle.std.specs.Prelude.{◌≡◌, option_copied};
+ghost use Rattle.chess_model.specs.Holdings.{same_colour};
 ghost use Rattle.one_server.specs.Server.{parts_in};
 ghost use Rattle.fics_server.specs.Evening.{is_beyond, is_beyond_grammar, waiting_board, waiting_game};
 
 use crate::game::is_outside;
 use crate::squares::Squares;
-use chess_model::MoveWord;
+use chess_model::{Colour, MoveWord};
 use game_board::GameBoard;
-use linked_desk::Desk;
-use lobby_state::{DESKS, Place};
+use linked_desk::{Desk, colour_at};
+use lobby_state::Place;
 use one_server::OneServer;
-use session_core::{Command, Input, colour_at, is_turn};
+use session_core::{Command, Input};
 
 /// Whether the input asks for castling or a promotion, where the session's running game waits for it.
 pub fn is_beyond_grammar(server: &OneServer, session: u32, input: &Input) -> bool
@@ -46,37 +47,33 @@ fn is_beyond(board: Option<&GameBoard>, word: &MoveWord) -> bool
 fn waiting_board(server: &OneServer, session: u32) -> Option<&GameBoard>
     ensures { option_copied result ≡ waiting_board (parts_in server.now) session }
 {
-    let _history = server.history();
-    let Some(place) = server.lobby().places(session).present() else {
-        return None;
-    };
-    if place.desk == 0 {
-        return None;
-    }
-    if place.desk as usize > DESKS {
-        return None;
-    }
+    let place = server.lobby().places(session).present()?;
     board_at(server.desk(place.desk), place)
 }
 
-/// The board at a desk, where the place's game is played at it, runs, and waits for the place's player.
+/// The board of the place's seat at a desk, where the place's game is played at it, runs, and waits for the place's
+/// player.
 fn board_at(desk: &Desk, place: Place) -> Option<&GameBoard>
     ensures { option_copied result ≡ waiting_game desk.now.game place }
 {
-    let Some(serial) = desk.serial() else {
-        return None;
-    };
-    if serial != place.serial {
+    if desk.serial()? != place.serial {
         return None;
     }
     if desk.ended().is_some() {
         return None;
     }
-    let Some(board) = desk.board(1) else {
-        return None;
-    };
-    if !is_turn(colour_at(place.seat), board.to_move()) {
+    let board = desk.board(place.seat / 2 + 1)?;
+    if !is_same(colour_at(place.seat), board.to_move()) {
         return None;
     }
     Some(board)
+}
+
+fn is_same(one: Colour, another: Colour) -> bool
+    ensures { result ≡ same_colour one another }
+{
+    match one {
+        Colour::White => matches!(another, Colour::White),
+        Colour::Black => matches!(another, Colour::Black),
+    }
 }

@@ -16,9 +16,10 @@ returns c out =
     let text : line ≡ seat_text seat = rw c.in-Some.is at c.in_ok-seats.ensures.spelled in
     let spelled : IsSeatLine seat = rw c.in-Some.is at c.in_ok-seats.ensures.in_range in
     let chess : seat.terms.variant ≡ Chess = rw c.in-Some.is at c.in_ok-seats.ensures.chess in
-    let new : EveningState = record { server = c.seat.new.server; order = Some c.new.result; moment = c.self.inside.moment } in
+    let new : EveningState = record { server = c.seat.new.server; order = Some c.new.result; moment = c.self.inside.moment; memories = c.self.inside.memories } in
     let opening = c.seat.ensures.opening ∙ ap (λ (v : EveningState). v.server.opening) c.self.view_is in
     let made : HasMade (seating_acts seat.names seat.terms) c.args.self.now.server.log new.server.log =
     subst (λ (log : Log). HasMade (seating_acts seat.names seat.terms) log new.server.log) (ap (λ (v : EveningState). v.server.log) c.self.view_is) c.in_ok-seat.ensures.made in
     let moment = ap (λ (v : EveningState). v.moment) c.self.view_is in
-    ([], sym (append-nil out), seats_taken c.args.self.now new line seat c.new.result c.requires.first c.requires.some c.requires.line text spelled chess opening made c.history-history.ensures.legal refl c.new.ensures moment)
+    let memories = ap (λ (v : EveningState). v.memories) c.self.view_is in
+    ([], sym (append-nil out), seats_taken c.args.self.now new line seat c.new.result c.requires.first c.requires.some c.requires.line text spelled chess opening made c.history-history.ensures.legal refl c.new.ensures moment memories)
