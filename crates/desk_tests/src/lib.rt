@@ -7,4 +7,6 @@ mod played;
 #[cfg(test)]
 mod refused;
 #[cfg(test)]
+mod shown;
+#[cfg(test)]
 mod table;

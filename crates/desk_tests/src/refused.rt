@@ -1,75 +1,84 @@
 //! A refusal of each kind, by a table.
 
-use crate::table::{ANN, BEN, SERIAL, desk_with_game, done, refusal, vacant, word};
+use crate::table::{ANN, BEN, Does, Given, SERIAL, STRANGER, Step, desk_with_game, first_failing};
 use fics_words::Refusal;
-use linked_desk::DeskAct;
+use linked_desk::Desk;
 
-const STRANGER: u32 = 3;
+/// A step at moment 0 that is refused.
+fn refused(session: u32, does: Does, cause: Refusal) -> Step {
+    Step(0, session, does, Given::Refused(cause))
+}
+
+/// A move at moment 0 that is made.
+fn made(session: u32, text: &'static str) -> Step {
+    Step(0, session, Does::Move(text), Given::Done)
+}
 
 #[test]
 fn refusals_of_a_running_game(rt: HostRuntime) {
     let mut desk = desk_with_game(&rt, rt.alloc(), 1, 0);
-    let rows = [
-        (STRANGER, SERIAL, word(&rt, "e2e4"), Refusal::NotPlaying),
-        (ANN, SERIAL + 1, word(&rt, "e2e4"), Refusal::NotPlaying),
-        (BEN, SERIAL, word(&rt, "e7e5"), Refusal::NotYourTurn),
-        (ANN, SERIAL, word(&rt, "e2e5"), Refusal::CannotReach),
-        (ANN, SERIAL, word(&rt, "e3e4"), Refusal::NoPiece),
-        (ANN, SERIAL, word(&rt, "e1g1"), Refusal::CastleForbidden),
-        (STRANGER, SERIAL, DeskAct::Resign, Refusal::NotPlaying),
-        (ANN, SERIAL + 1, DeskAct::Resign, Refusal::NotPlaying),
-        (STRANGER, SERIAL, DeskAct::Flag, Refusal::NotPlaying),
-        (ANN, SERIAL, DeskAct::Flag, Refusal::NotFallen),
-        (STRANGER, SERIAL, DeskAct::Fetch, Refusal::NotWatching),
-        (ANN, SERIAL + 1, DeskAct::Fetch, Refusal::NotWatching),
+    let at_another_game = [
+        refused(ANN, Does::Move("e2e4"), Refusal::NotPlaying),
+        refused(ANN, Does::Resign, Refusal::NotPlaying),
+        refused(ANN, Does::Fetch, Refusal::NotWatching),
     ];
-    for (session, serial, act, wanted) in rows {
-        assert_eq!(rt;
-            refusal(&rt, &mut desk, session, 0, serial, &act),
-            Some(wanted)
-        );
-    }
-    // nothing of it has changed the game
-    done(&rt, &mut desk, ANN, 0, &word(&rt, "e2e4"));
+    assert_eq!(rt;
+        first_failing(&mut desk, SERIAL + 1, &at_another_game),
+        None
+    );
+    let at_the_game = [
+        refused(STRANGER, Does::Move("e2e4"), Refusal::NotPlaying),
+        refused(BEN, Does::Move("e7e5"), Refusal::NotYourTurn),
+        refused(ANN, Does::Move("e2e5"), Refusal::CannotReach),
+        refused(ANN, Does::Move("e3e4"), Refusal::NoPiece),
+        refused(ANN, Does::Move("e1g1"), Refusal::CastleForbidden),
+        refused(STRANGER, Does::Resign, Refusal::NotPlaying),
+        refused(STRANGER, Does::Flag, Refusal::NotPlaying),
+        refused(ANN, Does::Flag, Refusal::NotFallen),
+        refused(STRANGER, Does::Fetch, Refusal::NotWatching),
+        // nothing of it has changed the game
+        made(ANN, "e2e4"),
+    ];
+    assert_eq!(rt; first_failing(&mut desk, SERIAL, &at_the_game), None);
 }
 
 /// A pinned man, in the order of the moves that pin it.
 #[test]
 fn a_pinned_knight(rt: HostRuntime) {
     let mut desk = desk_with_game(&rt, rt.alloc(), 0, 0);
-    let mut session = ANN;
-    for text in "e2e4 e7e5 b1c3 f8b4 d2d3 a7a6".split_whitespace() {
-        done(&rt, &mut desk, session, 0, &word(&rt, text));
-        session = if session == ANN { BEN } else { ANN };
-    }
-    assert_eq!(rt;
-        refusal(&rt, &mut desk, ANN, 0, SERIAL, &word(&rt, "c3d5")),
-        Some(Refusal::LeavesKing)
-    );
+    let steps = [
+        made(ANN, "e2e4"),
+        made(BEN, "e7e5"),
+        made(ANN, "b1c3"),
+        made(BEN, "f8b4"),
+        made(ANN, "d2d3"),
+        made(BEN, "a7a6"),
+        refused(ANN, Does::Move("c3d5"), Refusal::LeavesKing),
+    ];
+    assert_eq!(rt; first_failing(&mut desk, SERIAL, &steps), None);
 }
 
 #[test]
 fn refusals_after_the_end(rt: HostRuntime) {
     let mut desk = desk_with_game(&rt, rt.alloc(), 1, 0);
-    done(&rt, &mut desk, BEN, 0, &DeskAct::Resign);
-    for act in [word(&rt, "e2e4"), DeskAct::Resign, DeskAct::Flag] {
-        assert_eq!(rt;
-            refusal(&rt, &mut desk, ANN, 0, SERIAL, &act),
-            Some(Refusal::GameOver)
-        );
-    }
+    let steps = [
+        Step(0, BEN, Does::Resign, Given::Done),
+        refused(ANN, Does::Move("e2e4"), Refusal::GameOver),
+        refused(ANN, Does::Resign, Refusal::GameOver),
+        refused(ANN, Does::Flag, Refusal::GameOver),
+    ];
+    assert_eq!(rt; first_failing(&mut desk, SERIAL, &steps), None);
 }
 
 #[test]
 fn refusals_of_a_vacant_desk(rt: HostRuntime) {
-    let mut desk = vacant(&rt, 128);
-    for (act, wanted) in [
-        (word(&rt, "e2e4"), Some(Refusal::NotPlaying)),
-        (DeskAct::Resign, Some(Refusal::NotPlaying)),
-        (DeskAct::Flag, Some(Refusal::NotPlaying)),
-        (DeskAct::Fetch, Some(Refusal::NotWatching)),
-        (DeskAct::Leave, None),
-    ] {
-        assert_eq!(rt; refusal(&rt, &mut desk, ANN, 0, SERIAL, &act), wanted);
-    }
+    let mut desk = Desk::vacant(128);
+    let steps = [
+        refused(ANN, Does::Move("e2e4"), Refusal::NotPlaying),
+        refused(ANN, Does::Resign, Refusal::NotPlaying),
+        refused(ANN, Does::Flag, Refusal::NotPlaying),
+        refused(ANN, Does::Fetch, Refusal::NotWatching),
+        Step(0, ANN, Does::Leave, Given::Done),
+    ];
+    assert_eq!(rt; first_failing(&mut desk, SERIAL, &steps), None);
 }

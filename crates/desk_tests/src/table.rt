@@ -1,8 +1,8 @@
-//! A desk with two players, and what the tests ask of it.
+//! A desk with two players, and steps at it, each with what it has to be given.
 
 use chess_model::{MoveWord, Square, Terms, Variant};
 use fics_words::{Fail, Handle, Opponents, Player, Refusal, Seats};
-use linked_desk::{Desk, DeskAct, DeskReply, Ended, Item};
+use linked_desk::{Desk, DeskAct, DeskReply, Ended};
 use std::alloc::Global;
 use std::process::Abort;
 
@@ -12,6 +12,35 @@ pub const SERIAL: u64 = 7;
 pub const ANN: u32 = 1;
 
 pub const BEN: u32 = 2;
+
+/// A session that has no seat.
+pub const STRANGER: u32 = 3;
+
+/// What a session does at the desk.
+#[derive(Clone, Copy)]
+pub enum Does {
+    /// Moves by two squares, as `e2e4`.
+    Move(&'static str),
+    Resign,
+    Flag,
+    Fetch,
+    Leave,
+}
+
+/// What a step is given.
+#[derive(Clone, Copy, PartialEq, Eq)]
+pub enum Given {
+    Done,
+    /// So many items, and whether the game is over.
+    Items(usize, bool),
+    Refused(Refusal),
+    /// Want of memory, or a word that the tests can't read.
+    Nothing,
+}
+
+/// A step: the moment in milliseconds, the session, what it does, and what it has to be given.
+#[derive(Clone, Copy)]
+pub struct Step(pub u32, pub u32, pub Does, pub Given);
 
 fn player(rt: &impl Abort, session: u32, name: &str) -> Player {
     Player {
@@ -43,69 +72,76 @@ pub fn desk_with_game(rt: &impl Abort, alloc: Global, minutes: u16, increment: u
     desk
 }
 
-fn square(rt: &impl Abort, file: u8, rank: u8) -> Square {
-    assert!(rt;
-        (b'a'..=b'h').contains(&file) && (b'1'..=b'8').contains(&rank),
-        "a square"
-    );
-    Square::on(file - b'a', rank - b'1')
+/// The place of the first step at the game of that serial that is given something else, if one is.
+pub fn first_failing(desk: &mut Desk, serial: u64, steps: &[Step]) -> Option<usize> {
+    for (place, step) in steps.iter().enumerate() {
+        if what_comes(desk, serial, step) != step.3 {
+            return Some(place);
+        }
+    }
+    None
 }
 
-/// A move by its two squares, as `e2e4`.
-pub fn word(rt: &impl Abort, text: &str) -> DeskAct {
-    let [a, b, c, d] = text.as_bytes() else {
-        panic!(rt; "four letters");
-    };
-    DeskAct::Move {
-        word: MoveWord::Coordinate {
-            from: square(rt, *a, *b),
-            to: square(rt, *c, *d),
-            promo: None,
-        },
+fn what_comes(desk: &mut Desk, serial: u64, step: &Step) -> Given {
+    match act_of(step.2) {
+        Some(act) => in_short(&acted(desk, step.1, step.0, serial, &act)),
+        None => Given::Nothing,
     }
 }
 
-/// How an act was refused; None where it was answered.
-pub fn refusal(
-    rt: &impl Abort,
+/// Makes an act. It has no clauses, so that nothing above it is proved over what an act does.
+fn acted(
     desk: &mut Desk,
     session: u32,
-    moment: u64,
+    moment: u32,
     serial: u64,
     act: &DeskAct,
-) -> Option<Refusal> {
-    assert!(rt; moment <= 1 << 40, "a moment");
-    match desk.act(session, moment, serial, act) {
-        Ok(_) => None,
-        Err(Fail::Refused(refusal)) => Some(refusal),
-        Err(Fail::Memory) => panic!(rt; "there is memory"),
+) -> Result<DeskReply, Fail> {
+    desk.act(session, u64::from(moment), serial, act)
+}
+
+fn in_short(answer: &Result<DeskReply, Fail>) -> Given {
+    match answer {
+        Ok(reply) => of_reply(reply),
+        Err(Fail::Refused(cause)) => Given::Refused(*cause),
+        Err(Fail::Memory) => Given::Nothing,
     }
 }
 
-/// Makes an act that is answered `Done`.
-pub fn done(rt: &impl Abort, desk: &mut Desk, session: u32, moment: u64, act: &DeskAct) {
-    assert!(rt; moment <= 1 << 40, "a moment");
-    let reply = desk.act(session, moment, SERIAL, act);
-    assert!(rt; matches!(reply, Ok(DeskReply::Done)), "done");
-}
-
-/// How many items a visit gives, and whether the game is over.
-pub fn fetched(rt: &impl Abort, desk: &mut Desk, session: u32, moment: u64) -> (usize, bool) {
-    assert!(rt; moment <= 1 << 40, "a moment");
-    match desk.act(session, moment, SERIAL, &DeskAct::Fetch) {
-        Ok(DeskReply::Items { items, over }) => (items.len(), over),
-        _ => panic!(rt; "items"),
+fn of_reply(reply: &DeskReply) -> Given {
+    match reply {
+        DeskReply::Done => Given::Done,
+        DeskReply::Items { items, over } => Given::Items(items.len(), *over),
     }
 }
 
-/// The last item that a session hasn't been given.
-pub fn newest<'a>(rt: &impl Abort, desk: &'a Desk, session: u32) -> &'a Item {
-    desk.ahead(session).last().expect(rt, "an item")
+fn act_of(does: Does) -> Option<DeskAct> {
+    match does {
+        Does::Move(text) => move_of(text.as_bytes()),
+        Does::Resign => Some(DeskAct::Resign),
+        Does::Flag => Some(DeskAct::Flag),
+        Does::Fetch => Some(DeskAct::Fetch),
+        Does::Leave => Some(DeskAct::Leave),
+    }
 }
 
-/// The first item that a session hasn't been given.
-pub fn oldest<'a>(rt: &impl Abort, desk: &'a Desk, session: u32) -> &'a Item {
-    desk.ahead(session).first().expect(rt, "an item")
+fn move_of(text: &[u8]) -> Option<DeskAct> {
+    let [a, b, c, d] = text else {
+        return None;
+    };
+    let word = MoveWord::Coordinate {
+        from: square(*a, *b)?,
+        to: square(*c, *d)?,
+        promo: None,
+    };
+    Some(DeskAct::Move { word })
+}
+
+fn square(file: u8, rank: u8) -> Option<Square> {
+    if !(b'a'..=b'h').contains(&file) || !(b'1'..=b'8').contains(&rank) {
+        return None;
+    }
+    Some(Square::on(file - b'a', rank - b'1'))
 }
 
 /// How the game ended, and how many viewers there are.
@@ -113,22 +149,11 @@ pub fn outcome(desk: &Desk) -> (Option<Ended>, usize) {
     (desk.ended(), desk.viewers())
 }
 
-/// The serial of the game.
-pub fn serial(desk: &Desk) -> Option<u64> {
-    desk.serial()
-}
-
-/// Makes the desk vacant, whose game is over and has no viewer.
-pub fn clear(rt: &impl Abort, desk: &mut Desk) {
-    assert!(rt;
-        desk.ended().is_some() && desk.viewers() == 0,
-        "over, and nobody is there"
-    );
+/// Makes the desk vacant, if its game is over and has no viewer, and says whether it did.
+pub fn cleared(desk: &mut Desk) -> bool {
+    if desk.ended().is_none() || desk.viewers() > 0 {
+        return false;
+    }
     desk.clear();
-}
-
-/// A desk of that number without a game.
-pub fn vacant(rt: &impl Abort, number: u8) -> Desk {
-    assert!(rt; 1 <= number && number <= 128, "a desk");
-    Desk::vacant(number)
+    desk.serial().is_none()
 }

@@ -1,0 +1,68 @@
+//! What the items that a session hasn't been given say when they are printed.
+
+use fics_words::NoMemory;
+use linked_desk::{Desk, Item};
+use std::alloc::Global;
+use style12_writer::{BoardView, Viewer, end_line, is_decisive, line12};
+
+/// Whether the first item that a session hasn't been given is this line of text.
+pub fn begins_with_talk(desk: &Desk, session: u32, text: &str) -> bool {
+    match desk.ahead(session).first() {
+        Some(Item::Talk(line)) => line.bytes() == text.as_bytes(),
+        _ => false,
+    }
+}
+
+/// The board that the last item shows that a session hasn't been given.
+fn last_board(desk: &Desk, session: u32) -> Option<&BoardView> {
+    match desk.ahead(session).last() {
+        Some(Item::Board(view)) => Some(view),
+        _ => None,
+    }
+}
+
+/// The times on the board that the last item shows, in milliseconds.
+pub fn last_clocks(desk: &Desk, session: u32) -> Option<[i64; 2]> {
+    match last_board(desk, session) {
+        Some(view) => Some(view.remaining),
+        None => None,
+    }
+}
+
+/// Whether the last item is a board, of which this viewer is told that line.
+pub fn ends_with_board(
+    alloc: Global,
+    desk: &Desk,
+    session: u32,
+    viewer: Viewer,
+    text: &str,
+) -> Result<bool, NoMemory> {
+    match last_board(desk, session) {
+        Some(view) => Ok(line12(alloc, view, viewer)?.bytes() == text.as_bytes()),
+        None => Ok(false),
+    }
+}
+
+/// Whether the last item is an end, with a winner exactly where somebody won, and is told by that line.
+pub fn ends_with_end(
+    alloc: Global,
+    desk: &Desk,
+    session: u32,
+    text: &str,
+) -> Result<bool, NoMemory> {
+    let Some(
+        Item::End {
+            view,
+            why,
+            winner,
+            own,
+        },
+    ) = desk.ahead(session).last()
+    else {
+        return Ok(false);
+    };
+    if winner.is_some() != is_decisive(*why) {
+        return Ok(false);
+    }
+    Ok(end_line(alloc, view, *why, *winner, *own)?.bytes() == text.as_bytes())
+}
