@@ -1,5 +1,5 @@
 -- What a line makes of an evening: the answer of the seat line, the answers of sessions, and lines outside the grammar.
-use Rattle.std.proofs.Common.{◌≡◌, ◌≢◌, ℕ, ◌-◌, ◌<◌, ◌≤◌, Bool, true, false, IfOk, Result, List, [], ◌∷◌, ◌++◌, length, Option, None, Some, append-nil, refl, sym, ap, subst, ◌∙◌, arith, replicate, slice_get, slice_set}
+use Rattle.std.proofs.Common.{◌≡◌, ◌≢◌, ℕ, ◌-◌, ◌<◌, Bool, true, false, IfOk, Result, List, [], ◌∷◌, ◌++◌, length, Option, None, Some, append-nil, refl, sym, ap, subst, ◌∙◌, arith, replicate, slice_get, slice_set}
 use Rattle.std.proofs.lemmas.Option.{same_Some}
 use Rattle.chess_model.specs.declared.variant.Variant.TheVariants.{Chess}
 use Rattle.memory.specs.declared.NoMemory.{NoMemory}

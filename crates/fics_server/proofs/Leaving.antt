@@ -12,7 +12,7 @@ use Rattle.replay_core.specs.Attendance.{IsAfter}
 use Rattle.session_core.specs.Course.{Follows}
 use Rattle.session_core.specs.Memory.{MemoryState, untold}
 use Rattle.session_core.specs.Session.{leaving}
-use Rattle.fics_server.specs.Evening.{AfterLeaving, AreMemories, HasLeft, LeaveInOrder, seats}
+use Rattle.fics_server.specs.Evening.{AfterLeaving, HasLeft, LeaveInOrder, seats}
 
 -- one session more leaves
 leave-push : (remember : ℕ → MemoryState) (moment : ℕ) (sessions : List ℕ) (session : ℕ) (made own : Log) (last : MemoryState) → LeaveInOrder remember moment sessions made

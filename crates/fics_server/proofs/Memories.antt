@@ -1,5 +1,5 @@
 -- What the sessions of an evening remember: none is told anything, one line more, and memories that are given away.
-use Rattle.std.proofs.Common.{◌≡◌, ◌≢◌, ℕ, ◌-◌, ◌==◌, ◌<◌, ◌≤◌, Bool, true, false, cond, List, [], ◌∷◌, ◌++◌, length, Some, get_or, replicate, slice_get, slice_set, refl, sym, ap, subst, ◌∙◌, arith}
+use Rattle.std.proofs.Common.{◌≡◌, ◌≢◌, ℕ, ◌-◌, ◌==◌, ◌≤◌, Bool, true, false, cond, List, [], ◌∷◌, ◌++◌, length, Some, get_or, replicate, slice_set, refl, sym, ap, subst, ◌∙◌, arith}
 use Rattle.std.proofs.lemmas.Bool.{eqb-true, eqb-false}
 use Rattle.std.proofs.lemmas.List.{get_or-replicate, get_or-set_other, get_or-set_same, length-replicate, length-set}
 use Rattle.std.proofs.lemmas.Option.{get_or_from_slice_get, slice_get-get_or}
@@ -7,7 +7,7 @@ use Rattle.one_server.specs.Running.{Log}
 use Rattle.replay_core.specs.declared.script.ScriptLine.{ScriptLine}
 use Rattle.session_core.specs.declared.input.Input.{Input}
 use Rattle.session_core.specs.Memory.{MemoryState, untold}
-use Rattle.fics_server.specs.Evening.{AreMemories, Row, Comes, remembered, remembered_after}
+use Rattle.fics_server.specs.Evening.{AreMemories, Row, Comes, remembered}
 use Rattle.fics_server.specs.EveningsProof.{remembered-push}
 
 -- no session was told anything

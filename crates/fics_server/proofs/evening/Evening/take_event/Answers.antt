@@ -1,4 +1,4 @@
-use Rattle.std.proofs.Common.{◌≡◌, ◌-◌, List, Some, refl, ap, sym, subst, ◌∙◌, slice_get, slice_set}
+use Rattle.std.proofs.Common.{◌≡◌, ◌-◌, List, Some, refl, ap, subst, slice_get, slice_set}
 use Rattle.one_server.specs.Server.{ServerState, parts_in}
 use Rattle.session_core.specs.Memory.{MemoryState}
 use Rattle.fics_server.specs.Evening.{EveningState, HasAnswered, IsNext, IsNoNext}
