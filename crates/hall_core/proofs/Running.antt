@@ -1,6 +1,6 @@
 -- What the chain of an act says of a view, said of a pass of the hall.
 use Rattle.std.proofs.Common.{◌≡◌, ℕ, List, [], ◌∷◌, ◌++◌, true, false, refl, ap, sym, subst, ◌∙◌}
-use Rattle.std.proofs.lemmas.List.{append_assoc, append_nil}
+use Rattle.std.proofs.lemmas.List.{append_assoc, append-nil}
 use Rattle.std.specs.Prelude.{IfOk, OnErr}
 use Rattle.std.specs.declared.result.Result.{Result}
 use Rattle.std.specs.declared.result.Result.TheVariants.{Ok, Err}
@@ -16,8 +16,10 @@ use Rattle.one_server.specs.Whole.{IsWhole}
 use Rattle.one_server.proofs.Replies.{last_reply}
 use Rattle.turn_table.specs.declared.view.View.{View}
 use Rattle.turn_table.specs.Passes.{Standing}
-use Rattle.turn_chain.specs.Chain.{fixed, FoundBusy as ViewBusy, HasRun, HasNotRun}
-use Rattle.hall_core.specs.Acts.{FoundBusy}
+use Rattle.turn_chain.specs.declared.tried.Tried.{Tried}
+use Rattle.turn_chain.specs.declared.tried.Tried.TheVariants as tried
+use Rattle.turn_chain.specs.Chain.{fixed, CameTo as ViewCameTo, FoundBusy as ViewBusy, HasRun, HasNotRun}
+use Rattle.hall_core.specs.Acts.{CameTo, FoundBusy, ran_of}
 use Rattle.hall_core.specs.Passes.{IsHallPass, pass_state, runs_of}
 
 module _ (v w : Standing Part Timed Reply) (same : fixed w.view ≡ fixed v.view) where
@@ -54,7 +56,7 @@ module _ (v w : Standing Part Timed Reply) (same : fixed w.view ≡ fixed v.view
     same = stays;
     begins = unmade.begins;
     known = known_now unmade.legal unmade.own;
-    more = unmade.same ∙ sym (append_nil v.view.made);
+    more = unmade.same ∙ sym (append-nil v.view.made);
     only = λ e. absurd cc;
   }
 
@@ -68,6 +70,10 @@ module _ (v w : Standing Part Timed Reply) (same : fixed w.view ≡ fixed v.view
     part = subst (λ n. Touches house (state house w.view.opening w.view.seen) n timed part) (sym number_is) (subst (λ xs. Touches house (state house xs w.view.seen) v.view.number timed part) (sym opening_is) found.part);
     last = found.last;
   }
+
+  pub came : IsWhole v.view.opening → (timed : Timed) (t : Tried Timed Reply) → ViewCameTo house v.view timed t w.view → CameTo (pass_state v) timed (ran_of t) (pass_state w)
+  came whole timed (tried.Done r) ran = answered whole timed r ran
+  came whole timed (tried.Busy part act) found = (unanswered found.0, ap (λ (x : Timed). x.act) found.1, busy_part timed part found.2)
 
   -- the pass afterwards
   pub hall_pass : IsHallPass v → w.view.held ≡ [] → IsKnown (runs_of (pass_state w)) → IsHallPass w

@@ -5,6 +5,9 @@ use Rattle.histories.specs.History.{state}
 use Rattle.one_server.specs.declared.act.Timed.{Timed}
 use Rattle.one_server.specs.House.{house}
 use Rattle.one_server.specs.Running.{Made, Ran as IsAnswered}
+use Rattle.turn_chain.specs.declared.tried.Tried.{Tried}
+use Rattle.turn_chain.specs.declared.tried.Tried.TheVariants as tried
+use Rattle.one_server.specs.declared.reply.Reply.{Reply}
 use Rattle.hall_core.specs.declared.ran.Ran.{Ran}
 use Rattle.hall_core.specs.declared.ran.Ran.TheVariants.{Done, Busy}
 use Rattle.hall_core.specs.Passes.{PassState, runs_of}
@@ -22,3 +25,8 @@ pub record FoundBusy (old : PassState) (timed : Timed) (number : ℕ) (new : Pas
 abbrev pub CameTo : PassState → Timed → Ran → PassState → Type 0
 CameTo old timed (Done reply) new = IsAnswered (runs_of old) timed reply (runs_of new)
 CameTo old timed (Busy number act) new = Made (runs_of old) [] (runs_of new) × (act ≡ timed.act) × FoundBusy old timed number new
+
+-- what the chain of an act came to, without the moment of an act that comes back
+abbrev pub ran_of : Tried Timed Reply → Ran
+ran_of (tried.Done reply) = Done reply
+ran_of (tried.Busy number timed) = Busy number timed.act

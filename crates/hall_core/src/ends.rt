@@ -1,6 +1,6 @@
 //! The hall's two ends: its parts before it opens, and after it closed.
 
-ghost use Rattle.std.specs.Prelude.{◌≡◌, ◌≤◌, [], IfOk, vec_capacity};
+ghost use Rattle.std.specs.Prelude.{◌≡◌, ◌+◌, ◌≤◌, [], IfOk, vec_len, vec_capacity};
 ghost use Rattle.lobby_state.specs.Desks.{desks as desk_count};
 ghost use Rattle.one_server.specs.Whole.{IsWhole, opened, parts_of};
 
@@ -19,7 +19,8 @@ pub struct HallParts {
 
 /// The parts with which a hall opens: this lobby, and the desks 1 to 128, all of them vacant.
 pub fn opening_parts(alloc: Global, lobby: Lobby) -> Result<Vec<Part>, NoMemory>
-    ensures { IfOk result (λ parts. parts.items ≡ opened lobby) }
+    ensures items { IfOk result (λ parts. parts.items ≡ opened lobby) }
+    ensures count { IfOk result (λ parts. vec_len parts ≡ desk_count + 1) }
 {
     let mut parts = Vec::new(alloc);
     parts.push(Part::Lobby(lobby))?;

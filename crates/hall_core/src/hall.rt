@@ -16,7 +16,7 @@ ghost use Rattle.hall_core.specs.Acts.{CameTo, OnlyRan};
 use crate::ends::{HallParts, opening_parts, told_apart};
 use crate::house::Rooms;
 use crate::pass::HallPass;
-use crate::ran::Ran;
+use crate::ran::{Ran, ran_of};
 use linked_desk::Desk;
 use lobby_state::{DESKS, Lobby, lobbies_are_well_formed};
 use memory::NoMemory;
@@ -24,7 +24,7 @@ use one_server::{Act, Reply, Timed};
 use std::alloc::Global;
 use std::marker::Model;
 use std::sync::Wait;
-use turn_chain::{Gate, Tried};
+use turn_chain::Gate;
 use turn_table::Turns;
 
 /// One lobby and 128 desks, each behind a turn of its own. Contracts see which hall it is.
@@ -102,10 +102,8 @@ impl Hall {
         ensures sure { NeedsNoMemory act → IsOk result }
     {
         let timed = Timed { moment, act };
-        match turn_chain::try_run(alloc, &self.turns, &mut pass.pass, timed)? {
-            Tried::Done(reply) => Ok(Ran::Done(reply)),
-            Tried::Busy { part, act } => Ok(Ran::Busy(part, act.act)),
-        }
+        let tried = turn_chain::try_run(alloc, &self.turns, &mut pass.pass, timed)?;
+        Ok(ran_of(tried))
     }
 
     /// Makes an act of the pass's session at `moment`, in milliseconds, and waits for the turns of its parts. The gate is
