@@ -1,5 +1,6 @@
 -- The parts of a whole state are a lobby and desks.
 use Rattle.std.proofs.Common.{◌≡◌, ℕ, ◌+◌, ◌<◌, zero, suc, List, [], ◌∷◌, ◌++◌, map, length, refl, ap, sym, subst, ◌∙◌, arith}
+use Rattle.std.proofs.lemmas.List.{append_assoc, map-append}
 use Rattle.std.specs.List.{slice_get}
 use Rattle.std.specs.Option.{option_to_list}
 use Rattle.std.specs.declared.option.Option.{Option}
@@ -55,3 +56,20 @@ pub parts_again : (lobby : LobbyState) (tail : List Part) (taken : List DeskStat
 parts_again lobby tail taken rest whole e n =
     let there = behind (TheLobby lobby) tail whole in
     ap (λ ps. TheLobby lobby ∷ ps) (all_taken taken rest tail e (n ∙ sym there.2))
+
+is_no_desk : (lobby : LobbyState) (desk : DeskState) → TheLobby lobby ≡ ADesk desk → ⊥
+is_no_desk lobby desk e = cc
+
+-- one more is taken
+pub taken_more : (taken more : List DeskState) (desk : DeskState) (old rest tail : List Part) → more ≡ taken ++ desk ∷ [] → old ≡ ADesk desk ∷ rest → map ADesk taken ++ old ≡ tail → map ADesk more ++ rest ≡ tail
+taken_more taken more desk old rest tail n o e =
+    ap (λ ds. map ADesk ds ++ rest) n
+    ∙ (ap (λ ps. ps ++ rest) (map-append ADesk taken (desk ∷ []))
+    ∙ (append_assoc (map ADesk taken) (ADesk desk ∷ []) rest
+    ∙ (ap (λ ps. map ADesk taken ++ ps) (sym o) ∙ e)))
+
+-- no lobby is among them
+pub no_lobby : (one : Part) (tail : List Part) (taken : List DeskState) (lobby : LobbyState) (old rest : List Part) → IsWhole (one ∷ tail) → old ≡ TheLobby lobby ∷ rest → map ADesk taken ++ old ≡ tail → ⊥
+no_lobby one tail taken lobby old rest whole o e =
+    let there = next_desk one tail taken (TheLobby lobby) rest whole (ap (λ ps. map ADesk taken ++ ps) (sym o) ∙ e) in
+    is_no_desk lobby there.0 there.1

@@ -43,7 +43,10 @@ pub fn told_apart(parts: Vec<Part>, room: Vec<Desk>) -> HallParts
         unreachable!()
     };
     for _slot in 0..DESKS {
-        let Some(Part::Desk(desk)) = rest.next() else {
+        let Some(part) = rest.next() else {
+            unreachable!()
+        };
+        let Part::Desk(desk) = part else {
             unreachable!()
         };
         desks.push_reserved(desk);
