@@ -1,7 +1,7 @@
 -- What contracts see of a pass of the hall.
 use Rattle.std.specs.Prelude.{◌≡◌, ℕ, ◌+◌, ◌<◌, ◌≤◌, true, false, List, [], ◌∷◌, ◌++◌, map}
 use Rattle.atomic_table.specs.Seated.{TableId}
-use Rattle.histories.specs.History.{IsPrefix}
+use Rattle.histories.specs.History.{IsPrefix, calls_of}
 use Rattle.lobby_state.specs.Lobby.{LobbyState}
 use Rattle.one_server.specs.declared.act.Timed.{Timed}
 use Rattle.one_server.specs.declared.part.Part.{Part}
@@ -89,13 +89,16 @@ new_pass pass = record pass {
 }
 
 -- another pass was joined into it: its number with its calls is known, and so are those that were joined into it. What is
--- seen then begins with what either of the two had seen; the rest stays as it was
+-- seen then begins with what either of the two had seen, and has those calls as the entries of that number; seen by the
+-- first pass, it has no entry of a number that wasn't split. The rest stays as it was
 pub record IsJoined (old other new : PassState) : Type 0 where
   pub same : new ≡ record old { joined = new.joined; seen = new.seen }
   pub joined : new.joined ≡ old.joined ++ record { number = other.number; calls = other.made } ∷ other.joined
   pub seen : IsPrefix old.seen new.seen
   pub other_seen : IsPrefix other.seen new.seen
   pub known : IsKnown (runs_of new)
+  pub calls : (j : Joined Timed Reply) → In j new.joined → calls_of j.number new.seen ≡ j.calls
+  pub no_others : new.number ≡ 0 → (m : ℕ) → new.splits < m → calls_of m new.seen ≡ []
 
 -- every pass that was split from this one was joined into it
 abbrev pub EveryoneJoined : PassState → Type 0

@@ -1,9 +1,14 @@
 //! A session at a hall.
 
-ghost use Rattle.std.specs.Prelude.{◌≡◌};
+ghost use Rattle.std.specs.Prelude.{◌≡◌, [], IfOk, IsOk, OnErr};
+ghost use Rattle.one_server.specs.Acts.{IsEvent, NeedsNoMemory};
+ghost use Rattle.one_server.specs.Running.{Made};
+ghost use Rattle.hall_core.specs.Acts.{CameTo, OnlyRan};
+ghost use Rattle.hall_core.specs.Passes.{runs_of};
 
 use crate::hall::Hall;
 use crate::pass::HallPass;
+use crate::ran::Ran;
 use memory::NoMemory;
 use one_server::{Act, Reply, Runner};
 use std::alloc::Global;
@@ -52,6 +57,18 @@ impl Hall {
 }
 
 impl<G: Gate, R: Wait> HallSeat<'_, G, R> {
+    /// Makes an act of the session at `moment`, in milliseconds, and waits for nobody, as `Hall::try_run` does. The gate
+    /// isn't told.
+    pub fn try_run(&mut self, alloc: Global, moment: u64, act: Act) -> Result<Ran, NoMemory>
+        requires { IsEvent (record { moment = moment; act = act }) }
+        ensures only { OnlyRan self.old self.new }
+        ensures ok { IfOk result (λ ran. CameTo self.old (record { moment = moment; act = act }) ran self.new) }
+        ensures err { OnErr result (Made (runs_of self.old) [] (runs_of self.new)) }
+        ensures sure { NeedsNoMemory act → IsOk result }
+    {
+        self.hall.try_run(alloc, &mut self.pass, moment, act)
+    }
+
     /// The pass of the seat, which can be joined.
     pub fn into_pass(self) -> HallPass
         ensures { result ≡ self.entry }
@@ -62,7 +79,7 @@ impl<G: Gate, R: Wait> HallSeat<'_, G, R> {
 }
 
 impl<G: Gate, R: Wait> Runner for HallSeat<'_, G, R> {
-    ghost use Rattle.hall_core.specs.Passes.{Place, place_of, runs_of};
+    ghost use Rattle.hall_core.specs.Passes.{Place, place_of};
 
     ghost Home = { Place };
 
