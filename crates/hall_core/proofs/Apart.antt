@@ -1,10 +1,8 @@
 -- The parts of a whole state are a lobby and desks.
-use Rattle.std.proofs.Common.{◌≡◌, ℕ, ◌+◌, ◌<◌, zero, suc, List, [], ◌∷◌, ◌++◌, map, length, refl, ap, sym, subst, ◌∙◌, arith}
+use Rattle.std.proofs.Common.{◌≡◌, ℕ, suc, List, [], ◌∷◌, ◌++◌, map, length, refl, ap, sym, ◌∙◌, arith}
 use Rattle.std.proofs.lemmas.List.{append_assoc, map-append}
 use Rattle.std.specs.List.{slice_get}
-use Rattle.std.specs.Option.{option_to_list}
-use Rattle.std.specs.declared.option.Option.{Option}
-use Rattle.std.specs.declared.option.Option.TheVariants.{None, Some}
+use Rattle.std.specs.declared.option.Option.TheVariants.{Some}
 use Rattle.linked_desk.specs.Desk.{DeskState}
 use Rattle.lobby_state.specs.Desks.{desks as desk_count}
 use Rattle.lobby_state.specs.Lobby.{LobbyState}

@@ -1,5 +1,5 @@
 -- What the chain of an act says of a view, said of a pass of the hall.
-use Rattle.std.proofs.Common.{◌≡◌, ℕ, List, [], ◌∷◌, ◌++◌, true, false, refl, ap, sym, subst, ◌∙◌}
+use Rattle.std.proofs.Common.{◌≡◌, ℕ, [], ◌∷◌, ◌++◌, true, false, ap, sym, subst, ◌∙◌}
 use Rattle.std.proofs.lemmas.List.{append_assoc, append-nil}
 use Rattle.std.specs.Prelude.{IfOk, OnErr}
 use Rattle.std.specs.declared.result.Result.{Result}
@@ -11,7 +11,7 @@ use Rattle.one_server.specs.declared.act.Timed.{Timed}
 use Rattle.one_server.specs.declared.part.Part.{Part}
 use Rattle.one_server.specs.declared.reply.Reply.{Reply}
 use Rattle.one_server.specs.House.{house}
-use Rattle.one_server.specs.Running.{IsKnown, Log, Made, Runs, RunnerState, Ran as IsAnswered}
+use Rattle.one_server.specs.Running.{IsKnown, Log, Made, Runs, Ran as IsAnswered}
 use Rattle.one_server.specs.Whole.{IsWhole}
 use Rattle.one_server.proofs.Replies.{last_reply}
 use Rattle.turn_table.specs.declared.view.View.{View}

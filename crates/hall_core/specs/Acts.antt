@@ -1,5 +1,5 @@
 -- What one act makes of what a pass of the hall knows.
-use Rattle.std.specs.Prelude.{◌≡◌, ℕ, List, [], ◌∷◌, ◌++◌}
+use Rattle.std.specs.Prelude.{◌≡◌, ℕ, [], ◌∷◌, ◌++◌}
 use Rattle.histories.specs.Core.{Touches}
 use Rattle.histories.specs.History.{state}
 use Rattle.one_server.specs.declared.act.Timed.{Timed}
