@@ -1,0 +1,73 @@
+-- The parts of a whole state are a lobby and desks.
+use Rattle.std.proofs.Common.{◌≡◌, ℕ, suc, List, [], ◌∷◌, ◌++◌, map, length, refl, ap, sym, ◌∙◌, arith}
+use Rattle.std.proofs.lemmas.List.{append_assoc, map-append}
+use Rattle.std.specs.List.{slice_get}
+use Rattle.std.specs.declared.option.Option.TheVariants.{Some}
+use Rattle.linked_desk.specs.Desk.{DeskState}
+use Rattle.lobby_state.specs.Desks.{desks as desk_count}
+use Rattle.lobby_state.specs.Lobby.{LobbyState}
+use Rattle.one_server.specs.declared.part.Part.{Part}
+use Rattle.one_server.specs.declared.part.Part.TheVariants.{Lobby as TheLobby, Desk as ADesk}
+use Rattle.one_server.specs.Whole.{IsInPlace, IsWhole, parts_of}
+
+behind_first : (lobby : LobbyState) (i : ℕ) (part : Part) → IsInPlace lobby (suc i) part → (desk : DeskState) × (part ≡ ADesk desk)
+behind_first lobby i (TheLobby other) e = absurd (omega (arith, e))
+behind_first lobby i (ADesk desk) e = (desk, refl)
+
+all_desks : (parts : List Part) → ((i : ℕ) (part : Part) → slice_get parts i ≡ Some part → (desk : DeskState) × (part ≡ ADesk desk)) → (desks : List DeskState) × (parts ≡ map ADesk desks)
+all_desks [] h = ([], refl)
+all_desks (part ∷ parts) h =
+    let one = h 0 part refl in
+    let more = all_desks parts (λ i p e. h (suc i) p e) in
+    (one.0 ∷ more.0, λ i. one.1 i ∷ more.1 i)
+
+-- behind the first part of a whole state there are desks, as many as a hall has
+pub behind : (one : Part) (parts : List Part) → IsWhole (one ∷ parts) → (desks : List DeskState) × (parts ≡ map ADesk desks) × (length parts ≡ desk_count)
+behind one parts whole =
+    let there = all_desks parts (λ i part e. behind_first whole.lobby i part (whole.places (suc i) part e)) in
+    (there.0, there.1, omega (arith, whole.count))
+
+-- the next of the parts is a desk
+desk_next : (taken all : List DeskState) (next : Part) (rest : List Part) → map ADesk taken ++ next ∷ rest ≡ map ADesk all → (desk : DeskState) × (next ≡ ADesk desk)
+desk_next [] [] next rest e = absurd cc
+desk_next [] (desk ∷ all) next rest e = (desk, cc)
+desk_next (one ∷ taken) [] next rest e = absurd cc
+desk_next (one ∷ taken) (desk ∷ all) next rest e = desk_next taken all next rest cc
+
+pub next_desk : (one : Part) (tail : List Part) (taken : List DeskState) (next : Part) (rest : List Part) → IsWhole (one ∷ tail) → map ADesk taken ++ next ∷ rest ≡ tail → (desk : DeskState) × (next ≡ ADesk desk)
+next_desk one tail taken next rest whole e =
+    let there = behind one tail whole in
+    desk_next taken there.0 next rest (e ∙ there.1)
+
+-- where as many are taken as there are, they are all
+all_taken : (taken : List DeskState) (rest tail : List Part) → map ADesk taken ++ rest ≡ tail → length taken ≡ length tail → map ADesk taken ≡ tail
+all_taken [] rest [] e n = refl
+all_taken [] rest (part ∷ tail) e n = absurd (omega (arith, n))
+all_taken (desk ∷ taken) rest [] e n = absurd cc
+all_taken (desk ∷ taken) rest (part ∷ tail) e n =
+    let head : ADesk desk ≡ part = cc in
+    let more : map ADesk taken ++ rest ≡ tail = cc in
+    let same = all_taken taken rest tail more (omega (arith, n)) in
+    λ i. head i ∷ same i
+
+pub parts_again : (lobby : LobbyState) (tail : List Part) (taken : List DeskState) (rest : List Part) → IsWhole (TheLobby lobby ∷ tail) → map ADesk taken ++ rest ≡ tail → length taken ≡ desk_count → parts_of lobby taken ≡ TheLobby lobby ∷ tail
+parts_again lobby tail taken rest whole e n =
+    let there = behind (TheLobby lobby) tail whole in
+    ap (λ ps. TheLobby lobby ∷ ps) (all_taken taken rest tail e (n ∙ sym there.2))
+
+is_no_desk : (lobby : LobbyState) (desk : DeskState) → TheLobby lobby ≡ ADesk desk → ⊥
+is_no_desk lobby desk e = cc
+
+-- one more is taken
+pub taken_more : (taken more : List DeskState) (desk : DeskState) (old rest tail : List Part) → more ≡ taken ++ desk ∷ [] → old ≡ ADesk desk ∷ rest → map ADesk taken ++ old ≡ tail → map ADesk more ++ rest ≡ tail
+taken_more taken more desk old rest tail n o e =
+    ap (λ ds. map ADesk ds ++ rest) n
+    ∙ (ap (λ ps. ps ++ rest) (map-append ADesk taken (desk ∷ []))
+    ∙ (append_assoc (map ADesk taken) (ADesk desk ∷ []) rest
+    ∙ (ap (λ ps. map ADesk taken ++ ps) (sym o) ∙ e)))
+
+-- no lobby is among them
+pub no_lobby : (one : Part) (tail : List Part) (taken : List DeskState) (lobby : LobbyState) (old rest : List Part) → IsWhole (one ∷ tail) → old ≡ TheLobby lobby ∷ rest → map ADesk taken ++ old ≡ tail → ⊥
+no_lobby one tail taken lobby old rest whole o e =
+    let there = next_desk one tail taken (TheLobby lobby) rest whole (ap (λ ps. map ADesk taken ++ ps) (sym o) ∙ e) in
+    is_no_desk lobby there.0 there.1

@@ -1,0 +1,115 @@
+-- What contracts see of a pass of the hall.
+use Rattle.std.specs.Prelude.{◌≡◌, ℕ, ◌+◌, ◌<◌, ◌≤◌, true, false, List, [], ◌∷◌, ◌++◌, map}
+use Rattle.atomic_table.specs.Seated.{TableId}
+use Rattle.histories.specs.History.{IsPrefix, calls_of}
+use Rattle.lobby_state.specs.Lobby.{LobbyState}
+use Rattle.one_server.specs.declared.act.Timed.{Timed}
+use Rattle.one_server.specs.declared.part.Part.{Part}
+use Rattle.one_server.specs.declared.reply.Reply.{Reply}
+use Rattle.one_server.specs.Running.{IsKnown, Log, RunnerState}
+use Rattle.one_server.specs.Whole.{IsOpening, IsWhole, opened}
+use Rattle.turn_table.specs.declared.view.Joined.{Joined}
+use Rattle.turn_table.specs.Passes.{Standing}
+use Rattle.turn_table.specs.Views.{In, joined_number}
+
+-- which hall the pass is of, and its number, which is its session; how many passes were split from it, and those that were
+-- joined into it, with their calls; the opening state of the hall, what the pass has seen of the history and what it made;
+-- and the parts that it tried while another pass had them, the latest last
+pub record PassState : Type 0 where
+  pub home : TableId
+  pub number : ℕ
+  pub splits : ℕ
+  pub joined : List (Joined Timed Reply)
+  pub opening : List Part
+  pub seen : Log
+  pub made : Log
+  pub busy : List ℕ
+
+abbrev pub pass_state : Standing Part Timed Reply → PassState
+pass_state p = record {
+  home = p.home;
+  number = p.view.number;
+  splits = p.view.splits;
+  joined = p.view.joined;
+  opening = p.view.opening;
+  seen = p.view.seen;
+  made = p.view.made;
+  busy = p.view.busy;
+}
+
+-- what is known of the pass's session while it runs its acts. Others make acts beside it, and an act that needs no memory
+-- of its own never meets want of it
+abbrev pub runs_of : PassState → RunnerState
+runs_of pass = record {
+  number = pass.number;
+  opening = pass.opening;
+  mark = true;
+  sole = false;
+  seen = pass.seen;
+  made = pass.made;
+}
+
+-- the opening state of a lobby without a member and without a desk in use
+abbrev pub IsOpened : List Part → Type 0
+IsOpened parts = (lobby : LobbyState) × IsOpening lobby × (parts ≡ opened lobby)
+
+-- the pass holds no part; its hall opened with such a lobby, in a whole state; what it has seen is legal, and what it made
+-- are its own entries there
+pub record IsHallPass (p : Standing Part Timed Reply) : Type 0 where
+  pub idle : p.view.held ≡ []
+  pub opens : IsOpened p.view.opening
+  pub whole : IsWhole p.view.opening
+  pub known : IsKnown (runs_of (pass_state p))
+
+-- the first pass of a hall that opens in this state
+abbrev pub first_pass : TableId → List Part → PassState
+first_pass hall parts = record {
+  home = hall;
+  number = 0;
+  splits = 0;
+  joined = [];
+  opening = parts;
+  seen = [];
+  made = [];
+  busy = [];
+}
+
+-- a pass was split from it
+abbrev pub divided : PassState → PassState
+divided pass = record pass { splits = pass.splits + 1 }
+
+-- the pass that was split from it: the next number's, which has seen as much and made nothing
+abbrev pub new_pass : PassState → PassState
+new_pass pass = record pass {
+  number = pass.splits + 1;
+  splits = 0;
+  joined = [];
+  made = [];
+  busy = [];
+}
+
+-- another pass was joined into it: its number with its calls is known, and so are those that were joined into it. What is
+-- seen then begins with what either of the two had seen, and has those calls as the entries of that number; seen by the
+-- first pass, it has no entry of a number that wasn't split. The rest stays as it was
+pub record IsJoined (old other new : PassState) : Type 0 where
+  pub same : new ≡ record old { joined = new.joined; seen = new.seen }
+  pub joined : new.joined ≡ old.joined ++ record { number = other.number; calls = other.made } ∷ other.joined
+  pub seen : IsPrefix old.seen new.seen
+  pub other_seen : IsPrefix other.seen new.seen
+  pub known : IsKnown (runs_of new)
+  pub calls : (j : Joined Timed Reply) → In j new.joined → calls_of j.number new.seen ≡ j.calls
+  pub no_others : new.number ≡ 0 → (m : ℕ) → new.splits < m → calls_of m new.seen ≡ []
+
+-- every pass that was split from this one was joined into it
+abbrev pub EveryoneJoined : PassState → Type 0
+EveryoneJoined pass = (m : ℕ) → 0 < m → m ≤ pass.splits → In m (map joined_number pass.joined)
+
+-- what no act changes of a pass beside its number and its opening state: its hall, and the passes that were split from it
+-- and joined into it
+pub record Place : Type 0 where
+  pub hall : TableId
+  pub splits : ℕ
+  pub joined : List (Joined Timed Reply)
+
+abbrev pub place_of : PassState → Place
+place_of pass = record { hall = pass.home; splits = pass.splits; joined = pass.joined }

@@ -1,0 +1,55 @@
+//! The hall's two ends: its parts before it opens, and after it closed.
+
+ghost use Rattle.std.specs.Prelude.{◌≡◌, ◌+◌, ◌≤◌, [], IfOk, vec_len, vec_capacity};
+ghost use Rattle.lobby_state.specs.Desks.{desks as desk_count};
+ghost use Rattle.one_server.specs.Whole.{IsWhole, opened, parts_of};
+
+use linked_desk::Desk;
+use lobby_state::{DESKS, Lobby};
+use memory::NoMemory;
+use one_server::Part;
+use std::alloc::Global;
+
+/// What a hall that was closed has left: the lobby, and the desks 1 to 128 in their order.
+#[derive(Drop)]
+pub struct HallParts {
+    pub lobby: Lobby,
+    pub desks: Vec<Desk>,
+}
+
+/// The parts with which a hall opens: this lobby, and the desks 1 to 128, all of them vacant.
+pub fn opening_parts(alloc: Global, lobby: Lobby) -> Result<Vec<Part>, NoMemory>
+    ensures items { IfOk result (λ parts. parts.items ≡ opened lobby) }
+    ensures count { IfOk result (λ parts. vec_len parts ≡ desk_count + 1) }
+{
+    let mut parts = Vec::new(alloc);
+    parts.push(Part::Lobby(lobby))?;
+    for slot in 0..DESKS {
+        parts.push(Part::Desk(Desk::vacant(slot as u8 + 1)))?;
+    }
+    Ok(parts)
+}
+
+/// The lobby and the desks of a whole state, in the room that was kept for the desks.
+pub fn told_apart(parts: Vec<Part>, room: Vec<Desk>) -> HallParts
+    requires whole { IsWhole parts.items }
+    requires empty { room.items ≡ [] }
+    requires room { desk_count ≤ vec_capacity room }
+    ensures { parts_of result.lobby result.desks.items ≡ parts.items }
+{
+    let mut desks = room;
+    let mut rest = parts.into_iter();
+    let Some(Part::Lobby(lobby)) = rest.next() else {
+        unreachable!()
+    };
+    for _slot in 0..DESKS {
+        let Some(part) = rest.next() else {
+            unreachable!()
+        };
+        let Part::Desk(desk) = part else {
+            unreachable!()
+        };
+        desks.push_reserved(desk);
+    }
+    HallParts { lobby, desks }
+}

@@ -1,0 +1,56 @@
+//! The server of one lobby and 128 desks makes its acts on the parts that it is lent. No act is known here by its name.
+
+use histories::Served;
+use memory::NoMemory;
+use one_server::{self, Part, Reply, Timed};
+use std::alloc::Global;
+use turn_chain::Steps;
+
+/// The server of one lobby and 128 desks, as a hall keeps it. Its rules are those of the server of one thread.
+pub struct Rooms;
+
+impl Served for Rooms {
+    ghost use Rattle.one_server.specs.House.{house};
+    ghost use Rattle.one_server.specs.LawfulProof.{house_lawful};
+
+    type Part = Part;
+
+    type Act = Timed;
+
+    type Reply = Reply;
+
+    ghost core = { house };
+
+    ghost lawful = { house_lawful };
+}
+
+impl Steps for Rooms {
+    ghost use Rattle.one_server.specs.Acts.{NeedsNoMemory};
+
+    ghost sure = { λ timed. NeedsNoMemory timed.act };
+
+    fn first_part(act: &Timed) -> u8 {
+        one_server::first_part(&act.act)
+    }
+
+    fn second_part(one: &Part, session: u32, act: &Timed) -> Option<u8> {
+        match one {
+            Part::Lobby(lobby) => one_server::second_part(lobby, session, &act.act),
+            Part::Desk(_) => None,
+        }
+    }
+
+    fn alone(_alloc: Global, one: &mut Part, session: u32, act: &Timed) -> Result<Reply, NoMemory> {
+        one_server::alone(one, session, act)
+    }
+
+    fn together(
+        alloc: Global,
+        one: &mut Part,
+        two: &mut Part,
+        session: u32,
+        act: &Timed,
+    ) -> Result<Reply, NoMemory> {
+        one_server::together(alloc, one, two, session, act)
+    }
+}
