@@ -1,5 +1,5 @@
 //! Each call of the lists once where there is memory, with figures by hand.
-use collections::{Change, Listed, Reserved, Roomy, Predicate, find, position};
+use collections::{Change, Listed, Predicate, Reserved, Roomy, find, position};
 use memory::{Duplicate, NoMemory};
 use std::alloc::Global;
 use std::test::Fail;

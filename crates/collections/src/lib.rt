@@ -14,12 +14,12 @@
 mod changes;
 mod copies;
 mod list;
+mod predicates;
 mod reserve;
 mod room;
-mod predicates;
 
 pub use changes::Change;
 pub use list::Listed;
+pub use predicates::{Predicate, find, position};
 pub use reserve::Reserved;
 pub use room::Roomy;
-pub use predicates::{Predicate, find, position};

@@ -1,7 +1,7 @@
 //! Handles, lines, decimals and refusals, at values chosen by hand.
 
 use fics_words::{
-    Account, Duplicate, Fail, Handle, Line, NoMemory, Refusal, Player, read_number, write_number,
+    Account, Duplicate, Fail, Handle, Line, NoMemory, Player, Refusal, read_number, write_number,
 };
 use std::test::Fail as TestFail;
 
