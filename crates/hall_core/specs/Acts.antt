@@ -24,7 +24,8 @@ pub record FoundBusy (old : PassState) (timed : Timed) (number : ℕ) (new : Pas
 -- an act that waited for nobody was answered, or it made no entry and comes back
 abbrev pub CameTo : PassState → Timed → Ran → PassState → Type 0
 CameTo old timed (Done reply) new = IsAnswered (runs_of old) timed reply (runs_of new)
-CameTo old timed (Busy number act) new = Made (runs_of old) [] (runs_of new) × (act ≡ timed.act) × FoundBusy old timed number new
+CameTo old timed (Busy number act) new =
+    Made (runs_of old) [] (runs_of new) × (act ≡ timed.act) × FoundBusy old timed number new
 
 -- what the chain of an act came to, without the moment of an act that comes back
 abbrev pub ran_of : Tried Timed Reply → Ran

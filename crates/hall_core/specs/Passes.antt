@@ -12,9 +12,9 @@ use Rattle.turn_table.specs.declared.view.Joined.{Joined}
 use Rattle.turn_table.specs.Passes.{Standing}
 use Rattle.turn_table.specs.Views.{In, joined_number}
 
--- which hall the pass is of, and its number, which is its session; how many passes were split from it, and those that were
--- joined into it, with their calls; the opening state of the hall, what the pass has seen of the history and what it made;
--- and the parts that it tried while another pass had them, the latest last
+-- which hall the pass is of, and its number, which is its session; how many passes were split from it, and those that
+-- were joined into it, with their calls; the opening state of the hall, what the pass has seen of the history and what
+-- it made; and the parts that it tried while another pass had them, the latest last
 pub record PassState : Type 0 where
   pub home : TableId
   pub number : ℕ
@@ -37,8 +37,8 @@ pass_state p = record {
   busy = p.view.busy;
 }
 
--- what is known of the pass's session while it runs its acts. Others make acts beside it, and an act that needs no memory
--- of its own never meets want of it
+-- what is known of the pass's session while it runs its acts. Others make acts beside it, and an act that needs no
+-- memory of its own never meets want of it
 abbrev pub runs_of : PassState → RunnerState
 runs_of pass = record {
   number = pass.number;
@@ -53,8 +53,8 @@ runs_of pass = record {
 abbrev pub IsOpened : List Part → Type 0
 IsOpened parts = (lobby : LobbyState) × IsOpening lobby × (parts ≡ opened lobby)
 
--- the pass holds no part; its hall opened with such a lobby, in a whole state; what it has seen is legal, and what it made
--- are its own entries there
+-- the pass holds no part; its hall opened with such a lobby, in a whole state; what it has seen is legal, and what it
+-- made are its own entries there
 pub record IsHallPass (p : Standing Part Timed Reply) : Type 0 where
   pub idle : p.view.held ≡ []
   pub opens : IsOpened p.view.opening
@@ -88,9 +88,9 @@ new_pass pass = record pass {
   busy = [];
 }
 
--- another pass was joined into it: its number with its calls is known, and so are those that were joined into it. What is
--- seen then begins with what either of the two had seen, and has those calls as the entries of that number; seen by the
--- first pass, it has no entry of a number that wasn't split. The rest stays as it was
+-- another pass was joined into it: its number with its calls is known, and so are those that were joined into it. What
+-- is seen then begins with what either of the two had seen, and has those calls as the entries of that number; seen by
+-- the first pass, it has no entry of a number that wasn't split. The rest stays as it was
 pub record IsJoined (old other new : PassState) : Type 0 where
   pub same : new ≡ record old { joined = new.joined; seen = new.seen }
   pub joined : new.joined ≡ old.joined ++ record { number = other.number; calls = other.made } ∷ other.joined
@@ -104,8 +104,8 @@ pub record IsJoined (old other new : PassState) : Type 0 where
 abbrev pub EveryoneJoined : PassState → Type 0
 EveryoneJoined pass = (m : ℕ) → 0 < m → m ≤ pass.splits → In m (map joined_number pass.joined)
 
--- what no act changes of a pass beside its number and its opening state: its hall, and the passes that were split from it
--- and joined into it
+-- what no act changes of a pass beside its number and its opening state: its hall, and the passes that were split from
+-- it and joined into it
 pub record Place : Type 0 where
   pub hall : TableId
   pub splits : ℕ

@@ -73,8 +73,9 @@ impl Hall {
         }
     }
 
-    /// Joins another pass into this one, which then sees the history so far: it begins with what either of the two had seen.
-    /// The pass keeps its number and its calls, and those of the other one with its number. The other isn't the first pass.
+    /// Joins another pass into this one, which then sees the history so far: it begins with what either of the two had
+    /// seen. The pass keeps its number and its calls, and those of the other one with its number. The other isn't the
+    /// first pass.
     pub fn join(&self, pass: &mut HallPass, other: HallPass)
         requires here { pass.old.home ≡ self.now }
         requires other_here { other.home ≡ self.now }
@@ -84,9 +85,9 @@ impl Hall {
         self.turns.join(&mut pass.pass, other.pass);
     }
 
-    /// Makes an act of the pass's session at `moment`, in milliseconds, and waits for nobody. `Done` has the server's reply.
-    /// `Busy` names a part of the act whose turn another pass had at a step of this call; the act comes back, and isn't
-    /// made. Want of memory gives no reply, and the act isn't made.
+    /// Makes an act of the pass's session at `moment`, in milliseconds, and waits for nobody. `Done` has the server's
+    /// reply. `Busy` names a part of the act whose turn another pass had at a step of this call; the act comes back,
+    /// and isn't made. Want of memory gives no reply, and the act isn't made.
     pub fn try_run(
         &self,
         alloc: Global,
@@ -106,9 +107,9 @@ impl Hall {
         Ok(ran_of(tried))
     }
 
-    /// Makes an act of the pass's session at `moment`, in milliseconds, and waits for the turns of its parts. The gate is
-    /// told of each part once it is out. The reply is the server's; want of memory gives none, and the act isn't made. It
-    /// may wait for ever.
+    /// Makes an act of the pass's session at `moment`, in milliseconds, and waits for the turns of its parts. The gate
+    /// is told of each part once it is out. The reply is the server's; want of memory gives none, and the act isn't
+    /// made. It may wait for ever.
     pub fn run<G: Gate, R: Wait>(
         &self,
         rt: &R,
@@ -128,9 +129,9 @@ impl Hall {
         turn_chain::run(rt, alloc, &self.turns, &mut pass.pass, gate, &timed)
     }
 
-    /// Gives the lobby and the desks back, once every pass that was split was joined into the first one. They are the state
-    /// of all that the first pass has seen, and this is the whole history: it has the calls of the first pass and of those
-    /// that were joined, each in its own order, and no others. It takes no memory.
+    /// Gives the lobby and the desks back, once every pass that was split was joined into the first one. They are the
+    /// state of all that the first pass has seen, and this is the whole history: it has the calls of the first pass and
+    /// of those that were joined, each in its own order, and no others. It takes no memory.
     pub fn close(self, pass: HallPass) -> HallParts
         requires here { pass.home ≡ self }
         requires first { pass.number ≡ 0 }

@@ -6,8 +6,8 @@ use crate::house::Rooms;
 use std::marker::Model;
 use turn_table::Pass;
 
-/// What one session of a hall makes its acts with. It holds no part between two acts. Contracts see which hall it is of,
-/// its number, what it has seen and made, and the passes that were split from it and joined into it.
+/// What one session of a hall makes its acts with. It holds no part between two acts. Contracts see which hall it is
+/// of, its number, what it has seen and made, and the passes that were split from it and joined into it.
 #[derive(Drop)]
 pub struct HallPass {
     pub(crate) pass: Pass<Rooms>,

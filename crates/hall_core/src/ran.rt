@@ -11,8 +11,8 @@ use turn_chain::Tried;
 pub enum Ran {
     /// The act was made, and got this reply.
     Done(Reply),
-    /// Another session had this part of the act, 0 for the lobby and else the desk's number. The act wasn't made, and comes
-    /// back.
+    /// Another session had this part of the act, 0 for the lobby and else the desk's number. The act wasn't made, and
+    /// comes back.
     Busy(u8, Act),
 }
 

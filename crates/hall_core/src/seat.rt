@@ -57,8 +57,8 @@ impl Hall {
 }
 
 impl<G: Gate, R: Wait> HallSeat<'_, G, R> {
-    /// Makes an act of the session at `moment`, in milliseconds, and waits for nobody, as `Hall::try_run` does. The gate
-    /// isn't told.
+    /// Makes an act of the session at `moment`, in milliseconds, and waits for nobody, as `Hall::try_run` does. The
+    /// gate isn't told.
     pub fn try_run(&mut self, alloc: Global, moment: u64, act: Act) -> Result<Ran, NoMemory>
         requires { IsEvent (record { moment = moment; act = act }) }
         ensures only { OnlyRan self.old self.new }

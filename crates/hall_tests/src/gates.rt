@@ -11,8 +11,8 @@ use std::sync::Wait;
 use std::test::Fail;
 use turn_chain::{Gate, OpenGate};
 
-/// Lets another session try an act of the lobby and one of desk 1 while a part is out, and writes down what they come to, a
-/// digit each: 1 for an act that was made, 2 for one that found the lobby busy, 3 for a busy desk 1, and else 9.
+/// Lets another session try an act of the lobby and one of desk 1 while a part is out, and writes down what they come
+/// to, a digit each: 1 for an act that was made, 2 for one that found the lobby busy, 3 for a busy desk 1, and else 9.
 #[derive(Drop)]
 struct Visit<'a, R: Wait> {
     alloc: Global,
