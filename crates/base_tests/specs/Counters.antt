@@ -1,4 +1,5 @@
--- Two counters: an act adds one to the left counter, to the right one, or to both. Its reply is the first counter that it changed.
+-- Two counters: an act adds one to the left counter, to the right one, or to both. Its reply is the first counter that
+-- it changed.
 use Rattle.std.specs.Prelude.{◌≡◌, ◌≢◌, ℕ, ◌+◌, ◌%◌, ◌^◌, ◌<◌, List, [], ◌∷◌, length}
 use Rattle.std.proofs.Common.{◌∙◌, arith}
 use Rattle.std.specs.declared.option.Option.{Option}

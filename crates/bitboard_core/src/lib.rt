@@ -2,8 +2,8 @@
 //!
 //! Sliding men look along printed rays that are cut at the first man in their way. The contract: contracts see a `Bits`
 //! as the placement of chess_model; its sets have exactly the squares where such a man stands, `reach` has the squares
-//! that a man reaches, `attackers` the men of a colour that strike a square, and `are_safe` tells of a placement that is
-//! never built, from its sets, whether its kings are safe.
+//! that a man reaches, `attackers` the men of a colour that strike a square, and `are_safe` tells of a placement that
+//! is never built, from its sets, whether its kings are safe.
 #![tactic(auto)]
 
 mod bits;

@@ -41,8 +41,8 @@ pub fn is_struck(side: &Side, by: Colour, occupied: u64, s: Square) -> bool
 }
 
 /// Whether none of these kings of the other colour stands on a square that the colour `by` attacks, in any placement
-/// whose men of the colour `by` the sets of `side` have, whose men all stand on `occupied`, and whose kings of the other
-/// colour stand on `kings`.
+/// whose men of the colour `by` the sets of `side` have, whose men all stand on `occupied`, and whose kings of the
+/// other colour stand on `kings`.
 #[inline]
 pub fn are_safe(side: &Side, by: Colour, occupied: u64, kings: u64) -> bool
     ensures { (P : Placement) → AreMenOf P by side.now → IsOccupied P occupied → AreKingsOf P (opposite by) kings →

@@ -1,4 +1,5 @@
--- What a plain move takes in a sound position: nothing, an enemy man that isn't a king, or the pawn that has just passed.
+-- What a plain move takes in a sound position: nothing, an enemy man that isn't a king, or the pawn that has just
+-- passed.
 use Rattle.std.proofs.Common.{arith, ◌≡◌, ◌≢◌, ℕ, ◌<◌, ◌≤◌, inl, inr, Bool, true, false, ◌&&◌, not, cond, is_none, nat_eq, Option, Some, None, refl, sym, ap, subst, ◌∙◌}
 use Rattle.std.proofs.lemmas.Bool.{ne_eqb, eq-eqb}
 use Rattle.chess_model.specs.declared.man.Colour.{Colour}

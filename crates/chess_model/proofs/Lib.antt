@@ -13,6 +13,6 @@ pub mod StatesTold
 pub mod TestsDecide
 pub mod Texts
 pub mod Threefold
-pub mod Turns
+pub mod Movers
 pub mod Weights
 pub mod WordsDecide

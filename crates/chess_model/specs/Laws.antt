@@ -28,7 +28,8 @@ pub record MovesOneMan (P : Placement) (a b : ℕ) (promo : Option Kind) (Q : Pl
   pub taken : taking_square P a b ≢ b → man_at Q (taking_square P a b) ≡ None
   pub others : (s : ℕ) → s ≢ a → s ≢ b → s ≢ taking_square P a b → man_at Q s ≡ man_at P s
 
--- after castling the king and the rook stand on their end squares, their homes are empty, and every other square is as before
+-- after castling the king and the rook stand on their end squares, their homes are empty, and every other square is as
+-- before
 pub record MovesKingAndRook (v : Variant) (P : Placement) (c : Colour) (long : Bool) (Q : Placement) : Type 0 where
   pub king : man_at Q (king_end c long) ≡ man_at P (king_home v c)
   pub rook : man_at Q (rook_end c long) ≡ man_at P (rook_home v c long)

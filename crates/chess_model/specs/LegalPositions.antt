@@ -71,7 +71,8 @@ pub record LegalPositionsAreSound : Type 0 where
       Allowed (position_after v T n) (Plain a b promo) →
       MovesAMan (position_after v T n) a b promo (position_after v (T ++ record { board = n; what = Plain a b promo } ∷ []) n).men
 
--- a half-move of another board leaves the men of this one, its turn, its en passant square and its rights as they were
+-- a half-move of another board leaves the men of this one, who is to move there, its en passant square and its rights
+-- as they were
 pub record IsAsBefore (p q : Position) : Type 0 where
   pub men : q.men ≡ p.men
   pub to_move : q.to_move ≡ p.to_move
@@ -84,7 +85,7 @@ OtherBoardStays = (v : Variant) (T : List HalfMove) (h : HalfMove) (b : ℕ) →
     IsAsBefore (position_after v T b) (position_after v (T ++ h ∷ []) b)
 
 -- of the half-moves of a board, counted from 0, those with an even number are White's and the others Black's
-pub record ColoursTakeTurns : Type 0 where
+pub record ColoursAlternate : Type 0 where
   pub even : (v : Variant) (T : List HalfMove) (b k : ℕ) (x : Ply) → k < length (history v T b) → k % 2 ≡ 0 →
       (slice_index_or (history v T b) k x).by ≡ White
   pub odd : (v : Variant) (T : List HalfMove) (b k : ℕ) (x : Ply) → k < length (history v T b) → k % 2 ≡ 1 →

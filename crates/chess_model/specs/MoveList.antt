@@ -70,7 +70,7 @@ pub record Ply : Type 0 where
   pub by : Colour
   pub what : Move
 
--- each half-move of a list in its setting; the colours take turns (FIDE 1.1)
+-- each half-move of a list in its setting; the colours alternate (FIDE 1.1)
 abbrev pub settings : Variant → Placement → Colour → List Move → List Ply
 settings v P c [] = []
 settings v P c (m ∷ ms) = record { before = P; by = c; what = m } ∷ settings v (place_after v P c m) (opposite c) ms
@@ -80,7 +80,7 @@ abbrev pub place_from : Variant → Placement → Colour → List Move → Place
 place_from v P c [] = P
 place_from v P c (m ∷ ms) = place_from v (place_after v P c m) (opposite c) ms
 
--- whose turn it is after a list of half-moves
+-- who is to move after a list of half-moves
 abbrev pub side_from : Colour → List Move → Colour
 side_from c [] = c
 side_from c (m ∷ ms) = side_from (opposite c) ms

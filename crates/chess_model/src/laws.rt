@@ -1,7 +1,7 @@
 //! What the definitions of the rules mean, in the words of the game. Each call does nothing: its contract is the law.
 
 ghost use Rattle.chess_model.specs.Laws.{EachSquareIsKnown, AttackGoesBothWays, RightsNeverComeBack, CountsQuietMoves, NoMenAreMade, LegalListsGrow, TestsSayTheRules, WordsAreAnswered, MovesAreListed, StatesAreTold};
-ghost use Rattle.chess_model.specs.LegalPositions.{LegalPositionsAreSound, OtherBoardStays, ColoursTakeTurns, HomesAreInTheArray};
+ghost use Rattle.chess_model.specs.LegalPositions.{LegalPositionsAreSound, OtherBoardStays, ColoursAlternate, HomesAreInTheArray};
 ghost use Rattle.chess_model.specs.Census.{CensusStays};
 ghost use Rattle.chess_model.specs.Claims.{ThirdTimes};
 ghost use Rattle.chess_model.specs.Examples.{WorkedExamples};
@@ -73,8 +73,8 @@ pub fn other_board_stays()
 {}
 
 /// Of the half-moves of a board, counted from 0, those with an even number are White's.
-pub fn colours_take_turns()
-    ensures { ColoursTakeTurns }
+pub fn colours_alternate()
+    ensures { ColoursAlternate }
 {}
 
 /// The homes of kings and rooks are where these stand in the array.

@@ -32,7 +32,7 @@ mod why;
 pub use face::Face;
 pub use hand::Hand;
 pub use laws::{
-    attack_goes_both_ways, census_stays, colours_take_turns, each_square_is_known,
+    attack_goes_both_ways, census_stays, colours_alternate, each_square_is_known,
     homes_are_in_the_array, legal_lists_grow, legal_positions_are_sound, moves_are_listed,
     no_men_are_made, other_board_stays, quiet_moves_are_counted, rights_never_come_back,
     states_are_told, tests_say_the_rules, third_times_are_counted, words_are_answered,

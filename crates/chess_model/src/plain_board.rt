@@ -82,7 +82,7 @@ impl PlainBoard {
         self.variant
     }
 
-    /// Whose turn it is.
+    /// Who is to move.
     pub fn to_move(&self) -> Colour
         ensures { result ≡ self.now.to_move }
     {

@@ -6,7 +6,8 @@ use Rattle.collections.specs.contracts.list.Listed.{the_row as listed_row}
 use Rattle.collections.specs.contracts.room.Roomy.{the_row as roomy_row}
 use Rattle.collections.specs.contracts.reserve.Reserved.{the_row as reserved_row}
 
--- Each says: once the borrow `item` ends, the place has the last value written through it, and no other item has changed.
+-- Each says: once the borrow `item` ends, the place has the last value written through it, and no other item has
+-- changed.
 abbrev pub lends_listed_item : (T : RattleType) → MutBor (List T.Denot) → ℕ → MutBor T.Denot → Fml
 lends_listed_item T list place item = Lends (listed_row T) T list item (slice_set list.now place)
 

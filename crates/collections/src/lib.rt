@@ -6,9 +6,10 @@
 //!
 //! - `Listed` takes memory as it grows. `Roomy` has its room from the start, and `Reserved` the room that was last
 //!   reserved: a push into either takes no memory.
-//! - A `Predicate` and a `Change` are small types with one method each. Finding, keeping and changing by them, and copying
+//! - A `Predicate` and a `Change` are small types with one method each. Finding, keeping and changing by them, and
+//! copying
 //!   by `Duplicate`, are loops that are proved here once.
-//! - The contract: each call says which list stands afterwards, and want of memory leaves everything as it was.
+//! - The contract: each call says which list stands afterwards, and running out of memory leaves everything as it was.
 #![tactic(auto)]
 
 mod changes;

@@ -105,7 +105,7 @@ impl<T> Listed<T> {
         mem::replace(self, Listed::new(alloc))
     }
 
-    /// Moves the items of `other` behind these. Want of memory leaves both lists as they are.
+    /// Moves the items of `other` behind these. Running out of memory leaves both lists as they are.
     pub fn append(&mut self, other: &mut Listed<T>) -> Result<(), NoMemory>
         ensures ok { OnOk result (self.new ≡ self.old ++ other.old) }
         ensures emptied { OnOk result (other.new ≡ []) }
@@ -118,7 +118,7 @@ impl<T> Listed<T> {
 }
 
 impl<T: Drop> Listed<T> {
-    /// Puts `item` behind the others. Want of memory leaves the list as it is.
+    /// Puts `item` behind the others. Running out of memory leaves the list as it is.
     pub fn push(&mut self, item: T) -> Result<(), NoMemory>
         ensures ok { OnOk result (self.new ≡ self.old ++ item ∷ []) }
         ensures err { OnErr result (self.new ≡ self.old) }

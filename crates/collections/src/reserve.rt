@@ -51,7 +51,8 @@ impl<T> Reserved<T> {
         }
     }
 
-    /// Makes room for `more` items behind those that are there. Want of memory leaves the list and its room as they are.
+    /// Makes room for `more` items behind those that are there. Running out of memory leaves the list and its room as
+    /// they are.
     pub fn reserve(&mut self, more: usize) -> Result<(), NoMemory>
         ensures ok { OnOk result (self.new ≡ record self.old { room = max self.old.room more }) }
         ensures err { OnErr result (self.new ≡ self.old) }

@@ -38,7 +38,7 @@ impl<T, const N: usize> Model for Roomy<T, N> {
 impl<T, const N: usize> Roomy<T, N> {
     ghost use Rattle.collections.specs.Lends.{lends_roomy_item};
 
-    /// The empty list, with its room. It is not made for want of memory alone.
+    /// The empty list, with its room. It fails only when out of memory.
     pub fn new(alloc: Global) -> Result<Self, NoMemory>
         ensures { IfOk result (λ roomy. roomy ≡ []) }
     {
@@ -114,7 +114,7 @@ impl<T, const N: usize> Roomy<T, N> {
         self.items.remove(place)
     }
 
-    /// Takes all items out, and leaves the empty list with its room. Want of memory leaves the list as it is.
+    /// Takes all items out, and leaves the empty list with its room. Running out of memory leaves the list as it is.
     pub fn take(&mut self) -> Result<Listed<T>, NoMemory>
         ensures taken { IfOk result (λ items. items ≡ self.old) }
         ensures emptied { OnOk result (self.new ≡ []) }

@@ -1,7 +1,8 @@
 //! Reading the lines that players type: aliases, the rule of command words, and each command's arguments.
 //!
 //! The contract: `read_command` gives the command of `specs/Commands.antt` for the line, or the first refusal that
-//! holds, and nothing but want of memory stands in its place. Each command is a file of its own here and in `specs/`.
+//! holds, and nothing but running out of memory stands in its place. Each command is a file of its own here and in
+//! `specs/`.
 #![tactic(auto)]
 
 mod aliases;

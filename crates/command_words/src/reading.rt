@@ -22,7 +22,7 @@ use std::alloc::Global;
 const MOST: usize = 1_023;
 
 /// Reads what a line asks for: its first word is replaced by its alias, once; a line that is one move word is a move;
-/// any other begins with the name, the short form or a front of the name of a command. Refuses, in this order, with
+/// any other begins with the name, the short form or a prefix of the name of a command. Refuses, in this order, with
 /// `TooLong` where the line is too long after its alias, with `Unknown` or `AmbiguousWord` for its first word, and with
 /// `BadArguments`.
 pub fn read_command(alloc: Global, line: &Line, aliases: &Aliases) -> Result<Command, Fail>

@@ -34,7 +34,7 @@ pub enum Given {
     /// So many items, and whether the game is over.
     Items(usize, bool),
     Refused(Refusal),
-    /// Want of memory, or a word that the tests can't read.
+    /// Running out of memory, or a word that the tests can't read.
     Nothing,
 }
 

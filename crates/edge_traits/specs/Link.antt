@@ -39,7 +39,7 @@ Both None new R = ⊤
 Both (Some old) None R = ⊥
 Both (Some old) (Some new) R = R old new
 
--- what an answer gives, of which the bytes are the front of the buffer
+-- what an answer gives, of which the bytes are the beginning of the buffer
 abbrev pub signs_of : Heard → List ℕ → List Sign
 signs_of (Bytes n) buf = map Byte (take n buf)
 signs_of Quiet buf = Pause ∷ []
@@ -70,7 +70,7 @@ pub record Reads (heard : Heard) (buf : List ℕ) (old new : Tale) : Type 0 wher
   pub written : new.written ≡ old.written
   pub closed : new.closed ≡ old.closed
 
--- all the bytes, or a front of them where the write failed or met want of memory
+-- all the bytes, or a prefix of them where the write failed or ran out of memory
 abbrev pub Grows : Sent → List ℕ → List ℕ → List ℕ → Type 0
 Grows All bytes old new = new ≡ old ++ bytes
 Grows sent bytes old new = (n : ℕ) × (new ≡ old ++ take n bytes)

@@ -7,7 +7,7 @@ use Rattle.std.specs.FinMap.{FinMap, is_sorted, put}
 use Rattle.edge_traits.specs.declared.mem_keeper.Place.{Place}
 use Rattle.edge_traits.specs.declared.mem_keeper.Place.TheVariants.{At, Gap}
 
--- the order of keys: by their first byte that differs, a front before the whole
+-- the order of keys: by their first byte that differs, a prefix before the whole
 abbrev pub keys_order : List ℕ → List ℕ → Ordering
 keys_order = slice_cmp nat_cmp
 

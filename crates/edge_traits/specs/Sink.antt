@@ -6,11 +6,11 @@ use Rattle.edge_traits.specs.Faults.{Plan}
 use Rattle.edge_traits.specs.declared.sink.Sent.{Sent}
 use Rattle.edge_traits.specs.declared.sink.Sent.TheVariants.{All, Failed, Memory}
 
--- what was written grew by a front of the bytes
+-- what was written grew by a prefix of the bytes
 abbrev pub AppendsFront : Option (List ℕ) → Option (List ℕ) → List ℕ → Type 0
 AppendsFront old new bytes = (n : ℕ) × Appends old new (take n bytes)
 
--- what was written grew by all the bytes, or by a front of them where the write failed or met want of memory
+-- what was written grew by all the bytes, or by a prefix of them where the write failed or ran out of memory
 abbrev pub Wrote : Option (List ℕ) → Option (List ℕ) → List ℕ → Sent → Type 0
 Wrote old new bytes All = Appends old new bytes
 Wrote old new bytes Failed = AppendsFront old new bytes

@@ -34,7 +34,7 @@ pub enum Kept {
     Done,
     /// A fault, which the object counted; the table is as before.
     Failed,
-    /// Want of memory; the table is as before.
+    /// Running out of memory; the table is as before.
     Memory,
 }
 
@@ -43,7 +43,7 @@ pub enum Kept {
 pub enum KeeperFail {
     /// A fault, which the object counted.
     Failed,
-    /// Want of memory.
+    /// Running out of memory.
     Memory,
 }
 

@@ -28,7 +28,7 @@ pub trait Link {
 
     ghost faults: { Self → ℕ };
 
-    /// Reads into the front of `buf`, which isn't empty; fails only where the count of faults rose.
+    /// Reads into the beginning of `buf`, which isn't empty; fails only where the count of faults rose.
     fn read(&mut self, buf: &mut [u8]) -> Heard
         requires { 0 < length buf.old }
         ensures count { IfHeard result (λ n. (0 < n) × (n ≤ length buf.new)) }

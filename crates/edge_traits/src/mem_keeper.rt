@@ -125,7 +125,7 @@ impl Keeper for MemKeeper {
     }
 }
 
-/// Puts the record under the key, in place of the one that is there; for want of memory the pairs are as before.
+/// Puts the record under the key, in place of the one that is there; when out of memory the pairs are as before.
 fn put_pair(pairs: &mut Vec<Pair>, key: &[u8], bytes: &[u8]) -> Result<(), NoMemory>
     requires { IsAscending pairs.old.items }
     ensures put { OnOk result (pairs.new.items ≡ put keys_order key.now bytes.now pairs.old.items) }

@@ -148,7 +148,7 @@ fn is_ended(heard: Heard, before: bool) -> bool
     }
 }
 
-/// Writes the bytes behind the others; for want of memory none.
+/// Writes the bytes behind the others; when out of memory none.
 fn append(out: &mut Vec<u8>, bytes: &[u8]) -> Sent
     ensures grows { Grows result bytes.now out.old.items out.new.items }
     ensures no_fault { result ≢ Sent.Failed }

@@ -77,7 +77,7 @@ impl Source for MemSource {
     }
 }
 
-/// Copies as much of the front of `left` as `cut` and the buffer allow to the front of `buf`.
+/// Copies as much of the beginning of `left` as `cut` and the buffer allow to the beginning of `buf`.
 fn give(left: &[u8], cut: usize, buf: &mut [u8]) -> usize
     ensures count { result ≡ min cut (min (length buf.old) (length left.now)) }
     ensures given { take result buf.new ≡ take result left.now }

@@ -5,9 +5,9 @@
 pub enum Sent {
     /// All the bytes were written.
     All,
-    /// A fault, which the object counted; a front of the bytes was written.
+    /// A fault, which the object counted; a prefix of the bytes was written.
     Failed,
-    /// Want of memory; a front of the bytes was written.
+    /// Running out of memory; a prefix of the bytes was written.
     Memory,
 }
 

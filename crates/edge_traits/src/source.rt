@@ -23,7 +23,7 @@ pub trait Source {
 
     ghost faults: { Self → ℕ };
 
-    /// Reads into the front of `buf`, which isn't empty; fails only where the count of faults rose.
+    /// Reads into the beginning of `buf`, which isn't empty; fails only where the count of faults rose.
     fn read(&mut self, buf: &mut [u8]) -> Got
         requires { 0 < length buf.old }
         ensures took { Took (left self.old) (left self.new) result buf.new }

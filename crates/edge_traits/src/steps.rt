@@ -103,7 +103,7 @@ fn look_into(bytes: &[u8], offset: usize, buf: &mut [u8]) -> Look
     Look::Gives(copy_front(&bytes[offset..], buf))
 }
 
-/// Copies as much of the front of `left` as the buffer takes to the front of `buf`.
+/// Copies as much of the beginning of `left` as the buffer takes to the beginning of `buf`.
 fn copy_front(left: &[u8], buf: &mut [u8]) -> usize
     ensures count { result ≡ min (length buf.old) (length left.now) }
     ensures given { take result buf.new ≡ take result left.now }

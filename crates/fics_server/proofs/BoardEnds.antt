@@ -16,7 +16,7 @@ use Rattle.fics_server.specs.declared.end.End.TheVariants.{Done, Usage, ReadFaul
 use Rattle.fics_server.specs.PlayedLinesProof.{answers-answer_line, bad-answer_line, IsPlayed-answer_line, IsPlayed-good}
 use Rattle.fics_server.proofs.BoardLines.{IsPlayed-text}
 
--- want of memory before the first read
+-- running out of memory before the first read
 pub AnswersPart-none : (left written : Option (List ℕ)) → AnswersPart left left written written
 AnswersPart-none left written = record {
   taken = [];
@@ -25,7 +25,7 @@ AnswersPart-none left written = record {
   text = (0, Appends-nil written);
 }
 
--- a front of the first part of a text is a front of the text
+-- a prefix of the first part of a text is a prefix of the text
 AppendsFront-more : (written new : Option (List ℕ)) (due more all : List ℕ) → all ≡ due ++ more → AppendsFront written new due → AppendsFront written new all
 AppendsFront-more written new due more all is front =
     let first = length (take front.0 due) in
@@ -58,7 +58,7 @@ module _ (lines : List (List ℕ)) (due : List ℕ) (h : HasBadLine IsPlayed (co
   bad_at_bad : bad_in lines ≡ Some (length h.before + 1)
   bad_at_bad = ap bad_in h.parts ∙ h.good.good (h.line ∷ h.rest) ∙ bad-answer_line (length h.before + 1) h.stands h.line h.rest None refused
 
--- what is due for a front of lines is a front of their text
+-- what is due for a prefix of lines is a prefix of their text
 module _ (lines : List (List ℕ)) (written written' : Option (List ℕ)) where
   front_of_due : (before rest : List (List ℕ)) (due : List ℕ) → lines ≡ before ++ rest → IsDue IsPlayed (codes "\n\r") before due → AppendsFront written written' due → AppendsFront written written' (text_of lines)
   front_of_due before rest due is (inl (game, p)) front =

@@ -12,7 +12,7 @@ use Rattle.fics_server.specs.declared.stop.Stop.{Stop}
 use Rattle.fics_server.specs.declared.stop.Stop.TheVariants.{BadLine, Memory}
 use Rattle.fics_server.proofs.Pieces.{lines_of-dropped, whole_lines-push, last_line-push, whole_lines-feed, last_line-feed, Grows-whole_lines}
 
--- a front of a front
+-- a prefix of a prefix
 pub take-front : (n : ℕ) (xs ys : List ℕ) → take n (take n xs ++ ys) ≡ take n (xs ++ ys)
 take-front zero xs ys = refl
 take-front (suc n) [] ys = refl

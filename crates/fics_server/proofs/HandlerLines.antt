@@ -6,7 +6,7 @@ use Rattle.fics_server.specs.HandlerEnds.{AreStopped}
 use Rattle.fics_server.specs.Lines.{lines_of, lines_come, whole_lines}
 use Rattle.fics_server.proofs.Pieces.{Grows-lines_of}
 
--- a front of lines that a run has
+-- a prefix of lines that a run has
 pub front_reached : {S : Type 0} (reached : Reaching S) → AreLines reached → (lines more : List (List ℕ)) (s : S) (due : List ℕ) → reached (lines ++ more) s due
     → (before : S) × (text : List ℕ) × reached lines before text
 front_reached reached laws lines [] s due h = (s, due, subst (λ (l : List (List ℕ)). reached l s due) (append-nil lines) h)

@@ -102,7 +102,7 @@ ReplayEnds-handled left left' written written' Memory h = h
 ReplayEnds-handled left left' written written' BadLine h = h
 ReplayEnds-handled left left' written written' Spent h = record { replayed = AreReplayed-handled left left' written written' false h.answers; many = h.many }
 
--- want of memory before the first read
+-- running out of memory before the first read
 pub ReplayEnds-none : (left written : Option (List ℕ)) → ReplayEnds left left written written Memory
 ReplayEnds-none left written = record {
   taken = [];

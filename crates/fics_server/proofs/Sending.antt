@@ -17,14 +17,14 @@ use Rattle.fics_server.specs.declared.stop.Stop.TheVariants as stop
 use Rattle.fics_server.proofs.Pieces.{lines_of-split, Grows, Grows-whole_lines}
 use Rattle.fics_server.proofs.Feeding.{HasBadLine-last}
 
--- a front of the next bytes is a front of the whole
+-- a prefix of the next bytes is a prefix of the whole
 pub AppendsFront-behind : (written now new : Option (List ℕ)) (text bytes all : List ℕ) → all ≡ text ++ bytes
     → Appends written now text → AppendsFront now new bytes → AppendsFront written new all
 AppendsFront-behind written now new text bytes all is p q =
     let front : text ++ take q.0 bytes ≡ take (length text + q.0) all = sym (take-append-add text bytes q.0) ∙ ap (take (length text + q.0)) (sym is) in
     (length text + q.0, subst (Appends written new) front (Appends-trans written now new text (take q.0 bytes) p q.1))
 
--- what was written is a front of what is due
+-- what was written is a prefix of what is due
 pub AppendsFront-so_far : (written now : Option (List ℕ)) (text more all : List ℕ) → all ≡ text ++ more → Appends written now text → AppendsFront written now all
 AppendsFront-so_far written now text more all is p =
     (length text, subst (Appends written now) (sym (take-append_seam text more) ∙ ap (take (length text)) (sym is)) p)
@@ -34,7 +34,7 @@ pub Progress-cleared : {S : Type 0} (reached : Reaching S) (taken : List ℕ) (s
     → Progress reached taken standing text → Progress reached taken standing (text ++ cleared)
 Progress-cleared reached taken standing text cleared none p = subst (Progress reached taken standing) (sym (append-nil text) ∙ ap (λ l. text ++ l) (sym none)) p
 
--- the lines so far are due, and a front of what is due for them was written
+-- the lines so far are due, and a prefix of what is due for them was written
 PartIsWritten-front : {S : Type 0} (reached : Reaching S) (ending : List ℕ) (lines : List (List ℕ)) (written now new : Option (List ℕ)) (text bytes : List ℕ)
     → IsDue reached ending lines (text ++ bytes) → Appends written now text → AppendsFront now new bytes → PartIsWritten reached ending lines written new
 PartIsWritten-front reached ending lines written now new text bytes due w front = record {
@@ -46,7 +46,7 @@ PartIsWritten-front reached ending lines written now new text bytes due w front 
   text = AppendsFront-behind written now new text bytes (text ++ bytes) refl w front;
 }
 
--- want of memory between: what was written is all that is due for the lines before
+-- running out of memory between: what was written is all that is due for the lines before
 PartIsWritten-so_far : {S : Type 0} (reached : Reaching S) (ending taken text : List ℕ) (lines : List (List ℕ)) (standing : Standing S) (written now : Option (List ℕ))
     → Grows (whole_lines taken) lines → Appends written now text → Progress reached taken standing text → PartIsWritten reached ending lines written now
 PartIsWritten-so_far reached ending taken text lines standing written now grown w p = record {
@@ -58,7 +58,7 @@ PartIsWritten-so_far reached ending taken text lines standing written now grown 
   text = AppendsFront-so_far written now text [] text (sym (append-nil text)) w;
 }
 
--- a line outside the grammar was told, or a front of that was written
+-- a line outside the grammar was told, or a prefix of that was written
 module _ {S : Type 0} (reached : Reaching S) (ending : List ℕ) (lines : List (List ℕ)) (written now new : Option (List ℕ)) (text bytes : List ℕ)
     (bad : HasBadLine reached ending lines (text ++ bytes)) (w : Appends written now text) where
   refused : Appends now new bytes → IsRefused reached ending lines written new
@@ -91,7 +91,7 @@ module _ {S : Type 0} (reached : Reaching S) (ending taken text : List ℕ) (wri
   AfterRefusal bytes end bad (inr (inr want, front)) =
       subst (IsRefusedOr reached ending taken written new) (sym want) (part reached ending (whole_lines taken) written now new text bytes bad w front)
 
--- want of memory while bytes were fed
+-- running out of memory while bytes were fed
 pub AfterAnswer-memory : {S : Type 0} (reached : Reaching S) (ending taken more text : List ℕ) (standing : Standing S) (written now : Option (List ℕ))
     → Appends written now text → Progress reached taken standing text → PartIsWritten reached ending (whole_lines (taken ++ more)) written now
 AfterAnswer-memory reached ending taken more text standing written now w p =

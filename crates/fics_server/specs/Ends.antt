@@ -28,7 +28,7 @@ pub record StopsAtBadLine (left left' written written' : Option (List ℕ)) : Ty
   pub bad : bad_in (lines_come ended taken) ≡ Some number
   pub text : Appends written written' (text_of (lines_come ended taken))
 
--- a front of the text of the lines that have come was written
+-- a prefix of the text of the lines that have come was written
 pub record AnswersPart (left left' written written' : Option (List ℕ)) : Type 0 where
   pub taken : List ℕ
   pub ended : Bool
@@ -40,7 +40,7 @@ pub record Spends (left left' written written' : Option (List ℕ)) : Type 0 whe
   pub answers : Answers left left' written written' false
   pub many : 2 ^ 40 ≤ length answers.taken
 
--- nothing was read, and a front of the usage line was written
+-- nothing was read, and a prefix of the usage line was written
 abbrev pub UsagePart : Option (List ℕ) → Option (List ℕ) → Option (List ℕ) → Option (List ℕ) → Type 0
 UsagePart left left' written written' = Keeps left left' × AppendsFront written written' usage_line
 

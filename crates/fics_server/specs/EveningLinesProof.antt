@@ -1,4 +1,4 @@
--- The lines that bring an evening to where it stands: one line more, fronts, and lines that no evening has.
+-- The lines that bring an evening to where it stands: one line more, prefixes, and lines that no evening has.
 use Rattle.std.proofs.Common.{◌≡◌, ◌≢◌, ◌↔◌, ℕ, ◌+◌, ◌-◌, ◌≤◌, max, Bool, true, cond, List, [], ◌∷◌, ◌++◌, map, length, Option, None, Some, filter, append-nil, refl, sym, ap, subst, ◌∙◌, arith}
 use Rattle.std.specs.List.{AllByRecursion, range_with_len}
 use Rattle.std.proofs.lemmas.List.Elements.{All-from_recursion, recursion_from_All, filter-append}

@@ -1,4 +1,4 @@
--- Evenings: one row more, fronts, legal histories, and that the lines fix the rows.
+-- Evenings: one row more, prefixes, legal histories, and that the lines fix the rows.
 use Rattle.std.proofs.Common.{◌≡◌, ◌↔◌, false, ℕ, List, [], ◌∷◌, ◌++◌, map, append_assoc, append-nil, refl, sym, ap, subst, ◌∙◌}
 use Rattle.std.proofs.lemmas.List.Sums.{fold-append}
 use Rattle.std.proofs.lemmas.Option.{same_Some}

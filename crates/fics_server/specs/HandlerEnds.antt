@@ -32,7 +32,7 @@ pub record AreStopped {S : Type 0} (reached : Reaching S) (ending : List ℕ) (l
   pub bad : HasBadLine reached ending (lines_come ended taken) due
   pub text : Appends written written' due
 
--- a front of what is due for a front of the lines was written
+-- a prefix of what is due for a prefix of the lines was written
 pub record PartIsWritten {S : Type 0} (reached : Reaching S) (ending : List ℕ) (lines : List (List ℕ)) (written written' : Option (List ℕ)) : Type 0 where
   pub before : List (List ℕ)
   pub rest : List (List ℕ)
@@ -41,7 +41,7 @@ pub record PartIsWritten {S : Type 0} (reached : Reaching S) (ending : List ℕ)
   pub is_due : IsDue reached ending before due
   pub text : AppendsFront written written' due
 
--- a front of what is due for a front of the lines that have come was written
+-- a prefix of what is due for a prefix of the lines that have come was written
 pub record ArePartAnswered {S : Type 0} (reached : Reaching S) (ending : List ℕ) (left left' written written' : Option (List ℕ)) : Type 0 where
   pub taken : List ℕ
   pub ended : Bool

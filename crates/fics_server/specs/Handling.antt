@@ -23,7 +23,7 @@ abbrev pub AfterAnswering : {S : Type 0} → Reaching S → S → List ℕ → L
 AfterAnswering reached old line out new out' true = (text : List ℕ) × (out' ≡ out ++ text) × Takes reached old line new text
 AfterAnswering reached old line out new out' false = (out' ≡ out) × IsOutsideAt reached old line
 
--- the laws of the lines of a command: an empty line changes nothing, a front of lines that a run has is one too, and
+-- the laws of the lines of a command: an empty line changes nothing, a prefix of lines that a run has is one too, and
 -- no line of a run has more than 1,023 bytes
 pub record AreLines {S : Type 0} (reached : Reaching S) : Type 0 where
   pub empty : (lines : List (List ℕ)) (s : S) (due : List ℕ) → reached lines s due → reached (lines ++ [] ∷ []) s due

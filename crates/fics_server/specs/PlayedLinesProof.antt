@@ -92,7 +92,7 @@ IsPlayed-front lines more good =
       },
     )
 
--- an empty line changes nothing, a front of good lines is good, and no good line has more than 1,023 bytes
+-- an empty line changes nothing, a prefix of good lines is good, and no good line has more than 1,023 bytes
 pub played_lines : AreLines IsPlayed
 played_lines = record {
   empty = λ lines s due p. subst (λ (text : List ℕ). IsPlayed (lines ++ [] ∷ []) s text) (append-nil due) (IsPlayed-answer_line lines s s due [] [] refl p);

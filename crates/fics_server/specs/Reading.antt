@@ -36,7 +36,7 @@ abbrev pub AfterSendLast : Option (List ℕ) → Option (List ℕ) → List ℕ 
 AfterSendLast written written' bytes end result =
     ((result ≡ end) × Appends written written' bytes) ⊎ (((result ≡ WriteFault) ⊎ (result ≡ Memory)) × AppendsFront written written' bytes)
 
--- the bytes were written and the handler was closed; else they, or a front of them, were written
+-- the bytes were written and the handler was closed; else they, or a prefix of them, were written
 abbrev pub AfterSendAndClose : {S : Type 0} → (S → S → Type 0) → Option (List ℕ) → Option (List ℕ) → List ℕ → S → S → End → Type 0
 AfterSendAndClose closed written written' bytes stands leaves Done = Appends written written' bytes × closed stands leaves
 AfterSendAndClose closed written written' bytes stands leaves Usage = ⊥
@@ -58,7 +58,7 @@ pub record IsRefused {S : Type 0} (reached : Reaching S) (ending : List ℕ) (li
   pub wrote : Appends written written' text
   pub bad : HasBadLine reached ending lines text
 
--- these bytes have a line outside the grammar, or a front of what is due was written
+-- these bytes have a line outside the grammar, or a prefix of what is due was written
 abbrev pub IsRefusedOr : {S : Type 0} → Reaching S → List ℕ → List ℕ → Option (List ℕ) → Option (List ℕ) → End → Type 0
 IsRefusedOr reached ending taken written written' Done = ⊥
 IsRefusedOr reached ending taken written written' Usage = ⊥

@@ -15,7 +15,7 @@ abbrev pub JobEnds : Option (List ℕ) → Option (List ℕ) → Option (List �
 JobEnds left left' written written' end Board = BoardEnds left left' written written' end
 JobEnds left left' written written' end Replay = ReplayEnds left left' written written' end
 
--- a front of what would have been written, at a fault of writing or for want of memory: of a command's text, or of the
+-- a prefix of what would have been written, at a fault of writing or when out of memory: of a command's text, or of the
 -- usage line
 abbrev pub WritesPart : List (String Global) → Option (List ℕ) → Option (List ℕ) → Option (List ℕ) → Option (List ℕ) → End → Type 0
 WritesPart words left left' written written' end =

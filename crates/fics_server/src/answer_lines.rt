@@ -87,7 +87,7 @@ fn finish<K: Sink, T: LineHandler>(machine: &mut Machine<T>, out: &mut Vec<u8>, 
     }
 }
 
-/// Writes the last bytes, and then closes the handler: so want of memory in closing loses no answer.
+/// Writes the last bytes, and then closes the handler: so running out of memory in closing loses no answer.
 fn send_and_close<K: Sink, T: LineHandler>(
     machine: &mut Machine<T>,
     bytes: &[u8],

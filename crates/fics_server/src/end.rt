@@ -14,7 +14,7 @@ pub enum End {
     ReadFault,
     /// A write failed.
     WriteFault,
-    /// Want of memory.
+    /// Running out of memory.
     Memory,
     /// A line is outside the grammar.
     BadLine,

@@ -17,7 +17,7 @@ pub fn one_evening()
     ensures legal { (rows : List Row) → IsEvening rows → Legal house opening_parts (history_of rows) }
 {}
 
-/// The lines of an evening: an empty line changes nothing, and a front of an evening is an evening.
+/// The lines of an evening: an empty line changes nothing, and a prefix of an evening is an evening.
 pub fn lines_of_evenings()
     ensures { AreLines Reached }
 {}

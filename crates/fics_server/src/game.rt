@@ -49,7 +49,7 @@ impl Game {
     }
 
     /// Makes the answer of a line, and appends what is written for it; false where the line is outside the grammar.
-    /// After want of memory nothing is known of the game and of what was appended.
+    /// After running out of memory nothing is known of the game and of what was appended.
     pub fn answer_line(&mut self, line: &[u8], out: &mut Vec<u8>) -> Result<bool, NoMemory>
         ensures made { IfOk result (λ made. MatchOption (answer_line self.old line.now)
             ((made ≡ false) × (out.new.items ≡ out.old.items))

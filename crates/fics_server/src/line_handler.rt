@@ -17,7 +17,7 @@ pub trait LineHandler: Drop {
     ghost ending: { List ℕ };
 
     /// Answers a line that isn't empty: appends what is due for it; false where the line is outside the grammar.
-    /// After want of memory nothing is known of the handler and of what was appended.
+    /// After running out of memory nothing is known of the handler and of what was appended.
     fn answer_line(&mut self, line: &[u8], out: &mut Vec<u8>) -> Result<bool, NoMemory>
         requires some { 0 < length line.now }
         requires short { length line.now ≤ 1023 }

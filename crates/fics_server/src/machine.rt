@@ -13,7 +13,7 @@ use std::marker::Model;
 /// The most bytes of a line that may be answered.
 const MOST_BYTES: usize = 1_023;
 
-/// The machine: who answers the lines, the number of the next line, and the front of what has come of that line, of
+/// The machine: who answers the lines, the number of the next line, and the beginning of what has come of that line, of
 /// which it keeps one byte more than a line that is answered may have.
 #[derive(Drop)]
 pub struct Machine<T: LineHandler> {

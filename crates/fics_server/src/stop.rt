@@ -10,7 +10,7 @@ use fics_words::NoMemory;
 pub enum Stop {
     /// A line is outside the grammar; its number was appended to what is written.
     BadLine,
-    /// Want of memory.
+    /// Running out of memory.
     Memory,
 }
 

@@ -25,7 +25,7 @@ refused_by (Ok value) = []
 refused_by (Err cause) = (true, cause) ∷ []
 
 -- an act of a session on what has the states S, with replies R: the causes of its refusal in their order, whether it
--- may meet want of memory, and, where no cause holds, its reply and what stands afterwards
+-- may run out of memory, and, where no cause holds, its reply and what stands afterwards
 pub record Effect (S R : Type 0) : Type 0 where
   pub causes : List Cause
   pub memory : Bool
@@ -51,19 +51,19 @@ abbrev pub state_of : {S R : Type 0} → S → Effect S R → S
 state_of old effect = unless (first_cause effect.causes) old effect.after
 
 -- a call carries out an act: it gives the reply and leaves what the act makes, where no cause holds; it gives the first
--- cause that holds and changes nothing; or it meets want of memory, where the act may, and changes nothing
+-- cause that holds and changes nothing; or it runs out of memory, where the act may, and changes nothing
 abbrev pub Takes : {S R : Type 0} → Effect S R → S → S → Result R Fail → Type 0
 Takes effect old new (Ok reply) = (first_cause effect.causes ≡ None) × (reply ≡ effect.reply) × (new ≡ effect.after)
 Takes effect old new (Err (Refused cause)) = (first_cause effect.causes ≡ Some cause) × (new ≡ old)
 Takes effect old new (Err Memory) = (effect.memory ≡ true) × (new ≡ old)
 
--- a call gives this answer, and nothing but want of memory stands in its place
+-- a call gives this answer, and nothing but running out of memory stands in its place
 abbrev pub Gives : {R : Type 0} → Result R Refusal → Result R Fail → Type 0
 Gives answer (Ok reply) = answer ≡ Ok reply
 Gives answer (Err (Refused cause)) = answer ≡ Err cause
 Gives answer (Err Memory) = Unit {0}
 
--- the fact holds where the call met no want of memory
+-- the fact holds where the call didn't run out of memory
 abbrev pub OnAnswer : {R : Type 0} → Result R Fail → Type 0 → Type 0
 OnAnswer (Ok reply) fact = fact
 OnAnswer (Err (Refused cause)) fact = fact

@@ -8,13 +8,13 @@ use memory::NoMemory;
 use std::alloc::{AllocError, AllocFailed};
 use thiserror::Error;
 
-/// A call was refused for a cause of the rules, or for want of memory.
+/// A call was refused for a cause of the rules, or when out of memory.
 #[derive(Clone, Copy, Debug, PartialEq, Eq, Error)]
 pub enum Fail {
     /// The cause is one of the rules.
     #[error("refused {0:?}")]
     Refused(Refusal),
-    /// Want of memory, and nothing else.
+    /// Running out of memory, and nothing else.
     #[error("out of memory")]
     Memory,
 }

@@ -3,7 +3,7 @@
 //!
 //! The contract: a reader gives a value exactly where its grammar has one, and the value stands for the very
 //! bytes that were read; a refusal has one number and one name; a call that takes memory answers its error
-//! for want of memory alone.
+//! only when out of memory.
 #![tactic(auto)]
 
 mod account;

@@ -24,7 +24,7 @@ pub fn read_number(bytes: &[u8], most: u64) -> Option<u64>
     if number <= most { Some(number) } else { None }
 }
 
-/// Appends the decimal of `n`, without leading zeros; for want of memory `out` is as before.
+/// Appends the decimal of `n`, without leading zeros; when out of memory `out` is as before.
 pub fn write_number(out: &mut Vec<u8>, n: u64) -> Result<(), NoMemory>
     ensures written { OnOk result (out.new.items ≡ out.old.items ++ decimal n) }
     ensures unchanged { OnErr result (out.new.items ≡ out.old.items) }

@@ -9,7 +9,7 @@ use Rattle.chess_model.specs.Placement.{opposite}
 use Rattle.chess_model.specs.MoveList.{side_from}
 use Rattle.clock_ledger.specs.declared.charges.Charge.{Charge}
 use Rattle.game_board.specs.declared.played.Played.{Played}
-use Rattle.game_board.specs.Board.{turn_after}
+use Rattle.game_board.specs.Board.{mover_after}
 use Rattle.game_board.specs.Charges.{charge_to, charges_from, charges_of}
 
 pub charges_from-append : (c by : Colour) (ps : List Played) (p : Played) →
@@ -55,14 +55,14 @@ at_most_half c (p ∷ ps) =
       other = omega (arith, rest.own, ap length back, length-append (charge_to c (opposite c) p.charge) (charges_from c (opposite (opposite c)) ps), length-other_charge c p.charge);
     }
 
--- where it is the turn of the one that began, it is exactly half
+-- where the one that began is to move, it is exactly half
 at_most_half-even : (c : Colour) (ps : List Played) → side_from c (map (λ p. p.what) ps) ≡ c → 2 * length (charges_from c c ps) ≤ length ps
 at_most_half-even c [] e = omega arith
 at_most_half-even c (p ∷ []) e = absurd (not_opposite c e)
 at_most_half-even c (p ∷ q ∷ qs) e =
     let back : opposite (opposite c) ≡ c = opposite-opposite c in
-    let turn : side_from c (map (λ r. r.what) qs) ≡ c = subst (λ (d : Colour). side_from d (map (λ r. r.what) qs) ≡ c) back e in
-    let rest = at_most_half-even c qs turn in
+    let is_mover : side_from c (map (λ r. r.what) qs) ≡ c = subst (λ (d : Colour). side_from d (map (λ r. r.what) qs) ≡ c) back e in
+    let rest = at_most_half-even c qs is_mover in
     let same : charges_from c (opposite (opposite c)) qs ≡ charges_from c c qs = ap (λ d. charges_from c d qs) back in
     omega (
       arith,
@@ -75,6 +75,6 @@ at_most_half-even c (p ∷ q ∷ qs) e =
     )
 
 -- while a half-move may still be played, the clock of the colour to move has room for its charge
-pub has_room : (c : Colour) (ps : List Played) → turn_after ps ≡ c → length ps < 1200 → length (charges_of c ps) < 600
+pub has_room : (c : Colour) (ps : List Played) → mover_after ps ≡ c → length ps < 1200 → length (charges_of c ps) < 600
 has_room White ps e h = omega (arith, at_most_half-even White ps e)
 has_room Black ps e h = omega (arith, at_most_half Black ps)

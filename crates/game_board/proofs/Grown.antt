@@ -11,7 +11,7 @@ use Rattle.chess_model.specs.Allowed.{Allowed, IsLegal}
 use Rattle.clock_ledger.specs.declared.charges.Charge.{Charge}
 use Rattle.clock_ledger.specs.Clock.{Ledger}
 use Rattle.game_board.specs.declared.played.Played.{Played}
-use Rattle.game_board.specs.Board.{Board, half_move, half_moves, turn_after, position_of}
+use Rattle.game_board.specs.Board.{Board, half_move, half_moves, mover_after, position_of}
 use Rattle.game_board.specs.Charges.{charge_to, charges_of, clock_of}
 use Rattle.game_board.proofs.Charged.{charges_from-append}
 use Rattle.game_board.proofs.Legal.{IsLegal-append}
@@ -34,9 +34,9 @@ IsLegal-grown b m charge legal allowed =
     (IsLegal-append b.terms.variant (half_moves b.number b.list) (record { board = b.number; what = m }) legal allowed)
 
 -- a clock with one charge more is the clock of the longer list
-pub clock_of-append : (t : Terms) (c mover : Colour) (list : List Played) (p : Played) (k : Ledger) → k ≡ clock_of t c list → turn_after list ≡ mover →
+pub clock_of-append : (t : Terms) (c mover : Colour) (list : List Played) (p : Played) (k : Ledger) → k ≡ clock_of t c list → mover_after list ≡ mover →
     record k { charges = k.charges ++ charge_to c mover p.charge } ≡ clock_of t c (list ++ p ∷ [])
-clock_of-append t c mover list p k same turn =
+clock_of-append t c mover list p k same is_mover =
     ap (λ (l : Ledger). record l { charges = l.charges ++ charge_to c mover p.charge }) same
     ∙ ap (λ (cs : List Charge). record { minutes = t.minutes; increment = t.increment; charges = cs })
-    (ap (λ (d : Colour). charges_of c list ++ charge_to c d p.charge) (sym turn) ∙ sym (charges_from-append c White list p))
+    (ap (λ (d : Colour). charges_of c list ++ charge_to c d p.charge) (sym is_mover) ∙ sym (charges_from-append c White list p))

@@ -4,4 +4,4 @@ pub mod LastPlayed
 pub mod Legal
 pub mod Scoresheet
 pub mod Sides
-pub mod Turns
+pub mod Movers

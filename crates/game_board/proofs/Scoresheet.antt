@@ -18,7 +18,7 @@ use Rattle.clock_ledger.specs.Charges.{amount}
 use Rattle.clock_ledger.specs.Clock.{start_of}
 use Rattle.fics_words.specs.declared.refusal.Refusal.{Refusal}
 use Rattle.game_board.specs.declared.played.Played.{Played}
-use Rattle.game_board.specs.Board.{Board, new_board, to_move, turn_after, position_of, has_moved}
+use Rattle.game_board.specs.Board.{Board, new_board, to_move, mover_after, position_of, has_moved}
 use Rattle.game_board.specs.Charges.{charges_of, is_timed, remaining_of}
 use Rattle.game_board.specs.Causes.{in_words}
 use Rattle.game_board.specs.Play.{move_refused, move_answer, next_charge, with_half_move, play_after}
@@ -78,10 +78,10 @@ has_moved-two White p q more = above_zero (length more)
 has_moved-two Black p q more = above_one (length more)
 
 -- who is to move has made a half-move exactly where two were played
-has_moved-turn : (list : List Played) → IsTrue (has_moved (turn_after list) list) ↔ (2 ≤ length list)
-has_moved-turn [] = (λ h. absurd cc, λ h. absurd (omega arith))
-has_moved-turn (p ∷ []) = (λ h. absurd cc, λ h. absurd (omega arith))
-has_moved-turn (p ∷ q ∷ more) = (λ h. omega arith, λ h. has_moved-two (turn_after (p ∷ q ∷ more)) p q more)
+has_moved-mover : (list : List Played) → IsTrue (has_moved (mover_after list) list) ↔ (2 ≤ length list)
+has_moved-mover [] = (λ h. absurd cc, λ h. absurd (omega arith))
+has_moved-mover (p ∷ []) = (λ h. absurd cc, λ h. absurd (omega arith))
+has_moved-mover (p ∷ q ∷ more) = (λ h. omega arith, λ h. has_moved-two (mover_after (p ∷ q ∷ more)) p q more)
 
 -- the charge where the game is timed and the colour has moved, and none elsewhere
 abbrev charge_if : Bool → Bool → ℕ → ℕ → Option Charge
@@ -160,7 +160,7 @@ IsTrueScore-with_half_move b m moment s order allowed =
     let last : slice_get (s.moments ++ moment ∷ []) (length b.list + 1) ≡ Some moment =
     ap (slice_get (s.moments ++ moment ∷ [])) (sym s.each) ∙ slice_get-append_end s.moments moment in
     let new : IsCharged b.terms (s.moments ++ moment ∷ []) (length b.list) entry =
-    IsCharged-if (is_timed b.terms) (has_moved (to_move b) b.list) b.terms (s.moments ++ moment ∷ []) (length b.list) b.begin moment m refl (has_moved-turn b.list)
+    IsCharged-if (is_timed b.terms) (has_moved (to_move b) b.list) b.terms (s.moments ++ moment ∷ []) (length b.list) b.begin moment m refl (has_moved-mover b.list)
     (stays_at s.moments moment b.begin (length b.list) s.thinking) last in
     record {
       moments = s.moments ++ moment ∷ [];

@@ -34,13 +34,13 @@ half_move number p = record { board = number; what = p.what }
 abbrev pub half_moves : ℕ → List Played → List HalfMove
 half_moves number list = map (half_move number) list
 
--- whose turn it is after these half-moves; White begins, and the colours take turns (FIDE 1.1)
-abbrev pub turn_after : List Played → Colour
-turn_after list = side_from White (map (λ p. p.what) list)
+-- who is to move after these half-moves; White begins, and the colours alternate (FIDE 1.1)
+abbrev pub mover_after : List Played → Colour
+mover_after list = side_from White (map (λ p. p.what) list)
 
 -- the colour that is to move
 abbrev pub to_move : Board → Colour
-to_move b = turn_after b.list
+to_move b = mover_after b.list
 
 -- the position on the board
 unfoldable pub position_of : Board → Position

@@ -24,7 +24,8 @@ most_played = 1200
 abbrev pub move_refused : Board → Colour → Option Refusal
 move_refused b c = first_cause ((not (same_colour c (to_move b)), NotYourTurn) ∷ (b.played == most_played, TooManyMoves) ∷ [])
 
--- the half-move that a word of a colour stands for now, or the refusal: what refuses the colour comes before the rules' answer
+-- the half-move that a word of a colour stands for now, or the refusal: what refuses the colour comes before the
+-- rules' answer
 unfoldable pub move_answer : Board → Colour → MoveWord → Result Move Refusal
 move_answer b c w = option_map_or Err (move_refused b c) (in_words (word_answer (position_of b) w))
 

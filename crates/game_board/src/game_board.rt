@@ -66,7 +66,8 @@ impl GameBoard {
     ghost use Rattle.game_board.specs.Play.{move_answer, next_charge, with_half_move, play_reply, play_after};
     ghost use Rattle.game_board.specs.Flag.{flag_answer, running, has_fallen, cannot_win};
 
-    /// The board of that number, 1 or 2, at the start of a game, whose first player begins to think at `moment`. Room for
+    /// The board of that number, 1 or 2, at the start of a game, whose first player begins to think at `moment`. Room
+    /// for
     /// all its half-moves and charges is taken here, and no later call takes memory.
     pub fn start(
         alloc: Global,
@@ -183,8 +184,8 @@ impl GameBoard {
         last.charge
     }
 
-    /// Whether it is that colour's turn.
-    fn is_turn_of(&self, colour: Colour) -> bool
+    /// Whether that colour is to move.
+    fn is_to_move(&self, colour: Colour) -> bool
         ensures { result ≡ same_colour colour (to_move self.now) }
     {
         is_same_colour(colour, self.to_move())
@@ -228,7 +229,7 @@ impl GameBoard {
         ensures allowed { IfOk result (Allowed (position_of self.now)) }
         ensures room { OnOk result (self.now.played < 1200) }
     {
-        if !self.is_turn_of(colour) {
+        if !self.is_to_move(colour) {
             return Err(Refusal::NotYourTurn);
         }
         if self.played == MOST_PLAYED {
@@ -315,7 +316,7 @@ impl GameBoard {
         ensures value { result ≡ running self.now colour moment }
         ensures most { result ≤ moment }
     {
-        if self.is_turn_of(colour) && self.has_moved(colour) {
+        if self.is_to_move(colour) && self.has_moved(colour) {
             moment - self.begin
         } else {
             0

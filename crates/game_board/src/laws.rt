@@ -7,7 +7,7 @@ ghost use Rattle.chess_model.specs.declared.moves.MoveWord.{MoveWord};
 ghost use Rattle.chess_model.specs.declared.variant.Terms.{Terms};
 ghost use Rattle.chess_model.specs.Placement.{opposite};
 ghost use Rattle.chess_model.specs.Answer.{IsAnswer};
-ghost use Rattle.game_board.specs.Board.{Board, new_board, to_move, turn_after, position_of};
+ghost use Rattle.game_board.specs.Board.{Board, new_board, to_move, mover_after, position_of};
 ghost use Rattle.game_board.specs.Charges.{charges_of};
 ghost use Rattle.game_board.specs.Play.{move_answer, play_after};
 ghost use Rattle.game_board.specs.Scoresheet.{IsTrueScore};
@@ -18,11 +18,11 @@ use chess_model::{Colour, MoveWord};
 use fics_words::Refusal;
 
 /// The charges of the colours follow the list of half-moves: there are none at the start, and a half-move adds its
-/// charge to the colour whose turn it was, and nothing to the other.
+/// charge to the colour who was to move, and nothing to the other.
 pub fn charges_follow_the_list(list: &[Played], next: &Played)
     ensures start { (c : Colour) → charges_of c [] ≡ [] }
-    ensures own { (c : Colour) → turn_after list.now ≡ c → charges_of c (list.now ++ next.now ∷ []) ≡ charges_of c list.now ++ option_to_list next.now.charge }
-    ensures other { (c : Colour) → turn_after list.now ≡ opposite c → charges_of c (list.now ++ next.now ∷ []) ≡ charges_of c list.now }
+    ensures own { (c : Colour) → mover_after list.now ≡ c → charges_of c (list.now ++ next.now ∷ []) ≡ charges_of c list.now ++ option_to_list next.now.charge }
+    ensures other { (c : Colour) → mover_after list.now ≡ opposite c → charges_of c (list.now ++ next.now ∷ []) ≡ charges_of c list.now }
 {}
 
 /// A board with room takes from the colour to move exactly the words that have an answer by the rules, and takes

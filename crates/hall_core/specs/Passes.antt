@@ -38,7 +38,7 @@ pass_state p = record {
 }
 
 -- what is known of the pass's session while it runs its acts. Others make acts beside it, and an act that needs no
--- memory of its own never meets want of it
+-- memory of its own never runs out of it
 abbrev pub runs_of : PassState → RunnerState
 runs_of pass = record {
   number = pass.number;

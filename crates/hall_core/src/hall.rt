@@ -48,7 +48,7 @@ impl Model for Hall {
 
 impl Hall {
     /// Opens a hall with this lobby, which has no member and no desk in use, and with vacant desks, and gives the first
-    /// pass. Answers `NoMemory` for want of memory alone. The memory that `close` needs is taken here.
+    /// pass. Answers `NoMemory` only when out of memory. The memory that `close` needs is taken here.
     pub fn open(alloc: Global, lobby: Lobby) -> Result<(Hall, HallPass), NoMemory>
         requires { IsOpening lobby }
         ensures { IfOk result (λ t. t.1 ≡ first_pass t.0 (opened lobby)) }
@@ -87,7 +87,7 @@ impl Hall {
 
     /// Makes an act of the pass's session at `moment`, in milliseconds, and waits for nobody. `Done` has the server's
     /// reply. `Busy` names a part of the act whose turn another pass had at a step of this call; the act comes back,
-    /// and isn't made. Want of memory gives no reply, and the act isn't made.
+    /// and isn't made. Running out of memory gives no reply, and the act isn't made.
     pub fn try_run(
         &self,
         alloc: Global,
@@ -108,7 +108,8 @@ impl Hall {
     }
 
     /// Makes an act of the pass's session at `moment`, in milliseconds, and waits for the turns of its parts. The gate
-    /// is told of each part once it is out. The reply is the server's; want of memory gives none, and the act isn't
+    /// is told of each part once it is out. The reply is the server's; running out of memory gives none, and the act
+    /// isn't
     /// made. It may wait for ever.
     pub fn run<G: Gate, R: Wait>(
         &self,

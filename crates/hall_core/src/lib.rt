@@ -6,7 +6,7 @@
 //!
 //! The contract: whatever the other threads do, each act is answered as the server of one thread answers it in one
 //! legal history of the whole hall. What a pass sees begins with what it had seen, is legal, and has as its own entries
-//! the acts that it made. An act that meets want of memory, or finds a part busy, makes no entry and changes nothing.
+//! the acts that it made. An act that runs out of memory, or finds a part busy, makes no entry and changes nothing.
 //! `close` gives the lobby and the desks of the state of the whole history.
 #![tactic(auto)]
 

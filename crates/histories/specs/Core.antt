@@ -59,7 +59,8 @@ module _ {P A R : Type 0} (c : Core P A R) where
   unfoldable pub after : List P → ℕ → A → List P
   after xs k a = put (put xs (Some (c.first a)) (new_first xs k a)) (second_of xs k a) (new_second xs k a)
 
--- The laws of a server. In a whole state an act that fits has parts that are there and differ, and it leaves a whole state
+-- The laws of a server. In a whole state an act that fits has parts that are there and differ, and it leaves a whole
+-- state
 pub record Lawful {P A R : Type 0} (c : Core P A R) : Type 0 where
   pub first_in : (xs : List P) (a : A) → c.whole xs → c.fits a → c.first a < length xs
   pub second_in : (xs : List P) (k : ℕ) (a : A) (p : P) (s : ℕ) → c.whole xs → c.fits a → slice_get xs (c.first a) ≡ Some p → c.second p k a ≡ Some s → (s < length xs) × (s ≢ c.first a)

@@ -5,7 +5,8 @@ ghost use Rattle.histories.specs.Laws.{KeepsLength, LeavesOthers, RepliesLocally
 
 use crate::served::Served;
 
-/// One act: it keeps the number of parts, leaves all parts that it doesn't touch, and depends on those that it touches alone.
+/// One act: it keeps the number of parts, leaves all parts that it doesn't touch, and depends on those that it touches
+/// alone.
 pub fn acts_locally<S: Served>()
     ensures keeps_length { KeepsLength S.core }
     ensures leaves_others { LeavesOthers S.core }

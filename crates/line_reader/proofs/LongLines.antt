@@ -1,4 +1,4 @@
--- The front of a text that is a line, and lines that are too long whatever follows.
+-- The prefix of a text that is a line, and lines that are too long whatever follows.
 use Rattle.std.proofs.Common.{◌≡◌, ℕ, ◌+◌, ◌-◌, ◌<◌, ◌≤◌, Bool, true, false, cond, List, [], ◌∷◌, ◌++◌, length, take, map, refl, sym, ap, ◌∙◌, arith, append_assoc, length-append, append-nil}
 use Rattle.std.specs.Prelude.{◌==◌, nat_lt, slice_index, Some}
 use Rattle.std.specs.List.{onto_first}

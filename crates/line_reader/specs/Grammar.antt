@@ -11,7 +11,8 @@ pub data Part : Type 0 where
   Inside : ℕ → Part
   Pair : ℕ → Part
 
--- a unit: a byte other than IAC; IAC and an order, or IAC again; IAC, a verb and an option; a block from IAC SB to IAC SE
+-- a unit: a byte other than IAC; IAC and an order, or IAC again; IAC, a verb and an option; a block from IAC SB to IAC
+-- SE
 pub data Sent : Type 0 where
   DataByte : ℕ → Sent
   Order : ℕ → Sent

@@ -19,7 +19,7 @@ use Rattle.linked_desk.specs.Seats.{pairs_of}
 use Rattle.linked_desk.specs.Sound.{Names, NamesWinner, IsSound, TellsWinners}
 use Rattle.linked_desk.specs.Views.{each_board, with_view}
 
--- an act keeps who plays, keeps the game sound, and tells ends with their winners; it may meet want of memory only where
+-- an act keeps who plays, keeps the game sound, and tells ends with their winners; it may run out of memory only where
 -- it says so
 pub record Keeps (g : GameState) (needs : Bool) (effect : Effect GameState DeskReply) : Type 0 where
   pub players : occupant effect.after ≡ occupant g

@@ -57,7 +57,7 @@ desk_answer d session moment serial a = answer_of (desk_effect d session moment 
 abbrev pub desk_after : DeskState → ℕ → ℕ → ℕ → DeskAct → DeskState
 desk_after d session moment serial a = state_of d (desk_effect d session moment serial a)
 
--- whether an act may meet want of memory: a move, whose board is told, and a visit, whose items are copied
+-- whether an act may run out of memory: a move, whose board is told, and a visit, whose items are copied
 abbrev pub needs_memory : DeskAct → Bool
 needs_memory (act.Move word) = true
 needs_memory act.Fetch = true

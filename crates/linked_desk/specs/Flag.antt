@@ -37,7 +37,8 @@ abbrev pub flagged_by : ℕ → GameState → ℕ → Option ℕ → GameState
 flagged_by desk g moment None = g
 flagged_by desk g moment (Some seat) = flagged desk g moment (board_of seat) (seat_flag g moment seat)
 
--- calls the opponent's flag: refused where the session has no seat, where the game has ended, and where no flag has fallen
+-- calls the opponent's flag: refused where the session has no seat, where the game has ended, and where no flag has
+-- fallen
 abbrev pub flag_effect : ℕ → GameState → ℕ → ℕ → Effect GameState DeskReply
 flag_effect desk g session moment = record {
   causes = no_seat_cause g session ∷ over_cause g ∷ refused_by (called_by g moment (seat_of g session));

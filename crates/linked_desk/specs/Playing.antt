@@ -33,7 +33,8 @@ abbrev pub moved_by : ℕ → GameState → ℕ → Option ℕ → MoveWord → 
 moved_by desk g moment None word = g
 moved_by desk g moment (Some seat) word = moved desk g moment (place_of seat) (seat_word g seat word)
 
--- plays a word at the session's board: refused where it has no seat, where the game has ended, and then as the board answers
+-- plays a word at the session's board: refused where it has no seat, where the game has ended, and then as the board
+-- answers
 abbrev pub move_effect : ℕ → GameState → ℕ → ℕ → MoveWord → Effect GameState DeskReply
 move_effect desk g session moment word = record {
   causes = no_seat_cause g session ∷ over_cause g ∷ refused_by (word_by g (seat_of g session) word);

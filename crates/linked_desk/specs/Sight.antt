@@ -1,4 +1,5 @@
--- Who sees which board, and how: style 12's 'my relation to this game', and whether Black is at the bottom (FICS help page
+-- Who sees which board, and how: style 12's 'my relation to this game', and whether Black is at the bottom (FICS help
+-- page
 -- `style12`). That a player sees the partner's board as an observer does is this server's profile.
 use Rattle.std.specs.Prelude.{◌≡◌, ℕ, ◌-◌, ◌%◌, ◌==◌, Bool, true, false, ℤ, pos, negsuc, if◌then◌else◌, [], ◌∷◌, Option, Some, None, refl}
 use Rattle.chess_model.specs.declared.man.Colour.{Colour}
@@ -20,7 +21,8 @@ playing own to_move = record { relation = relation_of (same_colour own to_move);
 abbrev pub observing : Viewer
 observing = record { relation = pos 0; flip = false }
 
--- how a viewer looks at the board of that number where that colour is to move: a player by its seat, an observer by none
+-- how a viewer looks at the board of that number where that colour is to move: a player by its seat, an observer by
+-- none
 abbrev pub sight : Option ℕ → ℕ → Colour → Viewer
 sight None board to_move = observing
 sight (Some seat) board to_move = if board_of seat == board then playing (colour_at seat) to_move else observing

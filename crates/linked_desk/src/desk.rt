@@ -52,9 +52,11 @@ impl Desk {
         Desk { number, game: None }
     }
 
-    /// Begins a game at the vacant desk, with its clocks at `moment`, in milliseconds. The players are its viewers from the
-    /// start of the feed. There is a second pair exactly for bughouse, and bughouse itself isn't played yet: the men that
-    /// one board captures don't come to the other. Want of memory leaves the desk vacant.
+    /// Begins a game at the vacant desk, with its clocks at `moment`, in milliseconds. The players are its viewers
+    /// from the
+    /// start of the feed. There is a second pair exactly for bughouse, and bughouse itself isn't played yet: the men
+    /// that
+    /// one board captures don't come to the other. Running out of memory leaves the desk vacant.
     pub fn start(
         &mut self,
         alloc: Global,
@@ -78,7 +80,7 @@ impl Desk {
     }
 
     /// Makes an act of a session at the game of that serial. The moment, in milliseconds, counts as no earlier than
-    /// that of the last act. A refusal and want of memory change nothing.
+    /// that of the last act. A refusal and running out of memory change nothing.
     pub fn act(
         &mut self,
         session: u32,

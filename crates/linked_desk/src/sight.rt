@@ -7,8 +7,10 @@ use crate::seats::{board_of, colour_at};
 use chess_model::Colour;
 use style12_writer::{BoardView, Viewer};
 
-/// How a board is seen: by the player of that seat, or by an observer, who has none. A player has relation 1 or -1 at the
-/// own board and sees it from the own side; at the partner's board, as an observer everywhere, the relation is 0 and White
+/// How a board is seen: by the player of that seat, or by an observer, who has none. A player has relation 1 or -1 at
+/// the
+/// own board and sees it from the own side; at the partner's board, as an observer everywhere, the relation is 0 and
+/// White
 /// is at the bottom.
 pub fn viewer_of(seat: Option<u8>, view: &BoardView) -> Viewer
     ensures { result ≡ sight seat (board_in view.now.game) view.now.face.to_move }
@@ -32,7 +34,7 @@ fn observing() -> Viewer
     }
 }
 
-/// How a player of a colour looks at the own board: 1 where it is its turn, -1 where it is the opponent's.
+/// How a player of a colour looks at the own board: 1 where it is to move, -1 where the opponent is.
 fn playing(own: Colour, to_move: Colour) -> Viewer
     ensures { result ≡ playing own to_move }
 {

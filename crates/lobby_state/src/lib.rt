@@ -1,7 +1,8 @@
 //! The lobby: who is in the hall, which challenges stand, and which desks are in use for which game.
 //!
 //! The contract: what an act does, by the lobby before, the session and the act, stands in one record of its own file
-//! in `specs/`: why it is refused, what it replies, and what stands afterwards. A refusal and want of memory leave the
+//! in `specs/`: why it is refused, what it replies, and what stands afterwards. A refusal and running out of memory
+//! leave the
 //! lobby as it was, and every lobby is well-formed. What needs a desk too is done in two steps: `plan` says by the
 //! lobby alone which desk and what is to be done there, and `commit`, which takes no memory, does the lobby's share.
 //!

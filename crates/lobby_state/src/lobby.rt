@@ -34,7 +34,7 @@ impl Model for Lobby {
 }
 
 impl Lobby {
-    /// A lobby at its opening: nobody is there, and each desk is free. It is not made for want of memory alone.
+    /// A lobby at its opening: nobody is there, and each desk is free. It fails only when out of memory.
     pub fn new(alloc: Global) -> Result<Lobby, NoMemory>
         ensures { IfOk result (λ lobby. lobby ≡ opening) }
     {
@@ -65,7 +65,8 @@ impl Lobby {
         self.register.game(desk)
     }
 
-    /// Carries out an act that needs the lobby alone. A refusal and want of memory leave everything as it was. No lobby
+    /// Carries out an act that needs the lobby alone. A refusal and running out of memory leave everything as it was.
+    /// No lobby
     /// act asks for the moment.
     pub fn act(&mut self, session: u32, _moment: u64, act: &LobbyAct) -> Result<LobbyReply, Fail>
         ensures { Takes (lobby_effect self.old session act.now) self.old self.new result }
@@ -73,7 +74,7 @@ impl Lobby {
         self.register.act(session, act)
     }
 
-    /// A copy of the lines that an act will answer, made before the act; it isn't made for want of memory alone.
+    /// A copy of the lines that an act will answer, made before the act; it fails only when out of memory.
     pub fn lines_ahead(&self, session: u32, act: &LobbyAct) -> Result<Listed<Line>, NoMemory>
         ensures lines { IfOk result (λ lines. lines ≡ lines_told (lobby_effect self.now session act.now).reply) }
         ensures sure { LobbyNeedsNoMemory act.now → IsOk result }

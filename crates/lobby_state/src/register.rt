@@ -43,7 +43,7 @@ impl Model for Register {
 }
 
 impl Register {
-    /// Nobody is there, and each desk is free. It is not made for want of memory alone.
+    /// Nobody is there, and each desk is free. It fails only when out of memory.
     pub(crate) fn new(alloc: Global) -> Result<Register, NoMemory>
         ensures { IfOk result (λ register. register ≡ opening) }
     {
@@ -76,7 +76,7 @@ impl Register {
         }
     }
 
-    /// A copy of the lines that wait for the session; it isn't made for want of memory alone.
+    /// A copy of the lines that wait for the session; it fails only when out of memory.
     pub(crate) fn waiting_copy(&self, session: u32) -> Result<Listed<Line>, NoMemory>
         ensures { IfOk result (λ lines. lines ≡ waiting_of self.now session) }
     {

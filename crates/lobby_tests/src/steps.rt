@@ -32,7 +32,7 @@ pub const PAIRS: Terms = Terms {
 /// The number that stands for no refusal.
 pub const DONE: u8 = 0;
 
-/// The number that stands for want of memory, or for an answer of another kind than the step has.
+/// The number that stands when out of memory, or for an answer of another kind than the step has.
 const STRANGE: u8 = 255;
 
 /// A step: the session that makes it, what it does, and what it has to answer; a number is that of the refusal.

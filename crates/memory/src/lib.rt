@@ -1,4 +1,4 @@
-//! Want of memory as an answer, and exact copies.
+//! Running out of memory as an answer, and exact copies.
 //!
 //! The contract: `duplicate` gives a value equal to the one that it copies, or `NoMemory` and nothing else.
 #![tactic(auto)]
@@ -27,7 +27,7 @@ impl<T: Drop> From<AllocFailed<T>> for NoMemory {
 
 /// A type whose values can be copied exactly, where there is memory for the copy.
 pub trait Duplicate: Sized {
-    /// Gives a value equal to this one; answers `NoMemory` for want of memory alone.
+    /// Gives a value equal to this one; answers `NoMemory` only when out of memory.
     fn duplicate(&self) -> Result<Self, NoMemory>
         ensures { IfOk result (λ copy. copy ≡ self.now) };
 }

@@ -1,4 +1,4 @@
--- The readers of a word's parts: what they take stands at the front of the text.
+-- The readers of a word's parts: what they take stands at the prefix of the text.
 use Rattle.std.proofs.Common.{◌≡◌, ℕ, ◌+◌, ◌*◌, Bool, true, false, cond, List, [], ◌∷◌, refl, sym, ap, subst, Some, None, inl, inr}
 use Rattle.std.specs.Prelude.{◌⊎◌, ◌==◌, ◌||◌, Option}
 use Rattle.std.proofs.lemmas.Bool.{eqb-true}

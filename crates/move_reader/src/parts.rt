@@ -1,4 +1,4 @@
-//! The parts of a move word, read from its front.
+//! The parts of a move word, read from its prefix.
 
 ghost use Rattle.std.specs.Prelude.{◌≡◌, ◌<◌, ◌↔◌, IfSome, IsTrue, option_map};
 ghost use Rattle.move_reader.specs.Ends.{is_end};

@@ -14,7 +14,7 @@ abbrev pub Log : Type 0
 Log = List (Entry Timed Reply)
 
 -- what is known of a session while it runs its acts: its number; the opening state of the server; the mark, which says
--- that acts that need no memory of their own never meet want of it; whether the session is by itself, so that nobody
+-- that acts that need no memory of their own never run out of it; whether the session is by itself, so that nobody
 -- else makes acts while it runs its own; the history that it has seen, and its own entries there
 pub record RunnerState : Type 0 where
   pub number : ℕ
@@ -46,7 +46,7 @@ pub record Ran (old : RunnerState) (act : Timed) (reply : Reply) (new : RunnerSt
   pub ends : new.seen ≡ (old.seen ++ others) ++ entry old.number act reply ∷ []
   pub fits : IsReply reply
 
--- a session runs an act: it is answered, or it meets want of memory and makes no entry
+-- a session runs an act: it is answered, or it runs out of memory and makes no entry
 abbrev pub Runs : RunnerState → Timed → Result Reply NoMemory → RunnerState → Type 0
 Runs old act (Ok reply) new = Ran old act reply new
 Runs old act (Err e) new = Made old [] new

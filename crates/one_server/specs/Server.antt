@@ -28,7 +28,7 @@ pub record IsServed (opening : List Part) (log : List (Entry Timed Reply)) (lobb
   pub state : state house opening log ≡ parts_of lobby desks
 
 -- what is known of a session that was lent this server: it is by itself, it has seen the whole history, and it may meet
--- want of memory in any act, since each act is kept
+-- running out of memory in any act, since each act is kept
 abbrev pub seat_state : ℕ → ServerState → RunnerState
 seat_state session server = record {
   number = session;

@@ -21,7 +21,7 @@ use lobby_state::{Lobby, PairAct, Plan};
 use memory::NoMemory;
 use std::alloc::Global;
 
-/// Makes an act on the parts that it needs. Want of memory changes nothing.
+/// Makes an act on the parts that it needs. Running out of memory changes nothing.
 pub(crate) fn act_step(
     alloc: Global,
     lobby: &mut Lobby,

@@ -1,4 +1,4 @@
-//! Copies of what an act will answer, made before the act, so that want of memory for them changes nothing.
+//! Copies of what an act will answer, made before the act, so that running out of memory for them changes nothing.
 ghost use Rattle.std.specs.Prelude.{◌≡◌, IfOk, length};
 ghost use Rattle.lobby_state.specs.Desks.{desks as desk_count};
 ghost use Rattle.one_server.specs.Acts.{FitsAct};

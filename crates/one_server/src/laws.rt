@@ -40,7 +40,8 @@ pub fn every_board_keeps_a_true_score()
     ensures { HoldsInEachState KeepsTrueScores }
 {}
 
-/// In every state each end that the viewers of a desk are told names a winner exactly where somebody won, so its line can
+/// In every state each end that the viewers of a desk are told names a winner exactly where somebody won, so its line
+/// can
 /// be written.
 pub fn every_end_names_its_winner()
     ensures { HoldsInEachState NamesItsWinners }

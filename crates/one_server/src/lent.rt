@@ -38,7 +38,8 @@ pub fn second_part(lobby: &Lobby, session: u32, act: &Act) -> Option<u8>
     }
 }
 
-/// Makes an act that has one part on that part. Want of memory changes nothing, and an act that needs no memory of its
+/// Makes an act that has one part on that part. Running out of memory changes nothing, and an act that needs no memory
+/// of its
 /// own doesn't meet it.
 pub fn alone(one: &mut Part, session: u32, timed: &Timed) -> Result<Reply, NoMemory>
     requires event { IsEvent timed.now }
@@ -66,7 +67,7 @@ pub fn alone(one: &mut Part, session: u32, timed: &Timed) -> Result<Reply, NoMem
     }
 }
 
-/// Makes an act that has two parts on the lobby and the desk of its plan. Want of memory changes nothing.
+/// Makes an act that has two parts on the lobby and the desk of its plan. Running out of memory changes nothing.
 pub fn together(
     alloc: Global,
     one: &mut Part,

@@ -14,7 +14,8 @@ use lobby_state::{Lobby, LobbyAct, Plan};
 use memory::NoMemory;
 use std::alloc::Global;
 
-/// Makes an act that needs the lobby alone. Want of memory changes nothing, and acts that need none don't meet it.
+/// Makes an act that needs the lobby alone. Running out of memory changes nothing, and acts that need none don't meet
+/// it.
 pub fn lobby_step(
     lobby: &mut Lobby,
     session: u32,
@@ -33,7 +34,8 @@ pub fn lobby_step(
     }
 }
 
-/// Makes an act at the game of that serial that needs its desk alone. Want of memory, which only acts that tell boards or
+/// Makes an act at the game of that serial that needs its desk alone. Running out of memory, which only acts that tell
+/// boards or
 /// items can meet, changes nothing.
 pub fn desk_step(
     desk: &mut Desk,

@@ -3,10 +3,13 @@
 //! A script may begin with a seat line, which says who plays what at the start. Each other line says what comes from
 //! one session at one moment.
 //!
-//! - The contract of the readers: `read_script` and `read_seat` give a value exactly where the line is the one text of a
+//! - The contract of the readers: `read_script` and `read_seat` give a value exactly where the line is the one text of
+//! a
 //!   value in range, so no line has two readings (`one_reading`).
-//! - The rule on the order of the lines stands in `specs/Order.antt`: a session connects once, before all else that comes
-//!   from it, nothing comes from it once it has left, and moments never fall. `Attendance` is told one line after another,
+//! - The rule on the order of the lines stands in `specs/Order.antt`: a session connects once, before all else that
+//! comes
+//!   from it, nothing comes from it once it has left, and moments never fall. `Attendance` is told one line after
+//! another,
 //!   and says of the next whether it may come.
 #![tactic(auto)]
 

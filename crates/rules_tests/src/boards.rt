@@ -60,7 +60,8 @@ fn remaining(board: &GameBoard, colour: Colour) -> i64 {
     board.ledger(colour).remaining()
 }
 
-/// 120,000 at the start, 4 s of thought and 12 s of increment leave 128,000; the first half-moves cost and earn nothing.
+/// 120,000 at the start, 4 s of thought and 12 s of increment leave 128,000; the first half-moves cost and earn
+/// nothing.
 #[test]
 fn thought_and_increment(rt: HostRuntime) -> Result<(), Fail> {
     let mut board = GameBoard::start(rt.alloc(), 1, chess(2, 12), 0)?;

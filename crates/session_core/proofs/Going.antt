@@ -135,7 +135,7 @@ module _ (moment : ℕ) where
   went_on act rest reply coming old out new out' ran s =
       went_then (Asks act rest) (rest reply) coming old new new out out out' (went_ask act rest reply old out new ran) (went_settled (rest reply) coming new out out' ran.grew.known s)
 
-  -- an act was made, and what follows its reply was written or met want of memory
+  -- an act was made, and what follows its reply was written or ran out of memory
   pub went_asked : {T : Type 0} (act : Act) (rest : Reply → Course) (reply : Reply) (result : Result T NoMemory) (coming : T → Course) (old : RunnerState) (out : List ℕ) (new : RunnerState) (out' : List ℕ)
       → Ran old (timed moment act) reply new → IfOk result (λ next. Settles (rest reply) (coming next) out out') → IfOk result (λ next. Went (Asks act rest) (coming next) moment old out new out')
   went_asked act rest reply (Ok next) coming old out new out' ran s = went_on act rest reply (coming next) old out new out' ran s
@@ -179,7 +179,7 @@ module _ (moment : ℕ) where
   went_both one two both course coming asks next old mid new is p same q =
       subst (λ (r : Result (Unit {0}) NoMemory). OnOk r (Went course next moment old [] new [])) (sym is) (went_both_and one two course coming asks next old mid new p same q)
 
-  -- want of memory behind what was done
+  -- running out of memory behind what was done
   pub stopped_there : (course rest : Course) (old : RunnerState) (out : List ℕ) (new : RunnerState) (out' : List ℕ) → Went course rest moment old out new out' → Stopped course moment old new
   stopped_there course rest old out new out' w = record {
     entries = w.entries;
@@ -192,11 +192,11 @@ module _ (moment : ℕ) where
   stopped_asked act rest reply (Ok next) old new ran = tt
   stopped_asked act rest reply (Err e) old new ran = stopped_there (Asks act rest) (rest reply) old [] new [] (went_ask act rest reply old [] new ran)
 
-  -- want of memory of the next act
+  -- running out of memory of the next act
   pub stopped_unmade : (course : Course) (old new : RunnerState) → Made old [] new → Stopped course moment old new
   stopped_unmade course old new m = record { entries = []; grew = m; begins = begins_none course old.number moment }
 
-  -- want of memory in what follows
+  -- running out of memory in what follows
   pub stopped_next : (one two : Course) (old mid new : RunnerState) (out out' : List ℕ) → Went one two moment old out mid out' → Stopped two moment mid new → Stopped one moment old new
   stopped_next one two old mid new out out' before there = record {
     entries = before.entries ++ there.entries;
@@ -204,14 +204,14 @@ module _ (moment : ℕ) where
     begins = before.leads.part there.entries (subst (λ (n : ℕ). Begins two n moment there.entries) (same_number old mid before.entries before.grew) there.begins);
   }
 
-  -- want of memory of an act behind what was done
+  -- running out of memory of an act behind what was done
   pub stopped_after : {T : Type 0} (result : Result T NoMemory) (one coming two : Course) (old mid new : RunnerState) (out out' : List ℕ) → Went one coming moment old out mid out' → coming ≡ two
       → Stopped two moment mid new → OnErr result (Stopped one moment old new)
   stopped_after (Ok x) one coming two old mid new out out' p is q = tt
   stopped_after (Err e) one coming two old mid new out out' p is q =
       stopped_next one two old mid new out out' (subst (λ (c : Course). Went one c moment old out mid out') is p) q
 
-  -- want of memory behind the whole course
+  -- running out of memory behind the whole course
   pub stopped_answered : {T : Type 0} (result : Result T NoMemory) (one course : Course) (answer : List ℕ → List ℕ) (memory : MemoryState) (old new : RunnerState) (out out' : List ℕ)
       → Answered course answer moment old out new out' memory → one ≡ course → OnErr result (Stopped one moment old new)
   stopped_answered (Ok x) one course answer memory old new out out' p is = tt

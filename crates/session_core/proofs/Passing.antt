@@ -1,4 +1,4 @@
--- Going on in a course past acts that met want of memory.
+-- Going on in a course past acts that ran out of memory.
 use Rattle.std.proofs.Common.{◌≡◌, ℕ, Bool, [], ◌∷◌, ◌++◌, refl, sym, ap, subst, ◌∙◌, append_assoc, append-nil, inl, inr, Ok, Err, Result}
 use Rattle.std.specs.Result.{OnErr}
 use Rattle.memory.specs.declared.NoMemory.{NoMemory}
@@ -21,7 +21,7 @@ module _ (moment : ℕ) where
   passed_made act rest reply old new ran =
       record { entries = entry old.number (timed moment act) reply ∷ []; grew = ran.grew; passes = λ more p. inl (reply, more, refl, p) }
 
-  -- an act met want of memory
+  -- an act ran out of memory
   pub passed_over : (act : Act) (rest : Reply → Course) (old new : RunnerState) → MayPass old.mark act → Made old [] new → Passed (Asks act rest) (rest nothing_told) moment old new
   passed_over act rest old new may m = record { entries = []; grew = m; passes = λ more p. inr (may, p) }
 

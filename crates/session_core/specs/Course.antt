@@ -66,11 +66,11 @@ Begins (Asks act rest) session moment (e ∷ made) = (e ≡ entry session (timed
 abbrev pub nothing_told : Reply
 nothing_told = reply.Lobby lobby_reply.Done
 
--- an act may be passed over: it met want of memory, which under the mark no act does that needs none of its own
+-- an act may be passed over: it ran out of memory, which under the mark no act does that needs none of its own
 abbrev pub MayPass : Bool → Act → Type 0
 MayPass mark act = mark ≡ true → NeedsNoMemory act → ⊥
 
--- the session went by the course to its end with these entries, and passed over acts that met want of memory
+-- the session went by the course to its end with these entries, and passed over acts that ran out of memory
 abbrev pub Passes : Bool → Course → ℕ → ℕ → Log → Type 0
 Passes mark (Done memory) session moment made = made ≡ []
 Passes mark (Writes put rest) session moment made = Passes mark rest session moment made

@@ -29,20 +29,20 @@ pub record Answered (course : Course) (answer : List ℕ → List ℕ) (moment :
   pub follows : Follows course old.number moment entries text memory
   pub appended : out_now ≡ out ++ answer text
 
--- the session met want of memory on its way: it made the first acts of its course, and no others
+-- the session ran out of memory on its way: it made the first acts of its course, and no others
 pub record Stopped (course : Course) (moment : ℕ) (old new : RunnerState) : Type 0 where
   pub entries : Log
   pub grew : Made old entries new
   pub begins : Begins course old.number moment entries
 
--- the session went on in its course, and passed over what met want of memory
+-- the session went on in its course, and passed over what ran out of memory
 pub record Passed (course rest : Course) (moment : ℕ) (old new : RunnerState) : Type 0 where
   pub entries : Log
   pub grew : Made old entries new
   pub passes : (more : Log) → Passes old.mark rest old.number moment more
       → Passes old.mark course old.number moment (entries ++ more)
 
--- the session left, and passed over what met want of memory
+-- the session left, and passed over what ran out of memory
 pub record LeftInPart (course : Course) (moment : ℕ) (old new : RunnerState) : Type 0 where
   pub entries : Log
   pub grew : Made old entries new

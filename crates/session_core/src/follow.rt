@@ -13,7 +13,7 @@ use one_server::{Act, Runner};
 use std::alloc::Global;
 
 /// Makes the acts of a course, all at `moment`, in milliseconds and at most 2^48, and appends what it writes. After
-/// want of memory the acts that were answered stay made: they are the first ones of the course.
+/// running out of memory the acts that were answered stay made: they are the first ones of the course.
 pub(crate) fn follow<R: Runner>(
     alloc: Global,
     r: &mut R,

@@ -20,7 +20,7 @@ fn a_session_that_leaves_gives_its_place_up(rt: HostRuntime) -> Result<(), Fail>
     Ok(())
 }
 
-/// Ben's places are those that a round told him, where the act that asks for them meets want of memory.
+/// Ben's places are those that a round told him, where the act that asks for them runs out of memory.
 #[test]
 fn a_session_without_memory_for_going_gives_its_place_up(rt: HostRuntime) -> Result<(), Fail> {
     let mut server = server(rt.alloc())?;
@@ -38,7 +38,7 @@ fn a_session_without_memory_for_going_gives_its_place_up(rt: HostRuntime) -> Res
     Ok(())
 }
 
-/// Each act of leaving may meet want of memory, and the others are made.
+/// Each act of leaving may run out of memory, and the others are made.
 #[test]
 fn a_session_passes_over_one_act_of_leaving(rt: HostRuntime) -> Result<(), Fail> {
     let all = [

@@ -4,17 +4,17 @@ use fics_words::NoMemory;
 use one_server::{Act, OneServer, Reply, Runner};
 use std::alloc::Global;
 
-/// A session's seat at which one act meets want of memory.
+/// A session's seat at which one act runs out of memory.
 #[derive(Drop)]
 pub struct ShortSeat<'a> {
     server: &'a mut OneServer,
     session: u32,
-    /// How many acts come before the one that meets want of memory.
+    /// How many acts come before the one that runs out of memory.
     before: u32,
 }
 
 impl<'a> ShortSeat<'a> {
-    /// A seat at which the act behind `before` others meets want of memory.
+    /// A seat at which the act behind `before` others runs out of memory.
     pub fn new(server: &'a mut OneServer, session: u32, before: u32) -> ShortSeat<'a> {
         ShortSeat {
             server,

@@ -1,4 +1,5 @@
--- How a message is spelled as a line (after the stamped lines of the openseal client; the numbers are the server's own).
+-- How a message is spelled as a line (after the stamped lines of the openseal client; the numbers are the server's
+-- own).
 use Rattle.std.specs.Prelude.{◌≡◌, true, ℕ, ◌+◌, ◌-◌, ◌%◌, List, [], ◌∷◌, ◌++◌, length, replicate, decimal, slice_index, codes, bit_or, bit_xor}
 use Rattle.stamp_codec.specs.Message.{Message, text_of, stamp_of, is_message}
 

@@ -1,7 +1,7 @@
 //! The lines that show a game to a player's client: the board line of FICS style 12 and the line of a game's end.
 //!
 //! The contract: `line12` writes exactly the 31 fields that `specs/Line12.antt` names, between single blanks, and
-//! `end_line` the text of `specs/EndLine.antt`, for every view. Both answer `NoMemory` for want of memory alone.
+//! `end_line` the text of `specs/EndLine.antt`, for every view. Both answer `NoMemory` only when out of memory.
 #![tactic(auto)]
 
 mod board;

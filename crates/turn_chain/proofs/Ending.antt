@@ -91,7 +91,7 @@ module _ {P A R : Type 0} (c : Core P A R) (v : View P A R) (a : A) where
     pub none_left : (x y : P) (held : List (ℕ × P)) → held ≡ (s, x) ∷ (k, y) ∷ [] → let_go s (let_go k held) ≡ []
     none_left x y held e = ap (let_go s) (second_left_in x y held e) ∙ dropped s (s, x) [] refl
 
-    -- after want of memory
+    -- after running out of memory
     pub named_again : (u : View P A R) → u ≡ given v k → (z : P) → z ≡ q → In (s, z) u.held
     named_again u e z is =
         subst (In (s, z)) (sym (ap (λ (x : View P A R). x.held) e ∙ second_left_in q p v.held ready.out)) (inl (λ i. (s, is i)))

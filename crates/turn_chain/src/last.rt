@@ -17,7 +17,7 @@ pub struct Lent<P> {
     pub value: P,
 }
 
-/// Makes an act that has one part, which is out. After want of memory the part goes back as it was.
+/// Makes an act that has one part, which is out. After running out of memory the part goes back as it was.
 pub fn alone<S: Steps>(
     alloc: Global,
     table: &Turns<S>,
@@ -52,7 +52,7 @@ pub fn alone<S: Steps>(
     }
 }
 
-/// Makes an act that has two parts, which are out. After want of memory both go back as they were.
+/// Makes an act that has two parts, which are out. After running out of memory both go back as they were.
 pub fn together<S: Steps>(
     alloc: Global,
     table: &Turns<S>,

@@ -9,7 +9,7 @@ pub trait Steps: Served {
     ghost use Rattle.std.specs.Prelude.{◌≡◌, None, Some, IfOk, IsOk, OnOk, OnErr};
     ghost use Rattle.turn_chain.specs.Lent.{IsFirst, AreBoth};
 
-    /// The acts that never meet want of memory.
+    /// The acts that never run out of memory.
     ghost sure: { Self.Act → Type 0 };
 
     /// The number of an act's first part.
@@ -23,7 +23,7 @@ pub trait Steps: Served {
         requires first { IsFirst Self.core act.now one.now }
         ensures { result ≡ Self.core.second one.now session act.now };
 
-    /// Makes an act that has one part on that part. Want of memory changes nothing.
+    /// Makes an act that has one part on that part. Running out of memory changes nothing.
     fn alone(
         alloc: Global,
         one: &mut Self::Part,
@@ -38,7 +38,7 @@ pub trait Steps: Served {
         ensures err { OnErr result (one.new ≡ one.old) }
         ensures sure { sure act.now → IsOk result };
 
-    /// Makes an act that has two parts on both. Want of memory changes nothing.
+    /// Makes an act that has two parts on both. Running out of memory changes nothing.
     fn together(
         alloc: Global,
         one: &mut Self::Part,

@@ -74,7 +74,8 @@ module _ {P A R : Type 0} where
   AllJoined v = (m : ℕ) → 0 < m → m ≤ v.splits → In m (map joined_number v.joined)
 
 module _ {P A R : Type 0} (c : Core P A R) where
-  -- a commit makes one entry, the last of the history that is seen then: the act with the step's reply. Each part that is held has the step's value
+  -- a commit makes one entry, the last of the history that is seen then: the act with the step's reply. Each part that
+  -- is held has the step's value
   pub record Committed (v : View P A R) (a : A) (p : P) (o : Option P) (w : View P A R) : Type 0 where
     pub view : w ≡ done c v a p o w.seen
     pub between : List (Entry A R)

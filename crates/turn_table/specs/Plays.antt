@@ -1,4 +1,5 @@
--- What each kind of step tells the pass that made it: of the step, of the pass before, of the number that was found, and of the pass after.
+-- What each kind of step tells the pass that made it: of the step, of the pass before, of the number that was found,
+-- and of the pass after.
 use Rattle.std.specs.Prelude.{◌≡◌, ℕ, ◌==◌, ◌<◌, ◌≤◌, List, [], ◌∷◌, ◌++◌, length, slice_get, MatchOption}
 use Rattle.std.specs.Bool.{MatchBool}
 use Rattle.std.specs.declared.option.Option.{Option}

@@ -13,7 +13,8 @@ use Rattle.turn_table.specs.declared.view.Joined.{Joined}
 use Rattle.turn_table.specs.declared.view.View.{View}
 use Rattle.turn_table.specs.Views.{In, Distinct, Holds, numbers_of}
 
--- What the rule names: the one history, which view holds the turn of a part, which view has a number (its own, or that of a pass that was joined into it), and how many numbers were drawn
+-- What the rule names: the one history, which view holds the turn of a part, which view has a number (its own, or that
+-- of a pass that was joined into it), and how many numbers were drawn
 pub record Names (A R : Type 0) : Type 0 where
   pub log : List (Entry A R)
   pub holder : ℕ → Option ℕ
@@ -49,9 +50,11 @@ module _ {P A R : Type 0} (c : Core P A R) (opening : List P) where
     -- an act has two parts at the most, and each is there
     pub few : length v.may ≤ 2
     pub there : (k : ℕ) → In k v.may → k < length opening
-    -- while an act isn't committed and its first part may be taken and isn't held, this is the only part that may be taken
+    -- while an act isn't committed and its first part may be taken and isn't held, this is the only part that may be
+    -- taken
     pub first_alone : (a : A) → v.flight ≡ Some a → v.committed ≡ false → In (c.first a) v.may → (Holds v (c.first a) → ⊥) → v.may ≡ c.first a ∷ []
-    -- while an act isn't committed and its first part is held, the parts that may be taken are among this part and the second that its value gives
+    -- while an act isn't committed and its first part is held, the parts that may be taken are among this part and the
+    -- second that its value gives
     pub only_parts : (a : A) (p : P) → v.flight ≡ Some a → v.committed ≡ false → In (c.first a, p) v.held → (k : ℕ) → In k v.may → (k ≡ c.first a) ⊎ (c.second p v.number a ≡ Some k)
     -- once an act is committed, each part that may be taken is held
     pub all_held : v.committed ≡ true → (k : ℕ) → In k v.may → Holds v k

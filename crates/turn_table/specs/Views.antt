@@ -53,7 +53,8 @@ module _ {P A R : Type 0} where
   numbers_of v = v.number ∷ map joined_number v.joined
 
   -- the history so far was seen. It begins with all that the pass had seen, it is legal, its state is whole, the pass's
-  -- entries in it are its calls, and those of a pass that was joined into it are that one's calls. Where the pass is the
+  -- entries in it are its calls, and those of a pass that was joined into it are that one's calls. Where the pass is
+  -- the
   -- first one, no number that it hasn't split has an entry
   pub record Looks (c : Core P A R) (v : View P A R) (seen : List (Entry A R)) : Type 0 where
     pub on : IsPrefix v.seen seen
@@ -95,7 +96,8 @@ module _ {P A R : Type 0} where
   abbrev pub tried : View P A R → ℕ → View P A R
   tried v k = record v { busy = v.busy ++ k ∷ [] }
 
-  -- the act in flight is a, it isn't committed, and all its parts are out: its first part with the value p, and its second with the value o, if it has one
+  -- the act in flight is a, it isn't committed, and all its parts are out: its first part with the value p, and its
+  -- second with the value o, if it has one
   pub record AllOut (c : Core P A R) (v : View P A R) (a : A) (p : P) (o : Option P) : Type 0 where
     pub flies : v.flight ≡ Some a
     pub pending : v.committed ≡ false
@@ -114,7 +116,8 @@ module _ {P A R : Type 0} where
   abbrev pub entry_by : Core P A R → View P A R → A → P → Option P → Entry A R
   entry_by c v a p o = entry v.number a (c.answer p o v.number a)
 
-  -- the act is committed: it is the last entry of what was seen and of the calls, and each part has the value that the act leaves
+  -- the act is committed: it is the last entry of what was seen and of the calls, and each part has the value that the
+  -- act leaves
   abbrev pub done : Core P A R → View P A R → A → P → Option P → List (Entry A R) → View P A R
   done c v a p o seen = record v { seen = seen; made = v.made ++ entry_by c v a p o ∷ []; committed = true; held = map (left_by c v.number a p o) v.held }
 

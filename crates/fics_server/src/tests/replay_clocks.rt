@@ -187,7 +187,8 @@ seat Ann Ben 0 0 chess
   2|fics%\x20\
 ";
 
-/// Clocks without minutes start at ten seconds. A millisecond that is left shows as 0, and the flag is up; at 0 it falls.
+/// Clocks without minutes start at ten seconds. A millisecond that is left shows as 0, and the flag is up; at 0 it
+/// falls.
 const NO_MINUTES: &str = "\
 seat Ann Ben 0 3 chess
 1000 1 > e2e4

@@ -260,7 +260,8 @@ fn tells_a_fault_of_reading_a_script(rt: HostRuntime) -> Result<(), Fail> {
     Ok(())
 }
 
-/// The seat line has 24 bytes and writes nothing; the four lines after it have 14 bytes or more, and each makes a write.
+/// The seat line has 24 bytes and writes nothing; the four lines after it have 14 bytes or more, and each makes a
+/// write.
 #[test]
 fn tells_a_fault_of_writing_a_transcript(rt: HostRuntime) -> Result<(), Fail> {
     let script = script_of(rt.alloc(), RESIGNED)?;

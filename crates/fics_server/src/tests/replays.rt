@@ -102,7 +102,8 @@ seat Zoe Maximilian 10 5 chess
   1|fics%\x20\
 ";
 
-/// Nothing comes from Black, so nothing is written for Black. Empty lines stand between; the names have the most and the
+/// Nothing comes from Black, so nothing is written for Black. Empty lines stand between; the names have the most and
+/// the
 /// fewest letters.
 const UNSEEN: &str = "\
 seat abcdefghijklmnopq XYZ 3 0 chess

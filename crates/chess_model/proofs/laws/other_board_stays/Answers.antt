@@ -1,4 +1,4 @@
-use Rattle.chess_model.proofs.Turns.{other_board_stays}
+use Rattle.chess_model.proofs.Movers.{other_board_stays}
 use Rattle.chess_model.proofs.laws.other_board_stays.Goals as goal
 
 pub returns : goal.returns

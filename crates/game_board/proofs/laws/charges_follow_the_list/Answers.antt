@@ -8,16 +8,16 @@ use Rattle.game_board.proofs.Sides.{charge_to-own, charge_to-other}
 use Rattle.game_board.proofs.laws.charges_follow_the_list.Goals as goal
 
 pub returns-clause-own : goal.returns-clause-own
-returns-clause-own c = λ side turn.
+returns-clause-own c = λ side is_mover.
     let charge = c.args.next.now.charge in
     charges_from-append side White c.args.list.now c.args.next.now
-    ∙ ap (λ (d : Colour). charges_of side c.args.list.now ++ charge_to side d charge) turn
+    ∙ ap (λ (d : Colour). charges_of side c.args.list.now ++ charge_to side d charge) is_mover
     ∙ ap (λ cs. charges_of side c.args.list.now ++ cs) (charge_to-own side charge)
 
 pub returns-clause-other : goal.returns-clause-other
-returns-clause-other c = λ side turn.
+returns-clause-other c = λ side is_mover.
     let charge = c.args.next.now.charge in
     charges_from-append side White c.args.list.now c.args.next.now
-    ∙ ap (λ (d : Colour). charges_of side c.args.list.now ++ charge_to side d charge) turn
+    ∙ ap (λ (d : Colour). charges_of side c.args.list.now ++ charge_to side d charge) is_mover
     ∙ ap (λ cs. charges_of side c.args.list.now ++ cs) (charge_to-other side charge)
     ∙ append-nil (charges_of side c.args.list.now)

@@ -8,15 +8,15 @@ use Rattle.game_board.specs.Causes.{in_words}
 use Rattle.game_board.specs.Play.{move_answer}
 use Rattle.chess_model.specs.WordAnswer.{IsWordAnswer, word_answer}
 use Rattle.chess_model.proofs.WordsDecide.{word_answer-holds, word_answer-is}
-use Rattle.game_board.proofs.Sides.{move_refused-none, move_refused-turn, move_refused-full, in_words-ok}
+use Rattle.game_board.proofs.Sides.{move_refused-none, move_refused-mover, move_refused-full, in_words-ok}
 use Rattle.game_board.proofs.laws.play_takes_exactly_the_answers.Goals as goal
 
 pub returns-clause-own : goal.returns-clause-own
 unfolding move_answer
-returns-clause-own c = λ turn room m.
+returns-clause-own c = λ is_mover room m.
     let p = position_of c.args.board.now in
     let w = c.args.word.now in
-    let unrefused = ap (λ (o : Option Refusal). option_map_or Err o (in_words (word_answer p w))) (move_refused-none c.args.board.now c.args.colour turn room) in (
+    let unrefused = ap (λ (o : Option Refusal). option_map_or Err o (in_words (word_answer p w))) (move_refused-none c.args.board.now c.args.colour is_mover room) in (
       λ e. subst (λ (r : Result Move Rejection). IsWordAnswer p w r) (in_words-ok (word_answer p w) m (sym unrefused ∙ e)) (word_answer-holds p w),
       λ a. unrefused ∙ ap in_words (sym (word_answer-is p w (Ok m) a)),
     )
@@ -25,10 +25,10 @@ pub returns-clause-other : goal.returns-clause-other
 unfolding move_answer
 returns-clause-other c = λ other.
     ap (λ (o : Option Refusal). option_map_or Err o (in_words (word_answer (position_of c.args.board.now) c.args.word.now)))
-    (move_refused-turn c.args.board.now c.args.colour other)
+    (move_refused-mover c.args.board.now c.args.colour other)
 
 pub returns-clause-full : goal.returns-clause-full
 unfolding move_answer
-returns-clause-full c = λ turn full.
+returns-clause-full c = λ is_mover full.
     ap (λ (o : Option Refusal). option_map_or Err o (in_words (word_answer (position_of c.args.board.now) c.args.word.now)))
-    (move_refused-full c.args.board.now c.args.colour turn full)
+    (move_refused-full c.args.board.now c.args.colour is_mover full)

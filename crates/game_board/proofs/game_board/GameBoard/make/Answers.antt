@@ -8,7 +8,7 @@ use Rattle.clock_ledger.specs.Charges.{IsChargeable}
 use Rattle.clock_ledger.specs.Clock.{Ledger}
 use Rattle.move_writer.specs.Face.{plain_shown_of}
 use Rattle.game_board.specs.declared.played.Played.{Played}
-use Rattle.game_board.specs.Board.{Board, half_moves, turn_after, position_of}
+use Rattle.game_board.specs.Board.{Board, half_moves, mover_after, position_of}
 use Rattle.game_board.specs.BoardFace.{last_shown}
 use Rattle.game_board.specs.Charges.{clock_of}
 use Rattle.game_board.proofs.Charged.{has_room}
@@ -16,25 +16,25 @@ use Rattle.game_board.proofs.Grown.{clock_of-append}
 use Rattle.game_board.proofs.LastPlayed.{All-one, last_shown-append, IsChargeable-next}
 use Rattle.game_board.proofs.game_board.GameBoard.make.Goals as goal
 
--- a colour's clock has room where it is that colour's turn
+-- a colour's clock has room where that colour is to move
 pub charge_clocks-requires-clause-white_room : goal.charge_clocks-requires-clause-white_room
 charge_clocks-requires-clause-white_room c = λ white.
-    let turn = ap (λ (b : Board). turn_after b.list) c.self.view_is ∙ sym c.to_move-mover.ensures ∙ white in
+    let is_mover = ap (λ (b : Board). mover_after b.list) c.self.view_is ∙ sym c.to_move-mover.ensures ∙ white in
     let few : length c.self.inside.list < 1200 = omega (arith, c.self.invariant.counted, ap (λ (b : Board). b.played) c.self.view_is) in
-    subst (λ (k : Ledger). length k.charges < 600) (sym c.self.invariant.white) (has_room White c.self.inside.list turn few)
+    subst (λ (k : Ledger). length k.charges < 600) (sym c.self.invariant.white) (has_room White c.self.inside.list is_mover few)
 
 pub charge_clocks-requires-clause-black_room : goal.charge_clocks-requires-clause-black_room
 charge_clocks-requires-clause-black_room c = λ black.
-    let turn = ap (λ (b : Board). turn_after b.list) c.self.view_is ∙ sym c.to_move-mover.ensures ∙ black in
+    let is_mover = ap (λ (b : Board). mover_after b.list) c.self.view_is ∙ sym c.to_move-mover.ensures ∙ black in
     let few : length c.self.inside.list < 1200 = omega (arith, c.self.invariant.counted, ap (λ (b : Board). b.played) c.self.view_is) in
-    subst (λ (k : Ledger). length k.charges < 600) (sym c.self.invariant.black) (has_room Black c.self.inside.list turn few)
+    subst (λ (k : Ledger). length k.charges < 600) (sym c.self.invariant.black) (has_room Black c.self.inside.list is_mover few)
 
 pub invariant_of-self : goal.invariant_of-self
 unfolding position_of
 invariant_of-self c =
     let i = c.self.inside in
     let entry : Played = record { what = c.args.what.now; charge = c.next_charge-charge.result } in
-    let turn : turn_after i.list ≡ c.to_move-mover.result = ap (λ (b : Board). turn_after b.list) c.self.view_is ∙ sym c.to_move-mover.ensures in
+    let is_mover : mover_after i.list ≡ c.to_move-mover.result = ap (λ (b : Board). mover_after b.list) c.self.view_is ∙ sym c.to_move-mover.ensures in
     let number : i.number ≡ c.args.self.now.number = ap (λ (b : Board). b.number) c.self.view_is in
     let grown : c.push.new.self ≡ c.args.self.now.list ++ entry ∷ [] = c.push.ensures ∙ ap (λ (b : Board). b.list ++ entry ∷ []) c.self.view_is in
     record {
@@ -45,8 +45,8 @@ invariant_of-self c =
       variant = c.next_position-next.ensures.variant ∙ sym (ap (λ (b : Board). b.terms.variant) c.self.view_is);
       legal = subst (λ (l : List Played). IsLegal i.terms.variant (half_moves i.number l)) (sym grown)
           (subst (λ (b : Board). IsLegal b.terms.variant (half_moves b.number (c.args.self.now.list ++ entry ∷ []))) (sym c.self.view_is) (c.next_position-next.ensures.legal entry.charge));
-      white = c.charge_clocks.ensures.white ∙ clock_of-append i.terms White c.to_move-mover.result i.list entry i.white c.self.invariant.white turn ∙ ap (clock_of i.terms White) (sym c.push.ensures);
-      black = c.charge_clocks.ensures.black ∙ clock_of-append i.terms Black c.to_move-mover.result i.list entry i.black c.self.invariant.black turn ∙ ap (clock_of i.terms Black) (sym c.push.ensures);
+      white = c.charge_clocks.ensures.white ∙ clock_of-append i.terms White c.to_move-mover.result i.list entry i.white c.self.invariant.white is_mover ∙ ap (clock_of i.terms White) (sym c.push.ensures);
+      black = c.charge_clocks.ensures.black ∙ clock_of-append i.terms Black c.to_move-mover.result i.list entry i.black c.self.invariant.black is_mover ∙ ap (clock_of i.terms Black) (sym c.push.ensures);
       sound = subst (All (λ (p : Played). IfSome p.charge IsChargeable)) (sym c.push.ensures)
           (All-append (λ (p : Played). IfSome p.charge IsChargeable) i.list (entry ∷ []) c.self.invariant.sound
           (All-one (λ (p : Played). IfSome p.charge IsChargeable) entry

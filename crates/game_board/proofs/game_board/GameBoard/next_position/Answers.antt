@@ -2,7 +2,7 @@ use Rattle.std.proofs.Common.{ap, ◌∙◌, sym, subst}
 use Rattle.chess_model.specs.Position.{Position, Stands}
 use Rattle.chess_model.specs.Allowed.{Allowed, IsLegal}
 use Rattle.game_board.specs.Board.{Board, half_moves, position_of}
-use Rattle.game_board.proofs.Turns.{position_of-stands}
+use Rattle.game_board.proofs.Movers.{position_of-stands}
 use Rattle.game_board.proofs.Grown.{Stands-grown, IsLegal-grown}
 use Rattle.game_board.proofs.game_board.GameBoard.next_position.Goals as goal
 

@@ -1,6 +1,6 @@
 use Rattle.std.proofs.Common.{ap, ◌∙◌}
 use Rattle.game_board.specs.Board.{position_of}
-use Rattle.game_board.proofs.Turns.{position_of-stands}
+use Rattle.game_board.proofs.Movers.{position_of-stands}
 use Rattle.game_board.proofs.game_board.GameBoard.position.Goals as goal
 
 pub returns : goal.returns

@@ -1,6 +1,6 @@
 use Rattle.std.proofs.Common.{ap, ◌∙◌}
 use Rattle.game_board.specs.Board.{to_move}
-use Rattle.game_board.proofs.Turns.{to_move-stands}
+use Rattle.game_board.proofs.Movers.{to_move-stands}
 use Rattle.game_board.proofs.game_board.GameBoard.to_move.Goals as goal
 
 pub returns : goal.returns

@@ -9,7 +9,7 @@ use Rattle.chess_model.specs.Squares.{rank_of}
 use Rattle.chess_model.specs.Placement.{Placement, man_at, opposite, unpromoted, home_rank, array_of, king_home, rook_home}
 use Rattle.chess_model.specs.MoveList.{Ply, moves_of, settings, place_after, place_from, side_from}
 use Rattle.chess_model.specs.RightsAndCounts.{rights_after, en_passant_after, quiet_count}
-use Rattle.chess_model.specs.LegalPositions.{OtherBoardStays, ColoursTakeTurns, HomesAreInTheArray}
+use Rattle.chess_model.specs.LegalPositions.{OtherBoardStays, ColoursAlternate, HomesAreInTheArray}
 use Rattle.chess_model.proofs.MoreMoves.{moves_of-other}
 use Rattle.chess_model.proofs.ChessLaws.{opposite-opposite}
 
@@ -29,21 +29,21 @@ record HasTurn (c : Colour) (k : ℕ) (x : Ply) : Type 0 where
   even : k % 2 ≡ 0 → x.by ≡ c
   odd : k % 2 ≡ 1 → x.by ≡ opposite c
 
-turn_at : (v : Variant) (P : Placement) (c : Colour) (ms : List Move) (k : ℕ) (x : Ply) → k < length (settings v P c ms) →
+mover_at : (v : Variant) (P : Placement) (c : Colour) (ms : List Move) (k : ℕ) (x : Ply) → k < length (settings v P c ms) →
     HasTurn c k (slice_index_or (settings v P c ms) k x)
-turn_at v P c [] k x h = absurd (omega arith)
-turn_at v P c (m ∷ ms) zero x h = record { even = λ e. refl; odd = λ e. absurd (omega (arith, e)) }
-turn_at v P c (m ∷ ms) (suc k) x h =
-    let t = turn_at v (place_after v P c m) (opposite c) ms k x (omega arith) in
+mover_at v P c [] k x h = absurd (omega arith)
+mover_at v P c (m ∷ ms) zero x h = record { even = λ e. refl; odd = λ e. absurd (omega (arith, e)) }
+mover_at v P c (m ∷ ms) (suc k) x h =
+    let t = mover_at v (place_after v P c m) (opposite c) ms k x (omega arith) in
     record {
       even = λ e. t.odd (omega (arith, e)) ∙ opposite-opposite c;
       odd = λ e. t.even (omega (arith, e));
     }
 
-pub colours_take_turns : ColoursTakeTurns
-colours_take_turns = record {
-  even = λ v T b k x h e. (turn_at v (array_of v) White (moves_of b T) k x h).even e;
-  odd = λ v T b k x h e. (turn_at v (array_of v) White (moves_of b T) k x h).odd e;
+pub colours_alternate : ColoursAlternate
+colours_alternate = record {
+  even = λ v T b k x h e. (mover_at v (array_of v) White (moves_of b T) k x h).even e;
+  odd = λ v T b k x h e. (mover_at v (array_of v) White (moves_of b T) k x h).odd e;
 }
 
 homes_order : (v : Variant) (c : Colour) → (rook_home v c true < king_home v c) × (king_home v c < rook_home v c false)

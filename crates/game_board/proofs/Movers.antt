@@ -1,4 +1,4 @@
--- The position and the turn that a list of half-moves gives.
+-- The position, and who is to move, that a list of half-moves gives.
 use Rattle.std.specs.Prelude.{nat_eq}
 use Rattle.std.proofs.lemmas.Bool.{eq-eqb}
 use Rattle.std.proofs.Common.{◌≡◌, ℕ, true, List, [], ◌∷◌, ◌++◌, map, refl, ap, ◌∙◌}
@@ -30,7 +30,7 @@ to_move-position_of b = ap (side_from White) (moves_of-half_moves b.number b.lis
 pub to_move-stands : (q : Position) (b : Board) → Stands q (half_moves b.number b.list) b.number → q.variant ≡ b.terms.variant → q.to_move ≡ to_move b
 to_move-stands q b s e = ap (λ (p : Position). p.to_move) (position_of-stands q b s e) ∙ to_move-position_of b
 
--- one half-move more hands the turn to the other colour
+-- one half-move more leaves the other colour to move
 pub side_from-append : (c : Colour) (ms : List Move) (m : Move) → side_from c (ms ++ m ∷ []) ≡ opposite (side_from c ms)
 side_from-append c [] m = refl
 side_from-append c (n ∷ ns) m = side_from-append (opposite c) ns m
