@@ -9,8 +9,7 @@ use fics_words::NoMemory;
 use std::alloc::Global;
 
 /// An alias's text with `$1` to `$9` replaced by the argument words and `$@` by the rest of the line; a text without
-/// `$`
-/// has the rest added behind a blank, if there is a rest.
+/// `$` has the rest added behind a blank, if there is a rest.
 pub(crate) fn expanded(alloc: Global, text: &[u8], rest: &[u8]) -> Result<Vec<u8>, NoMemory>
     ensures { IfOk result (λ made. made.items ≡ expanded text.now rest.now) }
 {

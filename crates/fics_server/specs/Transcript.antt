@@ -29,8 +29,7 @@ abbrev pub bad_in : List (List ℕ) → Option ℕ
 bad_in lines = first_bad 1 new_game lines
 
 -- the lines are good, bring a new game to this one, and this text is due for them: whatever lines follow, the answers
--- of
--- these are made in this game, and their text goes on behind that text
+-- of these are made in this game, and their text goes on behind that text
 pub record IsPlayed (lines : List (List ℕ)) (game : GameState) (due : List ℕ) : Type 0 where
   pub text : (more : List (List ℕ)) → text_of (lines ++ more) ≡ due ++ answers (length lines + 1) game more
   pub good : (more : List (List ℕ)) → bad_in (lines ++ more) ≡ first_bad (length lines + 1) game more

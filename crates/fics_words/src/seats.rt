@@ -14,8 +14,7 @@ pub struct Opponents {
 }
 
 /// Who sits at a desk: the players of its board, or of its two boards. Seats are numbered from 0: White and Black of
-/// the
-/// first board are 0 and 1, those of the second board 2 and 3.
+/// the first board are 0 and 1, those of the second board 2 and 3.
 #[derive(Clone, Copy, Debug, PartialEq, Eq)]
 pub struct Seats {
     pub first: Opponents,

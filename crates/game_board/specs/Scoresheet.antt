@@ -1,7 +1,6 @@
 -- What the list of a board tells of the game, as a score sheet does: half-moves that were allowed, with times that
 -- follow one another (FIDE 6.2: a clock runs while its player is to move; that the first half-move of each colour is
--- free
--- is FICS's).
+-- free is FICS's).
 use Rattle.std.specs.Prelude.{◌≡◌, ℕ, ◌+◌, ◌*◌, ◌≤◌, ◌↔◌, pos, ◌-ℤ◌, IsTrue, IfSome, IsSome, List, length, Some, slice_get}
 use Rattle.std.specs.List.{sum_by}
 use Rattle.chess_model.specs.declared.man.Colour.{Colour}

@@ -67,8 +67,7 @@ impl GameBoard {
     ghost use Rattle.game_board.specs.Flag.{flag_answer, running, has_fallen, cannot_win};
 
     /// The board of that number, 1 or 2, at the start of a game, whose first player begins to think at `moment`. Room
-    /// for
-    /// all its half-moves and charges is taken here, and no later call takes memory.
+    /// for all its half-moves and charges is taken here, and no later call takes memory.
     pub fn start(
         alloc: Global,
         number: u8,

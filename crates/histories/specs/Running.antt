@@ -15,8 +15,7 @@ module _ {P A R : Type 0} (c : Core P A R) where
     pub more : made_now ≡ made ++ entry number act reply ∷ []
 
   -- the session's act wasn't made: what it has seen begins with what it had seen and is legal, without a new entry of
-  -- its
-  -- own
+  -- its own
   pub record Unmade (opening : List P) (number : ℕ) (seen made seen_now made_now : List (Entry A R)) : Type 0 where
     pub begins : IsPrefix seen seen_now
     pub legal : Legal c opening seen_now

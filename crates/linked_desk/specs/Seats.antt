@@ -1,6 +1,5 @@
 -- The seats of a desk: seats 0 and 1 are White and Black of the first board, 2 and 3 those of the second. So the
--- partner of
--- a player has the other colour: the teams are 0 with 3 and 1 with 2 (FICS help page `bughouse`).
+-- partner of a player has the other colour: the teams are 0 with 3 and 1 with 2 (FICS help page `bughouse`).
 use Rattle.std.specs.Prelude.{◌≡◌, ℕ, ◌+◌, ◌-◌, ◌/◌, ◌%◌, ◌==◌, if◌then◌else◌, List, [], ◌∷◌, map, refl}
 use Rattle.std.specs.Option.{option_to_list}
 use Rattle.chess_model.specs.declared.man.Colour.{Colour}

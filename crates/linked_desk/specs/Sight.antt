@@ -1,6 +1,5 @@
 -- Who sees which board, and how: style 12's 'my relation to this game', and whether Black is at the bottom (FICS help
--- page
--- `style12`). That a player sees the partner's board as an observer does is this server's profile.
+-- page `style12`). That a player sees the partner's board as an observer does is this server's profile.
 use Rattle.std.specs.Prelude.{◌≡◌, ℕ, ◌-◌, ◌%◌, ◌==◌, Bool, true, false, ℤ, pos, negsuc, if◌then◌else◌, [], ◌∷◌, Option, Some, None, refl}
 use Rattle.chess_model.specs.declared.man.Colour.{Colour}
 use Rattle.chess_model.specs.declared.man.Colour.TheVariants.{White, Black}

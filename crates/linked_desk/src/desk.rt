@@ -53,10 +53,8 @@ impl Desk {
     }
 
     /// Begins a game at the vacant desk, with its clocks at `moment`, in milliseconds. The players are its viewers
-    /// from the
-    /// start of the feed. There is a second pair exactly for bughouse, and bughouse itself isn't played yet: the men
-    /// that
-    /// one board captures don't come to the other. Running out of memory leaves the desk vacant.
+    /// from the start of the feed. There is a second pair exactly for bughouse, and bughouse itself isn't played yet:
+    /// the men that one board captures don't come to the other. Running out of memory leaves the desk vacant.
     pub fn start(
         &mut self,
         alloc: Global,

@@ -20,8 +20,7 @@ pub fn acts_keep_the_players()
 
 /// The game at a desk is sound from its start on, whatever acts are made: it has the boards and seats that its variant
 /// wants, the list of each board is a true score, and each end that viewers are told names a winner exactly where
-/// somebody
-/// won.
+/// somebody won.
 pub fn acts_keep_the_game()
     ensures started { (d : DeskState) (serial : ℕ) (terms : Terms) (seats : Seats) (moment : ℕ) → HasPairsFor terms seats →
         HasSoundGame (started d serial terms seats moment) }

@@ -1,12 +1,10 @@
 //! A desk: the game that is played at it, its players, and the viewers who are told of it.
 //!
 //! A desk is vacant, or it has a game with a serial, its seats and boards (two seats and one board, or four and two),
-//! and
-//! a feed of items with a cursor for each viewer. The contract: `act` carries out one row of a table
+//! and a feed of items with a cursor for each viewer. The contract: `act` carries out one row of a table
 //! (`specs/Acts.antt`), which says by the old desk, the session, the moment, the serial and the act alone why the act
-//! is
-//! refused, what it replies and what stands afterwards. A refusal changes nothing, and a player can always leave, since
-//! leaving takes no memory.
+//! is refused, what it replies and what stands afterwards. A refusal changes nothing, and a player can always leave,
+//! since leaving takes no memory.
 #![tactic(auto)]
 
 mod acts;

@@ -8,10 +8,8 @@ use chess_model::Colour;
 use style12_writer::{BoardView, Viewer};
 
 /// How a board is seen: by the player of that seat, or by an observer, who has none. A player has relation 1 or -1 at
-/// the
-/// own board and sees it from the own side; at the partner's board, as an observer everywhere, the relation is 0 and
-/// White
-/// is at the bottom.
+/// the own board and sees it from the own side; at the partner's board, as an observer everywhere, the relation is 0
+/// and White is at the bottom.
 pub fn viewer_of(seat: Option<u8>, view: &BoardView) -> Viewer
     ensures { result ≡ sight seat (board_in view.now.game) view.now.face.to_move }
 {

@@ -31,8 +31,7 @@ pub record KeepsPlanned (lobby : LobbyState) (effect : Effect LobbyState Plan) :
   pub planned : NoneHolds effect.causes → IsWellFormed lobby → IsPlanned lobby effect.reply
 
 -- what a plan that can be carried out keeps: its desk is one of the hall's, it leaves a lobby well-formed, and it
--- changes
--- the game of no desk but its own
+-- changes the game of no desk but its own
 pub record KeepsPlan (lobby : LobbyState) (plan : Plan) : Type 0 where
   pub is_desk : IfSome (desk_of plan) IsDesk
   pub formed : (is_cleared : Bool) → IsWellFormed lobby → IsWellFormed (committed lobby plan is_cleared)

@@ -2,9 +2,9 @@
 //!
 //! The contract: what an act does, by the lobby before, the session and the act, stands in one record of its own file
 //! in `specs/`: why it is refused, what it replies, and what stands afterwards. A refusal and running out of memory
-//! leave the
-//! lobby as it was, and every lobby is well-formed. What needs a desk too is done in two steps: `plan` says by the
-//! lobby alone which desk and what is to be done there, and `commit`, which takes no memory, does the lobby's share.
+//! leave the lobby as it was, and every lobby is well-formed. What needs a desk too is done in two steps: `plan` says
+//! by the lobby alone which desk and what is to be done there, and `commit`, which takes no memory, does the lobby's
+//! share.
 //!
 //! An act is a room of its own: a file of `src/`, one of `specs/` and one of `proofs/` that says what the act keeps.
 #![tactic(auto)]

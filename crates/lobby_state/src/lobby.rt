@@ -66,8 +66,7 @@ impl Lobby {
     }
 
     /// Carries out an act that needs the lobby alone. A refusal and running out of memory leave everything as it was.
-    /// No lobby
-    /// act asks for the moment.
+    /// No lobby act asks for the moment.
     pub fn act(&mut self, session: u32, _moment: u64, act: &LobbyAct) -> Result<LobbyReply, Fail>
         ensures { Takes (lobby_effect self.old session act.now) self.old self.new result }
     {

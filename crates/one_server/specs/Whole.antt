@@ -11,8 +11,7 @@ use Rattle.one_server.specs.declared.part.Part.TheVariants.{Lobby as TheLobby, D
 use Rattle.one_server.specs.Desks.{game_of, vacant}
 
 -- the desk has its number and its game is sound, and the lobby lists for it the game that it is in use for: none
--- exactly
--- where the desk is vacant, and else that serial, those terms and those seats
+-- exactly where the desk is vacant, and else that serial, those terms and those seats
 pub record IsListed (lobby : LobbyState) (number : ℕ) (desk : DeskState) : Type 0 where
   pub numbered : desk.number ≡ number
   pub sound : HasSoundGame desk

@@ -41,8 +41,7 @@ pub fn every_board_keeps_a_true_score()
 {}
 
 /// In every state each end that the viewers of a desk are told names a winner exactly where somebody won, so its line
-/// can
-/// be written.
+/// can be written.
 pub fn every_end_names_its_winner()
     ensures { HoldsInEachState NamesItsWinners }
 {}

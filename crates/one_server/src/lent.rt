@@ -39,8 +39,7 @@ pub fn second_part(lobby: &Lobby, session: u32, act: &Act) -> Option<u8>
 }
 
 /// Makes an act that has one part on that part. Running out of memory changes nothing, and an act that needs no memory
-/// of its
-/// own doesn't meet it.
+/// of its own doesn't meet it.
 pub fn alone(one: &mut Part, session: u32, timed: &Timed) -> Result<Reply, NoMemory>
     requires event { IsEvent timed.now }
     requires first { IsFirstOf one.old timed.now.act }

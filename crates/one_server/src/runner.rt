@@ -24,8 +24,7 @@ pub trait Runner {
         ensures known { IsKnown (state self.now) };
 
     /// Makes an act at `moment`, in milliseconds. The reply is the server's; running out of memory gives none, and the
-    /// act
-    /// isn't made. Where the mark is true, an act that needs no memory of its own never runs out of it.
+    /// act isn't made. Where the mark is true, an act that needs no memory of its own never runs out of it.
     fn run(&mut self, alloc: Global, moment: u64, act: Act) -> Result<Reply, NoMemory>
         requires { IsEvent (record { moment = moment; act = act }) }
         ensures home { home self.new ≡ home self.old }

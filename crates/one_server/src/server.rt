@@ -48,8 +48,7 @@ impl OneServer {
     ghost use Rattle.one_server.specs.Whole.{IsOpening, IsWhole, opened};
 
     /// A server that opens with this lobby, which has no member and no desk in use, and with vacant desks. It isn't
-    /// made
-    /// only when out of memory.
+    /// made only when out of memory.
     pub fn new(alloc: Global, lobby: Lobby) -> Result<OneServer, NoMemory>
         requires { IsOpening lobby }
         ensures { IfOk result (λ server. server ≡ record { opening = opened lobby; log = [] }) }
@@ -67,9 +66,8 @@ impl OneServer {
 
     /// Makes an act of a session at `moment`, in milliseconds. What it is answered is the reply of the step in the
     /// state of the history before it, and the history grows by exactly this entry. Running out of memory gives no
-    /// reply and
-    /// changes nothing. A reply tells places at desks 1 to 128 alone, and of each end the winner exactly where somebody
-    /// won.
+    /// reply and changes nothing. A reply tells places at desks 1 to 128 alone, and of each end the winner exactly
+    /// where somebody won.
     pub fn run(&mut self, session: u32, moment: u64, act: Act) -> Result<Reply, NoMemory>
         requires { IsEvent (record { moment = moment; act = act }) }
         ensures ok { IfOk result (λ reply. self.new ≡ record self.old {

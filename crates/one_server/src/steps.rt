@@ -35,8 +35,7 @@ pub fn lobby_step(
 }
 
 /// Makes an act at the game of that serial that needs its desk alone. Running out of memory, which only acts that tell
-/// boards or
-/// items can meet, changes nothing.
+/// boards or items can meet, changes nothing.
 pub fn desk_step(
     desk: &mut Desk,
     session: u32,

@@ -20,8 +20,7 @@ use std::alloc::Global;
 /// Makes the acts of the session's course for this input, all at `moment`, in milliseconds and at most 2^48, and
 /// appends what it writes: the reply, what waited, the news of its games, and the prompt. A Quiet without news writes
 /// nothing. After running out of memory the acts that were answered stay made: they are the first ones of the course,
-/// and
-/// nothing is known of what was appended, nor of what the session remembers, but that it can leave by it.
+/// and nothing is known of what was appended, nor of what the session remembers, but that it can leave by it.
 pub fn take<R: Runner>(
     alloc: Global,
     r: &mut R,

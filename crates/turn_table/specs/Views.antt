@@ -54,8 +54,7 @@ module _ {P A R : Type 0} where
 
   -- the history so far was seen. It begins with all that the pass had seen, it is legal, its state is whole, the pass's
   -- entries in it are its calls, and those of a pass that was joined into it are that one's calls. Where the pass is
-  -- the
-  -- first one, no number that it hasn't split has an entry
+  -- the first one, no number that it hasn't split has an entry
   pub record Looks (c : Core P A R) (v : View P A R) (seen : List (Entry A R)) : Type 0 where
     pub on : IsPrefix v.seen seen
     pub legal : Legal c v.opening seen

@@ -42,8 +42,7 @@ impl<S: Served> Model for Turns<S> {
 
 impl<S: Served> Turns<S> {
     /// Puts parts behind turns, and gives the first pass. There are 1 to 255 parts. Answers `NoMemory` when out of
-    /// memory
-    /// alone; no other call of a table takes memory.
+    /// memory alone; no other call of a table takes memory.
     pub fn new(alloc: Global, parts: Vec<S::Part>) -> Result<(Turns<S>, Pass<S>), NoMemory>
         requires some { 0 < vec_len parts }
         requires few { vec_len parts ≤ 255 }
@@ -69,12 +68,10 @@ impl<S: Served> Turns<S> {
     }
 
     /// Looks at the history: the pass then sees all of it so far, and nothing else changes. It begins with what the
-    /// pass had
-    /// seen, and each part that the pass holds is its state's. It is legal; it has as the pass's own entries the calls
-    /// that
-    /// it made, and as the entries of each pass that was joined into it that one's calls. Seen by the first pass, it
-    /// has no
-    /// entry of a number that wasn't split: once all are joined, it has none but the calls of these passes.
+    /// pass had seen, and each part that the pass holds is its state's. It is legal; it has as the pass's own entries
+    /// the calls that it made, and as the entries of each pass that was joined into it that one's calls. Seen by the
+    /// first pass, it has no entry of a number that wasn't split: once all are joined, it has none but the calls of
+    /// these passes.
     pub fn look(&self, pass: &mut Pass<S>)
         requires here { pass.old.home ≡ self.now }
         ensures here { pass.new.home ≡ pass.old.home }
@@ -142,8 +139,7 @@ impl<S: Served> Turns<S> {
     }
 
     /// Commits the act in flight: it becomes one entry of the history, the last that the pass then sees. All its parts
-    /// are
-    /// out, and it wasn't committed before.
+    /// are out, and it wasn't committed before.
     pub fn commit(&self, pass: &mut Pass<S>)
         requires here { pass.old.home ≡ self.now }
         requires out { (a : S.Act) × (p : S.Part) × (o : Option S.Part) × AllOut S.core pass.old.view a p o }
@@ -155,8 +151,7 @@ impl<S: Served> Turns<S> {
     }
 
     /// Gives a part back, with its turn. The value is the one that the view names: the part as it was taken, or after
-    /// the
-    /// commit the one that the act leaves.
+    /// the commit the one that the act leaves.
     pub fn give(&self, pass: &mut Pass<S>, part: u8, value: S::Part)
         requires here { pass.old.home ≡ self.now }
         requires named { In (part, value) pass.old.view.held }
@@ -192,8 +187,7 @@ impl<S: Served> Turns<S> {
     }
 
     /// Joins another pass into this one, which keeps its number and its calls, and looks at the history, which begins
-    /// with
-    /// what either of the two had seen. Neither holds a part, and the other isn't the first pass.
+    /// with what either of the two had seen. Neither holds a part, and the other isn't the first pass.
     pub fn join(&self, pass: &mut Pass<S>, other: Pass<S>)
         requires here { (pass.old.home ≡ self.now) × (other.home ≡ self.now) }
         requires idle { pass.old.view.held ≡ [] }
@@ -212,10 +206,8 @@ impl<S: Served> Turns<S> {
     }
 
     /// Gives the parts back, once every pass that was split was joined into the first one, which holds no part. They
-    /// are
-    /// the state of all that the first pass has seen, and this is the whole history: it has the calls of the passes
-    /// and no
-    /// others.
+    /// are the state of all that the first pass has seen, and this is the whole history: it has the calls of the passes
+    /// and no others.
     pub fn close(self, pass: Pass<S>) -> Vec<S::Part>
         requires here { pass.home ≡ self }
         requires first { pass.view.number ≡ 0 }

@@ -78,8 +78,7 @@ fn outcome(tried: Tried<Bump, u64>) -> Result<u64, u8> {
 }
 
 /// While one pass has both counters, and then the second one alone, and then none, another pass tries an act on both.
-/// What
-/// it comes to each time.
+/// What it comes to each time.
 pub fn tries_beside<R: Wait>(rt: &R, alloc: Global) -> Result<[Result<u64, u8>; 3], NoMemory> {
     let (table, mut base) = Turns::<Counters>::new(alloc, Vec::from_array(alloc, [0, 0])?)?;
     let mut other = table.split(&mut base);

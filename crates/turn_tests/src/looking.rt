@@ -12,8 +12,7 @@ use std::sync::Wait;
 use turn_table::{Pass, Turns};
 
 /// A pass that was split makes one act and is joined, and the table stays open. The history that the first pass then
-/// sees
-/// is that one entry.
+/// sees is that one entry.
 pub fn one_act_seen<R: Wait>(
     rt: &R,
     alloc: Global,

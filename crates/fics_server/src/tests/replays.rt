@@ -103,8 +103,7 @@ seat Zoe Maximilian 10 5 chess
 ";
 
 /// Nothing comes from Black, so nothing is written for Black. Empty lines stand between; the names have the most and
-/// the
-/// fewest letters.
+/// the fewest letters.
 const UNSEEN: &str = "\
 seat abcdefghijklmnopq XYZ 3 0 chess
 
