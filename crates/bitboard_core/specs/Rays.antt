@@ -17,7 +17,8 @@ leads Falls x y d = nat_eq x (y + d)
 -- whether t lies that way from a: some steps away, as the file and as the rank go
 unfoldable pub is_on : Sense → Sense → ℕ → ℕ → Bool
 is_on f r a t =
-    nat_lt 0 (distance a t) && (leads f (file_of a) (file_of t) (distance a t) && leads r (rank_of a) (rank_of t) (distance a t))
+    nat_lt 0 (distance a t) && (leads f (file_of a) (file_of t) (distance a t)
+    && leads r (rank_of a) (rank_of t) (distance a t))
 
 -- d steps lead from x to y
 abbrev pub Leads : Sense → ℕ → ℕ → ℕ → Type 0
@@ -43,7 +44,8 @@ pub record IsRaySet (f r : Sense) (a occupied set : ℕ) : Type 0 where
 -- whether a knight on a strikes t (FIDE 3.6)
 unfoldable pub is_knight_step : ℕ → ℕ → Bool
 is_knight_step a t =
-    (nat_eq (files_apart a t) 1 && nat_eq (ranks_apart a t) 2) || (nat_eq (files_apart a t) 2 && nat_eq (ranks_apart a t) 1)
+    (nat_eq (files_apart a t) 1 && nat_eq (ranks_apart a t) 2)
+    || (nat_eq (files_apart a t) 2 && nat_eq (ranks_apart a t) 1)
 
 -- whether a king on a strikes t (FIDE 3.8.1)
 unfoldable pub is_king_step : ℕ → ℕ → Bool
@@ -56,4 +58,5 @@ is_pawn_strike r a t = nat_eq (files_apart a t) 1 && leads r (rank_of a) (rank_o
 -- whether a pawn on a, whose ranks go that way from the second rank given, may push to t on an empty board (FIDE 3.7)
 unfoldable pub is_pawn_push : Sense → ℕ → ℕ → ℕ → Bool
 is_pawn_push r second a t =
-    nat_eq (files_apart a t) 0 && (leads r (rank_of a) (rank_of t) 1 || (leads r (rank_of a) (rank_of t) 2 && nat_eq (rank_of a) second))
+    nat_eq (files_apart a t) 0 && (leads r (rank_of a) (rank_of t) 1
+    || (leads r (rank_of a) (rank_of t) 2 && nat_eq (rank_of a) second))

@@ -215,7 +215,8 @@ impl Bits {
     /// What a man of that colour strikes, without the squares of its own men.
     #[inline]
     fn without_own(&self, struck: u64, c: Colour) -> u64
-        ensures { (k : Kind) (s : ℕ) → k ≢ Kind.Pawn → IsStruckSet self.now c k s struck → IsReachSet self.now c k s result }
+        ensures { (k : Kind) (s : ℕ) → k ≢ Kind.Pawn → IsStruckSet self.now c k s struck
+            → IsReachSet self.now c k s result }
     {
         struck & !self.held_by(c)
     }

@@ -31,7 +31,8 @@ IsPromotion (Some King) = ⊥
 -- a man of that kind that reaches b carries the promotion that the move names: a pawn on its last rank has one,
 -- every other move has none
 abbrev pub HasPromotion : Colour → Kind → ℕ → Option Kind → Type 0
-HasPromotion c Pawn b promo = ((rank_of b ≡ last_rank c) × IsPromotion promo) ⊎ ((rank_of b ≢ last_rank c) × (promo ≡ None))
+HasPromotion c Pawn b promo =
+    ((rank_of b ≡ last_rank c) × IsPromotion promo) ⊎ ((rank_of b ≢ last_rank c) × (promo ≡ None))
 HasPromotion c Knight b promo = promo ≡ None
 HasPromotion c Bishop b promo = promo ≡ None
 HasPromotion c Rook b promo = promo ≡ None

@@ -67,5 +67,6 @@ pair_census T c k =
 -- no legal list of half-moves makes or loses a man
 pub record CensusStays : Type 0 where
   pub chess : (T : List HalfMove) (b : ℕ) (c : Colour) (k : Kind) → IsLegal Chess T → chess_census T b c k ≡ one_set k
-  pub crazyhouse : (T : List HalfMove) (b : ℕ) (k : Kind) → IsLegal Crazyhouse T → crazyhouse_census T b k ≡ 2 * one_set k
+  pub crazyhouse : (T : List HalfMove) (b : ℕ) (k : Kind) → IsLegal Crazyhouse T → crazyhouse_census T b k
+      ≡ 2 * one_set k
   pub pair : (T : List HalfMove) (c : Colour) (k : Kind) → IsLegal Bughouse T → pair_census T c k ≡ 2 * one_set k

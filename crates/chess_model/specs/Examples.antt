@@ -32,12 +32,14 @@ before_castling = go 6 21 ∷ go 62 45 ∷ go 14 22 ∷ go 54 46 ∷ go 5 14 ∷
 
 -- 4 Rg1 a6 5 Rh1 a5: the rook has come back
 abbrev pub rook_returned : List Move
-rook_returned = go 6 21 ∷ go 62 45 ∷ go 14 22 ∷ go 54 46 ∷ go 5 14 ∷ go 61 54 ∷ go 7 6 ∷ go 48 40 ∷ go 6 7 ∷ go 40 32 ∷ []
+rook_returned =
+    go 6 21 ∷ go 62 45 ∷ go 14 22 ∷ go 54 46 ∷ go 5 14 ∷ go 61 54 ∷ go 7 6 ∷ go 48 40 ∷ go 6 7 ∷ go 40 32 ∷ []
 
 -- 1 a4 b5 2 axb5 a6 3 bxa6 h6 4 a7 h5 5 axb8=Q Rxb8
 abbrev pub promoted_and_taken : List Move
 promoted_and_taken =
-    go 8 24 ∷ go 49 33 ∷ go 24 33 ∷ go 48 40 ∷ go 33 40 ∷ go 55 47 ∷ go 40 48 ∷ go 47 39 ∷ Plain 48 57 (Some Queen) ∷ go 56 57 ∷ []
+    go 8 24 ∷ go 49 33 ∷ go 24 33 ∷ go 48 40 ∷ go 33 40 ∷ go 55 47 ∷ go 40 48 ∷ go 47 39 ∷ Plain 48 57 (Some Queen)
+    ∷ go 56 57 ∷ []
 
 -- 1 e4 d5 2 exd5
 abbrev pub pawn_taken : List Move
@@ -53,7 +55,8 @@ pub record WorkedExamples : Type 0 where
   pub e3_passed : en_passant_after (history Chess (on_board 1 king_pawn) 1) ≡ Some 20
   pub d5_empty : man_at (placed passing) 35 ≡ None
   pub quiet_bishops : quiet_count (history Chess (on_board 1 before_castling) 1) ≡ 2
-  pub castled_rook : man_at (place_from Chess (placed before_castling) White (Castle false ∷ [])) 5 ≡ unpromoted White Rook
+  pub castled_rook : man_at (place_from Chess (placed before_castling) White (Castle false ∷ [])) 5
+      ≡ unpromoted White Rook
   pub right_gone : right_stands Chess (history Chess (on_board 1 rook_returned) 1) White false ≡ false
   pub right_left : right_stands Chess (history Chess (on_board 1 rook_returned) 1) White true ≡ true
   pub queen_as_pawn : hand_after Crazyhouse (on_board 1 promoted_and_taken) 1 Black ≡

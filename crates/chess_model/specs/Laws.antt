@@ -34,7 +34,8 @@ pub record MovesKingAndRook (v : Variant) (P : Placement) (c : Colour) (long : B
   pub king : man_at Q (king_end c long) ≡ man_at P (king_home v c)
   pub rook : man_at Q (rook_end c long) ≡ man_at P (rook_home v c long)
   pub king_left : king_home v c ≢ king_end c long → king_home v c ≢ rook_end c long → man_at Q (king_home v c) ≡ None
-  pub rook_left : rook_home v c long ≢ king_end c long → rook_home v c long ≢ rook_end c long → man_at Q (rook_home v c long) ≡ None
+  pub rook_left : rook_home v c long ≢ king_end c long → rook_home v c long ≢ rook_end c long
+      → man_at Q (rook_home v c long) ≡ None
   pub others : (s : ℕ) → s ≢ king_home v c → s ≢ rook_home v c long → s ≢ king_end c long → s ≢ rook_end c long →
       man_at Q s ≡ man_at P s
 
@@ -45,8 +46,10 @@ pub record PutsOneMan (P : Placement) (c : Colour) (k : Kind) (to : ℕ) (Q : Pl
 
 -- what an allowed half-move does to each square
 abbrev pub ChangesSquares : Position → Move → Type 0
-ChangesSquares p (Plain a b promo) = MovesOneMan p.men a b promo (place_after p.variant p.men p.to_move (Plain a b promo))
-ChangesSquares p (Castle long) = MovesKingAndRook p.variant p.men p.to_move long (place_after p.variant p.men p.to_move (Castle long))
+ChangesSquares p (Plain a b promo) =
+    MovesOneMan p.men a b promo (place_after p.variant p.men p.to_move (Plain a b promo))
+ChangesSquares p (Castle long) =
+    MovesKingAndRook p.variant p.men p.to_move long (place_after p.variant p.men p.to_move (Castle long))
 ChangesSquares p (Drop k to) = PutsOneMan p.men p.to_move k to (place_after p.variant p.men p.to_move (Drop k to))
 
 -- a man of the other colour on s would strike along its lines a man of the colour c and of its own kind
@@ -93,10 +96,12 @@ NoMenAreMade = (p : Position) (T : List HalfMove) (b : ℕ) (m : Move) → Stand
 -- last one, and that one was allowed
 pub record LegalListsGrow : Type 0 where
   pub none : (v : Variant) → IsLegal v []
-  pub grows : (v : Variant) (T : List HalfMove) (h : HalfMove) → IsLegal v T → Allowed (position_after v T h.board) h.what →
+  pub grows : (v : Variant) (T : List HalfMove) (h : HalfMove) → IsLegal v T
+      → Allowed (position_after v T h.board) h.what →
       IsLegal v (T ++ h ∷ [])
   pub shrinks : (v : Variant) (T : List HalfMove) (h : HalfMove) → IsLegal v (T ++ h ∷ []) → IsLegal v T
-  pub last : (v : Variant) (T : List HalfMove) (h : HalfMove) → IsLegal v (T ++ h ∷ []) → Allowed (position_after v T h.board) h.what
+  pub last : (v : Variant) (T : List HalfMove) (h : HalfMove) → IsLegal v (T ++ h ∷ [])
+      → Allowed (position_after v T h.board) h.what
 
 -- each test of `Tests` says what its relation says
 pub record TestsSayTheRules : Type 0 where

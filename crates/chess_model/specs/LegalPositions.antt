@@ -58,9 +58,11 @@ pub record IsPassing (p : Position) (a b : ℕ) : Type 0 where
 pub record MovesAMan (p : Position) (a b : ℕ) (promo : Option Kind) (Q : Placement) : Type 0 where
   pub leaves : man_at Q a ≡ None
   pub arrives : promo ≡ None → man_at Q b ≡ man_at p.men a
-  pub becomes : (k : Kind) → promo ≡ Some k → man_at Q b ≡ Some (record { colour = p.to_move; kind = k; promoted = true })
+  pub becomes : (k : Kind) → promo ≡ Some k → man_at Q b
+      ≡ Some (record { colour = p.to_move; kind = k; promoted = true })
   pub passes : IsPassing p a b → man_at Q (behind (opposite p.to_move) b) ≡ None
-  pub others : (s : ℕ) → s ≢ a → s ≢ b → (IsPassing p a b → s ≢ behind (opposite p.to_move) b) → man_at Q s ≡ man_at p.men s
+  pub others : (s : ℕ) → s ≢ a → s ≢ b → (IsPassing p a b → s ≢ behind (opposite p.to_move) b) → man_at Q s
+      ≡ man_at p.men s
 
 pub record LegalPositionsAreSound : Type 0 where
   pub sound : (v : Variant) (T : List HalfMove) (b : ℕ) → IsLegal v T → IsSound (position_after v T b)
@@ -69,7 +71,8 @@ pub record LegalPositionsAreSound : Type 0 where
       (man : Man) → taken (position_after v T b).men m ≡ Some man → IsPrey (position_after v T b) man
   pub plain_moves : (v : Variant) (T : List HalfMove) (n a b : ℕ) (promo : Option Kind) → IsLegal v T →
       Allowed (position_after v T n) (Plain a b promo) →
-      MovesAMan (position_after v T n) a b promo (position_after v (T ++ record { board = n; what = Plain a b promo } ∷ []) n).men
+      MovesAMan (position_after v T n) a b promo
+      (position_after v (T ++ record { board = n; what = Plain a b promo } ∷ []) n).men
 
 -- a half-move of another board leaves the men of this one, who is to move there, its en passant square and its rights
 -- as they were

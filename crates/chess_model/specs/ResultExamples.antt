@@ -20,7 +20,8 @@ fools_mate = position_after Chess (on_board 1 (go 13 21 ∷ go 52 36 ∷ go 14 3
 
 -- White: Kh1, pawns g2 and h2; Black: Ka8, a rook on e1 that gives check along the rank
 abbrev pub back_rank_check : Variant → Hand → Position
-back_rank_check v hand = board v White None hand (white King 7 ∷ white Pawn 14 ∷ white Pawn 15 ∷ black Rook 4 ∷ black King 56 ∷ [])
+back_rank_check v hand =
+    board v White None hand (white King 7 ∷ white Pawn 14 ∷ white Pawn 15 ∷ black Rook 4 ∷ black King 56 ∷ [])
 
 -- White: Kh1, Rg1, pawns g2 and h2; Black: Ka8, a knight on f2 that gives check
 abbrev pub smothered : Position
@@ -45,7 +46,8 @@ third_time = go 6 21 ∷ go 62 45 ∷ go 21 6 ∷ go 45 62 ∷ go 6 21 ∷ go 62
 
 -- White: Kh1, Pe4; Black: Kh8, and some more men; the en passant square e3 or none
 abbrev pub pawn_on_e4 : Option ℕ → List Standing → Position
-pawn_on_e4 en_passant more = board Chess Black en_passant empty_hand (white King 7 ∷ white Pawn 28 ∷ black King 63 ∷ more)
+pawn_on_e4 en_passant more =
+    board Chess Black en_passant empty_hand (white King 7 ∷ white Pawn 28 ∷ black King 63 ∷ more)
 
 pub record ResultExamples : Type 0 where
   pub start_safe : result start ≡ Safe

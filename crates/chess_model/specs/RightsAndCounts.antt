@@ -36,7 +36,8 @@ rights_after v H = record {
 
 -- the square that a half-move passes over, where it is a double push of a pawn
 abbrev pub passed_over : Placement → Move → Option ℕ
-passed_over P (Plain a b promo) = if is_pawn (man_at P a) && nat_eq (ranks_apart a b) 2 then Some ((a + b) / 2) else None
+passed_over P (Plain a b promo) =
+    if is_pawn (man_at P a) && nat_eq (ranks_apart a b) 2 then Some ((a + b) / 2) else None
 passed_over P (Castle long) = None
 passed_over P (Drop k to) = None
 

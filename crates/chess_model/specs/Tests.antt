@@ -159,7 +159,8 @@ is_unattacked_way P by a b = list_all (λ s. not (is_attacked P by s)) (way a b)
 -- castling between these homes and ends, the safety of the king after it aside
 abbrev pub can_castle_between : Placement → Colour → ℕ → ℕ → ℕ → ℕ → Bool
 can_castle_between P by king rook king_goal rook_goal =
-    is_free_way P king rook king king_goal && is_free_way P king rook rook rook_goal && is_unattacked_way P by king king_goal
+    is_free_way P king rook king king_goal && is_free_way P king rook rook rook_goal
+    && is_unattacked_way P by king king_goal
 
 -- whether castling is allowed, the safety of the king after it aside
 abbrev pub can_castle : Position → Bool → Bool

@@ -118,7 +118,8 @@ fn with_capture(hand: Hand, taken_man: Option<Man>) -> Hand
 /// The hand of c after a half-move of the colour `by`, what it takes counted.
 fn with_gain(v: Variant, hand: Hand, c: Colour, men: &Men, by: Colour, m: &Move) -> Hand
     requires { men_in hand < 255 }
-    ensures { result ≡ hand_of (λ k. count_in hand k + gain v c k (record { before = men.now; by = by; what = m.now })) }
+    ensures { result ≡ hand_of (λ k. count_in hand k + gain v c k
+        (record { before = men.now; by = by; what = m.now })) }
 {
     match v {
         Variant::Crazyhouse => {

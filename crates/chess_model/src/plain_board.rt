@@ -36,13 +36,31 @@ impl Model for PlainBoard {
 
     ghost Value = { Position };
 
-    ghost view = { λ b. record { variant = b.variant; men = b.men; to_move = b.to_move; en_passant = b.en_passant; rights = b.rights; quiet = b.quiet; white = b.white; black = b.black } };
+    ghost view = { λ b. record {
+      variant = b.variant;
+      men = b.men;
+      to_move = b.to_move;
+      en_passant = b.en_passant;
+      rights = b.rights;
+      quiet = b.quiet;
+      white = b.white;
+      black = b.black;
+    } };
 
     ghost use Rattle.chess_model.specs.PlainBoardFields.{IsOneSetEach};
 
     ghost invariant = { IsOneSetEach };
 
-    ghost inverse = { λ p. record { variant = p.variant; men = p.men; to_move = p.to_move; en_passant = p.en_passant; rights = p.rights; quiet = p.quiet; white = p.white; black = p.black } };
+    ghost inverse = { λ p. record {
+      variant = p.variant;
+      men = p.men;
+      to_move = p.to_move;
+      en_passant = p.en_passant;
+      rights = p.rights;
+      quiet = p.quiet;
+      white = p.white;
+      black = p.black;
+    } };
 }
 
 impl PlainBoard {
@@ -161,7 +179,8 @@ impl PlainBoard {
     pub fn after(&self, m: Move) -> PlainBoard
         requires { Allowed self.now m }
         ensures variant { result.variant ≡ self.now.variant }
-        ensures stands { (T : List HalfMove) (b : ℕ) → Stands self.now T b → Stands result (T ++ record { board = b; what = m } ∷ []) b }
+        ensures stands { (T : List HalfMove) (b : ℕ) → Stands self.now T b
+            → Stands result (T ++ record { board = b; what = m } ∷ []) b }
     {
         self.next(&m)
     }

@@ -10,6 +10,7 @@ use crate::ledger::ClockLedger;
 /// ledger, and taking it back gives the ledger that was there.
 pub fn a_charge_moves_the_clock(clock: &ClockLedger, charge: &Charge)
     requires { IsTrue (timed clock.now) }
-    ensures moved { remaining (charged clock.now charge.now) +ℤ pos (amount charge.now) ≡ remaining clock.now +ℤ pos (clock.now.increment * 1000) }
+    ensures moved { remaining (charged clock.now charge.now) +ℤ pos (amount charge.now)
+        ≡ remaining clock.now +ℤ pos (clock.now.increment * 1000) }
     ensures restored { taken_back (charged clock.now charge.now) ≡ clock.now }
 {}

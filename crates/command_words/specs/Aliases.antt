@@ -9,7 +9,8 @@ use Rattle.command_words.specs.Texts.{is_text}
 
 -- an alias's name is 1 to 15 lower-case letters
 abbrev pub is_alias_name : List ℕ → Bool
-is_alias_name name = nat_le 1 (length name) && (nat_le (length name) 15 && list_all (λ b. nat_le 97 b && nat_le b 122) name)
+is_alias_name name =
+    nat_le 1 (length name) && (nat_le (length name) 15 && list_all (λ b. nat_le 97 b && nat_le b 122) name)
 
 -- the aliases of that name, of which there is one at most; names are compared exactly
 abbrev pub has_name : List ℕ → Alias → Bool
@@ -46,7 +47,8 @@ placed b rest = if b == 64 then rest else word_at (b - 49) rest
 abbrev pub filled : List ℕ → List ℕ → List ℕ
 filled rest [] = []
 filled rest (a ∷ []) = a ∷ []
-filled rest (a ∷ b ∷ text) = if a == 36 && is_place b then placed b rest ++ filled rest text else a ∷ filled rest (b ∷ text)
+filled rest (a ∷ b ∷ text) =
+    if a == 36 && is_place b then placed b rest ++ filled rest text else a ∷ filled rest (b ∷ text)
 
 -- the rest of the line behind a blank, if there is a rest
 abbrev pub behind_blank : List ℕ → List ℕ

@@ -45,7 +45,8 @@ called_or None other = other
 called_or (Some verb) other = Ok verb
 
 abbrev pub verb_of : List ℕ → Result Verb Refusal
-verb_of word = called_or (find (is_called word) verbs) (one_by_front (count_by (begins word) verbs) (find (begins word) verbs))
+verb_of word =
+    called_or (find (is_called word) verbs) (one_by_front (count_by (begins word) verbs) (find (begins word) verbs))
 
 example_name : verb_of (codes "quit") ≡ Ok Quit
 example_name = refl

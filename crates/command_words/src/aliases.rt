@@ -92,7 +92,8 @@ impl Aliases {
 
     /// Takes away the alias of that name. Refuses with `NotOnList` where there is none.
     pub fn unset(&mut self, name: &[u8]) -> Result<(), Refusal>
-        ensures gone { OnOk result (IfSome (position (has_name name.now) self.old) (λ place. self.new ≡ remove self.old place)) }
+        ensures gone { OnOk result (IfSome (position (has_name name.now) self.old)
+            (λ place. self.new ≡ remove self.old place)) }
         ensures none { (result ≡ Err Refusal.NotOnList) ↔ (position (has_name name.now) self.old ≡ None) }
         ensures unchanged { OnErr result (self.new ≡ self.old) }
     {

@@ -59,7 +59,8 @@ fn fill_next<'a>(
     after: &'a [u8],
     rest: &[u8],
 ) -> Result<&'a [u8], NoMemory>
-    ensures filled { IfOk result (λ left. made.new.items ++ filled rest.now left.now ≡ made.old.items ++ filled rest.now (byte ∷ after.now)) }
+    ensures filled { IfOk result (λ left. made.new.items ++ filled rest.now left.now ≡ made.old.items
+        ++ filled rest.now (byte ∷ after.now)) }
     ensures fewer { IfOk result (λ left. length left.now ≤ length after.now) }
 {
     let [place, behind @ ..] = after else {

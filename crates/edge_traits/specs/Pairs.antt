@@ -30,6 +30,8 @@ without key = filter (λ pair. not (eq_by_cmp keys_order key pair.0))
 -- where a key stands among the pairs, or would stand
 abbrev pub IsPlace : Pairs → List ℕ → Place → Type 0
 IsPlace pairs key (At i) =
-    (i < length pairs) × ((bytes : List ℕ) → put keys_order key bytes pairs ≡ slice_set pairs i (key, bytes)) × (without key pairs ≡ remove pairs i)
+    (i < length pairs) × ((bytes : List ℕ) → put keys_order key bytes pairs ≡ slice_set pairs i (key, bytes))
+    × (without key pairs ≡ remove pairs i)
 IsPlace pairs key (Gap i) =
-    (i ≤ length pairs) × ((bytes : List ℕ) → put keys_order key bytes pairs ≡ insert pairs i (key, bytes)) × (without key pairs ≡ pairs)
+    (i ≤ length pairs) × ((bytes : List ℕ) → put keys_order key bytes pairs ≡ insert pairs i (key, bytes))
+    × (without key pairs ≡ pairs)

@@ -74,7 +74,8 @@ impl Keeper for MemKeeper {
     ghost faults = { λ keeper. keeper.plan.faults };
 
     fn put(&mut self, key: &[u8], bytes: &[u8]) -> Kept
-        ensures put { HasPut (Some (map.from_sorted self.old.pairs)) (Some (map.from_sorted self.new.pairs)) key.now bytes.now result }
+        ensures put { HasPut (Some (map.from_sorted self.old.pairs))
+            (Some (map.from_sorted self.new.pairs)) key.now bytes.now result }
         ensures cause { OnKeepFailed result (Rose self.old.plan.faults self.new.plan.faults) }
         ensures counted { self.old.plan.faults ≤ self.new.plan.faults }
         ensures failed { (result ≡ Kept.Failed) ↔ IsToFail self.old.plan }
@@ -91,7 +92,8 @@ impl Keeper for MemKeeper {
 
     /// Takes no memory.
     fn remove(&mut self, key: &[u8]) -> Kept
-        ensures removed { HasRemoved (Some (map.from_sorted self.old.pairs)) (Some (map.from_sorted self.new.pairs)) key.now result }
+        ensures removed { HasRemoved (Some (map.from_sorted self.old.pairs))
+            (Some (map.from_sorted self.new.pairs)) key.now result }
         ensures cause { OnKeepFailed result (Rose self.old.plan.faults self.new.plan.faults) }
         ensures counted { self.old.plan.faults ≤ self.new.plan.faults }
         ensures failed { (result ≡ Kept.Failed) ↔ IsToFail self.old.plan }

@@ -21,7 +21,11 @@ impl Model for MemSource {
 
     ghost Value = { Stock };
 
-    ghost view = { λ source. record { left = drop source.at source.bytes.items; cut = source.cut; plan = source.plan } };
+    ghost view = { λ source. record {
+      left = drop source.at source.bytes.items;
+      cut = source.cut;
+      plan = source.plan;
+    } };
 
     ghost invariant = { λ source. (source.at ≤ vec_len source.bytes) × (1 ≤ source.cut) };
 }
@@ -34,7 +38,11 @@ impl MemSource {
     /// the reads that fail, from 0.
     pub fn new(bytes: Vec<u8>, cut: usize, fails: Vec<u64>) -> MemSource
         requires { 1 ≤ cut }
-        ensures { result ≡ record { left = bytes.items; cut = cut; plan = record { fails = fails.items; calls = 0; faults = 0 } } }
+        ensures { result ≡ record {
+          left = bytes.items;
+          cut = cut;
+          plan = record { fails = fails.items; calls = 0; faults = 0 };
+        } }
     {
         MemSource {
             bytes,

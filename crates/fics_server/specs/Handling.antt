@@ -12,30 +12,36 @@ IsOutside {S} reached lines = (s : S) (due : List ℕ) → reached lines s due �
 
 -- the line takes the handler from the old place to the new one, and this text is due for it
 abbrev pub Takes : {S : Type 0} → Reaching S → S → List ℕ → S → List ℕ → Type 0
-Takes reached old line new text = (lines : List (List ℕ)) (due : List ℕ) → reached lines old due → reached (lines ++ line ∷ []) new (due ++ text)
+Takes reached old line new text =
+    (lines : List (List ℕ)) (due : List ℕ) → reached lines old due → reached (lines ++ line ∷ []) new (due ++ text)
 
 -- no run has the line behind lines that bring the handler here
 abbrev pub IsOutsideAt : {S : Type 0} → Reaching S → S → List ℕ → Type 0
-IsOutsideAt reached old line = (lines : List (List ℕ)) (due : List ℕ) → reached lines old due → IsOutside reached (lines ++ line ∷ [])
+IsOutsideAt reached old line =
+    (lines : List (List ℕ)) (due : List ℕ) → reached lines old due → IsOutside reached (lines ++ line ∷ [])
 
 -- after the answer of a line: it was good and its text was appended, or it is outside the grammar and nothing was
 abbrev pub AfterAnswering : {S : Type 0} → Reaching S → S → List ℕ → List ℕ → S → List ℕ → Bool → Type 0
-AfterAnswering reached old line out new out' true = (text : List ℕ) × (out' ≡ out ++ text) × Takes reached old line new text
+AfterAnswering reached old line out new out' true =
+    (text : List ℕ) × (out' ≡ out ++ text) × Takes reached old line new text
 AfterAnswering reached old line out new out' false = (out' ≡ out) × IsOutsideAt reached old line
 
 -- the laws of the lines of a command: an empty line changes nothing, a prefix of lines that a run has is one too, and
 -- no line of a run has more than 1,023 bytes
 pub record AreLines {S : Type 0} (reached : Reaching S) : Type 0 where
   pub empty : (lines : List (List ℕ)) (s : S) (due : List ℕ) → reached lines s due → reached (lines ++ [] ∷ []) s due
-  pub fronts : (lines : List (List ℕ)) (line : List ℕ) (s : S) (due : List ℕ) → reached (lines ++ line ∷ []) s due → (before : S) × (text : List ℕ) × reached lines before text
-  pub short : (lines : List (List ℕ)) (line : List ℕ) (s : S) (due : List ℕ) → reached (lines ++ line ∷ []) s due → length line ≤ 1023
+  pub fronts : (lines : List (List ℕ)) (line : List ℕ) (s : S) (due : List ℕ) → reached (lines ++ line ∷ []) s due
+      → (before : S) × (text : List ℕ) × reached lines before text
+  pub short : (lines : List (List ℕ)) (line : List ℕ) (s : S) (due : List ℕ) → reached (lines ++ line ∷ []) s due
+      → length line ≤ 1023
 
 -- the line that tells of a line outside the grammar: its number, and the bytes that end a line
 abbrev pub bad_line : List ℕ → ℕ → List ℕ
 bad_line ending n = codes "bad line " ++ decimal n ++ ending
 
 -- the lines have one that no run has behind those before it; due is what is due for these, and the bad line's number
-pub record HasBadLine {S : Type 0} (reached : Reaching S) (ending : List ℕ) (lines : List (List ℕ)) (due : List ℕ) : Type 0 where
+pub record HasBadLine {S : Type 0} (reached : Reaching S) (ending : List ℕ) (lines : List (List ℕ))
+    (due : List ℕ) : Type 0 where
   pub before : List (List ℕ)
   pub line : List ℕ
   pub rest : List (List ℕ)

@@ -26,4 +26,5 @@ squares_of line = None
 
 -- a line spells the two squares: their names, with or without a dash between them
 abbrev pub Spells : List ℕ → Squares → Type 0
-Spells line s = (line ≡ square_text s.from ++ square_text s.to) ⊎ (line ≡ square_text s.from ++ codes "-" ++ square_text s.to)
+Spells line s =
+    (line ≡ square_text s.from ++ square_text s.to) ⊎ (line ≡ square_text s.from ++ codes "-" ++ square_text s.to)

@@ -7,7 +7,8 @@ use Rattle.fics_server.specs.declared.stop.Stop.{Stop}
 use Rattle.fics_server.specs.declared.stop.Stop.TheVariants.{BadLine, Memory}
 
 -- the machine was fed these bytes, and these were written for them; every line that ended was good
-pub record Progress {S : Type 0} (reached : Reaching S) (taken : List ℕ) (standing : Standing S) (written : List ℕ) : Type 0 where
+pub record Progress {S : Type 0} (reached : Reaching S) (taken : List ℕ) (standing : Standing S)
+    (written : List ℕ) : Type 0 where
   pub kept : standing.kept ≡ take 1024 (last_line taken)
   pub good : reached (whole_lines taken) standing.handler written
   pub number : standing.number ≡ length (whole_lines taken) + 1
@@ -24,16 +25,20 @@ AfterFeed reached ending taken standing written (Ok u) = Progress reached taken 
 AfterFeed reached ending taken standing written (Err stop) = AfterStop reached ending taken written stop
 
 -- a line ended, good: whatever the line is of which this front was kept, its answer was made
-pub record IsLineAnswered {S : Type 0} (reached : Reaching S) (old : Standing S) (out : List ℕ) (new : Standing S) (out' : List ℕ) : Type 0 where
-  pub answer_line : (line : List ℕ) → old.kept ≡ take 1024 line → AfterAnswering reached old.handler line out new.handler out' true
+pub record IsLineAnswered {S : Type 0} (reached : Reaching S) (old : Standing S) (out : List ℕ) (new : Standing S)
+    (out' : List ℕ) : Type 0 where
+  pub answer_line : (line : List ℕ) → old.kept ≡ take 1024 line
+      → AfterAnswering reached old.handler line out new.handler out' true
   pub next : new.number ≡ old.number + 1
   pub cleared : new.kept ≡ []
 
 -- a line ended: its answer was made and its text appended, or it is outside the grammar, and its number was appended
-abbrev pub AfterLine : {S A : Type 0} → Reaching S → List ℕ → Standing S → List ℕ → Standing S → List ℕ → Result A Stop → Type 0
+abbrev pub AfterLine : {S A : Type 0} → Reaching S → List ℕ → Standing S → List ℕ → Standing S → List ℕ → Result A Stop
+    → Type 0
 AfterLine reached ending old out new out' (Ok u) = IsLineAnswered reached old out new out'
 AfterLine reached ending old out new out' (Err BadLine) =
-    (out' ≡ out ++ bad_line ending old.number) × ((line : List ℕ) → old.kept ≡ take 1024 line → IsOutsideAt reached old.handler line)
+    (out' ≡ out ++ bad_line ending old.number)
+    × ((line : List ℕ) → old.kept ≡ take 1024 line → IsOutsideAt reached old.handler line)
 AfterLine reached ending old out new out' (Err Memory) = ⊤
 
 -- the fact holds where a line is outside the grammar

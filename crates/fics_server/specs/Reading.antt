@@ -11,7 +11,8 @@ use Rattle.fics_server.specs.declared.end.End.{End}
 use Rattle.fics_server.specs.declared.end.End.TheVariants.{Done, Usage, ReadFault, WriteFault, Memory, BadLine, Spent}
 
 -- so many reads gave these bytes, each at least one and at most 1,024, and all that is due was written
-pub record Reading {S : Type 0} (reached : Reaching S) (left left' written written' : Option (List ℕ)) (standing : Standing S) (reads : ℕ) : Type 0 where
+pub record Reading {S : Type 0} (reached : Reaching S) (left left' written written' : Option (List ℕ))
+    (standing : Standing S) (reads : ℕ) : Type 0 where
   pub taken : List ℕ
   pub text : List ℕ
   pub came : Consumes left left' taken
@@ -34,11 +35,14 @@ AfterSend written written' bytes (Err Spent) = ⊥
 -- the given end comes where the bytes were written
 abbrev pub AfterSendLast : Option (List ℕ) → Option (List ℕ) → List ℕ → End → End → Type 0
 AfterSendLast written written' bytes end result =
-    ((result ≡ end) × Appends written written' bytes) ⊎ (((result ≡ WriteFault) ⊎ (result ≡ Memory)) × AppendsFront written written' bytes)
+    ((result ≡ end) × Appends written written' bytes)
+    ⊎ (((result ≡ WriteFault) ⊎ (result ≡ Memory)) × AppendsFront written written' bytes)
 
 -- the bytes were written and the handler was closed; else they, or a prefix of them, were written
-abbrev pub AfterSendAndClose : {S : Type 0} → (S → S → Type 0) → Option (List ℕ) → Option (List ℕ) → List ℕ → S → S → End → Type 0
-AfterSendAndClose closed written written' bytes stands leaves Done = Appends written written' bytes × closed stands leaves
+abbrev pub AfterSendAndClose : {S : Type 0} → (S → S → Type 0) → Option (List ℕ) → Option (List ℕ) → List ℕ → S → S
+    → End → Type 0
+AfterSendAndClose closed written written' bytes stands leaves Done =
+    Appends written written' bytes × closed stands leaves
 AfterSendAndClose closed written written' bytes stands leaves Usage = ⊥
 AfterSendAndClose closed written written' bytes stands leaves ReadFault = ⊥
 AfterSendAndClose closed written written' bytes stands leaves WriteFault = AppendsFront written written' bytes
@@ -47,13 +51,15 @@ AfterSendAndClose closed written written' bytes stands leaves BadLine = ⊥
 AfterSendAndClose closed written written' bytes stands leaves Spent = ⊥
 
 -- these bytes were answered, and these written
-pub record IsAnswered {S : Type 0} (reached : Reaching S) (taken : List ℕ) (standing : Standing S) (written written' : Option (List ℕ)) : Type 0 where
+pub record IsAnswered {S : Type 0} (reached : Reaching S) (taken : List ℕ) (standing : Standing S)
+    (written written' : Option (List ℕ)) : Type 0 where
   pub text : List ℕ
   pub wrote : Appends written written' text
   pub progress : Progress reached taken standing text
 
 -- these lines have one outside the grammar, and what is due was written
-pub record IsRefused {S : Type 0} (reached : Reaching S) (ending : List ℕ) (lines : List (List ℕ)) (written written' : Option (List ℕ)) : Type 0 where
+pub record IsRefused {S : Type 0} (reached : Reaching S) (ending : List ℕ) (lines : List (List ℕ))
+    (written written' : Option (List ℕ)) : Type 0 where
   pub text : List ℕ
   pub wrote : Appends written written' text
   pub bad : HasBadLine reached ending lines text
@@ -63,18 +69,24 @@ abbrev pub IsRefusedOr : {S : Type 0} → Reaching S → List ℕ → List ℕ �
 IsRefusedOr reached ending taken written written' Done = ⊥
 IsRefusedOr reached ending taken written written' Usage = ⊥
 IsRefusedOr reached ending taken written written' ReadFault = ⊥
-IsRefusedOr reached ending taken written written' WriteFault = PartIsWritten reached ending (whole_lines taken) written written'
-IsRefusedOr reached ending taken written written' Memory = PartIsWritten reached ending (whole_lines taken) written written'
-IsRefusedOr reached ending taken written written' BadLine = IsRefused reached ending (whole_lines taken) written written'
+IsRefusedOr reached ending taken written written' WriteFault =
+    PartIsWritten reached ending (whole_lines taken) written written'
+IsRefusedOr reached ending taken written written' Memory =
+    PartIsWritten reached ending (whole_lines taken) written written'
+IsRefusedOr reached ending taken written written' BadLine =
+    IsRefused reached ending (whole_lines taken) written written'
 IsRefusedOr reached ending taken written written' Spent = ⊥
 
 -- what holds after bytes were answered
-abbrev pub AfterAnswer : {S A : Type 0} → Reaching S → List ℕ → List ℕ → Standing S → Option (List ℕ) → Option (List ℕ) → Result A End → Type 0
+abbrev pub AfterAnswer : {S A : Type 0} → Reaching S → List ℕ → List ℕ → Standing S → Option (List ℕ) → Option (List ℕ)
+    → Result A End → Type 0
 AfterAnswer reached ending taken standing written written' (Ok u) = IsAnswered reached taken standing written written'
-AfterAnswer reached ending taken standing written written' (Err end) = IsRefusedOr reached ending taken written written' end
+AfterAnswer reached ending taken standing written written' (Err end) =
+    IsRefusedOr reached ending taken written written' end
 
 -- all lines were answered, what is due was written, and the handler was closed
-pub record IsFinished {S : Type 0} (reached : Reaching S) (closed : S → S → Type 0) (lines : List (List ℕ)) (written written' : Option (List ℕ)) : Type 0 where
+pub record IsFinished {S : Type 0} (reached : Reaching S) (closed : S → S → Type 0) (lines : List (List ℕ))
+    (written written' : Option (List ℕ)) : Type 0 where
   pub stands : S
   pub leaves : S
   pub text : List ℕ
@@ -83,11 +95,16 @@ pub record IsFinished {S : Type 0} (reached : Reaching S) (closed : S → S → 
   pub close : closed stands leaves
 
 -- what holds after the last line was answered
-abbrev pub AfterFinish : {S : Type 0} → Reaching S → (S → S → Type 0) → List ℕ → List ℕ → Option (List ℕ) → Option (List ℕ) → End → Type 0
-AfterFinish reached closed ending taken written written' Done = IsFinished reached closed (lines_of taken) written written'
+abbrev pub AfterFinish : {S : Type 0} → Reaching S → (S → S → Type 0) → List ℕ → List ℕ → Option (List ℕ)
+    → Option (List ℕ) → End → Type 0
+AfterFinish reached closed ending taken written written' Done =
+    IsFinished reached closed (lines_of taken) written written'
 AfterFinish reached closed ending taken written written' Usage = ⊥
 AfterFinish reached closed ending taken written written' ReadFault = ⊥
-AfterFinish reached closed ending taken written written' WriteFault = PartIsWritten reached ending (lines_of taken) written written'
-AfterFinish reached closed ending taken written written' Memory = PartIsWritten reached ending (lines_of taken) written written'
-AfterFinish reached closed ending taken written written' BadLine = IsRefused reached ending (lines_of taken) written written'
+AfterFinish reached closed ending taken written written' WriteFault =
+    PartIsWritten reached ending (lines_of taken) written written'
+AfterFinish reached closed ending taken written written' Memory =
+    PartIsWritten reached ending (lines_of taken) written written'
+AfterFinish reached closed ending taken written written' BadLine =
+    IsRefused reached ending (lines_of taken) written written'
 AfterFinish reached closed ending taken written written' Spent = ⊥

@@ -30,7 +30,8 @@ pub record AreReplayed (left left' written written' : Option (List ℕ)) (ended 
 pub record IsReplayed (left left' written written' : Option (List ℕ)) : Type 0 where
   pub replayed : AreReplayed left left' written written' true
   pub leaving : Log
-  pub leave : LeaveInOrder (remembered replayed.rows) (last_moment (arrivals_of replayed.rows)) (left_by replayed.rows) leaving
+  pub leave : LeaveInOrder (remembered replayed.rows) (last_moment (arrivals_of replayed.rows))
+      (left_by replayed.rows) leaving
   pub legal : Legal house opening_parts (history_of replayed.rows ++ leaving)
 
 -- at least 2^40 bytes came, and their whole lines were answered

@@ -17,9 +17,11 @@ JobEnds left left' written written' end Replay = ReplayEnds left left' written w
 
 -- a prefix of what would have been written, at a fault of writing or when out of memory: of a command's text, or of the
 -- usage line
-abbrev pub WritesPart : List (String Global) → Option (List ℕ) → Option (List ℕ) → Option (List ℕ) → Option (List ℕ) → End → Type 0
+abbrev pub WritesPart : List (String Global) → Option (List ℕ) → Option (List ℕ) → Option (List ℕ) → Option (List ℕ)
+    → End → Type 0
 WritesPart words left left' written written' end =
-    ((job : Job) → Names words job → JobEnds left left' written written' end job) × (¬ (IsCommand words) → UsagePart left left' written written')
+    ((job : Job) → Names words job → JobEnds left left' written written' end job)
+    × (¬ (IsCommand words) → UsagePart left left' written written')
 
 -- all lines are in the command's grammar: none is bad, or they are those of an evening
 abbrev pub AreGood : List (List ℕ) → Job → Type 0

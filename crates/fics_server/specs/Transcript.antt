@@ -13,7 +13,8 @@ line_answer game (b ∷ bytes) = if nat_lt 1023 (length (b ∷ bytes)) then None
 -- what is written for lines that begin with number n: the texts of their answers, up to a line outside the grammar
 abbrev pub answers : ℕ → GameState → List (List ℕ) → List ℕ
 answers n game [] = []
-answers n game (line ∷ lines) = option_map_or (λ p. p.1 ++ answers (n + 1) p.0 lines) (line_answer game line) (bad_line (codes "\n\r") n)
+answers n game (line ∷ lines) =
+    option_map_or (λ p. p.1 ++ answers (n + 1) p.0 lines) (line_answer game line) (bad_line (codes "\n\r") n)
 
 -- the number of the first line outside the grammar
 abbrev pub first_bad : ℕ → GameState → List (List ℕ) → Option ℕ

@@ -28,7 +28,8 @@ pub fn answer_lines<S: Source, K: Sink, T: LineHandler>(
     sink: &mut K,
 ) -> End
     requires { T.reached [] handler [] }
-    ensures ends { HandlerEnds T.reached T.closed T.ending (S.left source.old) (S.left source.new) (K.written sink.old) (K.written sink.new) result }
+    ensures ends { HandlerEnds T.reached T.closed T.ending (S.left source.old) (S.left source.new) (K.written sink.old)
+        (K.written sink.new) result }
     ensures read_cause { OnReadFault result (Rose (S.faults source.old) (S.faults source.new)) }
     ensures write_cause { OnWriteFault result (Rose (K.faults sink.old) (K.faults sink.new)) }
 {
@@ -93,7 +94,8 @@ fn send_and_close<K: Sink, T: LineHandler>(
     bytes: &[u8],
     sink: &mut K,
 ) -> End
-    ensures sent { AfterSendAndClose T.closed (K.written sink.old) (K.written sink.new) bytes.now machine.old.handler machine.new.handler result }
+    ensures sent { AfterSendAndClose T.closed (K.written sink.old)
+        (K.written sink.new) bytes.now machine.old.handler machine.new.handler result }
     ensures cause { OnWriteFault result (Rose (K.faults sink.old) (K.faults sink.new)) }
 {
     if let Err(fault) = send(bytes, sink) {

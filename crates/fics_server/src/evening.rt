@@ -86,7 +86,8 @@ impl Evening {
         requires first { self.old.order ≡ None }
         requires some { 0 < length line.now }
         requires line { IsLine line.now }
-        ensures { (out : List ℕ) → IfOk result (λ good. AfterAnswering Reached self.old line.now out self.new out good) }
+        ensures { (out : List ℕ) → IfOk result
+            (λ good. AfterAnswering Reached self.old line.now out self.new out good) }
     {
         let Some(seats) = read_chess_seat(self.alloc, line)? else {
             return Ok(false);
@@ -107,7 +108,8 @@ impl Evening {
         requires order { self.old.order ≡ Some order }
         requires some { 0 < length line.now }
         requires line { IsLine line.now }
-        ensures { IfOk result (λ good. AfterAnswering Reached self.old line.now out.old.items self.new out.new.items good) }
+        ensures { IfOk result
+            (λ good. AfterAnswering Reached self.old line.now out.old.items self.new out.new.items good) }
     {
         let Some((next, input)) = read_next(self.alloc, &self.server, &order, line)? else {
             return Ok(false);
@@ -180,7 +182,8 @@ fn read_next(
     order: &Attendance,
     line: &Line,
 ) -> Result<Option<(ScriptLine, Input)>, NoMemory>
-    ensures next { IfOk result (λ read. IfSome read (λ next. IsNext order.now (parts_in server.now) line.now next.0 next.1)) }
+    ensures next { IfOk result (λ read. IfSome read
+        (λ next. IsNext order.now (parts_in server.now) line.now next.0 next.1)) }
     ensures none { IfOk result (λ read. IfNone read (IsNoNext order.now (parts_in server.now) line.now)) }
 {
     let Some(next) = read_script(alloc, line)? else {
@@ -277,7 +280,8 @@ fn read_chess_seat(alloc: Global, line: &Line) -> Result<Option<SeatLine>, NoMem
     ensures spelled { IfOk result (λ read. IfSome read (λ seat. line.now ≡ seat_text seat)) }
     ensures in_range { IfOk result (λ read. IfSome read IsSeatLine) }
     ensures chess { IfOk result (λ read. IfSome read (λ seat. seat.terms.variant ≡ Chess)) }
-    ensures none { IfOk result (λ read. IfNone read ((seat : SeatLine) → IsSeatLine seat → seat.terms.variant ≡ Chess → line.now ≢ seat_text seat)) }
+    ensures none { IfOk result (λ read. IfNone read
+        ((seat : SeatLine) → IsSeatLine seat → seat.terms.variant ≡ Chess → line.now ≢ seat_text seat)) }
 {
     let Some(seat) = read_seat(alloc, line)? else {
         return Ok(None);

@@ -10,7 +10,8 @@ ghost use Rattle.one_server.specs.Running.{Log};
 
 /// The lines of an evening fix all that it makes and writes, and what is made when it closes; its history is legal.
 pub fn one_evening()
-    ensures same { (rows other : List Row) → IsEvening rows → IsEvening other → map line_of rows ≡ map line_of other → rows ≡ other }
+    ensures same { (rows other : List Row) → IsEvening rows → IsEvening other → map line_of rows ≡ map line_of other
+        → rows ≡ other }
     ensures leaving { (rows : List Row) (moment : ℕ) (sessions : List ℕ) (made other : Log)
         → LeaveInOrder (remembered rows) moment sessions made → LeaveInOrder (remembered rows) moment sessions other
         → Legal house (parts_after rows) made → Legal house (parts_after rows) other → made ≡ other }

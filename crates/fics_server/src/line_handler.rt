@@ -21,7 +21,8 @@ pub trait LineHandler: Drop {
     fn answer_line(&mut self, line: &[u8], out: &mut Vec<u8>) -> Result<bool, NoMemory>
         requires some { 0 < length line.now }
         requires short { length line.now ≤ 1023 }
-        ensures { IfOk result (λ good. AfterAnswering reached self.old line.now out.old.items self.new out.new.items good) };
+        ensures { IfOk result
+            (λ good. AfterAnswering reached self.old line.now out.old.items self.new out.new.items good) };
 
     /// Closes at the input's end; it writes nothing.
     fn close(&mut self) -> Result<(), NoMemory>

@@ -28,7 +28,11 @@ impl<T: LineHandler> Model for Machine<T> {
 
     ghost Value = { Standing T };
 
-    ghost view = { λ machine. record { handler = machine.handler; number = machine.number; kept = machine.kept.items } };
+    ghost view = { λ machine. record {
+      handler = machine.handler;
+      number = machine.number;
+      kept = machine.kept.items;
+    } };
 
     ghost invariant = { λ machine. vec_len machine.kept ≤ 1024 };
 }

@@ -30,18 +30,27 @@ pub fn run<S: Source, K: Sink, P: Keeper>(
     sink: &mut K,
     keeper: &mut P,
 ) -> u8
-    ensures answered { result ≡ 0 → Does words.now (JobEnds (S.left source.old) (S.left source.new) (K.written sink.old) (K.written sink.new) End.Done) }
-    ensures usage { result ≡ 1 → ¬ (IsCommand words.now) × Keeps (S.left source.old) (S.left source.new) × Appends (K.written sink.old) (K.written sink.new) usage_line }
+    ensures answered { result ≡ 0 → Does words.now
+        (JobEnds (S.left source.old) (S.left source.new) (K.written sink.old) (K.written sink.new) End.Done) }
+    ensures usage { result ≡ 1 → ¬ (IsCommand words.now) × Keeps (S.left source.old) (S.left source.new)
+        × Appends (K.written sink.old) (K.written sink.new) usage_line }
     ensures no_command { ¬ (IsCommand words.now) → (result ≡ 1) ⊎ ((result ≡ 3) ⊎ (result ≡ 6)) }
     ensures read_fault { result ≡ 2 → Rose (S.faults source.old) (S.faults source.new) }
-    ensures read_part { result ≡ 2 → Does words.now (JobEnds (S.left source.old) (S.left source.new) (K.written sink.old) (K.written sink.new) End.ReadFault) }
+    ensures read_part { result ≡ 2 → Does words.now
+        (JobEnds (S.left source.old) (S.left source.new) (K.written sink.old) (K.written sink.new) End.ReadFault) }
     ensures write_fault { result ≡ 3 → Rose (K.faults sink.old) (K.faults sink.new) }
-    ensures write_part { result ≡ 3 → WritesPart words.now (S.left source.old) (S.left source.new) (K.written sink.old) (K.written sink.new) End.WriteFault }
-    ensures memory_part { result ≡ 6 → WritesPart words.now (S.left source.old) (S.left source.new) (K.written sink.old) (K.written sink.new) End.Memory }
-    ensures bad_line { result ≡ 7 → Does words.now (JobEnds (S.left source.old) (S.left source.new) (K.written sink.old) (K.written sink.new) End.BadLine) }
-    ensures spent { result ≡ 9 → Does words.now (JobEnds (S.left source.old) (S.left source.new) (K.written sink.old) (K.written sink.new) End.Spent) }
-    ensures complete { (job : Job) → Names words.now job → ¬ (Rose (S.faults source.old) (S.faults source.new)) → ¬ (Rose (K.faults sink.old) (K.faults sink.new))
-        → IfSome (S.left source.old) (λ text. length text < 2 ^ 40 → AreGood (lines_of text) job → (result ≡ 0) ⊎ (result ≡ 6)) }
+    ensures write_part { result ≡ 3 → WritesPart words.now (S.left source.old) (S.left source.new) (K.written sink.old)
+        (K.written sink.new) End.WriteFault }
+    ensures memory_part { result ≡ 6 → WritesPart words.now (S.left source.old) (S.left source.new) (K.written sink.old)
+        (K.written sink.new) End.Memory }
+    ensures bad_line { result ≡ 7 → Does words.now
+        (JobEnds (S.left source.old) (S.left source.new) (K.written sink.old) (K.written sink.new) End.BadLine) }
+    ensures spent { result ≡ 9 → Does words.now
+        (JobEnds (S.left source.old) (S.left source.new) (K.written sink.old) (K.written sink.new) End.Spent) }
+    ensures complete { (job : Job) → Names words.now job → ¬ (Rose (S.faults source.old) (S.faults source.new))
+        → ¬ (Rose (K.faults sink.old) (K.faults sink.new))
+        → IfSome (S.left source.old) (λ text. length text < 2 ^ 40 → AreGood (lines_of text) job → (result ≡ 0)
+        ⊎ (result ≡ 6)) }
     ensures statuses { Contains (0 ∷ 1 ∷ 2 ∷ 3 ∷ 6 ∷ 7 ∷ 9 ∷ []) result }
     ensures keeper_stays { keeper.new ≡ keeper.old }
 {
@@ -53,7 +62,8 @@ pub fn run<S: Source, K: Sink, P: Keeper>(
 
 /// Runs a command.
 fn run_job<S: Source, K: Sink>(alloc: Global, job: Job, source: &mut S, sink: &mut K) -> End
-    ensures ends { JobEnds (S.left source.old) (S.left source.new) (K.written sink.old) (K.written sink.new) result job }
+    ensures ends { JobEnds (S.left source.old) (S.left source.new) (K.written sink.old)
+        (K.written sink.new) result job }
     ensures read_cause { OnReadFault result (Rose (S.faults source.old) (S.faults source.new)) }
     ensures write_cause { OnWriteFault result (Rose (K.faults sink.old) (K.faults sink.new)) }
 {

@@ -24,7 +24,8 @@ pub record Board : Type 0 where
 
 -- the board at its start
 abbrev pub new_board : ℕ → Terms → ℕ → Board
-new_board number terms moment = record { number = number; terms = terms; list = []; begin = moment; played = 0; came = [] }
+new_board number terms moment =
+    record { number = number; terms = terms; list = []; begin = moment; played = 0; came = [] }
 
 -- a half-move on the board of that number
 abbrev pub half_move : ℕ → Played → HalfMove

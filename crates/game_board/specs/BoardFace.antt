@@ -22,7 +22,8 @@ before_last list = take (length list - 1) list
 -- what is shown of the last half-move: it is read in the position before it
 abbrev pub last_shown : Variant → ℕ → List Played → Option Shown
 last_shown v number list =
-    option_map (λ p. plain_shown_of (position_after v (half_moves number (before_last list)) number) p.what) (last_played list)
+    option_map (λ p. plain_shown_of (position_after v (half_moves number (before_last list)) number) p.what)
+    (last_played list)
 
 -- all that a printed board shows of a game, names and clocks aside
 unfoldable pub board_face : Board → Face

@@ -22,7 +22,8 @@ most_played = 1200
 
 -- why a colour may make no half-move now
 abbrev pub move_refused : Board → Colour → Option Refusal
-move_refused b c = first_cause ((not (same_colour c (to_move b)), NotYourTurn) ∷ (b.played == most_played, TooManyMoves) ∷ [])
+move_refused b c =
+    first_cause ((not (same_colour c (to_move b)), NotYourTurn) ∷ (b.played == most_played, TooManyMoves) ∷ [])
 
 -- the half-move that a word of a colour stands for now, or the refusal: what refuses the colour comes before the
 -- rules' answer

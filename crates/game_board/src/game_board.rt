@@ -240,9 +240,13 @@ impl GameBoard {
     /// The position after an allowed half-move, whatever its charge.
     fn next_position(&self, what: &Move) -> PlainBoard
         requires { Allowed (position_of self.now) what.now }
-        ensures stands { (charge : Option Charge) → Stands result (half_moves self.now.number (self.now.list ++ record { what = what.now; charge = charge } ∷ [])) self.now.number }
+        ensures stands { (charge : Option Charge)
+            → Stands result (half_moves self.now.number
+            (self.now.list ++ record { what = what.now; charge = charge } ∷ [])) self.now.number }
         ensures variant { result.variant ≡ self.now.terms.variant }
-        ensures legal { (charge : Option Charge) → IsLegal self.now.terms.variant (half_moves self.now.number (self.now.list ++ record { what = what.now; charge = charge } ∷ [])) }
+        ensures legal { (charge : Option Charge)
+            → IsLegal self.now.terms.variant
+            (half_moves self.now.number (self.now.list ++ record { what = what.now; charge = charge } ∷ [])) }
     {
         let made = *what;
         self.position.after(made)
@@ -387,8 +391,10 @@ fn charge_clocks(
     requires white_room { mover ≡ Colour.White → length white.old.charges < 600 }
     requires black_room { mover ≡ Colour.Black → length black.old.charges < 600 }
     requires sound { IfSome charge IsChargeable }
-    ensures white { white.new ≡ record white.old { charges = white.old.charges ++ charge_to Colour.White mover charge } }
-    ensures black { black.new ≡ record black.old { charges = black.old.charges ++ charge_to Colour.Black mover charge } }
+    ensures white { white.new ≡ record white.old
+        { charges = white.old.charges ++ charge_to Colour.White mover charge } }
+    ensures black { black.new ≡ record black.old
+        { charges = black.old.charges ++ charge_to Colour.Black mover charge } }
 {
     match mover {
         Colour::White => charge_clock(white, charge),

@@ -21,8 +21,10 @@ use fics_words::Refusal;
 /// charge to the colour who was to move, and nothing to the other.
 pub fn charges_follow_the_list(list: &[Played], next: &Played)
     ensures start { (c : Colour) → charges_of c [] ≡ [] }
-    ensures own { (c : Colour) → mover_after list.now ≡ c → charges_of c (list.now ++ next.now ∷ []) ≡ charges_of c list.now ++ option_to_list next.now.charge }
-    ensures other { (c : Colour) → mover_after list.now ≡ opposite c → charges_of c (list.now ++ next.now ∷ []) ≡ charges_of c list.now }
+    ensures own { (c : Colour) → mover_after list.now ≡ c → charges_of c (list.now ++ next.now ∷ [])
+        ≡ charges_of c list.now ++ option_to_list next.now.charge }
+    ensures other { (c : Colour) → mover_after list.now ≡ opposite c → charges_of c (list.now ++ next.now ∷ [])
+        ≡ charges_of c list.now }
 {}
 
 /// A board with room takes from the colour to move exactly the words that have an answer by the rules, and takes
@@ -31,7 +33,8 @@ pub fn play_takes_exactly_the_answers(board: &GameBoard, colour: Colour, word: &
     ensures own { to_move board.now ≡ colour → board.now.played < 1200 →
         (m : Move) → (move_answer board.now colour word.now ≡ Ok m) ↔ IsAnswer (position_of board.now) word.now m }
     ensures other { to_move board.now ≢ colour → move_answer board.now colour word.now ≡ Err Refusal.NotYourTurn }
-    ensures full { to_move board.now ≡ colour → board.now.played ≡ 1200 → move_answer board.now colour word.now ≡ Err Refusal.TooManyMoves }
+    ensures full { to_move board.now ≡ colour → board.now.played ≡ 1200 → move_answer board.now colour word.now
+        ≡ Err Refusal.TooManyMoves }
 {}
 
 /// The list of a board is a true score of its game from the start on, whatever words are played, at moments that don't

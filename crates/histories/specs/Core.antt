@@ -53,7 +53,8 @@ module _ {P A R : Type 0} (c : Core P A R) where
   new_first xs k a = option_map (λ p. c.one p (other_of xs k a) k a) (slice_get xs (c.first a))
 
   abbrev pub new_second : List P → ℕ → A → Option P
-  new_second xs k a = option_and_then (λ p. option_map (λ q. c.two p q k a) (other_of xs k a)) (slice_get xs (c.first a))
+  new_second xs k a =
+      option_and_then (λ p. option_map (λ q. c.two p q k a) (other_of xs k a)) (slice_get xs (c.first a))
 
   -- the state after the act: its first part is put back, and then its second
   unfoldable pub after : List P → ℕ → A → List P
@@ -63,5 +64,6 @@ module _ {P A R : Type 0} (c : Core P A R) where
 -- state
 pub record Lawful {P A R : Type 0} (c : Core P A R) : Type 0 where
   pub first_in : (xs : List P) (a : A) → c.whole xs → c.fits a → c.first a < length xs
-  pub second_in : (xs : List P) (k : ℕ) (a : A) (p : P) (s : ℕ) → c.whole xs → c.fits a → slice_get xs (c.first a) ≡ Some p → c.second p k a ≡ Some s → (s < length xs) × (s ≢ c.first a)
+  pub second_in : (xs : List P) (k : ℕ) (a : A) (p : P) (s : ℕ) → c.whole xs → c.fits a → slice_get xs (c.first a)
+      ≡ Some p → c.second p k a ≡ Some s → (s < length xs) × (s ≢ c.first a)
   pub stays : (xs : List P) (k : ℕ) (a : A) → c.whole xs → c.fits a → c.whole (after c xs k a)

@@ -17,7 +17,8 @@ module _ {P A R : Type 0} (c : Core P A R) where
 
   -- a part that the act doesn't touch stays as it was
   abbrev pub LeavesOthers : Type 0
-  LeavesOthers = (xs : List P) (k : ℕ) (a : A) (s : ℕ) → (Touches c xs k a s → ⊥) → slice_get (after c xs k a) s ≡ slice_get xs s
+  LeavesOthers =
+      (xs : List P) (k : ℕ) (a : A) (s : ℕ) → (Touches c xs k a s → ⊥) → slice_get (after c xs k a) s ≡ slice_get xs s
 
   -- two states have the same parts in the footprint of the act
   abbrev pub AgreeAt : List P → List P → ℕ → A → Type 0
@@ -29,23 +30,33 @@ module _ {P A R : Type 0} (c : Core P A R) where
 
   -- and so are the new parts of the footprint
   abbrev pub ChangesLocally : Type 0
-  ChangesLocally = (xs ys : List P) (k : ℕ) (a : A) → length ys ≡ length xs → AgreeAt xs ys k a → (s : ℕ) → Touches c xs k a s → slice_get (after c ys k a) s ≡ slice_get (after c xs k a) s
+  ChangesLocally =
+      (xs ys : List P) (k : ℕ) (a : A) → length ys ≡ length xs → AgreeAt xs ys k a → (s : ℕ) → Touches c xs k a s
+      → slice_get (after c ys k a) s ≡ slice_get (after c xs k a) s
 
   -- two acts that touch no common part get the same replies in either order
   abbrev pub RepliesCommute : Type 0
-  RepliesCommute = (xs : List P) (k : ℕ) (a : A) (m : ℕ) (b : A) → Apart xs k a m b → (reply c (after c xs m b) k a ≡ reply c xs k a) × (reply c (after c xs k a) m b ≡ reply c xs m b)
+  RepliesCommute =
+      (xs : List P) (k : ℕ) (a : A) (m : ℕ) (b : A) → Apart xs k a m b → (reply c (after c xs m b) k a ≡ reply c xs k a)
+      × (reply c (after c xs k a) m b ≡ reply c xs m b)
 
   -- and they leave the same state in either order
   abbrev pub StatesCommute : Type 0
-  StatesCommute = (xs : List P) (k : ℕ) (a : A) (m : ℕ) (b : A) → Apart xs k a m b → after c (after c xs k a) m b ≡ after c (after c xs m b) k a
+  StatesCommute =
+      (xs : List P) (k : ℕ) (a : A) (m : ℕ) (b : A) → Apart xs k a m b → after c (after c xs k a) m b
+      ≡ after c (after c xs m b) k a
 
   -- the state after one entry more is the act's step on the state before it
   abbrev pub StepsOnce : Type 0
-  StepsOnce = (xs : List P) (es : List (Entry A R)) (e : Entry A R) → state c xs (es ++ e ∷ []) ≡ after c (state c xs es) e.session e.act
+  StepsOnce =
+      (xs : List P) (es : List (Entry A R)) (e : Entry A R) → state c xs (es ++ e ∷ [])
+      ≡ after c (state c xs es) e.session e.act
 
   -- a legal history stays legal by one entry more, whose act fits and has the reply of the state so far
   abbrev pub GrowsLegally : Type 0
-  GrowsLegally = (xs : List P) (es : List (Entry A R)) (e : Entry A R) → Legal c xs es → c.fits e.act → reply c (state c xs es) e.session e.act ≡ Some e.reply → Legal c xs (es ++ e ∷ [])
+  GrowsLegally =
+      (xs : List P) (es : List (Entry A R)) (e : Entry A R) → Legal c xs es → c.fits e.act
+      → reply c (state c xs es) e.session e.act ≡ Some e.reply → Legal c xs (es ++ e ∷ [])
 
   -- each beginning of a legal history is legal
   abbrev pub BeginsLegally : Type 0

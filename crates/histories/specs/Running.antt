@@ -7,7 +7,8 @@ use Rattle.histories.specs.History.{IsPrefix, calls_of, entry, Legal}
 module _ {P A R : Type 0} (c : Core P A R) where
   -- the session was answered: what it has seen begins with what it had seen, is legal, and ends with this act and this
   -- reply; and what it has made are its own entries there, one more than before
-  pub record Ran (opening : List P) (number : ℕ) (act : A) (reply : R) (seen made seen_now made_now : List (Entry A R)) : Type 0 where
+  pub record Ran (opening : List P) (number : ℕ) (act : A) (reply : R)
+      (seen made seen_now made_now : List (Entry A R)) : Type 0 where
     pub others : List (Entry A R)
     pub ends : seen_now ≡ (seen ++ others) ++ entry number act reply ∷ []
     pub legal : Legal c opening seen_now

@@ -37,11 +37,13 @@ rest_of reader more = rest_reading (last_of (parts_of reader more))
 
 -- both give the same, whatever follows
 abbrev pub GiveSame : Reader → Reader → Type 0
-GiveSame one other = (more : List ℕ) → (lines_of one more ≡ lines_of other more) × (rest_of one more ≡ rest_of other more)
+GiveSame one other =
+    (more : List ℕ) → (lines_of one more ≡ lines_of other more) × (rest_of one more ≡ rest_of other more)
 
 -- the one gives this line and then what the other gives, whatever follows
 abbrev pub Gives : Reader → Incoming → Reader → Type 0
-Gives one incoming other = (more : List ℕ) → (lines_of one more ≡ incoming ∷ lines_of other more) × (rest_of one more ≡ rest_of other more)
+Gives one incoming other =
+    (more : List ℕ) → (lines_of one more ≡ incoming ∷ lines_of other more) × (rest_of one more ≡ rest_of other more)
 
 -- no more than a line is kept of a line that isn't whole
 pub record IsKept (line : List ℕ) : Type 0 where

@@ -22,7 +22,8 @@ stamped_reading line = if nat_lt 1033 (length line) then TooLong else said (open
 
 -- another line has at most 1,023, and they are printable
 abbrev pub plain_reading : List ℕ → Incoming
-plain_reading line = if nat_lt 1023 (length line) then TooLong else (if list_all is_printable line then Plain line else BadByte)
+plain_reading line =
+    if nat_lt 1023 (length line) then TooLong else (if list_all is_printable line then Plain line else BadByte)
 
 -- what a line is
 abbrev pub reading : List ℕ → Incoming

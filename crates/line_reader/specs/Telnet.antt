@@ -26,4 +26,5 @@ is_data BlockCommand byte = false
 -- the data bytes of what comes from such a place on
 abbrev pub data_from : Telnet → List ℕ → List ℕ
 data_from place [] = []
-data_from place (byte ∷ bytes) = if is_data place byte then (byte ∷ data_from (after place byte) bytes) else data_from (after place byte) bytes
+data_from place (byte ∷ bytes) =
+    if is_data place byte then (byte ∷ data_from (after place byte) bytes) else data_from (after place byte) bytes

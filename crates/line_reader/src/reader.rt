@@ -129,7 +129,11 @@ impl LineReader {
     fn pass(&mut self, byte: u8)
         requires some { 0 < length self.old.fed }
         requires within { ends_line self.old.place byte ≡ false }
-        ensures { self.new ≡ record { place = after self.old.place byte; line = grown self.old.place self.old.line byte; fed = drop 1 self.old.fed } }
+        ensures { self.new ≡ record {
+          place = after self.old.place byte;
+          line = grown self.old.place self.old.line byte;
+          fed = drop 1 self.old.fed;
+        } }
     {
         self.cutter.pass(byte);
         self.looked_at += 1;

@@ -37,7 +37,13 @@ missing_effect d a = record { causes = missing_causes a; memory = false; reply =
 
 -- what happens at the game of a desk, as it happens at the desk
 abbrev pub at_desk : DeskState → Effect GameState DeskReply → Effect DeskState DeskReply
-at_desk d effect = record { causes = effect.causes; memory = effect.memory; reply = effect.reply; after = record d { game = Some effect.after } }
+at_desk d effect =
+    record {
+      causes = effect.causes;
+      memory = effect.memory;
+      reply = effect.reply;
+      after = record d { game = Some effect.after };
+    }
 
 -- what an act does where this game, or none, is at the desk
 abbrev pub effect_by : DeskState → Option GameState → ℕ → ℕ → ℕ → DeskAct → Effect DeskState DeskReply

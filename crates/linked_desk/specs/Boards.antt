@@ -50,4 +50,5 @@ set_board boards place (Some b) = slice_set boards place b
 
 -- the boards after a word at the one in that place
 abbrev pub boards_after : List Board → ℕ → ℕ → Result Move Refusal → List Board
-boards_after boards place moment answer = set_board boards place (option_map (λ b. play_after b moment answer) (slice_get boards place))
+boards_after boards place moment answer =
+    set_board boards place (option_map (λ b. play_after b moment answer) (slice_get boards place))

@@ -52,7 +52,8 @@ board_item desk players board = item.Board (view_of desk players board)
 
 -- what is told of the beginning: a line for each board, and then each board
 abbrev pub opening_items : ℕ → Terms → List Opponents → List Board → List Item
-opening_items desk terms pairs boards = each_board (created_item desk terms) pairs boards ++ each_board (board_item desk) pairs boards
+opening_items desk terms pairs boards =
+    each_board (created_item desk terms) pairs boards ++ each_board (board_item desk) pairs boards
 
 -- a game that begins at this moment: the players are its viewers from the start
 abbrev pub opened : ℕ → ℕ → Terms → Seats → ℕ → GameState

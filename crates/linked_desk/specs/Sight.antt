@@ -32,6 +32,8 @@ abbrev pub board_in : ℕ → ℕ
 board_in game = 2 - game % 2
 
 -- the four players and an observer at the second board, where White is to move
-example_second : sight (Some 0) 2 White ∷ sight (Some 1) 2 White ∷ sight (Some 2) 2 White ∷ sight (Some 3) 2 White ∷ sight None 2 White ∷ []
-    ≡ observing ∷ observing ∷ record { relation = pos 1; flip = false } ∷ record { relation = negsuc 0; flip = true } ∷ observing ∷ []
+example_second : sight (Some 0) 2 White ∷ sight (Some 1) 2 White ∷ sight (Some 2) 2 White ∷ sight (Some 3) 2 White
+    ∷ sight None 2 White ∷ []
+    ≡ observing ∷ observing ∷ record { relation = pos 1; flip = false } ∷ record { relation = negsuc 0; flip = true }
+    ∷ observing ∷ []
 example_second = refl

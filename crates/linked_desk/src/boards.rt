@@ -82,8 +82,10 @@ impl Boards {
     ) -> Result<(), Refusal>
         requires order { latest self.old ≤ moment }
         requires moment { moment ≤ 2 ^ 48 }
-        ensures refused { first_cause (refused_by (word_at (slice_get self.old place) colour word.now)) ≡ refusal_of result }
-        ensures after { self.new ≡ boards_after self.old place moment (word_at (slice_get self.old place) colour word.now) }
+        ensures refused { first_cause (refused_by (word_at (slice_get self.old place) colour word.now))
+            ≡ refusal_of result }
+        ensures after { self.new ≡ boards_after self.old place moment
+            (word_at (slice_get self.old place) colour word.now) }
         ensures unchanged { OnErr result (self.new ≡ self.old) }
         ensures order { latest self.new ≤ moment }
     {

@@ -169,7 +169,8 @@ impl Desk {
         serial: u64,
         act: &DeskAct,
     ) -> Result<ItemList, NoMemory>
-        ensures { IfOk result (λ items. (moment : ℕ) → items ≡ items_told (desk_effect self.now session moment serial act.now).reply) }
+        ensures { IfOk result (λ items. (moment : ℕ) → items
+            ≡ items_told (desk_effect self.now session moment serial act.now).reply) }
     {
         match act {
             DeskAct::Fetch => {}

@@ -12,20 +12,26 @@ ghost use Rattle.linked_desk.specs.Acts.{desk_answer, desk_after};
 /// Who plays at a desk is settled when the game starts: no act changes the desk's number, nor the serial, the terms
 /// and the players of its game, and none makes it vacant or puts a game there.
 pub fn acts_keep_the_players()
-    ensures number { (d : DeskState) (session moment serial : ℕ) (a : DeskAct) → (desk_after d session moment serial a).number ≡ d.number }
-    ensures players { (d : DeskState) (session moment serial : ℕ) (a : DeskAct) → occupant_of (desk_after d session moment serial a) ≡ occupant_of d }
+    ensures number { (d : DeskState) (session moment serial : ℕ) (a : DeskAct)
+        → (desk_after d session moment serial a).number ≡ d.number }
+    ensures players { (d : DeskState) (session moment serial : ℕ) (a : DeskAct)
+        → occupant_of (desk_after d session moment serial a) ≡ occupant_of d }
     ensures started { (d : DeskState) (serial : ℕ) (terms : Terms) (seats : Seats) (moment : ℕ) →
-        occupant_of (started d serial terms seats moment) ≡ Some (record { serial = serial; terms = terms; seats = seats }) }
+        occupant_of (started d serial terms seats moment)
+        ≡ Some (record { serial = serial; terms = terms; seats = seats }) }
 {}
 
 /// The game at a desk is sound from its start on, whatever acts are made: it has the boards and seats that its variant
 /// wants, the list of each board is a true score, and each end that viewers are told names a winner exactly where
 /// somebody won.
 pub fn acts_keep_the_game()
-    ensures started { (d : DeskState) (serial : ℕ) (terms : Terms) (seats : Seats) (moment : ℕ) → HasPairsFor terms seats →
+    ensures started { (d : DeskState) (serial : ℕ) (terms : Terms) (seats : Seats) (moment : ℕ)
+        → HasPairsFor terms seats →
         HasSoundGame (started d serial terms seats moment) }
-    ensures game { (d : DeskState) (session moment serial : ℕ) (a : DeskAct) → HasSoundGame d → HasSoundGame (desk_after d session moment serial a) }
-    ensures answers { (d : DeskState) (session moment serial : ℕ) (a : DeskAct) → HasSoundGame d → AnswersSoundly (desk_answer d session moment serial a) }
+    ensures game { (d : DeskState) (session moment serial : ℕ) (a : DeskAct) → HasSoundGame d
+        → HasSoundGame (desk_after d session moment serial a) }
+    ensures answers { (d : DeskState) (session moment serial : ℕ) (a : DeskAct) → HasSoundGame d
+        → AnswersSoundly (desk_answer d session moment serial a) }
 {}
 
 /// Each board of a desk is shown under a number of its own, by which viewers know which board it is.

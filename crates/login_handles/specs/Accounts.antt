@@ -30,7 +30,9 @@ check_of (Some account) (Some digest) = if bytes_eq digest account.digest then R
 -- registering a handle: why it is refused, and what stands afterwards
 abbrev pub registering : List Account → List ℕ → List ℕ → Effect (List Account) (Unit {0})
 registering accounts name digest = record {
-  causes = (is_some (account_of accounts (key_of name)), AlreadyRegistered) ∷ (nat_le 4096 (length accounts), AccountsFull) ∷ [];
+  causes =
+      (is_some (account_of accounts (key_of name)), AlreadyRegistered) ∷ (nat_le 4096 (length accounts), AccountsFull)
+      ∷ [];
   memory = true;
   reply = tt;
   after = accounts ++ record { name = name; digest = digest } ∷ [];

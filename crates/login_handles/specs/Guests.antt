@@ -8,7 +8,8 @@ use Rattle.fics_words.specs.Handle.{key_of}
 
 -- the guest of a number from 0 to 456,975, whose four letters are the number's digits of base 26
 abbrev pub guest_of : ℕ → List ℕ
-guest_of n = codes "Guest" ++ (65 + n / 26 / 26 / 26) ∷ (65 + n / 26 / 26 % 26) ∷ (65 + n / 26 % 26) ∷ (65 + n % 26) ∷ []
+guest_of n =
+    codes "Guest" ++ (65 + n / 26 / 26 / 26) ∷ (65 + n / 26 / 26 % 26) ∷ (65 + n / 26 % 26) ∷ (65 + n % 26) ∷ []
 
 -- the numbers of guests go by the alphabetical order of their names
 abbrev pub GuestsInOrder : Type 0

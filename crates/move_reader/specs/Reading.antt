@@ -16,11 +16,13 @@ men = (75, King) ∷ (81, Queen) ∷ (82, Rook) ∷ (66, Bishop) ∷ (78, Knight
 
 abbrev pub promotions : List (ℕ × Kind)
 promotions =
-    (81, Queen) ∷ (113, Queen) ∷ (82, Rook) ∷ (114, Rook) ∷ (66, Bishop) ∷ (98, Bishop) ∷ (78, Knight) ∷ (110, Knight) ∷ []
+    (81, Queen) ∷ (113, Queen) ∷ (82, Rook) ∷ (114, Rook) ∷ (66, Bishop) ∷ (98, Bishop) ∷ (78, Knight) ∷ (110, Knight)
+    ∷ []
 
 abbrev pub droppable : List (ℕ × Kind)
 droppable =
-    (80, Pawn) ∷ (112, Pawn) ∷ (78, Knight) ∷ (110, Knight) ∷ (66, Bishop) ∷ (98, Bishop) ∷ (82, Rook) ∷ (114, Rook) ∷ (81, Queen)
+    (80, Pawn) ∷ (112, Pawn) ∷ (78, Knight) ∷ (110, Knight) ∷ (66, Bishop) ∷ (98, Bishop) ∷ (82, Rook) ∷ (114, Rook)
+    ∷ (81, Queen)
     ∷ (113, Queen) ∷ []
 
 abbrev pub man_of : ℕ → Option Kind
@@ -143,4 +145,5 @@ first_of_two (Some word) b = Some word
 
 -- the word that the text is read as
 abbrev pub reading : List ℕ → Option MoveWord
-reading text = first_of_two (coordinate_of text) (first_of_two (named_of text) (first_of_two (castle_of text) (drop_of text)))
+reading text =
+    first_of_two (coordinate_of text) (first_of_two (named_of text) (first_of_two (castle_of text) (drop_of text)))

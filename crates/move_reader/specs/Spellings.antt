@@ -17,7 +17,8 @@ OneOf (choice ∷ choices) text = (text ≡ choice) ⊎ OneOf choices text
 -- the text has one of the first texts, then one of the second ones, and so on to its end
 abbrev pub MadeOf : List (List Text) → Text → Type 0
 MadeOf [] text = text ≡ []
-MadeOf (part ∷ parts) text = (first : Text) × (rest : Text) × OneOf part first × MadeOf parts rest × (text ≡ first ++ rest)
+MadeOf (part ∷ parts) text =
+    (first : Text) × (rest : Text) × OneOf part first × MadeOf parts rest × (text ≡ first ++ rest)
 
 -- the letter of a file, `a` for 0 to `h` for 7
 abbrev pub file_letters : ℕ → List Text
@@ -95,7 +96,8 @@ castlings true = codes "O-O-O" ∷ codes "o-o-o" ∷ codes "0-0-0" ∷ []
 abbrev pub parts_of : MoveWord → List (List Text)
 parts_of (Coordinate from to promo) = square_names from ∷ dashes ∷ square_names to ∷ promotion_and promo []
 parts_of (Named kind file rank to promo) =
-    man_letters kind ∷ origin_files file ∷ origin_ranks rank ∷ captures ∷ square_names to ∷ promotion_and promo (marks ∷ [])
+    man_letters kind ∷ origin_files file ∷ origin_ranks rank ∷ captures ∷ square_names to
+    ∷ promotion_and promo (marks ∷ [])
 parts_of (Castle long) = castlings long ∷ marks ∷ []
 parts_of (Drop kind to) = drop_letters kind ∷ (codes "@" ∷ []) ∷ square_names to ∷ marks ∷ []
 

@@ -32,5 +32,6 @@ promotion_text (Some kind) = codes "=" ++ letter_of kind ∷ []
 example_corners : (square_text 0 ++ square_text 7 ++ square_text 28 ++ square_text 63) ≡ codes "a1h1e4h8"
 example_corners = refl
 
-example_letters : letter_of Pawn ∷ letter_of Knight ∷ letter_of Bishop ∷ letter_of Rook ∷ letter_of Queen ∷ letter_of King ∷ [] ≡ codes "PNBRQK"
+example_letters : letter_of Pawn ∷ letter_of Knight ∷ letter_of Bishop ∷ letter_of Rook ∷ letter_of Queen
+    ∷ letter_of King ∷ [] ≡ codes "PNBRQK"
 example_letters = refl

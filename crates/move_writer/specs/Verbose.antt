@@ -9,7 +9,8 @@ use Rattle.move_writer.specs.Letters.{letter_of, square_text, promotion_text}
 
 -- a move by the man that moves: its letter and its two squares, with what a pawn becomes; the castlings; a drop
 abbrev pub verbose_move : Kind → Move → List ℕ
-verbose_move moved (Plain from to promo) = letter_of moved ∷ codes "/" ++ square_text from ++ codes "-" ++ square_text to ++ promotion_text promo
+verbose_move moved (Plain from to promo) =
+    letter_of moved ∷ codes "/" ++ square_text from ++ codes "-" ++ square_text to ++ promotion_text promo
 verbose_move moved (Castle false) = codes "o-o"
 verbose_move moved (Castle true) = codes "o-o-o"
 verbose_move moved (Drop dropped to) = letter_of dropped ∷ codes "/@@-" ++ square_text to

@@ -24,6 +24,7 @@ LinesFor lobby session _ lines = Unit {0}
 
 -- and the items those that a desk act will, at whatever moment
 abbrev pub ItemsFor : List DeskState → ℕ → Act → List Item → Type 0
-ItemsFor desks session (Desk number serial act) items = (desk : DeskState) (moment : ℕ) → slice_get desks (number - 1) ≡ Some desk
+ItemsFor desks session (Desk number serial act) items =
+    (desk : DeskState) (moment : ℕ) → slice_get desks (number - 1) ≡ Some desk
     → items ≡ items_told (desk_effect desk session moment serial act).reply
 ItemsFor desks session _ items = Unit {0}

@@ -66,4 +66,5 @@ LendsSecond =
 -- each reply of a history that opens with a whole state tells places at desks alone, and of each end the winner exactly
 -- where somebody won
 abbrev pub RepliesWell : Type 0
-RepliesWell = (opening : List Part) (log : Log) → IsWhole opening → Legal house opening log → All (λ e. IsReply e.reply) log
+RepliesWell =
+    (opening : List Part) (log : Log) → IsWhole opening → Legal house opening log → All (λ e. IsReply e.reply) log

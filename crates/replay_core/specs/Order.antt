@@ -33,7 +33,8 @@ leaves came = came.quit || is_cut came.line.event
 
 -- the session is connected, by its seat or by a line: the first sessions are the seated ones
 abbrev pub is_connected : ℕ → List Arrival → ℕ → Bool
-is_connected seats lines session = nat_le session seats || list_any (λ came. (came.line.session == session) && is_connect came.line.event) lines
+is_connected seats lines session =
+    nat_le session seats || list_any (λ came. (came.line.session == session) && is_connect came.line.event) lines
 
 abbrev pub has_left : List Arrival → ℕ → Bool
 has_left lines session = list_any (λ came. (came.line.session == session) && leaves came) lines
@@ -47,7 +48,8 @@ pub record MayCome (seats : ℕ) (lines : List Arrival) (next : ScriptLine) : Ty
 -- each of the later lines may come after all that come before it
 abbrev pub FollowInOrder : ℕ → List Arrival → List Arrival → Type 0
 FollowInOrder seats lines [] = Unit {0}
-FollowInOrder seats lines (next ∷ later) = MayCome seats lines next.line × FollowInOrder seats (lines ++ next ∷ []) later
+FollowInOrder seats lines (next ∷ later) =
+    MayCome seats lines next.line × FollowInOrder seats (lines ++ next ∷ []) later
 
 -- the lines of a whole script stand in order
 abbrev pub IsInOrder : ℕ → List Arrival → Type 0

@@ -39,7 +39,9 @@ terms_text terms = join_with_byte blank (decimal terms.minutes ∷ decimal terms
 
 -- the words of the line
 abbrev pub seat_words : SeatLine → List (List ℕ)
-seat_words seat = codes "seat" ∷ (seat.names ++ decimal seat.terms.minutes ∷ decimal seat.terms.increment ∷ word_of seat.terms.variant ∷ [])
+seat_words seat =
+    codes "seat" ∷ (seat.names ++ decimal seat.terms.minutes ∷ decimal seat.terms.increment ∷ word_of seat.terms.variant
+    ∷ [])
 
 -- the one way in which the line is written: its words with one blank between each two
 abbrev pub seat_text : SeatLine → List ℕ

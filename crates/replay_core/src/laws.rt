@@ -10,9 +10,12 @@ ghost use Rattle.replay_core.specs.declared.seat_line.SeatLine.{SeatLine};
 /// No line has two readings: two values that are written alike are one value, and no seat line is written like a line
 /// of a session.
 pub fn one_reading()
-    ensures sessions { (one other : ScriptLine) → IsScriptLine one → IsScriptLine other → script_text one ≡ script_text other → one ≡ other }
-    ensures seats { (one other : SeatLine) → IsSeatLine one → IsSeatLine other → seat_text one ≡ seat_text other → one ≡ other }
-    ensures apart { (seat : SeatLine) (line : ScriptLine) → IsSeatLine seat → IsScriptLine line → seat_text seat ≢ script_text line }
+    ensures sessions { (one other : ScriptLine) → IsScriptLine one → IsScriptLine other → script_text one
+        ≡ script_text other → one ≡ other }
+    ensures seats { (one other : SeatLine) → IsSeatLine one → IsSeatLine other → seat_text one ≡ seat_text other → one
+        ≡ other }
+    ensures apart { (seat : SeatLine) (line : ScriptLine) → IsSeatLine seat → IsScriptLine line
+        → seat_text seat ≢ script_text line }
 {}
 
 /// What the order of a script's lines says of any two of them, the later one with all that comes before it: moments

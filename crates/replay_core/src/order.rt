@@ -43,7 +43,8 @@ impl Attendance {
     /// Whether the line may come next.
     pub fn may_come(&self, line: &ScriptLine) -> bool
         requires { IsScriptLine line.now }
-        ensures { (seats : ℕ) (lines : List Arrival) → IsAfter self.now seats lines → (IsTrue result ↔ MayCome seats lines line.now) }
+        ensures { (seats : ℕ) (lines : List Arrival) → IsAfter self.now seats lines
+            → (IsTrue result ↔ MayCome seats lines line.now) }
     {
         if line.moment < self.moment {
             return false;
@@ -58,7 +59,8 @@ impl Attendance {
     /// Notes that the line came, which may. `quit` says that it was a `quit` that was answered.
     pub fn note(&mut self, line: &ScriptLine, quit: bool)
         requires { IsScriptLine line.now }
-        ensures { (seats : ℕ) (lines : List Arrival) → IsAfter self.old seats lines → MayCome seats lines line.now → IsAfter self.new seats (lines ++ record { line = line.now; quit = quit } ∷ []) }
+        ensures { (seats : ℕ) (lines : List Arrival) → IsAfter self.old seats lines → MayCome seats lines line.now
+            → IsAfter self.new seats (lines ++ record { line = line.now; quit = quit } ∷ []) }
     {
         let leaves = quit || matches!(line.event, ScriptEvent::Cut);
         self.moment = line.moment;
@@ -74,7 +76,8 @@ impl Attendance {
     pub fn is_here(&self, session: u32) -> bool
         requires first { 1 ≤ session }
         requires last { session ≤ 64 }
-        ensures { (seats : ℕ) (lines : List Arrival) → IsAfter self.now seats lines → result ≡ is_here seats lines session }
+        ensures { (seats : ℕ) (lines : List Arrival) → IsAfter self.now seats lines → result
+            ≡ is_here seats lines session }
     {
         matches!(self.presences[session as usize - 1], Presence::Here)
     }
@@ -83,7 +86,8 @@ impl Attendance {
 /// Where the sessions stand before the first line.
 fn presences_at_start(seats: usize) -> [Presence; MOST_SESSIONS]
     requires { seats ≤ 64 }
-    ensures { (place : ℕ) (d : Presence) → place < 64 → slice_index_or result place d ≡ (if nat_lt place seats then Presence.Here else Presence.Away) }
+    ensures { (place : ℕ) (d : Presence) → place < 64 → slice_index_or result place d
+        ≡ (if nat_lt place seats then Presence.Here else Presence.Away) }
 {
     let mut presences = [Presence::Away; MOST_SESSIONS];
     for place in 0..seats {

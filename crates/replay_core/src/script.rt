@@ -52,7 +52,8 @@ pub struct ScriptLine {
 pub fn read_script(alloc: Global, line: &Line) -> Result<Option<ScriptLine>, NoMemory>
     ensures spelled { IfOk result (λ read. IfSome read (λ value. line.now ≡ script_text value)) }
     ensures in_range { IfOk result (λ read. IfSome read IsScriptLine) }
-    ensures none { IfOk result (λ read. IfNone read ((value : ScriptLine) → IsScriptLine value → line.now ≢ script_text value)) }
+    ensures none { IfOk result (λ read. IfNone read
+        ((value : ScriptLine) → IsScriptLine value → line.now ≢ script_text value)) }
 {
     let Some((moment, rest)) = cut_number(line.bytes(), LAST_MOMENT) else {
         return Ok(None);
@@ -77,7 +78,8 @@ pub fn read_script(alloc: Global, line: &Line) -> Result<Option<ScriptLine>, NoM
 fn read_event(alloc: Global, bytes: &[u8]) -> Result<Option<ScriptEvent>, NoMemory>
     ensures spelled { IfOk result (λ read. IfSome read (λ event. bytes.now ≡ event_text event)) }
     ensures in_range { IfOk result (λ read. IfSome read IsScriptEvent) }
-    ensures none { IfOk result (λ read. IfNone read ((event : ScriptEvent) → IsScriptEvent event → bytes.now ≢ event_text event)) }
+    ensures none { IfOk result (λ read. IfNone read
+        ((event : ScriptEvent) → IsScriptEvent event → bytes.now ≢ event_text event)) }
 {
     match bytes {
         b"+" => Ok(Some(ScriptEvent::Connect)),
@@ -104,7 +106,9 @@ fn read_plain(alloc: Global, text: &[u8]) -> Result<Option<ScriptEvent>, NoMemor
 fn read_stamped(alloc: Global, bytes: &[u8]) -> Result<Option<ScriptEvent>, NoMemory>
     ensures spelled { IfOk result (λ read. IfSome read (λ event. 0x2A ∷ blank ∷ bytes.now ≡ event_text event)) }
     ensures in_range { IfOk result (λ read. IfSome read IsScriptEvent) }
-    ensures none { IfOk result (λ read. IfNone read ((stamp : ℕ) (text : List ℕ) → IsScriptEvent (ScriptEvent.Stamped stamp text) → 0x2A ∷ blank ∷ bytes.now ≢ event_text (ScriptEvent.Stamped stamp text))) }
+    ensures none { IfOk result (λ read. IfNone read
+        ((stamp : ℕ) (text : List ℕ) → IsScriptEvent (ScriptEvent.Stamped stamp text) → 0x2A ∷ blank
+        ∷ bytes.now ≢ event_text (ScriptEvent.Stamped stamp text))) }
 {
     let Some((stamp, text)) = cut_number(bytes, LAST_STAMP) else {
         return Ok(None);

@@ -20,7 +20,8 @@ pub(crate) fn cut_word(bytes: &[u8]) -> Option<(&[u8], &[u8])>
 pub(crate) fn cut_number(bytes: &[u8], most: u64) -> Option<(u64, &[u8])>
     ensures parts { IfSome result (λ parts. bytes.now ≡ decimal parts.0 ++ blank ∷ parts.1.now) }
     ensures bound { IfSome result (λ parts. parts.0 ≤ most) }
-    ensures none { IfNone result ((number : ℕ) (rest : List ℕ) → number ≤ most → bytes.now ≢ decimal number ++ blank ∷ rest) }
+    ensures none { IfNone result ((number : ℕ) (rest : List ℕ) → number ≤ most → bytes.now ≢ decimal number ++ blank
+        ∷ rest) }
 {
     let Some((word, rest)) = cut_word(bytes) else {
         return None;

@@ -17,7 +17,8 @@ padded bytes = bytes ++ replicate (pads (length bytes)) 0x31
 
 -- in each group of 12 the places 0 and 11, 2 and 9, and 4 and 7 are swapped
 abbrev pub swapped : List ℕ → List ℕ
-swapped (a ∷ b ∷ c ∷ d ∷ e ∷ f ∷ g ∷ h ∷ i ∷ j ∷ k ∷ l ∷ rest) = l ∷ b ∷ j ∷ d ∷ h ∷ f ∷ g ∷ e ∷ i ∷ c ∷ k ∷ a ∷ swapped rest
+swapped (a ∷ b ∷ c ∷ d ∷ e ∷ f ∷ g ∷ h ∷ i ∷ j ∷ k ∷ l ∷ rest) =
+    l ∷ b ∷ j ∷ d ∷ h ∷ f ∷ g ∷ e ∷ i ∷ c ∷ k ∷ a ∷ swapped rest
 swapped short = short
 
 -- the key of 50 bytes

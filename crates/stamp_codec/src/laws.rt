@@ -6,7 +6,8 @@ ghost use Rattle.stamp_codec.specs.Spelling.{IsSpelled, pads, spelling, swapped}
 
 /// Each spelling says one message, which `opened` reads out of it; and nothing else is opened.
 pub fn one_message()
-    ensures one { (one other : Message) → is_message one ≡ true → is_message other ≡ true → spelling one ≡ spelling other → one ≡ other }
+    ensures one { (one other : Message) → is_message one ≡ true → is_message other ≡ true → spelling one
+        ≡ spelling other → one ≡ other }
     ensures opened { (line : List ℕ) (message : Message) → opened line ≡ Some message ↔ IsSpelled message line }
 {}
 

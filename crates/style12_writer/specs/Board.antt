@@ -80,6 +80,7 @@ material_of colour men = sum_by (square_worth colour) men
 example_material : material_of White (array_of Chess) ∷ material_of Black (array_of Chess) ∷ [] ≡ 39 ∷ 39 ∷ []
 example_material = refl
 
-example_home_ranks : rank_text (array_of Chess) 7 ++ rank_text (array_of Chess) 6 ++ rank_text (array_of Chess) 4 ++ rank_text (array_of Chess) 0 ≡ codes "rnbqkbnrpppppppp--------RNBQKBNR"
+example_home_ranks : rank_text (array_of Chess) 7 ++ rank_text (array_of Chess) 6 ++ rank_text (array_of Chess) 4
+    ++ rank_text (array_of Chess) 0 ≡ codes "rnbqkbnrpppppppp--------RNBQKBNR"
 unfolding rank_text
 example_home_ranks = refl

@@ -16,9 +16,11 @@ abbrev pub time_taken : ℕ → List ℕ
 time_taken millis =
     codes "(" ++ decimal (millis / 1000 / 60) ++ codes ":" ++ two_digits_of (millis / 1000 % 60) ++ codes ")"
 
-example_seconds : whole_seconds_of (pos 1999) ∷ whole_seconds_of (negsuc 998) ∷ whole_seconds_of (negsuc 1998) ∷ whole_seconds_of (negsuc 1999) ∷ [] ≡ pos 1 ∷ pos 0 ∷ negsuc 0 ∷ negsuc 1 ∷ []
+example_seconds : whole_seconds_of (pos 1999) ∷ whole_seconds_of (negsuc 998) ∷ whole_seconds_of (negsuc 1998)
+    ∷ whole_seconds_of (negsuc 1999) ∷ [] ≡ pos 1 ∷ pos 0 ∷ negsuc 0 ∷ negsuc 1 ∷ []
 example_seconds = refl
 
-example_times : time_taken 0 ++ time_taken 4999 ++ time_taken 75000 ++ time_taken 3600000 ≡ codes "(0:00)(0:04)(1:15)(60:00)"
+example_times : time_taken 0 ++ time_taken 4999 ++ time_taken 75000 ++ time_taken 3600000
+    ≡ codes "(0:00)(0:04)(1:15)(60:00)"
 unfolding digits
 example_times = refl

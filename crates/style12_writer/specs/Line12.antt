@@ -80,7 +80,8 @@ flip_flag who = flag_text who.flip
 -- the fields of the position
 unfoldable pub position_fields : Face → List (List ℕ)
 position_fields face =
-    ranks face.men ++ colour_to_move face.to_move ∷ double_push face.push ∷ castle_flags face.rights ++ irreversible_count face ∷ []
+    ranks face.men ++ colour_to_move face.to_move ∷ double_push face.push ∷ castle_flags face.rights
+    ++ irreversible_count face ∷ []
 
 -- the fields of the game and its terms
 unfoldable pub game_fields : BoardView → Viewer → List (List ℕ)

@@ -11,7 +11,8 @@ use Rattle.turn_chain.specs.declared.tried.Tried.TheVariants.{Done, Busy}
 module _ {P A R : Type 0} where
   -- what no act changes of a view: all but what the pass has seen and made, the act in flight, its parts and its tries
   abbrev pub fixed : View P A R → View P A R
-  fixed v = record v { seen = []; shorter = []; made = []; flight = None; committed = false; may = []; held = []; busy = [] }
+  fixed v =
+      record v { seen = []; shorter = []; made = []; flight = None; committed = false; may = []; held = []; busy = [] }
 
 module _ {P A R : Type 0} (c : Core P A R) where
   -- the act was made and got this reply

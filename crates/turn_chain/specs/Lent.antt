@@ -9,4 +9,6 @@ module _ {P A R : Type 0} (c : Core P A R) where
 
   -- the parts are the act's first and second part in some whole state
   abbrev pub AreBoth : ℕ → A → P → P → Type 0
-  AreBoth k a p q = (xs : List P) × (s : ℕ) × c.whole xs × (slice_get xs (c.first a) ≡ Some p) × (c.second p k a ≡ Some s) × (slice_get xs s ≡ Some q)
+  AreBoth k a p q =
+      (xs : List P) × (s : ℕ) × c.whole xs × (slice_get xs (c.first a) ≡ Some p) × (c.second p k a ≡ Some s)
+      × (slice_get xs s ≡ Some q)

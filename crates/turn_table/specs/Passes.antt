@@ -42,7 +42,8 @@ module _ {P A R : Type 0} (c : Core P A R) where
 
   -- and the numbers that the pass keeps are those of its view
   abbrev pub Sound : ℕ → ℕ → ℕ → ℕ → ℕ → Me (Option P) (View P A R) → Type 0
-  Sound slots number splits last before me = IsPass slots last before me × (number ≡ me.0.number) × (splits ≡ me.0.splits)
+  Sound slots number splits last before me =
+      IsPass slots last before me × (number ≡ me.0.number) × (splits ≡ me.0.splits)
 
 -- a seat at a table that has a turn word for each part and the count word, and that opened with so many parts
 pub record IsAt (seat home : TableId) (parts : ℕ) : Type 0 where

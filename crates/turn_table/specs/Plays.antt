@@ -29,7 +29,8 @@ module _ {P A R : Type 0} (c : Core P A R) where
 
   -- the act is begun, and the history so far was seen
   abbrev pub BeginsAct : Sat → A → Sat → Type 0
-  BeginsAct m a m' = (m'.0 ≡ begun c m.0 a m'.0.seen) × (m'.1 ≡ m.1) × Looks c m.0 m'.0.seen × (c.first a < length m.0.opening)
+  BeginsAct m a m' =
+      (m'.0 ≡ begun c m.0 a m'.0.seen) × (m'.1 ≡ m.1) × Looks c m.0 m'.0.seen × (c.first a < length m.0.opening)
 
   abbrev pub Begins : Option A → Step (Option P) → Sat → ℕ → Sat → Type 0
   Begins meant st m found m' = MatchOption meant ⊥ (λ a. BeginsAct m a m')
@@ -50,7 +51,8 @@ module _ {P A R : Type 0} (c : Core P A R) where
   FindsBusy m k m' = (m'.0 ≡ tried m.0 k) × (m'.1 ≡ m.1)
 
   abbrev pub Takes : Step (Option P) → Sat → ℕ → Sat → Type 0
-  Takes st m found m' = MatchBool (found == 0) ((p : P) × TakesPart m st.word p m') ((found ≡ 1) × FindsBusy m st.word m')
+  Takes st m found m' =
+      MatchBool (found == 0) ((p : P) × TakesPart m st.word p m') ((found ≡ 1) × FindsBusy m st.word m')
 
   -- the act is the last entry of the history that is seen then
   pub record CommitsAct (m : Sat) (a : A) (p : P) (o : Option P) (m' : Sat) : Type 0 where

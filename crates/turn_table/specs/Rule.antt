@@ -52,10 +52,12 @@ module _ {P A R : Type 0} (c : Core P A R) (opening : List P) where
     pub there : (k : ℕ) → In k v.may → k < length opening
     -- while an act isn't committed and its first part may be taken and isn't held, this is the only part that may be
     -- taken
-    pub first_alone : (a : A) → v.flight ≡ Some a → v.committed ≡ false → In (c.first a) v.may → (Holds v (c.first a) → ⊥) → v.may ≡ c.first a ∷ []
+    pub first_alone : (a : A) → v.flight ≡ Some a → v.committed ≡ false → In (c.first a) v.may
+        → (Holds v (c.first a) → ⊥) → v.may ≡ c.first a ∷ []
     -- while an act isn't committed and its first part is held, the parts that may be taken are among this part and the
     -- second that its value gives
-    pub only_parts : (a : A) (p : P) → v.flight ≡ Some a → v.committed ≡ false → In (c.first a, p) v.held → (k : ℕ) → In k v.may → (k ≡ c.first a) ⊎ (c.second p v.number a ≡ Some k)
+    pub only_parts : (a : A) (p : P) → v.flight ≡ Some a → v.committed ≡ false → In (c.first a, p) v.held → (k : ℕ)
+        → In k v.may → (k ≡ c.first a) ⊎ (c.second p v.number a ≡ Some k)
     -- once an act is committed, each part that may be taken is held
     pub all_held : v.committed ≡ true → (k : ℕ) → In k v.may → Holds v k
     -- its number, and those of the passes that were joined into it, are its own, were drawn, and differ

@@ -89,7 +89,8 @@ module _ {P A R : Type 0} where
 
   -- a part is taken, and its value is named. The first part's value gives the second part, if there is one
   abbrev pub taken : Core P A R → View P A R → ℕ → P → List (Entry A R) → View P A R
-  taken c v k p seen = record v { seen = seen; may = v.may ++ second_by c k p v.flight v.number; held = (k, p) ∷ v.held }
+  taken c v k p seen =
+      record v { seen = seen; may = v.may ++ second_by c k p v.flight v.number; held = (k, p) ∷ v.held }
 
   -- the turn word of a part was found at 1
   abbrev pub tried : View P A R → ℕ → View P A R
@@ -118,7 +119,13 @@ module _ {P A R : Type 0} where
   -- the act is committed: it is the last entry of what was seen and of the calls, and each part has the value that the
   -- act leaves
   abbrev pub done : Core P A R → View P A R → A → P → Option P → List (Entry A R) → View P A R
-  done c v a p o seen = record v { seen = seen; made = v.made ++ entry_by c v a p o ∷ []; committed = true; held = map (left_by c v.number a p o) v.held }
+  done c v a p o seen =
+      record v {
+        seen = seen;
+        made = v.made ++ entry_by c v a p o ∷ [];
+        committed = true;
+        held = map (left_by c v.number a p o) v.held;
+      }
 
   -- a part is given back
   abbrev pub given : View P A R → ℕ → View P A R
@@ -130,14 +137,35 @@ module _ {P A R : Type 0} where
 
   -- the pass that was split from it
   abbrev pub split_from : View P A R → View P A R
-  split_from v = record { live = true; number = v.splits + 1; splits = 0; opening = v.opening; seen = v.seen; shorter = []; made = []; flight = None; committed = false; may = []; held = []; busy = []; joined = [] }
+  split_from v =
+      record {
+        live = true;
+        number = v.splits + 1;
+        splits = 0;
+        opening = v.opening;
+        seen = v.seen;
+        shorter = [];
+        made = [];
+        flight = None;
+        committed = false;
+        may = [];
+        held = [];
+        busy = [];
+        joined = [];
+      }
 
   abbrev pub as_joined : View P A R → Joined A R
   as_joined w = record { number = w.number; calls = w.made }
 
   -- another pass is being joined into it: of what the two had seen it takes the longer, and remembers the shorter
   abbrev pub merged : View P A R → View P A R → View P A R
-  merged v w = record v { seen = longer v.seen w.seen; shorter = shorter_of v.seen w.seen; joined = v.joined ++ as_joined w ∷ w.joined }
+  merged v w =
+      record v {
+        seen = longer v.seen w.seen;
+        shorter = shorter_of v.seen w.seen;
+        joined = v.joined ++ as_joined w
+            ∷ w.joined;
+      }
 
   -- another pass was joined into it, and the history was looked at
   abbrev pub joined_with : View P A R → View P A R → List (Entry A R) → View P A R
@@ -145,8 +173,38 @@ module _ {P A R : Type 0} where
 
   -- what is left of a pass that was joined into another one
   abbrev pub spent : View P A R
-  spent = record { live = false; number = 0; splits = 0; opening = []; seen = []; shorter = []; made = []; flight = None; committed = false; may = []; held = []; busy = []; joined = [] }
+  spent =
+      record {
+        live = false;
+        number = 0;
+        splits = 0;
+        opening = [];
+        seen = [];
+        shorter = [];
+        made = [];
+        flight = None;
+        committed = false;
+        may = [];
+        held = [];
+        busy = [];
+        joined = [];
+      }
 
   -- the first pass, when the table opens
   abbrev pub newcomer : List P → View P A R
-  newcomer opening = record { live = true; number = 0; splits = 0; opening = opening; seen = []; shorter = []; made = []; flight = None; committed = false; may = []; held = []; busy = []; joined = [] }
+  newcomer opening =
+      record {
+        live = true;
+        number = 0;
+        splits = 0;
+        opening = opening;
+        seen = [];
+        shorter = [];
+        made = [];
+        flight = None;
+        committed = false;
+        may = [];
+        held = [];
+        busy = [];
+        joined = [];
+      }

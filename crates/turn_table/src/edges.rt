@@ -43,8 +43,10 @@ pub fn opened<S: Served>(
     requires zeros { (k : ℕ) → slice_index words.now k ≡ 0 }
     requires parts { slots.items ≡ map Some told.now.value.items }
     requires whole { S.core.whole told.now.value.items }
-    ensures table { IfOk result (λ t. (t.0.shared.table_id.words ≡ length words.now) × (t.0.shared.table_id.slots ≡ length told.now.value.items) × (t.0.shared.key ≡ told.now)) }
-    ensures seat { IfOk result (λ t. (t.1.table_id ≡ t.0.shared.table_id) × (t.1.me ≡ (newcomer told.now.value.items, []))) }
+    ensures table { IfOk result (λ t. (t.0.shared.table_id.words ≡ length words.now)
+        × (t.0.shared.table_id.slots ≡ length told.now.value.items) × (t.0.shared.key ≡ told.now)) }
+    ensures seat { IfOk result (λ t. (t.1.table_id ≡ t.0.shared.table_id)
+        × (t.1.me ≡ (newcomer told.now.value.items, []))) }
 {
     let made = Table::new(alloc, words, slots, told);
     let Ok(made) = made else {

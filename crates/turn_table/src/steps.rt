@@ -48,7 +48,8 @@ pub fn try_take<S: Served>(table: &Stand<S>, seat: &mut Token<S>, part: usize) -
     requires not_held { Holds seat.old.me.0 part → ⊥ }
     requires there { part < table.now.table_id.slots }
     ensures same { SameSeat seat.old seat.new }
-    ensures taken { MatchOption result (FindsBusy S.core seat.old.me part seat.new.me) (λ p. TookPart S.core seat.old.me part p seat.new.me) }
+    ensures taken { MatchOption result (FindsBusy S.core seat.old.me part seat.new.me)
+        (λ p. TookPart S.core seat.old.me part p seat.new.me) }
 {
     if table.compare_exchange::<Taking<S>>(seat, part, 0, 1) != 0 {
         return None;
@@ -65,7 +66,8 @@ pub fn commit<S: Served>(table: &Stand<S>, seat: &mut Token<S>, count: usize)
     requires alive { seat.old.me.0.live ≡ true }
     requires out { (a : S.Act) × (p : S.Part) × (o : Option S.Part) × AllOut S.core seat.old.me.0 a p o }
     ensures same { SameSeat seat.old seat.new }
-    ensures done { (a : S.Act) (p : S.Part) (o : Option S.Part) → AllOut S.core seat.old.me.0 a p o → CommitsAct S.core seat.old.me a p o seat.new.me }
+    ensures done { (a : S.Act) (p : S.Part) (o : Option S.Part) → AllOut S.core seat.old.me.0 a p o
+        → CommitsAct S.core seat.old.me a p o seat.new.me }
 {
     table.fetch_add::<Committing<S>>(seat, count, 1);
 }

@@ -37,7 +37,9 @@ impl<S: Served> Model for Turns<S> {
 
     ghost view = { λ t. t.table.shared.table_id };
 
-    ghost invariant = { λ t. (t.table.shared.table_id.words ≡ t.table.shared.table_id.slots + 1) × (length t.table.shared.key.value.items ≡ t.table.shared.table_id.slots) × (t.room.items ≡ []) × (t.table.shared.table_id.slots ≤ vec_capacity t.room) };
+    ghost invariant = { λ t. (t.table.shared.table_id.words ≡ t.table.shared.table_id.slots + 1)
+        × (length t.table.shared.key.value.items ≡ t.table.shared.table_id.slots) × (t.room.items ≡ [])
+        × (t.table.shared.table_id.slots ≤ vec_capacity t.room) };
 }
 
 impl<S: Served> Turns<S> {
@@ -108,7 +110,8 @@ impl<S: Served> Turns<S> {
         ensures busy { IfNone result (pass.new.view ≡ tried pass.old.view part) }
         ensures taken { IfSome result (λ p. pass.new.view ≡ taken S.core pass.old.view part p pass.new.view.seen) }
         ensures seen { OnSome result (Looks S.core pass.old.view pass.new.view.seen) }
-        ensures value { IfSome result (λ p. slice_get (state S.core pass.old.view.opening pass.new.view.seen) part ≡ Some p) }
+        ensures value { IfSome result (λ p. slice_get (state S.core pass.old.view.opening pass.new.view.seen) part
+            ≡ Some p) }
         ensures held { OnSome result (HoldsState S.core pass.new.view) }
     {
         let value = steps::try_take::<S>(&self.table.shared, &mut pass.seat, part as usize)?;
@@ -123,7 +126,8 @@ impl<S: Served> Turns<S> {
         requires may { In part pass.old.view.may }
         requires not_held { Holds pass.old.view part → ⊥ }
         ensures here { pass.new.home ≡ pass.old.home }
-        ensures taken { pass.new.view ≡ with_busy pass.new.view.busy (taken S.core pass.old.view part result pass.new.view.seen) }
+        ensures taken { pass.new.view ≡ with_busy pass.new.view.busy
+            (taken S.core pass.old.view part result pass.new.view.seen) }
         ensures tries { (n : ℕ) × (pass.new.view.busy ≡ busy_more n part pass.old.view.busy) }
         ensures seen { Looks S.core pass.old.view pass.new.view.seen }
         ensures value { slice_get (state S.core pass.old.view.opening pass.new.view.seen) part ≡ Some result }
@@ -144,7 +148,8 @@ impl<S: Served> Turns<S> {
         requires here { pass.old.home ≡ self.now }
         requires out { (a : S.Act) × (p : S.Part) × (o : Option S.Part) × AllOut S.core pass.old.view a p o }
         ensures here { pass.new.home ≡ pass.old.home }
-        ensures done { (a : S.Act) (p : S.Part) (o : Option S.Part) → AllOut S.core pass.old.view a p o → Committed S.core pass.old.view a p o pass.new.view }
+        ensures done { (a : S.Act) (p : S.Part) (o : Option S.Part) → AllOut S.core pass.old.view a p o
+            → Committed S.core pass.old.view a p o pass.new.view }
     {
         let count = self.table.slot_count();
         steps::commit::<S>(&self.table.shared, &mut pass.seat, count);
@@ -216,7 +221,8 @@ impl<S: Served> Turns<S> {
         ensures parts { result.items ≡ state S.core pass.view.opening pass.view.seen }
         ensures legal { Legal S.core pass.view.opening pass.view.seen }
         ensures own { calls_of 0 pass.view.seen ≡ pass.view.made }
-        ensures joined { (j : Joined S.Act S.Reply) → In j pass.view.joined → calls_of j.number pass.view.seen ≡ j.calls }
+        ensures joined { (j : Joined S.Act S.Reply) → In j pass.view.joined → calls_of j.number pass.view.seen
+            ≡ j.calls }
         ensures no_others { (m : ℕ) → pass.view.splits < m → calls_of m pass.view.seen ≡ [] }
     {
         let Turns { table, room } = self;
