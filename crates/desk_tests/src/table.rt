@@ -134,7 +134,7 @@ fn move_of(text: &[u8]) -> Option<DeskAct> {
         to: square(*c, *d)?,
         promo: None,
     };
-    Some(DeskAct::Move { word })
+    Some(DeskAct::Move { word, stamp: None })
 }
 
 fn square(file: u8, rank: u8) -> Option<Square> {
