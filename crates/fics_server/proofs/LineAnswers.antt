@@ -29,16 +29,16 @@ answer_line-made b line s e out =
     ap (option_and_then (λ x. answer_squares b x)) e ∙ ap (λ (t : Bool). cond t None (Some (made b (answer_to b s)))) out
 
 -- what is made of an answer, by the reply that it gave
-pub made-played : (b : Board) (a : Result Move Refusal) (taken : Option Man) → Ok taken ≡ play_reply b a → made b a ≡ (play_after b 0 a, line_text (play_after b 0 a))
+pub made-played : (b : Board) (a : Result Move Refusal) (taken : Option Man) → Ok taken ≡ play_reply b a → made b a ≡ (play_after b 0 None a, line_text (play_after b 0 None a))
 made-played b (Ok m) taken e = refl
 made-played b (Err r) taken e = absurd (let bad : Ok taken ≡ Err r = e in cc)
 
-pub made-refused : (b : Board) (a : Result Move Refusal) (r : Refusal) → Err r ≡ play_reply b a → made b a ≡ (play_after b 0 a, refusal_line r)
+pub made-refused : (b : Board) (a : Result Move Refusal) (r : Refusal) → Err r ≡ play_reply b a → made b a ≡ (play_after b 0 None a, refusal_line r)
 made-refused b (Ok m) r e = absurd (let bad : Err r ≡ play_reply b (Ok m) = e in cc)
 made-refused b (Err q) r e =
     let same : q ≡ r = let given : Err r ≡ Err q = e in cc in
     ap (λ (x : Refusal). (b, refusal_line x)) same
 
-pub begin-after : (b : Board) (a : Result Move Refusal) → b.begin ≡ 0 → (play_after b 0 a).begin ≡ 0
+pub begin-after : (b : Board) (a : Result Move Refusal) → b.begin ≡ 0 → (play_after b 0 None a).begin ≡ 0
 begin-after b (Ok m) e = refl
 begin-after b (Err r) e = e

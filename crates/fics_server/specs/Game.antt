@@ -59,7 +59,7 @@ is_outside b s = is_some (castling_of (position_of b) s.from s.to) || is_promoti
 
 -- the next state and what is written: the half-move and the board's line, or the refusal
 abbrev pub made : GameState → Result Move Refusal → GameState × List ℕ
-made b (Ok m) = (with_half_move b m 0, line_text (with_half_move b m 0))
+made b (Ok m) = (with_half_move b m 0 None, line_text (with_half_move b m 0 None))
 made b (Err r) = (b, refusal_line r)
 
 -- what two squares make of a game

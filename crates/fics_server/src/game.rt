@@ -100,7 +100,7 @@ fn play(board: &mut GameBoard, squares: &Squares, out: &mut Vec<u8>) -> Result<(
         promo: None,
     };
     let colour = board.to_move();
-    match board.play(colour, &word, 0) {
+    match board.play(colour, &word, 0, None) {
         Ok(_captured) => write_board(board, out),
         Err(refusal) => put_refusal(refusal, out),
     }

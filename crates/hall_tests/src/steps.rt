@@ -95,7 +95,7 @@ fn moving<R: Runner>(
         to: square(to)?,
         promo: None,
     };
-    playing(seat, alloc, moment, DeskAct::Move { word })
+    playing(seat, alloc, moment, DeskAct::Move { word, stamp: None })
 }
 
 fn playing<R: Runner>(
