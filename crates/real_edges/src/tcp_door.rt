@@ -30,7 +30,7 @@ pub struct TcpDoor<'a, R: Net<Listener = TcpListener, Stream = TcpStream> + Cloc
 }
 
 impl<'a, R: Net<Listener = TcpListener, Stream = TcpStream> + Clock> TcpDoor<'a, R> {
-    ghost use Rattle.std.specs.Prelude.{◌≡◌, ◌+◌, ◌-◌, ◌^◌, min};
+    ghost use Rattle.std.specs.Prelude.{◌≡◌, ◌+◌, ◌-◌, ◌^◌, ◌≤◌, min};
 
     /// A door on this port of this address, for so many connections, where a count is given.
     pub fn new(rt: &'a R, bind: String, port: u16, count: Option<u64>) -> TcpDoor<'a, R> {
@@ -74,6 +74,7 @@ impl<'a, R: Net<Listener = TcpListener, Stream = TcpStream> + Clock> TcpDoor<'a,
     /// Answers a fault.
     fn fail(&mut self) -> Came<TcpPeer>
         ensures failed { result ≡ Came.Failed }
+        ensures counted { self.old.faults ≤ self.new.faults }
         ensures faults { self.new.faults ≡ min (self.old.faults + 1) (2 ^ 64 - 1) }
     {
         self.faults = self.faults.saturating_add(1);

@@ -20,7 +20,7 @@ pub struct TcpPeer {
 }
 
 impl TcpPeer {
-    ghost use Rattle.std.specs.Prelude.{◌≡◌, ◌+◌, ◌-◌, ◌^◌, min, IfOk};
+    ghost use Rattle.std.specs.Prelude.{◌≡◌, ◌+◌, ◌-◌, ◌^◌, ◌≤◌, min, IfOk};
 
     /// A connection that was accepted just now; none where its time limits can't be set.
     pub(crate) fn new(stream: TcpStream) -> io::Result<TcpPeer>
@@ -34,7 +34,8 @@ impl TcpPeer {
 
     /// Counts a fault.
     fn fault(&mut self)
-        ensures { self.new.faults ≡ min (self.old.faults + 1) (2 ^ 64 - 1) }
+        ensures counted { self.old.faults ≤ self.new.faults }
+        ensures rose { self.new.faults ≡ min (self.old.faults + 1) (2 ^ 64 - 1) }
     {
         self.faults = self.faults.saturating_add(1);
     }
