@@ -1,3 +1,4 @@
 pub mod Places
 pub mod StepSigns
 pub mod Tables
+pub mod Doors

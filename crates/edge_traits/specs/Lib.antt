@@ -1,6 +1,8 @@
+pub mod Door
 pub mod Faults
 pub mod Keeper
 pub mod Link
+pub mod MemDoor
 pub mod Pairs
 pub mod Sink
 pub mod Source

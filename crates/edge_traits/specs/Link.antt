@@ -33,8 +33,8 @@ IsFresh tale =
     (tale.taken ≡ []) × (tale.ended ≡ false) × (tale.written ≡ []) × (tale.closed ≡ false)
     × (tale.at_read ≡ record { taken = 0; written = 0; ended = false })
 
--- a relation of two tales, where the link tells; a link that tells goes on telling
-abbrev pub Both : Option Tale → Option Tale → (Tale → Tale → Type 0) → Type 0
+-- a relation of two tales, where an object tells; one that tells goes on telling
+abbrev pub Both : {T : Type 0} → Option T → Option T → (T → T → Type 0) → Type 0
 Both None new R = ⊤
 Both (Some old) None R = ⊥
 Both (Some old) (Some new) R = R old new

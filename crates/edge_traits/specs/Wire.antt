@@ -33,10 +33,11 @@ taken_at steps spot = signs_in (take spot.step steps) ++ front_of spot.offset (d
 abbrev pub left_at : List LinkStep → Spot → List Sign
 left_at steps spot = rest_of spot.offset (drop spot.step steps)
 
--- a link in memory: what it tells, and its plan of faults
+-- a link in memory: what it tells, its plan of faults, and the number under which a door keeps it
 pub record Wire : Type 0 where
   pub tale : Tale
   pub plan : Plan
+  pub number : ℕ
 
 -- what a piece gives behind its first bytes: nothing more, or bytes with which the buffer now begins
 abbrev pub IsSeenIn : Look → List ℕ → ℕ → List ℕ → Type 0

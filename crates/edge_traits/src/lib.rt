@@ -5,10 +5,12 @@
 #![tactic(auto)]
 
 mod clock;
+mod doorway;
 mod fault_plan;
 mod gate;
 mod keeper;
 mod link;
+mod mem_door;
 mod mem_keeper;
 mod mem_link;
 mod mem_sink;
@@ -18,9 +20,11 @@ mod source;
 mod steps;
 
 pub use clock::{Clock, StillClock};
+pub use doorway::{Came, Doorway};
 pub use gate::{Gate, OpenGate};
 pub use keeper::{Keeper, KeeperFail, Kept, Pair};
 pub use link::{Heard, Link};
+pub use mem_door::MemDoor;
 pub use mem_keeper::MemKeeper;
 pub use mem_link::MemLink;
 pub use mem_sink::MemSink;

@@ -24,6 +24,8 @@ pub struct MemLink {
     written_before: usize,
     ended_before: bool,
     plan: FaultPlan,
+    /// The number under which a door keeps it.
+    number: u64,
 }
 
 impl Model for MemLink {
@@ -46,6 +48,7 @@ impl Model for MemLink {
         };
       };
       plan = link.plan;
+      number = link.number;
     } };
 
     ghost invariant = { λ link. link.at.step ≤ length link.steps.items };
@@ -74,6 +77,7 @@ impl MemLink {
             written_before: 0,
             ended_before: false,
             plan: FaultPlan::new(fails),
+            number: 0,
         }
     }
 
@@ -82,6 +86,21 @@ impl MemLink {
         ensures { result.now ≡ self.now.tale.written }
     {
         self.bytes.as_slice()
+    }
+
+    /// The number under which a door keeps it.
+    pub(crate) fn number(&self) -> u64
+        ensures { result ≡ self.now.number }
+    {
+        self.number
+    }
+
+    /// The same link, which a door keeps under this number.
+    pub(crate) fn numbered(mut self, number: u64) -> MemLink
+        ensures { result ≡ record self { number = number } }
+    {
+        self.number = number;
+        self
     }
 }
 

@@ -1,0 +1,60 @@
+-- What the calls of a door do to what it tells.
+use Rattle.std.specs.Prelude.{◌≡◌, ◌≢◌, ℕ, ◌+◌, ◌<◌, ◌≤◌, ⊤, Bool, true, false, List, [], ◌∷◌, ◌++◌, length, Some, None}
+use Rattle.std.specs.declared.option.Option.{Option}
+use Rattle.edge_traits.specs.Link.{Tale, IsFresh}
+use Rattle.edge_traits.specs.declared.doorway.Came.{Came}
+use Rattle.edge_traits.specs.declared.doorway.Came.TheVariants.{Link, Quiet, Closed, Failed}
+
+-- what a door tells: the links that it has left to give, each as what it tells; those that came, in their order, as
+-- what they told when they came; those that came back, each with its number and with what it told then; and how many
+-- Quiets the door gave
+pub record DoorTale : Type 0 where
+  pub left : List (Option Tale)
+  pub came : List (Option Tale)
+  pub back : List (ℕ × Option Tale)
+  pub quiets : ℕ
+
+-- the fact holds of what is told
+abbrev pub IfTold : {T : Type 0} → Option T → (T → Type 0) → Type 0
+IfTold None P = ⊤
+IfTold (Some tale) P = P tale
+
+-- what an answer of a door, whose links tell this, does to what it tells
+abbrev pub Gives : {L : Type 0} → (L → Option Tale) → Came L → DoorTale → DoorTale → Type 0
+Gives tells (Link link) old new =
+    (old.left ≡ tells link ∷ new.left) × (new ≡ record old { left = new.left; came = old.came ++ tells link ∷ [] })
+Gives tells Quiet old new = new ≡ record old { quiets = old.quiets + 1 }
+Gives tells Closed old new = (old.left ≡ []) × (new ≡ old)
+Gives tells Failed old new = new ≡ old
+
+-- the fact holds of a link that came
+abbrev pub IfCame : {L : Type 0} → Came L → (L → Type 0) → Type 0
+IfCame (Link link) P = P link
+IfCame answer P = Unit {0}
+
+-- a link is new: no fault was counted, and where it tells, nothing was read or written and it isn't closed
+abbrev pub IsNew : ℕ → Option Tale → Type 0
+IsNew faults tale = (faults ≡ 0) × IfTold tale IsFresh
+
+-- the number is that of a link which came, and some link didn't come back yet
+abbrev pub IsOut : ℕ → DoorTale → Type 0
+IsOut number tale = (number ≢ 0) × (number ≤ length tale.came) × (length tale.back < length tale.came)
+
+-- a link, which tells this, came back under its number
+abbrev pub TakesBack : ℕ → Option Tale → DoorTale → DoorTale → Type 0
+TakesBack number link old new = new ≡ record old { back = old.back ++ (number, link) ∷ [] }
+
+-- the fact holds where the door failed
+abbrev pub OnDoorFailed : {L : Type 0} → Came L → Type 0 → Type 0
+OnDoorFailed Failed P = P
+OnDoorFailed answer P = Unit {0}
+
+-- whether a door failed
+abbrev pub door_failed : {L : Type 0} → Came L → Bool
+door_failed Failed = true
+door_failed answer = false
+
+-- the answer is a Quiet
+abbrev pub IsQuiet : {L : Type 0} → Came L → Type 0
+IsQuiet Quiet = Unit {0}
+IsQuiet answer = ⊥

@@ -1,0 +1,140 @@
+//! A door on a TCP port.
+
+use crate::tcp_peer::{TcpPeer, is_pause};
+use edge_traits::{Came, Doorway};
+use std::io::{self, ErrorKind};
+use std::net::{Net, TcpListener, TcpStream};
+use std::os::fd::OwnedFd;
+use std::time::{Clock, Duration};
+
+/// How long `next` waits for a connection before it answers Quiet, and the longest time without a Quiet.
+const PAUSE_MILLIS: u64 = 100;
+
+/// How long it rests where the system can't give a connection, as for want of descriptors.
+const REST_MILLIS: u64 = 10;
+
+/// A door on a TCP port of an address. It listens from its first `next` on, answers Quiet after 100 ms without a
+/// connection and at least that often while connections come, and is closed after so many of them, where a count is
+/// given. A connection that is handed back is dropped. What comes isn't told.
+#[derive(Drop)]
+pub struct TcpDoor<'a, R: Net<Listener = TcpListener, Stream = TcpStream> + Clock> {
+    rt: &'a R,
+    bind: String,
+    port: u16,
+    /// How many connections may still come; none for ever.
+    left: Option<u64>,
+    listener: Option<TcpListener>,
+    /// When the last Quiet was answered, by the system's clock.
+    quiet: Duration,
+    faults: u64,
+}
+
+impl<'a, R: Net<Listener = TcpListener, Stream = TcpStream> + Clock> TcpDoor<'a, R> {
+    ghost use Rattle.std.specs.Prelude.{◌≡◌, ◌+◌, ◌-◌, ◌^◌, ◌≤◌, min};
+
+    /// A door on this port of this address, for so many connections, where a count is given.
+    pub fn new(rt: &'a R, bind: String, port: u16, count: Option<u64>) -> TcpDoor<'a, R> {
+        TcpDoor {
+            rt,
+            bind,
+            port,
+            left: count,
+            listener: None,
+            quiet: Duration::ZERO,
+            faults: 0,
+        }
+    }
+
+    /// Begins to listen, where it doesn't yet.
+    fn listen(&mut self) -> io::Result<()>
+        ensures { self.new.faults ≡ self.old.faults }
+    {
+        if self.listener.is_none() {
+            let listener = TcpListener::bind(self.rt, (self.bind.as_str(), self.port))?;
+            self.listener = Some(with_pause(listener)?);
+            self.quiet = self.reading();
+        }
+        Ok(())
+    }
+
+    /// What the system's clock shows; nothing where it can't be read.
+    fn reading(&self) -> Duration {
+        self.rt.monotonic().unwrap_or(Duration::ZERO)
+    }
+
+    /// Answers Quiet.
+    fn rest(&mut self) -> Came<TcpPeer>
+        ensures quiet { result ≡ Came.Quiet }
+        ensures faults { self.new.faults ≡ self.old.faults }
+    {
+        self.quiet = self.reading();
+        Came::Quiet
+    }
+
+    /// Answers a fault.
+    fn fail(&mut self) -> Came<TcpPeer>
+        ensures failed { result ≡ Came.Failed }
+        ensures counted { self.old.faults ≤ self.new.faults }
+        ensures faults { self.new.faults ≡ min (self.old.faults + 1) (2 ^ 64 - 1) }
+    {
+        self.faults = self.faults.saturating_add(1);
+        Came::Failed
+    }
+
+    /// Whether the last Quiet is long ago.
+    fn is_quiet_due(&self) -> bool {
+        self.reading().saturating_sub(self.quiet) >= Duration::from_millis(PAUSE_MILLIS)
+    }
+}
+
+impl<R: Net<Listener = TcpListener, Stream = TcpStream> + Clock> Doorway for TcpDoor<'_, R> {
+    ghost use Rattle.std.specs.Prelude.{None};
+
+    type Link = TcpPeer;
+
+    ghost tale = { λ _. None };
+
+    ghost faults = { λ door. door.faults };
+
+    fn next(&mut self) -> Came<TcpPeer> {
+        if self.left == Some(0) {
+            return Came::Closed;
+        }
+        if self.listen().is_err() {
+            return self.fail();
+        }
+        if self.is_quiet_due() {
+            return self.rest();
+        }
+        let Some(listener) = &self.listener else {
+            return self.rest();
+        };
+        match listener.accept() {
+            Ok((stream, _)) => match TcpPeer::new(stream) {
+                Ok(peer) => {
+                    self.left = self.left.map(|left| left.saturating_sub(1));
+                    Came::Link(peer)
+                }
+                Err(_) => self.rest(),
+            },
+            Err(error) if is_pause(error.kind()) => self.rest(),
+            Err(error) if error.kind() == ErrorKind::InvalidInput => self.fail(),
+            Err(_) => {
+                self.rt.sleep(Duration::from_millis(REST_MILLIS));
+                self.rest()
+            }
+        }
+    }
+
+    fn back(&mut self, _number: u64, link: TcpPeer) {
+        drop(link);
+    }
+}
+
+/// The same listener, which waits for a connection as long as the pause. The option is that of a stream's reads, and
+/// serves `accept` too.
+fn with_pause(listener: TcpListener) -> io::Result<TcpListener> {
+    let stream = TcpStream::from(OwnedFd::from(listener));
+    stream.set_read_timeout(Some(Duration::from_millis(PAUSE_MILLIS)))?;
+    Ok(TcpListener::from(OwnedFd::from(stream)))
+}
