@@ -1,3 +1,4 @@
+pub mod Acknowledged
 pub mod Charged
 pub mod Grown
 pub mod LastPlayed

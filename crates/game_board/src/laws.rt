@@ -1,5 +1,5 @@
 //! What the definitions mean for players, as calls that do nothing: what each ensures is the law.
-ghost use Rattle.std.specs.Prelude.{◌≡◌, ◌≢◌, ℕ, ◌<◌, ◌≤◌, ◌++◌, ◌∷◌, [], ◌↔◌, Ok, Err, Option, IfSome};
+ghost use Rattle.std.specs.Prelude.{◌≡◌, ◌≢◌, ℕ, ◌<◌, ◌≤◌, ◌++◌, ◌∷◌, [], ◌↔◌, Ok, Err, Option, None, Some, IfSome};
 ghost use Rattle.std.specs.Option.{option_to_list};
 ghost use Rattle.chess_model.specs.declared.man.Colour.{Colour};
 ghost use Rattle.chess_model.specs.declared.moves.Move.{Move};
@@ -11,7 +11,7 @@ ghost use Rattle.clock_ledger.specs.Span.{IsStamp};
 ghost use Rattle.game_board.specs.Acked.{acknowledged};
 ghost use Rattle.game_board.specs.Board.{Board, new_board, to_move, mover_after, position_of};
 ghost use Rattle.game_board.specs.Charges.{charges_of};
-ghost use Rattle.game_board.specs.Play.{move_answer, play_after};
+ghost use Rattle.game_board.specs.Play.{move_answer, next_charge, play_after, with_half_move};
 ghost use Rattle.game_board.specs.Scoresheet.{IsTrueScore};
 
 use crate::game_board::GameBoard;
@@ -37,6 +37,23 @@ pub fn play_takes_exactly_the_answers(board: &GameBoard, colour: Colour, word: &
     ensures other { to_move board.now ≢ colour → move_answer board.now colour word.now ≡ Err Refusal.NotYourTurn }
     ensures full { to_move board.now ≡ colour → board.now.played ≡ 1200 → move_answer board.now colour word.now
         ≡ Err Refusal.TooManyMoves }
+{}
+
+/// The next charge of a board, where there is one, keeps the client's own times exactly where the player to move
+/// acknowledged the board since the half-move before and the move comes with a stamp; of several acknowledgements the
+/// last one counts, and one of the other player changes nothing.
+pub fn the_last_acknowledgement_counts()
+    ensures last { (b : Board) (c : Colour) (first last : ℕ) → acknowledged (acknowledged b c first) c last
+        ≡ acknowledged b c last }
+    ensures other { (b : Board) (c : Colour) (stamp : ℕ) → to_move b ≢ c → acknowledged b c stamp ≡ b }
+    ensures stamped { (b : Board) (c : Colour) (seen made moment : ℕ) → to_move b ≡ c →
+        IfSome (next_charge (acknowledged b c seen) moment (Some made)) (λ charge. charge.client ≡ Some (seen, made)) }
+    ensures unstamped { (b : Board) (moment : ℕ) → IfSome (next_charge b moment None)
+        (λ charge. charge.client ≡ None) }
+    ensures unseen { (b : Board) (moment : ℕ) (stamp : Option ℕ) → b.kept ≡ None → IfSome (next_charge b moment stamp)
+        (λ charge. charge.client ≡ None) }
+    ensures cleared { (b : Board) (m : Move) (moment : ℕ) (stamp : Option ℕ)
+        → (with_half_move b m moment stamp).kept ≡ None }
 {}
 
 /// The list of a board is a true score of its game from the start on, whatever words are played, at moments that don't

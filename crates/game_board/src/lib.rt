@@ -13,5 +13,8 @@ mod played;
 
 pub use clock_ledger::{Charge, ClockLedger};
 pub use game_board::{GameBoard, MOST_PLAYED};
-pub use laws::{charges_follow_the_list, play_takes_exactly_the_answers, scores_are_true};
+pub use laws::{
+    charges_follow_the_list, play_takes_exactly_the_answers, scores_are_true,
+    the_last_acknowledgement_counts,
+};
 pub use played::Played;
