@@ -1,5 +1,5 @@
 -- What a Register and the loading of an account keep.
-use Rattle.std.proofs.Common.{◌≡◌, ℕ, ◌<◌, Bool, true, false, leb, List, Option, None, Some, Result, Ok, Err, length, refl, sym, subst, rules, tests}
+use Rattle.std.proofs.Common.{◌≡◌, ℕ, ◌<◌, false, leb, List, Option, None, Some, Result, Ok, Err, length, refl, sym, subst, rules, tests}
 use Rattle.std.specs.Prelude.{is_some}
 use Rattle.fics_words.specs.Effect.{Takes}
 use Rattle.fics_words.specs.Handle.{key_of}

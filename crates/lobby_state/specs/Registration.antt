@@ -1,5 +1,5 @@
 -- Register: a member makes an account of its handle. This server's own.
-use Rattle.std.specs.Prelude.{ℕ, Bool, true, nat_le, List, [], ◌∷◌, ◌++◌, length, Option, None, Some, is_none, is_some}
+use Rattle.std.specs.Prelude.{ℕ, true, nat_le, List, [], ◌∷◌, ◌++◌, length, Option, None, Some, is_none}
 use Rattle.fics_words.specs.Effect.{Effect}
 use Rattle.fics_words.specs.declared.account.Account.{Account}
 use Rattle.fics_words.specs.declared.refusal.Refusal.TheVariants.{NotIn, AlreadyRegistered, AccountsFull}

@@ -92,7 +92,7 @@ fn registering(lobby: &mut Lobby, session: u32, password: u8) -> u8 {
 }
 
 /// Loads an account, and says the number of the refusal.
-pub fn loading(lobby: &mut Lobby, letters: &[u8], password: u8) -> u8 {
+fn loading(lobby: &mut Lobby, letters: &[u8], password: u8) -> u8 {
     let Some(name) = Handle::read(letters) else {
         return STRANGE;
     };

@@ -1,6 +1,6 @@
 //! Logins, guests and accounts.
 
-use crate::login_steps::{Login, Met, first_failing_login, loading};
+use crate::login_steps::{Login, Met, first_failing_login};
 use crate::steps::{CHESS, DONE, Step, first_failing, hall, registered_seats};
 use std::test::Fail;
 
@@ -55,31 +55,6 @@ fn guests(rt: HostRuntime) -> Result<(), Fail> {
         Login::Guest(8, Met::As(b"GuestAAAG")),
     ];
     assert_eq!(rt; first_failing_login(&mut lobby, &steps), None);
-    Ok(())
-}
-
-#[test]
-fn accounts_are_full(rt: HostRuntime) -> Result<(), Fail> {
-    let mut lobby = hall(rt.alloc())?;
-    for n in 0..4_096u32 {
-        let letters = [
-            b'a' + (n / 676 % 26) as u8,
-            b'a' + (n / 26 % 26) as u8,
-            b'a' + (n % 26) as u8,
-            b'x',
-        ];
-        assert_eq!(rt; loading(&mut lobby, &letters, 1), DONE);
-    }
-    let full = [
-        Login::Load(b"Aaax", 1, 48),
-        Login::Load(b"Zoe", 1, 47),
-        Login::Password(1, b"AAAX", 1, Met::As(b"aaax")),
-        Login::Name(2, b"Zoe", Met::As(b"Zoe")),
-        Login::Register(1, 1, 48),
-        Login::Register(2, 1, 47),
-        Login::Register(3, 1, 54),
-    ];
-    assert_eq!(rt; first_failing_login(&mut lobby, &full), None);
     Ok(())
 }
 
