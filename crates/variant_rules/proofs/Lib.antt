@@ -1,4 +1,10 @@
+pub mod GuardLemmas
 pub mod HandLemmas
+pub mod LineLemmas
+pub mod MoveLemmas
+pub mod NamedAnswers
+pub mod PartLemmas
 pub mod ReachLemmas
-pub mod UndoLemmas
 pub mod SightLemmas
+pub mod UndoLemmas
+pub mod WholeList

@@ -1,5 +1,5 @@
 -- What a pawn reaches by taking in passing.
-use Rattle.std.proofs.Common.{arith, ◌≡◌, ◌↔◌, ℕ, ◌≤◌, inl, inr, Option, Some, None}
+use Rattle.std.proofs.Common.{arith, ◌≡◌, ◌↔◌, ℕ, ◌≤◌, ◌⊎◌, inl, inr, sym, ap, Option, Some, None}
 use Rattle.chess_model.specs.declared.man.Colour.{Colour}
 use Rattle.chess_model.specs.declared.man.Colour.TheVariants.{White, Black}
 use Rattle.chess_model.specs.declared.man.Kind.TheVariants.{Pawn}
@@ -26,6 +26,26 @@ passed_reaches P en_passant c a b other = (
     | inr takes ↦ elim (takes.enemy) [
       | inl held ↦ absurd (other (inr (record { step = takes.step; enemy = inl held })))
       | inr passed ↦ (passed, step-strikes P c a b takes.step)
+    ]
+  ],
+)
+
+-- with an en passant square a pawn reaches that square too, where it strikes it
+pub passed-adds : (P : Placement) (c : Colour) (a s t : ℕ) →
+    (Reaches P None c Pawn a t ⊎ ((t ≡ s) × Strikes P c Pawn a t)) ↔ Reaches P (Some s) c Pawn a t
+passed-adds P c a s t = (
+  λ h. elim h [
+    | inl old ↦ elim old [
+      | inl push ↦ inl push
+      | inr takes ↦ inr (record { step = takes.step; enemy = elim (takes.enemy) [ inl held ↦ inl held | inr e ↦ absurd (let f : None ≡ Some t = e in cc) ] })
+    ]
+    | inr new ↦ inr (record { step = new.1.step; enemy = inr (ap Some (sym new.0)) })
+  ],
+  λ r. elim r [
+    | inl push ↦ inl (inl push)
+    | inr takes ↦ elim (takes.enemy) [
+      | inl held ↦ inl (inr (record { step = takes.step; enemy = inl held }))
+      | inr e ↦ inr ((let f : Some s ≡ Some t = e in let g : t ≡ s = cc in g), step-strikes P c a t takes.step)
     ]
   ],
 )

@@ -6,12 +6,16 @@
 //! over from the other board.
 #![tactic(auto)]
 
+mod answer;
 mod changes;
+mod guard;
 mod homes;
+mod listing;
 mod make;
 mod position;
 mod rules;
 mod sights;
+
 
 pub use make::Undo;
 pub use position::{Look, Position};

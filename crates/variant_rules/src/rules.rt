@@ -228,7 +228,7 @@ impl Position {
         self.goes_as(from, to, promo)
     }
 
-    fn can_castle(&self, long: bool) -> bool
+    pub(crate) fn can_castle(&self, long: bool) -> bool
         ensures { IsTrue result ↔ CanCastle self.now long }
     {
         let king = home_of_king(self.variant, self.to_move);
@@ -245,7 +245,7 @@ impl Position {
             && is_unattacked_way(&self.men, self.to_move.opposite(), king, end)
     }
 
-    fn can_drop(&self, k: Kind, to: Square) -> bool
+    pub(crate) fn can_drop(&self, k: Kind, to: Square) -> bool
         ensures { IsTrue result ↔ CanDrop self.now k to }
     {
         if !has_drops(self.variant) || self.hand(self.to_move).count(k) == 0 {

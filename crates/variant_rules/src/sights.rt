@@ -33,7 +33,7 @@ fn written(set: u64, s: Square, holds: bool) -> u64
 }
 
 #[inline]
-fn is_held_as(c: Colour, k: Kind, man: Option<Man>) -> bool
+pub(crate) fn is_held_as(c: Colour, k: Kind, man: Option<Man>) -> bool
     ensures { result ≡ is_held_as c k man }
 {
     match man {
