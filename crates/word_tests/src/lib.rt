@@ -3,6 +3,10 @@
 #![tactic(auto)]
 
 #[cfg(test)]
+mod aliases;
+#[cfg(test)]
+mod commands;
+#[cfg(test)]
 mod links;
 #[cfg(test)]
 mod logins;

@@ -1,0 +1,196 @@
+//! Lines of players, and the commands that they are read as.
+
+use chess_model::{Colour, Terms, variant_word};
+use command_words::{Aliases, Command, read_command};
+use fics_words::{Fail as Failed, Handle, Line, NoMemory, write_number};
+use std::alloc::Global;
+use std::process::Abort;
+use std::test::Fail;
+
+/// A line, and what it is read as, in each row: a command with all its arguments, or a refusal's number.
+const LINES: &str = "\
+|nothing
+   |nothing
+e2e4|move
+ O-O |move
+e2e4+|move
+E2E4|refused 26
+b9|refused 26
+accept|accept
+a|accept
+acc Ann|accept Ann
+ A  Ann |accept Ann
+accept Bob Ann|refused 28
+accept 7|refused 28
+a an|refused 28
+acceptance|refused 26
+flag|flag
+f|flag
+flag now|refused 28
+Quit|quit
+q|quit
+quit now|refused 28
+resign|resign
+RES|resign
+resign x|refused 28
+register secret|register secret
+reg A  b |register A  b
+REGISTER ~ $1 7|register ~ $1 7
+register|refused 28
+re|refused 27
+r|refused 27
+RE x|refused 27
+zz|refused 26
+?|refused 26
+1|refused 26
+seek|refused 26
+matches ann|refused 26
+match ann|match ann 2 12 chess
+MATCH Ann|match Ann 2 12 chess
+mat ann 0 0|match ann 0 0 chess
+m ANN|match ANN 2 12 chess
+M ann w|match ann 2 12 chess white
+match ann 5 0 white|match ann 5 0 chess white
+m ann unrated crazyhouse b|match ann 2 12 crazyhouse black
+ma ann 600 600|match ann 600 600 chess
+match ann black|match ann 2 12 chess black
+match ann chess|match ann 2 12 chess
+match ann bughouse w|match ann 2 12 bughouse white
+match ann 1 0 bughouse|match ann 1 0 bughouse
+match ann unrated|match ann 2 12 chess
+match ann unrated b|match ann 2 12 chess black
+match ann 3 2 unrated|match ann 3 2 chess
+match ann 3 2 unrated w|match ann 3 2 chess white
+match ann 3 2 unrated crazyhouse white|match ann 3 2 crazyhouse white
+match ann unrated chess b|match ann 2 12 chess black
+  match   ann  3   2  |match ann 3 2 chess
+match|refused 28
+m|refused 28
+match an|refused 28
+match ann5|refused 28
+match abcdefghijklmnopqr|refused 28
+match 5 0|refused 28
+match ann ben|refused 28
+match ann 5|refused 28
+match ann 5 white|refused 28
+match ann 601 0|refused 28
+match ann 0 601|refused 28
+match ann 05 0|refused 28
+match ann +5 0|refused 28
+match ann -1 0|refused 28
+match ann 5 0 3|refused 28
+match ann 5,0|refused 28
+match ann 18446744073709551621 0|refused 28
+match ann unrated unrated|refused 28
+match ann rated|refused 28
+match ann 5 0 rated|refused 28
+match ann unrated 5 0|refused 28
+match ann chess unrated|refused 28
+match ann w chess|refused 28
+match ann chess crazyhouse|refused 28
+match ann white black|refused 28
+match ann Chess|refused 28
+match ann WHITE|refused 28
+match ann B|refused 28
+match ann Unrated|refused 28
+match ann fischer|refused 28
+match ann 5 0 chess w x|refused 28
+m bob 2 12 chess white unrated|refused 28";
+
+#[test]
+fn reads_lines(rt: HostRuntime) -> Result<(), Fail> {
+    let none = Aliases::new(rt.alloc());
+    read_rows(&rt, rt.alloc(), LINES, &none)
+}
+
+#[test]
+fn a_password_has_800_bytes_at_most(rt: HostRuntime) -> Result<(), Fail> {
+    let none = Aliases::new(rt.alloc());
+    let mut line = String::new(rt.alloc());
+    line.push_str("register ")?;
+    line.push_str("ten bytes.".repeat(rt.alloc(), 80)?.as_str())?;
+    let told = read(rt.alloc(), line.as_str(), &none)?;
+    assert_eq!(rt; told.as_slice(), line.as_bytes());
+    line.push('x')?;
+    let told = read(rt.alloc(), line.as_str(), &none)?;
+    assert_eq!(rt; told.as_slice(), b"refused 28".as_slice());
+    Ok(())
+}
+
+/// Looks at each row's line whether it is read as the row says.
+pub(crate) fn read_rows(
+    rt: &impl Abort,
+    alloc: Global,
+    rows: &str,
+    aliases: &Aliases,
+) -> Result<(), Fail> {
+    for row in rows.lines() {
+        let (line, wanted) = row.split_once('|').ok_or("a line and what it means")?;
+        let told = read(alloc, line, aliases)?;
+        assert_eq!(rt; told.as_slice(), wanted.as_bytes(), "{line}");
+    }
+    Ok(())
+}
+
+/// What a line is read as, told as a text.
+pub(crate) fn read(alloc: Global, line: &str, aliases: &Aliases) -> Result<Vec<u8>, Fail> {
+    let line = Line::read(alloc, line.as_bytes())?.ok_or("a line")?;
+    match read_command(alloc, &line, aliases) {
+        Ok(command) => Ok(told(alloc, &command)?),
+        Err(Failed::Refused(refusal)) => Ok(refused(alloc, refusal.number())?),
+        Err(Failed::Memory) => Err(NoMemory.into()),
+    }
+}
+
+/// The text of a refusal.
+fn refused(alloc: Global, number: u8) -> Result<Vec<u8>, NoMemory> {
+    let mut text = Vec::from_slice(alloc, b"refused ")?;
+    write_number(&mut text, number as u64)?;
+    Ok(text)
+}
+
+/// The text of a command.
+fn told(alloc: Global, command: &Command) -> Result<Vec<u8>, NoMemory> {
+    match command {
+        Command::Nothing => of(alloc, b"nothing"),
+        Command::Move(_) => of(alloc, b"move"),
+        Command::Match(name, terms) => challenge(alloc, name, terms),
+        Command::Accept(None) => of(alloc, b"accept"),
+        Command::Accept(Some(name)) => with_text(alloc, b"accept ", name.letters()),
+        Command::Resign => of(alloc, b"resign"),
+        Command::Flag => of(alloc, b"flag"),
+        Command::Register(password) => with_text(alloc, b"register ", password.bytes()),
+        Command::Quit => of(alloc, b"quit"),
+    }
+}
+
+fn of(alloc: Global, word: &[u8]) -> Result<Vec<u8>, NoMemory> {
+    Ok(Vec::from_slice(alloc, word)?)
+}
+
+fn with_text(alloc: Global, word: &[u8], text: &[u8]) -> Result<Vec<u8>, NoMemory> {
+    let mut whole = Vec::from_slice(alloc, word)?;
+    whole.extend_from_slice(text)?;
+    Ok(whole)
+}
+
+/// The text of a challenge, with all its terms.
+fn challenge(alloc: Global, name: &Handle, terms: &Terms) -> Result<Vec<u8>, NoMemory> {
+    let mut text = with_text(alloc, b"match ", name.letters())?;
+    text.push(b' ')?;
+    write_number(&mut text, terms.minutes as u64)?;
+    text.push(b' ')?;
+    write_number(&mut text, terms.increment as u64)?;
+    text.push(b' ')?;
+    text.extend_from_slice(variant_word(terms.variant).bytes())?;
+    text.extend_from_slice(colour(terms.colour))?;
+    Ok(text)
+}
+
+fn colour(asked: Option<Colour>) -> &'static [u8] {
+    match asked {
+        None => b"",
+        Some(Colour::White) => b" white",
+        Some(Colour::Black) => b" black",
+    }
+}
