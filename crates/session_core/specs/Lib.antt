@@ -1,6 +1,9 @@
 pub mod Memory
 pub mod Course
 pub mod Texts
+pub mod StandIn
+pub mod Login
 pub mod Session
+pub mod Inputs
 pub mod Stages
 pub mod Going

@@ -43,7 +43,7 @@ impl LeavingStage {
             }
             LeavingStage::Clearing(rest) => leave_next(rest),
             LeavingStage::Gone => {
-                *memory = Memory::new();
+                memory.depart();
                 Next::End
             }
         }
@@ -59,7 +59,7 @@ pub(crate) fn ask_going() -> Next<LeavingStage>
 
 /// The act that leaves the first of these places; behind the last one the member is gone.
 fn leave_next(rest: Rest) -> Next<LeavingStage>
-    ensures goes { (memory : MemoryState) → course_of leaves result memory ≡ leave_places rest }
+    ensures goes { (memory : MemoryState) → course_of leaves result memory ≡ leave_places rest memory }
     ensures ready { IsReady LeavesDesk result }
     ensures fewer { acts_left acts_of_leaving result ≤ 2 * length rest + 1 }
 {

@@ -12,27 +12,27 @@ use Rattle.session_core.proofs.leaving.leave.Goals as goal
 pub loop-next-init : goal.loop-next-init
 loop-next-init g c =
     let old = g.R.Runner.state c.args.r.now in
-    let is : leaving c.args.memory ≡ course_of leaves c.ask_going-next.result c.args.memory = sym (ap (λ (n : Next LeavingStage). course_of leaves n c.args.memory) c.ask_going-next.ensures) in
+    let is : leaving c.args.memory.now ≡ course_of leaves c.ask_going-next.result c.args.memory.now = sym (ap (λ (n : Next LeavingStage). course_of leaves n c.args.memory.now) c.ask_going-next.ensures) in
     record {
       ready = subst (IsReady LeavesDesk) (sym c.ask_going-next.ensures) (tt, tt);
       home = refl;
-      went = subst (λ (x : Course). Went (leaving c.args.memory) x c.args.moment old [] old []) is (went_none c.args.moment (leaving c.args.memory) old [] c.session-session.ensures.known);
-      passed = subst (λ (x : Course). Passed (leaving c.args.memory) x c.args.moment old old) is (passed_none c.args.moment (leaving c.args.memory) old c.session-session.ensures.known);
+      went = subst (λ (x : Course). Went (leaving c.args.memory.now) x c.args.moment old [] old []) is (went_none c.args.moment (leaving c.args.memory.now) old [] c.session-session.ensures.known);
+      passed = subst (λ (x : Course). Passed (leaving c.args.memory.now) x c.args.moment old old) is (passed_none c.args.moment (leaving c.args.memory.now) old c.session-session.ensures.known);
     }
 
 pub returns-in-End-clause-left : goal.returns-in-End-clause-left
 returns-in-End-clause-left g c =
-    left c.args.moment c.loop-next.all (leaving c.args.memory) (course_of leaves c.loop-next.next c.loop-next.memory) c.loop-next.memory
+    left c.args.moment c.loop-next.all (leaving c.args.memory.now) (course_of leaves c.loop-next.next c.loop-next.memory) c.loop-next.memory
     (g.R.Runner.state c.args.r.now) (g.R.Runner.state c.loop-next.r) c.loop-next.invariant.went (ap (λ (n : Next LeavingStage). course_of leaves n c.loop-next.memory) c.in-End.is)
 
 pub returns-in-End-clause-part : goal.returns-in-End-clause-part
 returns-in-End-clause-part g c =
-    passed_end c.args.moment c.loop-next.all (leaving c.args.memory) (course_of leaves c.loop-next.next c.loop-next.memory) c.loop-next.memory
+    passed_end c.args.moment (leaving c.args.memory.now) (course_of leaves c.loop-next.next c.loop-next.memory) c.loop-next.memory
     (g.R.Runner.state c.args.r.now) (g.R.Runner.state c.loop-next.r) c.loop-next.invariant.passed (ap (λ (n : Next LeavingStage). course_of leaves n c.loop-next.memory) c.in-End.is)
 
 pub loop-next-preserved : goal.loop-next-preserved
 loop-next-preserved g c =
-    let start = leaving c.args.memory in
+    let start = leaving c.args.memory.now in
     let here = course_of leaves c.loop-next.next c.loop-next.memory in
     let asks = Asks c.in-Ask.act (leaves c.in-Ask.stage c.loop-next.memory) in
     let next = course_of leaves c.ask_or_pass-done.result.1 c.ask_or_pass-done.new.memory in
