@@ -1,6 +1,7 @@
 -- What a session does for an input, and what it answers. This server's own.
-use Rattle.std.specs.Prelude.{ℕ, ◌<◌, ◌^◌, Bool, true, false, ◌||◌, if◌then◌else◌, List, [], ◌∷◌, ◌++◌, Option, None, Some, Result, Ok, Err, codes, nat_eq}
+use Rattle.std.specs.Prelude.{ℕ, Bool, true, false, ◌||◌, if◌then◌else◌, List, [], ◌∷◌, ◌++◌, Option, None, Some, Result, Ok, Err, codes, nat_eq}
 use Rattle.std.specs.List.{starts_with}
+use Rattle.clock_ledger.specs.Span.{IsStamp}
 use Rattle.command_words.specs.declared.command.Command.{Command}
 use Rattle.command_words.specs.Commands.{command_in}
 use Rattle.fics_words.specs.declared.refusal.Refusal.{Refusal}
@@ -107,8 +108,8 @@ answer_text input before after text = framed (framing_of input before) after.sta
 
 -- the stamps of an input are below 10,000,000
 abbrev pub HasStamp : Incoming → Type 0
-HasStamp (incoming.Stamped text stamp) = stamp < 10000000
-HasStamp (incoming.Ack stamp) = stamp < 10000000
+HasStamp (incoming.Stamped text stamp) = IsStamp stamp
+HasStamp (incoming.Ack stamp) = IsStamp stamp
 HasStamp _ = Unit {0}
 
 abbrev pub FitsInput : Input → Type 0

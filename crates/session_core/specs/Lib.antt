@@ -1,7 +1,6 @@
 pub mod Memory
 pub mod Course
 pub mod Texts
-pub mod StandIn
 pub mod Login
 pub mod Session
 pub mod Inputs

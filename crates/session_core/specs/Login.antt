@@ -4,7 +4,9 @@ use Rattle.std.specs.Str.{str_eq_ignore_ascii_case}
 use Rattle.command_words.specs.Texts.{handle_of}
 use Rattle.fics_words.specs.declared.refusal.Refusal.{Refusal}
 use Rattle.fics_words.specs.declared.refusal.Refusal.TheVariants.{BadHandle}
-use Rattle.lobby_state.specs.declared.acts.LobbyReply.TheVariants.{Entered}
+use Rattle.lobby_state.specs.declared.acts.LobbyAct.TheVariants.{Enter}
+use Rattle.lobby_state.specs.declared.acts.LobbyReply.TheVariants.{Entered, NeedPassword}
+use Rattle.one_server.specs.declared.act.Act.TheVariants.{Lobby}
 use Rattle.one_server.specs.declared.reply.Reply.{Reply}
 use Rattle.one_server.specs.declared.reply.Reply.TheVariants as reply
 use Rattle.session_core.specs.declared.standing.Standing.{Standing}
@@ -12,7 +14,6 @@ use Rattle.session_core.specs.declared.standing.Standing.TheVariants.{Login, Pas
 use Rattle.session_core.specs.Course.{Course, Done, Asks, Writes}
 use Rattle.session_core.specs.Memory.{MemoryState, stands_at}
 use Rattle.session_core.specs.Texts.{refusal_line, reply_text}
-use Rattle.session_core.specs.StandIn.{enter_act}
 use Rattle.sha2.specs.Sha256.{sha256}
 
 -- the password of a handle is asked for; a guest has none
@@ -24,6 +25,7 @@ password_of None = Login
 -- asked for the password, or it begins anew
 abbrev pub admitted : Option (List ℕ) → Reply → Standing
 admitted asked (reply.Lobby (Entered name)) = In name
+admitted asked (reply.Lobby NeedPassword) = password_of asked
 admitted asked _ = Login
 
 abbrev pub entered_as : Option (List ℕ) → Reply → MemoryState → Course
@@ -32,7 +34,7 @@ entered_as name reply memory = Writes (reply_text reply) (Done (stands_at (admit
 -- the session asks to enter under a name, or as a guest, perhaps with the digest of a password
 abbrev pub entering : Option (List ℕ) → Option (List ℕ) → MemoryState → Course
 entering name digest memory =
-    Asks (enter_act name digest)
+    Asks (Lobby (Enter name digest))
     (λ reply. entered_as name reply memory)
 
 -- the session refuses a line by itself, and begins anew

@@ -19,7 +19,6 @@ use Rattle.one_server.specs.declared.reply.Reply.TheVariants as reply
 use Rattle.session_core.specs.Course.{Course, Done, Asks, Writes}
 use Rattle.session_core.specs.Memory.{MemoryState, departed, present_in, told}
 use Rattle.session_core.specs.Texts.{refusal_line, reply_text, news_text, waiting_text}
-use Rattle.session_core.specs.StandIn.{acked_act, move_act, register_act}
 use Rattle.sha2.specs.Sha256.{sha256}
 
 -- nothing more will come from the game
@@ -91,20 +90,20 @@ leaving memory =
 -- what a session does for a command; a move carries the stamp of its line, where it has one
 abbrev pub command_course : Command → Option ℕ → MemoryState → Course
 command_course command.Nothing stamp memory = round memory
-command_course (command.Move word) stamp memory = to_desk (move_act word stamp) memory
+command_course (command.Move word) stamp memory = to_desk (desk_act.Move word stamp) memory
 command_course (command.Match name terms) stamp memory =
     to_server (Lobby (lobby_act.Match (key_of name) terms)) memory
 command_course (command.Accept name) stamp memory = to_server (Pair (pair_act.Accept (option_map key_of name))) memory
 command_course command.Resign stamp memory = to_desk desk_act.Resign memory
 command_course command.Flag stamp memory = to_desk desk_act.Flag memory
 command_course (command.Register password) stamp memory =
-    to_server (register_act (sha256 password)) memory
+    to_server (Lobby (lobby_act.Register (sha256 password))) memory
 command_course command.Quit stamp memory = leaving memory
 
 -- an acknowledgement reaches the present place, if there is any; it prints nothing, and no round follows
 abbrev pub acked_at : ℕ → Option Place → MemoryState → Course
 acked_at stamp None memory = Done memory
-acked_at stamp (Some place) memory = Asks (at_place place (acked_act stamp)) (λ reply. Done memory)
+acked_at stamp (Some place) memory = Asks (at_place place (desk_act.Acked stamp)) (λ reply. Done memory)
 
 abbrev pub acking : ℕ → MemoryState → Course
 acking stamp memory = acked_at stamp (present_in memory) memory

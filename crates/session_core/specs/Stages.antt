@@ -1,6 +1,7 @@
 -- The stages of a session: what stands between an act and its reply, and what follows. This server's own.
-use Rattle.std.specs.Prelude.{◌≡◌, ℕ, ◌+◌, ◌*◌, ◌<◌, true, false, List, ◌++◌, length, Option, None, Some}
-use Rattle.linked_desk.specs.declared.acts.DeskAct.{DeskAct}
+use Rattle.std.specs.Prelude.{◌≡◌, ℕ, ◌+◌, ◌*◌, true, false, List, ◌++◌, length, Option, IfSome}
+use Rattle.clock_ledger.specs.Span.{IsStamp}
+use Rattle.linked_desk.specs.Acts.{FitsDeskAct}
 use Rattle.lobby_state.specs.Desks.{IsDesk}
 use Rattle.one_server.specs.declared.reply.Reply.{Reply}
 use Rattle.one_server.specs.Acts.{FitsAct}
@@ -17,7 +18,6 @@ use Rattle.session_core.specs.Memory.{MemoryState, departed, has_entered, told}
 use Rattle.session_core.specs.Login.{entered_as}
 use Rattle.session_core.specs.Session.{acking, answered, clear_at, given_up, leave_places, leaving, placing, rounding, says_over, visits}
 use Rattle.session_core.specs.Texts.{news_text, waiting_text}
-use Rattle.session_core.specs.StandIn.{FitsAtDesk}
 
 -- what follows the reply to the act at which the session stands
 abbrev pub continues : Stage → MemoryState → Reply → Course
@@ -67,16 +67,15 @@ acts_left after End = 0
 
 -- the stamp of a line, where there is one, is below 10,000,000
 abbrev pub FitsStamp : Option ℕ → Type 0
-FitsStamp None = Unit {0}
-FitsStamp (Some stamp) = stamp < 10000000
+FitsStamp stamp = IfSome stamp IsStamp
 
 -- a stage has what its next act needs, an act that a desk can take, a place at a desk, a stamp; and it is one of a
 -- session that hasn't entered, or of one that has
 abbrev pub IsSet : MemoryState → Stage → Type 0
 IsSet memory (stage.Entering name) = has_entered memory ≡ false
-IsSet memory (stage.Placing act) = (has_entered memory ≡ true) × FitsAtDesk act
+IsSet memory (stage.Placing act) = (has_entered memory ≡ true) × FitsDeskAct act
 IsSet memory (stage.Visiting place rest) = (has_entered memory ≡ true) × IsDesk place.desk
-IsSet memory (stage.AwaitingPlace stamp) = (has_entered memory ≡ true) × (stamp < 10000000)
+IsSet memory (stage.AwaitingPlace stamp) = (has_entered memory ≡ true) × IsStamp stamp
 IsSet memory _ = has_entered memory ≡ true
 
 abbrev pub LeavesDesk : LeavingStage → Type 0

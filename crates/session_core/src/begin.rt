@@ -1,9 +1,10 @@
 //! How a session begins to answer an input, up to its first act.
-ghost use Rattle.std.specs.Prelude.{◌≡◌, ◌<◌, IfOk, None, true};
+ghost use Rattle.std.specs.Prelude.{◌≡◌, IfOk, None, true};
 ghost use Rattle.session_core.specs.Inputs.{FitsInput, HasStamp, ack_course, asked_course, input_course, is_greeting};
 ghost use Rattle.session_core.specs.Inputs.{line_course, past_line, quiet_course, refusing, stamp_on, text_course};
 ghost use Rattle.session_core.specs.Memory.{has_entered};
 ghost use Rattle.session_core.specs.Stages.{FitsStamp, IsPrepared, Settles, first_course};
+ghost use Rattle.clock_ledger.specs.Span.{IsStamp};
 ghost use Rattle.command_words.specs.Commands.{command_in};
 
 use crate::command::begin_command;
@@ -149,7 +150,7 @@ fn read_text(
 
 /// An acknowledgement counts once the session has entered.
 fn begin_ack(memory: &Memory, stamp: u32) -> First
-    requires { stamp < 10000000 }
+    requires { IsStamp stamp }
     ensures goes { first_course result memory.now ≡ ack_course stamp memory.now.standing memory.now }
     ensures ready { IsPrepared memory.now result }
 {

@@ -1,7 +1,7 @@
 //! How a session begins to carry out a command.
 ghost use Rattle.std.specs.Prelude.{◌≡◌, true};
 ghost use Rattle.one_server.specs.Acts.{FitsAct};
-ghost use Rattle.session_core.specs.StandIn.{FitsAtDesk};
+ghost use Rattle.linked_desk.specs.Acts.{FitsDeskAct};
 ghost use Rattle.session_core.specs.Memory.{MemoryState, has_entered};
 ghost use Rattle.session_core.specs.Session.{command_course, to_desk, to_server};
 ghost use Rattle.session_core.specs.Stages.{FitsStamp, IsPrepared, first_course};
@@ -9,7 +9,6 @@ ghost use Rattle.session_core.specs.Stages.{FitsStamp, IsPrepared, first_course}
 use crate::first::First;
 use crate::next::Next;
 use crate::stage::{Stage, ask_round};
-use crate::standin::{move_act, register_act};
 use command_words::Command;
 use linked_desk::DeskAct;
 use lobby_state::{LobbyAct, PairAct};
@@ -24,7 +23,7 @@ pub(crate) fn begin_command(command: Command, stamp: Option<u32>) -> First
 {
     match command {
         Command::Nothing => First::Going(ask_round()),
-        Command::Move(word) => to_desk(move_act(word, stamp)),
+        Command::Move(word) => to_desk(DeskAct::Move { word, stamp }),
         Command::Match(name, terms) => to_server(Act::Lobby(LobbyAct::Match {
             to: name.key(),
             terms,
@@ -32,7 +31,10 @@ pub(crate) fn begin_command(command: Command, stamp: Option<u32>) -> First
         Command::Accept(name) => to_server(Act::Pair(PairAct::Accept(name.map(|name| name.key())))),
         Command::Resign => to_desk(DeskAct::Resign),
         Command::Flag => to_desk(DeskAct::Flag),
-        Command::Register(password) => to_server(register_act(digest_of(password.bytes()))),
+        Command::Register(password) => {
+            let digest = digest_of(password.bytes());
+            to_server(Act::Lobby(LobbyAct::Register { digest }))
+        },
         Command::Quit => First::Leaving,
     }
 }
@@ -48,7 +50,7 @@ fn to_server(act: Act) -> First
 
 /// An act at the present place, for which the lobby is asked.
 fn to_desk(act: DeskAct) -> First
-    requires { FitsAtDesk act }
+    requires { FitsDeskAct act }
     ensures goes { (memory : MemoryState) → first_course result memory ≡ to_desk act memory }
     ensures ready { (memory : MemoryState) → has_entered memory ≡ true → IsPrepared memory result }
 {

@@ -22,7 +22,6 @@ mod rest;
 mod session;
 mod session_memory;
 mod stage;
-mod standin;
 mod standing;
 mod taking;
 mod texts;

@@ -4,19 +4,17 @@ ghost use Rattle.session_core.specs.Going.{is_entered};
 ghost use Rattle.session_core.specs.Login.{admitted, entered_as, entering, is_guest, naming, password_of, proving, turned_away};
 ghost use Rattle.session_core.specs.Memory.{has_entered, is_in, stands_at};
 ghost use Rattle.session_core.specs.Stages.{IsPrepared, IsReady, IsSet, Settles, continues, course_of, first_course};
-ghost use Rattle.session_core.specs.StandIn.{enter_act};
 
 use crate::first::First;
 use crate::next::Next;
 use crate::session_memory::Memory;
 use crate::stage::Stage;
-use crate::standin::enter_act;
 use crate::standing::Standing;
 use crate::texts::{put_refusal, put_reply};
 use fics_words::{Digest, Handle, NoMemory, Refusal};
-use lobby_state::LobbyReply;
+use lobby_state::{LobbyAct, LobbyReply};
 use login_handles::digest_of;
-use one_server::Reply;
+use one_server::{Act, Reply};
 
 /// A line where a name is asked for.
 pub(crate) fn take_name(
@@ -56,9 +54,10 @@ pub(crate) fn take_password(memory: &Memory, name: Handle, text: &[u8]) -> First
 
 /// The act that asks to enter.
 fn ask_to_enter(name: Option<Handle>, digest: Option<Digest>) -> Next<Stage>
-    ensures { result ≡ Next.Ask (enter_act name digest) (Stage.Entering name) }
+    ensures { result ≡ Next.Ask (Act.Lobby (LobbyAct.Enter name digest)) (Stage.Entering name) }
 {
-    Next::Ask(enter_act(name, digest), Stage::Entering(name))
+    let act = Act::Lobby(LobbyAct::Enter { name, digest });
+    Next::Ask(act, Stage::Entering(name))
 }
 
 /// The session refuses a line by itself, and begins anew.
@@ -102,7 +101,19 @@ fn admitted(name: Option<Handle>, reply: &Reply) -> Standing
 {
     match reply {
         Reply::Lobby(LobbyReply::Entered(name)) => Standing::In(*name),
+        Reply::Lobby(LobbyReply::NeedPassword) => password_of(name),
         _ => Standing::Login,
+    }
+}
+
+/// The password of a handle is asked for; a guest has none.
+fn password_of(name: Option<Handle>) -> Standing
+    ensures stands { result ≡ password_of name }
+    ensures outside { is_in result ≡ false }
+{
+    match name {
+        Some(name) => Standing::Password(name),
+        None => Standing::Login,
     }
 }
 

@@ -1,5 +1,7 @@
 //! The stages of a session: all that it decides between an act and its reply.
-ghost use Rattle.std.specs.Prelude.{◌≡◌, ◌≤◌, ◌<◌, ◌*◌, ◌+◌, ◌||◌, true, IfOk, length};
+ghost use Rattle.std.specs.Prelude.{◌≡◌, ◌≤◌, ◌*◌, ◌+◌, ◌||◌, true, IfOk, length};
+ghost use Rattle.clock_ledger.specs.Span.{IsStamp};
+ghost use Rattle.linked_desk.specs.Acts.{FitsDeskAct};
 ghost use Rattle.lobby_state.specs.Desks.{IsDesk};
 ghost use Rattle.one_server.specs.Replies.{IsReply};
 ghost use Rattle.session_core.specs.Course.{Writes};
@@ -8,13 +10,11 @@ ghost use Rattle.session_core.specs.Memory.{MemoryState, has_entered, told};
 ghost use Rattle.session_core.specs.Session.{acking, answered, at_place, clear_at, given_up, placing, rounding, says_over, visits};
 ghost use Rattle.session_core.specs.Stages.{IsSet, IsReady, Settles, acts_after, acts_left, continues, course_of};
 ghost use Rattle.session_core.specs.Texts.{news_text, waiting_text};
-ghost use Rattle.session_core.specs.StandIn.{FitsAtDesk};
 
 use crate::login::entered;
 use crate::next::Next;
 use crate::rest::Rest;
 use crate::session_memory::Memory;
-use crate::standin::acked_act;
 use crate::texts::{put_news, put_refusal, put_reply, put_waiting};
 use fics_words::{Handle, NoMemory, Refusal};
 use linked_desk::{DeskAct, DeskReply};
@@ -79,7 +79,7 @@ fn placed(
     out: &mut Vec<u8>,
 ) -> Result<Next<Stage>, NoMemory>
     requires inside { has_entered memory.old ≡ true }
-    requires act { FitsAtDesk act }
+    requires act { FitsDeskAct act }
     ensures settles { IfOk result (λ next. Settles (placing act (told memory.old reply.now))
         (course_of continues next memory.new) out.old.items out.new.items) }
     ensures ready { IfOk result (IsReady (IsSet memory.new)) }
@@ -150,7 +150,7 @@ fn visited(
 /// The lobby has told the places: the acknowledgement is made at the present one, if there is any.
 fn acking(stamp: u32, memory: &mut Memory, reply: &Reply) -> Next<Stage>
     requires inside { has_entered memory.old ≡ true }
-    requires stamp { stamp < 10000000 }
+    requires stamp { IsStamp stamp }
     ensures goes { course_of continues result memory.new ≡ acking stamp (told memory.old reply.now) }
     ensures ready { IsReady (IsSet memory.new) result }
     ensures fewer { acts_left acts_after result ≤ 1 }
@@ -158,7 +158,7 @@ fn acking(stamp: u32, memory: &mut Memory, reply: &Reply) -> Next<Stage>
 {
     memory.note(reply);
     match memory.present() {
-        Some(place) => Next::Ask(at_place(&place, acked_act(stamp)), Stage::Acking),
+        Some(place) => Next::Ask(at_place(&place, DeskAct::Acked { stamp }), Stage::Acking),
         None => Next::End,
     }
 }
