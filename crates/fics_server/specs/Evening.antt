@@ -186,8 +186,8 @@ abbrev pub seating_acts : List (List ℕ) → Terms → List (ℕ × Timed)
 seating_acts [] terms = []
 seating_acts (one ∷ []) terms = []
 seating_acts (one ∷ two ∷ []) terms =
-    (1, timed 0 (Lobby (lobby_act.Enter one)))
-    ∷ (2, timed 0 (Lobby (lobby_act.Enter two)))
+    (1, timed 0 (Lobby (lobby_act.Enter (Some one) None)))
+    ∷ (2, timed 0 (Lobby (lobby_act.Enter (Some two) None)))
     ∷ (1, timed 0 (Lobby (lobby_act.Match (key_of two) terms)))
     ∷ (2, timed 0 (Pair (pair_act.Accept None)))
     ∷ (1, timed 0 (Lobby lobby_act.Fetch))

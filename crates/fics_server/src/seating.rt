@@ -23,8 +23,22 @@ pub fn seat(server: &mut OneServer, line: &SeatLine) -> Result<(), NoMemory>
     let names = line.names.as_slice();
     let white = names[0];
     let black = names[1];
-    make(server, 1, Act::Lobby(LobbyAct::Enter { name: white }))?;
-    make(server, 2, Act::Lobby(LobbyAct::Enter { name: black }))?;
+    make(
+        server,
+        1,
+        Act::Lobby(LobbyAct::Enter {
+            name: Some(white),
+            digest: None,
+        }),
+    )?;
+    make(
+        server,
+        2,
+        Act::Lobby(LobbyAct::Enter {
+            name: Some(black),
+            digest: None,
+        }),
+    )?;
     let to = black.key();
     let terms = line.terms;
     make(server, 1, Act::Lobby(LobbyAct::Match { to, terms }))?;

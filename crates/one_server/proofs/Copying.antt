@@ -57,7 +57,7 @@ module _ (lobby : LobbyState) (desks : List DeskState) (session moment : ℕ) (c
   are_of_act (Desk number serial act) fits lists items e =
       let found = desk_with lobby desks number (count_of_desks lobby desks whole) fits.0 in
       let effect = desk_effect found.0 session moment serial act in
-      let answer = reply_desk lobby desks session moment number serial act found.0 fits.0 found.1 (desk_reply (desk_answer found.0 session moment serial act)) refl in
+      let answer = reply_desk lobby desks session moment number serial act found.0 fits.0.0 found.1 (desk_reply (desk_answer found.0 session moment serial act)) refl in
       let is = same_reply (desk_reply (desk_answer found.0 session moment serial act)) r (sym answer ∙ e) in
       subst (λ (x : Reply). AreOf copies x) is (of_desk copies (first_cause effect.causes) effect.reply (items found.0 moment found.1))
   are_of_act (Pair act) fits lists items e =
