@@ -2,7 +2,7 @@
 use Rattle.std.proofs.Common.{◌≡◌, ℕ, ◌+◌, ◌<◌, ◌≤◌, List, [], ◌∷◌, ◌++◌, length, drop, get_or, sym, ap, ◌∙◌, append_assoc, append-nil, drop_of_length-le}
 use Rattle.std.proofs.lemmas.List.{at_drop_more}
 
-regroup : (out line end rest : List ℕ) → out ++ line ++ end ++ rest ≡ out ++ (line ++ end ++ rest)
+pub regroup : (out line end rest : List ℕ) → out ++ line ++ end ++ rest ≡ out ++ (line ++ end ++ rest)
 regroup out line end rest = ap (λ (l : List ℕ). l ++ rest) (append_assoc out line end) ∙ append_assoc out (line ++ end) rest
 
 -- one item more was put, of a text that has its line, an end and the rest

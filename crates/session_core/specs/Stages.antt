@@ -1,7 +1,10 @@
 -- The stages of a session: what stands between an act and its reply, and what follows. This server's own.
 use Rattle.std.specs.Prelude.{◌≡◌, ℕ, ◌+◌, ◌*◌, true, false, List, ◌++◌, length, Option, IfSome}
 use Rattle.clock_ledger.specs.Span.{IsStamp}
+use Rattle.command_words.specs.declared.command.Command.{Command}
+use Rattle.command_words.specs.declared.command.Command.TheVariants.{Match}
 use Rattle.linked_desk.specs.Acts.{FitsDeskAct}
+use Rattle.lobby_state.specs.Acts.{AreTerms}
 use Rattle.lobby_state.specs.Desks.{IsDesk}
 use Rattle.one_server.specs.declared.reply.Reply.{Reply}
 use Rattle.one_server.specs.Acts.{FitsAct}
@@ -14,7 +17,7 @@ use Rattle.session_core.specs.declared.stage.Stage.TheVariants as stage
 use Rattle.session_core.specs.declared.leaving_stage.LeavingStage.{LeavingStage}
 use Rattle.session_core.specs.declared.leaving_stage.LeavingStage.TheVariants as leaving_stage
 use Rattle.session_core.specs.Course.{Course, Done, Asks, Writes}
-use Rattle.session_core.specs.Memory.{MemoryState, departed, has_entered, told}
+use Rattle.session_core.specs.Memory.{MemoryState, departed, has_entered, is_gone, told}
 use Rattle.session_core.specs.Login.{entered_as}
 use Rattle.session_core.specs.Session.{acking, answered, clear_at, given_up, leave_places, leaving, placing, rounding, says_over, visits}
 use Rattle.session_core.specs.Texts.{news_text, waiting_text}
@@ -69,6 +72,11 @@ acts_left after End = 0
 abbrev pub FitsStamp : Option ℕ → Type 0
 FitsStamp stamp = IfSome stamp IsStamp
 
+-- the terms of a challenge are within their bounds
+abbrev pub FitsCommand : Command → Type 0
+FitsCommand (Match name terms) = AreTerms terms
+FitsCommand _ = Unit {0}
+
 -- a stage has what its next act needs, an act that a desk can take, a place at a desk, a stamp; and it is one of a
 -- session that hasn't entered, or of one that has
 abbrev pub IsSet : MemoryState → Stage → Type 0
@@ -96,6 +104,11 @@ first_course (first.Going next) memory = course_of continues next memory
 abbrev pub IsPrepared : MemoryState → First → Type 0
 IsPrepared memory first.Leaving = has_entered memory ≡ true
 IsPrepared memory (first.Going next) = IsReady (IsSet memory) next
+
+-- where nothing more is to be made, the session has left
+abbrev pub HasGone : {S : Type 0} → Next S → MemoryState → Type 0
+HasGone (Ask act at) memory = Unit {0}
+HasGone End memory = is_gone memory ≡ true
 
 -- a text with what a course writes before its next act or its end
 abbrev pub onto : List ℕ → Course → List ℕ

@@ -4,7 +4,7 @@ ghost use Rattle.one_server.specs.Acts.{FitsAct};
 ghost use Rattle.linked_desk.specs.Acts.{FitsDeskAct};
 ghost use Rattle.session_core.specs.Memory.{MemoryState, has_entered};
 ghost use Rattle.session_core.specs.Session.{command_course, to_desk, to_server};
-ghost use Rattle.session_core.specs.Stages.{FitsStamp, IsPrepared, first_course};
+ghost use Rattle.session_core.specs.Stages.{FitsCommand, FitsStamp, IsPrepared, first_course};
 
 use crate::first::First;
 use crate::next::Next;
@@ -18,6 +18,7 @@ use one_server::Act;
 /// What a session does first for a command; a move carries the stamp of its line.
 pub(crate) fn begin_command(command: Command, stamp: Option<u32>) -> First
     requires stamp { FitsStamp stamp }
+    requires fits { FitsCommand command }
     ensures goes { (memory : MemoryState) → first_course result memory ≡ command_course command stamp memory }
     ensures ready { (memory : MemoryState) → has_entered memory ≡ true → IsPrepared memory result }
 {

@@ -5,7 +5,7 @@ ghost use Rattle.session_core.specs.Course.{Asks, nothing_told};
 ghost use Rattle.session_core.specs.Going.{Left, LeftInPart, Passed, Went};
 ghost use Rattle.session_core.specs.Memory.{is_gone};
 ghost use Rattle.session_core.specs.Session.{leaving};
-ghost use Rattle.session_core.specs.Stages.{IsReady, LeavesDesk, acts_left, acts_of_leaving, course_of, leaves};
+ghost use Rattle.session_core.specs.Stages.{HasGone, IsReady, LeavesDesk, acts_left, acts_of_leaving, course_of, leaves};
 
 use crate::leaving_stage::{LeavingStage, ask_going};
 use crate::next::Next;
@@ -67,6 +67,7 @@ fn ask_or_pass<R: Runner>(
         (R.state r.old) (R.state r.new) }
     ensures ready { IsReady LeavesDesk result.1 }
     ensures fewer { acts_left acts_of_leaving result.1 ≤ acts_of_leaving stage }
+    ensures gone { HasGone result.1 memory.new }
 {
     match r.run(alloc, moment, act) {
         Ok(reply) => (Ok(()), stage.next(memory, &reply)),

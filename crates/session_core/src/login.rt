@@ -1,7 +1,8 @@
 //! How a session comes in.
 ghost use Rattle.std.specs.Prelude.{◌≡◌, IfOk, None, Some, false};
+ghost use Rattle.command_words.specs.Texts.{handle_of};
 ghost use Rattle.session_core.specs.Going.{is_entered};
-ghost use Rattle.session_core.specs.Login.{admitted, entered_as, entering, is_guest, naming, password_of, proving, turned_away};
+ghost use Rattle.session_core.specs.Login.{admitted, entered_as, entering_named, is_guest, naming, password_of, proving, turned_away};
 ghost use Rattle.session_core.specs.Memory.{has_entered, is_in, stands_at};
 ghost use Rattle.session_core.specs.Stages.{IsPrepared, IsReady, IsSet, Settles, continues, course_of, first_course};
 
@@ -32,12 +33,34 @@ pub(crate) fn take_name(
         return Ok(First::Going(Next::End));
     };
     if is_guest(text) {
-        return Ok(First::Going(ask_to_enter(None, None)));
+        return Ok(First::Going(ask_to_enter(&None, None)));
     }
-    let Some(name) = Handle::read(text) else {
-        return turn_away(Refusal::BadHandle, memory, out);
-    };
-    Ok(First::Going(ask_to_enter(Some(name), None)))
+    take_handle(handle_of(text), memory, out)
+}
+
+/// The handle that a line is, where it is one.
+fn take_handle(
+    name: Option<Handle>,
+    memory: &mut Memory,
+    out: &mut Vec<u8>,
+) -> Result<First, NoMemory>
+    requires outside { has_entered memory.old ≡ false }
+    ensures settles { IfOk result (λ first. Settles (entering_named name memory.old) (first_course first memory.new)
+        out.old.items out.new.items) }
+    ensures ready { IfOk result (IsPrepared memory.new) }
+    ensures outside { has_entered memory.new ≡ false }
+{
+    match name {
+        Some(name) => Ok(First::Going(ask_to_enter(&Some(name), None))),
+        None => turn_away(Refusal::BadHandle, memory, out),
+    }
+}
+
+/// The handle of these bytes, if they are one.
+fn handle_of(bytes: &[u8]) -> Option<Handle>
+    ensures { result ≡ handle_of bytes.now }
+{
+    Handle::read(bytes)
 }
 
 /// A line where the password of a name is asked for.
@@ -49,15 +72,18 @@ pub(crate) fn take_password(memory: &Memory, name: Handle, text: &[u8]) -> First
     let [_, ..] = text else {
         return First::Going(Next::End);
     };
-    First::Going(ask_to_enter(Some(name), Some(digest_of(text))))
+    First::Going(ask_to_enter(&Some(name), Some(digest_of(text))))
 }
 
-/// The act that asks to enter.
-fn ask_to_enter(name: Option<Handle>, digest: Option<Digest>) -> Next<Stage>
-    ensures { result ≡ Next.Ask (Act.Lobby (LobbyAct.Enter name digest)) (Stage.Entering name) }
+/// The act that asks to enter under this name, or as a guest.
+fn ask_to_enter(name: &Option<Handle>, digest: Option<Digest>) -> Next<Stage>
+    ensures { result ≡ Next.Ask (Act.Lobby (LobbyAct.Enter name.now digest)) (Stage.Entering name.now) }
 {
-    let act = Act::Lobby(LobbyAct::Enter { name, digest });
-    Next::Ask(act, Stage::Entering(name))
+    let act = Act::Lobby(LobbyAct::Enter {
+        name: *name,
+        digest,
+    });
+    Next::Ask(act, Stage::Entering(*name))
 }
 
 /// The session refuses a line by itself, and begins anew.

@@ -32,7 +32,8 @@ pub(crate) fn take<R: Runner>(
 {
     // What is known of every runner is known from here on.
     let _session = r.session();
-    match begin(alloc, memory, input, out)? {
+    let first = begin(alloc, memory, input, out)?;
+    match first {
         First::Leaving => leave(alloc, r, moment, memory),
         First::Going(next) => follow(alloc, r, moment, memory, next, out),
     }
