@@ -2,3 +2,5 @@ pub mod Going
 pub mod Following
 pub mod Lists
 pub mod Passing
+pub mod MatchTerms
+pub mod Beginning

@@ -12,4 +12,10 @@ mod evenings;
 #[cfg(test)]
 mod leaving;
 #[cfg(test)]
+mod logins;
+#[cfg(test)]
 mod short;
+#[cfg(test)]
+mod stamps;
+#[cfg(test)]
+mod talks;
