@@ -1,19 +1,16 @@
 -- Which half-moves leave the own king safe.
-use Rattle.std.proofs.Common.{arith, ◌≡◌, ◌≢◌, ℕ, ◌+◌, ◌<◌, ◌≤◌, ◌⊎◌, inl, inr, Bool, true, false, length, refl, sym, ap, subst, ◌∙◌, Option, Some, None}
+use Rattle.std.proofs.Common.{arith, ◌≡◌, ◌≢◌, ℕ, ◌<◌, inl, inr, false, length, refl, sym, ap, subst, ◌∙◌, Option, Some, None}
 use Rattle.std.specs.Prelude.{slice_set}
-use Rattle.std.proofs.lemmas.Bool.{true≢false}
 use Rattle.std.proofs.lemmas.List.{length-set, get_or-set_other, get_or-set_same}
 use Rattle.chess_model.specs.declared.man.Colour.{Colour}
 use Rattle.chess_model.specs.declared.man.Colour.TheVariants.{White, Black}
 use Rattle.chess_model.specs.declared.man.Kind.{Kind}
 use Rattle.chess_model.specs.declared.man.Kind.TheVariants.{Pawn, Knight, Bishop, Rook, Queen, King}
 use Rattle.chess_model.specs.declared.man.Man.{Man}
-use Rattle.chess_model.specs.declared.moves.Move.{Move}
-use Rattle.chess_model.specs.declared.moves.Move.TheVariants.{Plain, Castle, Drop}
+use Rattle.chess_model.specs.declared.moves.Move.TheVariants.{Plain, Drop}
 use Rattle.chess_model.specs.declared.variant.Variant.{Variant}
 use Rattle.chess_model.specs.Placement.{Placement, man_at, opposite, unpromoted, IsHeldBy, IsHeldAs}
-use Rattle.chess_model.specs.Reach.{Strikes, Reaches}
-use Rattle.chess_model.specs.Attacked.{StrikesAs, StrikesFrom, IsAttacked, IsKingSafe}
+use Rattle.chess_model.specs.Attacked.{StrikesAs, IsAttacked, IsKingSafe}
 use Rattle.chess_model.specs.MoveList.{is_en_passant, taking_square, landed, place_after}
 use Rattle.chess_model.specs.Holdings.{count_in}
 use Rattle.chess_model.specs.Position.{Position, hand_of_side}
@@ -99,13 +96,16 @@ module _ (P : Placement) (c : Colour) (a b : ℕ) (L : Option Man) (size : lengt
   moved-covers : (set : ℕ) → IsHeldBy c L → ¬ IsHeldAs c King L → AreExposed P c set → ¬ Has set a → Covers P moved c
   moved-covers set own plain exposed out = record {
     kings = λ s ls held. king s held;
-    ways = λ s ls held. (a, record {
-      same = λ t lt other free. elim (same_or_other t b) [
-        | inl here ↦ absurd (none-held c L (sym at-target ∙ ap (man_at moved) (sym here) ∙ free) own)
-        | inr apart ↦ sym (at-others t other apart) ∙ free
-      ];
-      left = inr (λ strikes. out (exposed.lines s a ls la (king s held) strikes));
-    });
+    ways = λ s ls held. (
+      a,
+      record {
+        same = λ t lt other free. elim (same_or_other t b) [
+          | inl here ↦ absurd (none-held c L (sym at-target ∙ ap (man_at moved) (sym here) ∙ free) own)
+          | inr apart ↦ sym (at-others t other apart) ∙ free
+        ];
+        left = inr (λ strikes. out (exposed.lines s a ls la (king s held) strikes));
+      },
+    );
     enemies = λ x held. elim (same_or_other x b) [
       | inl here ↦ absurd (held-both c L own (subst (λ (man : Option Man). IsHeldBy (opposite c) man) (ap (man_at moved) here ∙ at-target) held))
       | inr apart ↦ elim (same_or_other x a) [

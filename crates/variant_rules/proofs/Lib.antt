@@ -8,3 +8,4 @@ pub mod ReachLemmas
 pub mod SightLemmas
 pub mod UndoLemmas
 pub mod WholeList
+pub mod StateLemmas

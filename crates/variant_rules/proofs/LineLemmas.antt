@@ -1,5 +1,5 @@
 -- Squares along a line from a king.
-use Rattle.std.proofs.Common.{arith, ◌≡◌, ◌≢◌, ℕ, ◌+◌, ◌-◌, ◌<◌, ◌≤◌, ◌⊎◌, inl, inr, min, max, refl, sym, ap, subst, ◌∙◌, Option, Some, None}
+use Rattle.std.proofs.Common.{arith, ◌≡◌, ◌≢◌, ℕ, ◌<◌, ◌≤◌, ◌⊎◌, inl, inr, min, max, refl, sym, ap, subst, ◌∙◌, None}
 use Rattle.std.specs.Int.{abs_diff}
 use Rattle.std.proofs.lemmas.Bool.{cases_order}
 use Rattle.chess_model.specs.declared.man.Colour.{Colour}
@@ -8,7 +8,7 @@ use Rattle.chess_model.specs.declared.man.Kind.{Kind}
 use Rattle.chess_model.specs.declared.man.Kind.TheVariants.{Pawn, Knight, Bishop, Rook, Queen, King}
 use Rattle.chess_model.specs.Squares.{file_of, rank_of, square_at, files_apart, ranks_apart, distance, toward, along}
 use Rattle.chess_model.specs.Placement.{Placement, man_at, opposite}
-use Rattle.chess_model.specs.Reach.{IsForward, IsStraight, IsDiagonal, IsStep, Clear, IsOpen, Strikes}
+use Rattle.chess_model.specs.Reach.{IsForward, IsStep, Clear, IsOpen, Strikes}
 use Rattle.bitboard_core.proofs.StrikesBack.{Clear-near, Strikes-back}
 use Rattle.variant_rules.proofs.UndoLemmas.{opposite-opposite}
 
@@ -98,10 +98,13 @@ zero-min k f e = omega arith
 pub queen-along : (c : Colour) (s x k : ℕ) → IsStep c Queen s x → 0 < k → k ≤ distance s x → IsStep c Queen s (along s x k)
 unfolding IsStep
 queen-along c s x k step some le = elim step [
-  | inl straight ↦ inl (not_here s x k some le, elim (straight.1) [
-    | inl files ↦ inl (files-along s x k ∙ zero-min k (files_apart s x) files)
-    | inr ranks ↦ inr (ranks-along s x k ∙ zero-min k (ranks_apart s x) ranks)
-  ])
+  | inl straight ↦ inl (
+    not_here s x k some le,
+    elim (straight.1) [
+      | inl files ↦ inl (files-along s x k ∙ zero-min k (files_apart s x) files)
+      | inr ranks ↦ inr (ranks-along s x k ∙ zero-min k (ranks_apart s x) ranks)
+    ],
+  )
   | inr diagonal ↦ inr (not_here s x k some le, files-along s x k ∙ ap (min k) diagonal.1 ∙ sym (ranks-along s x k))
 ]
 

@@ -1,23 +1,22 @@
 -- The moves of a man to its targets.
-use Rattle.std.proofs.Common.{arith, ◌≡◌, ◌≢◌, ◌↔◌, ℕ, ◌+◌, ◌<◌, ◌≤◌, ◌⊎◌, inl, inr, List, [], ◌∷◌, ◌++◌, Bool, true, false, ◌&&◌, not, nat_eq, is_none, refl, sym, ap, subst, ◌∙◌, Option, Some, None}
+use Rattle.std.proofs.Common.{arith, ◌≡◌, ◌≢◌, ℕ, ◌+◌, ◌<◌, ◌≤◌, inl, inr, List, [], ◌∷◌, ◌++◌, Bool, false, ◌&&◌, not, nat_eq, is_none, refl, sym, ap, subst, ◌∙◌, Option, Some, None}
 use Rattle.std.proofs.lemmas.Bool.{cases_order}
-use Rattle.std.proofs.lemmas.List.{append-nil}
 use Rattle.chess_model.specs.declared.man.Colour.{Colour}
 use Rattle.chess_model.specs.declared.man.Kind.{Kind}
 use Rattle.chess_model.specs.declared.man.Kind.TheVariants.{Pawn, Knight, Bishop, Rook, Queen, King}
 use Rattle.chess_model.specs.declared.man.Man.{Man}
 use Rattle.chess_model.specs.declared.moves.Move.{Move}
-use Rattle.chess_model.specs.declared.moves.Move.TheVariants.{Plain, Castle, Drop}
+use Rattle.chess_model.specs.declared.moves.Move.TheVariants.{Plain}
 use Rattle.chess_model.specs.Squares.{file_of, rank_of}
-use Rattle.chess_model.specs.Placement.{Placement, man_at, opposite, last_rank, IsHeldBy, IsHeldAs}
-use Rattle.chess_model.specs.Reach.{Strikes, Reaches}
+use Rattle.chess_model.specs.Placement.{Placement, man_at, last_rank, IsHeldBy, IsHeldAs}
+use Rattle.chess_model.specs.Reach.{Reaches}
 use Rattle.chess_model.specs.MoveList.{is_pawn_kind, is_pawn, is_en_passant}
 use Rattle.chess_model.specs.Position.{Position}
-use Rattle.chess_model.specs.Allowed.{IsPromotion, HasPromotion, GoesAs, IsMove, IsSafeAfter}
+use Rattle.chess_model.specs.Allowed.{HasPromotion, GoesAs, IsMove}
 use Rattle.bitboard_core.specs.Sets.{Has}
 use Rattle.bitboard_core.specs.Strikers.{IsReachSet}
-use Rattle.variant_rules.specs.Listing.{moves_between, moves_from_below, plain_moves_below, if_allowed, IsLeftSafe, IsUnguarded, IsTargetSet}
-use Rattle.variant_rules.proofs.PartLemmas.{between-none, between-one, between-four, from-start, from-step, plain-start, plain-step}
+use Rattle.variant_rules.specs.Listing.{moves_between, moves_from_below, if_allowed, IsTargetSet}
+use Rattle.variant_rules.proofs.PartLemmas.{between-none, between-one, between-four, from-start, from-step}
 
 -- which moves a man of a kind has
 
@@ -90,7 +89,7 @@ pub other_between : (p : Position) (k : Kind) (a b : ℕ) → IsHeldAs p.to_move
     moves_between p a b ≡ if_allowed p (Plain a b None)
 other_between p k a b held other =
     between-one p a b (λ j move.
-        some-none j (Some j) refl (plain_only p.to_move k b (Some j) other (move_promotes p k a b (Some j) held move)))
+    some-none j (Some j) refl (plain_only p.to_move k b (Some j) other (move_promotes p k a b (Some j) held move)))
 
 -- so has a pawn before its last rank
 pub pawn_between : (p : Position) (a b : ℕ) → IsHeldAs p.to_move Pawn (man_at p.men a) → rank_of b ≢ last_rank p.to_move →

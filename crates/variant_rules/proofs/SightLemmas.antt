@@ -1,7 +1,7 @@
 -- The sets by which kings see, after a square has changed.
-use Rattle.std.proofs.Common.{arith, ◌≡◌, ◌≢◌, ◌↔◌, ◌&&◌, ℕ, ◌<◌, ◌-◌, ◌^◌, Bool, true, false, nat_eq, is_some, refl, sym, ap, ◌∙◌, Option, Some, None, w64}
+use Rattle.std.proofs.Common.{arith, ◌≡◌, ◌≢◌, ◌↔◌, ◌&&◌, ℕ, ◌<◌, ◌^◌, nat_eq, is_some, refl, sym, ap, ◌∙◌, Option, Some, None, w64}
 use Rattle.std.specs.Bool.{Decides}
-use Rattle.std.specs.Int.{bit_at, bit_not}
+use Rattle.std.specs.Int.{bit_not}
 use Rattle.std.proofs.lemmas.Bool.Decides.{Decides-eqb, Decides-and, Decides-like, same_from_decides}
 use Rattle.std.proofs.lemmas.Nat.Bits.{bit_at_not}
 use Rattle.chess_model.specs.declared.man.Colour.{Colour}

@@ -5,9 +5,9 @@ use Rattle.std.proofs.lemmas.List.{append-nil}
 use Rattle.std.proofs.lemmas.List.Concat.{flat_map_single}
 use Rattle.std.proofs.lemmas.List.Elements.{filter-append}
 use Rattle.chess_model.specs.declared.man.Kind.{Kind}
-use Rattle.chess_model.specs.declared.man.Kind.TheVariants.{Pawn, Knight, Bishop, Rook, Queen, King}
+use Rattle.chess_model.specs.declared.man.Kind.TheVariants.{Pawn, Knight, Bishop, Rook, Queen}
 use Rattle.chess_model.specs.declared.moves.Move.{Move}
-use Rattle.chess_model.specs.declared.moves.Move.TheVariants.{Plain, Castle, Drop}
+use Rattle.chess_model.specs.declared.moves.Move.TheVariants.{Castle, Drop}
 use Rattle.chess_model.specs.Position.{Position}
 use Rattle.chess_model.specs.Allowed.{HasDrops, IsMove}
 use Rattle.chess_model.specs.Tests.{squares, is_allowed}
@@ -30,11 +30,11 @@ drops-to p n =
     filter-append f (d Pawn) (d Knight ++ (d Bishop ++ (d Rook ++ (d Queen ++ []))))
     ∙ (λ i. on-is p Pawn n i ++ filter-append f (d Knight) (d Bishop ++ (d Rook ++ (d Queen ++ []))) i)
     ∙ ap (λ x. drops_below p Pawn n ++ x) (
-      (λ i. on-is p Knight n i ++ filter-append f (d Bishop) (d Rook ++ (d Queen ++ [])) i)
-      ∙ ap (λ x. drops_below p Knight n ++ x) (
-        (λ i. on-is p Bishop n i ++ filter-append f (d Rook) (d Queen ++ []) i)
-        ∙ ap (λ x. drops_below p Bishop n ++ x) (λ i. on-is p Rook n i ++ (ap (filter f) (append-nil (d Queen)) ∙ on-is p Queen n) i)
-      )
+    (λ i. on-is p Knight n i ++ filter-append f (d Bishop) (d Rook ++ (d Queen ++ [])) i)
+    ∙ ap (λ x. drops_below p Knight n ++ x) (
+    (λ i. on-is p Bishop n i ++ filter-append f (d Rook) (d Queen ++ []) i)
+    ∙ ap (λ x. drops_below p Bishop n ++ x) (λ i. on-is p Rook n i ++ (ap (filter f) (append-nil (d Queen)) ∙ on-is p Queen n) i)
+    )
     )
 
 all_drops : ℕ → List Move

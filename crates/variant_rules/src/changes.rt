@@ -263,7 +263,8 @@ fn with_capture(hand: Holdings, taken_man: Option<Man>) -> Holdings
 /// The hand of c after a half-move of the colour `by`, what it takes counted.
 fn with_gain(v: Variant, hand: Holdings, c: Colour, men: &Bits, by: Colour, m: &Move) -> Holdings
     requires { v ≡ Variant.Crazyhouse → men_in hand < 255 }
-    ensures { result ≡ hand_of (λ k. count_in hand k + gain v c k (record { before = men.now; by = by; what = m.now })) }
+    ensures { result ≡ hand_of (λ k. count_in hand k
+        + gain v c k (record { before = men.now; by = by; what = m.now })) }
 {
     match v {
         Variant::Crazyhouse => {

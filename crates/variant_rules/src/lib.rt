@@ -14,8 +14,9 @@ mod listing;
 mod make;
 mod position;
 mod rules;
+mod shown;
 mod sights;
-
+mod state;
 
 pub use make::Undo;
 pub use position::{Look, Position};

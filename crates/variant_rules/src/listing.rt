@@ -134,7 +134,13 @@ impl Position {
     }
 
     /// Appends the promotions of a pawn on a to b, on its last rank.
-    fn add_promotions(&self, out: &mut Vec<Move>, a: Square, b: Square, tried: bool) -> Result<(), NoMemory>
+    fn add_promotions(
+        &self,
+        out: &mut Vec<Move>,
+        a: Square,
+        b: Square,
+        tried: bool,
+    ) -> Result<(), NoMemory>
         requires held { IsHeldAs self.now.to_move Kind.Pawn (man_at self.now.men a) }
         requires reached { Reaches self.now.men self.now.en_passant self.now.to_move Kind.Pawn a b }
         requires last { rank_of b ≡ last_rank self.now.to_move }
@@ -149,7 +155,13 @@ impl Position {
     }
 
     /// Appends the moves of a pawn on a to b.
-    fn add_pawn_moves(&self, out: &mut Vec<Move>, a: Square, b: Square, tried: bool) -> Result<(), NoMemory>
+    fn add_pawn_moves(
+        &self,
+        out: &mut Vec<Move>,
+        a: Square,
+        b: Square,
+        tried: bool,
+    ) -> Result<(), NoMemory>
         requires held { IsHeldAs self.now.to_move Kind.Pawn (man_at self.now.men a) }
         requires reached { Reaches self.now.men self.now.en_passant self.now.to_move Kind.Pawn a b }
         requires safe { tried ≡ false → IsUnguarded self.now a }
@@ -164,7 +176,14 @@ impl Position {
     }
 
     /// Appends the move of a man that isn't a pawn.
-    fn add_other_move(&self, out: &mut Vec<Move>, k: Kind, a: Square, b: Square, tried: bool) -> Result<(), NoMemory>
+    fn add_other_move(
+        &self,
+        out: &mut Vec<Move>,
+        k: Kind,
+        a: Square,
+        b: Square,
+        tried: bool,
+    ) -> Result<(), NoMemory>
         requires other { k ≢ Kind.Pawn }
         requires held { IsHeldAs self.now.to_move k (man_at self.now.men a) }
         requires reached { Reaches self.now.men self.now.en_passant self.now.to_move k a b }
@@ -176,7 +195,14 @@ impl Position {
     }
 
     /// Appends the moves of a man of that kind on a to b.
-    fn add_moves(&self, out: &mut Vec<Move>, k: Kind, a: Square, b: Square, tried: bool) -> Result<(), NoMemory>
+    fn add_moves(
+        &self,
+        out: &mut Vec<Move>,
+        k: Kind,
+        a: Square,
+        b: Square,
+        tried: bool,
+    ) -> Result<(), NoMemory>
         requires held { IsHeldAs self.now.to_move k (man_at self.now.men a) }
         requires reached { Reaches self.now.men self.now.en_passant self.now.to_move k a b }
         requires safe { tried ≡ false → IsUnguarded self.now a }
@@ -189,7 +215,13 @@ impl Position {
     }
 
     /// Appends the moves of a man of that kind on a to all its targets.
-    fn add_moves_of(&self, out: &mut Vec<Move>, k: Kind, a: Square, tried: bool) -> Result<(), NoMemory>
+    fn add_moves_of(
+        &self,
+        out: &mut Vec<Move>,
+        k: Kind,
+        a: Square,
+        tried: bool,
+    ) -> Result<(), NoMemory>
         requires held { IsHeldAs self.now.to_move k (man_at self.now.men a) }
         requires safe { tried ≡ false → IsUnguarded self.now a }
         ensures { OnOk result (out.new.items ≡ out.old.items ++ moves_from_below self.now a 64) }
@@ -238,7 +270,13 @@ impl Position {
         Ok(())
     }
 
-    fn add_drop(&self, out: &mut Vec<Move>, k: Kind, to: Square, guard: &Guard) -> Result<(), NoMemory>
+    fn add_drop(
+        &self,
+        out: &mut Vec<Move>,
+        k: Kind,
+        to: Square,
+        guard: &Guard,
+    ) -> Result<(), NoMemory>
         requires guarded { IsGuard self.now guard.now }
         ensures { OnOk result (out.new.items ≡ out.old.items ++ if_allowed self.now (Move.Drop k to)) }
     {
@@ -281,8 +319,8 @@ impl Position {
         Ok(())
     }
 
-    /// All allowed half-moves: plain moves by origin, target and promotion (queen, rook, bishop, knight), then short and
-    /// long castling, then drops by kind (pawn, knight, bishop, rook, queen) and square.
+    /// All allowed half-moves: plain moves by origin, target and promotion (queen, rook, bishop, knight), then short
+    /// and long castling, then drops by kind (pawn, knight, bishop, rook, queen) and square.
     pub fn moves(&self, alloc: Global) -> Result<Vec<Move>, NoMemory>
         ensures { IfOk result (λ out. out.items ≡ allowed_moves self.now) }
     {

@@ -116,7 +116,7 @@ impl Position {
 
     /// The position becomes that after an allowed half-move.
     #[inline]
-    fn advance(&mut self, m: &Move)
+    pub(crate) fn advance(&mut self, m: &Move)
         requires { Allowed self.old m.now }
         ensures { self.new ≡ next self.old m.now }
     {
@@ -149,7 +149,8 @@ impl Position {
     pub fn make(&mut self, m: Move) -> Undo
         requires { Allowed self.old m }
         ensures variant { self.new.variant ≡ self.old.variant }
-        ensures stands { (T : List HalfMove) (b : ℕ) → Stands self.old T b → Stands self.new (T ++ record { board = b; what = m } ∷ []) b }
+        ensures stands { (T : List HalfMove) (b : ℕ) → Stands self.old T b
+            → Stands self.new (T ++ record { board = b; what = m } ∷ []) b }
         ensures undo { IsUndoOf result self.old self.new }
         ensures captured { captured_by result ≡ taken self.old.men m }
     {

@@ -30,7 +30,16 @@ impl Model for Position {
 
     ghost Value = { Position };
 
-    ghost view = { λ b. record { variant = b.variant; men = b.men; to_move = b.to_move; en_passant = b.en_passant; rights = b.rights; quiet = b.quiet; white = b.white; black = b.black } };
+    ghost view = { λ b. record {
+      variant = b.variant;
+      men = b.men;
+      to_move = b.to_move;
+      en_passant = b.en_passant;
+      rights = b.rights;
+      quiet = b.quiet;
+      white = b.white;
+      black = b.black;
+    } };
 
     ghost use Rattle.variant_rules.specs.PositionFields.{IsOfTwoSets};
 

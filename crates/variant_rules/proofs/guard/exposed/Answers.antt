@@ -1,11 +1,7 @@
-use Rattle.std.proofs.Common.{arith, ◌≡◌, ◌<◌, ◌≤◌, ◌+◌, ℕ, Bool, inl, inr, sym, ap, subst, ◌∙◌}
+use Rattle.std.proofs.Common.{arith, ℕ, inl, inr, sym, subst, ◌∙◌}
 use Rattle.std.proofs.lemmas.Bool.{cases_order}
-use Rattle.chess_model.specs.declared.man.Colour.{Colour}
-use Rattle.chess_model.specs.declared.man.Kind.TheVariants.{Queen, King}
-use Rattle.chess_model.specs.Placement.{Placement, man_at, IsHeldAs}
+use Rattle.chess_model.specs.declared.man.Kind.TheVariants.{Queen}
 use Rattle.chess_model.specs.Reach.{Strikes}
-use Rattle.bitboard_core.specs.Sets.{Has}
-use Rattle.bitboard_core.specs.Strikers.{AreKingsOf}
 use Rattle.bitboard_core.proofs.SetLemmas.{Has-or_left, Has-or_right}
 use Rattle.variant_rules.proofs.SightLemmas.{king-bit}
 use Rattle.variant_rules.proofs.guard.exposed.Goals as goal

@@ -1,4 +1,4 @@
-use Rattle.std.proofs.Common.{ℕ, ◌-◌, ◌<◌, ◌≤◌}
+use Rattle.std.proofs.Common.{ℕ, ◌-◌, ◌<◌}
 use Rattle.chess_model.specs.declared.man.Kind.TheVariants.{Queen}
 use Rattle.chess_model.specs.Reach.{Strikes}
 use Rattle.bitboard_core.specs.Sets.{Has}

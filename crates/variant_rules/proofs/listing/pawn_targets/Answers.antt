@@ -1,4 +1,4 @@
-use Rattle.std.proofs.Common.{◌≡◌, ℕ, sym, subst, Option}
+use Rattle.std.proofs.Common.{ℕ, sym, subst, Option}
 use Rattle.chess_model.specs.declared.man.Kind.TheVariants.{Pawn}
 use Rattle.variant_rules.specs.Listing.{AreTargets}
 use Rattle.variant_rules.proofs.listing.pawn_targets.Goals as goal

@@ -1,4 +1,4 @@
-use Rattle.std.proofs.Common.{◌≡◌, ℕ, inl, inr, sym, ap, subst, ◌∙◌}
+use Rattle.std.proofs.Common.{ℕ, inl, inr, sym, subst, ◌∙◌}
 use Rattle.std.proofs.lemmas.Bool.{true≢false}
 use Rattle.chess_model.specs.declared.man.Kind.TheVariants.{Pawn}
 use Rattle.chess_model.specs.Reach.{Strikes}

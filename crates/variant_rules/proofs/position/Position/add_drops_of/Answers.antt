@@ -48,8 +48,8 @@ loop-t-preserved c =
     let next = c.next_square-t-in-loop-t.ensures in
     let within : n ≤ 64 = next.within in
     let more = drops-step p k t n (next-more t n c.loop-t-test.true next.from within) (λ u from less.
-        taken p k c.occupied_squares-free.result u c.occupied_squares-free.type_inv c.occupied_squares-free.ensures (omega (arith, less, within))
-        (next.first u from less))
+    taken p k c.occupied_squares-free.result u c.occupied_squares-free.type_inv c.occupied_squares-free.ensures (omega (arith, less, within))
+    (next.first u from less))
     ∙ ap (λ (u : ℕ). drops_below p k t ++ if_allowed p (Drop k u)) (sym c.square_of.ensures) in
     record {
       done = c.in_ok-add_drop.ensures

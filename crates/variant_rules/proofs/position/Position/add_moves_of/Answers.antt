@@ -1,4 +1,4 @@
-use Rattle.std.proofs.Common.{◌≡◌, ◌++◌, ℕ, sym, ap, ◌∙◌}
+use Rattle.std.proofs.Common.{◌++◌, ℕ, sym, ap, ◌∙◌}
 use Rattle.std.proofs.lemmas.List.{append-nil}
 use Rattle.variant_rules.specs.Listing.{moves_between, moves_from_below}
 use Rattle.variant_rules.proofs.MoveLemmas.{targets-start, targets-step, next-more, appended}

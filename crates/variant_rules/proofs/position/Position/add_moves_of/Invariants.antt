@@ -1,6 +1,6 @@
 use Rattle.std.proofs.Common.{◌≡◌, ◌++◌, ◌-◌, ◌<◌, ◌≤◌}
 use Rattle.bitboard_core.specs.Sets.{Has}
-use Rattle.variant_rules.specs.Listing.{moves_from_below, plain_moves_below, drops_below}
+use Rattle.variant_rules.specs.Listing.{moves_from_below}
 use Rattle.variant_rules.proofs.position.Position.add_moves_of.Given as goal
 
 abbrev pub invariant-loop-b : goal.invariant-loop-b

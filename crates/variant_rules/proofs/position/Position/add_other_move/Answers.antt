@@ -1,4 +1,4 @@
-use Rattle.std.proofs.Common.{◌≡◌, ◌++◌, ◌<◌, rules, sym, ap, subst, ◌∙◌, None}
+use Rattle.std.proofs.Common.{◌++◌, ◌<◌, rules, sym, ap, subst, ◌∙◌, None}
 use Rattle.chess_model.specs.declared.moves.Move.{Move}
 use Rattle.chess_model.specs.Allowed.{IsMove, IsSafeAfter}
 use Rattle.variant_rules.specs.Listing.{if_allowed}

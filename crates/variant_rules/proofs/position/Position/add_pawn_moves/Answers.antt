@@ -1,4 +1,4 @@
-use Rattle.std.proofs.Common.{◌≡◌, ◌≢◌, ◌++◌, ◌<◌, rules, inr, refl, sym, ap, subst, ◌∙◌, None}
+use Rattle.std.proofs.Common.{◌≢◌, ◌++◌, ◌<◌, rules, inr, refl, sym, ap, subst, ◌∙◌, None}
 use Rattle.std.proofs.lemmas.Bool.{true≢false}
 use Rattle.chess_model.specs.declared.man.Kind.TheVariants.{Pawn}
 use Rattle.chess_model.specs.declared.moves.Move.{Move}

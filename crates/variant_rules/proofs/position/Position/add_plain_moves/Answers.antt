@@ -34,7 +34,7 @@ loop-a-preserved c =
     let next = c.next_square-a-in-loop-a.ensures in
     let within : n ≤ 64 = next.within in
     let more = plain-step p a n (next-more a n c.loop-a-test.true next.from within) (λ k from less.
-        empty p c.own_squares-own.result k c.own_squares-own.ensures (omega (arith, less, within)) (next.first k from less))
+    empty p c.own_squares-own.result k c.own_squares-own.ensures (omega (arith, less, within)) (next.first k from less))
     ∙ ap (λ (t : ℕ). plain_moves_below p a ++ moves_from_below p t 64) (sym c.square_of.ensures) in
     record {
       done = c.in_ok-add_moves_from.ensures

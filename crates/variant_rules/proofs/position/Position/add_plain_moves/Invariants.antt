@@ -1,6 +1,6 @@
 use Rattle.std.proofs.Common.{◌≡◌, ◌++◌, ◌-◌, ◌<◌, ◌≤◌}
 use Rattle.bitboard_core.specs.Sets.{Has}
-use Rattle.variant_rules.specs.Listing.{moves_from_below, plain_moves_below, drops_below}
+use Rattle.variant_rules.specs.Listing.{plain_moves_below}
 use Rattle.variant_rules.proofs.position.Position.add_plain_moves.Given as goal
 
 abbrev pub invariant-loop-a : goal.invariant-loop-a

@@ -1,4 +1,4 @@
-use Rattle.std.proofs.Common.{◌≡◌, ◌++◌, ◌<◌, rules, inl, sym, ap, subst, ◌∙◌, Some}
+use Rattle.std.proofs.Common.{◌++◌, ◌<◌, rules, inl, sym, ap, subst, ◌∙◌, Some}
 use Rattle.chess_model.specs.declared.man.Kind.TheVariants.{Pawn, Knight, Bishop, Rook, Queen}
 use Rattle.chess_model.specs.declared.moves.Move.{Move}
 use Rattle.chess_model.specs.declared.moves.Move.TheVariants.{Plain}

@@ -1,9 +1,9 @@
-use Rattle.std.proofs.Common.{◌≡◌, ◌<◌, ℕ, false, sym, ap, subst, ◌∙◌}
+use Rattle.std.proofs.Common.{false, subst}
 use Rattle.std.proofs.lemmas.Bool.{true≢false}
 use Rattle.std.proofs.lemmas.Nat.Bits.{bit_at_ones}
 use Rattle.chess_model.specs.Position.{Position}
 use Rattle.chess_model.specs.Attacked.{IsKingSafe}
-use Rattle.variant_rules.specs.Listing.{AreExposed, IsGuard}
+use Rattle.variant_rules.specs.Listing.{IsGuard}
 use Rattle.variant_rules.proofs.GuardLemmas.{unguarded, drops-safe}
 use Rattle.variant_rules.proofs.position.Position.guard.Goals as goal
 
