@@ -13,12 +13,14 @@
 mod ends;
 mod hall;
 mod house;
+mod laws;
 mod pass;
 mod ran;
 mod seat;
 
 pub use ends::HallParts;
 pub use hall::Hall;
+pub use laws::acts_apart_commute;
 pub use pass::HallPass;
 pub use ran::Ran;
 pub use seat::HallSeat;

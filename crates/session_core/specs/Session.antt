@@ -69,7 +69,7 @@ to_desk act memory = Asks (Lobby lobby_act.Where) (λ reply. placing act (told m
 -- what a session does for a command
 abbrev pub command_course : Command → MemoryState → Course
 command_course command.Nothing memory = round memory
-command_course (command.Move word) memory = to_desk (desk_act.Move word) memory
+command_course (command.Move word) memory = to_desk (desk_act.Move word None) memory
 command_course command.Resign memory = to_desk desk_act.Resign memory
 command_course command.Flag memory = to_desk desk_act.Flag memory
 

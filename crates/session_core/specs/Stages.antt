@@ -2,6 +2,7 @@
 use Rattle.std.specs.Prelude.{◌≡◌, ℕ, ◌+◌, ◌*◌, List, ◌++◌, length}
 use Rattle.lobby_state.specs.Desks.{IsDesk}
 use Rattle.one_server.specs.declared.reply.Reply.{Reply}
+use Rattle.linked_desk.specs.Acts.{FitsDeskAct}
 use Rattle.one_server.specs.Acts.{FitsAct}
 use Rattle.session_core.specs.declared.next.Next.{Next}
 use Rattle.session_core.specs.declared.next.Next.TheVariants.{Ask, End}
@@ -54,8 +55,9 @@ abbrev pub acts_left : {S : Type 0} → (S → ℕ) → Next S → ℕ
 acts_left after (Ask act at) = after at + 1
 acts_left after End = 0
 
--- the place at which a stage stands is at a desk
+-- the place at which a stage stands is at a desk, and the numbers of the act for the present place fit
 abbrev pub IsAtDesk : Stage → Type 0
+IsAtDesk (stage.Placing act) = FitsDeskAct act
 IsAtDesk (stage.Visiting place rest) = IsDesk place.desk
 IsAtDesk _ = Unit {0}
 

@@ -1,5 +1,6 @@
 //! The stages of a session: all that it decides between an act and its reply.
 ghost use Rattle.std.specs.Prelude.{◌≡◌, ◌≤◌, ◌*◌, ◌+◌, IfOk, length};
+ghost use Rattle.linked_desk.specs.Acts.{FitsDeskAct};
 ghost use Rattle.lobby_state.specs.Desks.{IsDesk};
 ghost use Rattle.one_server.specs.Replies.{IsReply};
 ghost use Rattle.session_core.specs.Course.{Writes};
@@ -65,6 +66,7 @@ fn placed(
     reply: &Reply,
     out: &mut Vec<u8>,
 ) -> Result<Next<Stage>, NoMemory>
+    requires fits { FitsDeskAct act }
     ensures settles { IfOk result (λ next. Settles (placing act (told memory.old reply.now))
         (course_of continues next memory.new) out.old.items out.new.items) }
     ensures ready { IfOk result (IsReady IsAtDesk) }

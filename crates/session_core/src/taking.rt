@@ -1,5 +1,6 @@
 //! What a session does for an input.
 ghost use Rattle.std.specs.Prelude.{◌≡◌, ◌≤◌, ◌^◌, ◌++◌, OnOk, OnErr};
+ghost use Rattle.linked_desk.specs.Acts.{FitsDeskAct};
 ghost use Rattle.session_core.specs.Going.{Answered, Stopped};
 ghost use Rattle.session_core.specs.Memory.{MemoryState};
 ghost use Rattle.session_core.specs.Session.{answer_text, command_course, input_course, to_desk, unasked};
@@ -55,7 +56,7 @@ fn first_of(command: Command) -> Next<Stage>
 {
     match command {
         Command::Nothing => ask_round(),
-        Command::Move(word) => to_desk(DeskAct::Move { word }),
+        Command::Move(word) => to_desk(DeskAct::Move { word, stamp: None }),
         Command::Resign => to_desk(DeskAct::Resign),
         Command::Flag => to_desk(DeskAct::Flag),
     }
@@ -63,6 +64,7 @@ fn first_of(command: Command) -> Next<Stage>
 
 /// The first act of a command to the present place, which the lobby is asked for.
 fn to_desk(act: DeskAct) -> Next<Stage>
+    requires { FitsDeskAct act }
     ensures goes { (memory : MemoryState) → course_of continues result memory ≡ to_desk act memory }
     ensures ready { IsReady IsAtDesk result }
 {

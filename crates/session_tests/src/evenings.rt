@@ -13,6 +13,8 @@ use std::alloc::Global;
 #[derive(Clone, Copy, Debug, PartialEq, Eq)]
 pub enum Asked {
     Enter,
+    Register,
+    InUse,
     Match,
     Where,
     Lines,
@@ -43,7 +45,14 @@ pub fn seat(server: &mut OneServer) -> Result<(), Fail> {
 }
 
 fn enter(server: &mut OneServer, session: u32, name: Handle) -> Result<(), Fail> {
-    let _reply = server.run(session, 0, Act::Lobby(LobbyAct::Enter { name }))?;
+    let _reply = server.run(
+        session,
+        0,
+        Act::Lobby(LobbyAct::Enter {
+            name: Some(name),
+            digest: None,
+        }),
+    )?;
     Ok(())
 }
 
@@ -234,6 +243,8 @@ fn in_short(act: &Act) -> Asked {
 fn in_lobby(act: &LobbyAct) -> Asked {
     match act {
         LobbyAct::Enter { .. } => Asked::Enter,
+        LobbyAct::Register { .. } => Asked::Register,
+        LobbyAct::InUse => Asked::InUse,
         LobbyAct::Match { .. } => Asked::Match,
         LobbyAct::Where => Asked::Where,
         LobbyAct::Fetch => Asked::Lines,

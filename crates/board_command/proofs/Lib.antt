@@ -1,0 +1,6 @@
+pub mod BoardEnds
+pub mod BoardLines
+pub mod Completeness
+pub mod LineAnswers
+pub mod MoveWords
+pub mod Names

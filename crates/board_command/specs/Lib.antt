@@ -1,0 +1,6 @@
+-- What the contracts of this crate cite.
+pub mod BoardEnds
+pub mod Game
+pub mod MoveForm
+pub mod PlayedLinesProof
+pub mod Transcript

@@ -1,0 +1,158 @@
+//! The game that `board` plays: one untimed game of chess between `White` and `Black`, seen by an observer. The
+//! shell knows nothing of chess but what is written here.
+
+ghost use Rattle.std.specs.Prelude.{◌≡◌, ◌++◌, OnOk, codes};
+ghost use Rattle.game_board.specs.Play.{play_after};
+ghost use Rattle.board_command.specs.Game.{untimed, view_of, line_text, answer_to, is_outside, made};
+
+use crate::move_form::read_squares;
+use crate::squares::Squares;
+use chess_model::{MoveWord, Terms, Variant};
+use fics_words::{Handle, NoMemory};
+use game_board::GameBoard;
+use session_core::put_refusal;
+use std::alloc::Global;
+use std::marker::Model;
+use style12_writer::{BoardView, Viewer, line12};
+
+/// The end of each line of `board`.
+pub const END_OF_LINE: &[u8] = b"\n\r";
+
+/// A game from its start on; nobody's time runs.
+#[derive(Drop)]
+pub struct Game {
+    board: GameBoard,
+}
+
+impl Model for Game {
+    ghost use Rattle.std.specs.Prelude.{◌≡◌};
+    ghost use Rattle.board_command.specs.Game.{GameState};
+
+    ghost Value = { GameState };
+
+    ghost view = { λ game. game.board };
+
+    ghost invariant = { λ game. game.board.begin ≡ 0 };
+}
+
+impl Game {
+    ghost use Rattle.std.specs.Prelude.{◌≡◌, ◌++◌, IfOk, MatchOption, true, false};
+    ghost use Rattle.board_command.specs.Game.{new_game, answer_line};
+
+    /// A game before its first half-move, with the room for all of them.
+    pub fn new(alloc: Global) -> Result<Game, NoMemory>
+        ensures { IfOk result (λ game. game ≡ new_game) }
+    {
+        Ok(Game {
+            board: GameBoard::start(alloc, 1, untimed(), 0)?,
+        })
+    }
+
+    /// Makes the answer of a line, and appends what is written for it; false where the line is outside the grammar.
+    /// After running out of memory nothing is known of the game and of what was appended.
+    pub fn answer_line(&mut self, line: &[u8], out: &mut Vec<u8>) -> Result<bool, NoMemory>
+        ensures made { IfOk result (λ made. MatchOption (answer_line self.old line.now)
+            ((made ≡ false) × (out.new.items ≡ out.old.items))
+            (λ next. (made ≡ true) × (self.new ≡ next.0) × (out.new.items ≡ out.old.items ++ next.1))) }
+    {
+        let Some(squares) = read_squares(line) else {
+            return Ok(false);
+        };
+        if is_outside(&self.board, &squares) {
+            return Ok(false);
+        }
+        play(&mut self.board, &squares, out)?;
+        Ok(true)
+    }
+}
+
+/// Chess without clocks.
+fn untimed() -> Terms
+    ensures { result ≡ untimed }
+{
+    Terms {
+        minutes: 0,
+        increment: 0,
+        variant: Variant::Chess,
+        colour: None,
+    }
+}
+
+/// Whether the squares stand for castling, or bring a pawn to its last rank.
+pub fn is_outside(board: &GameBoard, squares: &Squares) -> bool
+    ensures { result ≡ is_outside board.now squares.now }
+{
+    let position = board.position();
+    position.castling_of(squares.from, squares.to).is_some()
+        || position.is_promotion(squares.from, squares.to)
+}
+
+/// Plays the half-move of the squares and appends the line of the board, or appends the refusal.
+fn play(board: &mut GameBoard, squares: &Squares, out: &mut Vec<u8>) -> Result<(), NoMemory>
+    requires { board.old.begin ≡ 0 }
+    ensures begin { board.new.begin ≡ 0 }
+    ensures board { OnOk result (board.new ≡ (made board.old (answer_to board.old squares.now)).0) }
+    ensures text { OnOk result (out.new.items ≡ out.old.items ++ (made board.old (answer_to board.old squares.now)).1) }
+{
+    let word = MoveWord::Coordinate {
+        from: squares.from,
+        to: squares.to,
+        promo: None,
+    };
+    let colour = board.to_move();
+    match board.play(colour, &word, 0, None) {
+        Ok(_captured) => write_board(board, out),
+        Err(refusal) => put_refusal(refusal, out),
+    }
+}
+
+/// Appends the style 12 line of the board.
+fn write_board(board: &GameBoard, out: &mut Vec<u8>) -> Result<(), NoMemory>
+    ensures { OnOk result (out.new.items ≡ out.old.items ++ line_text board.now) }
+{
+    let view = view(board);
+    let observer = Viewer {
+        relation: 0,
+        flip: false,
+    };
+    let line = line12(*out.allocator(), &view, observer)?;
+    out.extend_from_slice(line.bytes())?;
+    out.extend_from_slice(END_OF_LINE)?;
+    Ok(())
+}
+
+/// What the line of the board shows.
+fn view(board: &GameBoard) -> BoardView
+    ensures { result ≡ view_of board.now }
+{
+    BoardView {
+        face: board.face(),
+        game: 1,
+        white: white(),
+        black: black(),
+        minutes: 0,
+        increment: 0,
+        remaining: [0, 0],
+        taken: board.last_taken(),
+    }
+}
+
+/// The name of the player of White.
+fn white() -> Handle
+    ensures { result ≡ codes "White" }
+{
+    let Some(name) = Handle::read(b"White") else {
+        unreachable!()
+    };
+    name
+}
+
+/// The name of the player of Black.
+fn black() -> Handle
+    ensures { result ≡ codes "Black" }
+{
+    let Some(name) = Handle::read(b"Black") else {
+        unreachable!()
+    };
+    name
+}

@@ -1,0 +1,17 @@
+//! The command `board`: one untimed game of chess, whose move words are the lines of the input.
+//!
+//! The contract of `board`: each word is answered in the position of the half-moves accepted before it, by the style 12
+//! line of the new position or by a refusal, and exactly the text of these answers is written.
+#![tactic(auto)]
+
+mod game;
+mod laws;
+mod move_form;
+mod playing;
+mod squares;
+
+pub use game::is_outside;
+pub use laws::move_words;
+pub use move_form::read_squares;
+pub use playing::board;
+pub use squares::Squares;

@@ -1,9 +1,0 @@
-use Rattle.std.proofs.Common.{◌≤◌, ◌+◌, ◌++◌, ℕ, List, take}
-use Rattle.fics_server.specs.Progress.{Progress}
-use Rattle.fics_server.proofs.machine.Machine.feed.Given as goal
-
-abbrev pub invariant-loop-byte : goal.invariant-loop-byte
-invariant-loop-byte g l = record {
-  count : l.self.number ≤ l.initial.self.number + l.byte-index;
-  fed : (taken base : List ℕ) → Progress g.T.LineHandler.reached taken l.initial.self (base ++ l.initial.out.items) → Progress g.T.LineHandler.reached (taken ++ take l.byte-index l.piece) l.self (base ++ l.out.items);
-}

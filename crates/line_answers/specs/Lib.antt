@@ -1,0 +1,8 @@
+-- What the contracts of this crate cite.
+pub mod Ends
+pub mod HandlerEnds
+pub mod Handling
+pub mod Lines
+pub mod Progress
+pub mod Reading
+pub mod Standing

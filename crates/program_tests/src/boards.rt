@@ -1,0 +1,166 @@
+//! `run` over the fakes: the command `board`, and words that name no command.
+
+use crate::running::{Case, board, expect, outcome};
+use std::alloc::Global;
+use std::test::Fail;
+
+/// The board line after White's e2 to e4.
+const FIRST_MOVE: &str =
+    "<12> rnbqkbnr pppppppp -------- -------- ----P--- -------- PPPP-PPP RNBQKBNR B 4 1 1 1 1 0 1 White Black 0 0 0 39 39 0 0 1 P/e2-e4 (0:00) e4 0\n\r";
+
+#[test]
+fn answers_the_first_move(rt: HostRuntime) -> Result<(), Fail> {
+    for input in [
+        "e2e4\n",
+        "e2-e4\n",
+        "e2e4",
+        "\r\n\ne2e4\r\n\n",
+        "e\r2\x00e4\n",
+    ] {
+        expect(&rt, rt.alloc(), &board(input.as_bytes()), 0, FIRST_MOVE)?;
+    }
+    Ok(())
+}
+
+#[test]
+fn writes_nothing_for_no_input(rt: HostRuntime) -> Result<(), Fail> {
+    expect(&rt, rt.alloc(), &board(b""), 0, "")
+}
+
+#[test]
+fn answers_however_the_input_is_cut(rt: HostRuntime) -> Result<(), Fail> {
+    let (status, whole) = outcome(rt.alloc(), &board(b"e2e5\ne2e4\ne7e5\n"))?;
+    assert_eq!(rt; status, 0);
+    for cut in [1, 2, 3, 7] {
+        let case = Case {
+            words: &["board"],
+            input: b"e2e5\ne2e4\ne7e5\n",
+            cut,
+            reads: &[],
+            writes: &[],
+        };
+        let (again, written) = outcome(rt.alloc(), &case)?;
+        assert_eq!(rt; again, 0);
+        assert_eq!(rt; written.as_slice(), whole.as_slice());
+    }
+    Ok(())
+}
+
+#[test]
+fn refuses_a_square_out_of_reach(rt: HostRuntime) -> Result<(), Fail> {
+    let text = format!(in rt.alloc(); "refused 9 CannotReach\n\r{FIRST_MOVE}")?;
+    expect(&rt, rt.alloc(), &board(b"e2e5\ne2e4\n"), 0, text.as_str())
+}
+
+#[test]
+fn refuses_to_move_a_pinned_knight(rt: HostRuntime) -> Result<(), Fail> {
+    let (status, written) = outcome(
+        rt.alloc(),
+        &board(b"e2e4\ne7e5\nb1c3\nf8b4\nd2d3\na7a6\nc3d5\n"),
+    )?;
+    assert_eq!(rt; status, 0);
+    assert!(rt;
+        written
+            .as_slice()
+            .ends_with(b"\n\rrefused 2 LeavesKing\n\r")
+    );
+    Ok(())
+}
+
+#[test]
+fn stops_at_the_first_bad_line(rt: HostRuntime) -> Result<(), Fail> {
+    let text = format!(in rt.alloc(); "{FIRST_MOVE}bad line 2\n\r")?;
+    expect(
+        &rt,
+        rt.alloc(),
+        &board(b"e2e4\nhello\ne7e5\n"),
+        7,
+        text.as_str(),
+    )?;
+    expect(&rt, rt.alloc(), &board(b"e2e4\nhello"), 7, text.as_str())?;
+    expect(&rt, rt.alloc(), &board(b"\n\ne2e4 \n"), 7, "bad line 3\n\r")?;
+    expect(&rt, rt.alloc(), &board(b"e2e9\n"), 7, "bad line 1\n\r")
+}
+
+#[test]
+fn castling_and_promotion_are_outside_the_grammar(rt: HostRuntime) -> Result<(), Fail> {
+    let (status, written) = outcome(
+        rt.alloc(),
+        &board(b"e2e4\ne7e5\ng1f3\ng8f6\nf1c4\nf8c5\ne1g1\n"),
+    )?;
+    assert_eq!(rt; status, 7);
+    assert!(rt; written.as_slice().ends_with(b"bad line 7\n\r"));
+    Ok(())
+}
+
+#[test]
+fn tells_how_it_is_called(rt: HostRuntime) -> Result<(), Fail> {
+    let usage = "usage: ficsd board, replay, demo N, check --store PATH, serve --port P\n";
+    for words in [
+        [].as_slice(),
+        &["demo"],
+        &["Board"],
+        &["board", "board"],
+        &["--help"],
+    ] {
+        let case = Case {
+            words,
+            input: b"e2e4\n",
+            cut: 1,
+            reads: &[],
+            writes: &[],
+        };
+        expect(&rt, rt.alloc(), &case, 1, usage)?;
+    }
+    Ok(())
+}
+
+#[test]
+fn tells_faults_of_reading_and_writing(rt: HostRuntime) -> Result<(), Fail> {
+    let first = Case {
+        words: &["board"],
+        input: b"e2e4\n",
+        cut: 5,
+        reads: &[0],
+        writes: &[],
+    };
+    expect(&rt, rt.alloc(), &first, 2, "")?;
+    let second = Case {
+        words: &["board"],
+        input: b"e2e4\ne7e5\n",
+        cut: 7,
+        reads: &[1],
+        writes: &[],
+    };
+    expect(&rt, rt.alloc(), &second, 2, FIRST_MOVE)?;
+    let writing = Case {
+        words: &["board"],
+        input: b"e2e4\ne7e5\n",
+        cut: 5,
+        reads: &[],
+        writes: &[1],
+    };
+    expect(&rt, rt.alloc(), &writing, 3, FIRST_MOVE)?;
+    let usage = Case {
+        words: &["demo"],
+        input: b"",
+        cut: 1,
+        reads: &[],
+        writes: &[0],
+    };
+    expect(&rt, rt.alloc(), &usage, 3, "")
+}
+
+#[test]
+fn long_lines_are_no_words(rt: HostRuntime) -> Result<(), Fail> {
+    for length in [1_023, 1_024, 1_025, 100_000] {
+        let mut input = Vec::from_slice(rt.alloc(), b"e2e4\n")?;
+        for _ in 0..length {
+            input.push(b'e')?;
+        }
+        input.extend_from_slice(b"\ne7e5\n")?;
+        let text = format!(in rt.alloc(); "{FIRST_MOVE}bad line 2\n\r")?;
+        expect(&rt, rt.alloc(), &board(input.as_slice()), 7, text.as_str())?;
+    }
+    Ok(())
+}

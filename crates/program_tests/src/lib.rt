@@ -1,0 +1,15 @@
+//! Tests of the program's top call: its commands over the fakes.
+#![tactic(auto)]
+
+#[cfg(test)]
+mod boards;
+#[cfg(test)]
+mod known_games;
+#[cfg(test)]
+mod replay_clocks;
+#[cfg(test)]
+mod replay_ends;
+#[cfg(test)]
+mod replays;
+#[cfg(test)]
+mod running;

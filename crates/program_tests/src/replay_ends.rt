@@ -1,0 +1,316 @@
+//! `replay` over the fakes: where a script is outside the grammar, and the statuses of a run.
+
+use crate::replays::{NEWS, RESIGNED, expect_text, replay, script_of, text_within};
+use crate::running::{Case, expect};
+use std::test::Fail;
+
+/// What stands before a bad line: four lines, one of them empty. Then it is White's turn.
+const OPENING: &str = "\
+seat Ann Ben 2 12 chess
+3000 1 > e2e4
+  1|{Game 1 (Ann vs. Ben) Creating 2 12 chess match.}
+  1|<12> rnbqkbnr pppppppp -------- -------- -------- -------- PPPPPPPP RNBQKBNR W -1 1 1 1 1 0 1 Ann Ben 1 2 12 39 39 120 120 1 none (0:00) none 0
+  1|<12> rnbqkbnr pppppppp -------- -------- ----P--- -------- PPPP-PPP RNBQKBNR B 4 1 1 1 1 0 1 Ann Ben -1 2 12 39 39 120 120 1 P/e2-e4 (0:00) e4 0
+  1|fics%\x20
+
+5000 2 > e7e5
+  2|{Game 1 (Ann vs. Ben) Creating 2 12 chess match.}
+  2|<12> rnbqkbnr pppppppp -------- -------- -------- -------- PPPPPPPP RNBQKBNR W -1 1 1 1 1 0 1 Ann Ben -1 2 12 39 39 120 120 1 none (0:00) none 1
+  2|<12> rnbqkbnr pppppppp -------- -------- ----P--- -------- PPPP-PPP RNBQKBNR B 4 1 1 1 1 0 1 Ann Ben 1 2 12 39 39 120 120 1 P/e2-e4 (0:00) e4 1
+  2|<12> rnbqkbnr pppp-ppp -------- ----p--- ----P--- -------- PPPP-PPP RNBQKBNR W 4 1 1 1 1 0 1 Ann Ben -1 2 12 39 39 120 120 2 P/e7-e5 (0:00) e5 1
+  2|fics%\x20\
+";
+
+/// Lines that may not come after `OPENING`, each between brackets, so that blanks at the ends show.
+const BAD: &str = "\
+[seat Ann Ben 2 12 chess]
+[seat Cat Dan 5 0 chess]
+[ ]
+[hello]
+[e2e4]
+[board]
+[# g1f3]
+[5000 1 > e1g1]
+[5000 1 > e1-g1]
+[5000 1 > e1c1]
+[5000 1 > a2a8]
+[5000 1 > e4-d8]
+[5000 1 > g2g8]
+[5000 1 > e7e8q]
+[5000 1 > e7e8=Q]
+[5000 1 > O-O]
+[5000 1 > O-O-O]
+[5000 1 > d4]
+[5000 1 > Nf3]
+[5000 1 > Ng1f3]
+[5000 1 > g1f3+]
+[5000 1 > P@e3]
+[5000 1 > G1F3]
+[5000 1 > g1f9]
+[5000 1 > g0f3]
+[5000 1 > i1f3]
+[5000 1 > g1f]
+[5000 1 > g1f3f3]
+[5000 1 > g1--f3]
+[5000 1 > g1xf3]
+[5000 1 > g1 f3]
+[5000 1 > g1f3 d2d4]
+[5000 1 > g1f3 ]
+[5000 1 >  g1f3]
+[5000 1  > g1f3]
+[5000  1 > g1f3]
+[ 5000 1 > g1f3]
+[5000 1 >  ]
+[5000 1 >]
+[5000 1 >g1f3]
+[5000 1 >\tg1f3]
+[5000 1 > g1f3\t]
+[5000 1 > g1f\u{7f}]
+[5000 1 > g1\u{e9}3]
+[5000 2 > Resign!]
+[5000 2 > resign now]
+[5000 2 > resigns]
+[5000 2 > flag 1]
+[5000 2 >  resign]
+[5000 2 > resign ]
+[5000 2 > quit]
+[4999 1 > g1f3]
+[4999 2 ?]
+[0 1 > g1f3]
+[3000 1 ?]
+[5000 3 > g1f3]
+[5000 3 ?]
+[5000 0 > g1f3]
+[5000 0 ?]
+[5000 12 ?]
+[5000 64 ?]
+[5000 01 ?]
+[05000 1 ?]
+[-1 1 ?]
+[5000.5 1 ?]
+[281474976710657 1 ?]
+[18446744073709551616 1 ?]
+[18446744073709556616 1 ?]
+[5000 1]
+[5000]
+[5000 1 ? ]
+[5000 1 ?g1f3]
+[5000 1 ?? ]
+[5000 1 +]
+[5000 3 +]
+[5000 1 -]
+[5000 2 -]
+[5000 1 ! 7]
+[5000 1 * 7 g1f3]
+[5000 1 < g1f3]
+[1 > g1f3]";
+
+/// Lines that may not come first, each between brackets.
+const BAD_FIRST: &str = "\
+[ ]
+[hello]
+[3000 1 > e2e4]
+[0 1 ?]
+[0 1 +]
+[bad line 1]
+[seat]
+[seat Ann Ben]
+[seat Ann Ben 2 12]
+[seat Ann Ben chess]
+[seat Ann Ben 2 chess]
+[seat Ann 2 12 chess]
+[seat Ann Ben Cat 2 12 chess]
+[seat Ann Ben Cat Dan 2 12 chess]
+[seat Ann Ben 2 12 crazyhouse]
+[seat Ann Ben Cat Dan 2 12 bughouse]
+[seat Ann Ben 2 12 bughouse]
+[seat Ann Ben 2 12 Chess]
+[seat Ann Ben 2 12 chess white]
+[seat Ann Ben 2 12 chess ]
+[seat Ann Ben 2 12  chess]
+[seat Ann  Ben 2 12 chess]
+[ seat Ann Ben 2 12 chess]
+[Seat Ann Ben 2 12 chess]
+[seat Ann Ann 2 12 chess]
+[seat Ann aNN 2 12 chess]
+[seat An Ben 2 12 chess]
+[seat Ann abcdefghijklmnopqr 2 12 chess]
+[seat Ann B3n 2 12 chess]
+[seat Ann Ben 601 12 chess]
+[seat Ann Ben 2 601 chess]
+[seat Ann Ben 02 12 chess]
+[seat Ann Ben 2 -1 chess]
+[seat Ann Ben 2 12 chess\t]
+[seat Ann B\u{e9}n 2 12 chess]";
+
+/// What stands between the brackets of a row.
+fn inner(row: &str) -> Result<&str, Fail> {
+    let text = row
+        .strip_prefix('[')
+        .and_then(|rest| rest.strip_suffix(']'))
+        .ok_or("brackets")?;
+    Ok(text)
+}
+
+#[test]
+fn stops_at_a_bad_line(rt: HostRuntime) -> Result<(), Fail> {
+    let opening = script_of(rt.alloc(), OPENING)?;
+    let before = text_within(rt.alloc(), OPENING, opening.len())?;
+    let text = format!(in rt.alloc(); "{before}bad line 5\n")?;
+    for row in BAD.lines() {
+        let line = inner(row)?;
+        for rest in ["", "\n9000 1 > g1f3\n"] {
+            let script = format!(in rt.alloc(); "{opening}{line}{rest}")?;
+            let case = replay(script.as_bytes());
+            expect_text(&rt, rt.alloc(), line, &case, 7, text.as_str())?;
+        }
+    }
+    Ok(())
+}
+
+#[test]
+fn stops_at_a_bad_first_line(rt: HostRuntime) -> Result<(), Fail> {
+    for row in BAD_FIRST.lines() {
+        let line = inner(row)?;
+        for (before, text) in [("", "bad line 1\n"), ("\n\r\n", "bad line 3\n")] {
+            let script = format!(in rt.alloc();
+                "{before}{line}\nseat Ann Ben 2 12 chess\n3000 1 > e2e4\n"
+            )?;
+            expect_text(&rt, rt.alloc(), line, &replay(script.as_bytes()), 7, text)?;
+        }
+    }
+    Ok(())
+}
+
+#[test]
+fn long_lines_are_outside_a_script(rt: HostRuntime) -> Result<(), Fail> {
+    let opening = script_of(rt.alloc(), OPENING)?;
+    let before = text_within(rt.alloc(), OPENING, opening.len())?;
+    let text = format!(in rt.alloc(); "{before}bad line 5\n")?;
+    for length in [1_014, 1_015, 1_016, 100_000] {
+        let mut script = String::new(rt.alloc());
+        script.push_str(opening.as_str())?;
+        script.push_str("5000 1 > ")?;
+        for _ in 0..length {
+            script.push_str("e")?;
+        }
+        script.push_str("\n9000 1 > g1f3\n")?;
+        let case = replay(script.as_bytes());
+        expect_text(&rt, rt.alloc(), "a long line", &case, 7, text.as_str())?;
+    }
+    Ok(())
+}
+
+#[test]
+fn writes_nothing_without_events(rt: HostRuntime) -> Result<(), Fail> {
+    for script in [
+        "",
+        "\n",
+        "\n\r\n\x00\n",
+        "seat Ann Ben 2 12 chess",
+        "\n\nseat Ann Ben 0 0 chess\n\n",
+    ] {
+        expect_text(&rt, rt.alloc(), script, &replay(script.as_bytes()), 0, "")?;
+    }
+    Ok(())
+}
+
+#[test]
+fn drops_carriage_returns_and_zeros(rt: HostRuntime) -> Result<(), Fail> {
+    let script =
+        b"\r\n\nse\x00at Ann\r Ben 2 12 chess\r\n3000 1 > e2\x00e4\r\n\r\n5000 2 > e7e5\n\r9000 1 > g1f3\n\r9500 2 > resign\r";
+    let text = text_within(rt.alloc(), RESIGNED, 1_000)?;
+    expect_text(&rt, rt.alloc(), "marks", &replay(script), 0, text.as_str())
+}
+
+#[test]
+fn replays_however_the_script_is_cut(rt: HostRuntime) -> Result<(), Fail> {
+    for rows in [RESIGNED, NEWS] {
+        let script = script_of(rt.alloc(), rows)?;
+        let text = text_within(rt.alloc(), rows, script.len())?;
+        for cut in [1, 2, 3, 7] {
+            let case = Case {
+                words: &["replay"],
+                input: script.as_bytes(),
+                cut,
+                reads: &[],
+                writes: &[],
+            };
+            expect_text(&rt, rt.alloc(), "in pieces", &case, 0, text.as_str())?;
+        }
+    }
+    Ok(())
+}
+
+/// Before a read that fails, what is due for the whole lines so far was written.
+#[test]
+fn tells_a_fault_of_reading_a_script(rt: HostRuntime) -> Result<(), Fail> {
+    let script = script_of(rt.alloc(), RESIGNED)?;
+    for read in 0..13 {
+        let case = Case {
+            words: &["replay"],
+            input: script.as_bytes(),
+            cut: 7,
+            reads: &[read],
+            writes: &[],
+        };
+        let text = text_within(rt.alloc(), RESIGNED, 7 * read as usize)?;
+        expect_text(&rt, rt.alloc(), "a read", &case, 2, text.as_str())?;
+    }
+    Ok(())
+}
+
+/// The seat line has 24 bytes and writes nothing; the four lines after it have 14 bytes or more, and each makes a
+/// write.
+#[test]
+fn tells_a_fault_of_writing_a_transcript(rt: HostRuntime) -> Result<(), Fail> {
+    let script = script_of(rt.alloc(), RESIGNED)?;
+    for write in 0..4 {
+        let case = Case {
+            words: &["replay"],
+            input: script.as_bytes(),
+            cut: 7,
+            reads: &[],
+            writes: &[write],
+        };
+        let text = text_within(rt.alloc(), RESIGNED, 24 + 14 * write as usize)?;
+        expect_text(&rt, rt.alloc(), "a write", &case, 3, text.as_str())?;
+    }
+    Ok(())
+}
+
+#[test]
+fn tells_a_fault_of_writing_a_bad_line(rt: HostRuntime) -> Result<(), Fail> {
+    let case = Case {
+        words: &["replay"],
+        input: b"\nhello\n",
+        cut: 3,
+        reads: &[],
+        writes: &[0],
+    };
+    expect(&rt, rt.alloc(), &case, 3, "")
+}
+
+#[test]
+fn replay_takes_no_words(rt: HostRuntime) -> Result<(), Fail> {
+    let usage = "usage: ficsd board, replay, demo N, check --store PATH, serve --port P\n";
+    for words in [
+        ["replay", "replay"].as_slice(),
+        &["replay", ""],
+        &["board", "replay"],
+        &["replay", "board"],
+        &["Replay"],
+        &["replay "],
+        &["--replay"],
+    ] {
+        let case = Case {
+            words,
+            input: b"seat Ann Ben 2 12 chess\n3000 1 > e2e4\n",
+            cut: 1,
+            reads: &[],
+            writes: &[],
+        };
+        expect(&rt, rt.alloc(), &case, 1, usage)?;
+    }
+    Ok(())
+}

@@ -1,0 +1,7 @@
+pub mod ActsMade
+pub mod EveningAnswers
+pub mod Leaving
+pub mod Memories
+pub mod NextLines
+pub mod ReplayEnds
+pub mod Showing

@@ -1,0 +1,16 @@
+use Rattle.std.proofs.Common.{◌≡◌, refl}
+use Rattle.replay_command.proofs.EveningAnswers.{no_line, same_answer}
+use Rattle.replay_command.proofs.evening.EveningLineHandler.answer_line.Goals as goal
+
+pub returns-in_default : goal.returns-in_default
+returns-in_default c = (refl, no_line c.args.self.now c.args.line.now c.requires.some (rw c.in_default.is at c.in_ok-line.ensures))
+
+pub returns-in-None : goal.returns-in-None
+returns-in-None c =
+    let line : c.in-Some.line ≡ c.args.line.now = (rw c.in-Some.is at c.in_ok-line.ensures).1 in
+    same_answer c.take_seat_line.result c.args.self.now c.take_seat_line.new.self c.in-Some.line c.args.line.now c.args.out.now.items c.args.out.now.items line (c.take_seat_line.ensures c.args.out.now.items)
+
+pub returns : goal.returns
+returns c =
+    let line : c.in-Some.line ≡ c.args.line.now = (rw c.in-Some.is at c.in_ok-line.ensures).1 in
+    same_answer c.take_event.result c.args.self.now c.take_event.new.self c.in-Some.line c.args.line.now c.args.out.now.items c.take_event.new.out.items line c.take_event.ensures

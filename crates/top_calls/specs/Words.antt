@@ -1,0 +1,48 @@
+-- The words behind the program's name.
+use Rattle.std.specs.Prelude.{◌≡◌, ◌⊎◌, ℕ, List, [], ◌∷◌, map, Option, codes, String, string_bytes}
+use Rattle.std.specs.Io.KnownBytes.{Appends, Keeps}
+use Rattle.edge_traits.specs.Sink.{AppendsFront}
+use Rattle.line_answers.specs.Ends.{status_of}
+use Rattle.line_answers.specs.declared.end.End.TheVariants.{WriteFault, Memory}
+use Rattle.std.specs.declared.alloc.Global.{Global}
+use Rattle.top_calls.specs.declared.words.Job.{Job}
+use Rattle.top_calls.specs.declared.words.Job.TheVariants.{Board, Replay}
+
+-- the one word `board`
+abbrev pub IsBoard : List (String Global) → Type 0
+IsBoard words = map string_bytes words ≡ codes "board" ∷ []
+
+-- the one word `replay`
+abbrev pub IsReplay : List (String Global) → Type 0
+IsReplay words = map string_bytes words ≡ codes "replay" ∷ []
+
+-- the words name this command
+abbrev pub Names : List (String Global) → Job → Type 0
+Names words Board = IsBoard words
+Names words Replay = IsReplay words
+
+-- the words name a command
+abbrev pub IsCommand : List (String Global) → Type 0
+IsCommand words = IsBoard words ⊎ IsReplay words
+
+-- the words name a command, of which this holds
+abbrev pub Does : List (String Global) → (Job → Type 0) → Type 0
+Does words P = (job : Job) × Names words job × P job
+
+-- the line that is written for words outside the table
+abbrev pub usage_line : List ℕ
+usage_line = codes "usage: ficsd board, replay, demo N, check --store PATH, serve --port P\n"
+
+-- the status that tells that the words name no command
+abbrev pub usage_status : ℕ
+usage_status = 1
+
+-- nothing was read, and a prefix of the usage line was written
+abbrev pub UsagePart : Option (List ℕ) → Option (List ℕ) → Option (List ℕ) → Option (List ℕ) → Type 0
+UsagePart left left' written written' = Keeps left left' × AppendsFront written written' usage_line
+
+-- how a run without a command ends: the usage line was written, or a prefix of it, at a fault or when out of memory
+abbrev pub UsageEnds : Option (List ℕ) → Option (List ℕ) → ℕ → Type 0
+UsageEnds written written' status =
+    ((status ≡ usage_status) × Appends written written' usage_line)
+    ⊎ (((status ≡ status_of WriteFault) ⊎ (status ≡ status_of Memory)) × AppendsFront written written' usage_line)

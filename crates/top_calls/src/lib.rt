@@ -1,0 +1,13 @@
+//! The program's one top call, `run`.
+//!
+//! The contract: what is written is what the words' command says of the lines of the bytes read. For `board` it is the
+//! answer that each line makes of a game; for `replay` it is the transcript of the one evening that has these lines,
+//! whose acts are one legal history. Each status comes where it is stated to come, and a fault of reading or writing is
+//! told only where the object outside counted one.
+#![tactic(auto)]
+
+mod top_call;
+mod words;
+
+pub use top_call::run;
+pub use words::{Job, read_job};

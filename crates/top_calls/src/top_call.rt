@@ -1,0 +1,87 @@
+//! The top call.
+
+ghost use Rattle.std.specs.Prelude.{◌≡◌, ◌⊎◌, ◌<◌, ◌^◌, [], ◌∷◌, length, IfSome, Contains};
+ghost use Rattle.std.specs.Io.KnownBytes.{Appends, Keeps};
+ghost use Rattle.edge_traits.specs.Faults.{Rose};
+ghost use Rattle.line_answers.specs.Ends.{OnReadFault, OnWriteFault, status_of};
+ghost use Rattle.line_answers.specs.Lines.{lines_of};
+ghost use Rattle.top_calls.specs.RunEnds.{AreGood, JobEnds, WritesPart};
+ghost use Rattle.top_calls.specs.Words.{Does, IsCommand, Names, UsageEnds, usage_line};
+ghost use Rattle.line_answers.specs.declared.end.End.{End};
+ghost use Rattle.top_calls.specs.declared.words.Job.{Job};
+
+use crate::words::{Job, read_job};
+use board_command::board;
+use edge_traits::{Keeper, Sink, Source};
+use line_answers::{End, send, status};
+use replay_command::replay;
+use std::alloc::Global;
+
+const USAGE: &[u8] = b"usage: ficsd board, replay, demo N, check --store PATH, serve --port P\n";
+
+/// The status that tells that the words name no command.
+const USAGE_STATUS: u8 = 1;
+
+/// Runs the command that the words name, and gives the status with which the program ends: 0 where the input was
+/// read to its end, 1 where the words name no command, 2 at a fault of reading, 3 at a fault of writing, 6 for want
+/// of memory, 7 at the first line outside the grammar, and 9 after 2^40 reads. The keeper isn't called.
+pub fn run<S: Source, K: Sink, P: Keeper>(
+    alloc: Global,
+    words: &[String],
+    source: &mut S,
+    sink: &mut K,
+    keeper: &mut P,
+) -> u8
+    ensures answered { result ≡ 0 → Does words.now
+        (JobEnds (S.left source.old) (S.left source.new) (K.written sink.old) (K.written sink.new) End.Done) }
+    ensures usage { result ≡ 1 → ¬ (IsCommand words.now) × Keeps (S.left source.old) (S.left source.new)
+        × Appends (K.written sink.old) (K.written sink.new) usage_line }
+    ensures no_command { ¬ (IsCommand words.now) → (result ≡ 1) ⊎ ((result ≡ 3) ⊎ (result ≡ 6)) }
+    ensures read_fault { result ≡ 2 → Rose (S.faults source.old) (S.faults source.new) }
+    ensures read_part { result ≡ 2 → Does words.now
+        (JobEnds (S.left source.old) (S.left source.new) (K.written sink.old) (K.written sink.new) End.ReadFault) }
+    ensures write_fault { result ≡ 3 → Rose (K.faults sink.old) (K.faults sink.new) }
+    ensures write_part { result ≡ 3 → WritesPart words.now (S.left source.old) (S.left source.new) (K.written sink.old)
+        (K.written sink.new) End.WriteFault }
+    ensures memory_part { result ≡ 6 → WritesPart words.now (S.left source.old) (S.left source.new) (K.written sink.old)
+        (K.written sink.new) End.Memory }
+    ensures bad_line { result ≡ 7 → Does words.now
+        (JobEnds (S.left source.old) (S.left source.new) (K.written sink.old) (K.written sink.new) End.BadLine) }
+    ensures spent { result ≡ 9 → Does words.now
+        (JobEnds (S.left source.old) (S.left source.new) (K.written sink.old) (K.written sink.new) End.Spent) }
+    ensures complete { (job : Job) → Names words.now job → ¬ (Rose (S.faults source.old) (S.faults source.new))
+        → ¬ (Rose (K.faults sink.old) (K.faults sink.new))
+        → IfSome (S.left source.old) (λ text. length text < 2 ^ 40 → AreGood (lines_of text) job → (result ≡ 0)
+        ⊎ (result ≡ 6)) }
+    ensures statuses { Contains (0 ∷ 1 ∷ 2 ∷ 3 ∷ 6 ∷ 7 ∷ 9 ∷ []) result }
+    ensures keeper_stays { keeper.new ≡ keeper.old }
+{
+    let Some(job) = read_job(words) else {
+        return tell_usage(sink);
+    };
+    status(run_job(alloc, job, source, sink))
+}
+
+/// Runs a command.
+fn run_job<S: Source, K: Sink>(alloc: Global, job: Job, source: &mut S, sink: &mut K) -> End
+    ensures ends { JobEnds (S.left source.old) (S.left source.new) (K.written sink.old)
+        (K.written sink.new) result job }
+    ensures read_cause { OnReadFault result (Rose (S.faults source.old) (S.faults source.new)) }
+    ensures write_cause { OnWriteFault result (Rose (K.faults sink.old) (K.faults sink.new)) }
+{
+    match job {
+        Job::Board => board(alloc, source, sink),
+        Job::Replay => replay(alloc, source, sink),
+    }
+}
+
+/// Writes how the program is called, and gives the status with which it ends.
+fn tell_usage<K: Sink>(sink: &mut K) -> u8
+    ensures ends { UsageEnds (K.written sink.old) (K.written sink.new) result }
+    ensures cause { result ≡ 3 → Rose (K.faults sink.old) (K.faults sink.new) }
+{
+    match send(USAGE, sink) {
+        Ok(()) => USAGE_STATUS,
+        Err(end) => status(end),
+    }
+}

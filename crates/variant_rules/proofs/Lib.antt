@@ -1,0 +1,4 @@
+pub mod HandLemmas
+pub mod ReachLemmas
+pub mod UndoLemmas
+pub mod SightLemmas

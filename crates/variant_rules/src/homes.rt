@@ -1,0 +1,54 @@
+ghost use Rattle.std.specs.Prelude.{◌≡◌, ◌<◌};
+ghost use Rattle.chess_model.specs.Placement.{home_rank, last_rank, king_home, rook_home, king_end, rook_end};
+
+use chess_model::{Colour, Square, Variant};
+
+fn home_rank_of(c: Colour) -> u8
+    ensures value { result ≡ home_rank c }
+    ensures within { result < 8 }
+{
+    match c {
+        Colour::White => 0,
+        Colour::Black => 7,
+    }
+}
+
+pub(crate) fn last_rank_of(c: Colour) -> u8
+    ensures { result ≡ last_rank c }
+{
+    match c {
+        Colour::White => 7,
+        Colour::Black => 0,
+    }
+}
+
+/// The square on which the king of a colour begins.
+pub(crate) fn home_of_king(_v: Variant, c: Colour) -> Square
+    ensures { result ≡ king_home _v c }
+{
+    Square::on(4, home_rank_of(c))
+}
+
+/// The square on which the rook for long or short castling begins.
+pub(crate) fn home_of_rook(_v: Variant, c: Colour, long: bool) -> Square
+    ensures { result ≡ rook_home _v c long }
+{
+    let file = if long { 0 } else { 7 };
+    Square::on(file, home_rank_of(c))
+}
+
+/// The square on which the king ends by castling.
+pub(crate) fn end_of_king(c: Colour, long: bool) -> Square
+    ensures { result ≡ king_end c long }
+{
+    let file = if long { 2 } else { 6 };
+    Square::on(file, home_rank_of(c))
+}
+
+/// The square on which the rook ends by castling.
+pub(crate) fn end_of_rook(c: Colour, long: bool) -> Square
+    ensures { result ≡ rook_end c long }
+{
+    let file = if long { 3 } else { 5 };
+    Square::on(file, home_rank_of(c))
+}
