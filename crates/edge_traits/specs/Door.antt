@@ -14,6 +14,13 @@ pub record DoorTale : Type 0 where
   pub back : List (ℕ × Option Tale)
   pub quiets : ℕ
 
+-- a relation of what a door told and of what it tells; a door that tells goes on telling, and no other begins to
+abbrev pub Goes : Option DoorTale → Option DoorTale → (DoorTale → DoorTale → Type 0) → Type 0
+Goes None None R = ⊤
+Goes None (Some new) R = ⊥
+Goes (Some old) None R = ⊥
+Goes (Some old) (Some new) R = R old new
+
 -- the fact holds of what is told
 abbrev pub IfTold : {T : Type 0} → Option T → (T → Type 0) → Type 0
 IfTold None P = ⊤

@@ -96,8 +96,7 @@ fn written_in(links: &[MemLink], number: u64) -> Option<&[u8]>
 impl Doorway for MemDoor {
     ghost use Rattle.std.specs.Prelude.{◌≡◌, ◌≤◌, ◌↔◌, Some};
     ghost use Rattle.edge_traits.specs.Faults.{Rose, IsToFail, after_call};
-    ghost use Rattle.edge_traits.specs.Link.{Both};
-    ghost use Rattle.edge_traits.specs.Door.{Gives, IfCame, IsNew, IsOut, IfTold, TakesBack, OnDoorFailed, door_failed, IsQuiet};
+    ghost use Rattle.edge_traits.specs.Door.{Gives, Goes, IfCame, IsNew, IsOut, IfTold, TakesBack, OnDoorFailed, door_failed, IsQuiet};
 
     type Link = MemLink;
 
@@ -106,7 +105,7 @@ impl Doorway for MemDoor {
     ghost faults = { λ door. door.plan.faults };
 
     fn next(&mut self) -> Came<MemLink>
-        ensures gives { Both (Some self.old.tale) (Some self.new.tale) (Gives (λ link. Some link.tale) result) }
+        ensures gives { Goes (Some self.old.tale) (Some self.new.tale) (Gives (λ link. Some link.tale) result) }
         ensures fresh { IfCame result (λ link. IsNew link.plan.faults (Some link.tale)) }
         ensures cause { OnDoorFailed result (Rose self.old.plan.faults self.new.plan.faults) }
         ensures counted { self.old.plan.faults ≤ self.new.plan.faults }
@@ -126,7 +125,7 @@ impl Doorway for MemDoor {
 
     fn back(&mut self, number: u64, link: MemLink)
         requires { IfTold (Some self.old.tale) (IsOut number) }
-        ensures back { Both (Some self.old.tale) (Some self.new.tale) (TakesBack number (Some link.tale)) }
+        ensures back { Goes (Some self.old.tale) (Some self.new.tale) (TakesBack number (Some link.tale)) }
         ensures faults { self.new.plan.faults ≡ self.old.plan.faults }
         ensures plan { self.new.plan ≡ self.old.plan }
     {

@@ -100,6 +100,16 @@ pub record IsJoined (old other new : PassState) : Type 0 where
   pub calls : (j : Joined Timed Reply) → In j new.joined → calls_of j.number new.seen ≡ j.calls
   pub no_others : new.number ≡ 0 → (m : ℕ) → new.splits < m → calls_of m new.seen ≡ []
 
+-- the pass looked at the history: what it sees begins with what it had seen, is legal, and has as its own entries what
+-- it made, and as those of each pass that was joined into it that one's calls; seen by the first pass, it has no entry
+-- of a number that wasn't split. The rest stays as it was
+pub record HasLooked (old new : PassState) : Type 0 where
+  pub same : new ≡ record old { seen = new.seen }
+  pub seen : IsPrefix old.seen new.seen
+  pub known : IsKnown (runs_of new)
+  pub calls : (j : Joined Timed Reply) → In j new.joined → calls_of j.number new.seen ≡ j.calls
+  pub no_others : new.number ≡ 0 → (m : ℕ) → new.splits < m → calls_of m new.seen ≡ []
+
 -- every pass that was split from this one was joined into it
 abbrev pub EveryoneJoined : PassState → Type 0
 EveryoneJoined pass = (m : ℕ) → 0 < m → m ≤ pass.splits → In m (map joined_number pass.joined)

@@ -10,7 +10,7 @@ ghost use Rattle.one_server.specs.Acts.{IsEvent, NeedsNoMemory};
 ghost use Rattle.one_server.specs.House.{house};
 ghost use Rattle.one_server.specs.Running.{Made, Runs};
 ghost use Rattle.one_server.specs.Whole.{IsOpening, opened, parts_of};
-ghost use Rattle.hall_core.specs.Passes.{EveryoneJoined, first_pass, IsJoined, new_pass, divided, runs_of};
+ghost use Rattle.hall_core.specs.Passes.{EveryoneJoined, first_pass, HasLooked, IsJoined, new_pass, divided, runs_of};
 ghost use Rattle.hall_core.specs.Acts.{CameTo, OnlyRan};
 
 use crate::ends::{HallParts, opening_parts, told_apart};
@@ -83,6 +83,16 @@ impl Hall {
         ensures { IsJoined pass.old other pass.new }
     {
         self.turns.join(&mut pass.pass, other.pass);
+    }
+
+    /// Looks at the history: the pass then sees all of it so far, and nothing else changes. Once every pass that was
+    /// split was joined into the first one, this is the whole history, and it has the calls of these passes and no
+    /// others.
+    pub fn look(&self, pass: &mut HallPass)
+        requires { pass.old.home ≡ self.now }
+        ensures { HasLooked pass.old pass.new }
+    {
+        self.turns.look(&mut pass.pass);
     }
 
     /// Makes an act of the pass's session at `moment`, in milliseconds, and waits for nobody. `Done` has the server's
