@@ -1,0 +1,114 @@
+//! Counts the lists of allowed half-moves that lead on from some positions, by `moves`, `make` and `unmake`, and prints
+//! for each position its name, the length of the lists and their number. Each word behind the program's name makes the
+//! lists one half-move longer.
+#![tactic(auto)]
+
+ghost use Rattle.std.specs.Prelude.{◌≡◌};
+
+use chess_model::Variant;
+use memory::NoMemory;
+use move_reader::read_word;
+use std::alloc::{AllocError, Global};
+use std::io::ErrorKind;
+use std::{env, io};
+use variant_rules::Position;
+
+/// A position, as the words that lead to it.
+#[derive(Drop)]
+struct Row {
+    name: &'static str,
+    variant: Variant,
+    words: &'static str,
+    /// The length of the lists that are counted.
+    length: u8,
+}
+
+/// The position after the words, as far as they are answered.
+fn position_after(v: Variant, words: &str) -> Position {
+    let mut position = Position::start(v);
+    for text in words.split_whitespace() {
+        let Some(word) = read_word(text.as_bytes()) else {
+            return position;
+        };
+        let Ok(m) = position.resolve(&word) else {
+            return position;
+        };
+        position.make(m);
+    }
+    position
+}
+
+/// How many lists of so many allowed half-moves there are. The position is as before.
+fn lists(alloc: Global, position: &mut Position, length: u8) -> Result<u64, NoMemory>
+    ensures { position.new ≡ position.old }
+{
+    if length == 0 {
+        return Ok(1);
+    }
+    let moves = position.moves(alloc)?;
+    if length == 1 {
+        return Ok(moves.len() as u64);
+    }
+    let mut found: u64 = 0;
+    for m in &moves {
+        let tried = *m;
+        if position.allowed(tried) {
+            let undo = position.make(*m);
+            let below = lists(alloc, position, length - 1);
+            position.unmake(undo);
+            found = found.saturating_add(below?);
+        }
+    }
+    Ok(found)
+}
+
+fn rows() -> [Row; 4] {
+    [
+        Row {
+            name: "start",
+            variant: Variant::Chess,
+            words: "",
+            length: 4,
+        },
+        Row {
+            name: "kiwipete",
+            variant: Variant::Chess,
+            words: "Nf3 b5 Ng1 b4 Nf3 Ba6 Ng1 Nf6 Nf3 Nc6 Ng1 Na5 e4 Nc4 d4 Nb6 d5 g6 Nf3 Bg7 Ne5 e6 \
+                Qf3 Qe7 Nc3 h5 Bd2 h4 Be2 h3",
+            length: 3,
+        },
+        Row {
+            name: "italian",
+            variant: Variant::Chess,
+            words: "e4 e5 Nf3 Nc6 Bc4 Bc5 d3 d6 Nc3 Nf6 O-O O-O Bg5 Bg4 a3 a6 Qe2 Qe7",
+            length: 3,
+        },
+        Row {
+            name: "crazyhouse",
+            variant: Variant::Crazyhouse,
+            words: "e4 e6 d4 Nf6 e5 Ne4 Nc3 Bb4 Nf3 Nc6 Bd3",
+            length: 3,
+        },
+    ]
+}
+
+/// How many words stand behind the program's name.
+fn words_given(rt: &HostRuntime) -> usize {
+    match env::args(rt) {
+        Ok(args) => args.skip(1).count(),
+        Err(_) => 0,
+    }
+}
+
+fn main(rt: HostRuntime) -> io::Result<()> {
+    let longer = words_given(&rt).min(4) as u8;
+    for row in &rows() {
+        let mut position = position_after(row.variant, row.words);
+        let length = row.length.saturating_add(longer);
+        match lists(rt.alloc(), &mut position, length) {
+            Ok(found) => println!(rt; "{} {length} {found}", row.name)?,
+            Err(_) => println!(rt; "{} out of memory", row.name)?,
+        }
+    }
+    Ok(())
+}
