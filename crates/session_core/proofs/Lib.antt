@@ -4,3 +4,4 @@ pub mod Lists
 pub mod Passing
 pub mod MatchTerms
 pub mod Beginning
+pub mod Quitting

@@ -2,7 +2,9 @@
 use Rattle.std.specs.Prelude.{ℕ, Bool, true, false, ◌||◌, if◌then◌else◌, List, [], ◌∷◌, ◌++◌, Option, None, Some, Result, Ok, Err, codes, nat_eq}
 use Rattle.std.specs.List.{starts_with}
 use Rattle.clock_ledger.specs.Span.{IsStamp}
+use Rattle.command_words.specs.declared.aliases.Alias.{Alias}
 use Rattle.command_words.specs.declared.command.Command.{Command}
+use Rattle.command_words.specs.declared.command.Command.TheVariants as command
 use Rattle.command_words.specs.Commands.{command_in}
 use Rattle.fics_words.specs.declared.refusal.Refusal.{Refusal}
 use Rattle.fics_words.specs.declared.refusal.Refusal.TheVariants as refusal
@@ -105,6 +107,25 @@ framed framing.News standing text = unasked text standing
 -- what an input makes the session write, by what it remembered before and after, and by the text of its course
 abbrev pub answer_text : Input → MemoryState → MemoryState → List ℕ → List ℕ
 answer_text input before after text = framed (framing_of input before) after.standing text
+
+-- what is read of a line asks to quit
+abbrev pub is_quit : Result Command Refusal → Bool
+is_quit (Ok command.Quit) = true
+is_quit _ = false
+
+abbrev pub text_quits : List ℕ → Standing → List Alias → Bool
+text_quits text (In name) aliases = is_quit (command_in aliases text)
+text_quits text _ aliases = false
+
+abbrev pub line_quits : Incoming → MemoryState → Bool
+line_quits (incoming.Plain text) memory = text_quits text memory.standing memory.aliases
+line_quits (incoming.Stamped text stamp) memory = text_quits text memory.standing memory.aliases
+line_quits _ memory = false
+
+-- an input asks to quit: a line of a session that has entered, which isn't the greeting and reads as `quit`
+abbrev pub asks_to_quit : Input → MemoryState → Bool
+asks_to_quit Quiet memory = false
+asks_to_quit (Line line) memory = if is_greeting memory.link line then false else line_quits line memory
 
 -- the stamps of an input are below 10,000,000
 abbrev pub HasStamp : Incoming → Type 0

@@ -28,7 +28,7 @@ mod texts;
 
 pub use framing::Framing;
 pub use input::{Input, Wrote};
-pub use laws::courses;
+pub use laws::{courses, only_quit_leaves};
 pub use session::Session;
 pub use standing::{LinkMark, Standing};
 pub use texts::put_refusal;

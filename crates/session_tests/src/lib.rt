@@ -12,6 +12,8 @@ mod evenings;
 #[cfg(test)]
 mod leaving;
 #[cfg(test)]
+mod links;
+#[cfg(test)]
 mod logins;
 #[cfg(test)]
 mod short;
