@@ -102,6 +102,10 @@ fn tells_how_it_is_called(rt: HostRuntime) -> Result<(), Fail> {
         &["Board"],
         &["board", "board"],
         &["--help"],
+        &["serve", "--port", "5000"],
+        &["serve", "--port", "5000", "--store", "x"],
+        &["demo", "7"],
+        &["check", "--store", "x"],
     ] {
         let case = Case {
             words,

@@ -6,23 +6,23 @@ use Rattle.replay_command.specs.ReplayEnds.{AreEvening, ReplayEnds}
 use Rattle.board_command.specs.Transcript.{bad_in}
 use Rattle.top_calls.specs.Words.{IsCommand, Names, UsagePart}
 use Rattle.line_answers.specs.declared.end.End.{End}
-use Rattle.top_calls.specs.declared.words.Job.{Job}
-use Rattle.top_calls.specs.declared.words.Job.TheVariants.{Board, Replay}
+use Rattle.top_calls.specs.declared.command.Command.{Command}
+use Rattle.top_calls.specs.declared.command.Command.TheVariants.{Board, Replay}
 
 -- how a command ends
-abbrev pub JobEnds : Option (List ℕ) → Option (List ℕ) → Option (List ℕ) → Option (List ℕ) → End → Job → Type 0
-JobEnds left left' written written' end Board = BoardEnds left left' written written' end
-JobEnds left left' written written' end Replay = ReplayEnds left left' written written' end
+abbrev pub CommandEnds : Option (List ℕ) → Option (List ℕ) → Option (List ℕ) → Option (List ℕ) → End → Command → Type 0
+CommandEnds left left' written written' end Board = BoardEnds left left' written written' end
+CommandEnds left left' written written' end Replay = ReplayEnds left left' written written' end
 
 -- a prefix of what would have been written, at a fault of writing or when out of memory: of a command's text, or of the
 -- usage line
 abbrev pub WritesPart : List (String Global) → Option (List ℕ) → Option (List ℕ) → Option (List ℕ) → Option (List ℕ)
     → End → Type 0
 WritesPart words left left' written written' end =
-    ((job : Job) → Names words job → JobEnds left left' written written' end job)
+    ((command : Command) → Names words command → CommandEnds left left' written written' end command)
     × (¬ (IsCommand words) → UsagePart left left' written written')
 
 -- all lines are in the command's grammar: none is bad, or they are those of an evening
-abbrev pub AreGood : List (List ℕ) → Job → Type 0
+abbrev pub AreGood : List (List ℕ) → Command → Type 0
 AreGood lines Board = bad_in lines ≡ None
 AreGood lines Replay = AreEvening lines

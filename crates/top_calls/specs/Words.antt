@@ -1,33 +1,27 @@
--- The words behind the program's name.
-use Rattle.std.specs.Prelude.{◌≡◌, ◌⊎◌, ℕ, List, [], ◌∷◌, map, Option, codes, String, string_bytes}
+-- The words of a command that `run` runs, and what is written for others.
+use Rattle.std.specs.Prelude.{◌≡◌, ◌⊎◌, ℕ, List, Option, codes, String}
 use Rattle.std.specs.Io.KnownBytes.{Appends, Keeps}
 use Rattle.edge_traits.specs.Sink.{AppendsFront}
 use Rattle.line_answers.specs.Ends.{status_of}
 use Rattle.line_answers.specs.declared.end.End.TheVariants.{WriteFault, Memory}
 use Rattle.std.specs.declared.alloc.Global.{Global}
-use Rattle.top_calls.specs.declared.words.Job.{Job}
-use Rattle.top_calls.specs.declared.words.Job.TheVariants.{Board, Replay}
-
--- the one word `board`
-abbrev pub IsBoard : List (String Global) → Type 0
-IsBoard words = map string_bytes words ≡ codes "board" ∷ []
-
--- the one word `replay`
-abbrev pub IsReplay : List (String Global) → Type 0
-IsReplay words = map string_bytes words ≡ codes "replay" ∷ []
+use Rattle.job_words.specs.Jobs as jobs
+use Rattle.job_words.specs.declared.job.Job.TheVariants as job
+use Rattle.top_calls.specs.declared.command.Command.{Command}
+use Rattle.top_calls.specs.declared.command.Command.TheVariants.{Board, Replay}
 
 -- the words name this command
-abbrev pub Names : List (String Global) → Job → Type 0
-Names words Board = IsBoard words
-Names words Replay = IsReplay words
+abbrev pub Names : List (String Global) → Command → Type 0
+Names words Board = jobs.Names words job.Board
+Names words Replay = jobs.Names words job.Replay
 
 -- the words name a command
 abbrev pub IsCommand : List (String Global) → Type 0
-IsCommand words = IsBoard words ⊎ IsReplay words
+IsCommand words = Names words Board ⊎ Names words Replay
 
 -- the words name a command, of which this holds
-abbrev pub Does : List (String Global) → (Job → Type 0) → Type 0
-Does words P = (job : Job) × Names words job × P job
+abbrev pub Does : List (String Global) → (Command → Type 0) → Type 0
+Does words P = (command : Command) × Names words command × P command
 
 -- the line that is written for words outside the table
 abbrev pub usage_line : List ℕ

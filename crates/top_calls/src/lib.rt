@@ -6,8 +6,8 @@
 //! told only where the object outside counted one.
 #![tactic(auto)]
 
+mod command;
 mod top_call;
-mod words;
 
+pub use command::Command;
 pub use top_call::run;
-pub use words::{Job, read_job};

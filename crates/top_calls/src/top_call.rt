@@ -5,14 +5,15 @@ ghost use Rattle.std.specs.Io.KnownBytes.{Appends, Keeps};
 ghost use Rattle.edge_traits.specs.Faults.{Rose};
 ghost use Rattle.line_answers.specs.Ends.{OnReadFault, OnWriteFault, status_of};
 ghost use Rattle.line_answers.specs.Lines.{lines_of};
-ghost use Rattle.top_calls.specs.RunEnds.{AreGood, JobEnds, WritesPart};
+ghost use Rattle.top_calls.specs.RunEnds.{AreGood, CommandEnds, WritesPart};
 ghost use Rattle.top_calls.specs.Words.{Does, IsCommand, Names, UsageEnds, usage_line};
 ghost use Rattle.line_answers.specs.declared.end.End.{End};
-ghost use Rattle.top_calls.specs.declared.words.Job.{Job};
+ghost use Rattle.top_calls.specs.declared.command.Command.{Command};
 
-use crate::words::{Job, read_job};
+use crate::command::{Command, read_command};
 use board_command::board;
 use edge_traits::{Keeper, Sink, Source};
+use job_words::JobFail;
 use line_answers::{End, send, status};
 use replay_command::replay;
 use std::alloc::Global;
@@ -33,45 +34,51 @@ pub fn run<S: Source, K: Sink, P: Keeper>(
     keeper: &mut P,
 ) -> u8
     ensures answered { result ≡ 0 → Does words.now
-        (JobEnds (S.left source.old) (S.left source.new) (K.written sink.old) (K.written sink.new) End.Done) }
+        (CommandEnds (S.left source.old) (S.left source.new) (K.written sink.old) (K.written sink.new) End.Done) }
     ensures usage { result ≡ 1 → ¬ (IsCommand words.now) × Keeps (S.left source.old) (S.left source.new)
         × Appends (K.written sink.old) (K.written sink.new) usage_line }
     ensures no_command { ¬ (IsCommand words.now) → (result ≡ 1) ⊎ ((result ≡ 3) ⊎ (result ≡ 6)) }
     ensures read_fault { result ≡ 2 → Rose (S.faults source.old) (S.faults source.new) }
     ensures read_part { result ≡ 2 → Does words.now
-        (JobEnds (S.left source.old) (S.left source.new) (K.written sink.old) (K.written sink.new) End.ReadFault) }
+        (CommandEnds (S.left source.old) (S.left source.new) (K.written sink.old) (K.written sink.new) End.ReadFault) }
     ensures write_fault { result ≡ 3 → Rose (K.faults sink.old) (K.faults sink.new) }
     ensures write_part { result ≡ 3 → WritesPart words.now (S.left source.old) (S.left source.new) (K.written sink.old)
         (K.written sink.new) End.WriteFault }
     ensures memory_part { result ≡ 6 → WritesPart words.now (S.left source.old) (S.left source.new) (K.written sink.old)
         (K.written sink.new) End.Memory }
     ensures bad_line { result ≡ 7 → Does words.now
-        (JobEnds (S.left source.old) (S.left source.new) (K.written sink.old) (K.written sink.new) End.BadLine) }
+        (CommandEnds (S.left source.old) (S.left source.new) (K.written sink.old) (K.written sink.new) End.BadLine) }
     ensures spent { result ≡ 9 → Does words.now
-        (JobEnds (S.left source.old) (S.left source.new) (K.written sink.old) (K.written sink.new) End.Spent) }
-    ensures complete { (job : Job) → Names words.now job → ¬ (Rose (S.faults source.old) (S.faults source.new))
+        (CommandEnds (S.left source.old) (S.left source.new) (K.written sink.old) (K.written sink.new) End.Spent) }
+    ensures complete { (command : Command) → Names words.now command → ¬ (Rose (S.faults source.old) (S.faults source.new))
         → ¬ (Rose (K.faults sink.old) (K.faults sink.new))
-        → IfSome (S.left source.old) (λ text. length text < 2 ^ 40 → AreGood (lines_of text) job → (result ≡ 0)
+        → IfSome (S.left source.old) (λ text. length text < 2 ^ 40 → AreGood (lines_of text) command → (result ≡ 0)
         ⊎ (result ≡ 6)) }
     ensures statuses { Contains (0 ∷ 1 ∷ 2 ∷ 3 ∷ 6 ∷ 7 ∷ 9 ∷ []) result }
     ensures keeper_stays { keeper.new ≡ keeper.old }
 {
-    let Some(job) = read_job(words) else {
-        return tell_usage(sink);
-    };
-    status(run_job(alloc, job, source, sink))
+    match read_command(alloc, words) {
+        Ok(command) => status(run_command(alloc, command, source, sink)),
+        Err(JobFail::Usage) => tell_usage(sink),
+        Err(JobFail::Memory) => status(End::Memory),
+    }
 }
 
 /// Runs a command.
-fn run_job<S: Source, K: Sink>(alloc: Global, job: Job, source: &mut S, sink: &mut K) -> End
-    ensures ends { JobEnds (S.left source.old) (S.left source.new) (K.written sink.old)
-        (K.written sink.new) result job }
+fn run_command<S: Source, K: Sink>(
+    alloc: Global,
+    command: Command,
+    source: &mut S,
+    sink: &mut K,
+) -> End
+    ensures ends { CommandEnds (S.left source.old) (S.left source.new) (K.written sink.old)
+        (K.written sink.new) result command }
     ensures read_cause { OnReadFault result (Rose (S.faults source.old) (S.faults source.new)) }
     ensures write_cause { OnWriteFault result (Rose (K.faults sink.old) (K.faults sink.new)) }
 {
-    match job {
-        Job::Board => board(alloc, source, sink),
-        Job::Replay => replay(alloc, source, sink),
+    match command {
+        Command::Board => board(alloc, source, sink),
+        Command::Replay => replay(alloc, source, sink),
     }
 }
 

@@ -1,0 +1,62 @@
+//! The same command lines as `clap` reads them.
+
+use clap::builder::ValueParser;
+use clap::{Arg, ArgMatches, Command};
+use std::alloc::{AllocError, Global};
+use std::test::Fail;
+
+/// What `clap` reads the words as, in the words of a row.
+pub(crate) fn clap_reading(alloc: Global, words: &[String]) -> Result<String, Fail> {
+    let mut all = Vec::new(alloc);
+    all.push("ficsd")?;
+    for word in words {
+        all.push(word.as_str())?;
+    }
+    let Ok(matches) = command_line(alloc)?.try_get_matches_from(all.as_slice()) else {
+        return Ok(String::from_str(alloc, "-")?);
+    };
+    match matches.subcommand() {
+        Some((name, options)) => {
+            if name == "serve" {
+                return serve_text(alloc, options);
+            }
+            Ok(String::from_str(alloc, name)?)
+        }
+        None => Ok(String::from_str(alloc, "-")?),
+    }
+}
+
+/// What the options of `serve` say.
+fn serve_text(alloc: Global, options: &ArgMatches<'_>) -> Result<String, Fail> {
+    let port = options.get_str("port").ok_or("a port")?;
+    let bind = options.get_str("bind").ok_or("an address")?;
+    let count = options.get_str("count").unwrap_or("-");
+    Ok(format!(in alloc; "serve {port} {bind} {count}")?)
+}
+
+/// The program's command line.
+fn command_line<'a>(alloc: Global) -> Result<Command<'a>, AllocError> {
+    Command::new(alloc, "ficsd")
+        .subcommand(Command::new(alloc, "board"))?
+        .subcommand(Command::new(alloc, "replay"))?
+        .subcommand(serve_line(alloc)?)
+}
+
+/// The options of `serve`.
+fn serve_line<'a>(alloc: Global) -> Result<Command<'a>, AllocError> {
+    let port = Arg::new(alloc, "port")
+        .long("port")
+        .required(true)
+        .value_parser(ValueParser::Unsigned(1, 65_535));
+    let bind = Arg::new(alloc, "bind")
+        .long("bind")
+        .value_parser(ValueParser::NonEmptyString)
+        .default_value("127.0.0.1");
+    let count = Arg::new(alloc, "count")
+        .long("count")
+        .value_parser(ValueParser::Unsigned(1, 2_147_483_648));
+    Command::new(alloc, "serve")
+        .arg(port)?
+        .arg(bind)?
+        .arg(count)
+}

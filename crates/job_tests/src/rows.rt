@@ -1,0 +1,141 @@
+//! Lists of words and what they name: `read_job` against what the grammar says, and against `clap`.
+
+use crate::clap_words::clap_reading;
+use job_words::{Job, JobFail, read_job};
+use std::alloc::Global;
+use std::process::Abort;
+use std::test::Fail;
+
+/// The words, and behind the arrow what they name: a command, or `serve PORT ADDRESS COUNT`; `-` where they name
+/// nothing.
+const ROWS: &str = "\
+board => board
+replay => replay
+Board => -
+board board => -
+board --port 5000 => -
+replay x => -
+bored => -
+--help => -
+--version => -
+-h => -
+help => -
+serve => -
+serve --port 5000 => serve 5000 127.0.0.1 -
+serve --port=5000 => serve 5000 127.0.0.1 -
+serve --port 1 => serve 1 127.0.0.1 -
+serve --port 65535 => serve 65535 127.0.0.1 -
+serve --port 0 => -
+serve --port 65536 => -
+serve --port -1 => -
+serve --port=-1 => -
+serve --port x => -
+serve --port => -
+serve --port= => -
+serve 5000 => -
+serve -p 5000 => -
+serve --po 5000 => -
+serve --ports 5000 => -
+serve --Port 5000 => -
+serve port 5000 => -
+serve --bind 0.0.0.0 => -
+serve --bind 0.0.0.0 --port 5000 => serve 5000 0.0.0.0 -
+serve --port 5000 --bind=0.0.0.0 => serve 5000 0.0.0.0 -
+serve --port=5000 --bind=a=b => serve 5000 a=b -
+serve --port 5000 --bind => -
+serve --port 5000 --bind= => -
+serve --port 5000 --bind -x => -
+serve --port 5000 --bind --count => -
+serve --port 5000 --bind a b => -
+serve --port 5000 --port 5001 => -
+serve --port 5000 --port=5000 => -
+serve --port 5000 --bind a --bind a => -
+serve --count 1 --port 5000 => serve 5000 127.0.0.1 1
+serve --count=2147483648 --bind b --port 5000 => serve 5000 b 2147483648
+serve --count 2147483649 --port 5000 => -
+serve --count 0 --port 5000 => -
+serve --count 5 --count 5 --port 5000 => -
+serve --port 5000 serve => -
+serve board => -
+demo 7 => -
+check --store x => -
+serve --port 5000 --store x => -
+";
+
+/// Texts that the other reader takes for numbers or for the end of the options, and this program doesn't.
+const STRICT: &str = "\
+serve --port 05000 => -
+serve --port +5000 => -
+serve --port 5000 --count 01 => -
+serve --port 5000 -- => -
+";
+
+/// What a job is, as a row says it.
+fn spoken(alloc: Global, job: Result<Job, JobFail>) -> Result<String, Fail> {
+    match job {
+        Ok(Job::Board) => Ok(String::from_str(alloc, "board")?),
+        Ok(Job::Replay) => Ok(String::from_str(alloc, "replay")?),
+        Ok(
+            Job::Serve {
+                port,
+                bind,
+                count: Some(count),
+            },
+        ) => Ok(format!(in alloc; "serve {port} {bind} {count}")?),
+        Ok(
+            Job::Serve {
+                port,
+                bind,
+                count: None,
+            },
+        ) => Ok(format!(in alloc; "serve {port} {bind} -")?),
+        Err(JobFail::Usage) => Ok(String::from_str(alloc, "-")?),
+        Err(JobFail::Memory) => Err(Fail::from("out of memory")),
+    }
+}
+
+/// The words of a row, which blanks part.
+fn words_of(alloc: Global, text: &str) -> Result<Vec<String>, Fail> {
+    let mut words = Vec::new(alloc);
+    for word in text.split_whitespace() {
+        words.push(String::from_str(alloc, word)?)?;
+    }
+    Ok(words)
+}
+
+#[test]
+fn words_name_what_the_grammar_says(rt: HostRuntime) -> Result<(), Fail> {
+    for table in [ROWS, STRICT] {
+        for row in table.lines() {
+            let (text, named) = row.split_once(" => ").ok_or("words and what they name")?;
+            let words = words_of(rt.alloc(), text)?;
+            let said = spoken(rt.alloc(), read_job(rt.alloc(), words.as_slice()))?;
+            assert!(rt; said.as_str() == named, "{text}: {said}");
+        }
+    }
+    Ok(())
+}
+
+#[test]
+fn another_reader_of_command_lines_says_the_same(rt: HostRuntime) -> Result<(), Fail> {
+    for row in ROWS.lines() {
+        let (text, named) = row.split_once(" => ").ok_or("words and what they name")?;
+        let words = words_of(rt.alloc(), text)?;
+        let said = clap_reading(rt.alloc(), words.as_slice())?;
+        assert!(rt; said.as_str() == named, "{text}: {said}");
+    }
+    Ok(())
+}
+
+#[test]
+fn no_word_and_an_empty_word_name_nothing(rt: HostRuntime) -> Result<(), Fail> {
+    let alloc = rt.alloc();
+    let mut words = Vec::new(alloc);
+    assert!(rt; matches!(&read_job(alloc, words.as_slice()), Err(JobFail::Usage)));
+    words.push(String::from_str(alloc, "")?)?;
+    assert!(rt; matches!(&read_job(alloc, words.as_slice()), Err(JobFail::Usage)));
+    let mut serve = words_of(alloc, "serve --port 5000 --bind")?;
+    serve.push(String::from_str(alloc, "")?)?;
+    assert!(rt; matches!(&read_job(alloc, serve.as_slice()), Err(JobFail::Usage)));
+    Ok(())
+}

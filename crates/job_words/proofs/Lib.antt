@@ -1,0 +1,2 @@
+pub mod JobsNamed
+pub mod OptionsRead

@@ -1,0 +1,52 @@
+//! What the words ask for, or why they ask for nothing.
+
+ghost use Rattle.std.specs.Prelude.{◌≡◌};
+ghost use Rattle.job_words.specs.declared.job.JobFail.TheVariants.{Memory};
+
+use std::alloc::{AllocError, AllocFailed};
+use thiserror::Error;
+
+/// What the words ask for.
+#[derive(Debug, Drop, PartialEq, Eq)]
+pub enum Job {
+    /// Reads move words, one a line, and answers each.
+    Board,
+    /// Reads a script of an evening, and writes its transcript.
+    Replay,
+    /// Serves players who connect.
+    Serve {
+        /// The port, from 1 on.
+        port: u16,
+        /// The address at which connections are taken.
+        bind: String,
+        /// How many connections are taken, from 1 to 2^31; none for any number.
+        count: Option<u64>,
+    },
+}
+
+/// Why the words gave no job.
+#[derive(Clone, Copy, Debug, PartialEq, Eq, Error)]
+pub enum JobFail {
+    /// The words name no job.
+    #[error("no such command")]
+    Usage,
+    /// Running out of memory.
+    #[error("out of memory")]
+    Memory,
+}
+
+impl From<AllocError> for JobFail {
+    ghost from_gives = { λ _ fail. fail ≡ Memory };
+
+    fn from(_want: AllocError) -> JobFail {
+        JobFail::Memory
+    }
+}
+
+impl<T: Drop> From<AllocFailed<T>> for JobFail {
+    ghost from_gives = { λ _ fail. fail ≡ Memory };
+
+    fn from(_want: AllocFailed<T>) -> JobFail {
+        JobFail::Memory
+    }
+}

@@ -1,0 +1,15 @@
+//! The words behind the program's name, and the job that they name.
+//!
+//! The contract: `read_job` gives a job exactly where the words name it, by the grammar of `specs/Jobs.antt`, and
+//! nothing but running out of memory stands in its place.
+#![tactic(auto)]
+
+mod chosen;
+mod job;
+mod numbers;
+mod options;
+mod reading;
+
+pub use job::{Job, JobFail};
+pub use options::ServeOption;
+pub use reading::read_job;

@@ -1,0 +1,45 @@
+//! The numbers among the values of options.
+
+ghost use Rattle.std.specs.Prelude.{◌≡◌, ◌≤◌, ◌^◌, ◌≢◌, ℕ, Option, IfSome, IfNone, Some, decimal, option_copied};
+ghost use Rattle.job_words.specs.Jobs.{IsCount, IsPort, NumberFrom1};
+
+use fics_words::read_number;
+
+/// The highest port.
+const MOST_PORT: u64 = 65_535;
+
+/// The most connections of one run: 2^31.
+const MOST_COUNT: u64 = 2_147_483_648;
+
+/// Reads the port, which has to be there: 1 to 65,535.
+pub(crate) fn read_port(text: Option<&str>) -> Option<u16>
+    ensures some { IfSome result (IsPort (option_copied text.entry)) }
+    ensures none { IfNone result ((port : ℕ) → IsPort (option_copied text.entry) port → ⊥) }
+{
+    let number = read_positive(text?, MOST_PORT)?;
+    Some(number as u16)
+}
+
+/// Reads the number of connections, where it is there: 1 to 2^31.
+pub(crate) fn read_count(text: Option<&str>) -> Option<Option<u64>>
+    ensures some { IfSome result (IsCount (option_copied text.entry)) }
+    ensures none { IfNone result ((count : Option ℕ) → IsCount (option_copied text.entry) count → ⊥) }
+{
+    let Some(text) = text else {
+        return Some(None);
+    };
+    let number = read_positive(text, MOST_COUNT)?;
+    Some(Some(number))
+}
+
+/// Reads a decimal from 1 to the limit.
+fn read_positive(text: &str, most: u64) -> Option<u64>
+    ensures some { IfSome result (NumberFrom1 most text.now) }
+    ensures none { IfNone result ((n : ℕ) → NumberFrom1 most text.now n → ⊥) }
+{
+    let number = read_number(text.as_bytes(), most)?;
+    if number == 0 {
+        return None;
+    }
+    Some(number)
+}

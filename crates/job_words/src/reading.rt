@@ -1,0 +1,78 @@
+//! The reading of the words.
+
+ghost use Rattle.std.specs.Prelude.{◌≡◌, ◌≢◌, ◌∷◌, ◌++◌, [], ℕ, List, Option, IfOk, IfErr, IfSome, IfNone, codes, map, string_bytes};
+ghost use Rattle.job_words.specs.Jobs.{AreOptions, Chosen, GivenValue, IsServe, Names, OnUsage, Tells, TextsName};
+ghost use Rattle.job_words.specs.declared.job.Job.{Job};
+
+use crate::chosen::Values;
+use crate::job::{Job, JobFail};
+use crate::numbers::{read_count, read_port};
+use crate::options::{Given, first_option};
+use std::alloc::Global;
+
+/// Where connections are taken where the words don't say it: at this machine alone.
+const HOME: &str = "127.0.0.1";
+
+/// Reads the words behind the program's name; `Usage` where they name no job.
+pub fn read_job(alloc: Global, words: &[String]) -> Result<Job, JobFail>
+    ensures job { IfOk result (Names words.now) }
+    ensures usage { IfErr result (λ fail. OnUsage fail ((job : Job) → Names words.now job → ⊥)) }
+{
+    let Some((first, rest)) = words.split_first() else {
+        return Err(JobFail::Usage);
+    };
+    let word = first.as_str();
+    if word == "serve" {
+        return read_serve(alloc, rest);
+    }
+    if !rest.is_empty() {
+        return Err(JobFail::Usage);
+    }
+    if word == "board" {
+        return Ok(Job::Board);
+    }
+    if word == "replay" {
+        return Ok(Job::Replay);
+    }
+    Err(JobFail::Usage)
+}
+
+/// Reads the options of `serve`.
+fn read_serve(alloc: Global, words: &[String]) -> Result<Job, JobFail>
+    ensures job { IfOk result (TextsName (codes "serve" ∷ map string_bytes words.now)) }
+    ensures usage { IfErr result (λ fail. OnUsage fail
+        ((port : ℕ) (bind : List ℕ) (count : Option ℕ) → IsServe (map string_bytes words.now) port bind count → ⊥)) }
+{
+    let Some(values) = read_options(words) else {
+        return Err(JobFail::Usage);
+    };
+    let Some(port) = read_port(values.port()) else {
+        return Err(JobFail::Usage);
+    };
+    let Some(count) = read_count(values.count()) else {
+        return Err(JobFail::Usage);
+    };
+    let bind = String::from_str(alloc, values.bind().unwrap_or(HOME))?;
+    Ok(Job::Serve { port, bind, count })
+}
+
+/// Reads options with their values, each at most once.
+fn read_options(words: &[String]) -> Option<Values<'_>>
+    ensures some { IfSome result (λ values. (given : List GivenValue) × AreOptions (map string_bytes words.now) given
+        × Tells given values) }
+    ensures none { IfNone result ((given : List GivenValue) (values : Chosen)
+        → AreOptions (map string_bytes words.now) given → Tells given values → ⊥) }
+{
+    let mut values = Values::new();
+    let mut rest = words;
+    while !rest.is_empty() {
+        let Some(given) = first_option(rest) else {
+            return None;
+        };
+        if !values.add(given.option, given.value) {
+            return None;
+        }
+        rest = given.rest;
+    }
+    Some(values)
+}

@@ -1,0 +1,30 @@
+//! Which command the words name.
+
+ghost use Rattle.std.specs.Prelude.{◌≡◌, IfOk, IfErr};
+ghost use Rattle.job_words.specs.Jobs.{OnUsage};
+ghost use Rattle.top_calls.specs.Words.{IsCommand, Names};
+
+use job_words::{Job, JobFail, read_job};
+use std::alloc::Global;
+
+/// A command of `run`.
+#[derive(Clone, Copy, Debug, PartialEq, Eq)]
+pub enum Command {
+    /// Reads move words, one a line, and answers each.
+    Board,
+    /// Reads a script of an evening, and writes its transcript.
+    Replay,
+}
+
+/// Reads the words. Those of a job that isn't done here are `Usage` too.
+pub(crate) fn read_command(alloc: Global, words: &[String]) -> Result<Command, JobFail>
+    ensures command { IfOk result (Names words.now) }
+    ensures usage { IfErr result (λ fail. OnUsage fail (¬ (IsCommand words.now))) }
+{
+    match read_job(alloc, words) {
+        Ok(Job::Board) => Ok(Command::Board),
+        Ok(Job::Replay) => Ok(Command::Replay),
+        Ok(Job::Serve { .. }) => Err(JobFail::Usage),
+        Err(fail) => Err(fail),
+    }
+}
