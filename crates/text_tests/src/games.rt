@@ -43,8 +43,7 @@ pub fn played(variant: Variant, words: &str) -> Option<Game> {
     })
 }
 
-/// The move of such a word.
-pub fn move_of(word: &[u8]) -> Option<Move> {
+fn move_of(word: &[u8]) -> Option<Move> {
     match word {
         b"O-O" => Some(Move::Castle { long: false }),
         b"O-O-O" => Some(Move::Castle { long: true }),
@@ -66,8 +65,7 @@ pub fn move_of(word: &[u8]) -> Option<Move> {
     }
 }
 
-/// The kind of man that a small letter names; a king is neither dropped nor promoted to.
-pub fn kind_of(letter: u8) -> Option<Kind> {
+fn kind_of(letter: u8) -> Option<Kind> {
     match letter {
         b'p' => Some(Kind::Pawn),
         b'n' => Some(Kind::Knight),
@@ -79,7 +77,7 @@ pub fn kind_of(letter: u8) -> Option<Kind> {
 }
 
 /// The square of a file's letter and a rank's digit.
-fn square(file: u8, rank: u8) -> Option<Square> {
+pub fn square(file: u8, rank: u8) -> Option<Square> {
     if !(b'a'..=b'h').contains(&file) || !(b'1'..=b'8').contains(&rank) {
         return None;
     }

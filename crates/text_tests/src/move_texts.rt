@@ -1,86 +1,9 @@
 //! The two texts of a move.
 
-use crate::games::{kind_of, move_of};
-use chess_model::{Kind, MoveText, Shown, State};
+use crate::games::square;
+use chess_model::{Kind, Move, MoveText, Shown, State};
 use move_writer::{pretty, verbose};
 use std::test::Fail;
-
-/// In each row the man, the move and its marks, and then the long and the short text. Of the marks `x` is a capture, `f`
-/// and `r` are the file and the rank of the origin, and `+`, `#` and `=` are check, mate and stalemate.
-const MOVES: &str = "\
-P e2e4 |P/e2-e4|e4
-P e2e4 +|P/e2-e4|e4+
-P e2e4 =|P/e2-e4|e4
-P e4d5 x|P/e4-d5|exd5
-P e7e8q |P/e7-e8=Q|e8=Q
-P e7e8n |P/e7-e8=N|e8=N
-P h2g1r x#|P/h2-g1=R|hxg1=R#
-P h2g1b x+|P/h2-g1=B|hxg1=B+
-P e2e4 fr|P/e2-e4|e4
-N b1d2 |N/b1-d2|Nd2
-N b1d2 f|N/b1-d2|Nbd2
-N b1d2 r|N/b1-d2|N1d2
-N b1d2 fr|N/b1-d2|Nb1d2
-N b1d2 xfr|N/b1-d2|Nb1xd2
-R a1a5 xr|R/a1-a5|R1xa5
-Q d8h4 #|Q/d8-h4|Qh4#
-Q d8h4 xfr+|Q/d8-h4|Qd8xh4+
-B f1c4 |B/f1-c4|Bc4
-K e1e2 |K/e1-e2|Ke2
-K O-O |o-o|O-O
-K O-O-O |o-o-o|O-O-O
-K O-O +|o-o|O-O+
-K O-O-O #|o-o-o|O-O-O#
-P P@e4 |P/@@-e4|P@e4
-N N@f7 #|N/@@-f7|N@f7#
-Q Q@a8 +|Q/@@-a8|Q@a8+";
-
-#[test]
-fn writes_moves(rt: HostRuntime) -> Result<(), Fail> {
-    for row in MOVES.lines() {
-        let (shown, texts) = row.split_once('|').ok_or("a move and its texts")?;
-        let (long, short) = texts.split_once('|').ok_or("two texts")?;
-        let shown = shown_of(shown).ok_or("a move")?;
-        assert_eq!(rt; long_text(&shown).bytes(), long.as_bytes(), "{row}");
-        assert_eq!(rt; short_text(&shown).bytes(), short.as_bytes(), "{row}");
-    }
-    Ok(())
-}
-
-/// What is shown of a move, as the front of a row says it.
-fn shown_of(text: &str) -> Option<Shown> {
-    let (man, text) = text.split_once(' ')?;
-    let (word, marks) = text.split_once(' ')?;
-    Some(Shown {
-        what: move_of(word.as_bytes())?,
-        kind: man_of(man)?,
-        takes: marks.contains('x'),
-        by_file: marks.contains('f'),
-        by_rank: marks.contains('r'),
-        after: state_of(marks),
-    })
-}
-
-fn man_of(letter: &str) -> Option<Kind> {
-    match letter.as_bytes() {
-        b"K" => Some(Kind::King),
-        [letter] => kind_of(letter.to_ascii_lowercase()),
-        _ => None,
-    }
-}
-
-fn state_of(marks: &str) -> State {
-    if marks.contains('+') {
-        return State::Check;
-    }
-    if marks.contains('#') {
-        return State::Mate;
-    }
-    if marks.contains('=') {
-        return State::Stalemate;
-    }
-    State::Safe
-}
 
 /// The verbose text, of which the tests know no more than what they read in it.
 fn long_text(shown: &Shown) -> MoveText {
@@ -90,4 +13,164 @@ fn long_text(shown: &Shown) -> MoveText {
 /// The pretty text, likewise.
 fn short_text(shown: &Shown) -> MoveText {
     pretty(shown)
+}
+
+/// A man that goes from a square to another, with no mark.
+fn goes(kind: Kind, from: &[u8; 2], to: &[u8; 2]) -> Option<Shown> {
+    becomes(kind, from, to, None)
+}
+
+/// The same, with what a pawn becomes.
+fn becomes(kind: Kind, from: &[u8; 2], to: &[u8; 2], promo: Option<Kind>) -> Option<Shown> {
+    Some(Shown {
+        what: Move::Plain {
+            from: square(from[0], from[1])?,
+            to: square(to[0], to[1])?,
+            promo,
+        },
+        kind,
+        takes: false,
+        by_file: false,
+        by_rank: false,
+        after: State::Safe,
+    })
+}
+
+fn castles(long: bool, after: State) -> Shown {
+    Shown {
+        what: Move::Castle { long },
+        kind: Kind::King,
+        takes: false,
+        by_file: false,
+        by_rank: false,
+        after,
+    }
+}
+
+fn dropped(kind: Kind, to: &[u8; 2], after: State) -> Option<Shown> {
+    Some(Shown {
+        what: Move::Drop {
+            kind,
+            to: square(to[0], to[1])?,
+        },
+        kind,
+        takes: false,
+        by_file: false,
+        by_rank: false,
+        after,
+    })
+}
+
+/// The same move with marks: a capture, the file and the rank of the origin.
+fn marked(shown: Shown, takes: bool, by_file: bool, by_rank: bool) -> Shown {
+    Shown {
+        takes,
+        by_file,
+        by_rank,
+        ..shown
+    }
+}
+
+fn leaves(shown: Shown, after: State) -> Shown {
+    Shown { after, ..shown }
+}
+
+#[test]
+fn writes_pawns(rt: HostRuntime) -> Result<(), Fail> {
+    let push = goes(Kind::Pawn, b"e2", b"e4").ok_or("a move")?;
+    let take = marked(
+        goes(Kind::Pawn, b"e4", b"d5").ok_or("a move")?,
+        true,
+        false,
+        false,
+    );
+    let queen = becomes(Kind::Pawn, b"e7", b"e8", Some(Kind::Queen)).ok_or("a move")?;
+    let knight = becomes(Kind::Pawn, b"e7", b"e8", Some(Kind::Knight)).ok_or("a move")?;
+    let rook = becomes(Kind::Pawn, b"h2", b"g1", Some(Kind::Rook)).ok_or("a move")?;
+    let rook = leaves(marked(rook, true, false, false), State::Mate);
+    let bishop = becomes(Kind::Pawn, b"h2", b"g1", Some(Kind::Bishop)).ok_or("a move")?;
+    let bishop = leaves(marked(bishop, true, false, false), State::Check);
+    let rows = [
+        (push, "P/e2-e4", "e4"),
+        (leaves(push, State::Check), "P/e2-e4", "e4+"),
+        (leaves(push, State::Stalemate), "P/e2-e4", "e4"),
+        (take, "P/e4-d5", "exd5"),
+        (queen, "P/e7-e8=Q", "e8=Q"),
+        (knight, "P/e7-e8=N", "e8=N"),
+        (rook, "P/h2-g1=R", "hxg1=R#"),
+        (bishop, "P/h2-g1=B", "hxg1=B+"),
+        // a pawn's marks of the origin mean nothing
+        (marked(push, false, true, true), "P/e2-e4", "e4"),
+    ];
+    for (shown, long, short) in rows {
+        assert_eq!(rt; long_text(&shown).bytes(), long.as_bytes());
+        assert_eq!(rt; short_text(&shown).bytes(), short.as_bytes());
+    }
+    Ok(())
+}
+
+#[test]
+fn writes_pieces(rt: HostRuntime) -> Result<(), Fail> {
+    let knight = goes(Kind::Knight, b"b1", b"d2").ok_or("a move")?;
+    let rook = goes(Kind::Rook, b"a1", b"a5").ok_or("a move")?;
+    let queen = goes(Kind::Queen, b"d8", b"h4").ok_or("a move")?;
+    let rows = [
+        (knight, "N/b1-d2", "Nd2"),
+        (marked(knight, false, true, false), "N/b1-d2", "Nbd2"),
+        (marked(knight, false, false, true), "N/b1-d2", "N1d2"),
+        (marked(knight, false, true, true), "N/b1-d2", "Nb1d2"),
+        (marked(knight, true, true, true), "N/b1-d2", "Nb1xd2"),
+        (marked(rook, true, false, true), "R/a1-a5", "R1xa5"),
+        (leaves(queen, State::Mate), "Q/d8-h4", "Qh4#"),
+        (
+            leaves(marked(queen, true, true, true), State::Check),
+            "Q/d8-h4",
+            "Qd8xh4+",
+        ),
+        (
+            goes(Kind::Bishop, b"f1", b"c4").ok_or("a move")?,
+            "B/f1-c4",
+            "Bc4",
+        ),
+        (
+            goes(Kind::King, b"e1", b"e2").ok_or("a move")?,
+            "K/e1-e2",
+            "Ke2",
+        ),
+    ];
+    for (shown, long, short) in rows {
+        assert_eq!(rt; long_text(&shown).bytes(), long.as_bytes());
+        assert_eq!(rt; short_text(&shown).bytes(), short.as_bytes());
+    }
+    Ok(())
+}
+
+#[test]
+fn writes_castlings_and_drops(rt: HostRuntime) -> Result<(), Fail> {
+    let rows = [
+        (castles(false, State::Safe), "o-o", "O-O"),
+        (castles(true, State::Safe), "o-o-o", "O-O-O"),
+        (castles(false, State::Check), "o-o", "O-O+"),
+        (castles(true, State::Mate), "o-o-o", "O-O-O#"),
+        (
+            dropped(Kind::Pawn, b"e4", State::Safe).ok_or("a drop")?,
+            "P/@@-e4",
+            "P@e4",
+        ),
+        (
+            dropped(Kind::Knight, b"f7", State::Mate).ok_or("a drop")?,
+            "N/@@-f7",
+            "N@f7#",
+        ),
+        (
+            dropped(Kind::Queen, b"a8", State::Check).ok_or("a drop")?,
+            "Q/@@-a8",
+            "Q@a8+",
+        ),
+    ];
+    for (shown, long, short) in rows {
+        assert_eq!(rt; long_text(&shown).bytes(), long.as_bytes());
+        assert_eq!(rt; short_text(&shown).bytes(), short.as_bytes());
+    }
+    Ok(())
 }

@@ -2,7 +2,7 @@
 
 use crate::commands::{read, read_rows};
 use command_words::Aliases;
-use fics_words::{Fail as Failed, NoMemory};
+use fics_words::{Fail as Failed, Refusal};
 use std::test::Fail;
 
 /// The aliases of a player: a name and a text in each row.
@@ -80,90 +80,39 @@ fn a_line_after_its_alias_has_1023_bytes_at_most(rt: HostRuntime) -> Result<(), 
     Ok(())
 }
 
-/// What is done one after another: setting a name for a text, or unsetting it; and the number of its refusal, or 0. A
-/// name that is there is set anew also where there are 32.
-const STEPS: &str = "\
-set||flag|28
-set|abcdefghijklmnop|flag|28
-set|Go|flag|28
-set|go2|flag|28
-set|a b|flag|28
-set|go||28
-set|go|a\tb|28
-set|a|quit|0
-set|b|quit|0
-set|c|quit|0
-set|d|quit|0
-set|e|quit|0
-set|f|quit|0
-set|g|quit|0
-set|h|quit|0
-set|i|quit|0
-set|j|quit|0
-set|k|quit|0
-set|l|quit|0
-set|m|quit|0
-set|n|quit|0
-set|o|quit|0
-set|p|quit|0
-set|q|quit|0
-set|r|quit|0
-set|s|quit|0
-set|t|quit|0
-set|u|quit|0
-set|v|quit|0
-set|w|quit|0
-set|x|quit|0
-set|y|quit|0
-set|z|quit|0
-set|xa|quit|0
-set|xb|quit|0
-set|xc|quit|0
-set|xd|quit|0
-set|xe|quit|0
-set|xf|quit|0
-set|more|quit|40
-set|xf|flag|0
-unset|more||52
-unset|a||0
-unset|a||52
-set|more|quit|0";
+/// Names and texts that make no alias.
+const REFUSED: &str = "\
+|flag
+abcdefghijklmnop|flag
+Go|flag
+go2|flag
+a b|flag
+go|
+go|a\tb";
 
 #[test]
 fn a_player_has_32_aliases_at_most(rt: HostRuntime) -> Result<(), Fail> {
     let mut aliases = Aliases::new(rt.alloc());
-    for row in STEPS.lines() {
-        let mut fields = row.split('|');
-        let step = fields.next().ok_or("a step")?;
-        let name = fields.next().ok_or("a name")?.as_bytes();
-        let text = fields.next().ok_or("a text")?.as_bytes();
-        let wanted: u8 = fields.next().ok_or("a number")?.parse()?;
-        let number = if step == "set" {
-            set(&mut aliases, name, text)?
-        } else {
-            unset(&mut aliases, name)
-        };
-        assert_eq!(rt; number, wanted, "{row}");
+    for row in REFUSED.lines() {
+        let (name, text) = row.split_once('|').ok_or("a name and a text")?;
+        let set = aliases.set(name.as_bytes(), text.as_bytes());
+        assert_eq!(rt; set, Err(Failed::Refused(Refusal::BadArguments)), "{row}");
     }
+    for letter in b'a'..=b'z' {
+        assert_eq!(rt; aliases.set(&[letter], b"quit"), Ok(()));
+    }
+    for letter in b'a'..=b'f' {
+        assert_eq!(rt; aliases.set(&[b'x', letter], b"quit"), Ok(()));
+    }
+    let full = Err(Failed::Refused(Refusal::ListFull));
+    assert_eq!(rt; aliases.set(b"more", b"quit"), full);
+    // one that is there is replaced
+    assert_eq!(rt; aliases.set(b"xf", b"flag"), Ok(()));
+    assert_eq!(rt; aliases.unset(b"more"), Err(Refusal::NotOnList));
+    assert_eq!(rt; aliases.unset(b"a"), Ok(()));
+    assert_eq!(rt; aliases.set(b"more", b"quit"), Ok(()));
     let text = aliases.get(b"xf").ok_or("an alias")?.text.bytes();
     assert_eq!(rt; text, b"flag".as_slice());
     assert!(rt; aliases.get(b"XF").is_none());
     Ok(())
-}
-
-/// Sets the alias, and gives the number of the refusal, or 0.
-fn set(aliases: &mut Aliases, name: &[u8], text: &[u8]) -> Result<u8, NoMemory> {
-    match aliases.set(name, text) {
-        Ok(()) => Ok(0),
-        Err(Failed::Refused(refusal)) => Ok(refusal.number()),
-        Err(Failed::Memory) => Err(NoMemory),
-    }
-}
-
-/// Unsets the alias, and gives the number of the refusal, or 0.
-fn unset(aliases: &mut Aliases, name: &[u8]) -> u8 {
-    match aliases.unset(name) {
-        Ok(()) => 0,
-        Err(refusal) => refusal.number(),
-    }
 }

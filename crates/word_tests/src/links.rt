@@ -11,20 +11,17 @@ fn gives_its_steps(rt: HostRuntime) -> Result<(), Fail> {
     steps.push(LinkStep::Piece(Vec::new(rt.alloc())))?;
     steps.push(LinkStep::Piece(Vec::from_slice(rt.alloc(), b"fg")?))?;
     let mut link = MemLink::new(rt.alloc(), steps, Vec::new(rt.alloc()));
+    let mut buf = [0; 3];
     assert_eq!(rt; link.write(b"hello"), Sent::All);
-    let reads: [(Heard, &[u8]); 6] = [
-        (Heard::Bytes(3), b"abc"),
-        (Heard::Bytes(2), b"de"),
-        (Heard::Quiet, b""),
-        (Heard::Bytes(2), b"fg"),
-        (Heard::End, b""),
-        (Heard::End, b""),
-    ];
-    for (heard, bytes) in reads {
-        let mut buf = [0; 3];
-        assert_eq!(rt; link.read(&mut buf), heard);
-        assert!(rt; buf.starts_with(bytes));
-    }
+    assert_eq!(rt; link.read(&mut buf), Heard::Bytes(3));
+    assert_eq!(rt; &buf, b"abc");
+    assert_eq!(rt; link.read(&mut buf), Heard::Bytes(2));
+    assert_eq!(rt; &buf[..2], b"de".as_slice());
+    assert_eq!(rt; link.read(&mut buf), Heard::Quiet);
+    assert_eq!(rt; link.read(&mut buf), Heard::Bytes(2));
+    assert_eq!(rt; &buf[..2], b"fg".as_slice());
+    assert_eq!(rt; link.read(&mut buf), Heard::End);
+    assert_eq!(rt; link.read(&mut buf), Heard::End);
     assert_eq!(rt; link.write(b" again"), Sent::All);
     link.close();
     assert_eq!(rt; link.written(), b"hello again".as_slice());

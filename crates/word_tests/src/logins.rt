@@ -37,35 +37,30 @@ fn digests_are_those_of_the_standard(rt: HostRuntime) -> Result<(), Fail> {
     Ok(())
 }
 
-/// What is found for a handle with this password; with none where it is empty.
-fn found(rt: &impl Abort, accounts: &Accounts, name: &[u8], password: &[u8]) -> Check {
-    let digest = if password.is_empty() {
-        None
-    } else {
-        Some(digest_of(password))
-    };
-    accounts.check(key(rt, name), digest)
-}
-
 #[test]
 fn an_account_guards_its_handle(rt: HostRuntime) -> Result<(), Fail> {
     let mut accounts = Accounts::new(rt.alloc());
-    for password in [b"".as_slice(), b"abc".as_slice()] {
-        assert_eq!(rt; found(&rt, &accounts, b"ann", password), Check::Free);
-    }
     let ann = Handle::read(b"Ann").expect(&rt, "a handle");
+    assert_eq!(rt; accounts.check(key(&rt, b"ann"), None), Check::Free);
+    assert_eq!(rt;
+        accounts.check(key(&rt, b"ann"), Some(digest_of(b"abc"))),
+        Check::Free
+    );
     assert_eq!(rt; accounts.add(ann, digest_of(b"abc")), Ok(()));
-    let rows: [(&[u8], &[u8], Check); 4] = [
-        (b"ANN", b"", Check::NeedPassword),
-        (b"ann", b"abd", Check::Wrong),
-        (b"aNn", b"abc", Check::Right),
-        (b"anna", b"", Check::Free),
-    ];
-    for (name, password, wanted) in rows {
-        assert_eq!(rt; found(&rt, &accounts, name, password), wanted);
-    }
-    let other = Handle::read(b"aNN").expect(&rt, "a handle");
-    let twice = accounts.add(other, digest_of(b"x y "));
+    assert_eq!(rt; accounts.check(key(&rt, b"ANN"), None), Check::NeedPassword);
+    assert_eq!(rt;
+        accounts.check(key(&rt, b"ann"), Some(digest_of(b"abd"))),
+        Check::Wrong
+    );
+    assert_eq!(rt;
+        accounts.check(key(&rt, b"aNn"), Some(digest_of(b"abc"))),
+        Check::Right
+    );
+    assert_eq!(rt; accounts.check(key(&rt, b"anna"), None), Check::Free);
+    let twice = accounts.add(
+        Handle::read(b"aNN").expect(&rt, "a handle"),
+        digest_of(b"x y "),
+    );
     assert_eq!(rt; twice, Err(Refused::Refused(Refusal::AlreadyRegistered)));
     assert_eq!(rt; accounts.rows().len(), 1);
     assert_eq!(rt; accounts.rows()[0].name.letters(), b"Ann".as_slice());
