@@ -1,7 +1,7 @@
 -- What a charge takes off a clock (FICS timeseal: a player isn't charged for the time that lines are on their way).
-use Rattle.std.specs.Prelude.{ℕ, ◌-◌, ◌^◌, ◌<◌, ◌≤◌, min, Option, Some, None}
+use Rattle.std.specs.Prelude.{ℕ, ◌-◌, ◌^◌, ◌≤◌, min, Option, Some, None}
 use Rattle.clock_ledger.specs.declared.charges.Charge.{Charge}
-use Rattle.clock_ledger.specs.Span.{span, stamp_cycle}
+use Rattle.clock_ledger.specs.Span.{span, IsStamp}
 
 -- the time that passed, or the client's span where it is stamped and less
 abbrev pub least : ℕ → Option (ℕ × ℕ) → ℕ
@@ -12,10 +12,10 @@ least passed (Some stamps) = min passed (span stamps.0 stamps.1)
 abbrev pub amount : Charge → ℕ
 amount c = least (c.end - c.begin) c.client
 
--- a client's stamps are below the cycle
+-- the two stamps of a charge, where it has them, are stamps
 abbrev pub AreStamps : Option (ℕ × ℕ) → Type 0
 AreStamps None = Unit {0}
-AreStamps (Some stamps) = (stamps.0 < stamp_cycle) × (stamps.1 < stamp_cycle)
+AreStamps (Some stamps) = IsStamp stamps.0 × IsStamp stamps.1
 
 -- a charge that may be made: its moments follow one another and stay below the last moment that the server knows
 pub record IsChargeable (c : Charge) : Type 0 where

@@ -1,6 +1,6 @@
 -- The tests of handles, texts and names say what the words' own definitions say.
-use Rattle.std.proofs.Common.{◌≡◌, ℕ, ◌<◌, ◌≤◌, Bool, true, false, cond, List, [], ◌∷◌, length, refl, sym, ap, subst, ◌∙◌, arith, Some, None, inl, inr}
-use Rattle.std.specs.Prelude.{◌⊎◌, ◌&&◌, ◌||◌, nat_le, Option, SomeIff, All}
+use Rattle.std.proofs.Common.{◌≡◌, ℕ, ◌≤◌, Bool, true, false, cond, List, [], ◌∷◌, length, refl, sym, ap, ◌∙◌, arith, Some, None, inl, inr}
+use Rattle.std.specs.Prelude.{◌⊎◌, ◌&&◌, ◌||◌, nat_le, Option, SomeIff}
 use Rattle.std.specs.List.{list_all, AllByRecursion}
 use Rattle.std.specs.Char.{IsAsciiAlphabetic}
 use Rattle.std.proofs.lemmas.Bool.Decides.{nat_tests}
@@ -10,18 +10,18 @@ use Rattle.fics_words.specs.Line.{IsLine, IsPrintable}
 use Rattle.command_words.specs.Texts.{is_text, is_handle, handle_of}
 use Rattle.command_words.specs.Aliases.{is_alias_name}
 
-both_true : (a b : Bool) → a && b ≡ true → (a ≡ true) × (b ≡ true)
+pub both_true : (a b : Bool) → a && b ≡ true → (a ≡ true) × (b ≡ true)
 both_true true b e = (refl, e)
 both_true false b e = absurd (let bad : false ≡ true = e in cc)
 
-true_both : (a b : Bool) → a ≡ true → b ≡ true → a && b ≡ true
+pub true_both : (a b : Bool) → a ≡ true → b ≡ true → a && b ≡ true
 true_both true b p q = q
 true_both false b p q = p
 
-at_least : (a b : ℕ) → nat_le a b ≡ true → a ≤ b
+pub at_least : (a b : ℕ) → nat_le a b ≡ true → a ≤ b
 at_least a b h = grind (arith, nat_tests)
 
-is_at_least : (a b : ℕ) → a ≤ b → nat_le a b ≡ true
+pub is_at_least : (a b : ℕ) → a ≤ b → nat_le a b ≡ true
 is_at_least a b h = grind (arith, nat_tests)
 
 within : (lo hi b : ℕ) → (nat_le lo b && nat_le b hi) ≡ true → (lo ≤ b) × (b ≤ hi)

@@ -1,3 +1,6 @@
 pub mod CommandOfLine
+pub mod Decimals
 pub mod Forms
+pub mod Parts
+pub mod TermParts
 pub mod WordsOfText

@@ -1,10 +1,10 @@
 -- Aliases: short names for texts that a player types often. This server's own.
-use Rattle.std.specs.Prelude.{◌≡◌, ℕ, ◌-◌, ◌==◌, nat_le, ◌&&◌, ◌||◌, not, bytes_eq, if◌then◌else◌, Bool, true, List, [], ◌∷◌, ◌++◌, length, Option, Some, None, is_some, is_none, find, position, slice_set, remove, codes, refl}
+use Rattle.std.specs.Prelude.{◌≡◌, ℕ, ◌-◌, ◌==◌, nat_le, ◌&&◌, ◌||◌, not, bytes_eq, if◌then◌else◌, Bool, true, List, [], ◌∷◌, ◌++◌, length, Option, Some, None, is_none, find, position, slice_set, codes, refl}
 use Rattle.std.specs.List.{list_all, list_any}
 use Rattle.fics_words.specs.Effect.{Effect}
 use Rattle.fics_words.specs.declared.refusal.Refusal.TheVariants.{BadArguments, ListFull}
 use Rattle.command_words.specs.declared.aliases.Alias.{Alias}
-use Rattle.command_words.specs.Blanks.{first_word, rest_of, word_at}
+use Rattle.command_words.specs.Blanks.{word_at}
 use Rattle.command_words.specs.Texts.{is_text}
 
 -- an alias's name is 1 to 15 lower-case letters

@@ -1,5 +1,6 @@
 -- Words of a line: what stands between its blanks. A blank is the space alone.
-use Rattle.std.specs.Prelude.{◌≡◌, ℕ, zero, suc, ◌-◌, ◌==◌, not, Bool, unwrap_or, position, List, length, take, drop, reverse, codes, refl}
+use Rattle.std.specs.Prelude.{◌≡◌, ℕ, zero, suc, ◌-◌, ◌==◌, not, Bool, true, false, unwrap_or, position, List, [], ◌∷◌, length, take, drop, reverse, codes, refl}
+use Rattle.std.specs.List.{filter, slice_split}
 
 abbrev pub is_blank : ℕ → Bool
 is_blank b = b == 32
@@ -51,3 +52,24 @@ example_rest = refl
 
 example_no_word : word_at 3 (codes "tell  bob hi") ≡ codes ""
 example_no_word = refl
+
+-- some words, in their order
+abbrev pub Words : Type 0
+Words = List (List ℕ)
+
+-- a part between two blanks, or at an end of a text, is a word unless nothing stands there
+abbrev pub is_word : List ℕ → Bool
+is_word [] = false
+is_word (b ∷ part) = true
+
+-- all the words of a text
+unfoldable pub words_of : List ℕ → Words
+words_of text = filter is_word (slice_split is_blank text)
+
+example_words : words_of (codes "  bob  5 0 ") ≡ codes "bob" ∷ codes "5" ∷ codes "0" ∷ []
+unfolding words_of
+example_words = refl
+
+example_no_words : words_of (codes "   ") ≡ []
+unfolding words_of
+example_no_words = refl

@@ -3,8 +3,12 @@ pub mod Aliases
 pub mod Blanks
 pub mod Commands
 pub mod Flag
+pub mod Match
+pub mod Numbers
 pub mod Quit
 pub mod Register
 pub mod Resign
+pub mod TermReading
+pub mod TermWords
 pub mod Texts
 pub mod Verbs

@@ -4,16 +4,17 @@ use Rattle.std.specs.List.{starts_with}
 use Rattle.fics_words.specs.declared.refusal.Refusal.{Refusal}
 use Rattle.fics_words.specs.declared.refusal.Refusal.TheVariants.{Unknown, AmbiguousWord}
 use Rattle.command_words.specs.declared.verbs.Verb.{Verb}
-use Rattle.command_words.specs.declared.verbs.Verb.TheVariants.{Accept, Flag, Quit, Register, Resign}
+use Rattle.command_words.specs.declared.verbs.Verb.TheVariants.{Accept, Flag, Match, Quit, Register, Resign}
 
 -- the commands
 abbrev pub verbs : List Verb
-verbs = Accept ∷ Flag ∷ Quit ∷ Register ∷ Resign ∷ []
+verbs = Accept ∷ Flag ∷ Match ∷ Quit ∷ Register ∷ Resign ∷ []
 
 -- a command's name
 abbrev pub name_of : Verb → List ℕ
 name_of Accept = codes "accept"
 name_of Flag = codes "flag"
+name_of Match = codes "match"
 name_of Quit = codes "quit"
 name_of Register = codes "register"
 name_of Resign = codes "resign"
@@ -21,6 +22,7 @@ name_of Resign = codes "resign"
 -- a command's short form; its name where it has none
 abbrev pub short_of : Verb → List ℕ
 short_of Accept = codes "a"
+short_of Match = codes "m"
 short_of verb = name_of verb
 
 -- the word is the command's name or its short form

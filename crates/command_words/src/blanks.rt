@@ -1,7 +1,7 @@
 //! Words of a line, between its blanks.
 
-ghost use Rattle.std.specs.Prelude.{◌≡◌, ◌≤◌, ◌<◌, IfSome, not, length, position, reverse};
-ghost use Rattle.command_words.specs.Blanks.{is_blank, blanks_of, behind_blanks, before_blanks, trimmed, word_length, first_word, rest_of, word_at};
+ghost use Rattle.std.specs.Prelude.{◌≡◌, ◌≤◌, ◌<◌, IfSome, IfNone, ◌∷◌, [], not, length, position, reverse};
+ghost use Rattle.command_words.specs.Blanks.{is_blank, blanks_of, behind_blanks, before_blanks, trimmed, word_length, first_word, rest_of, word_at, words_of};
 
 /// The text without blanks at its ends.
 pub(crate) fn trimmed(text: &[u8]) -> &[u8]
@@ -37,6 +37,18 @@ pub(crate) fn word_at(number: u8, text: &[u8]) -> &[u8]
         left -= 1;
     }
     first_word(rest)
+}
+
+/// The first word of the text, and the text behind it; `None` where there is no word.
+pub(crate) fn cut_word(text: &[u8]) -> Option<(&[u8], &[u8])>
+    ensures word { IfSome result (λ cut. words_of text.now ≡ cut.0.now ∷ words_of cut.1.now) }
+    ensures none { IfNone result (words_of text.now ≡ []) }
+{
+    let text = behind_blanks(text);
+    if text.is_empty() {
+        return None;
+    }
+    Some((first_word(text), rest_of(text)))
 }
 
 /// The text behind the blanks with which it begins.

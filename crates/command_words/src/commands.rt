@@ -2,6 +2,7 @@
 
 pub(crate) mod accept;
 pub(crate) mod flag;
+pub(crate) mod matching;
 pub(crate) mod quit;
 pub(crate) mod register;
 pub(crate) mod resign;

@@ -11,9 +11,13 @@ mod blanks;
 mod command;
 mod commands;
 mod expansion;
+mod laws;
+mod numbers;
 mod reading;
+mod terms;
 mod verbs;
 
 pub use aliases::{Alias, Aliases};
 pub use command::Command;
+pub use laws::terms_are_read_as_spelled;
 pub use reading::read_command;

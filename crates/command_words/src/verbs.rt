@@ -10,15 +10,17 @@ use fics_words::Refusal;
 pub enum Verb {
     Accept,
     Flag,
+    Match,
     Quit,
     Register,
     Resign,
 }
 
 /// The commands.
-pub const VERBS: [Verb; 5] = [
+pub const VERBS: [Verb; 6] = [
     Verb::Accept,
     Verb::Flag,
+    Verb::Match,
     Verb::Quit,
     Verb::Register,
     Verb::Resign,
@@ -97,6 +99,7 @@ fn name_of(verb: Verb) -> &'static [u8]
     match verb {
         Verb::Accept => b"accept",
         Verb::Flag => b"flag",
+        Verb::Match => b"match",
         Verb::Quit => b"quit",
         Verb::Register => b"register",
         Verb::Resign => b"resign",
@@ -109,6 +112,7 @@ fn short_of(verb: Verb) -> &'static [u8]
 {
     match verb {
         Verb::Accept => b"a",
+        Verb::Match => b"m",
         _ => name_of(verb),
     }
 }

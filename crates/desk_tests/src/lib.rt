@@ -9,4 +9,6 @@ mod refused;
 #[cfg(test)]
 mod shown;
 #[cfg(test)]
+mod stamped;
+#[cfg(test)]
 mod table;

@@ -19,6 +19,7 @@ fn refusals_of_a_running_game(rt: HostRuntime) {
     let mut desk = desk_with_game(&rt, rt.alloc(), 1, 0);
     let at_another_game = [
         refused(ANN, Does::Move("e2e4"), Refusal::NotPlaying),
+        refused(ANN, Does::Acked(1_000), Refusal::NotPlaying),
         refused(ANN, Does::Resign, Refusal::NotPlaying),
         refused(ANN, Does::Fetch, Refusal::NotWatching),
     ];
@@ -28,6 +29,7 @@ fn refusals_of_a_running_game(rt: HostRuntime) {
     );
     let at_the_game = [
         refused(STRANGER, Does::Move("e2e4"), Refusal::NotPlaying),
+        refused(STRANGER, Does::Acked(1_000), Refusal::NotPlaying),
         refused(BEN, Does::Move("e7e5"), Refusal::NotYourTurn),
         refused(ANN, Does::Move("e2e5"), Refusal::CannotReach),
         refused(ANN, Does::Move("e3e4"), Refusal::NoPiece),
@@ -66,6 +68,8 @@ fn refusals_after_the_end(rt: HostRuntime) {
         refused(ANN, Does::Move("e2e4"), Refusal::GameOver),
         refused(ANN, Does::Resign, Refusal::GameOver),
         refused(ANN, Does::Flag, Refusal::GameOver),
+        Step(0, ANN, Does::Acked(1_000), Given::Done),
+        refused(STRANGER, Does::Acked(1_000), Refusal::NotPlaying),
     ];
     assert_eq!(rt; first_failing(&mut desk, SERIAL, &steps), None);
 }
@@ -75,6 +79,7 @@ fn refusals_of_a_vacant_desk(rt: HostRuntime) {
     let mut desk = Desk::vacant(128);
     let steps = [
         refused(ANN, Does::Move("e2e4"), Refusal::NotPlaying),
+        refused(ANN, Does::Acked(1_000), Refusal::NotPlaying),
         refused(ANN, Does::Resign, Refusal::NotPlaying),
         refused(ANN, Does::Flag, Refusal::NotPlaying),
         refused(ANN, Does::Fetch, Refusal::NotWatching),

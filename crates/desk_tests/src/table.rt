@@ -1,6 +1,10 @@
 //! A desk with two players, and steps at it, each with what it has to be given.
+ghost use Rattle.std.specs.Prelude.{IfSome};
+ghost use Rattle.clock_ledger.specs.Span.{IsStamp};
+ghost use Rattle.linked_desk.specs.Acts.{FitsDeskAct};
 
 use chess_model::{MoveWord, Square, Terms, Variant};
+use clock_ledger::STAMP_CYCLE;
 use fics_words::{Fail, Handle, Opponents, Player, Refusal, Seats};
 use linked_desk::{Desk, DeskAct, DeskReply, Ended};
 use std::alloc::Global;
@@ -21,6 +25,10 @@ pub const STRANGER: u32 = 3;
 pub enum Does {
     /// Moves by two squares, as `e2e4`.
     Move(&'static str),
+    /// Moves, with the client's stamp.
+    Stamped(&'static str, u32),
+    /// Its client acknowledges the board with this stamp.
+    Acked(u32),
     Resign,
     Flag,
     Fetch,
@@ -34,7 +42,7 @@ pub enum Given {
     /// So many items, and whether the game is over.
     Items(usize, bool),
     Refused(Refusal),
-    /// Running out of memory, or a word that the tests can't read.
+    /// Running out of memory, a word that the tests can't read, or a stamp that is none.
     Nothing,
 }
 
@@ -89,14 +97,16 @@ fn what_comes(desk: &mut Desk, serial: u64, step: &Step) -> Given {
     }
 }
 
-/// Makes an act. It has no clauses, so that nothing above it is proved over what an act does.
+/// Makes an act. It ensures nothing, so that nothing above it is proved over what an act does.
 fn acted(
     desk: &mut Desk,
     session: u32,
     moment: u32,
     serial: u64,
     act: &DeskAct,
-) -> Result<DeskReply, Fail> {
+) -> Result<DeskReply, Fail>
+    requires { FitsDeskAct act.now }
+{
     desk.act(session, u64::from(moment), serial, act)
 }
 
@@ -115,9 +125,15 @@ fn of_reply(reply: &DeskReply) -> Given {
     }
 }
 
-fn act_of(does: Does) -> Option<DeskAct> {
+fn act_of(does: Does) -> Option<DeskAct>
+    ensures { IfSome result FitsDeskAct }
+{
     match does {
-        Does::Move(text) => move_of(text.as_bytes()),
+        Does::Move(text) => move_of(text.as_bytes(), None),
+        Does::Stamped(text, stamp) => move_of(text.as_bytes(), Some(stamp_of(stamp)?)),
+        Does::Acked(stamp) => Some(DeskAct::Acked {
+            stamp: stamp_of(stamp)?,
+        }),
         Does::Resign => Some(DeskAct::Resign),
         Does::Flag => Some(DeskAct::Flag),
         Does::Fetch => Some(DeskAct::Fetch),
@@ -125,7 +141,21 @@ fn act_of(does: Does) -> Option<DeskAct> {
     }
 }
 
-fn move_of(text: &[u8]) -> Option<DeskAct> {
+/// The number as a client's stamp.
+fn stamp_of(number: u32) -> Option<u32>
+    ensures { IfSome result IsStamp }
+{
+    if number < STAMP_CYCLE {
+        Some(number)
+    } else {
+        None
+    }
+}
+
+fn move_of(text: &[u8], stamp: Option<u32>) -> Option<DeskAct>
+    requires { IfSome stamp IsStamp }
+    ensures { IfSome result FitsDeskAct }
+{
     let [a, b, c, d] = text else {
         return None;
     };
@@ -134,7 +164,7 @@ fn move_of(text: &[u8]) -> Option<DeskAct> {
         to: square(*c, *d)?,
         promo: None,
     };
-    Some(DeskAct::Move { word })
+    Some(DeskAct::Move { word, stamp })
 }
 
 fn square(file: u8, rank: u8) -> Option<Square> {

@@ -1,11 +1,12 @@
 -- The last half-move of a list with one half-move more, and the charge that it may have.
 use Rattle.std.proofs.Common.{◌≡◌, ℕ, ◌-◌, ◌≤◌, ◌^◌, ◌&&◌, Bool, true, false, if◌then◌else◌, List, [], ◌∷◌, ◌++◌, length, take, Option, Some, None, IfSome, refl, ap, ◌∙◌, length-append, subst, All, get_or, arith}
 use Rattle.std.specs.Prelude.{slice_get}
-use Rattle.std.specs.Option.{option_map}
+use Rattle.std.specs.Option.{option_map, option_zip}
 use Rattle.std.proofs.Math.Seq.{take-append_seam}
 use Rattle.chess_model.specs.declared.variant.Variant.{Variant}
 use Rattle.chess_model.specs.Position.{position_after}
-use Rattle.clock_ledger.specs.Charges.{IsChargeable}
+use Rattle.clock_ledger.specs.Charges.{AreStamps, IsChargeable}
+use Rattle.clock_ledger.specs.Span.{IsStamp}
 use Rattle.move_writer.specs.Face.{plain_shown_of}
 use Rattle.game_board.specs.declared.played.Played.{Played}
 use Rattle.game_board.specs.Board.{Board, half_moves, to_move, has_moved}
@@ -35,11 +36,18 @@ last_shown-append v number list p =
 pub All-one : {X : Type 0} (P : X → Type 0) (x : X) → P x → All P (x ∷ [])
 All-one P x holds = λ k d h. let first : 0 ≡ k = omega arith in subst (λ n. P (get_or (x ∷ []) n d)) first holds
 
+-- the client's two times, where both are there, are stamps
+pub AreStamps-zip : (kept stamp : Option ℕ) → IfSome kept IsStamp → IfSome stamp IsStamp → AreStamps (option_zip kept stamp)
+AreStamps-zip None stamp k s = tt
+AreStamps-zip (Some seen) None k s = tt
+AreStamps-zip (Some seen) (Some made) k s = (k, s)
+
 -- a half-move that is made after the beginning has a sound charge, if it has one
-pub IsChargeable-next : (b : Board) (moment : ℕ) → b.begin ≤ moment → moment ≤ 2 ^ 48 → IfSome (next_charge b moment) IsChargeable
-IsChargeable-next b moment order most =
-    let P : Bool → Type 0 = λ t. IfSome (if t then Some (record { begin = b.begin; end = moment; client = None }) else None) IsChargeable in
+pub IsChargeable-next : (b : Board) (moment : ℕ) (stamp : Option ℕ) → b.begin ≤ moment → moment ≤ 2 ^ 48 → IfSome b.kept IsStamp → IfSome stamp IsStamp →
+    IfSome (next_charge b moment stamp) IsChargeable
+IsChargeable-next b moment stamp order most kept stamped =
+    let P : Bool → Type 0 = λ t. IfSome (if t then Some (record { begin = b.begin; end = moment; client = option_zip b.kept stamp }) else None) IsChargeable in
     elim (is_timed b.terms && has_moved (to_move b) b.list) as P [
-      | true ↦ record { ordered = order; timely = most; stamped = tt }
+      | true ↦ record { ordered = order; timely = most; stamped = AreStamps-zip b.kept stamp kept stamped }
       | false ↦ tt
     ]

@@ -12,12 +12,15 @@ use Rattle.chess_model.specs.declared.moves.Rejection.{Rejection}
 use Rattle.chess_model.specs.declared.variant.Terms.{Terms}
 use Rattle.chess_model.specs.Allowed.{Allowed}
 use Rattle.chess_model.specs.Position.{Position}
-use Rattle.std.specs.Option.{option_map_or}
+use Rattle.std.specs.Option.{option_map_or, option_zip}
 use Rattle.clock_ledger.specs.declared.charges.Charge.{Charge}
-use Rattle.clock_ledger.specs.Charges.{amount}
+use Rattle.clock_ledger.specs.Charges.{amount, AreStamps}
 use Rattle.clock_ledger.specs.Clock.{start_of}
+use Rattle.clock_ledger.specs.Span.{IsStamp}
 use Rattle.fics_words.specs.declared.refusal.Refusal.{Refusal}
 use Rattle.game_board.specs.declared.played.Played.{Played}
+use Rattle.chess_model.specs.Holdings.{same_colour}
+use Rattle.game_board.specs.Acked.{acknowledged}
 use Rattle.game_board.specs.Board.{Board, new_board, to_move, mover_after, position_of, has_moved}
 use Rattle.game_board.specs.Charges.{charges_of, is_timed, remaining_of}
 use Rattle.game_board.specs.Causes.{in_words}
@@ -26,7 +29,7 @@ use Rattle.chess_model.specs.WordAnswer.{IsWordAnswer, word_answer}
 use Rattle.chess_model.proofs.WordsDecide.{word_answer-holds}
 use Rattle.game_board.specs.Scoresheet.{DontFall, IsCharged, IsTrueScore}
 use Rattle.game_board.proofs.Grown.{IsLegal-grown}
-use Rattle.game_board.proofs.LastPlayed.{slice_get-append_end}
+use Rattle.game_board.proofs.LastPlayed.{slice_get-append_end, AreStamps-zip}
 use Rattle.game_board.proofs.Legal.{IsLegal-empty}
 
 -- an item of a list with one item more is one of the list, or that item
@@ -84,35 +87,39 @@ has_moved-mover (p ∷ []) = (λ h. absurd cc, λ h. absurd (omega arith))
 has_moved-mover (p ∷ q ∷ more) = (λ h. omega arith, λ h. has_moved-two (mover_after (p ∷ q ∷ more)) p q more)
 
 -- the charge where the game is timed and the colour has moved, and none elsewhere
-abbrev charge_if : Bool → Bool → ℕ → ℕ → Option Charge
-charge_if timed moved begin end = if timed && moved then Some (record { begin = begin; end = end; client = None }) else None
+abbrev charge_if : Bool → Bool → ℕ → ℕ → Option (ℕ × ℕ) → Option Charge
+charge_if timed moved begin end client = if timed && moved then Some (record { begin = begin; end = end; client = client }) else None
 
 no : false ≡ true → ⊥
 no e = cc
 
 -- so the charge of the next half-move is a true one
-IsCharged-if : (timed moved : Bool) (terms : Terms) (moments : List ℕ) (k begin end : ℕ) (m : Move) → is_timed terms ≡ timed → (IsTrue moved ↔ (2 ≤ k)) →
-    slice_get moments k ≡ Some begin → slice_get moments (k + 1) ≡ Some end →
-    IsCharged terms moments k (record { what = m; charge = charge_if timed moved begin end })
-IsCharged-if true true terms moments k begin end m t h from to = record {
+IsCharged-if : (timed moved : Bool) (terms : Terms) (moments : List ℕ) (k begin end : ℕ) (client : Option (ℕ × ℕ)) (m : Move) → is_timed terms ≡ timed → (IsTrue moved ↔ (2 ≤ k)) →
+    slice_get moments k ≡ Some begin → slice_get moments (k + 1) ≡ Some end → AreStamps client →
+    IsCharged terms moments k (record { what = m; charge = charge_if timed moved begin end client })
+IsCharged-if true true terms moments k begin end client m t h from to stamps = record {
   stands = (λ s. (t, h.0 refl), λ s. refl);
   begins = from;
   ends = to;
+  stamped = stamps;
 }
-IsCharged-if true false terms moments k begin end m t h from to = record {
+IsCharged-if true false terms moments k begin end client m t h from to stamps = record {
   stands = (λ s. absurd (no s), λ s. absurd (no (h.1 s.1)));
   begins = tt;
   ends = tt;
+  stamped = tt;
 }
-IsCharged-if false true terms moments k begin end m t h from to = record {
+IsCharged-if false true terms moments k begin end client m t h from to stamps = record {
   stands = (λ s. absurd (no s), λ s. absurd (no (sym t ∙ s.0)));
   begins = tt;
   ends = tt;
+  stamped = tt;
 }
-IsCharged-if false false terms moments k begin end m t h from to = record {
+IsCharged-if false false terms moments k begin end client m t h from to stamps = record {
   stands = (λ s. absurd (no s), λ s. absurd (no (sym t ∙ s.0)));
   begins = tt;
   ends = tt;
+  stamped = tt;
 }
 
 -- a charge stays a true one where a moment follows
@@ -127,6 +134,7 @@ IsCharged-append terms moments next k p c = record {
       (λ x h. stays_at moments next x.begin k h) c.begins;
   ends = if_some (λ (x : Charge). slice_get moments (k + 1) ≡ Some x.end) (λ (x : Charge). slice_get (moments ++ next ∷ []) (k + 1) ≡ Some x.end) p.charge
       (λ x h. stays_at moments next x.end (k + 1) h) c.ends;
+  stamped = c.stamped;
 }
 
 chosen : (b : Bool) (x y : ℤ) → IsTrue b → (if b then x else y) ≡ x
@@ -145,28 +153,31 @@ IsTrueScore-new_board number terms moment = record {
   each = refl;
   dont_fall = λ k i j e f. absurd (let within : k + 1 < 1 = slice_get_within (moment ∷ []) (k + 1) j f in omega (arith, within));
   thinking = refl;
+  kept = tt;
   charged = λ k p e. absurd (let within : k < 0 = slice_get_within [] k p e in omega (arith, within));
   played = refl;
   legal = IsLegal-empty terms.variant;
   clocks = λ c timed. clocks-sum (new_board number terms moment) c timed;
 }
 
-pub IsTrueScore-with_half_move : (b : Board) (m : Move) (moment : ℕ) → IsTrueScore b → b.begin ≤ moment → Allowed (position_of b) m → IsTrueScore (with_half_move b m moment)
-IsTrueScore-with_half_move b m moment s order allowed =
-    let charge : Option Charge = next_charge b moment in
+pub IsTrueScore-with_half_move : (b : Board) (m : Move) (moment : ℕ) (stamp : Option ℕ) → IsTrueScore b → b.begin ≤ moment → IfSome stamp IsStamp → Allowed (position_of b) m →
+    IsTrueScore (with_half_move b m moment stamp)
+IsTrueScore-with_half_move b m moment stamp s order stamped allowed =
+    let charge : Option Charge = next_charge b moment stamp in
     let entry : Played = record { what = m; charge = charge } in
     let many : length (b.list ++ entry ∷ []) ≡ length b.list + 1 = length-append b.list (entry ∷ []) in
     let more : length (s.moments ++ moment ∷ []) ≡ length s.moments + 1 = length-append s.moments (moment ∷ []) in
     let last : slice_get (s.moments ++ moment ∷ []) (length b.list + 1) ≡ Some moment =
     ap (slice_get (s.moments ++ moment ∷ [])) (sym s.each) ∙ slice_get-append_end s.moments moment in
     let new : IsCharged b.terms (s.moments ++ moment ∷ []) (length b.list) entry =
-    IsCharged-if (is_timed b.terms) (has_moved (to_move b) b.list) b.terms (s.moments ++ moment ∷ []) (length b.list) b.begin moment m refl (has_moved-mover b.list)
-    (stays_at s.moments moment b.begin (length b.list) s.thinking) last in
+    IsCharged-if (is_timed b.terms) (has_moved (to_move b) b.list) b.terms (s.moments ++ moment ∷ []) (length b.list) b.begin moment (option_zip b.kept stamp) m refl (has_moved-mover b.list)
+    (stays_at s.moments moment b.begin (length b.list) s.thinking) last (AreStamps-zip b.kept stamp s.kept stamped) in
     record {
       moments = s.moments ++ moment ∷ [];
       each = omega (arith, many, more, s.each);
       dont_fall = DontFall-append s.moments b.begin moment (length b.list) s.each s.thinking order s.dont_fall;
       thinking = ap (slice_get (s.moments ++ moment ∷ [])) many ∙ last;
+      kept = tt;
       charged = λ k p e. elim (at_or_last b.list entry p k e) [
         | inl old ↦ IsCharged-append b.terms s.moments moment k p (s.charged k p old)
         | inr here ↦ subst (λ (q : Played). IsCharged b.terms (s.moments ++ moment ∷ []) k q) here.1
@@ -174,7 +185,7 @@ IsTrueScore-with_half_move b m moment s order allowed =
       ];
       played = omega (arith, many, s.played);
       legal = IsLegal-grown b m charge s.legal allowed;
-      clocks = λ c timed. clocks-sum (with_half_move b m moment) c timed;
+      clocks = λ c timed. clocks-sum (with_half_move b m moment stamp) c timed;
     }
 
 -- an answer that plays has an allowed half-move
@@ -187,13 +198,35 @@ allowed_unless : (refused : Option Refusal) (p : Position) (word : MoveWord) (m 
 allowed_unless None p word m e = allowed_in p word (word_answer p word) m (word_answer-holds p word) e
 allowed_unless (Some cause) p word m e = absurd cc
 
-played_true : (b : Board) (moment : ℕ) (answer : Result Move Refusal) → IsTrueScore b → b.begin ≤ moment → ((m : Move) → answer ≡ Ok m → Allowed (position_of b) m) →
-    IsTrueScore (play_after b moment answer)
-played_true b moment (Ok m) s order allowed = IsTrueScore-with_half_move b m moment s order (allowed m refl)
-played_true b moment (Err cause) s order allowed = s
+played_true : (b : Board) (moment : ℕ) (stamp : Option ℕ) (answer : Result Move Refusal) → IsTrueScore b → b.begin ≤ moment → IfSome stamp IsStamp → ((m : Move) → answer ≡ Ok m → Allowed (position_of b) m) →
+    IsTrueScore (play_after b moment stamp answer)
+played_true b moment stamp (Ok m) s order stamped allowed = IsTrueScore-with_half_move b m moment stamp s order stamped (allowed m refl)
+played_true b moment stamp (Err cause) s order stamped allowed = s
 
-pub IsTrueScore-play_after : (b : Board) (c : Colour) (word : MoveWord) (moment : ℕ) → IsTrueScore b → b.begin ≤ moment →
-    IsTrueScore (play_after b moment (move_answer b c word))
+pub IsTrueScore-play_after : (b : Board) (c : Colour) (word : MoveWord) (moment : ℕ) (stamp : Option ℕ) → IsTrueScore b → b.begin ≤ moment → IfSome stamp IsStamp →
+    IsTrueScore (play_after b moment stamp (move_answer b c word))
 unfolding move_answer
-IsTrueScore-play_after b c word moment s order =
-    played_true b moment (move_answer b c word) s order (λ m e. allowed_unless (move_refused b c) (position_of b) word m e)
+IsTrueScore-play_after b c word moment stamp s order stamped =
+    played_true b moment stamp (move_answer b c word) s order stamped (λ m e. allowed_unless (move_refused b c) (position_of b) word m e)
+
+-- an acknowledgement changes nothing of the score but what is kept
+IsTrueScore-kept : (b : Board) (stamp : ℕ) → IsTrueScore b → IsStamp stamp → IsTrueScore (record b { kept = Some stamp })
+IsTrueScore-kept b stamp s stamped = record {
+  moments = s.moments;
+  each = s.each;
+  dont_fall = s.dont_fall;
+  thinking = s.thinking;
+  kept = stamped;
+  charged = s.charged;
+  played = s.played;
+  legal = s.legal;
+  clocks = s.clocks;
+}
+
+true_either : (own : Bool) (b new : Board) → IsTrueScore b → IsTrueScore new → IsTrueScore (if own then new else b)
+true_either true b new s t = t
+true_either false b new s t = s
+
+pub IsTrueScore-acknowledged : (b : Board) (c : Colour) (stamp : ℕ) → IsTrueScore b → IsStamp stamp → IsTrueScore (acknowledged b c stamp)
+IsTrueScore-acknowledged b c stamp s stamped =
+    true_either (same_colour c (to_move b)) b (record b { kept = Some stamp }) s (IsTrueScore-kept b stamp s stamped)

@@ -1,5 +1,5 @@
 -- What contracts see of a game on one board: its half-moves with their charges, and the counts beside them.
-use Rattle.std.specs.Prelude.{ℕ, Bool, nat_lt, List, [], length, map}
+use Rattle.std.specs.Prelude.{ℕ, Bool, nat_lt, List, [], length, map, Option, None}
 use Rattle.chess_model.specs.declared.man.Colour.{Colour}
 use Rattle.chess_model.specs.declared.man.Colour.TheVariants.{White, Black}
 use Rattle.chess_model.specs.declared.man.Man.{Man}
@@ -17,6 +17,8 @@ pub record Board : Type 0 where
   pub list : List Played
   -- the moment, in milliseconds, from which the player to move is thinking
   pub begin : ℕ
+  -- the stamp with which the client of the player to move acknowledged the board, where it did so since then
+  pub kept : Option ℕ
   -- how many half-moves were played on the board
   pub played : ℕ
   -- the men that came from the partner's board, in their order
@@ -25,7 +27,7 @@ pub record Board : Type 0 where
 -- the board at its start
 abbrev pub new_board : ℕ → Terms → ℕ → Board
 new_board number terms moment =
-    record { number = number; terms = terms; list = []; begin = moment; played = 0; came = [] }
+    record { number = number; terms = terms; list = []; begin = moment; kept = None; played = 0; came = [] }
 
 -- a half-move on the board of that number
 abbrev pub half_move : ℕ → Played → HalfMove

@@ -6,6 +6,7 @@ use Rattle.chess_model.specs.Allowed.{IsLegal}
 use Rattle.game_board.specs.declared.game_board.GameBoard.TheInside.{Inside}
 use Rattle.game_board.specs.Board.{half_moves}
 use Rattle.clock_ledger.specs.Charges.{IsChargeable}
+use Rattle.clock_ledger.specs.Span.{IsStamp}
 use Rattle.game_board.specs.Charges.{clock_of}
 use Rattle.game_board.specs.BoardFace.{last_shown}
 
@@ -20,6 +21,7 @@ pub record HoldsBoard (g : Inside) : Type 0 where
   pub white : g.white ≡ clock_of g.terms White g.list
   pub black : g.black ≡ clock_of g.terms Black g.list
   pub sound : All (λ p. IfSome p.charge IsChargeable) g.list
+  pub kept : IfSome g.kept IsStamp
   -- what is shown of the last half-move
   pub last : g.last ≡ last_shown g.terms.variant g.number g.list
   pub counted : length g.list ≤ g.played

@@ -1,3 +1,4 @@
+pub mod Acked
 pub mod Board
 pub mod BoardFace
 pub mod Causes

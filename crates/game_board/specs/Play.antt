@@ -1,6 +1,6 @@
 -- What a move word does to a board.
 use Rattle.std.specs.Prelude.{ℕ, ◌+◌, ◌==◌, ◌&&◌, not, if◌then◌else◌, [], ◌∷◌, ◌++◌, Option, Some, None, Result, Ok, Err}
-use Rattle.std.specs.Option.{option_map_or}
+use Rattle.std.specs.Option.{option_map_or, option_zip}
 use Rattle.chess_model.specs.declared.man.Colour.{Colour}
 use Rattle.chess_model.specs.declared.man.Man.{Man}
 use Rattle.chess_model.specs.declared.moves.Move.{Move}
@@ -30,18 +30,20 @@ move_refused b c =
 unfoldable pub move_answer : Board → Colour → MoveWord → Result Move Refusal
 move_answer b c w = option_map_or Err (move_refused b c) (in_words (word_answer (position_of b) w))
 
--- the charge of the next half-move, where it is made at that moment: the first one of each colour has none
-abbrev pub next_charge : Board → ℕ → Option Charge
-next_charge b moment =
+-- the charge of the next half-move, where it is made at that moment: the first one of each colour has none. It keeps
+-- the client's stamps where both are there, that of the board's acknowledgement and the move's
+abbrev pub next_charge : Board → ℕ → Option ℕ → Option Charge
+next_charge b moment stamp =
     if is_timed b.terms && has_moved (to_move b) b.list
-    then Some (record { begin = b.begin; end = moment; client = None })
+    then Some (record { begin = b.begin; end = moment; client = option_zip b.kept stamp })
     else None
 
--- the board after a half-move at that moment
-abbrev pub with_half_move : Board → Move → ℕ → Board
-with_half_move b m moment = record b {
-  list = b.list ++ record { what = m; charge = next_charge b moment } ∷ [];
+-- the board after a half-move at that moment; who is to move then hasn't acknowledged it
+abbrev pub with_half_move : Board → Move → ℕ → Option ℕ → Board
+with_half_move b m moment stamp = record b {
+  list = b.list ++ record { what = m; charge = next_charge b moment stamp } ∷ [];
   begin = moment;
+  kept = None;
   played = b.played + 1;
 }
 
@@ -55,6 +57,6 @@ play_reply b (Ok m) = Ok (captured b m)
 play_reply b (Err r) = Err r
 
 -- the board after a word: one half-move more, or as it was
-abbrev pub play_after : Board → ℕ → Result Move Refusal → Board
-play_after b moment (Ok m) = with_half_move b m moment
-play_after b moment (Err r) = b
+abbrev pub play_after : Board → ℕ → Option ℕ → Result Move Refusal → Board
+play_after b moment stamp (Ok m) = with_half_move b m moment stamp
+play_after b moment stamp (Err r) = b

@@ -6,8 +6,9 @@ use Rattle.std.specs.List.{sum_by}
 use Rattle.chess_model.specs.declared.man.Colour.{Colour}
 use Rattle.chess_model.specs.declared.variant.Terms.{Terms}
 use Rattle.chess_model.specs.Allowed.{IsLegal}
-use Rattle.clock_ledger.specs.Charges.{amount}
+use Rattle.clock_ledger.specs.Charges.{amount, AreStamps}
 use Rattle.clock_ledger.specs.Clock.{start_of}
+use Rattle.clock_ledger.specs.Span.{IsStamp}
 use Rattle.game_board.specs.declared.played.Played.{Played}
 use Rattle.game_board.specs.Board.{Board, half_moves}
 use Rattle.game_board.specs.Charges.{charges_of, is_timed, remaining_of}
@@ -24,6 +25,8 @@ pub record IsCharged (terms : Terms) (moments : List ℕ) (k : ℕ) (p : Played)
   -- it begins at the moment of the half-move before, and ends at the half-move's own
   pub begins : IfSome p.charge (λ c. slice_get moments k ≡ Some c.begin)
   pub ends : IfSome p.charge (λ c. slice_get moments (k + 1) ≡ Some c.end)
+  -- where it keeps the client's two times, they are stamps
+  pub stamped : IfSome p.charge (λ c. AreStamps c.client)
 
 -- the list of a board is a true score of its game
 pub record IsTrueScore (b : Board) : Type 0 where
@@ -33,6 +36,8 @@ pub record IsTrueScore (b : Board) : Type 0 where
   pub dont_fall : DontFall moments
   -- the player to move is thinking since the last of them
   pub thinking : slice_get moments (length b.list) ≡ Some b.begin
+  -- and where the client has acknowledged the board since then, it did so with a stamp
+  pub kept : IfSome b.kept IsStamp
   pub charged : (k : ℕ) (p : Played) → slice_get b.list k ≡ Some p → IsCharged b.terms moments k p
   -- as many half-moves were played as the list has
   pub played : b.played ≡ length b.list

@@ -3,6 +3,7 @@ ghost use Rattle.std.specs.Option.{option_to_list};
 ghost use Rattle.chess_model.specs.Position.{Stands};
 ghost use Rattle.clock_ledger.specs.declared.charges.Charge.{Charge};
 ghost use Rattle.clock_ledger.specs.Charges.{IsChargeable};
+ghost use Rattle.clock_ledger.specs.Span.{IsStamp};
 ghost use Rattle.game_board.specs.Charges.{charge_to};
 ghost use Rattle.chess_model.specs.Holdings.{same_colour};
 ghost use Rattle.game_board.specs.Flag.{is_bare, has_only_king};
@@ -35,6 +36,8 @@ pub struct GameBoard {
     white: ClockLedger,
     black: ClockLedger,
     begin: u64,
+    /// The stamp with which the client of the player to move acknowledged the board, if it did so since `begin`.
+    kept: Option<u32>,
     played: u16,
     /// The men that came from the partner's board. No call adds to them yet.
     came: Listed<Man>,
@@ -52,6 +55,7 @@ impl Model for GameBoard {
       terms = g.terms;
       list = g.list;
       begin = g.begin;
+      kept = g.kept;
       played = g.played;
       came = g.came;
     } };
@@ -60,6 +64,7 @@ impl Model for GameBoard {
 }
 
 impl GameBoard {
+    ghost use Rattle.game_board.specs.Acked.{acknowledged};
     ghost use Rattle.game_board.specs.Board.{new_board, to_move, position_of, has_moved, half_moves};
     ghost use Rattle.game_board.specs.BoardFace.{board_face, last_played, last_taken};
     ghost use Rattle.game_board.specs.Charges.{clock_of, is_timed};
@@ -88,6 +93,7 @@ impl GameBoard {
             white: ClockLedger::start(alloc, terms.minutes, terms.increment)?,
             black: ClockLedger::start(alloc, terms.minutes, terms.increment)?,
             begin: moment,
+            kept: None,
             played: 0,
             came: Listed::new(alloc),
         })
@@ -207,9 +213,9 @@ impl GameBoard {
         self.white.timed()
     }
 
-    /// The charge of a half-move that is made now.
-    fn next_charge(&self, moment: u64) -> Option<Charge>
-        ensures { result ≡ next_charge self.now moment }
+    /// The charge of a half-move that is made now with this stamp of its client, if it has one.
+    fn next_charge(&self, moment: u64, stamp: Option<u32>) -> Option<Charge>
+        ensures { result ≡ next_charge self.now moment stamp }
     {
         if !self.is_timed() || !self.has_moved(self.to_move()) {
             return None;
@@ -217,7 +223,7 @@ impl GameBoard {
         Some(Charge {
             begin: self.begin,
             end: moment,
-            client: None,
+            client: self.kept.zip(stamp),
         })
     }
 
@@ -253,14 +259,15 @@ impl GameBoard {
     }
 
     /// Makes an allowed half-move.
-    fn make(&mut self, what: &Move, moment: u64)
+    fn make(&mut self, what: &Move, moment: u64, stamp: Option<u32>)
         requires allowed { Allowed (position_of self.old) what.now }
         requires room { self.old.played < 1200 }
         requires order { self.old.begin ≤ moment }
         requires moment { moment ≤ 2 ^ 48 }
-        ensures { self.new ≡ with_half_move self.old what.now moment }
+        requires stamp { IfSome stamp IsStamp }
+        ensures { self.new ≡ with_half_move self.old what.now moment stamp }
     {
-        let charge = self.next_charge(moment);
+        let charge = self.next_charge(moment, stamp);
         let shown = plain_shown(self.position(), what);
         let next = self.next_position(what);
         let mover = self.to_move();
@@ -272,28 +279,43 @@ impl GameBoard {
             charge,
         });
         self.begin = moment;
+        self.kept = None;
         self.played += 1;
     }
 
-    /// Plays a word of `colour` at `moment`, in milliseconds, and gives the man that the half-move captures. Refuses
-    /// with `NotYourTurn`, then `TooManyMoves` at 1,200 half-moves, then as the rules answer the word; a refusal
-    /// changes nothing.
+    /// Plays a word of `colour` at `moment`, in milliseconds, and gives the man that the half-move captures. `stamp` is
+    /// the client's own time of the move, below `STAMP_CYCLE`, where its link is stamped: with that of the board's
+    /// acknowledgement it is kept in the charge. Refuses with `NotYourTurn`, then `TooManyMoves` at 1,200 half-moves,
+    /// then as the rules answer the word; a refusal changes nothing.
     pub fn play(
         &mut self,
         colour: Colour,
         word: &MoveWord,
         moment: u64,
+        stamp: Option<u32>,
     ) -> Result<Option<Man>, Refusal>
         requires order { self.old.begin ≤ moment }
         requires moment { moment ≤ 2 ^ 48 }
+        requires stamp { IfSome stamp IsStamp }
         ensures reply { result ≡ play_reply self.old (move_answer self.old colour word.now) }
-        ensures after { self.new ≡ play_after self.old moment (move_answer self.old colour word.now) }
+        ensures after { self.new ≡ play_after self.old moment stamp (move_answer self.old colour word.now) }
         ensures unchanged { OnErr result (self.new ≡ self.old) }
     {
         let what = self.resolve(colour, word)?;
         let captured = captured_by(self.position(), &what);
-        self.make(&what, moment);
+        self.make(&what, moment, stamp);
         Ok(captured)
+    }
+
+    /// The client of `colour` acknowledges the board with its own time, below `STAMP_CYCLE`. The last stamp of the
+    /// player to move is kept until the next half-move; one of the other player changes nothing.
+    pub fn acked(&mut self, colour: Colour, stamp: u32)
+        requires { IsStamp stamp }
+        ensures { self.new ≡ acknowledged self.old colour stamp }
+    {
+        if self.is_to_move(colour) {
+            self.kept = Some(stamp);
+        }
     }
 
     /// Calls the flag on the opponent of `caller` at `moment`, in milliseconds: gives the winner, or None for a draw.

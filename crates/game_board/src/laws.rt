@@ -1,5 +1,5 @@
 //! What the definitions mean for players, as calls that do nothing: what each ensures is the law.
-ghost use Rattle.std.specs.Prelude.{◌≡◌, ◌≢◌, ℕ, ◌<◌, ◌≤◌, ◌++◌, ◌∷◌, [], ◌↔◌, Ok, Err};
+ghost use Rattle.std.specs.Prelude.{◌≡◌, ◌≢◌, ℕ, ◌<◌, ◌≤◌, ◌++◌, ◌∷◌, [], ◌↔◌, Ok, Err, Option, IfSome};
 ghost use Rattle.std.specs.Option.{option_to_list};
 ghost use Rattle.chess_model.specs.declared.man.Colour.{Colour};
 ghost use Rattle.chess_model.specs.declared.moves.Move.{Move};
@@ -7,6 +7,8 @@ ghost use Rattle.chess_model.specs.declared.moves.MoveWord.{MoveWord};
 ghost use Rattle.chess_model.specs.declared.variant.Terms.{Terms};
 ghost use Rattle.chess_model.specs.Placement.{opposite};
 ghost use Rattle.chess_model.specs.Answer.{IsAnswer};
+ghost use Rattle.clock_ledger.specs.Span.{IsStamp};
+ghost use Rattle.game_board.specs.Acked.{acknowledged};
 ghost use Rattle.game_board.specs.Board.{Board, new_board, to_move, mover_after, position_of};
 ghost use Rattle.game_board.specs.Charges.{charges_of};
 ghost use Rattle.game_board.specs.Play.{move_answer, play_after};
@@ -38,9 +40,12 @@ pub fn play_takes_exactly_the_answers(board: &GameBoard, colour: Colour, word: &
 {}
 
 /// The list of a board is a true score of its game from the start on, whatever words are played, at moments that don't
-/// fall: its half-moves are legal, and its charges and clocks follow from the moments at which they were made.
+/// fall, and whatever clients acknowledge it: its half-moves are legal, its charges and clocks follow from the moments at
+/// which they were made, and what it keeps of the clients' own times are stamps.
 pub fn scores_are_true()
     ensures start { (number : ℕ) (terms : Terms) (moment : ℕ) → IsTrueScore (new_board number terms moment) }
-    ensures play { (b : Board) (c : Colour) (word : MoveWord) (moment : ℕ) → IsTrueScore b → b.begin ≤ moment →
-        IsTrueScore (play_after b moment (move_answer b c word)) }
+    ensures play { (b : Board) (c : Colour) (word : MoveWord) (moment : ℕ) (stamp : Option ℕ) → IsTrueScore b
+        → b.begin ≤ moment → IfSome stamp IsStamp → IsTrueScore (play_after b moment stamp (move_answer b c word)) }
+    ensures acked { (b : Board) (c : Colour) (stamp : ℕ) → IsTrueScore b → IsStamp stamp
+        → IsTrueScore (acknowledged b c stamp) }
 {}

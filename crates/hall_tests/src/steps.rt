@@ -69,7 +69,14 @@ pub fn replied<R: Runner>(
 
 fn entering<R: Runner>(seat: &mut R, alloc: Global, name: &[u8; 3]) -> Result<Reply, Fail> {
     let name = handle(name)?;
-    Ok(seat.run(alloc, 0, Act::Lobby(LobbyAct::Enter { name }))?)
+    Ok(seat.run(
+        alloc,
+        0,
+        Act::Lobby(LobbyAct::Enter {
+            name: Some(name),
+            digest: None,
+        }),
+    )?)
 }
 
 fn challenging<R: Runner>(seat: &mut R, alloc: Global, to: &[u8; 3]) -> Result<Reply, Fail> {
@@ -95,7 +102,7 @@ fn moving<R: Runner>(
         to: square(to)?,
         promo: None,
     };
-    playing(seat, alloc, moment, DeskAct::Move { word })
+    playing(seat, alloc, moment, DeskAct::Move { word, stamp: None })
 }
 
 fn playing<R: Runner>(

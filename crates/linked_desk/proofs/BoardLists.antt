@@ -1,13 +1,10 @@
--- What a word at one board leaves of the boards.
-use Rattle.std.proofs.Common.{◌≡◌, ℕ, ◌≤◌, zero, suc, max, List, [], ◌∷◌, map, length, All, Option, Some, None, Result, Ok, Err, refl, ap, sym, subst, ◌∙◌, arith}
+-- What a change of one board leaves of the boards.
+use Rattle.std.proofs.Common.{◌≡◌, ℕ, ◌≤◌, zero, suc, max, List, [], ◌∷◌, map, length, All, Option, Some, None, refl, ap, sym, subst, ◌∙◌, arith}
 use Rattle.std.specs.Prelude.{slice_get}
 use Rattle.std.specs.Option.{option_map}
 use Rattle.std.proofs.lemmas.List.Elements.{All-cons, All-drop}
-use Rattle.chess_model.specs.declared.moves.Move.{Move}
-use Rattle.fics_words.specs.declared.refusal.Refusal.{Refusal}
 use Rattle.game_board.specs.Board.{Board}
-use Rattle.game_board.specs.Play.{play_after}
-use Rattle.linked_desk.specs.Boards.{latest, set_board, boards_after}
+use Rattle.linked_desk.specs.Boards.{latest, set_board, changed_at}
 
 -- a board that stands in a place has what each board has
 pub All-at : {X : Type 0} (P : X → Type 0) (xs : List X) (k : ℕ) (x : X) → All P xs → slice_get xs k ≡ Some x → P x
@@ -21,58 +18,49 @@ begin-latest [] k b e = absurd cc
 begin-latest (c ∷ boards) zero b e = let same : c ≡ b = cc in let begin : c.begin ≡ b.begin = ap (λ (x : Board). x.begin) same in omega arith
 begin-latest (c ∷ boards) (suc k) b e = let later = begin-latest boards k b e in omega arith
 
--- who is to move thinks from no later moment than that of the act
-begin-played : (b : Board) (moment : ℕ) (answer : Result Move Refusal) → b.begin ≤ moment → (play_after b moment answer).begin ≤ moment
-begin-played b moment (Ok m) h = omega arith
-begin-played b moment (Err cause) h = h
-
-number-played : (b : Board) (moment : ℕ) (answer : Result Move Refusal) → (play_after b moment answer).number ≡ b.number
-number-played b moment (Ok m) = refl
-number-played b moment (Err cause) = refl
-
-pub terms-played : (b : Board) (moment : ℕ) (answer : Result Move Refusal) → (play_after b moment answer).terms ≡ b.terms
-terms-played b moment (Ok m) = refl
-terms-played b moment (Err cause) = refl
-
 set_board-cons : (b : Board) (boards : List Board) (k : ℕ) (o : Option Board) → set_board (b ∷ boards) (suc k) o ≡ b ∷ set_board boards k o
 set_board-cons b boards k None = refl
 set_board-cons b boards k (Some c) = refl
 
--- the boards that are left have no later moment than that of the act
-pub latest-boards_after : (boards : List Board) (k moment : ℕ) (answer : Result Move Refusal) → latest boards ≤ moment → latest (boards_after boards k moment answer) ≤ moment
-latest-boards_after [] k moment answer h = h
-latest-boards_after (b ∷ boards) zero moment answer h =
-    let played : (play_after b moment answer).begin ≤ moment = begin-played b moment answer (omega arith) in
+changed_at-cons : (b : Board) (boards : List Board) (k : ℕ) (change : Board → Board) → changed_at (b ∷ boards) (suc k) change ≡ b ∷ changed_at boards k change
+changed_at-cons b boards k change = set_board-cons b boards k (option_map change (slice_get boards k))
+
+-- nobody is thinking from a later moment, where the change leaves none
+pub latest-changed_at : (boards : List Board) (k moment : ℕ) (change : Board → Board) → ((b : Board) → b.begin ≤ moment → (change b).begin ≤ moment) →
+    latest boards ≤ moment → latest (changed_at boards k change) ≤ moment
+latest-changed_at [] k moment change early h = h
+latest-changed_at (b ∷ boards) zero moment change early h =
+    let changed : (change b).begin ≤ moment = early b (omega arith) in
     omega arith
-latest-boards_after (b ∷ boards) (suc k) moment answer h =
-    let rest : latest (boards_after boards k moment answer) ≤ moment = latest-boards_after boards k moment answer (omega arith) in
-    let same : latest (boards_after (b ∷ boards) (suc k) moment answer) ≡ max b.begin (latest (boards_after boards k moment answer)) =
-    ap latest (set_board-cons b boards k (option_map (λ c. play_after c moment answer) (slice_get boards k))) in
+latest-changed_at (b ∷ boards) (suc k) moment change early h =
+    let rest : latest (changed_at boards k change) ≤ moment = latest-changed_at boards k moment change early (omega arith) in
+    let same : latest (changed_at (b ∷ boards) (suc k) change) ≡ max b.begin (latest (changed_at boards k change)) =
+    ap latest (changed_at-cons b boards k change) in
     omega arith
 
--- they have the numbers that they had
-pub numbers-boards_after : (boards : List Board) (k moment : ℕ) (answer : Result Move Refusal) →
-    map (λ (b : Board). b.number) (boards_after boards k moment answer) ≡ map (λ (b : Board). b.number) boards
-numbers-boards_after [] k moment answer = refl
-numbers-boards_after (b ∷ boards) zero moment answer = ap (λ n. n ∷ map (λ (c : Board). c.number) boards) (number-played b moment answer)
-numbers-boards_after (b ∷ boards) (suc k) moment answer =
-    ap (map (λ (c : Board). c.number)) (set_board-cons b boards k (option_map (λ c. play_after c moment answer) (slice_get boards k)))
-    ∙ ap (λ ns. b.number ∷ ns) (numbers-boards_after boards k moment answer)
+-- the boards have the numbers that they had
+pub numbers-changed_at : (boards : List Board) (k : ℕ) (change : Board → Board) → ((b : Board) → (change b).number ≡ b.number) →
+    map (λ (b : Board). b.number) (changed_at boards k change) ≡ map (λ (b : Board). b.number) boards
+numbers-changed_at [] k change same = refl
+numbers-changed_at (b ∷ boards) zero change same = ap (λ n. n ∷ map (λ (c : Board). c.number) boards) (same b)
+numbers-changed_at (b ∷ boards) (suc k) change same =
+    ap (map (λ (c : Board). c.number)) (changed_at-cons b boards k change)
+    ∙ ap (λ ns. b.number ∷ ns) (numbers-changed_at boards k change same)
 
--- and what each board had, where a word keeps it
-pub All-boards_after : (P : Board → Type 0) (boards : List Board) (k moment : ℕ) (answer : Result Move Refusal) →
-    ((b : Board) → slice_get boards k ≡ Some b → P b → P (play_after b moment answer)) → All P boards → All P (boards_after boards k moment answer)
-All-boards_after P [] k moment answer step h = h
-All-boards_after P (b ∷ boards) zero moment answer step h =
-    All-cons P (play_after b moment answer) boards (step b refl (h 0 b (omega arith))) (All-drop P 1 (b ∷ boards) h)
-All-boards_after P (b ∷ boards) (suc k) moment answer step h =
-    subst (All P) (sym (set_board-cons b boards k (option_map (λ c. play_after c moment answer) (slice_get boards k))))
-    (All-cons P b (boards_after boards k moment answer) (h 0 b (omega arith)) (All-boards_after P boards k moment answer step (All-drop P 1 (b ∷ boards) h)))
+-- and what each board had, where the change keeps it
+pub All-changed_at : (P : Board → Type 0) (boards : List Board) (k : ℕ) (change : Board → Board) →
+    ((b : Board) → slice_get boards k ≡ Some b → P b → P (change b)) → All P boards → All P (changed_at boards k change)
+All-changed_at P [] k change step h = h
+All-changed_at P (b ∷ boards) zero change step h =
+    All-cons P (change b) boards (step b refl (h 0 b (omega arith))) (All-drop P 1 (b ∷ boards) h)
+All-changed_at P (b ∷ boards) (suc k) change step h =
+    subst (All P) (sym (changed_at-cons b boards k change))
+    (All-cons P b (changed_at boards k change) (h 0 b (omega arith)) (All-changed_at P boards k change step (All-drop P 1 (b ∷ boards) h)))
 
 -- and there are as many
-pub length-boards_after : (boards : List Board) (k moment : ℕ) (answer : Result Move Refusal) → length (boards_after boards k moment answer) ≡ length boards
-length-boards_after [] k moment answer = refl
-length-boards_after (b ∷ boards) zero moment answer = refl
-length-boards_after (b ∷ boards) (suc k) moment answer =
-    ap length (set_board-cons b boards k (option_map (λ c. play_after c moment answer) (slice_get boards k)))
-    ∙ ap suc (length-boards_after boards k moment answer)
+pub length-changed_at : (boards : List Board) (k : ℕ) (change : Board → Board) → length (changed_at boards k change) ≡ length boards
+length-changed_at [] k change = refl
+length-changed_at (b ∷ boards) zero change = refl
+length-changed_at (b ∷ boards) (suc k) change =
+    ap length (changed_at-cons b boards k change)
+    ∙ ap suc (length-changed_at boards k change)

@@ -19,11 +19,11 @@ use Rattle.linked_desk.specs.Seats.{pairs_of}
 use Rattle.linked_desk.specs.Sound.{Names, NamesWinner, IsSound, TellsWinners}
 use Rattle.linked_desk.specs.Views.{each_board, with_view}
 
--- an act keeps who plays, keeps the game sound, and tells ends with their winners; it may run out of memory only where
--- it says so
-pub record Keeps (g : GameState) (needs : Bool) (effect : Effect GameState DeskReply) : Type 0 where
+-- an act keeps who plays, keeps the game sound where the act's numbers fit, and tells ends with their winners; it may
+-- run out of memory only where it says so
+pub record Keeps (g : GameState) (fits : Type 0) (needs : Bool) (effect : Effect GameState DeskReply) : Type 0 where
   pub players : occupant effect.after ≡ occupant g
-  pub sound : IsSound g → IsSound effect.after
+  pub sound : fits → IsSound g → IsSound effect.after
   pub tells : IsSound g → TellsWinners effect.reply
   pub memory : effect.memory ≡ needs
 

@@ -12,10 +12,10 @@ names_past : (feed : List Item) (cursor : Option Cursor) → All NamesWinner fee
 names_past feed None h = All-nil NamesWinner
 names_past feed (Some cursor) h = All-drop NamesWinner cursor.seen feed h
 
-pub Keeps-fetch_effect : (g : GameState) (session moment : ℕ) → Keeps g true (fetch_effect g session moment)
+pub Keeps-fetch_effect : (g : GameState) (session moment : ℕ) → Keeps g (Unit {0}) true (fetch_effect g session moment)
 Keeps-fetch_effect g session moment = record {
   players = refl;
-  sound = λ s. record {
+  sound = λ fits s. record {
     numbers = s.numbers;
     seated = s.seated;
     terms = s.terms;

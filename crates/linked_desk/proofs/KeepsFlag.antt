@@ -28,10 +28,10 @@ occupant-flagged_by : (desk : ℕ) (g : GameState) (moment : ℕ) (seat : Option
 occupant-flagged_by desk g moment None = refl
 occupant-flagged_by desk g moment (Some seat) = occupant-flagged desk g moment (board_of seat) (seat_flag g moment seat)
 
-pub Keeps-flag_effect : (desk : ℕ) (g : GameState) (session moment : ℕ) → Keeps g false (flag_effect desk g session moment)
+pub Keeps-flag_effect : (desk : ℕ) (g : GameState) (session moment : ℕ) → Keeps g (Unit {0}) false (flag_effect desk g session moment)
 Keeps-flag_effect desk g session moment = record {
   players = occupant-flagged_by desk g moment (seat_of g session);
-  sound = sound_flagged_by desk g moment (seat_of g session);
+  sound = λ fits. sound_flagged_by desk g moment (seat_of g session);
   tells = λ s. tt;
   memory = refl;
 }

@@ -35,12 +35,12 @@ sound_unwatched g session moment s = record {
   ended = s.ended;
 }
 
-pub Keeps-leave_effect : (desk : ℕ) (g : GameState) (session moment : ℕ) → Keeps g false (leave_effect desk g session moment)
+pub Keeps-leave_effect : (desk : ℕ) (g : GameState) (session moment : ℕ) → Keeps g (Unit {0}) false (leave_effect desk g session moment)
 Keeps-leave_effect desk g session moment =
     let left : GameState = forfeited desk g moment (seat_of g session) in
     record {
       players = occupant-forfeited desk g moment (seat_of g session);
-      sound = λ s. sound_unwatched left session moment (sound_forfeited desk g moment (seat_of g session) s);
+      sound = λ fits s. sound_unwatched left session moment (sound_forfeited desk g moment (seat_of g session) s);
       tells = λ s. tt;
       memory = refl;
     }

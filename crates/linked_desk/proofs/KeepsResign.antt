@@ -13,10 +13,10 @@ occupant-resigned_by : (desk : ℕ) (g : GameState) (moment : ℕ) (seat : Optio
 occupant-resigned_by desk g moment None = refl
 occupant-resigned_by desk g moment (Some seat) = refl
 
-pub Keeps-resign_effect : (desk : ℕ) (g : GameState) (session moment : ℕ) → Keeps g false (resign_effect desk g session moment)
+pub Keeps-resign_effect : (desk : ℕ) (g : GameState) (session moment : ℕ) → Keeps g (Unit {0}) false (resign_effect desk g session moment)
 Keeps-resign_effect desk g session moment = record {
   players = occupant-resigned_by desk g moment (seat_of g session);
-  sound = sound_resigned_by desk g moment (seat_of g session);
+  sound = λ fits. sound_resigned_by desk g moment (seat_of g session);
   tells = λ s. tt;
   memory = refl;
 }

@@ -1,6 +1,7 @@
 pub mod BoardLists
 pub mod Keeps
 pub mod KeepsActs
+pub mod KeepsAcked
 pub mod KeepsFetch
 pub mod KeepsFlag
 pub mod KeepsLeave

@@ -1,6 +1,7 @@
 -- All acts at a desk in one table: what each does, by the desk before, the session, the moment, the serial that the act
 -- names, and the act. This server's own.
-use Rattle.std.specs.Prelude.{ℕ, ◌==◌, true, false, Bool, if◌then◌else◌, List, [], ◌∷◌, Option, Some, None, Result}
+use Rattle.std.specs.Prelude.{ℕ, ◌==◌, true, false, Bool, if◌then◌else◌, IfSome, List, [], ◌∷◌, Option, Some, None, Result}
+use Rattle.clock_ledger.specs.Span.{IsStamp}
 use Rattle.fics_words.specs.Effect.{Cause, Effect, answer_of, state_of}
 use Rattle.fics_words.specs.declared.refusal.Refusal.{Refusal}
 use Rattle.fics_words.specs.declared.refusal.Refusal.TheVariants.{NotPlaying, NotWatching}
@@ -9,6 +10,7 @@ use Rattle.linked_desk.specs.declared.acts.DeskAct.{DeskAct}
 use Rattle.linked_desk.specs.declared.acts.DeskAct.TheVariants as act
 use Rattle.linked_desk.specs.declared.acts.DeskReply.{DeskReply}
 use Rattle.linked_desk.specs.declared.acts.DeskReply.TheVariants.{Done, Items}
+use Rattle.linked_desk.specs.Acked.{acked_effect}
 use Rattle.linked_desk.specs.Desk.{GameState, DeskState}
 use Rattle.linked_desk.specs.Fetch.{fetch_effect}
 use Rattle.linked_desk.specs.Flag.{flag_effect}
@@ -16,9 +18,16 @@ use Rattle.linked_desk.specs.Leave.{leave_effect}
 use Rattle.linked_desk.specs.Playing.{move_effect}
 use Rattle.linked_desk.specs.Resign.{resign_effect}
 
+-- the condition on the numbers of an act: a client's stamp is below 10,000,000
+abbrev pub FitsDeskAct : DeskAct → Type 0
+FitsDeskAct (act.Move word stamp) = IfSome stamp IsStamp
+FitsDeskAct (act.Acked stamp) = IsStamp stamp
+FitsDeskAct _ = Unit {0}
+
 -- what an act does at a game
 abbrev pub game_effect : ℕ → GameState → ℕ → ℕ → DeskAct → Effect GameState DeskReply
-game_effect desk g session moment (act.Move word) = move_effect desk g session moment word
+game_effect desk g session moment (act.Move word stamp) = move_effect desk g session moment word stamp
+game_effect desk g session moment (act.Acked stamp) = acked_effect g session moment stamp
 game_effect desk g session moment act.Resign = resign_effect desk g session moment
 game_effect desk g session moment act.Flag = flag_effect desk g session moment
 game_effect desk g session moment act.Fetch = fetch_effect g session moment
@@ -65,7 +74,7 @@ desk_after d session moment serial a = state_of d (desk_effect d session moment 
 
 -- whether an act may run out of memory: a move, whose board is told, and a visit, whose items are copied
 abbrev pub needs_memory : DeskAct → Bool
-needs_memory (act.Move word) = true
+needs_memory (act.Move word stamp) = true
 needs_memory act.Fetch = true
 needs_memory _ = false
 

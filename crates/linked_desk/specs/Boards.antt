@@ -9,6 +9,7 @@ use Rattle.chess_model.specs.declared.variant.Variant.{Variant}
 use Rattle.chess_model.specs.declared.variant.Variant.TheVariants.{Chess, Crazyhouse, Bughouse}
 use Rattle.fics_words.specs.declared.refusal.Refusal.{Refusal}
 use Rattle.fics_words.specs.declared.refusal.Refusal.TheVariants.{NotPlaying}
+use Rattle.game_board.specs.Acked.{acknowledged}
 use Rattle.game_board.specs.Board.{Board, new_board}
 use Rattle.game_board.specs.Flag.{flag_answer}
 use Rattle.game_board.specs.Play.{move_answer, play_after}
@@ -48,7 +49,14 @@ abbrev pub set_board : List Board → ℕ → Option Board → List Board
 set_board boards place None = boards
 set_board boards place (Some b) = slice_set boards place b
 
+-- the boards with a change of the one in that place, where there is one
+abbrev pub changed_at : List Board → ℕ → (Board → Board) → List Board
+changed_at boards place change = set_board boards place (option_map change (slice_get boards place))
+
 -- the boards after a word at the one in that place
-abbrev pub boards_after : List Board → ℕ → ℕ → Result Move Refusal → List Board
-boards_after boards place moment answer =
-    set_board boards place (option_map (λ b. play_after b moment answer) (slice_get boards place))
+abbrev pub boards_after : List Board → ℕ → ℕ → Option ℕ → Result Move Refusal → List Board
+boards_after boards place moment stamp answer = changed_at boards place (λ b. play_after b moment stamp answer)
+
+-- the boards once a client of that colour has acknowledged the one in that place
+abbrev pub boards_acked : List Board → ℕ → Colour → ℕ → List Board
+boards_acked boards place colour stamp = changed_at boards place (λ b. acknowledged b colour stamp)

@@ -1,3 +1,4 @@
+pub mod Acked
 pub mod Acts
 pub mod Boards
 pub mod Cursors

@@ -23,22 +23,25 @@ word_by g None word = Err NotPlaying
 word_by g (Some seat) word = seat_word g seat word
 
 -- the game with the half-move played at the board in that place, and this board told
-abbrev pub moved : ℕ → GameState → ℕ → ℕ → Result Move Refusal → GameState
-moved desk g moment place answer =
+abbrev pub moved : ℕ → GameState → ℕ → ℕ → Option ℕ → Result Move Refusal → GameState
+moved desk g moment place stamp answer =
     with_board_item desk place
-    (record g { boards = boards_after g.boards place (moment_at g moment) answer; last = moment_at g moment })
+    (record g {
+      boards = boards_after g.boards place (moment_at g moment) stamp answer;
+      last = moment_at g moment;
+    })
 
--- the game once who has that seat, or none, has played a word
-abbrev pub moved_by : ℕ → GameState → ℕ → Option ℕ → MoveWord → GameState
-moved_by desk g moment None word = g
-moved_by desk g moment (Some seat) word = moved desk g moment (place_of seat) (seat_word g seat word)
+-- the game once who has that seat, or none, has played a word, with the client's stamp if there is one
+abbrev pub moved_by : ℕ → GameState → ℕ → Option ℕ → MoveWord → Option ℕ → GameState
+moved_by desk g moment None word stamp = g
+moved_by desk g moment (Some seat) word stamp = moved desk g moment (place_of seat) stamp (seat_word g seat word)
 
 -- plays a word at the session's board: refused where it has no seat, where the game has ended, and then as the board
 -- answers
-abbrev pub move_effect : ℕ → GameState → ℕ → ℕ → MoveWord → Effect GameState DeskReply
-move_effect desk g session moment word = record {
+abbrev pub move_effect : ℕ → GameState → ℕ → ℕ → MoveWord → Option ℕ → Effect GameState DeskReply
+move_effect desk g session moment word stamp = record {
   causes = no_seat_cause g session ∷ over_cause g ∷ refused_by (word_by g (seat_of g session) word);
   memory = true;
   reply = Done;
-  after = moved_by desk g moment (seat_of g session) word;
+  after = moved_by desk g moment (seat_of g session) word stamp;
 }

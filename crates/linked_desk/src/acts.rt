@@ -1,7 +1,7 @@
 //! The acts at a desk, and which game answers them.
 ghost use Rattle.std.specs.Prelude.{◌≡◌, ◌≤◌, ◌^◌};
 ghost use Rattle.fics_words.specs.Effect.{Takes};
-ghost use Rattle.linked_desk.specs.Acts.{game_effect, items_told};
+ghost use Rattle.linked_desk.specs.Acts.{FitsDeskAct, game_effect, items_told};
 
 use crate::game::Game;
 use chess_model::MoveWord;
@@ -11,9 +11,13 @@ use style12_writer::ItemList;
 /// What a session does at a desk.
 #[derive(Debug, Drop)]
 pub enum DeskAct {
-    /// Plays a word at the session's board. Refused with `NotPlaying`, `GameOver`, `NotYourTurn`, `TooManyMoves`, then
-    /// as the rules answer the word.
-    Move { word: MoveWord },
+    /// Plays a word at the session's board. `stamp` is the client's own time, below `STAMP_CYCLE`, where its link is
+    /// stamped. Refused with `NotPlaying`, `GameOver`, `NotYourTurn`, `TooManyMoves`, then as the rules answer the word.
+    Move { word: MoveWord, stamp: Option<u32> },
+    /// The session's client has got the board that was shown last, at its own time `stamp`, below `STAMP_CYCLE`: the
+    /// client's time for the next move counts from there. Keeps the stamp where the game runs and the session is to
+    /// move; else nothing changes but the desk's moment. Refused with `NotPlaying`. Takes no memory.
+    Acked { stamp: u32 },
     /// Gives the game up. Refused with `NotPlaying`, then `GameOver`.
     Resign,
     /// Calls the flag on the opponent. Refused with `NotPlaying`, `GameOver`, then `NotFallen`.
@@ -57,10 +61,12 @@ impl Game {
         requires low { 1 ≤ desk }
         requires high { desk ≤ 128 }
         requires moment { moment ≤ 2 ^ 48 }
+        requires fits { FitsDeskAct act.now }
         ensures { Takes (game_effect desk self.old session moment act.now) self.old self.new result }
     {
         match act {
-            DeskAct::Move { word } => self.play(desk, session, moment, word),
+            DeskAct::Move { word, stamp } => self.play(desk, session, moment, word, *stamp),
+            DeskAct::Acked { stamp } => self.acked(session, moment, *stamp),
             DeskAct::Resign => self.resign(desk, session, moment),
             DeskAct::Flag => self.call_flag(desk, session, moment),
             DeskAct::Fetch => self.fetch(session, moment),

@@ -1,8 +1,9 @@
 //! The boards of a game.
-ghost use Rattle.std.specs.Prelude.{◌≡◌, ◌≤◌, ◌^◌, ◌∷◌, IfOk, OnErr, slice_get};
+ghost use Rattle.std.specs.Prelude.{◌≡◌, ◌≤◌, ◌^◌, ◌∷◌, IfOk, IfSome, OnErr, slice_get};
 ghost use Rattle.std.specs.Option.{option_copied, option_to_list};
+ghost use Rattle.clock_ledger.specs.Span.{IsStamp};
 ghost use Rattle.fics_words.specs.Effect.{first_cause, refusal_of, refused_by};
-ghost use Rattle.linked_desk.specs.Boards.{boards_after, flag_at, latest, new_boards, numbered, word_at};
+ghost use Rattle.linked_desk.specs.Boards.{boards_acked, boards_after, flag_at, latest, new_boards, numbered, word_at};
 
 use chess_model::{Colour, MoveWord, Terms, Variant};
 use fics_words::{NoMemory, Refusal};
@@ -72,36 +73,55 @@ impl Boards {
         }
     }
 
-    /// Plays a word of a colour at the board in that place.
+    /// Plays a word of a colour at the board in that place, with the stamp of its client if it has one.
     pub(crate) fn play(
         &mut self,
         place: u8,
         colour: Colour,
         word: &MoveWord,
         moment: u64,
+        stamp: Option<u32>,
     ) -> Result<(), Refusal>
         requires order { latest self.old ≤ moment }
         requires moment { moment ≤ 2 ^ 48 }
+        requires stamp { IfSome stamp IsStamp }
         ensures refused { first_cause (refused_by (word_at (slice_get self.old place) colour word.now))
             ≡ refusal_of result }
-        ensures after { self.new ≡ boards_after self.old place moment
+        ensures after { self.new ≡ boards_after self.old place moment stamp
             (word_at (slice_get self.old place) colour word.now) }
         ensures unchanged { OnErr result (self.new ≡ self.old) }
         ensures order { latest self.new ≤ moment }
     {
         match place {
             0 => {
-                self.first.play(colour, word, moment)?;
+                self.first.play(colour, word, moment, stamp)?;
                 Ok(())
             }
             1 => {
                 let Some(board) = &mut self.second else {
                     return Err(Refusal::NotPlaying);
                 };
-                board.play(colour, word, moment)?;
+                board.play(colour, word, moment, stamp)?;
                 Ok(())
             }
             _ => Err(Refusal::NotPlaying),
+        }
+    }
+
+    /// The client of a colour acknowledges the board in that place.
+    pub(crate) fn acked(&mut self, place: u8, colour: Colour, stamp: u32)
+        requires { IsStamp stamp }
+        ensures after { self.new ≡ boards_acked self.old place colour stamp }
+        ensures order { latest self.new ≡ latest self.old }
+    {
+        match place {
+            0 => self.first.acked(colour, stamp),
+            1 => {
+                if let Some(board) = &mut self.second {
+                    board.acked(colour, stamp);
+                }
+            }
+            _ => {}
         }
     }
 

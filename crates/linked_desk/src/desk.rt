@@ -41,7 +41,7 @@ impl Model for Desk {
 impl Desk {
     ghost use Rattle.linked_desk.specs.Desk.{boards_at, serial_of, end_of, viewer_count, items_for};
     ghost use Rattle.linked_desk.specs.Seating.{AllDiffer, HasPairsFor, names_of, sessions_of, started};
-    ghost use Rattle.linked_desk.specs.Acts.{desk_effect, items_told, missing_effect};
+    ghost use Rattle.linked_desk.specs.Acts.{FitsDeskAct, desk_effect, items_told, missing_effect};
 
     /// A desk without a game. Its number is 1 to 128.
     pub fn vacant(number: u8) -> Desk
@@ -86,7 +86,8 @@ impl Desk {
         serial: u64,
         act: &DeskAct,
     ) -> Result<DeskReply, Fail>
-        requires { moment ≤ 2 ^ 48 }
+        requires moment { moment ≤ 2 ^ 48 }
+        requires fits { FitsDeskAct act.now }
         ensures { Takes (desk_effect self.old session moment serial act.now) self.old self.new result }
     {
         let desk = self.number;

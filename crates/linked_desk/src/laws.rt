@@ -7,7 +7,7 @@ ghost use Rattle.linked_desk.specs.Desk.{DeskState, game_number, occupant_of};
 ghost use Rattle.linked_desk.specs.Seating.{HasPairsFor, started};
 ghost use Rattle.linked_desk.specs.Sight.{board_in};
 ghost use Rattle.linked_desk.specs.Sound.{AnswersSoundly, HasSoundGame};
-ghost use Rattle.linked_desk.specs.Acts.{desk_answer, desk_after};
+ghost use Rattle.linked_desk.specs.Acts.{FitsDeskAct, desk_answer, desk_after};
 
 /// Who plays at a desk is settled when the game starts: no act changes the desk's number, nor the serial, the terms
 /// and the players of its game, and none makes it vacant or puts a game there.
@@ -28,7 +28,7 @@ pub fn acts_keep_the_game()
     ensures started { (d : DeskState) (serial : ℕ) (terms : Terms) (seats : Seats) (moment : ℕ)
         → HasPairsFor terms seats →
         HasSoundGame (started d serial terms seats moment) }
-    ensures game { (d : DeskState) (session moment serial : ℕ) (a : DeskAct) → HasSoundGame d
+    ensures game { (d : DeskState) (session moment serial : ℕ) (a : DeskAct) → FitsDeskAct a → HasSoundGame d
         → HasSoundGame (desk_after d session moment serial a) }
     ensures answers { (d : DeskState) (session moment serial : ℕ) (a : DeskAct) → HasSoundGame d
         → AnswersSoundly (desk_answer d session moment serial a) }

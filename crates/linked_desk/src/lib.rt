@@ -7,6 +7,7 @@
 //! since leaving takes no memory.
 #![tactic(auto)]
 
+mod acked;
 mod acts;
 mod boards;
 mod cursor;

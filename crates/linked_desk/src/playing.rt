@@ -1,5 +1,6 @@
 //! A move at a desk.
-ghost use Rattle.std.specs.Prelude.{◌≤◌, ◌^◌};
+ghost use Rattle.std.specs.Prelude.{◌≤◌, ◌^◌, IfSome};
+ghost use Rattle.clock_ledger.specs.Span.{IsStamp};
 ghost use Rattle.fics_words.specs.Effect.{Takes};
 ghost use Rattle.linked_desk.specs.Playing.{move_effect};
 
@@ -11,18 +12,20 @@ use fics_words::{Fail, Refusal};
 use style12_writer::Item;
 
 impl Game {
-    /// Plays a word of a session at its board, and tells the board.
+    /// Plays a word of a session at its board, with its client's stamp if it has one, and tells the board.
     pub(crate) fn play(
         &mut self,
         desk: u8,
         session: u32,
         moment: u64,
         word: &MoveWord,
+        stamp: Option<u32>,
     ) -> Result<DeskReply, Fail>
         requires low { 1 ≤ desk }
         requires high { desk ≤ 128 }
         requires moment { moment ≤ 2 ^ 48 }
-        ensures { Takes (move_effect desk self.old session moment word.now) self.old self.new result }
+        requires stamp { IfSome stamp IsStamp }
+        ensures { Takes (move_effect desk self.old session moment word.now stamp) self.old self.new result }
     {
         let Some(seat) = self.seat_of(session) else {
             return Err(Fail::Refused(Refusal::NotPlaying));
@@ -33,7 +36,7 @@ impl Game {
         self.feed.reserve(1 + ROOM_TO_END)?;
         let now = self.last.max(moment);
         let place = place_of(seat);
-        self.boards.play(place, colour_at(seat), word, now)?;
+        self.boards.play(place, colour_at(seat), word, now, stamp)?;
         self.last = now;
         if let Some(view) = self.view(desk, place) {
             self.feed.push(Item::Board(view));

@@ -9,6 +9,7 @@ use Rattle.std.proofs.lemmas.Option.{get_or_from_slice_get, slice_get_within}
 use Rattle.chess_model.specs.declared.variant.Variant.{Variant}
 use Rattle.chess_model.specs.declared.variant.Variant.TheVariants.{Chess, Crazyhouse, Bughouse}
 use Rattle.fics_words.specs.Handle.{key_of}
+use Rattle.fics_words.specs.declared.account.Account.{Account}
 use Rattle.fics_words.specs.declared.seats.Opponents.{Opponents}
 use Rattle.lobby_state.specs.declared.challenge.Challenge.{Challenge}
 use Rattle.lobby_state.specs.declared.game.Game.{Game}
@@ -87,13 +88,13 @@ pairs_of_two R a b r zero (suc zero) d before inside = r
 pairs_of_two R a b r zero (suc (suc j)) d before inside = absurd (omega arith)
 pairs_of_two R a b r (suc i) j d before inside = absurd (omega arith)
 
-opponents_apart : (white : Bool) (offering accepting : Member) → offering.session ≢ accepting.session → key_of offering.name ≢ key_of accepting.name
-    → AreApart (record { first = opponents_of white offering accepting; second = None })
-opponents_apart true offering accepting sessions keys = record {
+opponents_apart : (accounts : List Account) (white : Bool) (offering accepting : Member) → offering.session ≢ accepting.session → key_of offering.name ≢ key_of accepting.name
+    → AreApart (record { first = opponents_of accounts white offering accepting; second = None })
+opponents_apart accounts true offering accepting sessions keys = record {
   sessions = pairs_of_two (λ one another. one.session ≢ another.session) _ _ sessions;
   handles = pairs_of_two (λ one another. key_of one.name ≢ key_of another.name) _ _ keys;
 }
-opponents_apart false offering accepting sessions keys = record {
+opponents_apart accounts false offering accepting sessions keys = record {
   sessions = pairs_of_two (λ one another. one.session ≢ another.session) _ _ (λ e. sessions (sym e));
   handles = pairs_of_two (λ one another. key_of one.name ≢ key_of another.name) _ _ (λ e. keys (sym e));
 }
@@ -108,7 +109,7 @@ one_board Bughouse opponents e = cc
 planned_where : (lobby : LobbyState) (session : ℕ) (name : Option (List ℕ)) (accepting : Member) (offer : Challenge) (offering : Member) (slot : ℕ)
     → member_of lobby session ≡ Some accepting → offer_of lobby session name ≡ Some offer → member_of lobby offer.from ≡ Some offering
     → free_slot lobby ≡ Some slot → IsWellFormed lobby
-    → IsPlanned lobby (start_plan (lobby.started + 1) (Some accepting) (Some offer) (Some offering) (Some slot))
+    → IsPlanned lobby (start_plan lobby.accounts (lobby.started + 1) (Some accepting) (Some offer) (Some offering) (Some slot))
 planned_where lobby session name accepting offer offering slot first second third found h =
     let is_offer = offer_of-is lobby session name offer second h.challenges in
     let own : accepting.session ≡ session = eqb-true _ _ (find-passes (is_session session) lobby.members accepting first) in
@@ -123,15 +124,15 @@ planned_where lobby session name accepting offer offering slot first second thir
       is_desk = (omega arith, omega (arith, long));
       is_free = ap (slice_get lobby.games) back ∙ free-is lobby.games slot found;
       is_next = refl;
-      apart = opponents_apart white offering accepting sessions keys;
-      boards = one_board offer.terms.variant (opponents_of white offering accepting) is_offer.1.for_two;
+      apart = opponents_apart lobby.accounts white offering accepting sessions keys;
+      boards = one_board offer.terms.variant (opponents_of lobby.accounts white offering accepting) is_offer.1.for_two;
       for_two = is_offer.1.for_two;
     }
 
 planned_by : (lobby : LobbyState) (session : ℕ) (name : Option (List ℕ)) (accepting : Option Member) (offer : Option Challenge) (offering : Option Member)
     (slot : Option ℕ) → member_of lobby session ≡ accepting → offer_of lobby session name ≡ offer → offering_in lobby offer ≡ offering
     → free_slot lobby ≡ slot → is_none accepting ≡ false → is_none offering ≡ false → is_none slot ≡ false → IsWellFormed lobby
-    → IsPlanned lobby (start_plan (lobby.started + 1) accepting offer offering slot)
+    → IsPlanned lobby (start_plan lobby.accounts (lobby.started + 1) accepting offer offering slot)
 planned_by lobby session name None offer offering slot first second third found a b c h = cc
 planned_by lobby session name (Some accepting) offer None slot first second third found a b c h = cc
 planned_by lobby session name (Some accepting) None (Some offering) slot first second third found a b c h = cc

@@ -19,6 +19,7 @@ parted lobby session h =
     let left : List ℕ = filter stays (sessions_of lobby.members) in
     let sessions : sessions_of (filter others lobby.members) ≡ left = map-filter (λ (m : Member). m.session) stays lobby.members in
     record {
+      accounts = h.accounts;
       sessions = AllPairs-filter (λ a b. a.session ≢ b.session) others lobby.members h.sessions;
       handles = AllPairs-filter (λ a b. key_of a.name ≢ key_of b.name) others lobby.members h.handles;
       challenges = subst (λ (ss : List ℕ). All (IsBetweenMembers ss) (filter (λ c. not (concerns session c)) lobby.challenges)) (sym sessions)

@@ -1,15 +1,20 @@
 -- What an Enter keeps.
-use Rattle.std.proofs.Common.{◌≡◌, ◌≢◌, ℕ, true, false, List, [], ◌∷◌, ◌++◌, Option, None, Some, is_some, bytes_eq, refl, sym, ap, subst, ◌∙◌}
+use Rattle.std.proofs.Common.{◌≡◌, ◌≢◌, ℕ, ◌<◌, length, length-append, map, arith, true, false, List, [], ◌∷◌, ◌++◌, Option, None, Some, is_some, bytes_eq, refl, sym, ap, subst, ◌∙◌}
 use Rattle.std.specs.Prelude.{All}
 use Rattle.std.proofs.lemmas.Bool.{or_parts, eqb-false}
 use Rattle.std.proofs.lemmas.Cmp.{nat_list_eq_equiv}
-use Rattle.std.proofs.lemmas.List.{map-append}
+use Rattle.std.proofs.lemmas.List.{length-map, map-append}
 use Rattle.std.proofs.lemmas.List.Elements.{All-nil, All-push, All-weaker, Contains-append_left}
 use Rattle.std.proofs.lemmas.List.Quantifiers.{all_pairs_push}
 use Rattle.fics_words.specs.Handle.{key_of}
 use Rattle.lobby_state.specs.declared.member.Member.{Member}
-use Rattle.lobby_state.specs.Enter.{enter_effect, newcomer, with_newcomer}
-use Rattle.lobby_state.specs.Keeps.{Keeps}
+use Rattle.fics_words.specs.declared.account.Account.{Account}
+use Rattle.login_handles.specs.Guests.{IsLeastFree}
+use Rattle.login_handles.proofs.GuestNames.{guests_are_least}
+use Rattle.login_handles.specs.declared.check.Check.{Check}
+use Rattle.login_handles.specs.declared.check.Check.TheVariants.{NeedPassword as MissesPassword}
+use Rattle.lobby_state.specs.Enter.{enter_effect, entrant_of, guest_in, names_taken, newcomer, welcome, welcomed, with_newcomer}
+use Rattle.lobby_state.specs.Keeps.{Keeps, TellsDesks}
 use Rattle.lobby_state.specs.Lobby.{LobbyState, has_handle, holder_of, is_session, member_of}
 use Rattle.lobby_state.specs.WellFormed.{IsWellFormed, IsBetweenMembers, IsSeatOf, HasSeats, sessions_of}
 use Rattle.lobby_state.proofs.Lists.{find-none}
@@ -26,6 +31,7 @@ same_key a b e same =
 with_one_more : (lobby : LobbyState) (session : ℕ) (name : List ℕ) → member_of lobby session ≡ None → holder_of lobby (key_of name) ≡ None
     → IsWellFormed lobby → IsWellFormed (with_newcomer lobby session name)
 with_one_more lobby session name alone free h = record {
+  accounts = h.accounts;
   sessions = all_pairs_push (λ a b. a.session ≢ b.session) lobby.members (newcomer session name) h.sessions
       (λ k d inside. eqb-false _ session (find-none (is_session session) lobby.members alone k d inside));
   handles = all_pairs_push (λ a b. key_of a.name ≢ key_of b.name) lobby.members (newcomer session name) h.handles
@@ -45,11 +51,37 @@ with_one_more lobby session name alone free h = record {
   places = All-push (HasSeats lobby.games) lobby.members (newcomer session name) h.places (All-nil (IsSeatOf lobby.games session));
 }
 
-pub keeps_enter : (lobby : LobbyState) (session : ℕ) (name : List ℕ) → Keeps lobby (enter_effect lobby session name)
-keeps_enter lobby session name = record {
-  formed = λ allowed h.
-      let parts = or_parts (is_some (member_of lobby session)) (is_some (holder_of lobby (key_of name))) allowed.1.0 in
-      with_one_more lobby session name (none_some (member_of lobby session) parts.0) (none_some (holder_of lobby (key_of name)) parts.1) h;
-  games = refl;
-  tells = λ _. tt;
-}
+-- whatever the accounts say, nobody comes in whose session or handle is there
+formed_welcomed : (check : Check) (lobby : LobbyState) (session : ℕ) (name : List ℕ) → member_of lobby session ≡ None → holder_of lobby (key_of name) ≡ None
+    → IsWellFormed lobby → IsWellFormed (welcomed check lobby session name)
+formed_welcomed MissesPassword lobby session name alone free h = h
+formed_welcomed _ lobby session name alone free h = with_one_more lobby session name alone free h
+
+games_welcomed : (check : Check) (lobby : LobbyState) (session : ℕ) (name : List ℕ) → (welcomed check lobby session name).games ≡ lobby.games
+games_welcomed MissesPassword lobby session name = refl
+games_welcomed _ lobby session name = refl
+
+tells_welcome : (check : Check) (name : List ℕ) → TellsDesks (welcome check name)
+tells_welcome MissesPassword name = tt
+tells_welcome _ name = tt
+
+pub keeps_enter : (lobby : LobbyState) (session : ℕ) (name digest : Option (List ℕ)) → Keeps lobby (enter_effect lobby session name digest)
+keeps_enter lobby session name digest =
+    let entrant = entrant_of lobby name digest in
+    record {
+      formed = λ allowed h.
+          let parts = or_parts (is_some (member_of lobby session)) (is_some (holder_of lobby (key_of entrant.name))) allowed.1.0 in
+          formed_welcomed entrant.check lobby session entrant.name (none_some (member_of lobby session) parts.0)
+          (none_some (holder_of lobby (key_of entrant.name)) parts.1) h;
+      games = games_welcomed entrant.check lobby session entrant.name;
+      tells = λ _. tells_welcome entrant.check entrant.name;
+    }
+
+-- fewer names are taken than there are guests
+pub guest_is_least : (lobby : LobbyState) → IsWellFormed lobby → length lobby.members < 256 → IsLeastFree (names_taken lobby) (guest_in lobby)
+guest_is_least lobby h few =
+    let front = length-map lobby.members (λ (m : Member). key_of m.name) in
+    let back = length-map lobby.accounts (λ (a : Account). key_of a.name) in
+    let both = length-append (map (λ (m : Member). key_of m.name) lobby.members) (map (λ (a : Account). key_of a.name) lobby.accounts) in
+    let most = h.accounts.1 in
+    guests_are_least (names_taken lobby) (omega (arith, front, back, both, most))

@@ -5,11 +5,15 @@ pub mod Lists
 pub mod Causes
 pub mod WellFormed
 pub mod KeepsEnter
+pub mod KeepsRegistration
 pub mod KeepsMatch
 pub mod KeepsWhere
 pub mod KeepsFetch
 pub mod KeepsGoing
 pub mod KeepsBye
+pub mod RowsInUse
+pub mod KeepsInUse
+pub mod Copying
 pub mod KeepsActs
 pub mod KeepsAccept
 pub mod KeepsStart

@@ -21,8 +21,9 @@ pub kept : (lobby : LobbyState) (members : List Member) (challenges : List Chall
     → All (IsBetweenMembers (sessions_of lobby.members)) challenges
     → length games ≡ desks → All (IsStarted started) games → All (HasSeats games) members
     → IsWellFormed lobby
-    → IsWellFormed (record { members = members; challenges = challenges; games = games; started = started })
+    → IsWellFormed (record lobby { members = members; challenges = challenges; games = games; started = started })
 kept lobby members challenges games started sessions keys between long serials places h = record {
+  accounts = h.accounts;
   sessions = AllPairs-same (λ m. m.session) lobby.members members sessions h.sessions;
   handles = AllPairs-same (λ m. key_of m.name) lobby.members members keys h.handles;
   challenges = subst (λ (ss : List ℕ). All (IsBetweenMembers ss) challenges) (sym sessions) between;
@@ -47,6 +48,7 @@ member_changed lobby test change session name seats h =
 pub challenges_gone : (lobby : LobbyState) (test : Challenge → Bool) → IsWellFormed lobby
     → IsWellFormed (record lobby { challenges = filter test lobby.challenges })
 challenges_gone lobby test h = record {
+  accounts = h.accounts;
   sessions = h.sessions;
   handles = h.handles;
   challenges = All-filter test (IsBetweenMembers (sessions_of lobby.members)) lobby.challenges h.challenges;
@@ -57,6 +59,7 @@ challenges_gone lobby test h = record {
 
 pub IsWellFormed-opening : IsWellFormed opening
 IsWellFormed-opening = record {
+  accounts = (tt, omega arith);
   sessions = λ i j d before inside. absurd (omega arith);
   handles = λ i j d before inside. absurd (omega arith);
   challenges = All-nil (IsBetweenMembers []);

@@ -4,6 +4,7 @@ use Rattle.std.specs.List.{find}
 use Rattle.chess_model.specs.declared.man.Colour.{Colour}
 use Rattle.chess_model.specs.declared.man.Colour.TheVariants.{White, Black}
 use Rattle.fics_words.specs.Effect.{Effect}
+use Rattle.fics_words.specs.declared.account.Account.{Account}
 use Rattle.fics_words.specs.declared.player.Player.{Player}
 use Rattle.fics_words.specs.declared.refusal.Refusal.TheVariants.{NotIn, NoChallenge, Playing, NoDesk}
 use Rattle.fics_words.specs.declared.seats.Opponents.{Opponents}
@@ -12,7 +13,7 @@ use Rattle.lobby_state.specs.declared.acts.Plan.TheVariants.{Start, Clear}
 use Rattle.lobby_state.specs.declared.challenge.Challenge.{Challenge}
 use Rattle.lobby_state.specs.declared.member.Member.{Member}
 use Rattle.lobby_state.specs.Change.{holds}
-use Rattle.lobby_state.specs.Lobby.{LobbyState, most_games, has_place, member_of, named, free_slot}
+use Rattle.lobby_state.specs.Lobby.{LobbyState, most_games, has_place, is_registered, member_of, named, free_slot}
 
 -- the challenge by this player to the session, if there are both
 abbrev pub offer_from : LobbyState → ℕ → Option Member → Option Challenge
@@ -37,14 +38,17 @@ offers_white (Some White) serial = true
 offers_white (Some Black) serial = false
 offers_white None serial = serial % 2 == 1
 
--- a member as a player; nobody has an account yet
-abbrev pub player_of : Member → Player
-player_of member = record { session = member.session; name = member.name; registered = false }
+-- a member as a player, which is registered where the handle has one of these accounts
+abbrev pub player_of : List Account → Member → Player
+player_of accounts member =
+    record { session = member.session; name = member.name; registered = is_registered accounts member }
 
 -- the two at their board
-abbrev pub opponents_of : Bool → Member → Member → Opponents
-opponents_of true offering accepting = record { white = player_of offering; black = player_of accepting }
-opponents_of false offering accepting = record { white = player_of accepting; black = player_of offering }
+abbrev pub opponents_of : List Account → Bool → Member → Member → Opponents
+opponents_of accounts true offering accepting =
+    record { white = player_of accounts offering; black = player_of accounts accepting }
+opponents_of accounts false offering accepting =
+    record { white = player_of accounts accepting; black = player_of accounts offering }
 
 -- what stands for the plan where one of its parts is missing; such an act is refused
 abbrev pub no_plan : Plan
@@ -52,13 +56,13 @@ no_plan = Clear 0 0 0
 
 -- the plan of a game at the least free desk under the next serial, between the member that accepts a challenge and the
 -- one that made it
-abbrev pub start_plan : ℕ → Option Member → Option Challenge → Option Member → Option ℕ → Plan
-start_plan serial (Some accepting) (Some offer) (Some offering) (Some slot) =
+abbrev pub start_plan : List Account → ℕ → Option Member → Option Challenge → Option Member → Option ℕ → Plan
+start_plan accounts serial (Some accepting) (Some offer) (Some offering) (Some slot) =
     Start (slot + 1) serial offer.terms (record {
-      first = opponents_of (offers_white offer.terms.colour serial) offering accepting;
+      first = opponents_of accounts (offers_white offer.terms.colour serial) offering accepting;
       second = None;
     })
-start_plan _ _ _ _ _ = no_plan
+start_plan _ _ _ _ _ _ = no_plan
 
 -- an acceptance is refused where the session isn't a member; where there is no such challenge; where one of the two has
 -- a place; and where all desks are in use, or 2^62 games were started
@@ -74,6 +78,6 @@ accept_effect lobby session name =
           (holds has_place accepting || holds has_place offering, Playing) ∷
           (is_none (free_slot lobby) || nat_le most_games lobby.started, NoDesk) ∷ [];
       memory = false;
-      reply = start_plan (lobby.started + 1) accepting offer offering (free_slot lobby);
+      reply = start_plan lobby.accounts (lobby.started + 1) accepting offer offering (free_slot lobby);
       after = lobby;
     }

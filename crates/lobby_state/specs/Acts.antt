@@ -1,28 +1,31 @@
 -- All lobby acts in one table: what each does, by the lobby before, the session and the act. This server's own.
-use Rattle.std.specs.Prelude.{ℕ, ◌≤◌, List, [], Result}
+use Rattle.std.specs.Prelude.{ℕ, ◌≤◌, Result}
 use Rattle.chess_model.specs.declared.variant.Terms.{Terms}
 use Rattle.fics_words.specs.declared.refusal.Refusal.{Refusal}
 use Rattle.fics_words.specs.Effect.{Effect, answer_of, state_of}
 use Rattle.lobby_state.specs.declared.acts.LobbyAct.{LobbyAct}
-use Rattle.lobby_state.specs.declared.acts.LobbyAct.TheVariants.{Enter, Match, Where, Fetch, Going, Bye}
+use Rattle.lobby_state.specs.declared.acts.LobbyAct.TheVariants.{Enter, Register, Match, Where, Fetch, Going, Bye, InUse}
 use Rattle.lobby_state.specs.declared.acts.LobbyReply.{LobbyReply}
-use Rattle.lobby_state.specs.declared.acts.LobbyReply.TheVariants.{Waiting}
 use Rattle.lobby_state.specs.Bye.{bye_effect}
 use Rattle.lobby_state.specs.Enter.{enter_effect}
 use Rattle.lobby_state.specs.Fetch.{fetch_effect}
 use Rattle.lobby_state.specs.Going.{going_effect}
+use Rattle.lobby_state.specs.InUse.{in_use_effect}
 use Rattle.lobby_state.specs.Lobby.{LobbyState}
 use Rattle.lobby_state.specs.Match.{match_effect}
+use Rattle.lobby_state.specs.Registration.{registration_effect}
 use Rattle.lobby_state.specs.Where.{where_effect}
 
 -- what a lobby act does
 abbrev pub lobby_effect : LobbyState → ℕ → LobbyAct → Effect LobbyState LobbyReply
-lobby_effect lobby session (Enter name) = enter_effect lobby session name
+lobby_effect lobby session (Enter name digest) = enter_effect lobby session name digest
+lobby_effect lobby session (Register digest) = registration_effect lobby session digest
 lobby_effect lobby session (Match to terms) = match_effect lobby session to terms
 lobby_effect lobby session Where = where_effect lobby session
 lobby_effect lobby session Fetch = fetch_effect lobby session
 lobby_effect lobby session Going = going_effect lobby session
 lobby_effect lobby session Bye = bye_effect lobby session
+lobby_effect lobby session InUse = in_use_effect lobby
 
 -- the answer to a lobby act
 abbrev pub lobby_answer : LobbyState → ℕ → LobbyAct → Result LobbyReply Refusal
@@ -31,11 +34,6 @@ lobby_answer lobby session act = answer_of (lobby_effect lobby session act)
 -- the lobby after a lobby act
 abbrev pub lobby_after : LobbyState → ℕ → LobbyAct → LobbyState
 lobby_after lobby session act = state_of lobby (lobby_effect lobby session act)
-
--- the lines that a reply tells
-abbrev pub lines_told : LobbyReply → List (List ℕ)
-lines_told (Waiting lines places) = lines
-lines_told _ = []
 
 -- at most ten hours at the start, and at most ten minutes for a half-move
 pub record AreTerms (terms : Terms) : Type 0 where

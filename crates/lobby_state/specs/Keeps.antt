@@ -1,9 +1,9 @@
 -- What acts keep, and what plans keep: one record each, which is proved act by act and plan by plan, and from which the
 -- parts of the server above the lobby learn all that they need of any act. This server's own.
-use Rattle.std.specs.Prelude.{◌≡◌, ◌≢◌, ℕ, ◌-◌, ◌≤◌, Bool, IfSome, Option, Some, slice_get}
+use Rattle.std.specs.Prelude.{◌≡◌, ◌≢◌, ℕ, ◌-◌, ◌≤◌, All, Bool, IfSome, Option, Some, slice_get}
 use Rattle.fics_words.specs.Effect.{Effect, NoneHolds}
 use Rattle.lobby_state.specs.declared.acts.LobbyReply.{LobbyReply}
-use Rattle.lobby_state.specs.declared.acts.LobbyReply.TheVariants.{Done, Entered, Places, Waiting}
+use Rattle.lobby_state.specs.declared.acts.LobbyReply.TheVariants.{Done, Entered, NeedPassword, Places, Waiting, Desks}
 use Rattle.lobby_state.specs.declared.acts.Plan.{Plan}
 use Rattle.lobby_state.specs.declared.game.Game.{Game}
 use Rattle.lobby_state.specs.Desks.{IsDesk}
@@ -13,12 +13,14 @@ use Rattle.lobby_state.specs.Planned.{IsPlanned}
 use Rattle.lobby_state.specs.Plans.{committed, desk_of, game_after}
 use Rattle.lobby_state.specs.WellFormed.{IsWellFormed}
 
--- each place that the reply tells is at a desk from 1 to 128
+-- each place and each desk that the reply tells is at a desk from 1 to 128
 abbrev pub TellsDesks : LobbyReply → Type 0
 TellsDesks Done = Unit {0}
 TellsDesks (Entered name) = Unit {0}
+TellsDesks NeedPassword = Unit {0}
 TellsDesks (Places places) = AreAtDesks places.rows
 TellsDesks (Waiting lines places) = AreAtDesks places.rows
+TellsDesks (Desks desks) = All (λ row. IsDesk row.desk) desks
 
 -- what a lobby act keeps: it leaves a lobby well-formed, it starts and ends no game, and it tells of desks alone
 pub record Keeps (lobby : LobbyState) (effect : Effect LobbyState LobbyReply) : Type 0 where

@@ -4,11 +4,14 @@ pub mod Places
 pub mod PlaceFields
 pub mod Lobby
 pub mod Enter
+pub mod Registration
 pub mod Match
 pub mod Where
 pub mod Fetch
 pub mod Going
 pub mod Bye
+pub mod InUse
+pub mod Told
 pub mod Accept
 pub mod Start
 pub mod Clear

@@ -1,16 +1,20 @@
--- A lobby: who is in the hall, which challenges stand, and which desks are in use. This server's own.
-use Rattle.std.specs.Prelude.{ℕ, ◌-◌, ◌^◌, ◌==◌, Bool, not, ◌&&◌, ◌||◌, List, [], length, replicate, Option, None, Some, is_none, bytes_eq, filter, slice_get}
+-- A lobby: who is registered and who is in the hall, which challenges stand, and which desks are in use. This server's
+-- own.
+use Rattle.std.specs.Prelude.{ℕ, ◌-◌, ◌^◌, ◌==◌, Bool, not, ◌&&◌, ◌||◌, List, [], length, replicate, Option, None, Some, is_none, is_some, bytes_eq, filter, slice_get}
 use Rattle.std.specs.List.{find, position}
 use Rattle.fics_words.specs.Handle.{key_of}
+use Rattle.fics_words.specs.declared.account.Account.{Account}
+use Rattle.login_handles.specs.Accounts.{account_of}
 use Rattle.lobby_state.specs.declared.challenge.Challenge.{Challenge}
 use Rattle.lobby_state.specs.declared.game.Game.{Game}
 use Rattle.lobby_state.specs.declared.member.Member.{Member}
 use Rattle.lobby_state.specs.Desks.{desks}
 use Rattle.lobby_state.specs.Places.{PlaceList, no_places}
 
--- the members in the order in which they entered; the challenges in the order in which they were made; for each
+-- the accounts in the order in which they were made; the members in the order in which they entered; the challenges in the order in which they were made; for each
 -- desk from 1 on the game for which it is in use; and how many games were started, which is the last serial
 pub record LobbyState : Type 0 where
+  pub accounts : List Account
   pub members : List Member
   pub challenges : List Challenge
   pub games : List (Option Game)
@@ -20,6 +24,10 @@ pub record LobbyState : Type 0 where
 abbrev pub most_members : ℕ
 most_members = 256
 
+-- the most accounts
+abbrev pub most_accounts : ℕ
+most_accounts = 4096
+
 -- the most lines that wait for a member
 abbrev pub most_lines : ℕ
 most_lines = 512
@@ -28,9 +36,9 @@ most_lines = 512
 abbrev pub most_games : ℕ
 most_games = 2 ^ 62
 
--- a lobby at its opening: nobody is there, and each desk is free
+-- a lobby at its opening: nobody is registered or there, and each desk is free
 abbrev pub opening : LobbyState
-opening = record { members = []; challenges = []; games = replicate desks None; started = 0 }
+opening = record { accounts = []; members = []; challenges = []; games = replicate desks None; started = 0 }
 
 -- the member is the one of this session
 abbrev pub is_session : ℕ → Member → Bool
@@ -43,6 +51,14 @@ has_handle key member = bytes_eq (key_of member.name) key
 -- the member goes by the handle with this key, and can be named, since it isn't going
 abbrev pub is_named : List ℕ → Member → Bool
 is_named key member = has_handle key member && not member.going
+
+-- the handle has an account among these
+abbrev pub has_account : List Account → List ℕ → Bool
+has_account accounts name = is_some (account_of accounts (key_of name))
+
+-- the member is registered: its handle has an account
+abbrev pub is_registered : List Account → Member → Bool
+is_registered accounts member = has_account accounts member.name
 
 -- the member has a place
 abbrev pub has_place : Member → Bool

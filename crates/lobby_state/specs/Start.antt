@@ -34,7 +34,7 @@ concerns_seated seats challenge =
 
 -- the lobby once the game has started: the desk is in use, the players have their places, and their challenges go
 abbrev pub seated : LobbyState → ℕ → ℕ → Terms → Seats → LobbyState
-seated lobby desk serial terms seats = record {
+seated lobby desk serial terms seats = record lobby {
   members = map (λ member. in_seat desk serial (seat_number member.session (seat_list seats)) member) lobby.members;
   challenges = filter (λ challenge. not (concerns_seated seats challenge)) lobby.challenges;
   games = slice_set lobby.games (desk - 1) (Some (record { serial = serial; terms = terms; seats = seats }));

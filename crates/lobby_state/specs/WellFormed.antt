@@ -4,6 +4,7 @@ use Rattle.std.specs.List.{AllPairs}
 use Rattle.fics_words.specs.Handle.{key_of}
 use Rattle.fics_words.specs.declared.player.Player.{Player}
 use Rattle.fics_words.specs.Seats.{seat_list}
+use Rattle.login_handles.specs.Accounts.{AreAccounts}
 use Rattle.lobby_state.specs.declared.challenge.Challenge.{Challenge}
 use Rattle.lobby_state.specs.declared.game.Game.{Game}
 use Rattle.lobby_state.specs.declared.member.Member.{Member}
@@ -42,9 +43,10 @@ abbrev pub IsStarted : ℕ → Option Game → Type 0
 IsStarted started None = Unit {0}
 IsStarted started (Some game) = (1 ≤ game.serial) × (game.serial ≤ started)
 
--- no two members have one session, and no two one handle; each challenge is by one member to another; there are 128
--- desks, and each game has a serial that was given out; and each place of a member is a seat of its own in such a game
+-- each handle has at most one account, and there are at most 4,096; no two members have one session, and no two one
+-- handle; each challenge is by one member to another; there are 128 desks, and each game has a serial that was given out; and each place of a member is a seat of its own in such a game
 pub record IsWellFormed (lobby : LobbyState) : Type 0 where
+  pub accounts : AreAccounts lobby.accounts
   pub sessions : AllPairs (λ one another. one.session ≢ another.session) lobby.members
   pub handles : AllPairs (λ one another. key_of one.name ≢ key_of another.name) lobby.members
   pub challenges : All (IsBetweenMembers (sessions_of lobby.members)) lobby.challenges

@@ -10,6 +10,7 @@ use crate::member::Member;
 use crate::register::Register;
 use chess_model::Colour;
 use fics_words::{HandleKey, Opponents, Player, Refusal, Seats};
+use login_handles::Accounts;
 
 /// The most games that are ever started, which keeps serials below 2^64.
 const MOST_GAMES: u64 = 1 << 62;
@@ -45,7 +46,7 @@ impl Register {
             serial,
             terms: offer.terms,
             seats: Seats {
-                first: opponents_of(offers_white, offering, accepting),
+                first: opponents_of(&self.accounts, offers_white, offering, accepting),
                 second: None,
             },
         })
@@ -83,18 +84,23 @@ fn first_between(challenges: &[Challenge], from: u32, to: u32) -> Option<&Challe
 }
 
 /// The two at their board.
-fn opponents_of(offers_white: bool, offering: &Member, accepting: &Member) -> Opponents
-    ensures { result ≡ opponents_of offers_white offering.now accepting.now }
+fn opponents_of(
+    accounts: &Accounts,
+    offers_white: bool,
+    offering: &Member,
+    accepting: &Member,
+) -> Opponents
+    ensures { result ≡ opponents_of accounts.now offers_white offering.now accepting.now }
 {
     if offers_white {
         Opponents {
-            white: player_of(offering),
-            black: player_of(accepting),
+            white: player_of(accounts, offering),
+            black: player_of(accounts, accepting),
         }
     } else {
         Opponents {
-            white: player_of(accepting),
-            black: player_of(offering),
+            white: player_of(accounts, accepting),
+            black: player_of(accounts, offering),
         }
     }
 }
@@ -111,13 +117,13 @@ fn offers_white(colour: Option<Colour>, serial: u64) -> bool
     }
 }
 
-/// A member as a player; nobody has an account yet.
-fn player_of(member: &Member) -> Player
-    ensures { result ≡ player_of member.now }
+/// A member as a player, which is registered where its handle has an account.
+fn player_of(accounts: &Accounts, member: &Member) -> Player
+    ensures { result ≡ player_of accounts.now member.now }
 {
     Player {
         session: member.session,
         name: member.name,
-        registered: false,
+        registered: accounts.get(member.name.key()).is_some(),
     }
 }

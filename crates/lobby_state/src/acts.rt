@@ -1,19 +1,32 @@
 ghost use Rattle.std.specs.Prelude.{◌≡◌};
-ghost use Rattle.lobby_state.specs.Acts.{lines_told};
+ghost use Rattle.lobby_state.specs.Told.{lists_told};
 ghost use Rattle.lobby_state.specs.Plans.{desk_of};
 
+use crate::desk_in_use::DeskInUse;
 use crate::places::Places;
+use crate::told::ReplyLists;
 use chess_model::Terms;
 use collections::Listed;
-use fics_words::{Handle, HandleKey, Line, Seats};
+use fics_words::{Digest, Handle, HandleKey, Line, Seats};
 
 /// An act that needs the lobby alone.
 #[derive(Debug, Drop, PartialEq, Eq)]
 pub enum LobbyAct {
-    /// The session comes in under this handle.
-    Enter { name: Handle },
+    /// The session comes in, under this handle or else as a guest. Where the handle has an account, the digest of its
+    /// password is asked for; where it has none, a digest that is given means nothing.
+    Enter {
+        name: Option<Handle>,
+        digest: Option<Digest>,
+    },
+    /// The member makes an account of its handle, with this digest of its password.
+    Register {
+        digest: Digest,
+    },
     /// The member challenges another to a game.
-    Match { to: HandleKey, terms: Terms },
+    Match {
+        to: HandleKey,
+        terms: Terms,
+    },
     /// Asks for the member's places.
     Where,
     /// Takes the lines that wait for the member, and asks for its places.
@@ -22,6 +35,8 @@ pub enum LobbyAct {
     Going,
     /// The member is gone.
     Bye,
+    /// Asks which desks are in use, and under which serials.
+    InUse,
 }
 
 /// What a lobby act is answered.
@@ -30,24 +45,30 @@ pub enum LobbyReply {
     Done,
     /// The session is in, under this handle.
     Entered(Handle),
+    /// The handle has an account, whose password wasn't given: nothing was done.
+    NeedPassword,
     Places(Places),
     Waiting { lines: Listed<Line>, places: Places },
+    /// The desks in use, in ascending order.
+    Desks(Listed<DeskInUse>),
 }
 
 impl LobbyReply {
-    /// A reply equal to this one, made of a copy of the lines that it tells.
-    pub fn twin(&self, lines: Listed<Line>) -> LobbyReply
-        requires { lines ≡ lines_told self.now }
+    /// A reply equal to this one, made of copies of the lists that it tells.
+    pub fn twin(&self, lists: ReplyLists) -> LobbyReply
+        requires { lists ≡ lists_told self.now }
         ensures { result ≡ self.now }
     {
         match self {
             LobbyReply::Done => LobbyReply::Done,
             LobbyReply::Entered(name) => LobbyReply::Entered(*name),
+            LobbyReply::NeedPassword => LobbyReply::NeedPassword,
             LobbyReply::Places(places) => LobbyReply::Places(*places),
             LobbyReply::Waiting { places, .. } => LobbyReply::Waiting {
-                lines,
+                lines: lists.lines,
                 places: *places,
             },
+            LobbyReply::Desks(_) => LobbyReply::Desks(lists.desks),
         }
     }
 }

@@ -1,7 +1,11 @@
 //! What holds of every lobby and of every act, as calls that do nothing: each says by its contract what was proved.
-ghost use Rattle.std.specs.Prelude.{◌≡◌, Ok};
+ghost use Rattle.std.specs.Prelude.{◌≡◌, ◌<◌, Ok, length};
+ghost use Rattle.login_handles.specs.Guests.{IsLeastFree};
 ghost use Rattle.lobby_state.specs.Acts.{lobby_effect};
+ghost use Rattle.lobby_state.specs.Enter.{guest_in, names_taken};
+ghost use Rattle.lobby_state.specs.InUse.{AreDesksInUse, desks_in_use};
 ghost use Rattle.lobby_state.specs.Keeps.{Keeps, KeepsPlan};
+ghost use Rattle.lobby_state.specs.Lobby.{most_members};
 ghost use Rattle.lobby_state.specs.Planned.{IsPlanned};
 ghost use Rattle.lobby_state.specs.Plans.{NamesDesk, plan_of};
 ghost use Rattle.lobby_state.specs.WellFormed.{IsWellFormed};
@@ -27,4 +31,17 @@ pub fn plans_keep(lobby: &Lobby, session: u32, act: &PairAct, plan: &Plan)
     ensures planned { NamesDesk act.now → IsWellFormed lobby.now → plan_of lobby.now session act.now ≡ Ok plan.now
         → IsPlanned lobby.now plan.now }
     ensures kept { IsPlanned lobby.now plan.now → KeepsPlan lobby.now plan.now }
+{}
+
+/// While the hall isn't full, the guest that enters next has the least name of a guest that no member and no account
+/// has.
+pub fn guests_have_the_least_name(lobby: &Lobby)
+    ensures { length lobby.now.members < most_members → IsLeastFree (names_taken lobby.now) (guest_in lobby.now) }
+{
+    let _ = &lobby.register;
+}
+
+/// An InUse tells the desks that are in use with their serials, each of them once, in ascending order.
+pub fn in_use_tells_the_desks(lobby: &Lobby)
+    ensures { AreDesksInUse lobby.now (desks_in_use lobby.now) }
 {}

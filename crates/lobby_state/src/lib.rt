@@ -1,4 +1,4 @@
-//! The lobby: who is in the hall, which challenges stand, and which desks are in use for which game.
+//! The lobby: who is registered and who is in the hall, which challenges stand, and which desks are in use for which game.
 //!
 //! The contract: what an act does, by the lobby before, the session and the act, stands in one record of its own file
 //! in `specs/`: why it is refused, what it replies, and what stands afterwards. A refusal and running out of memory
@@ -14,10 +14,12 @@ mod acts;
 mod bye;
 mod challenge;
 mod clear;
+mod desk_in_use;
 mod enter;
 mod fetch;
 mod game;
 mod going;
+mod in_use;
 mod laws;
 mod lobby;
 mod matching;
@@ -25,15 +27,22 @@ mod member;
 mod place;
 mod places;
 mod register;
+mod registration;
 mod start;
 mod table;
+mod told;
 mod where_is;
 
 pub use acts::{LobbyAct, LobbyReply, PairAct, Plan};
 pub use challenge::Challenge;
+pub use desk_in_use::DeskInUse;
 pub use game::{DESKS, Game};
-pub use laws::{acts_keep, lobbies_are_well_formed, plans_keep};
+pub use laws::{
+    acts_keep, guests_have_the_least_name, in_use_tells_the_desks, lobbies_are_well_formed,
+    plans_keep,
+};
 pub use lobby::Lobby;
 pub use member::Member;
 pub use place::Place;
 pub use places::Places;
+pub use told::ReplyLists;

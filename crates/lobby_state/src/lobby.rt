@@ -1,22 +1,24 @@
 //! The lobby itself: which act is carried out by which function, and that every lobby is well-formed.
-ghost use Rattle.std.specs.Prelude.{◌≡◌, IfOk, IfSome, IsOk};
+ghost use Rattle.std.specs.Prelude.{◌≡◌, IfOk, IfSome, IsOk, length};
 ghost use Rattle.fics_words.specs.Effect.{Takes};
-ghost use Rattle.lobby_state.specs.Acts.{LobbyNeedsNoMemory, lines_told, lobby_effect};
+ghost use Rattle.lobby_state.specs.Acts.{LobbyNeedsNoMemory, lobby_effect};
 ghost use Rattle.lobby_state.specs.Desks.{IsDesk};
 ghost use Rattle.lobby_state.specs.Lobby.{game_at, opening, places_of, waiting_of};
+ghost use Rattle.lobby_state.specs.Told.{lists_told};
 ghost use Rattle.lobby_state.specs.Planned.{IsPlanned};
 ghost use Rattle.lobby_state.specs.Plans.{NamesDesk, committed, desk_of, plan_of};
+ghost use Rattle.lobby_state.specs.Registration.{loading_effect};
 
 use crate::acts::{LobbyAct, LobbyReply, PairAct, Plan};
 use crate::game::Game;
 use crate::places::Places;
 use crate::register::Register;
-use collections::Listed;
-use fics_words::{Fail, Line, NoMemory, Refusal};
+use crate::told::ReplyLists;
+use fics_words::{Account, Fail, Line, NoMemory, Refusal};
 use std::alloc::Global;
 use std::marker::Model;
 
-/// Who is in the hall, which challenges stand, and which desks are in use. Every lobby is well-formed.
+/// Who is registered and who is in the hall, which challenges stand, and which desks are in use. Every lobby is well-formed.
 #[derive(Debug, Drop)]
 pub struct Lobby {
     pub(crate) register: Register,
@@ -34,13 +36,28 @@ impl Model for Lobby {
 }
 
 impl Lobby {
-    /// A lobby at its opening: nobody is there, and each desk is free. It fails only when out of memory.
+    /// A lobby at its opening: nobody is registered or there, and each desk is free. It fails only when out of memory.
     pub fn new(alloc: Global) -> Result<Lobby, NoMemory>
         ensures { IfOk result (λ lobby. lobby ≡ opening) }
     {
         Ok(Lobby {
             register: Register::new(alloc)?,
         })
+    }
+
+    /// Puts an account behind the others, as one that was kept elsewhere. Refuses with `AlreadyRegistered` where its
+    /// handle has an account, and else with `AccountsFull` where there are 4,096.
+    pub fn add_account(&mut self, account: Account) -> Result<(), Fail>
+        ensures { Takes (loading_effect self.old account) self.old self.new result }
+    {
+        self.register.add_account(account)
+    }
+
+    /// The accounts, in the order in which they were made.
+    pub fn accounts(&self) -> &[Account]
+        ensures { result.now ≡ self.now.accounts }
+    {
+        self.register.accounts.rows()
     }
 
     /// The places of the session: none where it isn't a member.
@@ -73,12 +90,12 @@ impl Lobby {
         self.register.act(session, act)
     }
 
-    /// A copy of the lines that an act will answer, made before the act; it fails only when out of memory.
-    pub fn lines_ahead(&self, session: u32, act: &LobbyAct) -> Result<Listed<Line>, NoMemory>
-        ensures lines { IfOk result (λ lines. lines ≡ lines_told (lobby_effect self.now session act.now).reply) }
+    /// A copy of the lists that an act will answer, made before the act; it fails only when out of memory.
+    pub fn lists_ahead(&self, session: u32, act: &LobbyAct) -> Result<ReplyLists, NoMemory>
+        ensures lists { IfOk result (λ lists. lists ≡ lists_told (lobby_effect self.now session act.now).reply) }
         ensures sure { LobbyNeedsNoMemory act.now → IsOk result }
     {
-        self.register.lines_ahead(session, act)
+        self.register.lists_ahead(session, act)
     }
 
     /// What an act that needs the lobby and a desk is to do, by the lobby alone.

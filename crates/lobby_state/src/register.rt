@@ -9,14 +9,16 @@ use crate::member::Member;
 use crate::places::Places;
 use collections::{Listed, Reserved};
 use fics_words::{Duplicate, HandleKey, Line, NoMemory};
+use login_handles::Accounts;
 use std::alloc::Global;
 use std::marker::Model;
 
-/// Who is in the hall, which challenges stand, and which desks are in use: the acts are carried out here, one file an
+/// Who is registered and who is in the hall, which challenges stand, and which desks are in use: the acts are carried out here, one file an
 /// act. That they leave it well-formed, `Lobby` knows.
 #[derive(Debug, Drop)]
 pub(crate) struct Register {
     pub(crate) alloc: Global,
+    pub(crate) accounts: Accounts,
     pub(crate) members: Listed<Member>,
     pub(crate) challenges: Reserved<Challenge>,
     /// The game of each desk from 1 on, where it is in use.
@@ -33,6 +35,7 @@ impl Model for Register {
     ghost Value = { LobbyState };
 
     ghost view = { λ register. record {
+      accounts = register.accounts;
       members = register.members;
       challenges = register.challenges.items;
       games = register.games;
@@ -43,12 +46,13 @@ impl Model for Register {
 }
 
 impl Register {
-    /// Nobody is there, and each desk is free. It fails only when out of memory.
+    /// Nobody is registered or there, and each desk is free. It fails only when out of memory.
     pub(crate) fn new(alloc: Global) -> Result<Register, NoMemory>
         ensures { IfOk result (λ register. register ≡ opening) }
     {
         Ok(Register {
             alloc,
+            accounts: Accounts::new(alloc),
             members: Listed::new(alloc),
             challenges: Reserved::new(alloc),
             games: no_games(alloc)?,

@@ -1,14 +1,15 @@
 //! Which act is carried out by which function.
 ghost use Rattle.std.specs.Prelude.{◌≡◌, IfOk, IfSome, IsOk};
 ghost use Rattle.fics_words.specs.Effect.{Takes};
-ghost use Rattle.lobby_state.specs.Acts.{LobbyNeedsNoMemory, lines_told, lobby_effect};
+ghost use Rattle.lobby_state.specs.Acts.{LobbyNeedsNoMemory, lobby_effect};
 ghost use Rattle.lobby_state.specs.Desks.{IsDesk};
+ghost use Rattle.lobby_state.specs.Told.{lists_told};
 ghost use Rattle.lobby_state.specs.Plans.{committed, desk_of, plan_of};
 
 use crate::acts::{LobbyAct, LobbyReply, PairAct, Plan};
 use crate::register::Register;
-use collections::Listed;
-use fics_words::{Fail, Line, NoMemory, Refusal};
+use crate::told::ReplyLists;
+use fics_words::{Fail, NoMemory, Refusal};
 
 impl Register {
     /// Carries out an act that needs the lobby alone.
@@ -16,23 +17,33 @@ impl Register {
         ensures { Takes (lobby_effect self.old session act.now) self.old self.new result }
     {
         match act {
-            LobbyAct::Enter { name } => self.enter(session, *name),
+            LobbyAct::Enter { name, digest } => self.enter(session, *name, *digest),
+            LobbyAct::Register { digest } => self.register(session, *digest),
             LobbyAct::Match { to, terms } => self.challenge(session, *to, *terms),
             LobbyAct::Where => Ok(self.where_is(session)),
             LobbyAct::Fetch => Ok(self.fetch(session)),
             LobbyAct::Going => Ok(self.going(session)),
             LobbyAct::Bye => Ok(self.bye(session)),
+            LobbyAct::InUse => self.in_use(),
         }
     }
 
-    /// A copy of the lines that an act will answer, made before the act.
-    pub(crate) fn lines_ahead(&self, session: u32, act: &LobbyAct) -> Result<Listed<Line>, NoMemory>
-        ensures lines { IfOk result (λ lines. lines ≡ lines_told (lobby_effect self.now session act.now).reply) }
+    /// A copy of the lists that an act will answer, made before the act.
+    pub(crate) fn lists_ahead(&self, session: u32, act: &LobbyAct) -> Result<ReplyLists, NoMemory>
+        ensures lists { IfOk result (λ lists. lists ≡ lists_told (lobby_effect self.now session act.now).reply) }
         ensures sure { LobbyNeedsNoMemory act.now → IsOk result }
     {
+        let none = ReplyLists::none(self.alloc);
         match act {
-            LobbyAct::Fetch => self.waiting_copy(session),
-            _ => Ok(Listed::new(self.alloc)),
+            LobbyAct::Fetch => Ok(ReplyLists {
+                lines: self.waiting_copy(session)?,
+                ..none
+            }),
+            LobbyAct::InUse => Ok(ReplyLists {
+                desks: self.desks_in_use()?,
+                ..none
+            }),
+            _ => Ok(none),
         }
     }
 

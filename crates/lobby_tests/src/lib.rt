@@ -6,6 +6,10 @@
 #![tactic(auto)]
 
 #[cfg(test)]
+mod login_steps;
+#[cfg(test)]
+mod logins;
+#[cfg(test)]
 mod paths;
 #[cfg(test)]
 mod refusals;

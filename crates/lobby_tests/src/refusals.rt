@@ -2,6 +2,7 @@
 //! acts yet: 33 of an acceptance, since a player who sits down has no challenges any more, and 35 by the count of
 //! games.
 
+use crate::login_steps::{Login, Met, first_failing_login};
 use crate::steps::{
     CHESS, DONE, PAIRS, Step, asking, challenging, entering, first_failing, hall, numbered, starts,
 };
@@ -27,6 +28,12 @@ fn entering_is_refused(rt: HostRuntime) -> Result<(), Fail> {
         Step::Bye(1),
         Step::Enter(300, *b"Ann", DONE),
     ];
+    let outside = [
+        Login::Guest(301, Met::Refused(25)),
+        Login::Guest(2, Met::Refused(25)),
+        Login::Password(301, b"Ann", 1, Met::Refused(25)),
+    ];
+    assert_eq!(rt; first_failing_login(&mut lobby, &outside), None);
     assert_eq!(rt; first_failing(&mut lobby, &full), None);
     Ok(())
 }

@@ -2,7 +2,7 @@
 
 use chess_model::{Colour, Terms, Variant};
 use fics_words::{Fail, Handle, HandleKey, NoMemory, Refusal};
-use lobby_state::{Lobby, LobbyAct, LobbyReply, PairAct, Places, Plan};
+use lobby_state::{DeskInUse, Lobby, LobbyAct, LobbyReply, PairAct, Places, Plan};
 use std::alloc::Global;
 
 /// Chess of 2 minutes and 12 seconds, without a named colour.
@@ -54,6 +54,8 @@ pub enum Step {
     Seated(u32, usize, u8, u8),
     /// Whether the desk is in use.
     InUse(u8, bool),
+    /// The desks in use, each with its serial.
+    Desks(&'static [(u8, u64)]),
     Going(u32),
     Bye(u32),
 }
@@ -85,6 +87,7 @@ fn is_as_expected(lobby: &mut Lobby, step: &Step) -> bool {
         Step::Line(session, place, text) => has_line(lobby, *session, *place, text),
         Step::Seated(session, count, desk, seat) => sits(lobby, *session, *count, *desk, *seat),
         Step::InUse(desk, expected) => is_in_use(lobby, *desk) == *expected,
+        Step::Desks(rows) => tells_desks(lobby, rows),
         Step::Going(session) => leaves(lobby, *session, &LobbyAct::Going),
         Step::Bye(session) => leaves(lobby, *session, &LobbyAct::Bye),
     }
@@ -114,7 +117,14 @@ pub fn entering(lobby: &mut Lobby, session: u32, letters: &[u8]) -> u8 {
     let Some(name) = Handle::read(letters) else {
         return STRANGE;
     };
-    let answer = lobby.act(session, 0, &LobbyAct::Enter { name });
+    let answer = lobby.act(
+        session,
+        0,
+        &LobbyAct::Enter {
+            name: Some(name),
+            digest: None,
+        },
+    );
     if let Ok(reply) = &answer {
         if !is_entered(reply, letters) {
             return STRANGE;
@@ -207,12 +217,12 @@ fn clears(lobby: &mut Lobby, session: u32, desk: u8, serial: u64, cleared: bool)
 
 /// Takes the lines that wait, and says whether they are so many, and those of which a copy was made before.
 fn fetches(lobby: &mut Lobby, session: u32, count: usize) -> bool {
-    let Ok(ahead) = lobby.lines_ahead(session, &LobbyAct::Fetch) else {
+    let Ok(ahead) = lobby.lists_ahead(session, &LobbyAct::Fetch) else {
         return false;
     };
     match lobby.act(session, 0, &LobbyAct::Fetch) {
         Ok(LobbyReply::Waiting { lines, .. }) => {
-            lines == ahead && lines.len() == count && lobby.waiting(session).is_empty()
+            lines == ahead.lines && lines.len() == count && lobby.waiting(session).is_empty()
         }
         _ => false,
     }
@@ -254,6 +264,39 @@ fn is_in_use(lobby: &Lobby, desk: u8) -> bool {
         return false;
     }
     lobby.game(desk).is_some()
+}
+
+/// Asks for the desks in use, and says whether they are these, and those of which a copy was made before.
+fn tells_desks(lobby: &mut Lobby, rows: &[(u8, u64)]) -> bool {
+    let Ok(ahead) = lobby.lists_ahead(0, &LobbyAct::InUse) else {
+        return false;
+    };
+    match lobby.act(0, 0, &LobbyAct::InUse) {
+        Ok(LobbyReply::Desks(desks)) => desks == ahead.desks && are_rows(desks.as_slice(), rows),
+        _ => false,
+    }
+}
+
+fn are_rows(desks: &[DeskInUse], rows: &[(u8, u64)]) -> bool {
+    if desks.len() != rows.len() {
+        return false;
+    }
+    for place in 0..desks.len() {
+        if desks[place].desk != rows[place].0 || desks[place].serial != rows[place].1 {
+            return false;
+        }
+    }
+    true
+}
+
+/// Whether White and Black of the game that an acceptance would start are registered.
+pub fn registered_seats(lobby: &mut Lobby, session: u32) -> Option<(bool, bool)> {
+    match lobby.plan(session, &PairAct::Accept(None)) {
+        Ok(Plan::Start { seats, .. }) => {
+            Some((seats.first.white.registered, seats.first.black.registered))
+        }
+        _ => None,
+    }
 }
 
 fn leaves(lobby: &mut Lobby, session: u32, act: &LobbyAct) -> bool {

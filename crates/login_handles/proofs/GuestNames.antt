@@ -7,7 +7,7 @@ use Rattle.std.specs.Cmp.Lexicographic.{nat_list_eq_equiv}
 use Rattle.std.proofs.lemmas.Slice.Eq.{bytes_eq-Decides}
 use Rattle.std.proofs.lemmas.Str.Ascii.{lowercase_is}
 use Rattle.fics_words.specs.Handle.{key_of}
-use Rattle.login_handles.specs.Guests.{guest_of, is_taken}
+use Rattle.login_handles.specs.Guests.{GuestsAreLeast, IsLeastFree, free_number, guest_among, guest_of, is_taken}
 
 -- the keys of all guests below this number are taken
 abbrev pub AllTaken : List (List ℕ) → ℕ → Type 0
@@ -138,3 +138,39 @@ AllTaken-length (suc n) taken small_enough all =
 
     more : (k n : ℕ) → k < n → k < suc n
     more k n h = omega arith
+
+-- where as many are taken as there are keys, the next is free
+next_free : (taken : List (List ℕ)) (n : ℕ) → n < 456976 → length taken ≤ n → AllTaken taken n → is_taken taken (key_of (guest_of n)) ≡ false
+next_free taken n below enough all =
+    elim (is_taken taken (key_of (guest_of n))) as (λ t. is_taken taken (key_of (guest_of n)) ≡ t → t ≡ false) [
+      | true ↦ λ e. let bound : n + 1 ≤ length taken = AllTaken-length (n + 1) taken (omega arith) (AllTaken-more taken n all e) in absurd (omega arith)
+      | false ↦ λ e. refl
+    ] refl
+
+least_from : (taken : List (List ℕ)) (n more : ℕ) → n < 456976 → length taken < 456976 → length taken ≤ n + more → AllTaken taken n
+    → IsLeastFree taken (guest_of (free_number taken n more))
+least_from taken n zero below few enough all =
+    record { number = n; within = below; name_is = refl; free = next_free taken n below (omega arith) all; least = all }
+least_from taken n (suc more) below few enough all =
+    elim (is_taken taken (key_of (guest_of n))) as (λ t. is_taken taken (key_of (guest_of n)) ≡ t → IsLeastFree taken (guest_of (cond t (free_number taken (n + 1) more) n))) [
+      | true ↦ λ e.
+          let further = AllTaken-more taken n all e in
+          let bound : n + 1 ≤ length taken = AllTaken-length (n + 1) taken (omega arith) further in
+          least_from taken (n + 1) more (omega arith) few (omega arith) further
+      | false ↦ λ e. record { number = n; within = below; name_is = refl; free = e; least = all }
+    ] refl
+
+pub guests_are_least : GuestsAreLeast
+unfolding guest_among
+guests_are_least = λ taken few. least_from taken 0 (length taken) (omega arith) few (omega arith) (AllTaken-none taken)
+
+earlier : (taken : List (List ℕ)) (a b : List ℕ) → (p : IsLeastFree taken a) → (q : IsLeastFree taken b) → p.number < q.number → ⊥
+earlier taken a b p q h = let bad : false ≡ true = sym p.free ∙ ap (λ (n : List ℕ). is_taken taken (key_of n)) p.name_is ∙ q.least p.number h in cc
+
+-- there is one least free name alone
+pub IsLeastFree-one : (taken : List (List ℕ)) (a b : List ℕ) → IsLeastFree taken a → IsLeastFree taken b → a ≡ b
+IsLeastFree-one taken a b p q =
+    p.name_is ∙ ap guest_of (same p.number q.number (earlier taken a b p q) (earlier taken b a q p)) ∙ sym q.name_is
+  where
+    same : (m n : ℕ) → (m < n → ⊥) → (n < m → ⊥) → m ≡ n
+    same m n p q = grind arith

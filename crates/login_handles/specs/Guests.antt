@@ -1,5 +1,5 @@
 -- The names of guests: `Guest` and four capital letters. This server's own.
-use Rattle.std.specs.Prelude.{◌≡◌, ℕ, ◌+◌, ◌/◌, ◌%◌, ◌<◌, Bool, true, false, bytes_eq, List, [], ◌∷◌, ◌++◌, codes, refl}
+use Rattle.std.specs.Prelude.{◌≡◌, ℕ, ◌+◌, ◌/◌, ◌%◌, ◌<◌, zero, suc, Bool, true, false, cond, bytes_eq, List, [], ◌∷◌, ◌++◌, codes, length, refl}
 use Rattle.std.specs.List.{list_any}
 use Rattle.std.specs.Ordering.{nat_cmp}
 use Rattle.std.specs.Cmp.Lexicographic.{slice_cmp}
@@ -26,6 +26,20 @@ pub record IsLeastFree (taken : List (List ℕ)) (name : List ℕ) : Type 0 wher
   pub name_is : name ≡ guest_of number
   pub free : is_taken taken (key_of name) ≡ false
   pub least : (k : ℕ) → k < number → is_taken taken (key_of (guest_of k)) ≡ true
+
+-- the least number from this one on whose guest's key isn't taken, if one of so many is: else the number behind these
+abbrev pub free_number : List (List ℕ) → ℕ → ℕ → ℕ
+free_number taken number zero = number
+free_number taken number (suc more) =
+    cond (is_taken taken (key_of (guest_of number))) (free_number taken (number + 1) more) number
+
+-- the guest that enters next; so many keys never take all of one guest more
+unfoldable pub guest_among : List (List ℕ) → List ℕ
+guest_among taken = guest_of (free_number taken 0 (length taken))
+
+-- and that is the least free one, while fewer keys are taken than there are guests
+abbrev pub GuestsAreLeast : Type 0
+GuestsAreLeast = (taken : List (List ℕ)) → length taken < 456976 → IsLeastFree taken (guest_among taken)
 
 example_first : guest_of 0 ≡ codes "GuestAAAA"
 example_first = refl

@@ -1,7 +1,7 @@
 //! The names of guests.
 
 ghost use Rattle.std.specs.Prelude.{◌≡◌, ◌+◌, ◌<◌, length};
-ghost use Rattle.login_handles.specs.Guests.{IsLeastFree, GuestsInOrder, guest_of, is_taken};
+ghost use Rattle.login_handles.specs.Guests.{GuestsAreLeast, GuestsInOrder, IsLeastFree, guest_among, guest_of, is_taken};
 
 use fics_words::{Handle, HandleKey};
 
@@ -9,7 +9,8 @@ use fics_words::{Handle, HandleKey};
 /// `GuestZZZZ` in alphabetical order, that none of these keys takes.
 pub fn guest_name(taken: &[HandleKey]) -> Handle
     requires { length taken.now < 456976 }
-    ensures { IsLeastFree taken.now result }
+    ensures least { IsLeastFree taken.now result }
+    ensures among { result ≡ guest_among taken.now }
 {
     let mut number = 0;
     let mut name = numbered_guest(0);
@@ -20,9 +21,10 @@ pub fn guest_name(taken: &[HandleKey]) -> Handle
     name
 }
 
-/// The names of guests stand in alphabetical order.
+/// The names of guests stand in alphabetical order, and the one that enters next has the least that is free.
 pub fn guests_in_order()
-    ensures { GuestsInOrder }
+    ensures order { GuestsInOrder }
+    ensures least { GuestsAreLeast }
 {}
 
 /// The name of the guest of that number, from 0.

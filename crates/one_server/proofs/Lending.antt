@@ -31,7 +31,7 @@ pub lends_first : (parts : List Part) (act : Act) (one : Part) → IsWhole parts
 lends_first parts (Lobby act) one w f e = subst (λ (p : Part). IsFirstOf p (Lobby act)) (front (TheLobby w.lobby) one (sym w.first ∙ e)) tt
 lends_first parts (Pair act) one w f e = subst (λ (p : Part). IsFirstOf p (Pair act)) (front (TheLobby w.lobby) one (sym w.first ∙ e)) tt
 lends_first parts (Desk number serial act) one w f e =
-    let found = desk_at parts number w f in
+    let found = desk_at parts number w f.0 in
     subst (λ (p : Part). IsFirstOf p (Desk number serial act)) (front (ADesk found.0) one (sym found.1 ∙ e)) tt
 
 some_is : (o : Option ℕ) (number : ℕ) → o ≡ Some number → IsSome o

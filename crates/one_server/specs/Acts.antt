@@ -3,7 +3,7 @@
 use Rattle.std.specs.Prelude.{◌≡◌, ℕ, ◌≤◌, ◌^◌, false, Option, None, Result, Ok, Err}
 use Rattle.fics_words.specs.declared.refusal.Refusal.{Refusal}
 use Rattle.linked_desk.specs.declared.acts.DeskReply.{DeskReply}
-use Rattle.linked_desk.specs.Acts.{needs_memory}
+use Rattle.linked_desk.specs.Acts.{FitsDeskAct, needs_memory}
 use Rattle.lobby_state.specs.declared.acts.LobbyReply.{LobbyReply}
 use Rattle.lobby_state.specs.declared.acts.Plan.{Plan}
 use Rattle.lobby_state.specs.Acts.{FitsLobby, LobbyNeedsNoMemory}
@@ -33,10 +33,11 @@ abbrev pub second_part : Part → ℕ → Act → Option ℕ
 second_part (TheLobby lobby) session (Pair act) = planned_desk (plan_of lobby session act)
 second_part _ session _ = None
 
--- the conditions on the numbers of an act: a desk is 1 to 128, minutes and increments are at most 600
+-- the conditions on the numbers of an act: a desk is 1 to 128, minutes and increments are at most 600, and a client's
+-- stamp is below 10,000,000
 abbrev pub FitsAct : Act → Type 0
 FitsAct (Lobby act) = FitsLobby act
-FitsAct (Desk desk serial act) = IsDesk desk
+FitsAct (Desk desk serial act) = IsDesk desk × FitsDeskAct act
 FitsAct (Pair act) = NamesDesk act
 
 -- and a moment is at most 2^48 milliseconds

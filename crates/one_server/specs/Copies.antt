@@ -1,8 +1,10 @@
 -- What an act will answer, copied before the act is made. This server's own.
 use Rattle.std.specs.Prelude.{◌≡◌, ℕ, ◌-◌, List, Some, slice_get}
 use Rattle.style12_writer.specs.declared.item.Item.{Item}
-use Rattle.lobby_state.specs.Acts.{lines_told, lobby_effect}
+use Rattle.lobby_state.specs.declared.told.ReplyLists.{ReplyLists}
+use Rattle.lobby_state.specs.Acts.{lobby_effect}
 use Rattle.lobby_state.specs.Lobby.{LobbyState}
+use Rattle.lobby_state.specs.Told.{lists_told}
 use Rattle.linked_desk.specs.Acts.{desk_effect, items_told}
 use Rattle.linked_desk.specs.Desk.{DeskState}
 use Rattle.one_server.specs.declared.act.Act.{Act}
@@ -13,14 +15,14 @@ use Rattle.one_server.specs.declared.reply.Reply.TheVariants as reply
 
 -- the copies are of what the reply lists
 abbrev pub AreOf : Copies → Reply → Type 0
-AreOf copies (reply.Lobby answer) = copies.lines ≡ lines_told answer
+AreOf copies (reply.Lobby answer) = copies.lists ≡ lists_told answer
 AreOf copies (reply.Desk answer) = copies.items ≡ items_told answer
 AreOf copies _ = Unit {0}
 
--- the lines are those that a lobby act will answer where it isn't refused
-abbrev pub LinesFor : LobbyState → ℕ → Act → List (List ℕ) → Type 0
-LinesFor lobby session (Lobby act) lines = lines ≡ lines_told (lobby_effect lobby session act).reply
-LinesFor lobby session _ lines = Unit {0}
+-- the lists are those that a lobby act will answer where it isn't refused
+abbrev pub ListsFor : LobbyState → ℕ → Act → ReplyLists → Type 0
+ListsFor lobby session (Lobby act) lists = lists ≡ lists_told (lobby_effect lobby session act).reply
+ListsFor lobby session _ lists = Unit {0}
 
 -- and the items those that a desk act will, at whatever moment
 abbrev pub ItemsFor : List DeskState → ℕ → Act → List Item → Type 0

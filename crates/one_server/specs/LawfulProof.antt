@@ -47,7 +47,7 @@ keeps_game desk session moment serial act = ap (option_map listing) (players-des
 
 first_in : (xs : List Part) (act : Act) → IsWhole xs → FitsAct act → first_part act < length xs
 first_in xs (Lobby act) w f = omega (arith, w.count)
-first_in xs (Desk number serial act) w f = omega (arith, w.count)
+first_in xs (Desk number serial act) w f = omega (arith, w.count, f.0)
 first_in xs (Pair act) w f = omega (arith, w.count)
 
 planned_in : (lobby : LobbyState) (session : ℕ) (act : PairAct) (r : Result Plan Refusal) (s : ℕ) → IsWellFormed lobby → NamesDesk act
@@ -147,11 +147,11 @@ stays_act xs session moment (Lobby act) w f =
     subst IsWhole (sym alone) (whole_lobby xs w.lobby (lobby_after w.lobby session act) w w.first (IsWellFormed-lobby_after w.lobby session act w.formed) (games-lobby_after w.lobby session act))
 stays_act xs session moment (Desk number serial act) w f =
     let timed : Timed = record { moment = moment; act = Desk number serial act } in
-    let found = desk_at xs number w f in
+    let found = desk_at xs number w f.0 in
     let alone : after house xs session timed ≡ set xs number (ADesk (desk_after found.0 session moment serial act)) =
     after_alone house xs session timed (ADesk found.0) found.1 refl in
     subst IsWhole (sym alone) (whole_desk xs number found.0 (desk_after found.0 session moment serial act) w found.1 (number-desk_after found.0 session moment serial act) (keeps_game found.0 session moment serial act)
-    (sound-desk_after found.0 session moment serial act (w.places number (ADesk found.0) found.1).1.sound))
+    (sound-desk_after found.0 session moment serial act f.1 (w.places number (ADesk found.0) found.1).1.sound))
 stays_act xs session moment (Pair act) w f = stays_pair xs session moment act w.lobby w w.first f (plan_of w.lobby session act) refl
 
 pub house_lawful : Lawful house

@@ -1,7 +1,7 @@
 //! The step of an act on the lobby and the desks: each act is lent its own parts alone.
 ghost use Rattle.std.specs.Prelude.{◌≡◌, ◌≤◌, ◌-◌, ◌^◌, IfOk, OnOk, OnErr, Some, length, slice_get, slice_set};
 ghost use Rattle.histories.specs.Core.{reply, after};
-ghost use Rattle.linked_desk.specs.Acts.{desk_answer, desk_after};
+ghost use Rattle.linked_desk.specs.Acts.{FitsDeskAct, desk_answer, desk_after};
 ghost use Rattle.linked_desk.specs.Desk.{DeskState};
 ghost use Rattle.lobby_state.specs.Desks.{IsDesk, desks as desk_count};
 ghost use Rattle.lobby_state.specs.Planned.{IsPlanned};
@@ -57,6 +57,7 @@ fn step_at_desk(
 ) -> Result<Reply, NoMemory>
     requires moment { moment ≤ 2 ^ 48 }
     requires number { IsDesk number }
+    requires fits { FitsDeskAct act.now }
     requires count { length desks.old ≡ desk_count }
     ensures reply { (desk : DeskState) → slice_get desks.old (number - 1) ≡ Some desk
         → IfOk result (λ r. r ≡ desk_reply (desk_answer desk session moment serial act.now)) }

@@ -2,20 +2,19 @@
 ghost use Rattle.std.specs.Prelude.{◌≡◌, IfOk, length};
 ghost use Rattle.lobby_state.specs.Desks.{desks as desk_count};
 ghost use Rattle.one_server.specs.Acts.{FitsAct};
-ghost use Rattle.one_server.specs.Copies.{AreOf, LinesFor, ItemsFor};
+ghost use Rattle.one_server.specs.Copies.{AreOf, ListsFor, ItemsFor};
 
 use crate::act::Act;
 use crate::reply::Reply;
 use linked_desk::{Desk, ItemList};
-use lobby_state::Lobby;
+use lobby_state::{Lobby, ReplyLists};
 use memory::NoMemory;
 use std::alloc::Global;
-use style12_writer::LineList;
 
-/// Copies of the lines and of the items that an act will answer; empty where it answers none.
+/// Copies of the lists that the lobby and of the items that a desk will answer an act; empty where it answers none.
 #[derive(Drop)]
 pub(crate) struct Copies {
-    pub(crate) lines: LineList,
+    pub(crate) lists: ReplyLists,
     pub(crate) items: ItemList,
 }
 
@@ -30,12 +29,12 @@ impl Copies {
     ) -> Result<Copies, NoMemory>
         requires fits { FitsAct act.now }
         requires count { length desks.now ≡ desk_count }
-        ensures lines { IfOk result (λ copies. LinesFor lobby.now session act.now copies.lines) }
+        ensures lists { IfOk result (λ copies. ListsFor lobby.now session act.now copies.lists) }
         ensures items { IfOk result (λ copies. ItemsFor desks.now session act.now copies.items) }
     {
-        let lines = lines_ahead(alloc, lobby, session, act)?;
+        let lists = lists_ahead(alloc, lobby, session, act)?;
         let items = items_ahead(alloc, desks, session, act)?;
-        Ok(Copies { lines, items })
+        Ok(Copies { lists, items })
     }
 
     /// A reply equal to this one, made of the copies of what it lists.
@@ -45,20 +44,25 @@ impl Copies {
     {
         match reply {
             Reply::Refused(cause) => Reply::Refused(*cause),
-            Reply::Lobby(answer) => Reply::Lobby(answer.twin(self.lines)),
+            Reply::Lobby(answer) => Reply::Lobby(answer.twin(self.lists)),
             Reply::Desk(answer) => Reply::Desk(answer.twin(self.items)),
             Reply::Pair(answer) => Reply::Pair(*answer),
         }
     }
 }
 
-/// The lines that an act will answer.
-fn lines_ahead(alloc: Global, lobby: &Lobby, session: u32, act: &Act) -> Result<LineList, NoMemory>
-    ensures { IfOk result (λ lines. LinesFor lobby.now session act.now lines) }
+/// The lists that the lobby will answer.
+fn lists_ahead(
+    alloc: Global,
+    lobby: &Lobby,
+    session: u32,
+    act: &Act,
+) -> Result<ReplyLists, NoMemory>
+    ensures { IfOk result (λ lists. ListsFor lobby.now session act.now lists) }
 {
     match act {
-        Act::Lobby(act) => lobby.lines_ahead(session, act),
-        _ => Ok(LineList::new(alloc)),
+        Act::Lobby(act) => lobby.lists_ahead(session, act),
+        _ => Ok(ReplyLists::none(alloc)),
     }
 }
 

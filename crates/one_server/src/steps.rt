@@ -1,6 +1,6 @@
 //! The three kinds of step: on the lobby alone, on a desk alone, and on both.
 ghost use Rattle.std.specs.Prelude.{◌≡◌, ◌≤◌, ◌^◌, IfOk, IsOk, OnOk, OnErr, true};
-ghost use Rattle.linked_desk.specs.Acts.{desk_answer, desk_after, needs_memory};
+ghost use Rattle.linked_desk.specs.Acts.{FitsDeskAct, desk_answer, desk_after, needs_memory};
 ghost use Rattle.lobby_state.specs.Acts.{LobbyNeedsNoMemory, lobby_answer, lobby_after};
 ghost use Rattle.lobby_state.specs.Planned.{IsPlanned};
 ghost use Rattle.one_server.specs.Acts.{lobby_reply, desk_reply};
@@ -43,7 +43,8 @@ pub fn desk_step(
     serial: u64,
     act: &DeskAct,
 ) -> Result<Reply, NoMemory>
-    requires { moment ≤ 2 ^ 48 }
+    requires moment { moment ≤ 2 ^ 48 }
+    requires fits { FitsDeskAct act.now }
     ensures reply { IfOk result (λ reply. reply ≡ desk_reply (desk_answer desk.old session moment serial act.now)) }
     ensures after { OnOk result (desk.new ≡ desk_after desk.old session moment serial act.now) }
     ensures err { OnErr result (desk.new ≡ desk.old) }

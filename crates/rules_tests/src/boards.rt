@@ -29,7 +29,7 @@ fn play_for(
         board.begin() <= moment && moment <= 1 << 40,
         "moments don't fall"
     );
-    match board.play(colour, &word, moment) {
+    match board.play(colour, &word, moment, None) {
         Ok(_) => None,
         Err(refusal) => Some(refusal),
     }

@@ -12,3 +12,5 @@ mod clocks;
 mod counted;
 #[cfg(test)]
 mod played;
+#[cfg(test)]
+mod stamped;

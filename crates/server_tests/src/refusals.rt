@@ -54,6 +54,32 @@ fn in_the_lobby(rt: HostRuntime) -> Result<(), Fail> {
 }
 
 #[test]
+fn of_logins(rt: HostRuntime) -> Result<(), Fail> {
+    let mut server = server(rt.alloc())?;
+    let steps = [
+        Step(0, 1, Does::Register(1), Said::Refused(54)),
+        Step(0, 1, Does::Guest, Said::Entered),
+        Step(0, 1, Does::Guest, Said::Refused(24)),
+        Step(0, 2, Does::Login(*b"Ann", 9), Said::Entered),
+        Step(0, 2, Does::Register(1), Said::Done),
+        Step(0, 2, Does::Register(2), Said::Refused(48)),
+        Step(0, 2, Does::Bye, Said::Done),
+        Step(0, 2, Does::Enter(*b"ann"), Said::NeedPassword),
+        Step(0, 2, Does::Login(*b"ann", 2), Said::Refused(23)),
+        Step(0, 2, Does::Where, Said::Places(0)),
+        Step(0, 2, Does::Login(*b"ann", 1), Said::Entered),
+        Step(0, 3, Does::Login(*b"Ann", 1), Said::Refused(24)),
+        Step(0, 3, Does::Enter(*b"Ben"), Said::Entered),
+        Step(0, 9, Does::InUse, Said::Desks(0)),
+        Step(0, 2, Does::Match(*b"Ben", Variant::Chess), Said::Done),
+        Step(0, 3, Does::Accept(None), Said::Started),
+        Step(0, 9, Does::InUse, Said::Desks(1)),
+    ];
+    assert_eq!(rt; first_failing(&mut server, &steps), None);
+    Ok(())
+}
+
+#[test]
 fn of_full_lists(rt: HostRuntime) -> Result<(), Fail> {
     let mut server = server(rt.alloc())?;
     let two = [

@@ -13,10 +13,14 @@ pub enum Said {
     Refused(u8),
     Done,
     Entered,
+    /// A password is asked for.
+    NeedPassword,
     /// So many places.
     Places(usize),
     /// So many lines and so many places.
     Waiting(usize, usize),
+    /// So many desks in use.
+    Desks(usize),
     /// So many items, and whether nothing more will come.
     Items(usize, bool),
     Started,
@@ -29,6 +33,11 @@ pub enum Said {
 #[derive(Clone, Copy, Debug)]
 pub enum Does {
     Enter([u8; 3]),
+    Guest,
+    /// Enters under this handle with a password, which is a number here.
+    Login([u8; 3], u8),
+    Register(u8),
+    InUse,
     /// Challenges this player to a game of 2 minutes and 12 seconds with White.
     Match([u8; 3], Variant),
     Where,
@@ -86,7 +95,10 @@ fn is_as_expected(server: &mut OneServer, step: &Step) -> bool {
 
 fn replied(server: &mut OneServer, session: u32, moment: u32, does: Does) -> Result<Said, Fail> {
     match does {
-        Does::Enter(name) => entering(server, session, &name),
+        Does::Enter(name) => entering(server, session, Some(name), None),
+        Does::Guest => entering(server, session, None, None),
+        Does::Login(name, password) => entering(server, session, Some(name), Some(password)),
+        Does::Register(password) => registering(server, session, password),
         Does::Match(to, variant) => challenging(server, session, &to, variant),
         Does::Accept(name) => accepting(server, session, moment, name),
         Does::Clear(serial) => clearing(server, session, serial),
@@ -94,6 +106,7 @@ fn replied(server: &mut OneServer, session: u32, moment: u32, does: Does) -> Res
         Does::Lines => visiting(server, session, LobbyAct::Fetch),
         Does::Going => visiting(server, session, LobbyAct::Going),
         Does::Bye => visiting(server, session, LobbyAct::Bye),
+        Does::InUse => visiting(server, session, LobbyAct::InUse),
         _ => at_desk(server, session, moment, does),
     }
 }
@@ -116,12 +129,30 @@ fn moving(server: &mut OneServer, session: u32, moment: u32, does: Does) -> Resu
         Does::Drop(serial, to) => (serial, pawn_drop(to)?),
         _ => return Err(Fail::Memory),
     };
-    playing(server, session, moment, serial, DeskAct::Move { word })
+    playing(server, session, moment, serial, DeskAct::Move { word, stamp: None })
 }
 
-fn entering(server: &mut OneServer, session: u32, name: &[u8; 3]) -> Result<Said, Fail> {
-    let name = handle(name)?;
-    let reply = server.run(session, 0, Act::Lobby(LobbyAct::Enter { name }))?;
+fn entering(
+    server: &mut OneServer,
+    session: u32,
+    letters: Option<[u8; 3]>,
+    password: Option<u8>,
+) -> Result<Said, Fail> {
+    let name = match letters {
+        Some(letters) => Some(handle(&letters)?),
+        None => None,
+    };
+    let digest = match password {
+        Some(number) => Some([number; 32]),
+        None => None,
+    };
+    let reply = server.run(session, 0, Act::Lobby(LobbyAct::Enter { name, digest }))?;
+    Ok(in_short(&reply))
+}
+
+fn registering(server: &mut OneServer, session: u32, password: u8) -> Result<Said, Fail> {
+    let digest = [password; 32];
+    let reply = server.run(session, 0, Act::Lobby(LobbyAct::Register { digest }))?;
     Ok(in_short(&reply))
 }
 
@@ -148,6 +179,7 @@ fn visiting(server: &mut OneServer, session: u32, act: LobbyAct) -> Result<Said,
         LobbyAct::Fetch => Act::Lobby(LobbyAct::Fetch),
         LobbyAct::Going => Act::Lobby(LobbyAct::Going),
         LobbyAct::Bye => Act::Lobby(LobbyAct::Bye),
+        LobbyAct::InUse => Act::Lobby(LobbyAct::InUse),
         _ => return Err(Fail::Memory),
     };
     let reply = server.run(session, 0, plain)?;
@@ -205,8 +237,10 @@ fn of_lobby(answer: &LobbyReply) -> Said {
     match answer {
         LobbyReply::Done => Said::Done,
         LobbyReply::Entered(_) => Said::Entered,
+        LobbyReply::NeedPassword => Said::NeedPassword,
         LobbyReply::Places(places) => Said::Places(places.rows().len()),
         LobbyReply::Waiting { lines, places } => Said::Waiting(lines.len(), places.rows().len()),
+        LobbyReply::Desks(desks) => Said::Desks(desks.len()),
     }
 }
 

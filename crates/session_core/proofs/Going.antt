@@ -1,14 +1,18 @@
 -- Going on in a course: by an act, by a text, and one step after the other.
-use Rattle.std.proofs.Common.{◌≡◌, ℕ, List, [], ◌∷◌, ◌++◌, refl, sym, ap, subst, ◌∙◌, append_assoc, append-nil, Ok, Err, Result}
+use Rattle.std.proofs.Common.{◌≡◌, ℕ, Bool, ◌||◌, List, [], ◌∷◌, ◌++◌, refl, sym, ap, subst, ◌∙◌, append_assoc, append-nil, Ok, Err, Result}
 use Rattle.std.specs.Result.{IfOk, OnErr, OnOk, result_and}
+use Rattle.std.proofs.Math.Bool.{or-false, or_assoc}
+use Rattle.std.proofs.lemmas.List.Folds.{list_any-append}
 use Rattle.memory.specs.declared.NoMemory.{NoMemory}
+use Rattle.histories.specs.declared.entry.Entry.{Entry}
 use Rattle.histories.specs.History.{entry}
+use Rattle.one_server.specs.declared.act.Timed.{Timed}
 use Rattle.one_server.specs.declared.act.Act.{Act}
 use Rattle.one_server.specs.declared.reply.Reply.{Reply}
 use Rattle.one_server.specs.Running.{IsKnown, Log, Made, Ran, RunnerState}
 use Rattle.session_core.specs.Course.{Course, Done, Asks, Writes, Follows, Begins, timed}
-use Rattle.session_core.specs.Going.{Answered, Leads, Left, Stopped, Went}
-use Rattle.session_core.specs.Memory.{MemoryState}
+use Rattle.session_core.specs.Going.{Answered, BrokeOff, Leads, Left, Went, WentOn, any_entered, is_entered}
+use Rattle.session_core.specs.Memory.{MemoryState, has_entered}
 use Rattle.session_core.specs.Stages.{Settles, onto, settled}
 
 -- ---- entries
@@ -88,6 +92,13 @@ leads_settled (Writes put rest) session moment =
 leads_settled (Asks act rest) session moment = leads_same (Asks act rest) session moment
 leads_settled (Done memory) session moment = leads_same (Done memory) session moment
 
+-- an entry of both, or of one of them
+inside_then : (before there : Bool) (one two : Log) → there ≡ (before || any_entered one) → (there || any_entered two) ≡ (before || any_entered (one ++ two))
+inside_then before there one two is =
+    ap (λ (b : Bool). b || any_entered two) is
+    ∙ or_assoc before (any_entered one) (any_entered two)
+    ∙ ap (λ (b : Bool). before || b) (sym (list_any-append (λ (e : Entry Timed Reply). is_entered e.reply) one two))
+
 -- ---- a session on its way
 
 module _ (moment : ℕ) where
@@ -154,15 +165,43 @@ module _ (moment : ℕ) where
       let w : Went course (Done memory) moment old out new out' = subst (λ (c : Course). Went course c moment old out new out') is p in
       record { entries = w.entries; text = w.put; grew = w.grew; follows = follows_leads course memory old.number moment w.entries w.put w.leads; appended = w.appended }
 
+  -- it has entered where it had, so far
+  pub on_none : (course : Course) (old : RunnerState) (memory : MemoryState) (out : List ℕ) → IsKnown old → WentOn course course moment old memory out old memory out
+  unfolding went_none
+  on_none course old memory out known = record { went = went_none course old out known; inside = sym (or-false (has_entered memory)) }
+
+  -- an act was made, and what follows its reply was written or ran out of memory
+  pub on_asked : {T : Type 0} (act : Act) (rest : Reply → Course) (reply : Reply) (result : Result T NoMemory) (coming : T → Course) (old : RunnerState) (before : MemoryState) (out : List ℕ) (new : RunnerState) (after : MemoryState) (out' : List ℕ)
+      → Ran old (timed moment act) reply new → IfOk result (λ next. Settles (rest reply) (coming next) out out') → has_entered after ≡ (has_entered before || is_entered reply)
+      → IfOk result (λ next. WentOn (Asks act rest) (coming next) moment old before out new after out')
+  unfolding went_on went_then went_ask went_settled
+  on_asked act rest reply (Ok next) coming old before out new after out' ran s inside =
+      record { went = went_on act rest reply (coming next) old out new out' ran s; inside = inside ∙ ap (λ (b : Bool). has_entered before || b) (sym (or-false (is_entered reply))) }
+  on_asked act rest reply (Err e) coming old before out new after out' ran s inside = tt
+
+  -- and then the next
+  pub on_then : (one two three : Course) (old : RunnerState) (before : MemoryState) (out : List ℕ) (mid : RunnerState) (there : MemoryState) (out' : List ℕ) (new : RunnerState) (after : MemoryState) (out'' : List ℕ)
+      → WentOn one two moment old before out mid there out' → WentOn two three moment mid there out' new after out'' → WentOn one three moment old before out new after out''
+  unfolding went_then
+  on_then one two three old before out mid there out' new after out'' p q = record {
+    went = went_then one two three old mid new out out' out'' p.went q.went;
+    inside = q.inside ∙ inside_then (has_entered before) (has_entered there) p.went.entries q.went.entries p.inside;
+  }
+
+  -- and then the next, from the same course in other words
+  pub on_after : (one coming two three : Course) (old : RunnerState) (before : MemoryState) (out : List ℕ) (mid : RunnerState) (there : MemoryState) (out' : List ℕ) (new : RunnerState) (after : MemoryState) (out'' : List ℕ)
+      → WentOn one coming moment old before out mid there out' → coming ≡ two → WentOn two three moment mid there out' new after out'' → WentOn one three moment old before out new after out''
+  on_after one coming two three old before out mid there out' new after out'' p is q =
+      on_then one two three old before out mid there out' new after out'' (subst (λ (c : Course). WentOn one c moment old before out mid there out') is p) q
+
   -- the end of leaving, where nothing is written
   pub left : (result : Result (Unit {0}) NoMemory) (course coming : Course) (memory : MemoryState) (old new : RunnerState) → OnOk result (Went course coming moment old [] new []) → coming ≡ Done memory
-      → OnOk result (Left course moment old new)
+      → OnOk result (Left course moment old new memory)
   left (Ok u) course coming memory old new p is =
       let f : Answered course (λ text. text) moment old [] new [] memory = followed course coming memory old new [] [] p is in
       record {
         entries = f.entries;
         grew = f.grew;
-        memory = memory;
         follows = subst (λ (t : List ℕ). Follows course old.number moment f.entries t memory) (sym f.appended) f.follows;
       }
   left (Err e) course coming memory old new p is = tt
@@ -180,42 +219,72 @@ module _ (moment : ℕ) where
       subst (λ (r : Result (Unit {0}) NoMemory). OnOk r (Went course next moment old [] new [])) (sym is) (went_both_and one two course coming asks next old mid new p same q)
 
   -- running out of memory behind what was done
-  pub stopped_there : (course rest : Course) (old : RunnerState) (out : List ℕ) (new : RunnerState) (out' : List ℕ) → Went course rest moment old out new out' → Stopped course moment old new
-  stopped_there course rest old out new out' w = record {
-    entries = w.entries;
-    grew = w.grew;
-    begins = subst (λ (l : Log). Begins course old.number moment l) (append-nil w.entries) (w.leads.part [] (begins_none rest old.number moment));
+  pub broke_there : (course rest : Course) (old : RunnerState) (before : MemoryState) (out : List ℕ) (new : RunnerState) (after : MemoryState) (out' : List ℕ) → WentOn course rest moment old before out new after out'
+      → BrokeOff course moment old before new after
+  broke_there course rest old before out new after out' w = record {
+    entries = w.went.entries;
+    grew = w.went.grew;
+    begins = subst (λ (l : Log). Begins course old.number moment l) (append-nil w.went.entries) (w.went.leads.part [] (begins_none rest old.number moment));
+    inside = w.inside;
   }
-
-  pub stopped_asked : {T : Type 0} (act : Act) (rest : Reply → Course) (reply : Reply) (result : Result T NoMemory) (old new : RunnerState) → Ran old (timed moment act) reply new
-      → OnErr result (Stopped (Asks act rest) moment old new)
-  stopped_asked act rest reply (Ok next) old new ran = tt
-  stopped_asked act rest reply (Err e) old new ran = stopped_there (Asks act rest) (rest reply) old [] new [] (went_ask act rest reply old [] new ran)
 
   -- running out of memory of the next act
-  pub stopped_unmade : (course : Course) (old new : RunnerState) → Made old [] new → Stopped course moment old new
-  stopped_unmade course old new m = record { entries = []; grew = m; begins = begins_none course old.number moment }
+  pub broke_unmade : (course : Course) (old : RunnerState) (before : MemoryState) (new : RunnerState) (after : MemoryState) → Made old [] new → has_entered after ≡ has_entered before
+      → BrokeOff course moment old before new after
+  broke_unmade course old before new after m is =
+      record { entries = []; grew = m; begins = begins_none course old.number moment; inside = is ∙ sym (or-false (has_entered before)) }
+
+  -- running out of memory of what is written behind an act
+  pub broke_asked : {T : Type 0} (act : Act) (rest : Reply → Course) (reply : Reply) (result : Result T NoMemory) (old : RunnerState) (before : MemoryState) (new : RunnerState) (after : MemoryState) → Ran old (timed moment act) reply new
+      → has_entered after ≡ (has_entered before || is_entered reply) → OnErr result (BrokeOff (Asks act rest) moment old before new after)
+  unfolding went_ask
+  broke_asked act rest reply (Ok next) old before new after ran inside = tt
+  broke_asked act rest reply (Err e) old before new after ran inside =
+      broke_there (Asks act rest) (rest reply) old before [] new after []
+      (record { went = went_ask act rest reply old [] new ran; inside = inside ∙ ap (λ (b : Bool). has_entered before || b) (sym (or-false (is_entered reply))) })
 
   -- running out of memory in what follows
-  pub stopped_next : (one two : Course) (old mid new : RunnerState) (out out' : List ℕ) → Went one two moment old out mid out' → Stopped two moment mid new → Stopped one moment old new
-  stopped_next one two old mid new out out' before there = record {
-    entries = before.entries ++ there.entries;
-    grew = made_then old mid new before.entries there.entries before.grew there.grew;
-    begins = before.leads.part there.entries (subst (λ (n : ℕ). Begins two n moment there.entries) (same_number old mid before.entries before.grew) there.begins);
+  pub broke_next : (one two : Course) (old : RunnerState) (before : MemoryState) (out : List ℕ) (mid : RunnerState) (there : MemoryState) (out' : List ℕ) (new : RunnerState) (after : MemoryState)
+      → WentOn one two moment old before out mid there out' → BrokeOff two moment mid there new after → BrokeOff one moment old before new after
+  broke_next one two old before out mid there out' new after p q = record {
+    entries = p.went.entries ++ q.entries;
+    grew = made_then old mid new p.went.entries q.entries p.went.grew q.grew;
+    begins = p.went.leads.part q.entries (subst (λ (n : ℕ). Begins two n moment q.entries) (same_number old mid p.went.entries p.went.grew) q.begins);
+    inside = q.inside ∙ inside_then (has_entered before) (has_entered there) p.went.entries q.entries p.inside;
   }
 
-  -- running out of memory of an act behind what was done
-  pub stopped_after : {T : Type 0} (result : Result T NoMemory) (one coming two : Course) (old mid new : RunnerState) (out out' : List ℕ) → Went one coming moment old out mid out' → coming ≡ two
-      → Stopped two moment mid new → OnErr result (Stopped one moment old new)
-  stopped_after (Ok x) one coming two old mid new out out' p is q = tt
-  stopped_after (Err e) one coming two old mid new out out' p is q =
-      stopped_next one two old mid new out out' (subst (λ (c : Course). Went one c moment old out mid out') is p) q
+  -- from the same course in other words
+  pub broke_after : (one coming two : Course) (old : RunnerState) (before : MemoryState) (out : List ℕ) (mid : RunnerState) (there : MemoryState) (out' : List ℕ) (new : RunnerState) (after : MemoryState)
+      → WentOn one coming moment old before out mid there out' → coming ≡ two → BrokeOff two moment mid there new after → BrokeOff one moment old before new after
+  broke_after one coming two old before out mid there out' new after p is q =
+      broke_next one two old before out mid there out' new after (subst (λ (c : Course). WentOn one c moment old before out mid there out') is p) q
 
-  -- running out of memory behind the whole course
-  pub stopped_answered : {T : Type 0} (result : Result T NoMemory) (one course : Course) (answer : List ℕ → List ℕ) (memory : MemoryState) (old new : RunnerState) (out out' : List ℕ)
-      → Answered course answer moment old out new out' memory → one ≡ course → OnErr result (Stopped one moment old new)
-  stopped_answered (Ok x) one course answer memory old new out out' p is = tt
-  stopped_answered (Err e) one course answer memory old new out out' p is =
-      let whole : Stopped course moment old new =
-      record { entries = p.entries; grew = p.grew; begins = begins_follows course old.number moment p.entries p.text memory p.follows } in
-      subst (λ (c : Course). Stopped c moment old new) (sym is) whole
+  -- the session began to answer
+  pub on_begun : (course coming : Course) (old : RunnerState) (before there : MemoryState) (out out' : List ℕ) → IsKnown old → Settles course coming out out' → has_entered there ≡ has_entered before
+      → WentOn course coming moment old before out old there out'
+  unfolding went_settled
+  on_begun course coming old before there out out' known s is =
+      record { went = went_settled course coming old out out' known s; inside = is ∙ sym (or-false (has_entered before)) }
+
+  -- it followed what came first to the end
+  pub answered_after : (course coming : Course) (old new : RunnerState) (out out' out'' : List ℕ) (after : MemoryState) → IsKnown old → Settles course coming out out'
+      → Answered coming (λ text. text) moment old out' new out'' after → Answered course (λ text. text) moment old out new out'' after
+  answered_after course coming old new out out' out'' after known s a =
+      let w : Went course coming moment old out old out' = went_settled course coming old out out' known s in
+      record {
+        entries = w.entries ++ a.entries;
+        text = w.put ++ a.text;
+        grew = made_then old old new w.entries a.entries w.grew a.grew;
+        follows = w.leads.whole a.entries a.text after a.follows;
+        appended = a.appended ∙ ap (λ (l : List ℕ). l ++ a.text) w.appended ∙ append_assoc out w.put a.text;
+      }
+
+  -- a session that left followed its course, and wrote nothing
+  pub answered_left : (course : Course) (old new : RunnerState) (out : List ℕ) (after : MemoryState) → Left course moment old new after → Answered course (λ text. text) moment old out new out after
+  answered_left course old new out after l = record { entries = l.entries; text = []; grew = l.grew; follows = l.follows; appended = sym (append-nil out) }
+
+  -- what was written stands in an answer
+  pub answered_framed : (course : Course) (answer : List ℕ → List ℕ) (old new : RunnerState) (bytes answered : List ℕ) (after : MemoryState) → Answered course (λ text. text) moment old [] new bytes after
+      → answered ≡ answer bytes → Answered course answer moment old [] new answered after
+  answered_framed course answer old new bytes answered after a is =
+      record { entries = a.entries; text = a.text; grew = a.grew; follows = a.follows; appended = is ∙ ap answer a.appended }

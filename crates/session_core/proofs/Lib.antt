@@ -2,3 +2,6 @@ pub mod Going
 pub mod Following
 pub mod Lists
 pub mod Passing
+pub mod MatchTerms
+pub mod Beginning
+pub mod Quitting

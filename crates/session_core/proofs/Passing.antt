@@ -1,7 +1,5 @@
 -- Going on in a course past acts that ran out of memory.
-use Rattle.std.proofs.Common.{◌≡◌, ℕ, Bool, [], ◌∷◌, ◌++◌, refl, sym, ap, subst, ◌∙◌, append_assoc, append-nil, inl, inr, Ok, Err, Result}
-use Rattle.std.specs.Result.{OnErr}
-use Rattle.memory.specs.declared.NoMemory.{NoMemory}
+use Rattle.std.proofs.Common.{◌≡◌, ℕ, Bool, [], ◌∷◌, ◌++◌, refl, sym, ap, subst, ◌∙◌, append_assoc, append-nil, inl, inr}
 use Rattle.histories.specs.History.{entry}
 use Rattle.one_server.specs.declared.act.Act.{Act}
 use Rattle.one_server.specs.declared.reply.Reply.{Reply}
@@ -57,7 +55,5 @@ module _ (moment : ℕ) where
   }
 
   -- the end of the course
-  pub passed_end : (result : Result (Unit {0}) NoMemory) (course coming : Course) (memory : MemoryState) (old new : RunnerState) → Passed course coming moment old new → coming ≡ Done memory
-      → OnErr result (LeftInPart course moment old new)
-  passed_end (Ok u) course coming memory old new p is = tt
-  passed_end (Err e) course coming memory old new p is = left_in_part course memory old new (subst (λ (c : Course). Passed course c moment old new) is p)
+  pub passed_end : (course coming : Course) (memory : MemoryState) (old new : RunnerState) → Passed course coming moment old new → coming ≡ Done memory → LeftInPart course moment old new
+  passed_end course coming memory old new p is = left_in_part course memory old new (subst (λ (c : Course). Passed course c moment old new) is p)

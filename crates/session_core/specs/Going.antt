@@ -1,8 +1,14 @@
 -- How far a session has come in its course, and what it has made and written on the way.
-use Rattle.std.specs.Prelude.{◌≡◌, ℕ, List, [], ◌++◌}
+use Rattle.std.specs.Prelude.{◌≡◌, ◌⊎◌, ℕ, Bool, true, false, ◌||◌, if◌then◌else◌, List, [], ◌++◌}
+use Rattle.std.specs.List.{list_any}
+use Rattle.lobby_state.specs.declared.acts.LobbyReply.TheVariants.{Entered}
+use Rattle.one_server.specs.declared.reply.Reply.{Reply}
+use Rattle.one_server.specs.declared.reply.Reply.TheVariants as reply
 use Rattle.one_server.specs.Running.{Log, Made, RunnerState}
-use Rattle.session_core.specs.Course.{Course, Follows, Begins, Passes}
-use Rattle.session_core.specs.Memory.{MemoryState}
+use Rattle.session_core.specs.Course.{Course, Done, Follows, Begins, Passes}
+use Rattle.session_core.specs.Memory.{MemoryState, has_entered, is_gone}
+use Rattle.session_core.specs.Session.{leaving}
+use Rattle.session_core.specs.Stages.{settled}
 
 -- whoever follows the rest of a course from here, to its end or so far, has followed the whole one, with these entries
 -- and this text before
@@ -29,12 +35,6 @@ pub record Answered (course : Course) (answer : List ℕ → List ℕ) (moment :
   pub follows : Follows course old.number moment entries text memory
   pub appended : out_now ≡ out ++ answer text
 
--- the session ran out of memory on its way: it made the first acts of its course, and no others
-pub record Stopped (course : Course) (moment : ℕ) (old new : RunnerState) : Type 0 where
-  pub entries : Log
-  pub grew : Made old entries new
-  pub begins : Begins course old.number moment entries
-
 -- the session went on in its course, and passed over what ran out of memory
 pub record Passed (course rest : Course) (moment : ℕ) (old new : RunnerState) : Type 0 where
   pub entries : Log
@@ -48,9 +48,48 @@ pub record LeftInPart (course : Course) (moment : ℕ) (old new : RunnerState) :
   pub grew : Made old entries new
   pub passes : Passes old.mark course old.number moment entries
 
--- the session left: it made exactly the acts of its leaving course
-pub record Left (course : Course) (moment : ℕ) (old new : RunnerState) : Type 0 where
+-- the session left: it made exactly the acts of its leaving course, and remembers this
+pub record Left (course : Course) (moment : ℕ) (old new : RunnerState) (memory : MemoryState) : Type 0 where
   pub entries : Log
   pub grew : Made old entries new
-  pub memory : MemoryState
   pub follows : Follows course old.number moment entries [] memory
+
+-- an entry says that the session has come in
+abbrev pub is_entered : Reply → Bool
+is_entered (reply.Lobby (Entered name)) = true
+is_entered _ = false
+
+abbrev pub any_entered : Log → Bool
+any_entered entries = list_any (λ e. is_entered e.reply) entries
+
+-- the session went on, and has entered where it had, or where one of the acts that it made was answered so
+pub record WentOn (course rest : Course) (moment : ℕ) (old : RunnerState) (before : MemoryState) (out : List ℕ)
+    (new : RunnerState) (after : MemoryState) (out_now : List ℕ) : Type 0 where
+  pub went : Went course rest moment old out new out_now
+  pub inside : has_entered after ≡ (has_entered before || any_entered went.entries)
+
+-- an input ran out of memory: the session made the first acts of its course, and no others; it has entered where it
+-- had, or where one of them was answered so
+pub record BrokeOff (course : Course) (moment : ℕ) (old : RunnerState) (before : MemoryState) (new : RunnerState)
+    (after : MemoryState) : Type 0 where
+  pub entries : Log
+  pub grew : Made old entries new
+  pub begins : Begins course old.number moment entries
+  pub inside : has_entered after ≡ (has_entered before || any_entered entries)
+
+-- an input ran out of memory that was to quit: its course is that of leaving; the session made its acts but for those
+-- that ran out of memory, and is gone
+pub record LeftShort (course : Course) (moment : ℕ) (old new : RunnerState) (after : MemoryState) : Type 0 where
+  pub memory : MemoryState
+  pub quits : settled course ≡ leaving memory
+  pub part : LeftInPart (leaving memory) moment old new
+  pub gone : is_gone after ≡ true
+
+-- an input ran out of memory
+abbrev pub Broke : Course → ℕ → RunnerState → MemoryState → RunnerState → MemoryState → Type 0
+Broke course moment old before new after =
+    BrokeOff course moment old before new after ⊎ LeftShort course moment old new after
+
+-- the acts of leaving, where the session has entered
+abbrev pub departing : MemoryState → Course
+departing memory = if has_entered memory then leaving memory else Done memory

@@ -1,24 +1,65 @@
 -- What a session remembers from one input to the next. This server's own.
-use Rattle.std.specs.Prelude.{Option, slice_get}
+use Rattle.std.specs.Prelude.{ℕ, Bool, true, false, List, [], Option, slice_get}
+use Rattle.command_words.specs.declared.aliases.Alias.{Alias}
 use Rattle.lobby_state.specs.declared.acts.LobbyReply.TheVariants.{Places, Waiting}
 use Rattle.lobby_state.specs.declared.place.Place.{Place}
 use Rattle.lobby_state.specs.Places.{PlaceList, no_places}
 use Rattle.one_server.specs.declared.reply.Reply.{Reply}
 use Rattle.one_server.specs.declared.reply.Reply.TheVariants.{Lobby}
+use Rattle.session_core.specs.declared.standing.LinkMark.{LinkMark}
+use Rattle.session_core.specs.declared.standing.LinkMark.TheVariants.{Fresh, Plain}
+use Rattle.session_core.specs.declared.standing.Standing.{Standing}
+use Rattle.session_core.specs.declared.standing.Standing.TheVariants.{Login, In, Gone}
 
--- its places, as the lobby told them last
+-- where it stands, what is known of its link, its aliases, and its places, as the lobby told them last
 pub record MemoryState : Type 0 where
+  pub standing : Standing
+  pub link : LinkMark
+  pub aliases : List Alias
   pub places : PlaceList
 
--- a session that was told nothing yet
-abbrev pub untold : MemoryState
-untold = record { places = no_places }
+-- a session before its first input
+abbrev pub newcomer : MemoryState
+newcomer = record { standing = Login; link = Fresh; aliases = []; places = no_places }
+
+-- one that a script has seated: it has entered under this name, and was told nothing yet
+abbrev pub seated : List ℕ → MemoryState
+seated name = record { standing = In name; link = Fresh; aliases = []; places = no_places }
+
+-- where it stands from now on
+abbrev pub stands_at : Standing → MemoryState → MemoryState
+stands_at standing memory = record memory { standing = standing }
+
+abbrev pub is_in : Standing → Bool
+is_in (In name) = true
+is_in _ = false
+
+-- the session has entered, and hasn't left
+abbrev pub has_entered : MemoryState → Bool
+has_entered memory = is_in memory.standing
+
+abbrev pub is_out : Standing → Bool
+is_out Gone = true
+is_out _ = false
+
+-- the session has left
+abbrev pub is_gone : MemoryState → Bool
+is_gone memory = is_out memory.standing
+
+-- a link on which a line came that is no greeting is a plain one, if nothing was known of it
+abbrev pub past_first : LinkMark → LinkMark
+past_first Fresh = Plain
+past_first mark = mark
 
 -- what the session remembers once it has this reply: the places that it tells, if it tells any
 abbrev pub told : MemoryState → Reply → MemoryState
 told memory (Lobby (Places places)) = record memory { places = places }
 told memory (Lobby (Waiting lines places)) = record memory { places = places }
 told memory _ = memory
+
+-- once it has left
+abbrev pub departed : MemoryState → MemoryState
+departed memory = record memory { standing = Gone; places = no_places }
 
 -- the session's present place, if it has any
 abbrev pub present_in : MemoryState → Option Place

@@ -1,6 +1,11 @@
--- What a session does: for a line and for a Quiet, and when it leaves. This server's own.
-use Rattle.std.specs.Prelude.{ℕ, Bool, true, false, List, [], ◌∷◌, ◌++◌, Option, None, Some}
+-- What a session that has entered does: for a command, for its news, for an acknowledgement, and when it leaves. This
+-- server's own.
+use Rattle.std.specs.Prelude.{ℕ, Bool, true, false, List, [], ◌∷◌, Option, None, Some}
+use Rattle.std.specs.Option.{option_map}
+use Rattle.command_words.specs.declared.command.Command.{Command}
+use Rattle.command_words.specs.declared.command.Command.TheVariants as command
 use Rattle.fics_words.specs.declared.refusal.Refusal.TheVariants.{NotPlaying}
+use Rattle.fics_words.specs.Handle.{key_of}
 use Rattle.linked_desk.specs.declared.acts.DeskAct.{DeskAct}
 use Rattle.linked_desk.specs.declared.acts.DeskAct.TheVariants as desk_act
 use Rattle.linked_desk.specs.declared.acts.DeskReply.TheVariants.{Items}
@@ -11,13 +16,10 @@ use Rattle.one_server.specs.declared.act.Act.{Act}
 use Rattle.one_server.specs.declared.act.Act.TheVariants.{Lobby, Desk, Pair}
 use Rattle.one_server.specs.declared.reply.Reply.{Reply}
 use Rattle.one_server.specs.declared.reply.Reply.TheVariants as reply
-use Rattle.session_core.specs.declared.input.Command.{Command}
-use Rattle.session_core.specs.declared.input.Command.TheVariants as command
-use Rattle.session_core.specs.declared.input.Input.{Input}
-use Rattle.session_core.specs.declared.input.Input.TheVariants as input
 use Rattle.session_core.specs.Course.{Course, Done, Asks, Writes}
-use Rattle.session_core.specs.Memory.{MemoryState, present_in, told, untold}
-use Rattle.session_core.specs.Texts.{asked_of, line_end, prompt, refusal_line, reply_text, news_text, waiting_text}
+use Rattle.session_core.specs.Memory.{MemoryState, departed, present_in, told}
+use Rattle.session_core.specs.Texts.{refusal_line, reply_text, news_text, waiting_text}
+use Rattle.sha2.specs.Sha256.{sha256}
 
 -- nothing more will come from the game
 abbrev pub says_over : Reply → Bool
@@ -42,7 +44,7 @@ abbrev pub visits : List Place → MemoryState → Course
 visits [] memory = Done memory
 visits (place ∷ places) memory =
     Asks (at_place place desk_act.Fetch)
-    (λ reply. Writes (news_text place reply) (given_up place (says_over reply) (visits places memory)))
+    (λ reply. Writes (news_text memory.link place reply) (given_up place (says_over reply) (visits places memory)))
 
 -- the lobby has told what waits there and which places there are, and the visits follow
 abbrev pub rounding : MemoryState → Course
@@ -52,11 +54,15 @@ rounding memory = visits memory.places.rows memory
 abbrev pub round : MemoryState → Course
 round memory = Asks (Lobby lobby_act.Fetch) (λ reply. Writes (waiting_text reply) (rounding (told memory reply)))
 
+-- the reply to the act of a command, and then the round
+abbrev pub answered : Reply → MemoryState → Course
+answered reply memory = Writes (reply_text reply) (round memory)
+
 -- an act at this place and its reply, and then the round; without a place the session itself answers
 abbrev pub at_present : DeskAct → Option Place → MemoryState → Course
 at_present act None memory = Writes (refusal_line NotPlaying) (round memory)
 at_present act (Some place) memory =
-    Asks (at_place place act) (λ reply. Writes (reply_text (asked_of (at_place place act)) reply) (round memory))
+    Asks (at_place place act) (λ reply. answered reply memory)
 
 -- the lobby has told which place is the present one, and the act is made there
 abbrev pub placing : DeskAct → MemoryState → Course
@@ -66,34 +72,41 @@ placing act memory = at_present act (present_in memory) memory
 abbrev pub to_desk : DeskAct → MemoryState → Course
 to_desk act memory = Asks (Lobby lobby_act.Where) (λ reply. placing act (told memory reply))
 
--- what a session does for a command
-abbrev pub command_course : Command → MemoryState → Course
-command_course command.Nothing memory = round memory
-command_course (command.Move word) memory = to_desk (desk_act.Move word) memory
-command_course command.Resign memory = to_desk desk_act.Resign memory
-command_course command.Flag memory = to_desk desk_act.Flag memory
-
--- what a session does for an input: a Quiet makes the round alone
-abbrev pub input_course : Input → MemoryState → Course
-input_course (input.Line asked) memory = command_course asked memory
-input_course input.Quiet memory = round memory
-
--- news that come without a line begin on a line of their own; where there are none nothing is written
-abbrev pub unasked : List ℕ → List ℕ
-unasked [] = []
-unasked (byte ∷ bytes) = line_end ++ (byte ∷ bytes) ++ prompt
-
--- what an input makes the session write, by the text of its course
-abbrev pub answer_text : Input → List ℕ → List ℕ
-answer_text (input.Line asked) text = text ++ prompt
-answer_text input.Quiet text = unasked text
+-- a command that is one act
+abbrev pub to_server : Act → MemoryState → Course
+to_server act memory = Asks act (λ reply. answered reply memory)
 
 -- each place is left and given up, in order, and then the member is gone
-abbrev pub leave_places : List Place → Course
-leave_places [] = Asks (Lobby lobby_act.Bye) (λ reply. Done untold)
-leave_places (place ∷ places) =
-    Asks (at_place place desk_act.Leave) (λ left. Asks (clear_at place) (λ cleared. leave_places places))
+abbrev pub leave_places : List Place → MemoryState → Course
+leave_places [] memory = Asks (Lobby lobby_act.Bye) (λ reply. Done (departed memory))
+leave_places (place ∷ places) memory =
+    Asks (at_place place desk_act.Leave) (λ left. Asks (clear_at place) (λ cleared. leave_places places memory))
 
--- what a session does when it leaves. Where Going is passed over, it leaves the places that it remembers
+-- the acts of leaving. Where Going is passed over, the session leaves the places that it remembers
 abbrev pub leaving : MemoryState → Course
-leaving memory = Asks (Lobby lobby_act.Going) (λ reply. leave_places (told memory reply).places.rows)
+leaving memory =
+    Asks (Lobby lobby_act.Going) (λ reply. leave_places (told memory reply).places.rows (told memory reply))
+
+-- what a session does for a command; a move carries the stamp of its line, where it has one
+abbrev pub command_course : Command → Option ℕ → MemoryState → Course
+command_course command.Nothing stamp memory = round memory
+command_course (command.Move word) stamp memory = to_desk (desk_act.Move word stamp) memory
+command_course (command.Match name terms) stamp memory =
+    to_server (Lobby (lobby_act.Match (key_of name) terms)) memory
+command_course (command.Accept name) stamp memory = to_server (Pair (pair_act.Accept (option_map key_of name))) memory
+command_course command.Resign stamp memory = to_desk desk_act.Resign memory
+command_course command.Flag stamp memory = to_desk desk_act.Flag memory
+command_course (command.Register password) stamp memory =
+    to_server (Lobby (lobby_act.Register (sha256 password))) memory
+command_course command.Quit stamp memory = leaving memory
+
+-- an acknowledgement reaches the present place, if there is any; it prints nothing, and no round follows
+abbrev pub acked_at : ℕ → Option Place → MemoryState → Course
+acked_at stamp None memory = Done memory
+acked_at stamp (Some place) memory = Asks (at_place place (desk_act.Acked stamp)) (λ reply. Done memory)
+
+abbrev pub acking : ℕ → MemoryState → Course
+acking stamp memory = acked_at stamp (present_in memory) memory
+
+abbrev pub to_acked : ℕ → MemoryState → Course
+to_acked stamp memory = Asks (Lobby lobby_act.Where) (λ reply. acking stamp (told memory reply))

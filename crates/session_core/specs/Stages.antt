@@ -1,8 +1,15 @@
 -- The stages of a session: what stands between an act and its reply, and what follows. This server's own.
-use Rattle.std.specs.Prelude.{◌≡◌, ℕ, ◌+◌, ◌*◌, List, ◌++◌, length}
+use Rattle.std.specs.Prelude.{◌≡◌, ℕ, ◌+◌, ◌*◌, true, false, List, ◌++◌, length, Option, IfSome}
+use Rattle.clock_ledger.specs.Span.{IsStamp}
+use Rattle.command_words.specs.declared.command.Command.{Command}
+use Rattle.command_words.specs.declared.command.Command.TheVariants.{Match}
+use Rattle.linked_desk.specs.Acts.{FitsDeskAct}
+use Rattle.lobby_state.specs.Acts.{AreTerms}
 use Rattle.lobby_state.specs.Desks.{IsDesk}
 use Rattle.one_server.specs.declared.reply.Reply.{Reply}
 use Rattle.one_server.specs.Acts.{FitsAct}
+use Rattle.session_core.specs.declared.first.First.{First}
+use Rattle.session_core.specs.declared.first.First.TheVariants as first
 use Rattle.session_core.specs.declared.next.Next.{Next}
 use Rattle.session_core.specs.declared.next.Next.TheVariants.{Ask, End}
 use Rattle.session_core.specs.declared.stage.Stage.{Stage}
@@ -10,25 +17,29 @@ use Rattle.session_core.specs.declared.stage.Stage.TheVariants as stage
 use Rattle.session_core.specs.declared.leaving_stage.LeavingStage.{LeavingStage}
 use Rattle.session_core.specs.declared.leaving_stage.LeavingStage.TheVariants as leaving_stage
 use Rattle.session_core.specs.Course.{Course, Done, Asks, Writes}
-use Rattle.session_core.specs.Memory.{MemoryState, told, untold}
-use Rattle.session_core.specs.Session.{clear_at, given_up, leave_places, placing, round, rounding, says_over, visits}
-use Rattle.session_core.specs.Texts.{news_text, reply_text, waiting_text}
+use Rattle.session_core.specs.Memory.{MemoryState, departed, has_entered, is_gone, told}
+use Rattle.session_core.specs.Login.{entered_as}
+use Rattle.session_core.specs.Session.{acking, answered, clear_at, given_up, leave_places, leaving, placing, rounding, says_over, visits}
+use Rattle.session_core.specs.Texts.{news_text, waiting_text}
 
 -- what follows the reply to the act at which the session stands
 abbrev pub continues : Stage → MemoryState → Reply → Course
+continues (stage.Entering name) memory reply = entered_as name reply memory
 continues (stage.Placing act) memory reply = placing act (told memory reply)
-continues (stage.Answering asked) memory reply = Writes (reply_text asked reply) (round memory)
+continues stage.Answering memory reply = answered reply memory
 continues stage.Rounding memory reply = Writes (waiting_text reply) (rounding (told memory reply))
 continues (stage.Visiting place rest) memory reply =
-    Writes (news_text place reply) (given_up place (says_over reply) (visits rest memory))
+    Writes (news_text memory.link place reply) (given_up place (says_over reply) (visits rest memory))
 continues (stage.Clearing rest) memory reply = visits rest memory
+continues (stage.AwaitingPlace stamp) memory reply = acking stamp (told memory reply)
+continues stage.Acking memory reply = Done memory
 
 -- and when it leaves
 abbrev pub leaves : LeavingStage → MemoryState → Reply → Course
-leaves leaving_stage.Going memory reply = leave_places (told memory reply).places.rows
-leaves (leaving_stage.Leaving place rest) memory reply = Asks (clear_at place) (λ cleared. leave_places rest)
-leaves (leaving_stage.Clearing rest) memory reply = leave_places rest
-leaves leaving_stage.Gone memory reply = Done untold
+leaves leaving_stage.Going memory reply = leave_places (told memory reply).places.rows (told memory reply)
+leaves (leaving_stage.Leaving place rest) memory reply = Asks (clear_at place) (λ cleared. leave_places rest memory)
+leaves (leaving_stage.Clearing rest) memory reply = leave_places rest memory
+leaves leaving_stage.Gone memory reply = Done (departed memory)
 
 -- the course of what comes next: an act, and what follows its reply by what the session remembers; or the end
 abbrev pub course_of : {S : Type 0} → (S → MemoryState → Reply → Course) → Next S → MemoryState → Course
@@ -37,11 +48,14 @@ course_of follows End memory = Done memory
 
 -- how many acts may still follow the reply
 abbrev pub acts_after : Stage → ℕ
+acts_after (stage.Entering name) = 0
 acts_after (stage.Placing act) = 67
-acts_after (stage.Answering asked) = 66
+acts_after stage.Answering = 66
 acts_after stage.Rounding = 65
 acts_after (stage.Visiting place rest) = 2 * length rest + 1
 acts_after (stage.Clearing rest) = 2 * length rest
+acts_after (stage.AwaitingPlace stamp) = 1
+acts_after stage.Acking = 0
 
 abbrev pub acts_of_leaving : LeavingStage → ℕ
 acts_of_leaving leaving_stage.Going = 65
@@ -54,10 +68,23 @@ abbrev pub acts_left : {S : Type 0} → (S → ℕ) → Next S → ℕ
 acts_left after (Ask act at) = after at + 1
 acts_left after End = 0
 
--- the place at which a stage stands is at a desk
-abbrev pub IsAtDesk : Stage → Type 0
-IsAtDesk (stage.Visiting place rest) = IsDesk place.desk
-IsAtDesk _ = Unit {0}
+-- the stamp of a line, where there is one, is below 10,000,000
+abbrev pub FitsStamp : Option ℕ → Type 0
+FitsStamp stamp = IfSome stamp IsStamp
+
+-- the terms of a challenge are within their bounds
+abbrev pub FitsCommand : Command → Type 0
+FitsCommand (Match name terms) = AreTerms terms
+FitsCommand _ = Unit {0}
+
+-- a stage has what its next act needs, an act that a desk can take, a place at a desk, a stamp; and it is one of a
+-- session that hasn't entered, or of one that has
+abbrev pub IsSet : MemoryState → Stage → Type 0
+IsSet memory (stage.Entering name) = has_entered memory ≡ false
+IsSet memory (stage.Placing act) = (has_entered memory ≡ true) × FitsDeskAct act
+IsSet memory (stage.Visiting place rest) = (has_entered memory ≡ true) × IsDesk place.desk
+IsSet memory (stage.AwaitingPlace stamp) = (has_entered memory ≡ true) × IsStamp stamp
+IsSet memory _ = has_entered memory ≡ true
 
 abbrev pub LeavesDesk : LeavingStage → Type 0
 LeavesDesk (leaving_stage.Leaving place rest) = IsDesk place.desk
@@ -67,6 +94,21 @@ LeavesDesk _ = Unit {0}
 abbrev pub IsReady : {S : Type 0} → (S → Type 0) → Next S → Type 0
 IsReady stands (Ask act at) = FitsAct act × stands at
 IsReady stands End = Unit {0}
+
+-- the course of what comes first
+abbrev pub first_course : First → MemoryState → Course
+first_course first.Leaving memory = leaving memory
+first_course (first.Going next) memory = course_of continues next memory
+
+-- and it may be made, by a session that has entered where it leaves
+abbrev pub IsPrepared : MemoryState → First → Type 0
+IsPrepared memory first.Leaving = has_entered memory ≡ true
+IsPrepared memory (first.Going next) = IsReady (IsSet memory) next
+
+-- where nothing more is to be made, the session has left
+abbrev pub HasGone : {S : Type 0} → Next S → MemoryState → Type 0
+HasGone (Ask act at) memory = Unit {0}
+HasGone End memory = is_gone memory ≡ true
 
 -- a text with what a course writes before its next act or its end
 abbrev pub onto : List ℕ → Course → List ℕ

@@ -1,20 +1,21 @@
 -- What a session writes: the texts of replies, of what waits for it, and of the news of its games. Each line ends with
 -- line feed and carriage return, as on FICS.
-use Rattle.std.specs.Prelude.{ℕ, List, [], ◌∷◌, ◌++◌, Some, codes, decimal}
+use Rattle.std.specs.Prelude.{ℕ, zero, suc, Bool, true, false, ℤ, pos, List, [], ◌∷◌, ◌++◌, Some, codes, decimal, if◌then◌else◌}
 use Rattle.fics_words.specs.declared.refusal.Refusal.{Refusal}
 use Rattle.fics_words.specs.Refusal.{number_of, name_of}
 use Rattle.linked_desk.specs.declared.acts.DeskReply.TheVariants.{Items}
 use Rattle.linked_desk.specs.Sight.{board_in, sight}
-use Rattle.lobby_state.specs.declared.acts.LobbyReply.TheVariants.{Waiting}
+use Rattle.lobby_state.specs.declared.acts.LobbyReply.TheVariants.{Done, Entered, Waiting}
 use Rattle.lobby_state.specs.declared.place.Place.{Place}
-use Rattle.one_server.specs.declared.act.Act.{Act}
-use Rattle.one_server.specs.declared.act.Act.TheVariants.{Desk}
 use Rattle.one_server.specs.declared.reply.Reply.{Reply}
 use Rattle.one_server.specs.declared.reply.Reply.TheVariants as reply
-use Rattle.session_core.specs.declared.asked.Asked.{Asked}
-use Rattle.session_core.specs.declared.asked.Asked.TheVariants.{InLobby, AtDesk}
+use Rattle.session_core.specs.declared.standing.LinkMark.{LinkMark}
+use Rattle.session_core.specs.declared.standing.LinkMark.TheVariants.{Stamped}
+use Rattle.session_core.specs.declared.standing.Standing.{Standing}
+use Rattle.session_core.specs.declared.standing.Standing.TheVariants.{Login, Password, In, Gone}
 use Rattle.style12_writer.specs.declared.item.Item.{Item}
 use Rattle.style12_writer.specs.declared.item.Item.TheVariants.{Board, Talk, End}
+use Rattle.style12_writer.specs.declared.view.Viewer.{Viewer}
 use Rattle.style12_writer.specs.EndLine.{end_text}
 use Rattle.style12_writer.specs.Line12.{line12_text}
 
@@ -22,23 +23,32 @@ use Rattle.style12_writer.specs.Line12.{line12_text}
 abbrev pub line_end : List ℕ
 line_end = codes "\n\r"
 
--- what stands where a line is awaited
-abbrev pub prompt : List ℕ
-prompt = codes "fics% "
+-- what a connection opens with
+abbrev pub opening_text : List ℕ
+opening_text = codes "Free Internet Chess Server profile\n\rlogin: "
+
+-- what stands at the end of an answer: where a line is awaited its prompt, and a farewell where none is any more
+abbrev pub prompt_of : Standing → List ℕ
+prompt_of Login = codes "login: "
+prompt_of (Password name) = codes "password: "
+prompt_of (In name) = codes "fics% "
+prompt_of Gone = codes "Goodbye." ++ line_end
 
 -- the line of a refusal: its number and its name
 abbrev pub refusal_line : Refusal → List ℕ
 refusal_line cause = codes "refused " ++ decimal (number_of cause) ++ codes " " ++ name_of cause ++ line_end
 
--- which kind of act was asked for, as far as the text of its reply depends on it
-abbrev pub asked_of : Act → Asked
-asked_of (Desk number serial act) = AtDesk
-asked_of _ = InLobby
+-- the line of a session that comes in
+abbrev pub entered_line : List ℕ → List ℕ
+entered_line name = codes "Entered as " ++ name ++ codes "." ++ line_end
 
--- what a reply prints: the refusal, and nothing where the act was done
-abbrev pub reply_text : Asked → Reply → List ℕ
-reply_text asked (reply.Refused cause) = refusal_line cause
-reply_text asked _ = []
+-- what a reply prints: the refusal; that an act of the lobby was done; under which name the session is in; and else
+-- nothing
+abbrev pub reply_text : Reply → List ℕ
+reply_text (reply.Refused cause) = refusal_line cause
+reply_text (reply.Lobby Done) = codes "Ok." ++ line_end
+reply_text (reply.Lobby (Entered name)) = entered_line name
+reply_text _ = []
 
 -- lines, each with its end
 abbrev pub lines_text : List (List ℕ) → List ℕ
@@ -51,15 +61,32 @@ item_text seat (Board view) = line12_text view (sight (Some seat) (board_in view
 item_text seat (Talk line) = line
 item_text seat (End view why winner on_own) = end_text view why winner on_own
 
+-- whether a board shows that the viewer plays and is to move: style 12's relation 1
+abbrev pub is_own_turn : ℤ → Bool
+is_own_turn (pos (suc zero)) = true
+is_own_turn _ = false
+
+-- on a stamped link the client is asked to acknowledge each board that shows its own turn, by `[G]` and a zero byte
+abbrev pub asks_back : LinkMark → ℕ → Item → List ℕ
+asks_back Stamped seat (Board view) =
+    if is_own_turn (sight (Some seat) (board_in view.game) view.face.to_move).relation
+    then codes "[G]" ++ 0 ∷ []
+    else []
+asks_back _ seat _ = []
+
+-- an item as it is written: its line and its end, and what asks the client to acknowledge it
+abbrev pub item_line : LinkMark → ℕ → Item → List ℕ
+item_line link seat item = item_text seat item ++ line_end ++ asks_back link seat item
+
 -- the lines of items
-abbrev pub items_text : ℕ → List Item → List ℕ
-items_text seat [] = []
-items_text seat (item ∷ items) = item_text seat item ++ line_end ++ items_text seat items
+abbrev pub items_text : LinkMark → ℕ → List Item → List ℕ
+items_text link seat [] = []
+items_text link seat (item ∷ items) = item_line link seat item ++ items_text link seat items
 
 -- the news of the game at a place
-abbrev pub news_text : Place → Reply → List ℕ
-news_text place (reply.Desk (Items items is_over)) = items_text place.seat items
-news_text place _ = []
+abbrev pub news_text : LinkMark → Place → Reply → List ℕ
+news_text link place (reply.Desk (Items items is_over)) = items_text link place.seat items
+news_text link place _ = []
 
 -- the lines that waited
 abbrev pub waiting_text : Reply → List ℕ

@@ -2,8 +2,8 @@
 ghost use Rattle.std.specs.Prelude.{◌≡◌, ◌≤◌, ◌<◌, ◌^◌, IfOk, OnOk, OnErr};
 ghost use Rattle.one_server.specs.Acts.{FitsAct};
 ghost use Rattle.session_core.specs.Course.{Asks};
-ghost use Rattle.session_core.specs.Going.{Answered, Stopped, Went};
-ghost use Rattle.session_core.specs.Stages.{IsAtDesk, IsReady, acts_after, acts_left, continues, course_of};
+ghost use Rattle.session_core.specs.Going.{Answered, BrokeOff, WentOn};
+ghost use Rattle.session_core.specs.Stages.{IsReady, IsSet, acts_after, acts_left, continues, course_of};
 
 use crate::next::Next;
 use crate::session_memory::Memory;
@@ -23,12 +23,12 @@ pub(crate) fn follow<R: Runner>(
     out: &mut Vec<u8>,
 ) -> Result<(), NoMemory>
     requires moment { moment ≤ 2 ^ 48 }
-    requires ready { IsReady IsAtDesk first }
+    requires ready { IsReady (IsSet memory.old) first }
     ensures home { R.home r.new ≡ R.home r.old }
     ensures followed { OnOk result (Answered (course_of continues first memory.old) (λ text. text) moment
         (R.state r.old) out.old.items (R.state r.new) out.new.items memory.new) }
-    ensures stopped { OnErr result
-        (Stopped (course_of continues first memory.old) moment (R.state r.old) (R.state r.new)) }
+    ensures so_far { BrokeOff (course_of continues first memory.old) moment (R.state r.old) memory.old
+        (R.state r.new) memory.new }
 {
     // What is known of every runner is known from here on.
     let _session = r.session();
@@ -53,13 +53,14 @@ fn ask<R: Runner>(
 ) -> Result<Next<Stage>, NoMemory>
     requires moment { moment ≤ 2 ^ 48 }
     requires fits { FitsAct act }
-    requires desk { IsAtDesk stage }
+    requires set { IsSet memory.old stage }
     ensures home { R.home r.new ≡ R.home r.old }
-    ensures went { IfOk result (λ next. Went (Asks act (continues stage memory.old))
-        (course_of continues next memory.new) moment (R.state r.old) out.old.items (R.state r.new) out.new.items) }
-    ensures stopped { OnErr result
-        (Stopped (Asks act (continues stage memory.old)) moment (R.state r.old) (R.state r.new)) }
-    ensures ready { IfOk result (IsReady IsAtDesk) }
+    ensures went { IfOk result (λ next. WentOn (Asks act (continues stage memory.old))
+        (course_of continues next memory.new) moment (R.state r.old) memory.old out.old.items
+        (R.state r.new) memory.new out.new.items) }
+    ensures broke { OnErr result (BrokeOff (Asks act (continues stage memory.old)) moment (R.state r.old) memory.old
+        (R.state r.new) memory.new) }
+    ensures ready { IfOk result (IsReady (IsSet memory.new)) }
     ensures fewer { IfOk result (λ next. acts_left acts_after next ≤ acts_after stage) }
 {
     let reply = r.run(alloc, moment, act)?;

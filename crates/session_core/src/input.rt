@@ -1,25 +1,21 @@
-//! What comes from a session's player.
+//! What comes from a session's player, and what the session answers.
 
-use chess_model::MoveWord;
+use line_reader::Incoming;
 
-/// What a line asks for, once it is read.
-#[derive(Debug, Drop)]
-pub enum Command {
-    /// Nothing but the news.
-    Nothing,
-    /// To play this word at the present place.
-    Move(MoveWord),
-    /// To give up the game at the present place.
-    Resign,
-    /// To call the flag on the opponent at the present place.
-    Flag,
-}
-
-/// What comes from the player of a session that has entered.
+/// What comes from a session's player.
 #[derive(Debug, Drop)]
 pub enum Input {
     /// A line came.
-    Line(Command),
+    Line(Incoming),
     /// Nothing came for a while.
     Quiet,
+}
+
+/// What a session answers to an input.
+#[derive(Debug, Drop)]
+pub struct Wrote {
+    /// The bytes for the player.
+    pub bytes: Vec<u8>,
+    /// Whether the session is gone: it was asked to quit, and has answered.
+    pub quit: bool,
 }

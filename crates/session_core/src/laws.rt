@@ -1,12 +1,14 @@
 //! What a course says, as laws: calls that do nothing. They tell what the definition means, and tie nothing to the
 //! program; that the program follows it is what `take` and `leave` ensure.
-ghost use Rattle.std.specs.Prelude.{◌≡◌, ◌++◌, ◌∷◌, [], ℕ, List, None, Some};
+ghost use Rattle.std.specs.Prelude.{◌≡◌, true, false, ◌++◌, ◌∷◌, [], ℕ, List, None, Some};
 ghost use Rattle.histories.specs.declared.entry.Entry.{Entry};
 ghost use Rattle.one_server.specs.declared.act.Timed.{Timed};
 ghost use Rattle.one_server.specs.declared.reply.Reply.{Reply};
 ghost use Rattle.one_server.specs.Running.{Log};
 ghost use Rattle.session_core.specs.Course.{Course, Follows, memory_by, next_act, replies_of, text_by};
-ghost use Rattle.session_core.specs.Memory.{MemoryState};
+ghost use Rattle.session_core.specs.declared.input.Input.{Input};
+ghost use Rattle.session_core.specs.Inputs.{asks_to_quit, input_course};
+ghost use Rattle.session_core.specs.Memory.{MemoryState, is_gone};
 
 /// Who follows a course makes, after each reply, the act that the replies so far name, at the course's moment and under
 /// its own number, until they name none; the text is the one that the replies say, and so is what is remembered.
@@ -21,4 +23,11 @@ pub fn courses()
         → Follows course session moment made text memory → text ≡ text_by course (replies_of made) }
     ensures memory { (course : Course) (session moment : ℕ) (made : Log) (text : List ℕ) (memory : MemoryState)
         → Follows course session moment made text memory → memory_by course (replies_of made) ≡ Some memory }
+{}
+
+/// A session that has entered, or comes in, leaves by an input only where that asks to quit.
+pub fn only_quit_leaves()
+    ensures { (input : Input) (before after : MemoryState) (session moment : ℕ) (made : Log) (text : List ℕ)
+        → Follows (input_course input before) session moment made text after → is_gone before ≡ false
+        → is_gone after ≡ true → asks_to_quit input before ≡ true }
 {}

@@ -1,10 +1,11 @@
 //! What a session does when it leaves.
-ghost use Rattle.std.specs.Prelude.{◌≡◌, ◌≤◌, ◌<◌, ◌^◌, [], OnOk, OnErr};
+ghost use Rattle.std.specs.Prelude.{◌≡◌, ◌≤◌, ◌<◌, ◌^◌, [], true, OnOk};
 ghost use Rattle.one_server.specs.Acts.{FitsAct};
 ghost use Rattle.session_core.specs.Course.{Asks, nothing_told};
 ghost use Rattle.session_core.specs.Going.{Left, LeftInPart, Passed, Went};
+ghost use Rattle.session_core.specs.Memory.{is_gone};
 ghost use Rattle.session_core.specs.Session.{leaving};
-ghost use Rattle.session_core.specs.Stages.{IsReady, LeavesDesk, acts_left, acts_of_leaving, course_of, leaves};
+ghost use Rattle.session_core.specs.Stages.{HasGone, IsReady, LeavesDesk, acts_left, acts_of_leaving, course_of, leaves};
 
 use crate::leaving_stage::{LeavingStage, ask_going};
 use crate::next::Next;
@@ -18,27 +19,27 @@ use std::alloc::Global;
 /// places and gives it up, and is gone. An act that runs out of memory is passed over, the others are made, and then
 /// the answer is running out of memory. Where Going is passed over, the places are those that the session remembers.
 /// Where the runner's mark is true, nothing but the giving up of a place can be passed over.
-pub fn leave<R: Runner>(
+pub(crate) fn leave<R: Runner>(
     alloc: Global,
     r: &mut R,
     moment: u64,
-    memory: Memory,
+    memory: &mut Memory,
 ) -> Result<(), NoMemory>
     requires { moment ≤ 2 ^ 48 }
     ensures home { R.home r.new ≡ R.home r.old }
-    ensures left { OnOk result (Left (leaving memory) moment (R.state r.old) (R.state r.new)) }
-    ensures part { OnErr result (LeftInPart (leaving memory) moment (R.state r.old) (R.state r.new)) }
+    ensures left { OnOk result (Left (leaving memory.old) moment (R.state r.old) (R.state r.new) memory.new) }
+    ensures part { LeftInPart (leaving memory.old) moment (R.state r.old) (R.state r.new) }
+    ensures gone { is_gone memory.new ≡ true }
 {
     // What is known of every runner is known from here on.
     let _session = r.session();
-    let mut memory = memory;
     let mut all = Ok(());
     let mut next = ask_going();
     loop {
         match next {
             Next::End => return all,
             Next::Ask(act, stage) => {
-                let (done, then) = ask_or_pass(alloc, r, moment, &mut memory, act, stage);
+                let (done, then) = ask_or_pass(alloc, r, moment, memory, act, stage);
                 all = all.and(done);
                 next = then;
             }
@@ -66,6 +67,7 @@ fn ask_or_pass<R: Runner>(
         (R.state r.old) (R.state r.new) }
     ensures ready { IsReady LeavesDesk result.1 }
     ensures fewer { acts_left acts_of_leaving result.1 ≤ acts_of_leaving stage }
+    ensures gone { HasGone result.1 memory.new }
 {
     match r.run(alloc, moment, act) {
         Ok(reply) => (Ok(()), stage.next(memory, &reply)),

@@ -2,7 +2,7 @@
 ghost use Rattle.std.specs.Prelude.{◌≡◌, ◌≤◌, ◌*◌, ◌+◌, length};
 ghost use Rattle.session_core.specs.Memory.{MemoryState};
 ghost use Rattle.session_core.specs.Session.{leave_places};
-ghost use Rattle.session_core.specs.Stages.{IsReady, LeavesDesk, acts_left, acts_of_leaving, course_of, leaves};
+ghost use Rattle.session_core.specs.Stages.{HasGone, IsReady, LeavesDesk, acts_left, acts_of_leaving, course_of, leaves};
 
 use crate::next::Next;
 use crate::rest::Rest;
@@ -32,6 +32,7 @@ impl LeavingStage {
         ensures goes { course_of leaves result memory.new ≡ leaves self memory.old reply.now }
         ensures ready { IsReady LeavesDesk result }
         ensures fewer { acts_left acts_of_leaving result ≤ acts_of_leaving self }
+        ensures gone { HasGone result memory.new }
     {
         match self {
             LeavingStage::Going => {
@@ -43,7 +44,7 @@ impl LeavingStage {
             }
             LeavingStage::Clearing(rest) => leave_next(rest),
             LeavingStage::Gone => {
-                *memory = Memory::new();
+                memory.depart();
                 Next::End
             }
         }
@@ -59,9 +60,10 @@ pub(crate) fn ask_going() -> Next<LeavingStage>
 
 /// The act that leaves the first of these places; behind the last one the member is gone.
 fn leave_next(rest: Rest) -> Next<LeavingStage>
-    ensures goes { (memory : MemoryState) → course_of leaves result memory ≡ leave_places rest }
+    ensures goes { (memory : MemoryState) → course_of leaves result memory ≡ leave_places rest memory }
     ensures ready { IsReady LeavesDesk result }
     ensures fewer { acts_left acts_of_leaving result ≤ 2 * length rest + 1 }
+    ensures gone { (memory : MemoryState) → HasGone result memory }
 {
     match rest.pop() {
         None => Next::Ask(Act::Lobby(LobbyAct::Bye), LeavingStage::Gone),

@@ -7,23 +7,28 @@
 //! exactly the acts of the course, in order, and `take` appends exactly its text, whoever runs the acts.
 #![tactic(auto)]
 
-mod asked;
+mod begin;
+mod command;
+mod first;
 mod follow;
+mod framing;
 mod input;
 mod laws;
 mod leaving;
 mod leaving_stage;
+mod login;
 mod next;
 mod rest;
+mod session;
 mod session_memory;
 mod stage;
+mod standing;
 mod taking;
 mod texts;
 
-pub use asked::Asked;
-pub use input::{Command, Input};
-pub use laws::courses;
-pub use leaving::leave;
-pub use session_memory::Memory;
-pub use taking::take;
+pub use framing::Framing;
+pub use input::{Input, Wrote};
+pub use laws::{courses, only_quit_leaves};
+pub use session::Session;
+pub use standing::{LinkMark, Standing};
 pub use texts::put_refusal;

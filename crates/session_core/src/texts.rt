@@ -1,12 +1,12 @@
 //! What a session writes.
-ghost use Rattle.std.specs.Prelude.{◌≡◌, ◌++◌, All, OnOk};
+ghost use Rattle.std.specs.Prelude.{◌≡◌, ◌++◌, All, OnOk, codes};
 ghost use Rattle.linked_desk.specs.Sound.{NamesWinner};
 ghost use Rattle.one_server.specs.Replies.{IsReply};
-ghost use Rattle.session_core.specs.Texts.{item_text, items_text, line_end, lines_text, news_text, prompt};
-ghost use Rattle.session_core.specs.Texts.{refusal_line, reply_text, waiting_text};
+ghost use Rattle.session_core.specs.Texts.{asks_back, entered_line, is_own_turn, item_line, item_text, items_text, line_end, lines_text};
+ghost use Rattle.session_core.specs.Texts.{news_text, prompt_of, refusal_line, reply_text, waiting_text};
 
-use crate::asked::Asked;
-use fics_words::{Line, NoMemory, Refusal, write_number};
+use crate::standing::{LinkMark, Standing};
+use fics_words::{Handle, Line, NoMemory, Refusal, write_number};
 use linked_desk::{DeskReply, viewer_of};
 use lobby_state::{LobbyReply, Place};
 use one_server::Reply;
@@ -27,23 +27,50 @@ pub fn put_refusal(cause: Refusal, out: &mut Vec<u8>) -> Result<(), NoMemory>
     Ok(())
 }
 
-/// Appends what stands where a line is awaited.
-pub(crate) fn put_prompt(out: &mut Vec<u8>) -> Result<(), NoMemory>
-    ensures { OnOk result (out.new.items ≡ out.old.items ++ prompt) }
+/// Appends what stands at the end of an answer: a prompt, or a farewell.
+pub(crate) fn put_prompt(standing: Standing, out: &mut Vec<u8>) -> Result<(), NoMemory>
+    ensures { OnOk result (out.new.items ≡ out.old.items ++ prompt_of standing) }
 {
-    out.extend_from_slice(b"fics% ")?;
+    let prompt: &[u8] = match standing {
+        Standing::Login => b"login: ",
+        Standing::Password(_) => b"password: ",
+        Standing::In(_) => b"fics% ",
+        Standing::Gone => b"Goodbye.\n\r",
+    };
+    out.extend_from_slice(prompt)?;
     Ok(())
 }
 
-/// Appends what a reply prints, by the kind of act that was asked for: a refusal. No act that was done prints anything
-/// yet.
-pub(crate) fn put_reply(_asked: Asked, reply: &Reply, out: &mut Vec<u8>) -> Result<(), NoMemory>
-    ensures { OnOk result (out.new.items ≡ out.old.items ++ reply_text _asked reply.now) }
+/// Appends what a reply prints.
+pub(crate) fn put_reply(reply: &Reply, out: &mut Vec<u8>) -> Result<(), NoMemory>
+    ensures { OnOk result (out.new.items ≡ out.old.items ++ reply_text reply.now) }
 {
     match reply {
         Reply::Refused(cause) => put_refusal(*cause, out),
+        Reply::Lobby(LobbyReply::Done) => put_done(out),
+        Reply::Lobby(LobbyReply::Entered(name)) => put_entered(*name, out),
         _ => Ok(()),
     }
+}
+
+/// Appends the line of an act of the lobby that was done.
+fn put_done(out: &mut Vec<u8>) -> Result<(), NoMemory>
+    ensures { OnOk result (out.new.items ≡ out.old.items ++ codes "Ok." ++ line_end) }
+{
+    out.extend_from_slice(b"Ok.")?;
+    out.extend_from_slice(LINE_END)?;
+    Ok(())
+}
+
+/// Appends the line of a session that comes in.
+fn put_entered(name: Handle, out: &mut Vec<u8>) -> Result<(), NoMemory>
+    ensures { OnOk result (out.new.items ≡ out.old.items ++ entered_line name) }
+{
+    out.extend_from_slice(b"Entered as ")?;
+    out.extend_from_slice(name.letters())?;
+    out.extend_from_slice(b".")?;
+    out.extend_from_slice(LINE_END)?;
+    Ok(())
 }
 
 /// Appends the lines that waited in the lobby.
@@ -57,13 +84,18 @@ pub(crate) fn put_waiting(reply: &Reply, out: &mut Vec<u8>) -> Result<(), NoMemo
 }
 
 /// Appends the news of the game at a place.
-pub(crate) fn put_news(place: &Place, reply: &Reply, out: &mut Vec<u8>) -> Result<(), NoMemory>
+pub(crate) fn put_news(
+    link: LinkMark,
+    place: &Place,
+    reply: &Reply,
+    out: &mut Vec<u8>,
+) -> Result<(), NoMemory>
     requires { IsReply reply.now }
-    ensures { OnOk result (out.new.items ≡ out.old.items ++ news_text place.now reply.now) }
+    ensures { OnOk result (out.new.items ≡ out.old.items ++ news_text link place.now reply.now) }
 {
     match reply {
         Reply::Desk(DeskReply::Items { items, .. }) => {
-            put_items(place.seat, items.as_slice(), out)
+            put_items(link, place.seat, items.as_slice(), out)
         }
         _ => Ok(()),
     }
@@ -80,12 +112,13 @@ fn put_lines(lines: &[Line], out: &mut Vec<u8>) -> Result<(), NoMemory>
 }
 
 /// Appends the lines of items for the player of a seat.
-fn put_items(seat: u8, items: &[Item], out: &mut Vec<u8>) -> Result<(), NoMemory>
+fn put_items(link: LinkMark, seat: u8, items: &[Item], out: &mut Vec<u8>) -> Result<(), NoMemory>
     requires { All NamesWinner items.now }
-    ensures { OnOk result (out.new.items ≡ out.old.items ++ items_text seat items.now) }
+    ensures { OnOk result (out.new.items ≡ out.old.items ++ items_text link seat items.now) }
 {
     for item in items {
         put_item(seat, item, out)?;
+        ask_back(link, seat, item, out)?;
     }
     Ok(())
 }
@@ -111,6 +144,32 @@ fn put_item(seat: u8, item: &Item, out: &mut Vec<u8>) -> Result<(), NoMemory>
             let line = end_line(alloc, view, *why, *winner, *on_own)?;
             put_line(&line, out)
         }
+    }
+}
+
+/// Appends what asks a client that stamps its lines to acknowledge a board on which it is to move.
+fn ask_back(link: LinkMark, seat: u8, item: &Item, out: &mut Vec<u8>) -> Result<(), NoMemory>
+    ensures { OnOk result (out.new.items ≡ out.old.items ++ asks_back link seat item.now) }
+{
+    let LinkMark::Stamped = link else {
+        return Ok(());
+    };
+    let Item::Board(view) = item else {
+        return Ok(());
+    };
+    if is_own_turn(viewer_of(Some(seat), view).relation) {
+        out.extend_from_slice(b"[G]\0")?;
+    }
+    Ok(())
+}
+
+/// Whether a board shows that the viewer plays and is to move.
+fn is_own_turn(relation: i8) -> bool
+    ensures { result ≡ is_own_turn relation }
+{
+    match relation {
+        1 => true,
+        _ => false,
     }
 }
 

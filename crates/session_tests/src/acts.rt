@@ -1,6 +1,7 @@
 //! The acts of sessions, in order.
 
-use crate::evenings::{Asked, Comes, Step, first_failing, seat, server, takes};
+use crate::evenings::{Asked, Step, first_failing, seat, takes};
+use crate::talks::{Comes, server};
 use std::test::Fail;
 
 #[test]
@@ -17,12 +18,19 @@ fn a_session_makes_the_acts_of_its_script(rt: HostRuntime) -> Result<(), Fail> {
         Asked::Clear,
     ];
     let steps = [
-        Step(1, 1_000, Comes::Nothing, &[Asked::Lines, Asked::News]),
-        Step(1, 2_000, Comes::Move(12, 28), &at_desk),
+        Step(1, 1_000, Comes::Line(b""), &[Asked::Lines, Asked::News]),
+        Step(1, 2_000, Comes::Line(b"e2e4"), &at_desk),
         Step(2, 3_000, Comes::Quiet, &[Asked::Lines, Asked::News]),
-        Step(1, 4_000, Comes::Flag, &flag),
-        Step(2, 5_000, Comes::Resign, &resign),
-        Step(2, 6_000, Comes::Resign, &[Asked::Where, Asked::Lines]),
+        Step(2, 3_500, Comes::Ack(7), &[Asked::Where, Asked::Acked]),
+        Step(2, 3_500, Comes::TooLong, &[Asked::Lines, Asked::News]),
+        Step(1, 4_000, Comes::Line(b"flag"), &flag),
+        Step(2, 5_000, Comes::Line(b"resign"), &resign),
+        Step(
+            2,
+            6_000,
+            Comes::Line(b"resign"),
+            &[Asked::Where, Asked::Lines],
+        ),
         Step(
             1,
             7_000,
@@ -30,6 +38,8 @@ fn a_session_makes_the_acts_of_its_script(rt: HostRuntime) -> Result<(), Fail> {
             &[Asked::Lines, Asked::News, Asked::Clear],
         ),
         Step(1, 8_000, Comes::Quiet, &[Asked::Lines]),
+        Step(1, 8_000, Comes::Ack(7), &[Asked::Where]),
+        Step(1, 8_000, Comes::Line(b"quit"), &[Asked::Going, Asked::Bye]),
     ];
     assert_eq!(rt; first_failing(rt.alloc(), &mut server, &steps), None);
     Ok(())
@@ -38,7 +48,7 @@ fn a_session_makes_the_acts_of_its_script(rt: HostRuntime) -> Result<(), Fail> {
 #[test]
 fn a_player_without_a_place_is_answered_by_the_session(rt: HostRuntime) -> Result<(), Fail> {
     let mut server = server(rt.alloc())?;
-    let answer = takes(rt.alloc(), &mut server, 7, 0, Comes::Flag)?;
+    let answer = takes(rt.alloc(), &mut server, 7, 0, Comes::Line(b"flag"))?;
     assert!(rt; answer.as_slice() == b"refused 20 NotPlaying\n\rfics% ".as_slice());
     let silence = takes(rt.alloc(), &mut server, 7, 0, Comes::Quiet)?;
     assert!(rt; silence.is_empty());

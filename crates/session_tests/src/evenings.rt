@@ -1,18 +1,21 @@
-//! A server with two seated players, and what its sessions do there.
+//! A server with two seated players, and the acts that its sessions make there.
 
 use crate::short::ShortSeat;
-use chess_model::{Colour, MoveWord, Square, Terms, Variant};
+use crate::talks::{Comes, input_of};
+use chess_model::{Colour, Terms, Variant};
 use fics_words::{Fail, Handle, Refusal};
 use linked_desk::DeskAct;
-use lobby_state::{Lobby, LobbyAct, PairAct};
+use lobby_state::{LobbyAct, PairAct};
 use one_server::{Act, OneServer};
-use session_core::{Command, Input, Memory, leave, take};
+use session_core::{Input, Session};
 use std::alloc::Global;
 
 /// What an entry of the history asks for, in short.
 #[derive(Clone, Copy, Debug, PartialEq, Eq)]
 pub enum Asked {
     Enter,
+    Register,
+    InUse,
     Match,
     Where,
     Lines,
@@ -21,16 +24,11 @@ pub enum Asked {
     Accept,
     Clear,
     Move,
+    Acked,
     Resign,
     Flag,
     News,
     Leave,
-}
-
-/// A server with an empty lobby.
-#[tactic(auto, using(one_server::proofs::Opens::opening_is))]
-pub fn server(alloc: Global) -> Result<OneServer, Fail> {
-    Ok(OneServer::new(alloc, Lobby::new(alloc)?)?)
 }
 
 /// Ann, session 1, has White against Ben, session 2.
@@ -43,7 +41,14 @@ pub fn seat(server: &mut OneServer) -> Result<(), Fail> {
 }
 
 fn enter(server: &mut OneServer, session: u32, name: Handle) -> Result<(), Fail> {
-    let _reply = server.run(session, 0, Act::Lobby(LobbyAct::Enter { name }))?;
+    let _reply = server.run(
+        session,
+        0,
+        Act::Lobby(LobbyAct::Enter {
+            name: Some(name),
+            digest: None,
+        }),
+    )?;
     Ok(())
 }
 
@@ -60,22 +65,12 @@ fn challenge(server: &mut OneServer, ben: Handle) -> Result<(), Fail> {
     Ok(())
 }
 
-/// What comes from a player.
-#[derive(Clone, Copy, Debug)]
-pub enum Comes {
-    Nothing,
-    /// The line that moves a man from a square to another.
-    Move(u8, u8),
-    Resign,
-    Flag,
-    Quiet,
-}
-
 /// A step: the session, the moment in milliseconds, what comes from its player, and the acts that this has to make.
 #[derive(Clone, Copy, Debug)]
 pub struct Step<'a>(pub u32, pub u32, pub Comes, pub &'a [Asked]);
 
-/// The place of the first step that makes other acts, if one does.
+/// The place of the first step that makes other acts, if one does. Each is taken by a session that has entered and was
+/// told nothing yet.
 pub fn first_failing(alloc: Global, server: &mut OneServer, steps: &[Step<'_>]) -> Option<usize> {
     for (place, step) in steps.iter().enumerate() {
         let start = server.history().len();
@@ -97,50 +92,11 @@ pub fn takes(
     moment: u32,
     comes: Comes,
 ) -> Result<Vec<u8>, Fail> {
-    match input_of(comes) {
-        Ok(input) => answer(alloc, server, session, moment, input),
-        Err(fail) => Err(fail),
-    }
-}
-
-fn answer(
-    alloc: Global,
-    server: &mut OneServer,
-    session: u32,
-    moment: u32,
-    input: Input,
-) -> Result<Vec<u8>, Fail> {
-    let mut memory = Memory::new();
-    let mut out = Vec::new(alloc);
-    take(
-        alloc,
-        &mut server.seat(session),
-        u64::from(moment),
-        &mut memory,
-        input,
-        &mut out,
-    )?;
-    Ok(out)
-}
-
-fn input_of(comes: Comes) -> Result<Input, Fail> {
-    match comes {
-        Comes::Nothing => Ok(Input::Line(Command::Nothing)),
-        Comes::Move(from, to) => Ok(Input::Line(Command::Move(word(from, to)?))),
-        Comes::Resign => Ok(Input::Line(Command::Resign)),
-        Comes::Flag => Ok(Input::Line(Command::Flag)),
-        Comes::Quiet => Ok(Input::Quiet),
-    }
-}
-
-fn word(from: u8, to: u8) -> Result<MoveWord, Fail> {
-    let from = square(from)?;
-    let to = square(to)?;
-    Ok(MoveWord::Coordinate {
-        from,
-        to,
-        promo: None,
-    })
+    let mut entered = Session::seated(alloc, handle(b"Ann")?);
+    let input = input_of(alloc, comes)?;
+    let mut seat = server.seat(session);
+    let wrote = entered.take(&mut seat, u64::from(moment), input)?;
+    Ok(wrote.bytes)
 }
 
 /// The session leaves at this moment.
@@ -150,12 +106,8 @@ pub fn leaves(
     session: u32,
     moment: u32,
 ) -> Result<(), Fail> {
-    leave(
-        alloc,
-        &mut server.seat(session),
-        u64::from(moment),
-        Memory::new(),
-    )?;
+    let mut entered = Session::seated(alloc, handle(b"Ann")?);
+    entered.leave(&mut server.seat(session), u64::from(moment))?;
     Ok(())
 }
 
@@ -168,25 +120,10 @@ pub fn leaves_short(
     moment: u32,
     before: u32,
 ) -> Result<bool, Fail> {
-    let mut memory = Memory::new();
-    let mut out = Vec::new(alloc);
-    take(
-        alloc,
-        &mut server.seat(session),
-        u64::from(moment),
-        &mut memory,
-        Input::Quiet,
-        &mut out,
-    )?;
+    let mut entered = Session::seated(alloc, handle(b"Ann")?);
+    let _news = entered.take(&mut server.seat(session), u64::from(moment), Input::Quiet)?;
     let mut seat = ShortSeat::new(server, session, before);
-    Ok(leave(alloc, &mut seat, u64::from(moment), memory).is_err())
-}
-
-fn square(number: u8) -> Result<Square, Fail> {
-    match Square::of(number) {
-        Some(square) => Ok(square),
-        None => Err(Fail::Refused(Refusal::BadArguments)),
-    }
+    Ok(entered.leave(&mut seat, u64::from(moment)).is_err())
 }
 
 fn handle(name: &[u8; 3]) -> Result<Handle, Fail> {
@@ -234,6 +171,8 @@ fn in_short(act: &Act) -> Asked {
 fn in_lobby(act: &LobbyAct) -> Asked {
     match act {
         LobbyAct::Enter { .. } => Asked::Enter,
+        LobbyAct::Register { .. } => Asked::Register,
+        LobbyAct::InUse => Asked::InUse,
         LobbyAct::Match { .. } => Asked::Match,
         LobbyAct::Where => Asked::Where,
         LobbyAct::Fetch => Asked::Lines,
@@ -245,6 +184,7 @@ fn in_lobby(act: &LobbyAct) -> Asked {
 fn at_desk(act: &DeskAct) -> Asked {
     match act {
         DeskAct::Move { .. } => Asked::Move,
+        DeskAct::Acked { .. } => Asked::Acked,
         DeskAct::Resign => Asked::Resign,
         DeskAct::Flag => Asked::Flag,
         DeskAct::Fetch => Asked::News,

@@ -1,6 +1,7 @@
 //! The acts of sessions that leave.
 
-use crate::evenings::{Asked, first_differing, leaves, leaves_short, seat, server};
+use crate::evenings::{Asked, first_differing, leaves, leaves_short, seat};
+use crate::talks::server;
 use std::test::Fail;
 
 #[test]

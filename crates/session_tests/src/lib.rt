@@ -12,4 +12,12 @@ mod evenings;
 #[cfg(test)]
 mod leaving;
 #[cfg(test)]
+mod links;
+#[cfg(test)]
+mod logins;
+#[cfg(test)]
 mod short;
+#[cfg(test)]
+mod stamps;
+#[cfg(test)]
+mod talks;

@@ -1,7 +1,7 @@
 use Rattle.std.proofs.Common.{◌≡◌, ◌+◌, ◌<◌, ℕ, Bool, true, List, length, sym, ap, ◌∙◌, arith}
 use Rattle.fics_words.specs.Handle.{key_of}
-use Rattle.login_handles.specs.Guests.{guest_of, is_taken}
-use Rattle.login_handles.proofs.GuestNames.{AllTaken, AllTaken-none, AllTaken-more, AllTaken-length}
+use Rattle.login_handles.specs.Guests.{guest_among, guest_of, is_taken}
+use Rattle.login_handles.proofs.GuestNames.{AllTaken, AllTaken-none, AllTaken-more, AllTaken-length, IsLeastFree-one, guests_are_least}
 use Rattle.login_handles.proofs.guests.guest_name.Goals as goal
 
 -- what the test says of the guest's key
@@ -33,11 +33,16 @@ loop-name-preserved c =
     (of_guest c.args.taken.now _ _ c.loop-name.number true _ c.is_taken.ensures c.loop-name-test.true c.key.ensures c.loop-name.invariant.0) in
     (c.numbered_guest-name-in-loop-name.ensures, all, next_fits c.args.taken.now c.loop-name.number all c.loop-name.invariant.2 c.requires)
 
-pub returns : goal.returns
-returns c = record {
+pub returns-clause-least : goal.returns-clause-least
+returns-clause-least c = record {
   number = c.loop-name.number;
   within = c.loop-name.invariant.2;
   name_is = c.loop-name.invariant.0;
   free = ap (is_taken c.args.taken.now) (sym c.key.ensures) ∙ sym c.is_taken.ensures ∙ c.loop-name-test.false;
   least = c.loop-name.invariant.1;
 }
+
+pub returns-clause-among : goal.returns-clause-among
+returns-clause-among c =
+    IsLeastFree-one c.args.taken.now c.loop-name.name (guest_among c.args.taken.now) (returns-clause-least c)
+    (guests_are_least c.args.taken.now c.requires)

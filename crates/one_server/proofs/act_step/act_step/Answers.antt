@@ -29,7 +29,7 @@ pub returns-in-Desk-clause-reply : goal.returns-in-Desk-clause-reply
 returns-in-Desk-clause-reply c =
     let lobby : LobbyState = c.args.lobby.now in
     let desks : List DeskState = c.args.desks.now in
-    let d : IsDesk c.in-Desk.desk = subst FitsAct c.in-Desk.is c.requires.event.act in
+    let d : IsDesk c.in-Desk.desk = (subst FitsAct c.in-Desk.is c.requires.event.act).0 in
     let found = desk_with lobby desks c.in-Desk.desk (count_of_desks lobby desks c.requires.whole) d in
     if_ok (λ (r : Reply). r ≡ desk_reply (desk_answer found.0 c.args.session c.args.timed.now.moment c.in-Desk.serial c.in-Desk.act))
     (λ (r : Reply). reply house (parts_of lobby desks) c.args.session c.args.timed.now ≡ Some r)
@@ -42,7 +42,7 @@ pub returns-in-Desk-clause-after : goal.returns-in-Desk-clause-after
 returns-in-Desk-clause-after c =
     let lobby : LobbyState = c.args.lobby.now in
     let desks : List DeskState = c.args.desks.now in
-    let d : IsDesk c.in-Desk.desk = subst FitsAct c.in-Desk.is c.requires.event.act in
+    let d : IsDesk c.in-Desk.desk = (subst FitsAct c.in-Desk.is c.requires.event.act).0 in
     let found = desk_with lobby desks c.in-Desk.desk (count_of_desks lobby desks c.requires.whole) d in
     on_ok (c.step_at_desk.new.desks ≡ set desks (c.in-Desk.desk - 1) (desk_after found.0 c.args.session c.args.timed.now.moment c.in-Desk.serial c.in-Desk.act))
     (after house (parts_of lobby desks) c.args.session c.args.timed.now ≡ parts_of lobby c.step_at_desk.new.desks)

@@ -2,7 +2,7 @@ use Rattle.std.proofs.Common.{◌≡◌, [], refl, ap, sym, subst, ◌∙◌}
 use Rattle.session_core.specs.Course.{Course, Asks}
 use Rattle.session_core.specs.Going.{Passed, Went}
 use Rattle.session_core.specs.Session.{leaving}
-use Rattle.session_core.specs.Stages.{IsReady, LeavesDesk, course_of, leaves}
+use Rattle.session_core.specs.Stages.{HasGone, IsReady, LeavesDesk, course_of, leaves}
 use Rattle.session_core.specs.declared.leaving_stage.LeavingStage.{LeavingStage}
 use Rattle.session_core.specs.declared.next.Next.{Next}
 use Rattle.session_core.proofs.Going.{left, went_both, went_none}
@@ -12,27 +12,31 @@ use Rattle.session_core.proofs.leaving.leave.Goals as goal
 pub loop-next-init : goal.loop-next-init
 loop-next-init g c =
     let old = g.R.Runner.state c.args.r.now in
-    let is : leaving c.args.memory ≡ course_of leaves c.ask_going-next.result c.args.memory = sym (ap (λ (n : Next LeavingStage). course_of leaves n c.args.memory) c.ask_going-next.ensures) in
+    let is : leaving c.args.memory.now ≡ course_of leaves c.ask_going-next.result c.args.memory.now = sym (ap (λ (n : Next LeavingStage). course_of leaves n c.args.memory.now) c.ask_going-next.ensures) in
     record {
       ready = subst (IsReady LeavesDesk) (sym c.ask_going-next.ensures) (tt, tt);
       home = refl;
-      went = subst (λ (x : Course). Went (leaving c.args.memory) x c.args.moment old [] old []) is (went_none c.args.moment (leaving c.args.memory) old [] c.session-session.ensures.known);
-      passed = subst (λ (x : Course). Passed (leaving c.args.memory) x c.args.moment old old) is (passed_none c.args.moment (leaving c.args.memory) old c.session-session.ensures.known);
+      gone = subst (λ (n : Next LeavingStage). HasGone n c.args.memory.now) (sym c.ask_going-next.ensures) tt;
+      went = subst (λ (x : Course). Went (leaving c.args.memory.now) x c.args.moment old [] old []) is (went_none c.args.moment (leaving c.args.memory.now) old [] c.session-session.ensures.known);
+      passed = subst (λ (x : Course). Passed (leaving c.args.memory.now) x c.args.moment old old) is (passed_none c.args.moment (leaving c.args.memory.now) old c.session-session.ensures.known);
     }
 
 pub returns-in-End-clause-left : goal.returns-in-End-clause-left
 returns-in-End-clause-left g c =
-    left c.args.moment c.loop-next.all (leaving c.args.memory) (course_of leaves c.loop-next.next c.loop-next.memory) c.loop-next.memory
+    left c.args.moment c.loop-next.all (leaving c.args.memory.now) (course_of leaves c.loop-next.next c.loop-next.memory) c.loop-next.memory
     (g.R.Runner.state c.args.r.now) (g.R.Runner.state c.loop-next.r) c.loop-next.invariant.went (ap (λ (n : Next LeavingStage). course_of leaves n c.loop-next.memory) c.in-End.is)
 
 pub returns-in-End-clause-part : goal.returns-in-End-clause-part
 returns-in-End-clause-part g c =
-    passed_end c.args.moment c.loop-next.all (leaving c.args.memory) (course_of leaves c.loop-next.next c.loop-next.memory) c.loop-next.memory
+    passed_end c.args.moment (leaving c.args.memory.now) (course_of leaves c.loop-next.next c.loop-next.memory) c.loop-next.memory
     (g.R.Runner.state c.args.r.now) (g.R.Runner.state c.loop-next.r) c.loop-next.invariant.passed (ap (λ (n : Next LeavingStage). course_of leaves n c.loop-next.memory) c.in-End.is)
+
+pub returns-in-End-clause-gone : goal.returns-in-End-clause-gone
+returns-in-End-clause-gone g c = subst (λ (n : Next LeavingStage). HasGone n c.loop-next.memory) c.in-End.is c.loop-next.invariant.gone
 
 pub loop-next-preserved : goal.loop-next-preserved
 loop-next-preserved g c =
-    let start = leaving c.args.memory in
+    let start = leaving c.args.memory.now in
     let here = course_of leaves c.loop-next.next c.loop-next.memory in
     let asks = Asks c.in-Ask.act (leaves c.in-Ask.stage c.loop-next.memory) in
     let next = course_of leaves c.ask_or_pass-done.result.1 c.ask_or_pass-done.new.memory in
@@ -43,6 +47,7 @@ loop-next-preserved g c =
     record {
       ready = c.ask_or_pass-done.ensures.ready;
       home = c.ask_or_pass-done.ensures.home ∙ c.loop-next.invariant.home;
+      gone = c.ask_or_pass-done.ensures.gone;
       went =
           went_both c.args.moment c.loop-next.all c.ask_or_pass-done.result.0 c.and-all.result start here asks next old mid new c.and-all.ensures
           c.loop-next.invariant.went is c.ask_or_pass-done.ensures.went;

@@ -1,20 +1,40 @@
-use Rattle.std.proofs.Common.{ap, sym, ◌∙◌}
-use Rattle.session_core.specs.Session.{input_course}
-use Rattle.session_core.specs.Stages.{continues, course_of}
-use Rattle.session_core.specs.declared.input.Input.{Input}
-use Rattle.session_core.specs.declared.next.Next.{Next}
-use Rattle.session_core.specs.declared.stage.Stage.{Stage}
-use Rattle.session_core.proofs.Going.{stopped_answered}
+use Rattle.std.proofs.Common.{refl}
+use Rattle.session_core.specs.Inputs.{input_course}
+use Rattle.session_core.specs.Session.{leaving}
+use Rattle.session_core.specs.Stages.{Settles, continues, course_of, first_course}
+use Rattle.session_core.specs.declared.first.First.{First}
+use Rattle.session_core.proofs.Beginning.{answered_going, answered_leaving, broke_begun, broke_going, broke_leaving}
+use Rattle.std.proofs.Common.{subst}
 use Rattle.session_core.proofs.taking.take.Goals as goal
 
-pub returns-in_ok-follow-in-Line-clause-stopped : goal.returns-in_ok-follow-in-Line-clause-stopped
-returns-in_ok-follow-in-Line-clause-stopped g c =
-    stopped_answered c.args.moment c.put_prompt.result (input_course c.args.input c.args.memory.now) (course_of continues c.first_of.result c.args.memory.now) (λ text. text) c.follow.new.memory
-    (g.R.Runner.state c.args.r.now) (g.R.Runner.state c.follow.new.r) c.args.out.now.items c.follow.new.out.items c.in_ok-follow-in-Line.ensures.followed
-    (ap (λ (i : Input). input_course i c.args.memory.now) c.in-Line.is ∙ sym (c.first_of.ensures.goes c.args.memory.now))
+pub returns-in_err-first-clause-so_far : goal.returns-in_err-first-clause-so_far
+returns-in_err-first-clause-so_far g c =
+    broke_begun c.args.moment (input_course c.args.input c.args.memory.now) (g.R.Runner.state c.args.r.now) c.args.memory.now c.begin.new.memory c.session-session.ensures.known c.begin.ensures.inside
 
-pub returns-in_ok-follow-in-Quiet-clause-stopped : goal.returns-in_ok-follow-in-Quiet-clause-stopped
-returns-in_ok-follow-in-Quiet-clause-stopped g c =
-    stopped_answered c.args.moment c.put_unasked.result (input_course c.args.input c.args.memory.now) (course_of continues c.ask_round.result c.args.memory.now) (λ text. text) c.follow-in-Quiet.new.memory
-    (g.R.Runner.state c.args.r.now) (g.R.Runner.state c.follow-in-Quiet.new.r) c.new-news.result.items c.follow-in-Quiet.new.out.items c.in_ok-follow-in-Quiet.ensures.followed
-    (ap (λ (i : Input). input_course i c.args.memory.now) c.in-Quiet.is ∙ sym (ap (λ (n : Next Stage). course_of continues n c.args.memory.now) c.ask_round.ensures))
+pub returns-in-Leaving-clause-answered : goal.returns-in-Leaving-clause-answered
+returns-in-Leaving-clause-answered g c =
+    answered_leaving c.args.moment c.leave.result (input_course c.args.input c.args.memory.now) (leaving c.begin.new.memory) (g.R.Runner.state c.args.r.now) (g.R.Runner.state c.leave.new.r)
+    c.args.out.now.items c.begin.new.out.items c.leave.new.memory c.session-session.ensures.known
+    (subst (λ (f : First). Settles (input_course c.args.input c.args.memory.now) (first_course f c.begin.new.memory) c.args.out.now.items c.begin.new.out.items) c.in-Leaving.is c.in_ok-first.ensures.settles)
+    c.leave.ensures.left
+
+pub returns-in-Leaving-clause-so_far : goal.returns-in-Leaving-clause-so_far
+returns-in-Leaving-clause-so_far g c =
+    broke_leaving c.args.moment (input_course c.args.input c.args.memory.now) (g.R.Runner.state c.args.r.now) c.args.memory.now c.begin.new.memory c.args.out.now.items c.begin.new.out.items
+    (g.R.Runner.state c.leave.new.r) c.leave.new.memory
+    (subst (λ (f : First). Settles (input_course c.args.input c.args.memory.now) (first_course f c.begin.new.memory) c.args.out.now.items c.begin.new.out.items) c.in-Leaving.is c.in_ok-first.ensures.settles)
+    c.leave.ensures.part c.leave.ensures.gone
+
+pub returns-in-Going-clause-answered : goal.returns-in-Going-clause-answered
+returns-in-Going-clause-answered g c =
+    answered_going c.args.moment c.follow.result (input_course c.args.input c.args.memory.now) (course_of continues c.in-Going.next c.begin.new.memory) (g.R.Runner.state c.args.r.now) (g.R.Runner.state c.follow.new.r)
+    c.args.out.now.items c.begin.new.out.items c.follow.new.out.items c.follow.new.memory c.session-session.ensures.known
+    (subst (λ (f : First). Settles (input_course c.args.input c.args.memory.now) (first_course f c.begin.new.memory) c.args.out.now.items c.begin.new.out.items) c.in-Going.is c.in_ok-first.ensures.settles)
+    c.follow.ensures.followed
+
+pub returns-in-Going-clause-so_far : goal.returns-in-Going-clause-so_far
+returns-in-Going-clause-so_far g c =
+    broke_going c.args.moment (input_course c.args.input c.args.memory.now) (course_of continues c.in-Going.next c.begin.new.memory) (g.R.Runner.state c.args.r.now) c.args.memory.now c.begin.new.memory
+    c.args.out.now.items c.begin.new.out.items (g.R.Runner.state c.follow.new.r) c.follow.new.memory c.session-session.ensures.known
+    (subst (λ (f : First). Settles (input_course c.args.input c.args.memory.now) (first_course f c.begin.new.memory) c.args.out.now.items c.begin.new.out.items) c.in-Going.is c.in_ok-first.ensures.settles)
+    c.begin.ensures.inside c.follow.ensures.so_far

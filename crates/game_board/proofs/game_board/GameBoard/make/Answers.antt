@@ -5,6 +5,7 @@ use Rattle.chess_model.specs.Position.{Position, Stands}
 use Rattle.chess_model.specs.Allowed.{IsLegal}
 use Rattle.clock_ledger.specs.declared.charges.Charge.{Charge}
 use Rattle.clock_ledger.specs.Charges.{IsChargeable}
+use Rattle.clock_ledger.specs.Span.{IsStamp}
 use Rattle.clock_ledger.specs.Clock.{Ledger}
 use Rattle.move_writer.specs.Face.{plain_shown_of}
 use Rattle.game_board.specs.declared.played.Played.{Played}
@@ -51,7 +52,9 @@ invariant_of-self c =
           (All-append (λ (p : Played). IfSome p.charge IsChargeable) i.list (entry ∷ []) c.self.invariant.sound
           (All-one (λ (p : Played). IfSome p.charge IsChargeable) entry
           (subst (λ (o : Option Charge). IfSome o IsChargeable) (sym c.next_charge-charge.ensures)
-          (IsChargeable-next c.args.self.now c.args.moment c.requires.order c.requires.moment))));
+          (IsChargeable-next c.args.self.now c.args.moment c.args.stamp c.requires.order c.requires.moment
+          (subst (λ (b : Board). IfSome b.kept IsStamp) c.self.view_is c.self.invariant.kept) c.requires.stamp))));
+      kept = tt;
       last = ap Some (c.plain_shown-shown.ensures
           ∙ ap (λ (p : Position). plain_shown_of p c.args.what.now) (c.position.ensures ∙ sym (ap position_of c.self.view_is)))
           ∙ sym (last_shown-append i.terms.variant i.number i.list entry)

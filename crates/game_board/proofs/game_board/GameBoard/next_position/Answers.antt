@@ -9,7 +9,7 @@ use Rattle.game_board.proofs.game_board.GameBoard.next_position.Goals as goal
 pub after-requires : goal.after-requires
 after-requires c =
     let i = c.self.inside in
-    let e = position_of-stands i.position (record { number = i.number; terms = i.terms; list = i.list; begin = i.begin; played = i.played; came = i.came }) c.self.invariant.stands c.self.invariant.variant
+    let e = position_of-stands i.position (record { number = i.number; terms = i.terms; list = i.list; begin = i.begin; kept = i.kept; played = i.played; came = i.came }) c.self.invariant.stands c.self.invariant.variant
     ∙ ap position_of c.self.view_is in
     subst (λ (p : Position). Allowed p c.args.what.now) (sym e) c.requires
 

@@ -22,6 +22,7 @@ invariant_of-result c =
       white = c.in_ok-start.ensures ∙ ap (clock_of c.args.terms White) none;
       black = c.in_ok-start-2.ensures ∙ ap (clock_of c.args.terms Black) none;
       sound = subst (All (λ (p : Played). IfSome p.charge IsChargeable)) none (λ k d h. absurd (omega arith));
+      kept = tt;
       last = ap (last_shown c.args.terms.variant c.args.number) none;
       counted = omega (arith, ap length none);
       most = omega arith;

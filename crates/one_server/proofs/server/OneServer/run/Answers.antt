@@ -18,7 +18,7 @@ act_step-requires-clause-whole c = whole_now _ _ _ _ c.self.invariant
 pub twin-twin-requires : goal.twin-twin-requires
 twin-twin-requires c =
     are_of c.self.inside.lobby c.self.inside.desks c.args.session c.args.moment c.args.act c.in_ok-copies.copies c.in_ok-reply.reply
-    (whole_now _ _ _ _ c.self.invariant) c.requires.act c.in_ok-copies.ensures.lines
+    (whole_now _ _ _ _ c.self.invariant) c.requires.act c.in_ok-copies.ensures.lists
     (subst (λ (ds : List DeskState). ItemsFor ds c.args.session c.args.act c.in_ok-copies.copies.items) c.deref.ensures c.in_ok-copies.ensures.items)
     c.in_ok-reply.ensures.reply
 

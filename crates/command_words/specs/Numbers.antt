@@ -1,0 +1,39 @@
+-- Numbers as arguments: decimals without leading zeros, up to a limit.
+use Rattle.std.specs.Prelude.{◌≡◌, ℕ, nat_le, ◌==◌, not, ◌&&◌, if◌then◌else◌, Bool, false, List, [], ◌∷◌, Option, Some, None, codes, refl}
+use Rattle.std.specs.Str.{all_ascii_digits}
+use Rattle.std.specs.Str.Parse.{digits_value}
+
+-- a decimal is digits, and begins with 0 only where it is `0`
+abbrev pub is_decimal : List ℕ → Bool
+is_decimal [] = false
+is_decimal (digit ∷ []) = all_ascii_digits (digit ∷ [])
+is_decimal (digit ∷ next ∷ digits) = not (digit == 48) && all_ascii_digits (digit ∷ next ∷ digits)
+
+-- the number of which the word is the decimal, if it is at most the limit
+unfoldable pub number_of : ℕ → List ℕ → Option ℕ
+number_of most word =
+    let number = digits_value 10 word in if is_decimal word && nat_le number most then Some number else None
+
+example_most : number_of 600 (codes "600") ≡ Some 600
+unfolding number_of
+example_most = refl
+
+example_nought : number_of 600 (codes "0") ≡ Some 0
+unfolding number_of
+example_nought = refl
+
+example_too_much : number_of 600 (codes "601") ≡ None
+unfolding number_of
+example_too_much = refl
+
+example_leading_zero : number_of 600 (codes "05") ≡ None
+unfolding number_of
+example_leading_zero = refl
+
+example_letters : number_of 600 (codes "5a") ≡ None
+unfolding number_of
+example_letters = refl
+
+example_sign : number_of 600 (codes "+5") ≡ None
+unfolding number_of
+example_sign = refl

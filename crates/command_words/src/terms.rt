@@ -1,0 +1,121 @@
+//! The terms of a game, as arguments of the commands that offer one.
+
+ghost use Rattle.std.specs.Prelude.{◌≡◌, None};
+ghost use Rattle.chess_model.specs.declared.variant.Variant.TheVariants.{Chess};
+ghost use Rattle.command_words.specs.Blanks.{words_of};
+ghost use Rattle.command_words.specs.TermReading.{asked_colour, behind_unrated, colour_of, leading, leading_time, terms_of, variant_of};
+
+use crate::blanks::cut_word;
+use crate::numbers::number_of;
+use chess_model::{Colour, Terms, Variant, read_variant};
+
+/// The most minutes at the start of a game, and the most seconds of increment.
+const MOST_TIME: u16 = 600;
+
+/// The time of a game.
+#[derive(Clone, Copy, Debug, PartialEq, Eq)]
+pub(crate) struct Time {
+    /// The time at the start, in minutes.
+    pub(crate) minutes: u16,
+    /// What each charged half-move adds, in seconds.
+    pub(crate) increment: u16,
+}
+
+/// Reads `[MINUTES INCREMENT] [unrated] [VARIANT] [COLOUR]`, where what stands in brackets may be left out: without
+/// numbers the time is the usual one, without a variant it is chess, and without a colour none is asked for. Numbers are
+/// at most 600, and the case of letters counts.
+pub(crate) fn read_terms(usual: Time, text: &[u8]) -> Option<Terms>
+    ensures { result ≡ terms_of usual (words_of text.now) }
+{
+    let (time, rest) = cut_time(usual, text);
+    let rest = behind_unrated(rest);
+    let (variant, rest) = cut_variant(rest);
+    let (colour, rest) = cut_colour(rest);
+    match cut_word(rest) {
+        Some(_) => None,
+        None => Some(Terms {
+            minutes: time.minutes,
+            increment: time.increment,
+            variant,
+            colour,
+        }),
+    }
+}
+
+/// The time, if two numbers stand first, and the text behind them; else the usual time and all the text.
+fn cut_time(usual: Time, text: &[u8]) -> (Time, &[u8])
+    ensures { (result.0, words_of result.1.now) ≡ leading_time usual (words_of text.now) }
+{
+    let Some((minutes, rest)) = cut_word(text) else {
+        return (usual, text);
+    };
+    let Some((increment, rest)) = cut_word(rest) else {
+        return (usual, text);
+    };
+    let Some(minutes) = number_of(MOST_TIME, minutes) else {
+        return (usual, text);
+    };
+    let Some(increment) = number_of(MOST_TIME, increment) else {
+        return (usual, text);
+    };
+    (Time { minutes, increment }, rest)
+}
+
+/// The text behind the word `unrated`, if it stands first; else all the text.
+fn behind_unrated(text: &[u8]) -> &[u8]
+    ensures { words_of result.now ≡ behind_unrated (words_of text.now) }
+{
+    let Some((word, rest)) = cut_word(text) else {
+        return text;
+    };
+    match word {
+        b"unrated" => rest,
+        _ => text,
+    }
+}
+
+/// The variant whose word stands first, and the text behind it; else chess and all the text.
+fn cut_variant(text: &[u8]) -> (Variant, &[u8])
+    ensures { (result.0, words_of result.1.now) ≡ leading variant_of Chess (words_of text.now) }
+{
+    let Some((word, rest)) = cut_word(text) else {
+        return (Variant::Chess, text);
+    };
+    match variant_of(word) {
+        Some(variant) => (variant, rest),
+        None => (Variant::Chess, text),
+    }
+}
+
+/// The colour whose word stands first, and the text behind it; else none and all the text.
+fn cut_colour(text: &[u8]) -> (Option<Colour>, &[u8])
+    ensures { (result.0, words_of result.1.now) ≡ leading asked_colour None (words_of text.now) }
+{
+    let Some((word, rest)) = cut_word(text) else {
+        return (None, text);
+    };
+    match colour_of(word) {
+        Some(colour) => (Some(colour), rest),
+        None => (None, text),
+    }
+}
+
+/// The variant of that word.
+fn variant_of(word: &[u8]) -> Option<Variant>
+    ensures { result ≡ variant_of word.now }
+{
+    read_variant(word)
+}
+
+/// The colour of that word: `white`, `w`, `black` or `b`.
+fn colour_of(word: &[u8]) -> Option<Colour>
+    ensures { result ≡ colour_of word.now }
+{
+    match word {
+        b"white" => Some(Colour::White),
+        b"w" => Some(Colour::White),
+        b"black" => Some(Colour::Black),
+        b"b" => Some(Colour::Black),
+        _ => None,
+    }
+}

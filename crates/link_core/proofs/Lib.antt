@@ -1,0 +1,6 @@
+pub mod Tales
+pub mod Talking
+pub mod Arriving
+pub mod Stamps
+pub mod Stepping
+pub mod Ending

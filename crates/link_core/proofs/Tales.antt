@@ -1,0 +1,65 @@
+-- Relations of what a link tells, one after the other.
+use Rattle.std.proofs.Common.{◌≡◌, ℕ, Bool, true, false, ◌||◌, List, [], ◌∷◌, ◌++◌, length, take, drop, refl, sym, ap, subst, ◌∙◌, append_assoc, append-nil, take-append-drop}
+use Rattle.std.specs.declared.option.Option.{Option}
+use Rattle.std.specs.declared.option.Option.TheVariants.{None, Some}
+use Rattle.edge_traits.specs.Link.{Both, Grows, Sign, Tale, Writes}
+use Rattle.edge_traits.specs.declared.sink.Sent.{Sent}
+use Rattle.edge_traits.specs.declared.sink.Sent.TheVariants.{All, Failed, Memory}
+use Rattle.histories.specs.History.{IsPrefix}
+use Rattle.link_core.specs.Steps.{TellsOpen, Written, WrittenPart}
+
+pub both_then : {R S T : Tale → Tale → Type 0} (a b c : Option Tale) → Both a b R → Both b c S → ((x y z : Tale) → R x y → S y z → T x z) → Both a c T
+both_then None b c p q f = tt
+both_then (Some x) None c p q f = absurd p
+both_then (Some x) (Some y) None p q f = absurd q
+both_then (Some x) (Some y) (Some z) p q f = f x y z p q
+
+pub both_map : {R S : Tale → Tale → Type 0} (a b : Option Tale) → Both a b R → ((x y : Tale) → R x y → S x y) → Both a b S
+both_map None b p f = tt
+both_map (Some x) None p f = absurd p
+both_map (Some x) (Some y) p f = f x y p
+
+-- nothing was written
+pub written_none : (a b : Option Tale) → b ≡ a → Written [] a b
+written_none None b same = tt
+written_none (Some x) b same =
+    subst (λ (o : Option Tale). Written [] (Some x) o) (sym same) (ap (λ (w : List ℕ). record x { written = w }) (sym (append-nil x.written)))
+
+pub written_all : (bytes : List ℕ) (a b : Option Tale) → Both a b (Writes All bytes) → Written bytes a b
+written_all bytes a b w = both_map a b w (λ x y p. p.1 ∙ ap (λ (l : List ℕ). record x { written = l }) p.0)
+
+part_of_taken : (n : ℕ) (bytes : List ℕ) → IsPrefix (take n bytes) bytes
+part_of_taken n bytes = (drop n bytes, take-append-drop n bytes)
+
+written_some : (bytes : List ℕ) (n : ℕ) (x y : Tale) → y.written ≡ x.written ++ take n bytes → y ≡ record x { written = y.written } → WrittenPart bytes (Some x) (Some y)
+written_some bytes n x y is same =
+    record { put = take n bytes; part_of = part_of_taken n bytes; wrote = same ∙ ap (λ (l : List ℕ). record x { written = l }) is }
+
+none_written : (bytes : List ℕ) (b : Option Tale) → WrittenPart bytes None b
+none_written bytes b = record { put = []; part_of = (bytes, refl); wrote = tt }
+
+pub written_failed : (bytes : List ℕ) (a b : Option Tale) → Both a b (Writes Failed bytes) → WrittenPart bytes a b
+written_failed bytes None b w = none_written bytes b
+written_failed bytes (Some x) None w = absurd w
+written_failed bytes (Some x) (Some y) w = written_some bytes w.0.0 x y w.0.1 w.1
+
+pub written_memory : (bytes : List ℕ) (a b : Option Tale) → Both a b (Writes Memory bytes) → WrittenPart bytes a b
+written_memory bytes None b w = none_written bytes b
+written_memory bytes (Some x) None w = absurd w
+written_memory bytes (Some x) (Some y) w = written_some bytes w.0.0 x y w.0.1 w.1
+
+-- nothing to write
+pub part_none : (bytes : List ℕ) (a b : Option Tale) → b ≡ a → WrittenPart bytes a b
+part_none bytes a b same = record { put = []; part_of = (bytes, refl); wrote = written_none a b same }
+
+-- what a link tells that was written more
+pub tells_more : (taken : List Sign) (is_ended : Bool) (written put : List ℕ) (a b c : Option Tale) → Both a b (TellsOpen taken is_ended written) → Written put b c
+    → Both a c (TellsOpen taken is_ended (written ++ put))
+tells_more taken is_ended written put a b c t w =
+    both_then a b c t w
+    (λ x y z p q. record {
+      taken_is = ap (λ (t : Tale). t.taken) q ∙ p.taken_is;
+      ended_is = ap (λ (t : Tale). t.ended) q ∙ p.ended_is;
+      written_is = ap (λ (t : Tale). t.written) q ∙ ap (λ (l : List ℕ). l ++ put) p.written_is ∙ append_assoc x.written written put;
+      closed_is = ap (λ (t : Tale). t.closed) q ∙ p.closed_is;
+    })

@@ -1,0 +1,10 @@
+use Rattle.link_core.proofs.Tales.{written_failed, written_memory}
+use Rattle.link_core.proofs.answer.write.Goals as goal
+
+pub returns-in-Failed-clause-wrote : goal.returns-in-Failed-clause-wrote
+returns-in-Failed-clause-wrote g c =
+    written_failed c.args.bytes.now (g.L.Link.tale c.args.link.now) (g.L.Link.tale c.write.new.self) c.in-Failed.ensures.wrote
+
+pub returns-in-Memory-clause-wrote : goal.returns-in-Memory-clause-wrote
+returns-in-Memory-clause-wrote g c =
+    written_memory c.args.bytes.now (g.L.Link.tale c.args.link.now) (g.L.Link.tale c.write.new.self) c.in-Memory.ensures.wrote

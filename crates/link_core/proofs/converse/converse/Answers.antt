@@ -1,0 +1,58 @@
+use Rattle.std.proofs.Common.{◌^◌, ◌≤◌, ◌∙◌, arith, le_trans, refl, subst, sym}
+use Rattle.line_reader.specs.Reader.{Reader}
+use Rattle.session_core.specs.Texts.{opening_text}
+use Rattle.link_core.specs.Steps.{IsDrained, Progress, Stand}
+use Rattle.link_core.proofs.Stepping.{progress_none, stops_opening, stops_opening_memory, stops_spent}
+use Rattle.link_core.proofs.Tales.{part_none}
+use Rattle.link_core.proofs.converse.converse.Goals as goal
+
+pub returns-in_default-clause-stops : goal.returns-in_default-clause-stops
+returns-in_default-clause-stops g c =
+    let shows = g.C.Clock.shows c.args.clock.now in
+    let start : Stand = record { state = g.R.Runner.state c.args.r.now; memory = c.args.session.now; link = g.L.Link.tale c.args.link.now } in
+    stops_opening_memory shows start start.link c.session-session.ensures.known c.requires (part_none opening_text start.link start.link refl)
+
+pub returns-in-Err-clause-stops : goal.returns-in-Err-clause-stops
+returns-in-Err-clause-stops g c =
+    let shows = g.C.Clock.shows c.args.clock.now in
+    let start : Stand = record { state = g.R.Runner.state c.args.r.now; memory = c.args.session.now; link = g.L.Link.tale c.args.link.now } in
+    stops_opening shows start c.in-Err.end (g.L.Link.tale c.greet.new.link) c.session-session.ensures.known c.requires c.in-Err.ensures.wrote
+
+pub loop-turn-init : goal.loop-turn-init
+loop-turn-init g c =
+    let shows = g.C.Clock.shows c.args.clock.now in
+    let start : Stand = record { state = g.R.Runner.state c.args.r.now; memory = c.args.session.now; link = g.L.Link.tale c.args.link.now } in
+    let there : Stand = record { state = g.R.Runner.state c.args.r.now; memory = c.args.session.now; link = g.L.Link.tale c.greet.new.link } in
+    record {
+      home = refl;
+      drained = subst (λ (r : Reader). IsDrained r) (sym c.in-Ok.ensures) (refl, refl);
+      progress =
+          subst (λ (r : Reader). Progress shows start there r 0) (sym c.in-Ok.ensures)
+          (progress_none shows start (g.L.Link.tale c.greet.new.link) c.session-session.ensures.known c.requires c.in-Ok-greet.ensures.wrote);
+      counted = c.greet.ensures.counted;
+    }
+
+pub loop-turn-preserved : goal.loop-turn-preserved
+loop-turn-preserved g c =
+    let shows = g.C.Clock.shows c.args.clock.now in
+    let start : Stand = record { state = g.R.Runner.state c.args.r.now; memory = c.args.session.now; link = g.L.Link.tale c.args.link.now } in
+    record {
+      home = c.take_turn.ensures.home ∙ c.loop-turn.invariant.home;
+      drained = c.in-Ok-take_turn.ensures.drained;
+      progress = c.in-Ok-take_turn.ensures.steps start c.loop-turn._turn c.loop-turn.invariant.progress;
+      counted = le_trans c.loop-turn.invariant.counted c.take_turn.ensures.counted;
+    }
+
+pub returns-in-Err-take_turn-clause-stops : goal.returns-in-Err-take_turn-clause-stops
+returns-in-Err-take_turn-clause-stops g c =
+    let shows = g.C.Clock.shows c.args.clock.now in
+    let start : Stand = record { state = g.R.Runner.state c.args.r.now; memory = c.args.session.now; link = g.L.Link.tale c.args.link.now } in
+    c.in-Err-take_turn.ensures.steps start c.loop-turn._turn c.loop-turn.invariant.progress
+
+pub returns-clause-stops : goal.returns-clause-stops
+returns-clause-stops g c =
+    let shows = g.C.Clock.shows c.args.clock.now in
+    let start : Stand = record { state = g.R.Runner.state c.args.r.now; memory = c.args.session.now; link = g.L.Link.tale c.args.link.now } in
+    let here : Stand = record { state = g.R.Runner.state c.loop-turn.r; memory = c.loop-turn.session; link = g.L.Link.tale c.loop-turn.link } in
+    let most : 2 ^ 40 ≤ c.loop-turn._turn = omega (arith, c.loop-turn-test.false) in
+    stops_spent shows start here c.loop-turn.reader c.loop-turn._turn c.loop-turn.invariant.progress c.loop-turn.invariant.drained most

@@ -1,0 +1,15 @@
+use Rattle.std.proofs.Common.{◌≡◌, ◌≤◌, ℕ, [], length}
+use Rattle.line_reader.specs.Reader.{lines_of}
+use Rattle.link_core.specs.Steps.{Progress, Stand}
+use Rattle.link_core.proofs.converse.take_lines.Given as goal
+
+abbrev pub invariant-loop-line : goal.invariant-loop-line
+invariant-loop-line g l = record {
+  home : g.R.Runner.home l.r ≡ g.R.Runner.home l.fn.r;
+  steps : (start : Stand) (turns : ℕ) → Progress (g.C.Clock.shows l.clock) start (record { state = g.R.Runner.state l.fn.r; memory = l.fn.session; link = g.L.Link.tale l.fn.link }) l.fn.reader turns
+      → Progress (g.C.Clock.shows l.clock) start (record { state = g.R.Runner.state l.r; memory = l.session; link = g.L.Link.tale l.link }) l.reader turns;
+  counted : g.L.Link.faults l.fn.link ≤ g.L.Link.faults l.link;
+}
+
+abbrev pub decreases-loop-line : goal.decreases-loop-line
+decreases-loop-line g l = length (lines_of l.reader [])

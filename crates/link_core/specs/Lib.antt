@@ -1,0 +1,4 @@
+pub mod Arrivals
+pub mod Talk
+pub mod Served
+pub mod Steps

@@ -1,0 +1,160 @@
+-- How far a link was served: on the way, and where the reading has ended.
+use Rattle.std.specs.Prelude.{◌≡◌, ◌⊎◌, ℕ, ◌≤◌, Bool, true, false, ◌||◌, List, [], ◌∷◌, ◌++◌, length, map, Result, Ok, Err}
+use Rattle.std.specs.declared.option.Option.{Option}
+use Rattle.edge_traits.specs.Link.{Both, Sign, Tale}
+use Rattle.histories.specs.History.{IsPrefix}
+use Rattle.line_reader.specs.declared.incoming.Incoming.{Incoming}
+use Rattle.line_reader.specs.Reader.{Reader, fresh, lines_of, rest_of}
+use Rattle.one_server.specs.Running.{Log, Made, RunnerState}
+use Rattle.session_core.specs.declared.input.Input.{Input}
+use Rattle.session_core.specs.declared.input.Input.TheVariants.{Line}
+use Rattle.session_core.specs.Going.{Broke, any_entered}
+use Rattle.session_core.specs.Inputs.{input_course}
+use Rattle.session_core.specs.Memory.{MemoryState, has_entered, is_gone, newcomer}
+use Rattle.session_core.specs.Texts.{opening_text}
+use Rattle.link_core.specs.declared.link_end.LinkEnd.{LinkEnd}
+use Rattle.link_core.specs.declared.link_end.LinkEnd.TheVariants.{Quit, End, ReadFault, WriteFault, Spent, Memory}
+use Rattle.link_core.specs.Arrivals.{bytes_of, inputs_of}
+use Rattle.link_core.specs.Served.{BeginsNext, Comes, Ends, LastRead, NotRead, QuitsShort, Writes}
+use Rattle.link_core.specs.Talk.{Answers, IsShown, Talks, joined}
+
+-- these bytes were written, and nothing else happened to the link
+abbrev pub Written : List ℕ → Option Tale → Option Tale → Type 0
+Written put old new = Both old new (λ before after. after ≡ record before { written = before.written ++ put })
+
+-- a prefix of these bytes was written
+pub record WrittenPart (bytes : List ℕ) (old new : Option Tale) : Type 0 where
+  pub put : List ℕ
+  pub part_of : IsPrefix put bytes
+  pub wrote : Written put old new
+
+-- bytes were to be written: all were, or a write failed, or memory ran out
+abbrev pub AfterWrite : List ℕ → Option Tale → Option Tale → Result (Unit {0}) LinkEnd → Type 0
+AfterWrite bytes old new (Ok u) = Written bytes old new
+AfterWrite bytes old new (Err WriteFault) = WrittenPart bytes old new
+AfterWrite bytes old new (Err Memory) = WrittenPart bytes old new
+AfterWrite bytes old new (Err _) = ⊥
+
+-- the fact holds where a read or a write failed
+abbrev pub OnFault : Result (Unit {0}) LinkEnd → Type 0 → Type 0
+OnFault (Err ReadFault) fact = fact
+OnFault (Err WriteFault) fact = fact
+OnFault _ fact = Unit {0}
+
+-- the session answered an input, and what it wrote is this
+pub record Answered (shows : ℕ → Bool) (input : Input) (old : RunnerState) (before : MemoryState) (new : RunnerState)
+    (after : MemoryState) (piece : List ℕ) : Type 0 where
+  pub made : Log
+  pub grew : Made old made new
+  pub answers : Answers shows old.number input before made piece after
+
+-- and that was written
+pub record AnsweredWhole (shows : ℕ → Bool) (input : Input) (old : RunnerState) (before : MemoryState)
+    (link : Option Tale) (new : RunnerState) (after : MemoryState) (link_now : Option Tale) : Type 0 where
+  pub piece : List ℕ
+  pub answered : Answered shows input old before new after piece
+  pub wrote : Written piece link link_now
+
+-- or a prefix of it was
+pub record AnsweredPart (shows : ℕ → Bool) (input : Input) (old : RunnerState) (before : MemoryState)
+    (link : Option Tale) (new : RunnerState) (after : MemoryState) (link_now : Option Tale) : Type 0 where
+  pub piece : List ℕ
+  pub answered : Answered shows input old before new after piece
+  pub wrote : WrittenPart piece link link_now
+
+-- the session ran out of memory
+pub record BrokeThere (shows : ℕ → Bool) (input : Input) (old : RunnerState) (before : MemoryState)
+    (link : Option Tale) (new : RunnerState) (after : MemoryState) (link_now : Option Tale) : Type 0 where
+  pub moment : ℕ
+  pub shown : IsShown shows moment
+  pub broke : Broke (input_course input before) moment old before new after
+  pub same : link_now ≡ link
+
+-- an input came
+abbrev pub AfterAnswer : (ℕ → Bool) → Input → RunnerState → MemoryState → Option Tale → RunnerState → MemoryState
+    → Option Tale → Result (Unit {0}) LinkEnd → Type 0
+AfterAnswer shows input old before link new after link_now (Ok u) =
+    AnsweredWhole shows input old before link new after link_now
+AfterAnswer shows input old before link new after link_now (Err Quit) =
+    AnsweredWhole shows input old before link new after link_now × (is_gone after ≡ true)
+AfterAnswer shows input old before link new after link_now (Err WriteFault) =
+    AnsweredPart shows input old before link new after link_now
+AfterAnswer shows input old before link new after link_now (Err Memory) =
+    AnsweredPart shows input old before link new after link_now ⊎ BrokeThere shows input old before link new after link_now
+AfterAnswer shows input old before link new after link_now (Err _) = ⊥
+
+-- what a link tells on the way: it isn't closed
+pub record TellsOpen (taken : List Sign) (is_ended : Bool) (written : List ℕ) (old new : Tale) : Type 0 where
+  pub taken_is : new.taken ≡ old.taken ++ taken
+  pub ended_is : new.ended ≡ (old.ended || is_ended)
+  pub written_is : new.written ≡ old.written ++ written
+  pub closed_is : new.closed ≡ old.closed
+
+-- where a session that serves a link has come to
+pub record Stand : Type 0 where
+  pub state : RunnerState
+  pub memory : MemoryState
+  pub link : Option Tale
+
+-- the session has answered the inputs of what was taken, but for these, which come next
+pub record Halfway (shows : ℕ → Bool) (start now : Stand) (taken : List Sign) (is_ended : Bool) (due : List Input)
+    : Type 0 where
+  pub inputs : List Input
+  pub made : Log
+  pub pieces : List (List ℕ)
+  pub grew : Made start.state made now.state
+  pub tells : Both start.link now.link (TellsOpen taken is_ended (joined (opening_text ∷ pieces)))
+  pub talked : Talks shows start.state.number inputs newcomer made pieces now.memory
+  pub come : inputs_of taken is_ended ≡ inputs ++ due
+  pub read : NotRead taken is_ended start.link now.link
+      ⊎ LastRead shows start.state.number taken made (joined (opening_text ∷ pieces)) start.link now.link
+
+-- the reader has been fed all that was taken, and hands out what comes next
+pub record Progress (shows : ℕ → Bool) (start now : Stand) (reader : Reader) (turns : ℕ) : Type 0 where
+  pub taken : List Sign
+  pub half : Halfway shows start now taken false (map Line (lines_of reader []))
+  pub given : List Incoming
+  pub along : (more : List ℕ) → lines_of fresh (bytes_of taken ++ more) ≡ given ++ lines_of reader more
+  pub rest : (more : List ℕ) → rest_of fresh (bytes_of taken ++ more) ≡ rest_of reader more
+  pub many : turns ≤ length taken
+
+-- what was made behind the answered inputs, as the reading ended: nothing, but where memory ran out
+pub record Breaks (shows : ℕ → Bool) (session : ℕ) (inputs come : List Input) (memory after : MemoryState) (begun : Log)
+    : Type 0 where
+  pub midway : (begun ≡ []) ⊎ BeginsNext shows session inputs come memory begun
+  pub inside : has_entered after ≡ (has_entered memory || any_entered begun)
+
+abbrev pub Behind : LinkEnd → (ℕ → Bool) → Bool → ℕ → List Input → List Input → MemoryState → MemoryState → Log → Type 0
+Behind Memory shows mark session inputs come memory after begun =
+    Breaks shows session inputs come memory after begun
+    ⊎ (QuitsShort shows mark session inputs come memory begun × (is_gone after ≡ true))
+Behind _ shows mark session inputs come memory after begun = (begun ≡ []) × (after ≡ memory)
+
+-- the reading has ended; the session has still to leave, and the link to be closed
+pub record Stops (shows : ℕ → Bool) (end : LinkEnd) (start now : Stand) : Type 0 where
+  pub taken : List Sign
+  pub is_ended : Bool
+  pub written : List ℕ
+  pub tells : Both start.link now.link (TellsOpen taken is_ended written)
+  pub inputs : List Input
+  pub made : Log
+  pub pieces : List (List ℕ)
+  pub memory : MemoryState
+  pub talked : Talks shows start.state.number inputs newcomer made pieces memory
+  pub come : Comes end inputs (inputs_of taken is_ended)
+  pub begun : Log
+  pub grew : Made start.state (made ++ begun) now.state
+  pub behind : Behind end shows start.state.mark start.state.number inputs (inputs_of taken is_ended) memory now.memory begun
+  pub writes : Writes end (opening_text ∷ pieces) written
+  pub read : NotRead taken is_ended start.link now.link
+      ⊎ LastRead shows start.state.number taken (made ++ begun) written start.link now.link
+  pub ends : Ends end taken is_ended memory
+
+-- a step on the way: it goes on, or the reading has ended
+abbrev pub AfterStep : (ℕ → Bool) → Stand → Stand → Reader → ℕ → Result (Unit {0}) LinkEnd → Type 0
+AfterStep shows start now reader turns (Ok u) = Progress shows start now reader turns
+AfterStep shows start now reader turns (Err end) = Stops shows end start now
+
+-- no line waits in the reader
+abbrev pub IsDrained : Reader → Type 0
+IsDrained reader = (lines_of reader [] ≡ []) × (reader.fed ≡ [])

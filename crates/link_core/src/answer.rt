@@ -1,0 +1,53 @@
+//! The answer to one input.
+ghost use Rattle.std.specs.Prelude.{◌≡◌, ◌≤◌};
+ghost use Rattle.edge_traits.specs.Faults.{Rose};
+ghost use Rattle.session_core.specs.Inputs.{FitsInput};
+ghost use Rattle.link_core.specs.Steps.{AfterAnswer, AfterWrite, OnFault};
+
+use crate::link_end::LinkEnd;
+use crate::moment::moment_of;
+use edge_traits::{Clock, Link, Sent};
+use one_server::Runner;
+use session_core::{Input, Session};
+
+/// Makes the session answer an input, at the present moment, and writes what it says.
+pub(crate) fn answer<R: Runner, L: Link, C: Clock>(
+    r: &mut R,
+    link: &mut L,
+    clock: &C,
+    session: &mut Session,
+    input: Input,
+) -> Result<(), LinkEnd>
+    requires { FitsInput input }
+    ensures home { R.home r.new ≡ R.home r.old }
+    ensures answered { AfterAnswer (C.shows clock.now) input (R.state r.old) session.old (L.tale link.old)
+        (R.state r.new) session.new (L.tale link.new) result }
+    ensures cause { OnFault result (Rose (L.faults link.old) (L.faults link.new)) }
+    ensures counted { L.faults link.old ≤ L.faults link.new }
+{
+    let moment = moment_of(clock);
+    let Ok(wrote) = session.take(r, moment, input) else {
+        return Err(LinkEnd::Memory);
+    };
+    write(link, wrote.bytes.as_slice())?;
+    if wrote.quit {
+        return Err(LinkEnd::Quit);
+    }
+    Ok(())
+}
+
+/// Writes bytes, if there are any.
+pub(crate) fn write<L: Link>(link: &mut L, bytes: &[u8]) -> Result<(), LinkEnd>
+    ensures wrote { AfterWrite bytes.now (L.tale link.old) (L.tale link.new) result }
+    ensures cause { OnFault result (Rose (L.faults link.old) (L.faults link.new)) }
+    ensures counted { L.faults link.old ≤ L.faults link.new }
+{
+    if bytes.is_empty() {
+        return Ok(());
+    }
+    match link.write(bytes) {
+        Sent::All => Ok(()),
+        Sent::Failed => Err(LinkEnd::WriteFault),
+        Sent::Memory => Err(LinkEnd::Memory),
+    }
+}

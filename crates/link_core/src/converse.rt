@@ -1,0 +1,178 @@
+//! How a link is read, and each input answered before the next read.
+ghost use Rattle.std.specs.Prelude.{◌≡◌, ◌≤◌, ◌+◌, ◌++◌, [], ℕ, List, true, map, option_to_list, Err, OnOk};
+ghost use Rattle.edge_traits.specs.Faults.{Rose};
+ghost use Rattle.edge_traits.specs.Link.{Sign};
+ghost use Rattle.line_reader.specs.Reader.{rest_of};
+ghost use Rattle.link_core.specs.Steps.{AfterStep, AfterWrite, Halfway, IsDrained, OnFault, Progress, Stand, Stops};
+ghost use Rattle.session_core.specs.Memory.{newcomer};
+ghost use Rattle.session_core.specs.Texts.{opening_text};
+ghost use Rattle.session_core.specs.declared.input.Input.TheVariants.{Line};
+
+use crate::answer::{answer, write};
+use crate::link_end::LinkEnd;
+use edge_traits::{Clock, Heard, Link};
+use fics_words::NoMemory;
+use line_reader::LineReader;
+use one_server::Runner;
+use session_core::{Input, Session};
+use std::alloc::Global;
+
+/// The most reads of a link: 2^40.
+const MOST_READS: u64 = 1_099_511_627_776;
+
+/// The most bytes that are read at once.
+const PIECE: usize = 1_024;
+
+/// Opens the connection, and answers what comes until the reading ends.
+pub(crate) fn converse<R: Runner, L: Link, C: Clock>(
+    alloc: Global,
+    r: &mut R,
+    link: &mut L,
+    clock: &C,
+    session: &mut Session,
+) -> LinkEnd
+    requires { session.old ≡ newcomer }
+    ensures home { R.home r.new ≡ R.home r.old }
+    ensures stops { Stops (C.shows clock.now) result
+        (record { state = R.state r.old; memory = session.old; link = L.tale link.old })
+        (record { state = R.state r.new; memory = session.new; link = L.tale link.new }) }
+    ensures cause { OnFault (Err result) (Rose (L.faults link.old) (L.faults link.new)) }
+    ensures counted { L.faults link.old ≤ L.faults link.new }
+{
+    // What is known of every runner is known from here on.
+    let _session = r.session();
+    let Ok(mut reader) = LineReader::new(alloc) else {
+        return LinkEnd::Memory;
+    };
+    match greet(session, link) {
+        Ok(()) => {}
+        Err(end) => return end,
+    }
+    for _turn in 0..MOST_READS {
+        match take_turn(r, link, clock, session, &mut reader) {
+            Ok(()) => {}
+            Err(end) => return end,
+        }
+    }
+    LinkEnd::Spent
+}
+
+/// Writes what the connection opens with.
+fn greet<L: Link>(session: &Session, link: &mut L) -> Result<(), LinkEnd>
+    ensures wrote { AfterWrite opening_text (L.tale link.old) (L.tale link.new) result }
+    ensures cause { OnFault result (Rose (L.faults link.old) (L.faults link.new)) }
+    ensures counted { L.faults link.old ≤ L.faults link.new }
+{
+    let Ok(opening) = session.open() else {
+        return Err(LinkEnd::Memory);
+    };
+    write(link, opening.as_slice())
+}
+
+/// Reads once, and answers what came.
+fn take_turn<R: Runner, L: Link, C: Clock>(
+    r: &mut R,
+    link: &mut L,
+    clock: &C,
+    session: &mut Session,
+    reader: &mut LineReader,
+) -> Result<(), LinkEnd>
+    requires drained { IsDrained reader.old }
+    ensures home { R.home r.new ≡ R.home r.old }
+    ensures steps { (start : Stand) (turns : ℕ) → Progress (C.shows clock.now) start
+        (record { state = R.state r.old; memory = session.old; link = L.tale link.old }) reader.old turns
+        → AfterStep (C.shows clock.now) start
+        (record { state = R.state r.new; memory = session.new; link = L.tale link.new }) reader.new (turns + 1) result }
+    ensures drained { OnOk result (IsDrained reader.new) }
+    ensures cause { OnFault result (Rose (L.faults link.old) (L.faults link.new)) }
+    ensures counted { L.faults link.old ≤ L.faults link.new }
+{
+    let mut buf = [0; PIECE];
+    match link.read(&mut buf) {
+        Heard::Bytes(n) => take_piece(r, link, clock, session, reader, &buf[..n]),
+        Heard::Quiet => answer(r, link, clock, session, Input::Quiet),
+        Heard::End => Err(take_rest(r, link, clock, session, reader)),
+        Heard::Failed => Err(LinkEnd::ReadFault),
+    }
+}
+
+/// Answers the lines that a piece ends.
+fn take_piece<R: Runner, L: Link, C: Clock>(
+    r: &mut R,
+    link: &mut L,
+    clock: &C,
+    session: &mut Session,
+    reader: &mut LineReader,
+    piece: &[u8],
+) -> Result<(), LinkEnd>
+    ensures home { R.home r.new ≡ R.home r.old }
+    ensures steps { (start : Stand) (turns : ℕ) → Progress (C.shows clock.now) start
+        (record { state = R.state r.old; memory = session.old; link = L.tale link.old })
+        (record reader.old { fed = reader.old.fed ++ piece.now }) turns
+        → AfterStep (C.shows clock.now) start
+        (record { state = R.state r.new; memory = session.new; link = L.tale link.new }) reader.new turns result }
+    ensures drained { OnOk result (IsDrained reader.new) }
+    ensures cause { OnFault result (Rose (L.faults link.old) (L.faults link.new)) }
+    ensures counted { L.faults link.old ≤ L.faults link.new }
+{
+    if reader.feed(piece).is_err() {
+        return Err(LinkEnd::Memory);
+    }
+    take_lines(r, link, clock, session, reader)
+}
+
+/// Answers the lines that the reader has.
+fn take_lines<R: Runner, L: Link, C: Clock>(
+    r: &mut R,
+    link: &mut L,
+    clock: &C,
+    session: &mut Session,
+    reader: &mut LineReader,
+) -> Result<(), LinkEnd>
+    ensures home { R.home r.new ≡ R.home r.old }
+    ensures steps { (start : Stand) (turns : ℕ) → Progress (C.shows clock.now) start
+        (record { state = R.state r.old; memory = session.old; link = L.tale link.old }) reader.old turns
+        → AfterStep (C.shows clock.now) start
+        (record { state = R.state r.new; memory = session.new; link = L.tale link.new }) reader.new turns result }
+    ensures drained { OnOk result (IsDrained reader.new) }
+    ensures cause { OnFault result (Rose (L.faults link.old) (L.faults link.new)) }
+    ensures counted { L.faults link.old ≤ L.faults link.new }
+{
+    loop {
+        match reader.next() {
+            Ok(Some(line)) => match answer(r, link, clock, session, Input::Line(line)) {
+                Ok(()) => {}
+                Err(end) => return Err(end),
+            },
+            Ok(None) => return Ok(()),
+            Err(NoMemory) => return Err(LinkEnd::Memory),
+        }
+    }
+}
+
+/// Answers what is left of a line at the end.
+fn take_rest<R: Runner, L: Link, C: Clock>(
+    r: &mut R,
+    link: &mut L,
+    clock: &C,
+    session: &mut Session,
+    reader: &LineReader,
+) -> LinkEnd
+    ensures home { R.home r.new ≡ R.home r.old }
+    ensures stops { (start : Stand) (taken : List Sign) → Halfway (C.shows clock.now) start
+        (record { state = R.state r.old; memory = session.old; link = L.tale link.old }) taken true
+        (map Line (option_to_list (rest_of reader.now [])))
+        → Stops (C.shows clock.now) result start
+        (record { state = R.state r.new; memory = session.new; link = L.tale link.new }) }
+    ensures cause { OnFault (Err result) (Rose (L.faults link.old) (L.faults link.new)) }
+    ensures counted { L.faults link.old ≤ L.faults link.new }
+{
+    match reader.rest() {
+        Ok(Some(line)) => match answer(r, link, clock, session, Input::Line(line)) {
+            Ok(()) => LinkEnd::End,
+            Err(end) => end,
+        },
+        Ok(None) => LinkEnd::End,
+        Err(NoMemory) => LinkEnd::Memory,
+    }
+}

@@ -1,0 +1,109 @@
+-- The terms of a challenge that was read are within their bounds.
+use Rattle.std.proofs.Common.{◌≡◌, ℕ, ◌≤◌, List, [], ◌∷◌, Ok, Err, Result, refl, sym, ap, subst, inl, inr, rules}
+use Rattle.std.specs.declared.option.Option.{Option}
+use Rattle.std.specs.declared.option.Option.TheVariants.{None, Some}
+use Rattle.std.specs.Prelude.{Bool, true, false, if◌then◌else◌, length, map, nat_lt}
+use Rattle.std.specs.Char.{to_ascii_lowercase}
+use Rattle.chess_model.specs.declared.moves.MoveWord.{MoveWord}
+use Rattle.chess_model.specs.declared.man.Colour.{Colour}
+use Rattle.chess_model.specs.declared.variant.Terms.{Terms}
+use Rattle.chess_model.specs.declared.variant.Variant.{Variant}
+use Rattle.chess_model.specs.declared.variant.Variant.TheVariants.{Chess}
+use Rattle.fics_words.specs.declared.refusal.Refusal.{Refusal}
+use Rattle.fics_words.specs.declared.refusal.Refusal.TheVariants.{BadArguments, TooLong}
+use Rattle.lobby_state.specs.Acts.{AreTerms}
+use Rattle.command_words.specs.declared.aliases.Alias.{Alias}
+use Rattle.command_words.specs.declared.command.Command.{Command}
+use Rattle.command_words.specs.declared.command.Command.TheVariants as command
+use Rattle.command_words.specs.declared.verbs.Verb.{Verb}
+use Rattle.command_words.specs.declared.verbs.Verb.TheVariants as verb
+use Rattle.command_words.specs.Accept.{accept_from, accept_of}
+use Rattle.command_words.specs.Aliases.{alias_of, expanded}
+use Rattle.command_words.specs.Blanks.{Words, first_word, rest_of, trimmed, words_of}
+use Rattle.command_words.specs.Commands.{arguments_of, asked, command_after, command_in, command_made, command_of, move_in, move_or}
+use Rattle.command_words.specs.Flag.{flag_of}
+use Rattle.command_words.specs.Match.{challenge, challenge_of, match_of, two_twelve}
+use Rattle.command_words.specs.Quit.{quit_of}
+use Rattle.command_words.specs.Register.{register_of}
+use Rattle.command_words.specs.Resign.{resign_of}
+use Rattle.command_words.specs.TermReading.{agreed, terms_of}
+use Rattle.command_words.specs.TermWords.{Spells, SpellsTime, time_of}
+use Rattle.command_words.specs.Texts.{alone, handle_of, is_text}
+use Rattle.command_words.specs.Verbs.{verb_of}
+use Rattle.command_words.proofs.TermParts.{are_read_as_spelled}
+use Rattle.session_core.specs.Stages.{FitsCommand}
+
+-- a time that was spelled is within its bounds, and so is the usual one
+spelled_fits : (words : Words) (terms : Terms) → SpellsTime two_twelve words (time_of terms) → AreTerms terms
+spelled_fits words terms (inl s) = record { minutes = s.0; increment = s.1 }
+spelled_fits words terms (inr s) = record {
+  minutes = subst (λ (n : ℕ). n ≤ 600) (sym (ap (λ (f : Variant → Option Colour → Terms). (f Chess None).minutes) (ap agreed s.1))) (search rules);
+  increment = subst (λ (n : ℕ). n ≤ 600) (sym (ap (λ (f : Variant → Option Colour → Terms). (f Chess None).increment) (ap agreed s.1))) (search rules);
+}
+
+-- what the answer of a reader asks for
+abbrev FitsAnswer : Result Command Refusal → Type 0
+FitsAnswer (Ok command) = FitsCommand command
+FitsAnswer (Err cause) = Unit {0}
+
+challenge_fits : (name : Option (List ℕ)) (words : Words) (terms : Option Terms) → terms ≡ terms_of two_twelve words → FitsAnswer (challenge name terms)
+challenge_fits (Some name) words (Some terms) is =
+    let s : Spells two_twelve words terms = (are_read_as_spelled two_twelve words terms).0 (sym is) in
+    spelled_fits s.time terms s.spells_time
+challenge_fits (Some name) words None is = tt
+challenge_fits None words (Some terms) is = tt
+challenge_fits None words None is = tt
+
+challenge_of_fits : (words : Words) → FitsAnswer (challenge_of words)
+challenge_of_fits [] = tt
+challenge_of_fits (name ∷ words) = challenge_fits (handle_of name) words (terms_of two_twelve words) refl
+
+accept_from_fits : (name : Option (List ℕ)) → FitsAnswer (accept_from name)
+accept_from_fits None = tt
+accept_from_fits (Some name) = tt
+
+accept_fits : (rest : List ℕ) → FitsAnswer (accept_of rest)
+accept_fits [] = tt
+accept_fits (b ∷ rest) = accept_from_fits (handle_of (b ∷ rest))
+
+alone_fits : (command : Command) (rest : List ℕ) → FitsCommand command → FitsAnswer (alone command rest)
+alone_fits command [] fits = fits
+alone_fits command (b ∷ rest) fits = tt
+
+either_fits : (is : Bool) (a b : Result Command Refusal) → FitsAnswer a → FitsAnswer b → FitsAnswer (if is then a else b)
+either_fits true a b p q = p
+either_fits false a b p q = q
+
+arguments_fit : (v : Verb) (rest : List ℕ) → FitsAnswer (arguments_of v rest)
+arguments_fit verb.Accept rest = accept_fits rest
+arguments_fit verb.Flag rest = alone_fits command.Flag rest tt
+arguments_fit verb.Match rest = challenge_of_fits (words_of rest)
+arguments_fit verb.Quit rest = alone_fits command.Quit rest tt
+arguments_fit verb.Register rest = either_fits (is_text rest) (Ok (command.Register rest)) (Err BadArguments) tt tt
+arguments_fit verb.Resign rest = alone_fits command.Resign rest tt
+
+asked_fits : (v : Result Verb Refusal) (rest : List ℕ) → FitsAnswer (asked v rest)
+asked_fits (Ok v) rest = arguments_fit v rest
+asked_fits (Err cause) rest = tt
+
+move_fits : (word : Option MoveWord) (text : List ℕ) → FitsAnswer (move_or word text)
+move_fits (Some word) text = tt
+move_fits None text = asked_fits (verb_of (map to_ascii_lowercase (first_word text))) (rest_of text)
+
+command_fits : (text : List ℕ) → FitsAnswer (command_of text)
+command_fits [] = tt
+command_fits (b ∷ text) = move_fits (move_in (b ∷ text)) (b ∷ text)
+
+made_fits : (made : List ℕ) → FitsAnswer (command_made made)
+made_fits made = either_fits (nat_lt 1023 (length made)) (Err TooLong) (command_of (trimmed made)) tt (command_fits (trimmed made))
+
+after_fits : (alias : Option Alias) (text : List ℕ) → FitsAnswer (command_after alias text)
+after_fits None text = command_fits text
+after_fits (Some alias) text = made_fits (expanded alias.text (rest_of text))
+
+-- what was read of a line can be asked for
+read_fits : (aliases : List Alias) (line : List ℕ) → FitsAnswer (command_in aliases line)
+read_fits aliases line = after_fits (alias_of aliases (first_word (trimmed line))) (trimmed line)
+
+pub command_read : (aliases : List Alias) (line : List ℕ) (asked : Command) → command_in aliases line ≡ Ok asked → FitsCommand asked
+command_read aliases line asked is = subst FitsAnswer is (read_fits aliases line)

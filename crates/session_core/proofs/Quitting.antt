@@ -1,0 +1,191 @@
+-- A session leaves only where it was asked to quit.
+use Rattle.std.proofs.Common.{◌≡◌, ℕ, Bool, true, false, if◌then◌else◌, List, [], ◌∷◌, refl, sym, ap, subst, ◌∙◌, Ok, Err, Result}
+use Rattle.std.specs.declared.option.Option.{Option}
+use Rattle.std.specs.declared.option.Option.TheVariants.{None, Some}
+use Rattle.command_words.specs.declared.command.Command.{Command}
+use Rattle.command_words.specs.declared.command.Command.TheVariants as command
+use Rattle.command_words.specs.Commands.{command_in}
+use Rattle.command_words.specs.Texts.{handle_of}
+use Rattle.fics_words.specs.Handle.{key_of}
+use Rattle.fics_words.specs.declared.refusal.Refusal.{Refusal}
+use Rattle.fics_words.specs.declared.refusal.Refusal.TheVariants as refusal
+use Rattle.line_reader.specs.declared.incoming.Incoming.{Incoming}
+use Rattle.line_reader.specs.declared.incoming.Incoming.TheVariants as incoming
+use Rattle.linked_desk.specs.declared.acts.DeskAct.{DeskAct}
+use Rattle.linked_desk.specs.declared.acts.DeskAct.TheVariants as desk_act
+use Rattle.lobby_state.specs.declared.acts.LobbyReply.TheVariants as lobby_reply
+use Rattle.lobby_state.specs.declared.place.Place.{Place}
+use Rattle.one_server.specs.declared.act.Act.{Act}
+use Rattle.one_server.specs.declared.reply.Reply.{Reply}
+use Rattle.one_server.specs.declared.reply.Reply.TheVariants as reply
+use Rattle.one_server.specs.Running.{Log}
+use Rattle.session_core.specs.declared.input.Input.{Input}
+use Rattle.session_core.specs.declared.input.Input.TheVariants.{Line, Quiet}
+use Rattle.session_core.specs.declared.standing.LinkMark.TheVariants.{Stamped}
+use Rattle.session_core.specs.declared.standing.Standing.{Standing}
+use Rattle.session_core.specs.declared.standing.Standing.TheVariants as standing
+use Rattle.session_core.specs.Course.{Course, Done, Asks, Writes, Follows}
+use Rattle.session_core.specs.Inputs.{ack_course, asked_course, asks_to_quit, input_course, is_greeting, is_quit, line_course, line_quits, past_line, quiet_course, refusing, stamp_on, text_course, text_quits}
+use Rattle.session_core.specs.Login.{admitted, entering, entering_named, is_guest, naming, password_of, proving}
+use Rattle.session_core.specs.Memory.{MemoryState, is_gone, is_out, present_in, told}
+use Rattle.session_core.specs.Session.{acked_at, at_present, command_course, given_up, round, says_over, to_acked, to_desk, visits}
+
+-- the session hasn't left at any end of the course
+NeverGone : Course → Type 0
+NeverGone (Done memory) = is_gone memory ≡ false
+NeverGone (Writes text rest) = NeverGone rest
+NeverGone (Asks act rest) = (r : Reply) → NeverGone (rest r)
+
+never_followed : (course : Course) (session moment : ℕ) (made : Log) (text : List ℕ) (after : MemoryState) → NeverGone course → Follows course session moment made text after → is_gone after ≡ false
+unfolding NeverGone
+never_followed (Done kept) session moment made text after never f = ap is_gone f.2 ∙ never
+never_followed (Writes put rest) session moment made text after never f = never_followed rest session moment made f.0 after never f.2
+never_followed (Asks act rest) session moment [] text after never f = absurd f
+never_followed (Asks act rest) session moment (e ∷ made) text after never f = never_followed (rest e.reply) session moment made text after (never e.reply) f.1
+
+same_standing : (memory : MemoryState) (r : Reply) → (told memory r).standing ≡ memory.standing
+same_standing memory (reply.Lobby (lobby_reply.Places places)) = refl
+same_standing memory (reply.Lobby (lobby_reply.Waiting lines places)) = refl
+same_standing memory _ = refl
+
+stays : (memory : MemoryState) (r : Reply) → is_gone memory ≡ false → is_gone (told memory r) ≡ false
+stays memory r here = ap is_out (same_standing memory r) ∙ here
+
+never_given_up : (place : Place) (over : Bool) (rest : Course) → NeverGone rest → NeverGone (given_up place over rest)
+unfolding NeverGone
+never_given_up place true rest never = λ r. never
+never_given_up place false rest never = never
+
+never_visits : (places : List Place) (memory : MemoryState) → is_gone memory ≡ false → NeverGone (visits places memory)
+unfolding NeverGone
+never_visits [] memory here = here
+never_visits (place ∷ places) memory here = λ r. never_given_up place (says_over r) (visits places memory) (never_visits places memory here)
+
+never_round : (memory : MemoryState) → is_gone memory ≡ false → NeverGone (round memory)
+unfolding NeverGone
+never_round memory here = λ r. never_visits (told memory r).places.rows (told memory r) (stays memory r here)
+
+never_present : (act : DeskAct) (place : Option Place) (memory : MemoryState) → is_gone memory ≡ false → NeverGone (at_present act place memory)
+unfolding NeverGone
+never_present act None memory here = never_round memory here
+never_present act (Some place) memory here = λ r. never_round memory here
+
+never_desk : (act : DeskAct) (memory : MemoryState) → is_gone memory ≡ false → NeverGone (to_desk act memory)
+unfolding NeverGone
+never_desk act memory here = λ r. never_present act (present_in (told memory r)) (told memory r) (stays memory r here)
+
+never_command : (asked : Command) (stamp : Option ℕ) (memory : MemoryState) → is_gone memory ≡ false → is_quit (Ok asked) ≡ false → NeverGone (command_course asked stamp memory)
+unfolding NeverGone
+never_command command.Nothing stamp memory here goes_on = never_round memory here
+never_command (command.Move word) stamp memory here goes_on = never_desk (desk_act.Move word stamp) memory here
+never_command (command.Match name terms) stamp memory here goes_on = λ r. never_round memory here
+never_command (command.Accept name) stamp memory here goes_on = λ r. never_round memory here
+never_command command.Resign stamp memory here goes_on = never_desk desk_act.Resign memory here
+never_command command.Flag stamp memory here goes_on = never_desk desk_act.Flag memory here
+never_command (command.Register password) stamp memory here goes_on = λ r. never_round memory here
+never_command command.Quit stamp memory here goes_on = absurd (let bad : true ≡ false = goes_on in cc)
+
+never_asked : (asked : Result Command Refusal) (stamp : Option ℕ) (memory : MemoryState) → is_gone memory ≡ false → is_quit asked ≡ false → NeverGone (asked_course asked stamp memory)
+unfolding NeverGone
+never_asked (Ok asked) stamp memory here goes_on = never_command asked stamp memory here goes_on
+never_asked (Err cause) stamp memory here goes_on = never_round memory here
+
+password_in : (name : Option (List ℕ)) → is_out (password_of name) ≡ false
+password_in (Some name) = refl
+password_in None = refl
+
+admitted_in : (name : Option (List ℕ)) (r : Reply) → is_out (admitted name r) ≡ false
+admitted_in name (reply.Lobby (lobby_reply.Entered given)) = refl
+admitted_in name (reply.Lobby lobby_reply.NeedPassword) = password_in name
+admitted_in name _ = refl
+
+never_entering : (name digest : Option (List ℕ)) (memory : MemoryState) → NeverGone (entering name digest memory)
+unfolding NeverGone
+never_entering name digest memory = λ r. admitted_in name r
+
+never_named : (name : Option (List ℕ)) (memory : MemoryState) → NeverGone (entering_named name memory)
+unfolding NeverGone
+never_named None memory = refl
+never_named (Some name) memory = never_entering (Some name) None memory
+
+never_either : (t : Bool) (one other : Course) → NeverGone one → NeverGone other → NeverGone (if t then one else other)
+never_either true one other p q = p
+never_either false one other p q = q
+
+never_naming : (text : List ℕ) (memory : MemoryState) → is_gone memory ≡ false → NeverGone (naming text memory)
+unfolding NeverGone
+never_naming [] memory here = here
+never_naming (b ∷ text) memory here =
+    never_either (is_guest (b ∷ text)) (entering None None memory) (entering_named (handle_of (b ∷ text)) memory) (never_entering None None memory) (never_named (handle_of (b ∷ text)) memory)
+
+never_proving : (name text : List ℕ) (memory : MemoryState) → is_gone memory ≡ false → NeverGone (proving name text memory)
+unfolding NeverGone
+never_proving name [] memory here = here
+never_proving name (b ∷ text) memory here = λ r. admitted_in (Some name) r
+
+never_text : (text : List ℕ) (stamp : Option ℕ) (at : Standing) (memory : MemoryState) → is_gone memory ≡ false → text_quits text at memory.aliases ≡ false → NeverGone (text_course text stamp at memory)
+unfolding NeverGone
+never_text text stamp standing.Login memory here goes_on = never_naming text memory here
+never_text text stamp (standing.Password name) memory here goes_on = never_proving name text memory here
+never_text text stamp (standing.In name) memory here goes_on = never_asked (command_in memory.aliases text) stamp memory here goes_on
+never_text text stamp standing.Gone memory here goes_on = here
+
+never_refusing : (cause : Refusal) (at : Standing) (memory : MemoryState) → is_gone memory ≡ false → NeverGone (refusing cause at memory)
+unfolding NeverGone
+never_refusing cause standing.Login memory here = refl
+never_refusing cause (standing.Password name) memory here = refl
+never_refusing cause (standing.In name) memory here = never_round memory here
+never_refusing cause standing.Gone memory here = here
+
+never_acked : (stamp : ℕ) (place : Option Place) (memory : MemoryState) → is_gone memory ≡ false → NeverGone (acked_at stamp place memory)
+unfolding NeverGone
+never_acked stamp None memory here = here
+never_acked stamp (Some place) memory here = λ r. here
+
+never_ack : (stamp : ℕ) (at : Standing) (memory : MemoryState) → is_gone memory ≡ false → NeverGone (ack_course stamp at memory)
+unfolding NeverGone
+never_ack stamp standing.Login memory here = here
+never_ack stamp (standing.Password name) memory here = here
+never_ack stamp (standing.In name) memory here = λ r. never_acked stamp (present_in (told memory r)) (told memory r) (stays memory r here)
+never_ack stamp standing.Gone memory here = here
+
+never_line : (line : Incoming) (memory : MemoryState) → is_gone memory ≡ false → line_quits line memory ≡ false → NeverGone (line_course line memory)
+never_line (incoming.Plain text) memory here goes_on = never_text text None memory.standing memory here goes_on
+never_line (incoming.Stamped text stamp) memory here goes_on = never_text text (stamp_on memory.link stamp) memory.standing memory here goes_on
+never_line (incoming.Ack stamp) memory here goes_on = never_ack stamp memory.standing memory here
+never_line incoming.TooLong memory here goes_on = never_refusing refusal.TooLong memory.standing memory here
+never_line incoming.BadByte memory here goes_on = never_refusing refusal.BadByte memory.standing memory here
+
+-- the greeting's mark doesn't count
+quits_past : (line : Incoming) (memory : MemoryState) → line_quits line (past_line memory) ≡ line_quits line memory
+quits_past (incoming.Plain text) memory = refl
+quits_past (incoming.Stamped text stamp) memory = refl
+quits_past (incoming.Ack stamp) memory = refl
+quits_past incoming.TooLong memory = refl
+quits_past incoming.BadByte memory = refl
+
+never_greeting : (t : Bool) (memory marked : MemoryState) (line : Incoming) → is_gone marked ≡ false → is_gone memory ≡ false → (if t then false else line_quits line memory) ≡ false
+    → NeverGone (if t then Done marked else line_course line (past_line memory))
+unfolding NeverGone
+never_greeting true memory marked line there here goes_on = there
+never_greeting false memory marked line there here goes_on = never_line line (past_line memory) here (quits_past line memory ∙ goes_on)
+
+never_quiet : (at : Standing) (memory : MemoryState) → is_gone memory ≡ false → NeverGone (quiet_course at memory)
+unfolding NeverGone
+never_quiet standing.Login memory here = here
+never_quiet (standing.Password name) memory here = here
+never_quiet (standing.In name) memory here = never_round memory here
+never_quiet standing.Gone memory here = here
+
+never_input : (input : Input) (memory : MemoryState) → is_gone memory ≡ false → asks_to_quit input memory ≡ false → NeverGone (input_course input memory)
+never_input Quiet memory here goes_on = never_quiet memory.standing memory here
+never_input (Line line) memory here goes_on = never_greeting (is_greeting memory.link line) memory (record memory { link = Stamped }) line here here goes_on
+
+decide : (t : Bool) → (t ≡ false → ⊥) → t ≡ true
+decide true f = refl
+decide false f = absurd (f refl)
+
+pub only_quit : (input : Input) (before after : MemoryState) (session moment : ℕ) (made : Log) (text : List ℕ) → Follows (input_course input before) session moment made text after → is_gone before ≡ false → is_gone after ≡ true
+    → asks_to_quit input before ≡ true
+only_quit input before after session moment made text f here gone =
+    decide (asks_to_quit input before) (λ goes_on. let never = never_followed (input_course input before) session moment made text after (never_input input before here goes_on) f in let bad : true ≡ false = sym gone ∙ never in cc)

@@ -1,0 +1,59 @@
+//! How a session begins to carry out a command.
+ghost use Rattle.std.specs.Prelude.{◌≡◌, true};
+ghost use Rattle.one_server.specs.Acts.{FitsAct};
+ghost use Rattle.linked_desk.specs.Acts.{FitsDeskAct};
+ghost use Rattle.session_core.specs.Memory.{MemoryState, has_entered};
+ghost use Rattle.session_core.specs.Session.{command_course, to_desk, to_server};
+ghost use Rattle.session_core.specs.Stages.{FitsCommand, FitsStamp, IsPrepared, first_course};
+
+use crate::first::First;
+use crate::next::Next;
+use crate::stage::{Stage, ask_round};
+use command_words::Command;
+use linked_desk::DeskAct;
+use lobby_state::{LobbyAct, PairAct};
+use login_handles::digest_of;
+use one_server::Act;
+
+/// What a session does first for a command; a move carries the stamp of its line.
+pub(crate) fn begin_command(command: Command, stamp: Option<u32>) -> First
+    requires stamp { FitsStamp stamp }
+    requires fits { FitsCommand command }
+    ensures goes { (memory : MemoryState) → first_course result memory ≡ command_course command stamp memory }
+    ensures ready { (memory : MemoryState) → has_entered memory ≡ true → IsPrepared memory result }
+{
+    match command {
+        Command::Nothing => First::Going(ask_round()),
+        Command::Move(word) => to_desk(DeskAct::Move { word, stamp }),
+        Command::Match(name, terms) => to_server(Act::Lobby(LobbyAct::Match {
+            to: name.key(),
+            terms,
+        })),
+        Command::Accept(name) => to_server(Act::Pair(PairAct::Accept(name.map(|name| name.key())))),
+        Command::Resign => to_desk(DeskAct::Resign),
+        Command::Flag => to_desk(DeskAct::Flag),
+        Command::Register(password) => {
+            let digest = digest_of(password.bytes());
+            to_server(Act::Lobby(LobbyAct::Register { digest }))
+        },
+        Command::Quit => First::Leaving,
+    }
+}
+
+/// An act whose reply is printed.
+fn to_server(act: Act) -> First
+    requires { FitsAct act }
+    ensures goes { (memory : MemoryState) → first_course result memory ≡ to_server act memory }
+    ensures ready { (memory : MemoryState) → has_entered memory ≡ true → IsPrepared memory result }
+{
+    First::Going(Next::Ask(act, Stage::Answering))
+}
+
+/// An act at the present place, for which the lobby is asked.
+fn to_desk(act: DeskAct) -> First
+    requires { FitsDeskAct act }
+    ensures goes { (memory : MemoryState) → first_course result memory ≡ to_desk act memory }
+    ensures ready { (memory : MemoryState) → has_entered memory ≡ true → IsPrepared memory result }
+{
+    First::Going(Next::Ask(Act::Lobby(LobbyAct::Where), Stage::Placing(act)))
+}

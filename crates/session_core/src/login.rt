@@ -1,0 +1,151 @@
+//! How a session comes in.
+ghost use Rattle.std.specs.Prelude.{◌≡◌, IfOk, None, Some, false};
+ghost use Rattle.command_words.specs.Texts.{handle_of};
+ghost use Rattle.session_core.specs.Going.{is_entered};
+ghost use Rattle.session_core.specs.Login.{admitted, entered_as, entering_named, is_guest, naming, password_of, proving, turned_away};
+ghost use Rattle.session_core.specs.Memory.{has_entered, is_in, stands_at};
+ghost use Rattle.session_core.specs.Stages.{IsPrepared, IsReady, IsSet, Settles, continues, course_of, first_course};
+
+use crate::first::First;
+use crate::next::Next;
+use crate::session_memory::Memory;
+use crate::stage::Stage;
+use crate::standing::Standing;
+use crate::texts::{put_refusal, put_reply};
+use fics_words::{Digest, Handle, NoMemory, Refusal};
+use lobby_state::{LobbyAct, LobbyReply};
+use login_handles::digest_of;
+use one_server::{Act, Reply};
+
+/// A line where a name is asked for.
+pub(crate) fn take_name(
+    memory: &mut Memory,
+    text: &[u8],
+    out: &mut Vec<u8>,
+) -> Result<First, NoMemory>
+    requires outside { has_entered memory.old ≡ false }
+    ensures settles { IfOk result (λ first. Settles (naming text.now memory.old) (first_course first memory.new)
+        out.old.items out.new.items) }
+    ensures ready { IfOk result (IsPrepared memory.new) }
+    ensures outside { has_entered memory.new ≡ false }
+{
+    let [_, ..] = text else {
+        return Ok(First::Going(Next::End));
+    };
+    if is_guest(text) {
+        return Ok(First::Going(ask_to_enter(&None, None)));
+    }
+    take_handle(handle_of(text), memory, out)
+}
+
+/// The handle that a line is, where it is one.
+fn take_handle(
+    name: Option<Handle>,
+    memory: &mut Memory,
+    out: &mut Vec<u8>,
+) -> Result<First, NoMemory>
+    requires outside { has_entered memory.old ≡ false }
+    ensures settles { IfOk result (λ first. Settles (entering_named name memory.old) (first_course first memory.new)
+        out.old.items out.new.items) }
+    ensures ready { IfOk result (IsPrepared memory.new) }
+    ensures outside { has_entered memory.new ≡ false }
+{
+    match name {
+        Some(name) => Ok(First::Going(ask_to_enter(&Some(name), None))),
+        None => turn_away(Refusal::BadHandle, memory, out),
+    }
+}
+
+/// The handle of these bytes, if they are one.
+fn handle_of(bytes: &[u8]) -> Option<Handle>
+    ensures { result ≡ handle_of bytes.now }
+{
+    Handle::read(bytes)
+}
+
+/// A line where the password of a name is asked for.
+pub(crate) fn take_password(memory: &Memory, name: Handle, text: &[u8]) -> First
+    requires outside { has_entered memory.now ≡ false }
+    ensures goes { first_course result memory.now ≡ proving name text.now memory.now }
+    ensures ready { IsPrepared memory.now result }
+{
+    let [_, ..] = text else {
+        return First::Going(Next::End);
+    };
+    First::Going(ask_to_enter(&Some(name), Some(digest_of(text))))
+}
+
+/// The act that asks to enter under this name, or as a guest.
+fn ask_to_enter(name: &Option<Handle>, digest: Option<Digest>) -> Next<Stage>
+    ensures { result ≡ Next.Ask (Act.Lobby (LobbyAct.Enter name.now digest)) (Stage.Entering name.now) }
+{
+    let act = Act::Lobby(LobbyAct::Enter {
+        name: *name,
+        digest,
+    });
+    Next::Ask(act, Stage::Entering(*name))
+}
+
+/// The session refuses a line by itself, and begins anew.
+pub(crate) fn turn_away(
+    cause: Refusal,
+    memory: &mut Memory,
+    out: &mut Vec<u8>,
+) -> Result<First, NoMemory>
+    requires outside { has_entered memory.old ≡ false }
+    ensures settles { IfOk result (λ first. Settles (turned_away cause memory.old) (first_course first memory.new)
+        out.old.items out.new.items) }
+    ensures ready { IfOk result (IsPrepared memory.new) }
+    ensures outside { has_entered memory.new ≡ false }
+{
+    memory.stand(Standing::Login);
+    put_refusal(cause, out)?;
+    Ok(First::Going(Next::End))
+}
+
+/// The lobby has answered: the session is in, is asked for the password, or begins anew.
+pub(crate) fn entered(
+    name: Option<Handle>,
+    memory: &mut Memory,
+    reply: &Reply,
+    out: &mut Vec<u8>,
+) -> Result<Next<Stage>, NoMemory>
+    ensures settles { IfOk result (λ next. Settles (entered_as name reply.now memory.old)
+        (course_of continues next memory.new) out.old.items out.new.items) }
+    ensures end { IfOk result (λ next. next ≡ Next.End) }
+    ensures inside { has_entered memory.new ≡ is_entered reply.now }
+{
+    memory.stand(admitted(name, reply));
+    put_reply(reply, out)?;
+    Ok(Next::End)
+}
+
+/// Where a session stands that asked to enter, once it is answered.
+fn admitted(name: Option<Handle>, reply: &Reply) -> Standing
+    ensures stands { result ≡ admitted name reply.now }
+    ensures inside { is_in result ≡ is_entered reply.now }
+{
+    match reply {
+        Reply::Lobby(LobbyReply::Entered(name)) => Standing::In(*name),
+        Reply::Lobby(LobbyReply::NeedPassword) => password_of(name),
+        _ => Standing::Login,
+    }
+}
+
+/// The password of a handle is asked for; a guest has none.
+fn password_of(name: Option<Handle>) -> Standing
+    ensures stands { result ≡ password_of name }
+    ensures outside { is_in result ≡ false }
+{
+    match name {
+        Some(name) => Standing::Password(name),
+        None => Standing::Login,
+    }
+}
+
+/// Whether the line asks to enter as a guest.
+fn is_guest(text: &[u8]) -> bool
+    ensures { result ≡ is_guest text.now }
+{
+    text.eq_ignore_ascii_case(b"guest")
+}

@@ -1,0 +1,120 @@
+//! Links in memory: how they end, what is written to them, and how often the clock is asked.
+
+use crate::talks::server;
+use edge_traits::{Clock, LinkStep, MemLink, StillClock};
+use fics_words::{Fail as Failure, NoMemory};
+use link_core::{LinkEnd, serve_link};
+use std::alloc::Global;
+use std::cell::Cell;
+use std::test::Fail;
+
+const OPENING: &[u8] = b"Free Internet Chess Server profile\n\rlogin: ";
+
+const GUEST: &[u8] =
+    b"Free Internet Chess Server profile\n\rlogin: Entered as GuestAAAA.\n\rfics% Goodbye.\n\r";
+
+const REST: &[u8] =
+    b"Free Internet Chess Server profile\n\rlogin: Entered as GuestAAAA.\n\rfics% refused 20 NotPlaying\n\rfics% ";
+
+const CUT: &[u8] = b"Free Internet Chess Server profile\n\rlogin: Entered as GuestAAAA.\n\rfics% ";
+
+/// What a link gives: a piece of bytes, or a pause.
+#[derive(Clone, Copy, Debug)]
+enum Gives {
+    Piece(&'static [u8]),
+    Pause,
+}
+
+/// A link: what it gives, the calls that fail, how it ends, and what is written to it.
+#[derive(Clone, Copy, Debug)]
+struct Row<'a>(&'a [Gives], &'a [u64], LinkEnd, &'static [u8]);
+
+#[test]
+fn links_end_as_they_have_to(rt: HostRuntime) -> Result<(), Fail> {
+    let quit = [
+        Gives::Piece(b"gue"),
+        Gives::Piece(b"st\n"),
+        Gives::Pause,
+        Gives::Piece(b"quit\nflag\n"),
+    ];
+    let rest = [Gives::Piece(b"guest\nfl"), Gives::Piece(b"ag")];
+    let rows = [
+        Row(&[], &[0], LinkEnd::WriteFault, b""),
+        Row(&[], &[1], LinkEnd::ReadFault, OPENING),
+        Row(&[], &[], LinkEnd::End, OPENING),
+        Row(&quit, &[], LinkEnd::Quit, GUEST),
+        Row(&rest, &[], LinkEnd::End, REST),
+        Row(&rest, &[4], LinkEnd::ReadFault, CUT),
+        Row(&rest, &[5], LinkEnd::WriteFault, CUT),
+    ];
+    assert_eq!(rt; first_failing(rt.alloc(), &rows), None);
+    Ok(())
+}
+
+/// Once for each of the four inputs, and once when it leaves.
+#[test]
+fn the_clock_is_asked_for_each_input(rt: HostRuntime) -> Result<(), Fail> {
+    let steps = [
+        Gives::Piece(b"guest\n\n"),
+        Gives::Pause,
+        Gives::Piece(b"flag\n"),
+    ];
+    let mut link = link_of(rt.alloc(), &steps, &[])?;
+    let clock = CountingClock {
+        calls: Cell::new(0),
+    };
+    let mut server = server(rt.alloc())?;
+    let end = serve_link(rt.alloc(), &mut server.seat(1), &mut link, &clock);
+    assert_eq!(rt; end, LinkEnd::End);
+    assert_eq!(rt; clock.calls.get(), 5);
+    Ok(())
+}
+
+/// A clock that counts how often it is asked.
+#[derive(Drop)]
+struct CountingClock {
+    calls: Cell<u64>,
+}
+
+impl Clock for CountingClock {
+    ghost use Rattle.std.specs.Prelude.{true};
+
+    ghost shows = { λ clock moment. true };
+
+    fn now(&self) -> u64 {
+        let calls = self.calls.get().wrapping_add(1);
+        self.calls.set(calls);
+        calls
+    }
+}
+
+/// The place of the first row that ends otherwise, if one does.
+fn first_failing(alloc: Global, rows: &[Row<'_>]) -> Option<usize> {
+    for (place, row) in rows.iter().enumerate() {
+        match serves(alloc, row) {
+            Ok(true) => {}
+            _ => return Some(place),
+        }
+    }
+    None
+}
+
+fn serves(alloc: Global, row: &Row<'_>) -> Result<bool, Failure> {
+    let mut link = link_of(alloc, row.0, row.1)?;
+    let clock = StillClock::new(5);
+    let mut server = server(alloc)?;
+    let end = serve_link(alloc, &mut server.seat(1), &mut link, &clock);
+    Ok(end == row.2 && link.written() == row.3)
+}
+
+fn link_of(alloc: Global, steps: &[Gives], fails: &[u64]) -> Result<MemLink, NoMemory> {
+    let mut given = Vec::new(alloc);
+    for step in steps {
+        match step {
+            Gives::Piece(bytes) => given.push(LinkStep::Piece(Vec::from_slice(alloc, bytes)?))?,
+            Gives::Pause => given.push(LinkStep::Quiet)?,
+        }
+    }
+    let fails = Vec::from_slice(alloc, fails)?;
+    Ok(MemLink::new(alloc, given, fails))
+}
