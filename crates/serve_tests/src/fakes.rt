@@ -119,7 +119,10 @@ const ROWS: [Row; 6] = [
 fn links_come_back_served(rt: HostRuntime) -> Result<(), Fail> {
     let alloc = rt.alloc();
     for row in &ROWS {
-        let mut door = MemDoor::new(two_guests(alloc, row.link)?, Vec::from_slice(alloc, row.door)?);
+        let mut door = MemDoor::new(
+            two_guests(alloc, row.link)?,
+            Vec::from_slice(alloc, row.door)?,
+        );
         let mut sink = MemSink::new(alloc, Vec::from_slice(alloc, row.sink)?);
         let end = serve(&rt, alloc, &mut door, &mut sink)?;
         assert!(rt; end == row.end);

@@ -18,20 +18,21 @@ const PORT: u16 = 50_731;
 
 /// How often a client tries to connect, and for how long it rests between two tries.
 const MOST_TRIES: u32 = 200;
+
 const REST_MILLIS: u64 = 50;
 
 /// Serves two connections.
-fn serve<T>(rt: &T, alloc: Global) -> Result<ServeEnd, Fail>
+fn serve<T>(rt: &T, alloc: Global) -> Option<ServeEnd>
 where
     T: Net<Listener = TcpListener, Stream = TcpStream> + Clock + Threads + Wait + Sync,
 {
-    let mut door = TcpDoor::new(rt, String::from_str(alloc, HOME)?, PORT, Some(2));
+    let mut door = TcpDoor::new(rt, String::from_str(alloc, HOME).ok()?, PORT, Some(2));
     let clock = WallClock::new(rt);
     let mut sink = MemSink::new(alloc, Vec::new(alloc));
     let gate = OpenGate::new();
-    let lobby = Lobby::new(alloc)?;
+    let lobby = Lobby::new(alloc).ok()?;
     let (end, _hall) = serve_lobby(rt, alloc, lobby, &mut door, &clock, &mut sink, &gate);
-    Ok(end)
+    Some(end)
 }
 
 /// Connects, once the server listens.
@@ -52,15 +53,15 @@ where
 }
 
 /// Comes in as a guest and quits. All that the client is sent.
-fn guest<T>(rt: &T, alloc: Global) -> Result<Vec<u8>, Fail>
+fn guest<T>(rt: &T, alloc: Global) -> Option<Vec<u8>>
 where
     T: Net<Listener = TcpListener, Stream = TcpStream> + Clock,
 {
-    let mut stream = connect(rt)?;
-    stream.write_all(b"guest\nquit\n")?;
+    let mut stream = connect(rt).ok()?;
+    stream.write_all(b"guest\nquit\n").ok()?;
     let mut heard = Vec::new(alloc);
-    stream.read_to_end(&mut heard)?;
-    Ok(heard)
+    stream.read_to_end(&mut heard).ok()?;
+    Some(heard)
 }
 
 /// Whether the server took its leave.
@@ -76,8 +77,8 @@ fn guests_over_tcp(rt: HostRuntime) -> Result<(), Fail> {
         || serve(&rt, alloc),
         || thread::join(&rt, || guest(&rt, alloc), || guest(&rt, alloc)),
     );
-    assert!(rt; end? == ServeEnd::Done);
-    assert!(rt; took_leave(one?.as_slice()));
-    assert!(rt; took_leave(two?.as_slice()));
+    assert!(rt; end == Some(ServeEnd::Done));
+    assert!(rt; one.is_some_and(|heard| took_leave(heard.as_slice())));
+    assert!(rt; two.is_some_and(|heard| took_leave(heard.as_slice())));
     Ok(())
 }
