@@ -1,0 +1,201 @@
+-- The end of serving.
+use Rattle.std.proofs.Common.{◌≡◌, ◌≢◌, ℕ, ◌+◌, ◌^◌, ◌<◌, ◌≤◌, ◌⊎◌, inl, inr, Bool, List, [], length, map, refl, sym, ap, subst, ◌∙◌, arith}
+use Rattle.std.specs.declared.option.Option.{Option}
+use Rattle.std.specs.declared.option.Option.TheVariants.{None, Some}
+use Rattle.atomic_table.specs.Seated.{TableId}
+use Rattle.edge_traits.specs.Faults.{Rose}
+use Rattle.edge_traits.specs.Door.{DoorTale, IfTold}
+use Rattle.edge_traits.specs.declared.sink.Sent.{Sent}
+use Rattle.edge_traits.specs.declared.sink.Sent.TheVariants as sent
+use Rattle.histories.specs.History.{calls_of}
+use Rattle.turn_table.specs.declared.view.Joined.{Joined}
+use Rattle.turn_table.specs.Views.{In, joined_number}
+use Rattle.one_server.specs.declared.act.Timed.{Timed}
+use Rattle.one_server.specs.declared.reply.Reply.{Reply}
+use Rattle.one_server.specs.Running.{Log}
+use Rattle.hall_core.specs.Passes.{PassState}
+use Rattle.serve_core.specs.declared.end.DoorEnd.{DoorEnd}
+use Rattle.serve_core.specs.declared.end.DoorEnd.TheVariants as door_end
+use Rattle.serve_core.specs.declared.end.ServeEnd.{ServeEnd}
+use Rattle.serve_core.specs.declared.end.ServeEnd.TheVariants.{Done, DoorFault, WriteFault, Memory, Spent}
+use Rattle.serve_core.specs.declared.settle.Supply.{Supply}
+use Rattle.serve_core.specs.declared.settle.Supply.TheVariants.{Enough, Short}
+use Rattle.serve_core.specs.Stewarding.{AreStewards, TurnsLast, asked}
+use Rattle.serve_core.specs.Keeping.{CameAs, CameBack, HasServed, Kept}
+use Rattle.serve_core.specs.Serving.{HasServedAll, IsWhole, Stopped, end_of}
+use Rattle.serve_core.proofs.Among.{in_map_from}
+use Rattle.serve_core.proofs.Telling.{told_and, told_as, goes_same}
+use Rattle.serve_core.proofs.Turning.{turn_all, turn_home, turn_made, turn_number, turn_opening, turn_splits}
+use Rattle.serve_core.proofs.Keeping.{asks_then, served_then, then_short}
+
+-- ---- how serving ends
+
+pub whole_sent : (door : DoorEnd) (s : Sent) (supply : Supply) → IsWhole (end_of door s supply) → s ≡ sent.All
+whole_sent door_end.Failed s supply w = absurd w
+whole_sent door_end.Closed sent.All supply w = refl
+whole_sent door_end.Closed sent.Failed supply w = absurd w
+whole_sent door_end.Closed sent.Memory supply w = absurd w
+whole_sent door_end.Spent sent.All supply w = refl
+whole_sent door_end.Spent sent.Failed supply w = absurd w
+whole_sent door_end.Spent sent.Memory supply w = absurd w
+
+pub whole_supply : (door : DoorEnd) (s : Sent) (supply : Supply) → IsWhole (end_of door s supply) → supply ≡ Enough
+whole_supply door s Enough w = refl
+whole_supply door_end.Failed s Short w = absurd w
+whole_supply door_end.Closed sent.All Short w = absurd w
+whole_supply door_end.Closed sent.Failed Short w = absurd w
+whole_supply door_end.Closed sent.Memory Short w = absurd w
+whole_supply door_end.Spent sent.All Short w = absurd w
+whole_supply door_end.Spent sent.Failed Short w = absurd w
+whole_supply door_end.Spent sent.Memory Short w = absurd w
+
+pub write_failed : (door : DoorEnd) (s : Sent) (supply : Supply) → end_of door s supply ≡ WriteFault → s ≡ sent.Failed
+write_failed door_end.Failed s supply e = absurd cc
+write_failed door_end.Closed sent.Failed supply e = refl
+write_failed door_end.Closed sent.Memory supply e = absurd cc
+write_failed door_end.Closed sent.All Short e = absurd cc
+write_failed door_end.Closed sent.All Enough e = absurd cc
+write_failed door_end.Spent sent.Failed supply e = refl
+write_failed door_end.Spent sent.Memory supply e = absurd cc
+write_failed door_end.Spent sent.All Short e = absurd cc
+write_failed door_end.Spent sent.All Enough e = absurd cc
+
+pub door_failed : (door : DoorEnd) (s : Sent) (supply : Supply) → end_of door s supply ≡ DoorFault → door ≡ door_end.Failed
+door_failed door_end.Failed s supply e = refl
+door_failed door_end.Closed sent.Failed supply e = absurd cc
+door_failed door_end.Closed sent.Memory supply e = absurd cc
+door_failed door_end.Closed sent.All Short e = absurd cc
+door_failed door_end.Closed sent.All Enough e = absurd cc
+door_failed door_end.Spent sent.Failed supply e = absurd cc
+door_failed door_end.Spent sent.Memory supply e = absurd cc
+door_failed door_end.Spent sent.All Short e = absurd cc
+door_failed door_end.Spent sent.All Enough e = absurd cc
+
+door_closed : (door : DoorEnd) (s : Sent) (supply : Supply) → end_of door s supply ≡ Done → door ≡ door_end.Closed
+door_closed door_end.Failed s supply e = absurd cc
+door_closed door_end.Closed s supply e = refl
+door_closed door_end.Spent sent.Failed supply e = absurd cc
+door_closed door_end.Spent sent.Memory supply e = absurd cc
+door_closed door_end.Spent sent.All Short e = absurd cc
+door_closed door_end.Spent sent.All Enough e = absurd cc
+
+door_spent : (door : DoorEnd) (s : Sent) (supply : Supply) → end_of door s supply ≡ Spent → door ≡ door_end.Spent
+door_spent door_end.Failed s supply e = absurd cc
+door_spent door_end.Spent s supply e = refl
+door_spent door_end.Closed sent.Failed supply e = absurd cc
+door_spent door_end.Closed sent.Memory supply e = absurd cc
+door_spent door_end.Closed sent.All Short e = absurd cc
+door_spent door_end.Closed sent.All Enough e = absurd cc
+
+-- ---- the links that are left
+
+abbrev pub NoneLeft : ServeEnd → ℕ → DoorTale → Type 0
+NoneLeft end splits tale = (tale.left ≡ []) ⊎ ((end ≡ DoorFault) ⊎ ((splits ≡ 2 ^ 31) ⊎ (((end ≡ WriteFault) ⊎ (end ≡ Memory)) × (splits ≡ 0))))
+
+-- what is said of the links that are left, and of how many came
+pub record Leaves (end : ServeEnd) (door : Option DoorTale) (splits : ℕ) : Type 0 where
+  pub none_left : IfTold door (NoneLeft end splits)
+  pub done_left : end ≡ Done → IfTold door (λ tale. tale.left ≡ [])
+  pub spent : end ≡ Spent → splits ≡ 2 ^ 31
+  pub not_done : splits ≡ 2 ^ 31 → end ≢ Done
+
+pub told_always : (door : Option DoorTale) (P : DoorTale → Type 0) → ((tale : DoorTale) → P tale) → IfTold door P
+told_always None P h = tt
+told_always (Some tale) P h = h tale
+
+none_left_by : (why : DoorEnd) (s : Sent) (supply : Supply) (door : Option DoorTale) (splits before now : ℕ) → Stopped why splits door before now → IfTold door (NoneLeft (end_of why s supply) splits)
+none_left_by door_end.Closed s supply door splits before now p = told_as door (λ tale. tale.left ≡ []) (NoneLeft (end_of door_end.Closed s supply) splits) (λ tale e. inl e) p.0
+none_left_by door_end.Failed s supply door splits before now p = told_always door (NoneLeft DoorFault splits) (λ tale. inr (inl refl))
+none_left_by door_end.Spent s supply door splits before now p = told_always door (NoneLeft (end_of door_end.Spent s supply) splits) (λ tale. inr (inr (inl p)))
+
+left_by : (why : DoorEnd) (door : Option DoorTale) (splits before now : ℕ) → Stopped why splits door before now → why ≡ door_end.Closed → IfTold door (λ tale. tale.left ≡ []) × (splits < 2 ^ 31)
+left_by why door splits before now p e = subst (λ w. Stopped w splits door before now) e p
+
+count_by : (why : DoorEnd) (door : Option DoorTale) (splits before now : ℕ) → Stopped why splits door before now → why ≡ door_end.Spent → splits ≡ 2 ^ 31
+count_by why door splits before now p e = subst (λ w. Stopped w splits door before now) e p
+
+pub leaves_by : (why : DoorEnd) (s : Sent) (supply : Supply) (door : Option DoorTale) (splits before now : ℕ) → Stopped why splits door before now → Leaves (end_of why s supply) door splits
+leaves_by why s supply door splits before now p = record {
+  none_left = none_left_by why s supply door splits before now p;
+  done_left = λ e. (left_by why door splits before now p (door_closed why s supply e)).0;
+  spent = λ e. count_by why door splits before now p (door_spent why s supply e);
+  not_done = λ n e. omega (arith, n, (left_by why door splits before now p (door_closed why s supply e)).1);
+}
+
+pub rose_by : (why : DoorEnd) (s : Sent) (supply : Supply) (door : Option DoorTale) (splits before now : ℕ) → Stopped why splits door before now → end_of why s supply ≡ DoorFault → Rose before now
+rose_by why s supply door splits before now p e = (subst (λ w. Stopped w splits door before now) (door_failed why s supply e) p).0
+
+-- where `ready` couldn't be written
+pub leaves_unready : (end : ServeEnd) (door : Option DoorTale) (splits : ℕ) → splits ≡ 0 → (end ≡ WriteFault) ⊎ (end ≡ Memory) → Leaves end door splits
+leaves_unready end door splits zero (inl e) = record {
+  none_left = told_always door (NoneLeft end splits) (λ tale. inr (inr (inr (inl e, zero))));
+  done_left = λ d. absurd cc;
+  spent = λ s. absurd cc;
+  not_done = λ n d. omega (arith, n, zero);
+}
+leaves_unready end door splits zero (inr e) = record {
+  none_left = told_always door (NoneLeft end splits) (λ tale. inr (inr (inr (inr e, zero))));
+  done_left = λ d. absurd cc;
+  spent = λ s. absurd cc;
+  not_done = λ n d. omega (arith, n, zero);
+}
+
+-- ---- the hall that is given back
+
+module _ {C : Type 0} (shows : C → ℕ → Bool) (hall : TableId) (clock : C) (supply last : Supply) (door : Option DoorTale) (pass new : PassState) (k : Kept shows hall clock supply door pass []) (t : TurnsLast pass supply new last) where
+  splits_are : new.splits ≡ pass.splits
+  splits_are = ap (λ (p : PassState). p.splits) t.looked.same ∙ turn_splits t.end pass t.mid t.made
+
+  joined_are : new.joined ≡ pass.joined
+  joined_are = ap (λ (p : PassState). p.joined) t.looked.same ∙ ap (λ p. p.joined) t.made.place
+
+  is_first : new.number ≡ 0
+  is_first = ap (λ (p : PassState). p.number) t.looked.same ∙ turn_number t.end pass t.mid t.made ∙ k.first
+
+  made_is : new.made ≡ t.mid.made
+  made_is = ap (λ (p : PassState). p.made) t.looked.same
+
+  -- what the first pass made are the entries of session 0
+  own_calls : calls_of 0 new.seen ≡ t.mid.made
+  own_calls = sym (t.looked.known.own ∙ ap (λ n. calls_of n new.seen) is_first) ∙ made_is
+
+  pub still_here : new.home ≡ hall
+  still_here = ap (λ (p : PassState). p.home) t.looked.same ∙ turn_home t.end pass t.mid t.made ∙ k.here
+
+  in_joined : (m : ℕ) → In m (map joined_number pass.joined) ⊎ In m [] → In m (map joined_number pass.joined)
+  in_joined m (inl p) = p
+  in_joined m (inr p) = absurd p
+
+  was_joined : (m : ℕ) → 0 < m → m ≤ new.splits → In m (map joined_number pass.joined)
+  was_joined m low high = in_joined m (k.numbers m low (omega (arith, high, splits_are)))
+
+  served_session : (m : ℕ) (j : Joined Timed Reply) → In j pass.joined → m ≡ j.number → HasServed (shows clock) last door m (calls_of m new.seen)
+  served_session m j there is =
+      let calls : calls_of j.number new.seen ≡ j.calls = t.looked.calls j (subst (λ (xs : List (Joined Timed Reply)). In j xs) (sym joined_are) there) in
+      let same : HasServed (shows clock) last door j.number j.calls =
+      served_then (shows clock) j.number j.calls supply last door door (λ a b. a ≡ b) (goes_same door (λ a b. a ≡ b) (λ tale. refl)) (λ n link a b e p. subst (λ (x : DoorTale). CameAs n link x) e p) (λ n link a b e p. subst (λ (x : DoorTale). CameBack n link x) e p) (λ e. t.supply ∙ then_short t.end supply e) (k.served j there) in
+      subst (λ n. HasServed (shows clock) last door n (calls_of n new.seen)) (sym is) (subst (λ (l : Log). HasServed (shows clock) last door j.number l) (sym calls) same)
+
+  pub served_all : (end : ServeEnd) → (IsWhole end → last ≡ Enough) → Leaves end door pass.splits → HasServedAll (shows clock) pass.opening end door new
+  served_all end whole leaves = record {
+    first = is_first;
+    opens = ap (λ (p : PassState). p.opening) t.looked.same ∙ turn_opening t.end pass t.mid t.made;
+    legal = t.looked.known.legal;
+    all_joined = λ m low high. subst (λ (xs : List (Joined Timed Reply)). In m (map joined_number xs)) (sym joined_are) (was_joined m low high);
+    no_others = t.looked.no_others is_first;
+    supply = last;
+    enough = whole;
+    sessions = λ m low high.
+        let found = in_map_from joined_number m pass.joined (was_joined m low high) in
+        served_session m found.0 found.1 found.2;
+    came = told_as door (λ tale. length tale.came ≡ pass.splits) (λ tale. length tale.came ≡ new.splits) (λ tale n. n ∙ sym splits_are) k.came;
+    back = told_and door (λ tale. length tale.came ≡ pass.splits) (λ tale. length tale.back + 0 ≡ length tale.came) (λ tale. length tale.back ≡ new.splits) (λ tale n m. omega (arith, n, m, splits_are)) k.came k.out;
+    stewards = subst AreStewards (sym own_calls) (turn_all t.end pass t.mid t.made k.stewards);
+    last = t.end;
+    last_turn = (pass.made, t.made.turn.entries, t.made.moment, own_calls ∙ turn_made t.end pass t.mid t.made, t.made.turn.turn);
+    turns = λ w. told_as door (λ tale. asked t.mid.made ≡ tale.quiets + 1) (λ tale. asked (calls_of 0 new.seen) ≡ tale.quiets + 1) (λ tale n. ap asked own_calls ∙ n) (asks_then t.end supply door pass t.mid k.turns t.made (sym t.supply ∙ whole w));
+    none_left = subst (λ n. IfTold door (NoneLeft end n)) (sym splits_are) leaves.none_left;
+    done_left = leaves.done_left;
+    spent = λ e. splits_are ∙ leaves.spent e;
+    not_done = λ n. leaves.not_done (sym splits_are ∙ n);
+  }

@@ -1,0 +1,251 @@
+-- What holds while links come and workers are joined, from one step to the next.
+use Rattle.std.proofs.Common.{◌≡◌, ◌≢◌, ℕ, ◌+◌, ◌-◌, ◌<◌, ◌⊎◌, inl, inr, Bool, true, List, [], ◌∷◌, ◌++◌, length, map, refl, sym, ap, subst, ◌∙◌, arith}
+use Rattle.std.proofs.lemmas.Option.{slice_get_within}
+use Rattle.std.specs.declared.option.Option.{Option}
+use Rattle.atomic_table.specs.Seated.{TableId}
+use Rattle.edge_traits.specs.Link.{Tale}
+use Rattle.edge_traits.specs.Door.{DoorTale, Goes, IfTold, IsOut, TakesBack}
+use Rattle.turn_table.specs.declared.view.Joined.{Joined}
+use Rattle.turn_table.specs.Views.{In, joined_number}
+use Rattle.one_server.specs.declared.act.Timed.{Timed}
+use Rattle.one_server.specs.declared.part.Part.{Part}
+use Rattle.one_server.specs.declared.reply.Reply.{Reply}
+use Rattle.one_server.specs.Running.{Log}
+use Rattle.hall_core.specs.Passes.{IsJoined, PassState, divided, first_pass}
+use Rattle.link_core.specs.declared.link_end.LinkEnd.{LinkEnd}
+use Rattle.link_core.specs.declared.link_end.LinkEnd.TheVariants as link_end
+use Rattle.link_core.specs.Served.{IsServed}
+use Rattle.steward_core.specs.declared.turn.StewardEnd.{StewardEnd}
+use Rattle.steward_core.specs.declared.turn.StewardEnd.TheVariants as steward
+use Rattle.serve_core.specs.declared.settle.Supply.{Supply}
+use Rattle.serve_core.specs.declared.settle.Supply.TheVariants.{Enough, Short}
+use Rattle.serve_core.specs.Stewarding.{AreStewards, MadeTurn, asked, supply_then}
+use Rattle.serve_core.specs.Working.{Due, IsPaid}
+use Rattle.serve_core.specs.Keeping.{CameAs, CameBack, Comes, HasServed, IsOwed, IsUnused, Kept, due_number, supply_after}
+use Rattle.serve_core.proofs.Among.{in_last, in_cases, in_map_left, in_map_last, in_rest, in_map_rest, one_less, one_longer}
+use Rattle.serve_core.proofs.Telling.{told_then, told_and, told_as, came_stays, came_new, came_back_stays, came_count, came_out, back_came, back_stays, back_new, back_count, back_out}
+use Rattle.serve_core.proofs.Turning.{turn_all, turn_asked, turn_home, turn_number, turn_splits}
+use Rattle.turn_table.proofs.Among.{split_on}
+
+-- ---- whether memory ran out
+
+still_short : (end : LinkEnd) → supply_after end Short ≡ Short
+still_short link_end.Memory = refl
+still_short link_end.Quit = refl
+still_short link_end.End = refl
+still_short link_end.ReadFault = refl
+still_short link_end.WriteFault = refl
+still_short link_end.Spent = refl
+
+was_enough : (end : LinkEnd) (supply : Supply) → supply_after end supply ≡ Enough → supply ≡ Enough
+was_enough link_end.Memory supply e = absurd cc
+was_enough link_end.Quit supply e = e
+was_enough link_end.End supply e = e
+was_enough link_end.ReadFault supply e = e
+was_enough link_end.WriteFault supply e = e
+was_enough link_end.Spent supply e = e
+
+now_short : (end : LinkEnd) (supply : Supply) → end ≡ link_end.Memory → supply_after end supply ≡ Short
+now_short end supply e = ap (λ x. supply_after x supply) e
+
+stays_short : (end : LinkEnd) (supply : Supply) → supply ≡ Short → supply_after end supply ≡ Short
+stays_short end supply e = ap (supply_after end) e ∙ still_short end
+
+pub then_short : (end : StewardEnd) (supply : Supply) → supply ≡ Short → supply_then end supply ≡ Short
+then_short steward.Done supply e = e
+then_short steward.Memory supply e = refl
+
+-- what was made and how many Quiets there were, after a turn
+asked_then : (end : StewardEnd) (supply : Supply) (door : Option DoorTale) (old new : PassState) → (supply ≡ Enough → IfTold door (λ tale. asked old.made ≡ tale.quiets)) → MadeTurn end old new
+    → supply_then end supply ≡ Enough → IfTold door (λ tale. asked new.made ≡ tale.quiets + 1)
+asked_then steward.Done supply door old new turns turn e =
+    told_as door (λ tale. asked old.made ≡ tale.quiets) (λ tale. asked new.made ≡ tale.quiets + 1) (λ tale n. turn_asked old new turn ∙ ap (λ k. k + 1) n) (turns e)
+asked_then steward.Memory supply door old new turns turn e = absurd cc
+
+pub asks_then : (end : StewardEnd) (supply : Supply) (door : Option DoorTale) (old new : PassState) → (supply ≡ Enough → IfTold door (λ tale. asked old.made ≡ tale.quiets)) → MadeTurn end old new
+    → supply_then end supply ≡ Enough → IfTold door (λ tale. asked new.made ≡ tale.quiets + 1)
+asks_then end supply door old new turns turn e = asked_then end supply door old new turns turn e
+
+-- ---- sessions that were joined
+
+module _ (shows : ℕ → Bool) (number : ℕ) (calls : Log) where
+  pub served_then : (supply supply' : Supply) (door door' : Option DoorTale) (R : DoorTale → DoorTale → Type 0) → Goes door door' R
+      → ((k : ℕ) (link : Option Tale) (old new : DoorTale) → R old new → CameAs k link old → CameAs k link new)
+      → ((k : ℕ) (link : Option Tale) (old new : DoorTale) → R old new → CameBack k link old → CameBack k link new)
+      → (supply ≡ Short → supply' ≡ Short) → HasServed shows supply door number calls → HasServed shows supply' door' number calls
+  served_then supply supply' door door' R goes came back short p = record {
+    end = p.end;
+    link = p.link;
+    returned = p.returned;
+    served = p.served;
+    short = λ e. short (p.short e);
+    came = told_then door door' R (CameAs number p.link) (CameAs number p.link) (came number p.link) goes p.came;
+    back = told_then door door' R (CameBack number p.returned) (CameBack number p.returned) (back number p.returned) goes p.back;
+  }
+
+module _ {C : Type 0} (shows : C → ℕ → Bool) (hall : TableId) (clock : C) where
+  -- nothing came yet
+  pub kept_first : (door : Option DoorTale) (opening : List Part) (pass : PassState) → pass ≡ first_pass hall opening → IfTold door IsUnused → Kept shows hall clock Enough door pass []
+  kept_first door opening pass is unused =
+      let none : pass.joined ≡ [] = ap (λ (p : PassState). p.joined) is in
+      let zero : pass.splits ≡ 0 = ap (λ (p : PassState). p.splits) is in
+      let made : pass.made ≡ [] = ap (λ (p : PassState). p.made) is in
+      record {
+        here = ap (λ (p : PassState). p.home) is;
+        first = ap (λ (p : PassState). p.number) is;
+        owed = λ due p. absurd p;
+        served = λ j p. absurd (subst (λ (xs : List (Joined Timed Reply)). In j xs) none p);
+        numbers = λ m low high. absurd (omega (arith, low, high, zero));
+        came = told_as door IsUnused (λ tale. length tale.came ≡ pass.splits) (λ tale u. ap length u.0 ∙ sym zero) unused;
+        out = told_as door IsUnused (λ tale. length tale.back + 0 ≡ length tale.came) (λ tale u. omega (arith, ap length u.0, ap length u.1)) unused;
+        stewards = subst AreStewards (sym made) tt;
+        turns = λ e. told_as door IsUnused (λ tale. asked pass.made ≡ tale.quiets) (λ tale u. ap asked made ∙ sym u.2) unused;
+      }
+
+  -- a link came, and has a pass
+  module _ (supply : Supply) (door door' : Option DoorTale) (pass : PassState) (waiting : List (Due C)) (d : Due C) (k : Kept shows hall clock supply door pass waiting) (goes : Goes door door' (Comes d.link))
+      (home : d.pass.home ≡ hall) (number : d.pass.number ≡ pass.splits + 1) (same : d.clock ≡ clock) where
+    owed_stays : (due : Due C) → IsOwed shows hall clock door due → IsOwed shows hall clock door' due
+    owed_stays due p = record {
+      home = p.home;
+      number = p.number;
+      same = p.same;
+      came = told_then door door' (Comes d.link) (CameAs due.pass.number due.link) (CameAs due.pass.number due.link) (came_stays d.link due.pass.number due.link) goes p.came;
+    }
+
+    owed_new : IsOwed shows hall clock door' d
+    owed_new = record {
+      home = home;
+      number = λ e. omega (arith, e, number);
+      same = same;
+      came = subst (λ n. IfTold door' (CameAs n d.link)) (sym number) (told_then door door' (Comes d.link) (λ tale. length tale.came ≡ pass.splits) (CameAs (pass.splits + 1) d.link) (came_new d.link pass.splits) goes k.came);
+    }
+
+    owed_came : (due : Due C) → In due waiting ⊎ In due (d ∷ []) → IsOwed shows hall clock door' due
+    owed_came due (inl p) = owed_stays due (k.owed due p)
+    owed_came due (inr (inl e)) = subst (λ (x : Due C). IsOwed shows hall clock door' x) (sym e) owed_new
+    owed_came due (inr (inr p)) = absurd p
+
+    numbers_came : (m : ℕ) → In m (map joined_number pass.joined) ⊎ In m (map due_number waiting) → In m (map joined_number pass.joined) ⊎ In m (map due_number (waiting ++ d ∷ []))
+    numbers_came m (inl p) = inl p
+    numbers_came m (inr p) = inr (in_map_left due_number m waiting (d ∷ []) p)
+
+    number_new : (m : ℕ) → m ≡ pass.splits + 1 → In m (map due_number (waiting ++ d ∷ []))
+    number_new m e = subst (λ n. In n (map due_number (waiting ++ d ∷ []))) (number ∙ sym e) (in_map_last due_number d waiting [])
+
+    pub kept_came : Kept shows hall clock supply door' (divided pass) (waiting ++ d ∷ [])
+    kept_came = record {
+      here = k.here;
+      first = k.first;
+      owed = λ due p. owed_came due (in_cases due waiting (d ∷ []) p);
+      served = λ j p. served_then (shows clock) j.number j.calls supply supply door door' (Comes d.link) goes (came_stays d.link) (came_back_stays d.link) (λ e. e) (k.served j p);
+      numbers = λ m low high. split_on m (pass.splits + 1) (λ e. inr (number_new m e)) (λ n. numbers_came m (k.numbers m low (omega (arith, high, n))));
+      came = told_then door door' (Comes d.link) (λ tale. length tale.came ≡ pass.splits) (λ tale. length tale.came ≡ pass.splits + 1) (came_count d.link pass.splits) goes k.came;
+      out = told_then door door' (Comes d.link) (λ tale. length tale.back + length waiting ≡ length tale.came) (λ tale. length tale.back + length (waiting ++ d ∷ []) ≡ length tale.came)
+          (λ old new e n. subst (λ c. length new.back + c ≡ length new.came) (sym (one_longer d waiting)) (came_out d.link (length waiting) old new e n)) goes k.out;
+      stewards = k.stewards;
+      turns = λ e. told_then door door' (Comes d.link) (λ tale. asked pass.made ≡ tale.quiets) (λ tale. asked pass.made ≡ tale.quiets) (λ old new c n. n ∙ sym (ap (λ (t : DoorTale). t.quiets) c)) goes (k.turns e);
+    }
+
+  -- a Quiet, and a turn of the steward
+  pub kept_quiet : (supply : Supply) (end : StewardEnd) (door door' : Option DoorTale) (pass new : PassState) (waiting : List (Due C)) → Kept shows hall clock supply door pass waiting
+      → Goes door door' (λ before after. after ≡ record before { quiets = before.quiets + 1 }) → MadeTurn end pass new → Kept shows hall clock (supply_then end supply) door' new waiting
+  kept_quiet supply end door door' pass new waiting k goes turn =
+      let R : DoorTale → DoorTale → Type 0 = λ before after. after ≡ record before { quiets = before.quiets + 1 } in
+      let joined : new.joined ≡ pass.joined = ap (λ p. p.joined) turn.place in
+      let splits = turn_splits end pass new turn in
+      let came : (m : ℕ) (link : Option Tale) (a b : DoorTale) → R a b → CameAs m link a → CameAs m link b = λ m link a b e p. subst (λ (xs : List (Option Tale)). CameAs m link (record a { came = xs })) (sym (ap (λ (t : DoorTale). t.came) e)) p in
+      let back : (m : ℕ) (link : Option Tale) (a b : DoorTale) → R a b → CameBack m link a → CameBack m link b = λ m link a b e p. subst (λ (xs : List (ℕ × Option Tale)). CameBack m link (record a { back = xs })) (sym (ap (λ (t : DoorTale). t.back) e)) p in
+      record {
+        here = turn_home end pass new turn ∙ k.here;
+        first = turn_number end pass new turn ∙ k.first;
+        owed = λ due p.
+            let o = k.owed due p in
+            record { home = o.home; number = o.number; same = o.same; came = told_then door door' R (CameAs due.pass.number due.link) (CameAs due.pass.number due.link) (came due.pass.number due.link) goes o.came };
+        served = λ j p. served_then (shows clock) j.number j.calls supply (supply_then end supply) door door' R goes came back (then_short end supply) (k.served j (subst (λ (xs : List (Joined Timed Reply)). In j xs) joined p));
+        numbers = λ m low high. subst (λ (xs : List (Joined Timed Reply)). In m (map joined_number xs) ⊎ In m (map due_number waiting)) (sym joined) (k.numbers m low (omega (arith, high, splits)));
+        came = told_then door door' R (λ tale. length tale.came ≡ pass.splits) (λ tale. length tale.came ≡ new.splits) (λ a b e n. ap (λ (t : DoorTale). length t.came) e ∙ n ∙ sym splits) goes k.came;
+        out = told_then door door' R (λ tale. length tale.back + length waiting ≡ length tale.came) (λ tale. length tale.back + length waiting ≡ length tale.came)
+            (λ a b e n. ap (λ (t : DoorTale). length t.back + length waiting) e ∙ n ∙ sym (ap (λ (t : DoorTale). length t.came) e)) goes k.out;
+        stewards = turn_all end pass new turn k.stewards;
+        turns = λ e. told_then door door' R (λ tale. asked new.made ≡ tale.quiets + 1) (λ tale. asked new.made ≡ tale.quiets) (λ a b c n. n ∙ sym (ap (λ (t : DoorTale). t.quiets) c)) goes (asked_then end supply door pass new k.turns turn e);
+      }
+
+  -- a worker has paid
+  module _ (supply : Supply) (end : LinkEnd) (door door' : Option DoorTale) (pass new given : PassState) (one two : List (Due C)) (d : Due C) (link : Option Tale)
+      (k : Kept shows hall clock supply door pass (one ++ d ∷ two)) (paid : IsPaid shows d end given link) where
+    owes : IsOwed shows hall clock door d
+    owes = k.owed d (in_last d one two)
+
+    pub given_here : given.home ≡ hall
+    given_here = paid.home ∙ owes.home
+
+    pub given_not_first : given.number ≢ 0
+    given_not_first = λ e. owes.number (sym paid.number ∙ e)
+
+    pub given_out : IfTold door (IsOut given.number)
+    given_out = told_and door (CameAs d.pass.number d.link) (λ tale. length tale.back + length (one ++ d ∷ two) ≡ length tale.came) (IsOut given.number)
+        (λ tale c n.
+        let low : d.pass.number - 1 < length tale.came = slice_get_within tale.came (d.pass.number - 1) d.link c in
+        (given_not_first, omega (arith, low, paid.number), omega (arith, n, one_less d one two)))
+        owes.came k.out
+
+    module _ (joins : IsJoined pass given new) (goes : Goes door door' (TakesBack given.number link)) where
+      grown : new.joined ≡ pass.joined ++ record { number = given.number; calls = given.made } ∷ []
+      grown = joins.joined ∙ ap (λ (xs : List (Joined Timed Reply)). pass.joined ++ record { number = given.number; calls = given.made } ∷ xs) paid.none_joined
+
+      owed_still : (due : Due C) → IsOwed shows hall clock door due → IsOwed shows hall clock door' due
+      owed_still due o = record {
+        home = o.home;
+        number = o.number;
+        same = o.same;
+        came = told_then door door' (TakesBack given.number link) (CameAs due.pass.number due.link) (CameAs due.pass.number due.link) (back_came given.number link due.pass.number due.link) goes o.came;
+      }
+
+      serves_new : HasServed (shows clock) (supply_after end supply) door' given.number given.made
+      serves_new = record {
+        end = end;
+        link = d.link;
+        returned = link;
+        served =
+            subst (λ (c : C). IsServed (shows c) true given.number end given.made d.link link) owes.same
+            (subst (λ n. IsServed (shows d.clock) true n end given.made d.link link) (sym paid.number) paid.served);
+        short = now_short end supply;
+        came = subst (λ n. IfTold door' (CameAs n d.link)) (sym paid.number) (told_then door door' (TakesBack given.number link) (CameAs d.pass.number d.link) (CameAs d.pass.number d.link) (back_came given.number link d.pass.number d.link) goes owes.came);
+        back = told_then door door' (TakesBack given.number link) (CameAs d.pass.number d.link) (CameBack given.number link) (λ a b e p. back_new given.number link a b e) goes owes.came;
+      }
+
+      served_still : (j : Joined Timed Reply) → In j pass.joined ⊎ In j (record { number = given.number; calls = given.made } ∷ []) → HasServed (shows clock) (supply_after end supply) door' j.number j.calls
+      served_still j (inl p) = served_then (shows clock) j.number j.calls supply (supply_after end supply) door door' (TakesBack given.number link) goes (back_came given.number link) (back_stays given.number link) (stays_short end supply) (k.served j p)
+      served_still j (inr (inl e)) = subst (λ (x : Joined Timed Reply). HasServed (shows clock) (supply_after end supply) door' x.number x.calls) (sym e) serves_new
+      served_still j (inr (inr p)) = absurd p
+
+      number_joined : (m : ℕ) → m ≡ given.number → In m (map joined_number new.joined)
+      number_joined m e =
+          subst (λ (xs : List (Joined Timed Reply)). In m (map joined_number xs)) (sym grown)
+          (subst (λ n. In n (map joined_number (pass.joined ++ record { number = given.number; calls = given.made } ∷ []))) (sym e) (in_map_last joined_number (record { number = given.number; calls = given.made }) pass.joined []))
+
+      numbers_cases : (m : ℕ) → (m ≡ due_number d) ⊎ In m (map due_number (one ++ two)) → In m (map joined_number new.joined) ⊎ In m (map due_number (one ++ two))
+      numbers_cases m (inl e) = inl (number_joined m (e ∙ sym paid.number))
+      numbers_cases m (inr p) = inr p
+
+      numbers_still : (m : ℕ) → In m (map joined_number pass.joined) ⊎ In m (map due_number (one ++ d ∷ two)) → In m (map joined_number new.joined) ⊎ In m (map due_number (one ++ two))
+      numbers_still m (inl p) = inl (subst (λ (xs : List (Joined Timed Reply)). In m (map joined_number xs)) (sym grown) (in_map_left joined_number m pass.joined (record { number = given.number; calls = given.made } ∷ []) p))
+      numbers_still m (inr p) = numbers_cases m (in_map_rest due_number m d one two p)
+
+      pub kept_paid : Kept shows hall clock (supply_after end supply) door' new (one ++ two)
+      kept_paid =
+          let splits : new.splits ≡ pass.splits = ap (λ (p : PassState). p.splits) joins.same in
+          let made : new.made ≡ pass.made = ap (λ (p : PassState). p.made) joins.same in
+          record {
+            here = ap (λ (p : PassState). p.home) joins.same ∙ k.here;
+            first = ap (λ (p : PassState). p.number) joins.same ∙ k.first;
+            owed = λ due p. owed_still due (k.owed due (in_rest due d one two p));
+            served = λ j p. served_still j (in_cases j pass.joined (record { number = given.number; calls = given.made } ∷ []) (subst (λ (xs : List (Joined Timed Reply)). In j xs) grown p));
+            numbers = λ m low high. numbers_still m (k.numbers m low (omega (arith, high, splits)));
+            came = told_then door door' (TakesBack given.number link) (λ tale. length tale.came ≡ pass.splits) (λ tale. length tale.came ≡ new.splits) (λ a b e n. back_count given.number link pass.splits a b e n ∙ sym splits) goes k.came;
+            out = told_then door door' (TakesBack given.number link) (λ tale. length tale.back + length (one ++ d ∷ two) ≡ length tale.came) (λ tale. length tale.back + length (one ++ two) ≡ length tale.came)
+                (λ a b e n. back_out given.number link (length (one ++ two)) (length (one ++ d ∷ two)) a b e (one_less d one two) n) goes k.out;
+            stewards = subst AreStewards (sym made) k.stewards;
+            turns = λ e. told_then door door' (TakesBack given.number link) (λ tale. asked pass.made ≡ tale.quiets) (λ tale. asked new.made ≡ tale.quiets) (λ a b c n. ap asked made ∙ n ∙ sym (ap (λ (t : DoorTale). t.quiets) c)) goes (k.turns (was_enough end supply e));
+          }

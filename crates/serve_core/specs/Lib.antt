@@ -1,0 +1,4 @@
+pub mod Working
+pub mod Stewarding
+pub mod Keeping
+pub mod Serving

@@ -1,0 +1,57 @@
+-- The acts of the steward among those of a session.
+use Rattle.std.specs.Prelude.{◌≡◌, ℕ, ◌+◌, [], ◌∷◌, ◌++◌}
+use Rattle.lobby_state.specs.declared.acts.LobbyAct.TheVariants.{InUse}
+use Rattle.lobby_state.specs.declared.acts.PairAct.TheVariants.{Clear}
+use Rattle.one_server.specs.declared.act.Act.{Act}
+use Rattle.one_server.specs.declared.act.Act.TheVariants.{Lobby, Pair}
+use Rattle.one_server.specs.Running.{Log}
+use Rattle.hall_core.specs.Passes.{HasLooked, PassState, place_of, runs_of}
+use Rattle.steward_core.specs.declared.turn.StewardEnd.{StewardEnd}
+use Rattle.steward_core.specs.declared.turn.StewardEnd.TheVariants.{Done, Memory}
+use Rattle.steward_core.specs.Turn.{IsTurn, TakesTurn}
+use Rattle.serve_core.specs.declared.settle.Supply.{Supply}
+use Rattle.serve_core.specs.declared.settle.Supply.TheVariants.{Short}
+
+-- an act that a steward makes: the question which desks are in use, or a Clear
+abbrev pub IsStewards : Act → Type 0
+IsStewards (Lobby InUse) = Unit {0}
+IsStewards (Pair (Clear desk serial)) = Unit {0}
+IsStewards act = ⊥
+
+-- all the acts are a steward's
+abbrev pub AreStewards : Log → Type 0
+AreStewards [] = Unit {0}
+AreStewards (e ∷ es) = IsStewards e.act.act × AreStewards es
+
+-- whether an act asks which desks are in use, as a number
+abbrev pub asks_once : Act → ℕ
+asks_once (Lobby InUse) = 1
+asks_once act = 0
+
+-- how often it was asked which desks are in use
+abbrev pub asked : Log → ℕ
+asked [] = 0
+asked (e ∷ es) = asks_once e.act.act + asked es
+
+-- the first pass made a turn of the steward, at some moment
+pub record MadeTurn (end : StewardEnd) (old new : PassState) : Type 0 where
+  pub moment : ℕ
+  pub place : place_of new ≡ place_of old
+  pub turn : TakesTurn moment end (runs_of old) (runs_of new)
+
+-- the last entries are those of one turn
+abbrev pub EndsWithTurn : StewardEnd → Log → Type 0
+EndsWithTurn end made = (before : Log) × (entries : Log) × (moment : ℕ) × (made ≡ before ++ entries) × IsTurn end moment entries
+
+-- whether memory ran out somewhere, once a turn ended like this
+abbrev pub supply_then : StewardEnd → Supply → Supply
+supply_then Done before = before
+supply_then Memory before = Short
+
+-- the last turn was made, and then the pass looked at the history
+pub record TurnsLast (old : PassState) (before : Supply) (new : PassState) (after : Supply) : Type 0 where
+  pub end : StewardEnd
+  pub mid : PassState
+  pub made : MadeTurn end old mid
+  pub looked : HasLooked mid new
+  pub supply : after ≡ supply_then end before

@@ -1,0 +1,56 @@
+//! A link that came: it gets a pass, and is served by a worker of its own, or here.
+
+ghost use Rattle.std.specs.Prelude.{◌≡◌, ◌≤◌, ◌<◌, ◌+◌, ◌-◌, ◌^◌, OnSome, vec_len, vec_capacity};
+ghost use Rattle.std.specs.declared.option.Option.{Option};
+ghost use Rattle.edge_traits.specs.Door.{DoorTale};
+ghost use Rattle.edge_traits.specs.Door.{Goes};
+ghost use Rattle.serve_core.specs.Keeping.{Comes, Kept};
+
+use crate::place::Place;
+use crate::settle::Host;
+use crate::worker::{start, work};
+use edge_traits::{Clock, Doorway, Gate};
+use std::alloc::Global;
+use std::sync::atomic::AtomicBool;
+use std::sync::{Arc, Wait};
+use std::thread::{Scope, Threads};
+
+/// Serves a link that came, with a pass of its own: by a worker, where there is room for it and a thread can be had,
+/// and else here.
+pub fn attend<'s, 'a: 's, E, T, C, G, D>(
+    scope: &Scope<'s, E>,
+    place: &'s Place<'a, T, C, G>,
+    host: &mut Host<D::Link, C>,
+    door: &mut D,
+    ended: Option<Arc<AtomicBool, Global>>,
+    link: D::Link,
+)
+where
+    T: Threads + Wait + Sync,
+    C: Clock + Sync,
+    G: Gate + Sync,
+    D: Doorway,
+    D::Link: 's,
+    requires few { host.old.pass.splits < 2 ^ 31 }
+    requires kept { (before : Option DoorTale)
+        × Kept C.shows place.now.hall.now place.now.clock.now host.old.supply before host.old.pass
+        host.old.waiting.items
+        × Goes before (D.tale door.old) (Comes (D.Link.tale link)) }
+    requires room { OnSome ended (vec_len host.old.waiting < vec_capacity host.old.waiting) }
+    ensures kept { Kept C.shows place.now.hall.now place.now.clock.now host.new.supply (D.tale door.new)
+        host.new.pass host.new.waiting.items }
+    ensures counted { host.new.pass.splits ≡ host.old.pass.splits + 1 }
+    ensures opening { host.new.pass.opening ≡ host.old.pass.opening }
+    ensures faults { D.faults door.new ≡ D.faults door.old }
+{
+    let pass = place.hall.split(&mut host.pass);
+    let Some(ended) = ended else {
+        let returned = work(place, pass, link);
+        host.settle(place.hall, door, returned);
+        return;
+    };
+    match start(scope, place, pass, link, ended) {
+        Ok(worker) => host.waiting.push_reserved(worker),
+        Err(returned) => host.settle(place.hall, door, returned),
+    }
+}

@@ -1,0 +1,133 @@
+//! The door's thread: it takes links until no more come, and waits for the workers.
+
+ghost use Rattle.std.specs.Prelude.{◌≡◌, ◌≤◌, []};
+ghost use Rattle.edge_traits.specs.Door.{Goes};
+ghost use Rattle.serve_core.specs.Keeping.{KeepsLeft, Kept, Stays};
+ghost use Rattle.serve_core.specs.Serving.{Stopped};
+ghost use Rattle.serve_core.specs.declared.settle.Supply.TheVariants.{Enough};
+
+use crate::end::DoorEnd;
+use crate::place::Place;
+use crate::round::round;
+use crate::settle::{Host, Supply};
+use edge_traits::{Clock, Doorway, Gate};
+use hall_core::HallPass;
+use std::sync::Wait;
+use std::thread::{self, Scope, Threads};
+
+/// What is left once all links were served: the first pass, into which all others were joined, whether memory ran out
+/// somewhere, and why no more links were taken.
+#[derive(Drop)]
+pub struct Hosted {
+    pub pass: HallPass,
+    pub supply: Supply,
+    pub end: DoorEnd,
+}
+
+/// Takes links until no more come, and serves each. The pass is the first one, from which none was split, and the door
+/// is unused.
+pub fn host_links<T, C, G, D>(place: &Place<'_, T, C, G>, pass: HallPass, door: &mut D) -> Hosted
+where
+    T: Threads + Wait + Sync,
+    C: Clock + Sync,
+    G: Gate + Sync,
+    D: Doorway,
+    requires kept { Kept C.shows place.now.hall.now place.now.clock.now Enough (D.tale door.old) pass [] }
+    requires none { pass.splits ≡ 0 }
+    ensures kept { Kept C.shows place.now.hall.now place.now.clock.now result.supply (D.tale door.new)
+        result.pass [] }
+    ensures opening { result.pass.opening ≡ pass.opening }
+    ensures stopped { Stopped result.end result.pass.splits (D.tale door.new) (D.faults door.old) (D.faults door.new) }
+    ensures counted { D.faults door.old ≤ D.faults door.new }
+{
+    let (hosted, lent) = thread::scope(
+        thread::scope_env(),
+        place.rt,
+        |scope| -> (Hosted, &mut D)
+            requires kept { Kept C.shows place.now.hall.now place.now.clock.now Enough (D.tale door.now) pass [] }
+            requires none { pass.splits ≡ 0 }
+            ensures lent { result.1.ghost_name ≡ door.entry.ghost_name }
+            ensures kept { Kept C.shows place.entry.now.hall.now place.entry.now.clock.now result.0.supply
+                (D.tale result.1.now) result.0.pass [] }
+            ensures opening { result.0.pass.opening ≡ pass.opening }
+            ensures stopped { Stopped result.0.end result.0.pass.splits (D.tale result.1.now)
+                (D.faults door.entry.now) (D.faults result.1.now) }
+            ensures counted { D.faults door.entry.now ≤ D.faults result.1.now }
+        {
+            let hosted = take_links(scope, place, pass, door);
+            (hosted, door)
+        },
+    );
+    take_back(lent);
+    hosted
+}
+
+/// Takes links until no more come, and waits for the workers.
+fn take_links<'s, 'a: 's, E, T, C, G, D>(
+    scope: &Scope<'s, E>,
+    place: &'s Place<'a, T, C, G>,
+    pass: HallPass,
+    door: &mut D,
+) -> Hosted
+where
+    T: Threads + Wait + Sync,
+    C: Clock + Sync,
+    G: Gate + Sync,
+    D: Doorway,
+    D::Link: 's,
+    requires kept { Kept C.shows place.now.hall.now place.now.clock.now Enough (D.tale door.old) pass [] }
+    requires none { pass.splits ≡ 0 }
+    ensures kept { Kept C.shows place.now.hall.now place.now.clock.now result.supply (D.tale door.new)
+        result.pass [] }
+    ensures opening { result.pass.opening ≡ pass.opening }
+    ensures stopped { Stopped result.end result.pass.splits (D.tale door.new) (D.faults door.old) (D.faults door.new) }
+    ensures counted { D.faults door.old ≤ D.faults door.new }
+{
+    let mut host = Host {
+        pass,
+        waiting: Vec::new(place.alloc),
+        supply: Supply::Enough,
+    };
+    let mut count = 0;
+    for _ in place.rt.forever() {
+        let (after, so_far, end) = round(scope, place, host, door, count);
+        host = after;
+        count = so_far;
+        if let Some(end) = end {
+            return at_end(place, host, door, end);
+        }
+    }
+    unreachable!()
+}
+
+/// Waits for all workers, once no more links are taken.
+fn at_end<T, C, G, D>(
+    place: &Place<'_, T, C, G>,
+    host: Host<D::Link, C>,
+    door: &mut D,
+    end: DoorEnd,
+) -> Hosted
+where
+    T: Threads + Wait,
+    C: Clock,
+    G: Gate,
+    D: Doorway,
+    requires kept { Kept C.shows place.now.hall.now place.now.clock.now host.supply (D.tale door.old)
+        host.pass host.waiting.items }
+    ensures kept { Kept C.shows place.now.hall.now place.now.clock.now result.supply (D.tale door.new)
+        result.pass [] }
+    ensures same { Stays host.pass result.pass }
+    ensures left { Goes (D.tale door.old) (D.tale door.new) KeepsLeft }
+    ensures end { result.end ≡ end }
+    ensures faults { D.faults door.new ≡ D.faults door.old }
+{
+    let mut host = host;
+    host.settle_all(place, door);
+    let Host { pass, supply, .. } = host;
+    Hosted { pass, supply, end }
+}
+
+/// Does nothing: this use of a reference that was given back ties it to the parameter that lent it.
+fn take_back<T>(lent: &mut T)
+    ensures { lent.new ≡ lent.old }
+{}

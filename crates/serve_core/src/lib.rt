@@ -1,0 +1,21 @@
+//! The server that people connect to: a hall, a door, and a worker for each connection.
+//!
+//! The door's thread takes connections and starts a worker for each, which serves it as a session of the hall; it joins
+//! those that have ended, hands their connections back to the door, and makes a steward's turn at each Quiet of the
+//! door. The contract (`specs/Serving.antt`): the hall is given back with the pass into which all others were joined;
+//! what that pass has seen is the whole history; session k of it is the k-th connection that came, which was served by
+//! exactly its session's entries and handed back under its number; and session 0 is the steward's.
+#![tactic(auto)]
+
+mod attend;
+mod end;
+mod hosting;
+mod place;
+mod round;
+mod serving;
+mod settle;
+mod turn;
+mod worker;
+
+pub use end::ServeEnd;
+pub use serving::serve_lobby;

@@ -1,0 +1,110 @@
+//! One answer of the door, and what is done by it.
+
+ghost use Rattle.std.specs.Prelude.{◌≡◌, ◌≤◌, ◌<◌, ◌^◌, MatchOption};
+ghost use Rattle.serve_core.specs.Keeping.{Kept};
+ghost use Rattle.serve_core.specs.Stewarding.{MadeTurn, supply_then};
+ghost use Rattle.serve_core.specs.Serving.{Stopped};
+ghost use Rattle.serve_core.specs.declared.end.DoorEnd.{DoorEnd};
+ghost use Rattle.serve_core.specs.declared.end.DoorEnd.TheVariants.{Spent};
+ghost use Rattle.steward_core.specs.declared.turn.StewardEnd.{StewardEnd};
+
+use crate::attend::attend;
+use crate::end::DoorEnd;
+use crate::place::Place;
+use crate::settle::{Host, Supply};
+use crate::turn::turn;
+use edge_traits::{Came, Clock, Doorway, Gate, Link};
+use hall_core::HallPass;
+use std::sync::Wait;
+use std::thread::{Scope, Threads};
+use steward_core::StewardEnd;
+
+/// How many links are taken at most.
+const MOST_LINKS: u32 = 1 << 31;
+
+/// Settles with the workers that have ended, and takes the door's next answer: a link is served, and at a Quiet a turn
+/// of the steward is made. The answer says why no further link is taken, if none is.
+pub fn round<'s, 'a: 's, E, T, C, G, D>(
+    scope: &Scope<'s, E>,
+    place: &'s Place<'a, T, C, G>,
+    host: Host<D::Link, C>,
+    door: &mut D,
+    count: u32,
+) -> (Host<D::Link, C>, u32, Option<DoorEnd>)
+where
+    T: Threads + Wait + Sync,
+    C: Clock + Sync,
+    G: Gate + Sync,
+    D: Doorway,
+    D::Link: 's,
+    requires few { count < 2 ^ 31 }
+    requires count { host.pass.splits ≡ count }
+    requires kept { Kept C.shows place.now.hall.now place.now.clock.now host.supply (D.tale door.old)
+        host.pass host.waiting.items }
+    ensures count { result.0.pass.splits ≡ result.1 }
+    ensures kept { Kept C.shows place.now.hall.now place.now.clock.now result.0.supply (D.tale door.new)
+        result.0.pass result.0.waiting.items }
+    ensures opening { result.0.pass.opening ≡ host.pass.opening }
+    ensures counted { D.faults door.old ≤ D.faults door.new }
+    ensures ends { MatchOption result.2 (result.1 < 2 ^ 31) (λ end. Stopped end result.1 (D.tale door.new)
+        (D.faults door.old) (D.faults door.new)) }
+{
+    let mut host = host;
+    host.settle_ended(place, door);
+    let ended = host.room_ahead(place.alloc);
+    match door.next() {
+        Came::Link(link) => {
+            attend(scope, place, &mut host, door, ended, link);
+            let count = count + 1;
+            (host, count, spent(count))
+        }
+        Came::Quiet => (at_quiet(place, host), count, None),
+        Came::Closed => (host, count, Some(DoorEnd::Closed)),
+        Came::Failed => (host, count, Some(DoorEnd::Failed)),
+    }
+}
+
+/// Makes a turn of the steward, as at a Quiet.
+fn at_quiet<T: Threads + Wait, C: Clock, G: Gate, L: Link + Drop>(
+    place: &Place<'_, T, C, G>,
+    host: Host<L, C>,
+) -> Host<L, C>
+    requires here { host.pass.home ≡ place.now.hall.now }
+    ensures turn { (end : StewardEnd) × MadeTurn end host.pass result.pass
+        × (result.supply ≡ supply_then end host.supply) }
+    ensures waiting { result.waiting ≡ host.waiting }
+{
+    let Host {
+        pass,
+        waiting,
+        supply,
+    } = host;
+    let (pass, end) = turn(place, pass);
+    Host {
+        pass,
+        waiting,
+        supply: supply_then(end, supply),
+    }
+}
+
+/// Whether something ran out of memory, once a turn of the steward ended like this.
+pub(crate) fn supply_then(end: StewardEnd, before: Supply) -> Supply
+    ensures { result ≡ supply_then end before }
+{
+    match end {
+        StewardEnd::Done => before,
+        StewardEnd::Memory => Supply::Short,
+    }
+}
+
+/// That no more links are taken, where so many came.
+fn spent(count: u32) -> Option<DoorEnd>
+    requires { count ≤ 2 ^ 31 }
+    ensures { MatchOption result (count < 2 ^ 31) (λ end. (end ≡ Spent) × (count ≡ 2 ^ 31)) }
+{
+    if count == MOST_LINKS {
+        Some(DoorEnd::Spent)
+    } else {
+        None
+    }
+}

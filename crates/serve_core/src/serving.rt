@@ -1,0 +1,161 @@
+//! Serving, from the opening of the hall to the last turn of the steward.
+
+ghost use Rattle.std.specs.Prelude.{◌≡◌, ◌≤◌, ◌⊎◌, ℕ, IfSome, IfNone, List, take};
+ghost use Rattle.std.specs.Io.KnownBytes.{Appends, Keeps};
+ghost use Rattle.edge_traits.specs.Door.{IfTold};
+ghost use Rattle.edge_traits.specs.Faults.{Rose};
+ghost use Rattle.edge_traits.specs.Sink.{OnWriteFailed, Wrote};
+ghost use Rattle.one_server.specs.declared.part.Part.{Part};
+ghost use Rattle.one_server.specs.Whole.{IsOpening, opened};
+ghost use Rattle.hall_core.specs.Passes.{first_pass};
+ghost use Rattle.serve_core.specs.Keeping.{IsUnused};
+ghost use Rattle.serve_core.specs.Serving.{HasServedAll, IsWhole, closed_text, end_of, ready_text, whole_text};
+ghost use Rattle.serve_core.specs.Stewarding.{TurnsLast};
+ghost use Rattle.serve_core.specs.declared.end.ServeEnd.{ServeEnd};
+
+use crate::end::{DoorEnd, ServeEnd};
+use crate::hosting::host_links;
+use crate::place::Place;
+use crate::round::supply_then;
+use crate::settle::Supply;
+use crate::turn::turn;
+use edge_traits::{Clock, Doorway, Gate, Sent, Sink};
+use hall_core::{Hall, HallPass};
+use lobby_state::Lobby;
+use std::alloc::Global;
+use std::sync::Wait;
+use std::thread::Threads;
+
+/// What is written once the hall is open.
+const READY: &[u8] = b"ready\n";
+
+/// What is written once all is served.
+const CLOSED: &[u8] = b"closed\n";
+
+/// Serves connections: opens a hall with this lobby, writes `ready`, takes links from the door and serves each with a
+/// session of its own, and makes a turn of the steward at each Quiet of the door; once the door is closed or has failed
+/// or 2^31 links came, it waits for all, makes a last turn of the steward and writes `closed`. It gives back the hall
+/// with the pass into which all others were joined; none only where memory didn't suffice to open it.
+pub fn serve_lobby<T, D, C, K, G>(
+    rt: &T,
+    alloc: Global,
+    lobby: Lobby,
+    door: &mut D,
+    clock: &C,
+    sink: &mut K,
+    gate: &G,
+) -> (ServeEnd, Option<(Hall, HallPass)>)
+where
+    T: Threads + Wait + Sync,
+    D: Doorway,
+    C: Clock + Sync,
+    K: Sink,
+    G: Gate + Sync,
+    requires opening { IsOpening lobby }
+    requires door { IfTold (D.tale door.old) IsUnused }
+    ensures hall { IfSome result.1 (λ h. h.1.home ≡ h.0) }
+    ensures served { IfSome result.1 (λ h. HasServedAll (C.shows clock.now) (opened lobby) result.0
+        (D.tale door.new) h.1) }
+    ensures no_hall { IfNone result.1 ((result.0 ≡ ServeEnd.Memory) × Keeps (K.written sink.old) (K.written sink.new)) }
+    ensures door_fault { result.0 ≡ ServeEnd.DoorFault → Rose (D.faults door.old) (D.faults door.new) }
+    ensures write_fault { result.0 ≡ ServeEnd.WriteFault → Rose (K.faults sink.old) (K.faults sink.new) }
+    ensures text { IsWhole result.0 → Appends (K.written sink.old) (K.written sink.new) whole_text }
+    ensures text_part { (n : ℕ) × Appends (K.written sink.old) (K.written sink.new) (take n whole_text) }
+    ensures complete { ¬ (Rose (D.faults door.old) (D.faults door.new)) → ¬ (Rose (K.faults sink.old) (K.faults sink.new))
+        → IsWhole result.0 ⊎ (result.0 ≡ ServeEnd.Memory) }
+{
+    let Ok((hall, pass)) = Hall::open(alloc, lobby) else {
+        return (ServeEnd::Memory, None);
+    };
+    let place = Place {
+        rt,
+        alloc,
+        hall: &hall,
+        clock,
+        gate,
+    };
+    let (pass, end) = serve_hall(&place, pass, door, sink);
+    (end, Some((hall, pass)))
+}
+
+/// Serves at a hall that was opened just now, and looks at the history at the end.
+fn serve_hall<T, D, C, K, G>(
+    place: &Place<'_, T, C, G>,
+    pass: HallPass,
+    door: &mut D,
+    sink: &mut K,
+) -> (HallPass, ServeEnd)
+where
+    T: Threads + Wait + Sync,
+    D: Doorway,
+    C: Clock + Sync,
+    K: Sink,
+    G: Gate + Sync,
+    requires first { (opening : List Part) × (pass ≡ first_pass place.now.hall.now opening) }
+    requires door { IfTold (D.tale door.old) IsUnused }
+    ensures hall { result.0.home ≡ place.now.hall.now }
+    ensures served { HasServedAll (C.shows place.now.clock.now) pass.opening result.1 (D.tale door.new) result.0 }
+    ensures door_fault { result.1 ≡ ServeEnd.DoorFault → Rose (D.faults door.old) (D.faults door.new) }
+    ensures write_fault { result.1 ≡ ServeEnd.WriteFault → Rose (K.faults sink.old) (K.faults sink.new) }
+    ensures text { IsWhole result.1 → Appends (K.written sink.old) (K.written sink.new) whole_text }
+    ensures text_part { (n : ℕ) × Appends (K.written sink.old) (K.written sink.new) (take n whole_text) }
+{
+    match say_ready(sink) {
+        Sent::All => {
+            let hosted = host_links(place, pass, door);
+            let (pass, supply) = last_turn(place, hosted.pass, hosted.supply);
+            let sent = say_closed(sink);
+            (pass, end_of(hosted.end, sent, supply))
+        }
+        Sent::Failed => (
+            last_turn(place, pass, Supply::Enough).0,
+            ServeEnd::WriteFault,
+        ),
+        Sent::Memory => (last_turn(place, pass, Supply::Enough).0, ServeEnd::Memory),
+    }
+}
+
+/// The last turn of the steward, after which the pass looks at the whole history.
+fn last_turn<T: Threads + Wait, C: Clock, G: Gate>(
+    place: &Place<'_, T, C, G>,
+    pass: HallPass,
+    supply: Supply,
+) -> (HallPass, Supply)
+    requires here { pass.home ≡ place.now.hall.now }
+    ensures { TurnsLast pass supply result.0 result.1 }
+{
+    let (mut pass, end) = turn(place, pass);
+    place.hall.look(&mut pass);
+    (pass, supply_then(end, supply))
+}
+
+/// How serving ends.
+fn end_of(door: DoorEnd, sent: Sent, supply: Supply) -> ServeEnd
+    ensures { result ≡ end_of door sent supply }
+{
+    match (door, sent, supply) {
+        (DoorEnd::Failed, _, _) => ServeEnd::DoorFault,
+        (_, Sent::Failed, _) => ServeEnd::WriteFault,
+        (_, Sent::Memory, _) | (_, _, Supply::Short) => ServeEnd::Memory,
+        (DoorEnd::Spent, _, _) => ServeEnd::Spent,
+        (DoorEnd::Closed, _, _) => ServeEnd::Done,
+    }
+}
+
+/// Writes that the hall is open.
+fn say_ready<K: Sink>(sink: &mut K) -> Sent
+    ensures wrote { Wrote (K.written sink.old) (K.written sink.new) ready_text result }
+    ensures cause { OnWriteFailed result (Rose (K.faults sink.old) (K.faults sink.new)) }
+    ensures counted { K.faults sink.old ≤ K.faults sink.new }
+{
+    sink.write(READY)
+}
+
+/// Writes that all is served.
+fn say_closed<K: Sink>(sink: &mut K) -> Sent
+    ensures wrote { Wrote (K.written sink.old) (K.written sink.new) closed_text result }
+    ensures cause { OnWriteFailed result (Rose (K.faults sink.old) (K.faults sink.new)) }
+    ensures counted { K.faults sink.old ≤ K.faults sink.new }
+{
+    sink.write(CLOSED)
+}

@@ -1,0 +1,137 @@
+//! Two guests over links in memory, who come in and quit.
+
+ghost use Rattle.std.specs.Prelude.{Some, IfOk};
+ghost use Rattle.edge_traits.specs.Door.{IsNew};
+ghost use Rattle.edge_traits.specs.MemDoor.{AreNew};
+ghost use Rattle.serve_core.specs.Keeping.{IsUnused};
+
+use edge_traits::{LinkStep, MemDoor, MemLink, MemSink, OpenGate, StillClock};
+use lobby_state::Lobby;
+use memory::NoMemory;
+use serve_core::{ServeEnd, serve_lobby};
+use std::alloc::{AllocError, Global};
+use std::sync::Wait;
+use std::test::Fail;
+use std::thread::Threads;
+
+/// What a guest is sent last.
+const FAREWELL: &[u8] = b"Goodbye.\n\r";
+
+/// A link over which a guest comes in and quits; it fails at these calls.
+fn guest(alloc: Global, fails: &[u64]) -> Result<MemLink, AllocError>
+    ensures { IfOk result (λ link. IsNew link.plan.faults (Some link.tale)) }
+{
+    let mut steps = Vec::new(alloc);
+    steps.push(LinkStep::Piece(Vec::from_slice(alloc, b"guest\n")?))?;
+    steps.push(LinkStep::Piece(Vec::from_slice(alloc, b"quit\n")?))?;
+    Ok(MemLink::new(alloc, steps, Vec::from_slice(alloc, fails)?))
+}
+
+/// Two of them, of which the first fails at these calls.
+fn two_guests(alloc: Global, fails: &[u64]) -> Result<Vec<MemLink>, AllocError>
+    ensures { IfOk result (λ links. AreNew links.items) }
+{
+    let mut links = Vec::new(alloc);
+    links.push(guest(alloc, fails)?)?;
+    links.push(guest(alloc, &[])?)?;
+    Ok(links)
+}
+
+/// Serves an unused door to its end.
+fn serve<T: Threads + Wait + Sync>(
+    rt: &T,
+    alloc: Global,
+    door: &mut MemDoor,
+    sink: &mut MemSink,
+) -> Result<ServeEnd, NoMemory>
+    requires { IsUnused door.old.tale }
+{
+    let clock = StillClock::new(1_000);
+    let gate = OpenGate::new();
+    let lobby = Lobby::new(alloc)?;
+    let (end, _hall) = serve_lobby(rt, alloc, lobby, door, &clock, sink, &gate);
+    Ok(end)
+}
+
+/// A row: at which calls the door, the sink and the first link fail; how serving ends, what is written, and what each
+/// link is sent last, where it comes back.
+struct Row {
+    door: &'static [u64],
+    sink: &'static [u64],
+    link: &'static [u64],
+    end: ServeEnd,
+    text: &'static [u8],
+    last: [Option<&'static [u8]>; 2],
+}
+
+const ROWS: [Row; 6] = [
+    Row {
+        door: &[],
+        sink: &[],
+        link: &[],
+        end: ServeEnd::Done,
+        text: b"ready\nclosed\n",
+        last: [Some(FAREWELL), Some(FAREWELL)],
+    },
+    Row {
+        door: &[0],
+        sink: &[],
+        link: &[],
+        end: ServeEnd::DoorFault,
+        text: b"ready\nclosed\n",
+        last: [None, None],
+    },
+    Row {
+        door: &[1],
+        sink: &[],
+        link: &[],
+        end: ServeEnd::DoorFault,
+        text: b"ready\nclosed\n",
+        last: [Some(FAREWELL), None],
+    },
+    Row {
+        door: &[],
+        sink: &[0],
+        link: &[],
+        end: ServeEnd::WriteFault,
+        text: b"",
+        last: [None, None],
+    },
+    Row {
+        door: &[],
+        sink: &[1],
+        link: &[],
+        end: ServeEnd::WriteFault,
+        text: b"ready\n",
+        last: [Some(FAREWELL), Some(FAREWELL)],
+    },
+    Row {
+        door: &[],
+        sink: &[],
+        link: &[0],
+        end: ServeEnd::Done,
+        text: b"ready\nclosed\n",
+        last: [Some(b""), Some(FAREWELL)],
+    },
+];
+
+#[test]
+fn links_come_back_served(rt: HostRuntime) -> Result<(), Fail> {
+    let alloc = rt.alloc();
+    for row in &ROWS {
+        let mut door = MemDoor::new(
+            two_guests(alloc, row.link)?,
+            Vec::from_slice(alloc, row.door)?,
+        );
+        let mut sink = MemSink::new(alloc, Vec::from_slice(alloc, row.sink)?);
+        let end = serve(&rt, alloc, &mut door, &mut sink)?;
+        assert!(rt; end == row.end);
+        assert_eq!(rt; sink.written(), row.text);
+        for (number, last) in [(1, row.last[0]), (2, row.last[1])] {
+            let written = door.written(number);
+            assert_eq!(rt; written.is_some(), last.is_some());
+            assert!(rt; written.unwrap_or(b"").ends_with(last.unwrap_or(b"")));
+        }
+    }
+    Ok(())
+}

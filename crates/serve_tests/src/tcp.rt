@@ -1,0 +1,84 @@
+//! Two guests over TCP, each in a thread of its own.
+
+use edge_traits::{MemSink, OpenGate};
+use lobby_state::Lobby;
+use real_edges::{TcpDoor, WallClock};
+use serve_core::{ServeEnd, serve_lobby};
+use std::alloc::Global;
+use std::io::{self, ErrorKind, Read, Write};
+use std::net::{Net, TcpListener, TcpStream};
+use std::sync::Wait;
+use std::test::Fail;
+use std::thread::{self, Threads};
+use std::time::{Clock, Duration};
+
+const HOME: &str = "127.0.0.1";
+
+const PORT: u16 = 50_731;
+
+/// How often a client tries to connect, and for how long it rests between two tries.
+const MOST_TRIES: u32 = 200;
+
+const REST_MILLIS: u64 = 50;
+
+/// Serves two connections.
+fn serve<T>(rt: &T, alloc: Global) -> Option<ServeEnd>
+where
+    T: Net<Listener = TcpListener, Stream = TcpStream> + Clock + Threads + Wait + Sync,
+{
+    let mut door = TcpDoor::new(rt, String::from_str(alloc, HOME).ok()?, PORT, Some(2));
+    let clock = WallClock::new(rt);
+    let mut sink = MemSink::new(alloc, Vec::new(alloc));
+    let gate = OpenGate::new();
+    let lobby = Lobby::new(alloc).ok()?;
+    let (end, _hall) = serve_lobby(rt, alloc, lobby, &mut door, &clock, &mut sink, &gate);
+    Some(end)
+}
+
+/// Connects, once the server listens.
+fn connect<T>(rt: &T) -> io::Result<TcpStream>
+where
+    T: Net<Listener = TcpListener, Stream = TcpStream> + Clock,
+{
+    for _ in 0..MOST_TRIES {
+        match TcpStream::connect(rt, (HOME, PORT)) {
+            Ok(stream) => return Ok(stream),
+            Err(error) if error.kind() == ErrorKind::ConnectionRefused => {
+                rt.sleep(Duration::from_millis(REST_MILLIS));
+            }
+            Err(error) => return Err(error),
+        }
+    }
+    Err(io::Error::from(ErrorKind::TimedOut))
+}
+
+/// Comes in as a guest and quits. All that the client is sent.
+fn guest<T>(rt: &T, alloc: Global) -> Option<Vec<u8>>
+where
+    T: Net<Listener = TcpListener, Stream = TcpStream> + Clock,
+{
+    let mut stream = connect(rt).ok()?;
+    stream.write_all(b"guest\nquit\n").ok()?;
+    let mut heard = Vec::new(alloc);
+    stream.read_to_end(&mut heard).ok()?;
+    Some(heard)
+}
+
+/// Whether the server took its leave.
+fn took_leave(heard: &[u8]) -> bool {
+    heard.ends_with(b"Goodbye.\n\r")
+}
+
+#[test]
+fn guests_over_tcp(rt: HostRuntime) -> Result<(), Fail> {
+    let alloc = rt.alloc();
+    let (end, (one, two)) = thread::join(
+        &rt,
+        || serve(&rt, alloc),
+        || thread::join(&rt, || guest(&rt, alloc), || guest(&rt, alloc)),
+    );
+    assert!(rt; end == Some(ServeEnd::Done));
+    assert!(rt; one.is_some_and(|heard| took_leave(heard.as_slice())));
+    assert!(rt; two.is_some_and(|heard| took_leave(heard.as_slice())));
+    Ok(())
+}
