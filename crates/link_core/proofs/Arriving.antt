@@ -1,7 +1,7 @@
 -- More of a link's signs, and the inputs that they make.
-use Rattle.std.proofs.Common.{◌≡◌, ℕ, Bool, true, false, cond, List, [], ◌∷◌, ◌++◌, drop, filter, length, map, refl, sym, ap, subst, ◌∙◌, append_assoc, append-nil, option_to_list}
+use Rattle.std.proofs.Common.{◌≡◌, ℕ, Bool, true, false, cond, List, [], ◌∷◌, ◌++◌, drop, filter, length, map, refl, sym, ap, ◌∙◌, append_assoc, append-nil, option_to_list}
 use Rattle.std.specs.Prelude.{◌==◌}
-use Rattle.std.specs.List.{onto_first, slice_split}
+use Rattle.std.specs.List.{onto_first}
 use Rattle.std.proofs.Math.Seq.{drop-append_seam, drop-length}
 use Rattle.std.proofs.lemmas.List.{map-append}
 use Rattle.std.proofs.lemmas.List.Elements.{filter-append}
@@ -16,7 +16,7 @@ use Rattle.line_reader.specs.Telnet.{after, data_from, is_data}
 use Rattle.line_reader.proofs.LongLines.{Begins, Begins-pieces}
 use Rattle.session_core.specs.declared.input.Input.{Input}
 use Rattle.session_core.specs.declared.input.Input.TheVariants.{Line, Quiet}
-use Rattle.link_core.specs.Arrivals.{bytes_of, inputs_behind, inputs_of, lines_behind, lines_in, rest_inputs}
+use Rattle.link_core.specs.Arrivals.{bytes_of, inputs_behind, inputs_of, lines_behind, lines_in}
 
 -- ---- the lines of a text begin with the lines of its beginning
 

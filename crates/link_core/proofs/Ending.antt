@@ -1,11 +1,9 @@
 -- The session leaves, and the link is closed.
-use Rattle.std.proofs.Common.{◌≡◌, ◌⊎◌, ℕ, Bool, true, false, ◌||◌, if◌then◌else◌, List, [], ◌∷◌, ◌++◌, refl, sym, ap, subst, ◌∙◌, append_assoc, append-nil, inl, inr, Ok, Err, Result}
+use Rattle.std.proofs.Common.{◌≡◌, ◌⊎◌, ℕ, Bool, true, false, if◌then◌else◌, List, [], ◌∷◌, ◌++◌, refl, sym, ap, subst, ◌∙◌, append_assoc, append-nil, inl, inr}
 use Rattle.std.specs.declared.option.Option.{Option}
-use Rattle.std.specs.Result.{OnErr, OnOk}
 use Rattle.std.proofs.Math.Bool.{or-false}
 use Rattle.edge_traits.specs.Link.{Both, Closes, Sign, Tale}
-use Rattle.histories.specs.History.{IsPrefix, entry}
-use Rattle.memory.specs.declared.NoMemory.{NoMemory}
+use Rattle.histories.specs.History.{IsPrefix}
 use Rattle.one_server.specs.declared.act.Timed.{Timed}
 use Rattle.one_server.specs.declared.reply.Reply.{Reply}
 use Rattle.histories.specs.declared.entry.Entry.{Entry}
@@ -14,7 +12,7 @@ use Rattle.session_core.specs.declared.standing.Standing.{Standing}
 use Rattle.session_core.specs.declared.standing.Standing.TheVariants as standing
 use Rattle.session_core.specs.declared.input.Input.{Input}
 use Rattle.session_core.specs.Course.{Course, Done, Asks, Writes as Puts, Follows, Passes}
-use Rattle.session_core.specs.Going.{Left, LeftInPart, any_entered, departing}
+use Rattle.session_core.specs.Going.{Left, LeftInPart, departing}
 use Rattle.session_core.specs.Memory.{MemoryState, has_entered, is_gone, is_in, is_out}
 use Rattle.session_core.specs.Session.{leaving}
 use Rattle.session_core.specs.Texts.{opening_text}
@@ -22,12 +20,12 @@ use Rattle.session_core.proofs.Going.{made_then, same_mark, same_number}
 use Rattle.link_core.specs.declared.link_end.LinkEnd.{LinkEnd}
 use Rattle.link_core.specs.declared.link_end.LinkEnd.TheVariants as end
 use Rattle.link_core.specs.Arrivals.{inputs_of}
-use Rattle.link_core.specs.Served.{BreaksOff, Comes, Ends, IsServed, LastRead, Leaves, NotRead, Parts, QuitsShort, Serves, Tells, Writes, WritesPart}
-use Rattle.link_core.specs.Steps.{Behind, Breaks, Stand, Stops}
-use Rattle.link_core.specs.Talk.{IsShown, joined}
+use Rattle.link_core.specs.Served.{Comes, Ends, LastRead, Leaves, NotRead, Parts, QuitsShort, Serves, Writes, WritesPart}
+use Rattle.link_core.specs.Steps.{Behind, Stand, Stops}
+use Rattle.link_core.specs.Talk.{IsShown}
 use Rattle.link_core.proofs.Stepping.{said, whole_part}
 use Rattle.link_core.proofs.Tales.{both_then}
-use Rattle.link_core.proofs.Talking.{HasLast, joined_then, last_of, prefix_more, prefix_refl}
+use Rattle.link_core.proofs.Talking.{prefix_more}
 
 -- who followed a course passed over nothing
 passes_follows : (mark : Bool) (course : Course) (session moment : ℕ) (es : Log) (text : List ℕ) (memory : MemoryState) → Follows course session moment es text memory → Passes mark course session moment es

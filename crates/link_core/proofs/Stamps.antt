@@ -1,5 +1,5 @@
 -- The stamps of lines that are read.
-use Rattle.std.proofs.Common.{◌≡◌, ℕ, ◌<◌, Bool, true, false, if◌then◌else◌, List, [], ◌∷◌, map, length, refl, sym, ap, subst, ◌∙◌, arith, nat_lt}
+use Rattle.std.proofs.Common.{◌≡◌, ℕ, Bool, true, false, if◌then◌else◌, List, [], ◌∷◌, map, length, refl, sym, ap, subst, arith, nat_lt}
 use Rattle.std.specs.Prelude.{◌&&◌, bytes_eq}
 use Rattle.std.specs.declared.option.Option.{Option}
 use Rattle.std.specs.declared.option.Option.TheVariants.{None, Some}
@@ -8,7 +8,7 @@ use Rattle.std.proofs.lemmas.Bool.{and_parts}
 use Rattle.std.proofs.lemmas.Bool.Decides.{nat_tests}
 use Rattle.clock_ledger.specs.Span.{IsStamp, stamp_cycle}
 use Rattle.line_reader.specs.declared.incoming.Incoming.{Incoming}
-use Rattle.line_reader.specs.declared.incoming.Incoming.TheVariants.{Plain, Stamped, Ack, TooLong, BadByte}
+use Rattle.line_reader.specs.declared.incoming.Incoming.TheVariants.{Plain, TooLong, BadByte}
 use Rattle.line_reader.specs.Pieces.{but_last, last_of}
 use Rattle.line_reader.specs.Reader.{Gives, Reader, lines_of, parts_of, rest_of}
 use Rattle.line_reader.specs.Reading.{is_stamped, plain_reading, reading, rest_reading, said, stamped_reading}

@@ -5,7 +5,7 @@ use Rattle.std.proofs.Math.Bool.{or-false, or-true}
 use Rattle.std.proofs.lemmas.List.{length-map}
 use Rattle.edge_traits.specs.declared.link.Heard.{Heard}
 use Rattle.edge_traits.specs.declared.link.Heard.TheVariants as heard
-use Rattle.edge_traits.specs.Link.{Both, Byte, Extent, Pause, Reads, Sign, Tale, extent_of, is_ended, signs_of}
+use Rattle.edge_traits.specs.Link.{Both, Byte, Extent, Pause, Reads, Sign, Tale, is_ended, signs_of}
 use Rattle.histories.specs.History.{IsPrefix}
 use Rattle.line_reader.specs.declared.incoming.Incoming.{Incoming}
 use Rattle.line_reader.specs.Reader.{GiveSame, Gives, Reader, fresh, lines_of, rest_of}
@@ -13,20 +13,20 @@ use Rattle.one_server.specs.Running.{IsKnown, Log, Made, RunnerState}
 use Rattle.session_core.specs.declared.input.Input.{Input}
 use Rattle.session_core.specs.declared.input.Input.TheVariants.{Line, Quiet}
 use Rattle.session_core.specs.Course.{Begins, Passes}
-use Rattle.session_core.specs.Going.{Broke, BrokeOff, LeftShort, any_entered}
+use Rattle.session_core.specs.Going.{Broke}
 use Rattle.session_core.specs.Inputs.{input_course}
-use Rattle.session_core.specs.Memory.{MemoryState, has_entered, is_gone, newcomer}
+use Rattle.session_core.specs.Memory.{MemoryState, has_entered, newcomer}
 use Rattle.session_core.specs.Session.{leaving}
 use Rattle.session_core.specs.Texts.{opening_text}
 use Rattle.session_core.proofs.Going.{made_none, made_then, same_mark, same_number}
 use Rattle.link_core.specs.declared.link_end.LinkEnd.{LinkEnd}
 use Rattle.link_core.specs.declared.link_end.LinkEnd.TheVariants as end
 use Rattle.link_core.specs.Arrivals.{bytes_of, inputs_of, lines_behind}
-use Rattle.link_core.specs.Served.{BeginsNext, Comes, Ends, LastRead, NotRead, QuitsShort, Writes, WritesPart, extent_behind}
-use Rattle.link_core.specs.Steps.{AfterAnswer, AfterStep, AfterWrite, Answered, AnsweredPart, AnsweredWhole, Behind, Breaks, BrokeThere, Halfway, IsDrained, Progress, Stand, Stops, TellsOpen, Written, WrittenPart}
+use Rattle.link_core.specs.Served.{Comes, Ends, LastRead, NotRead, Writes, WritesPart}
+use Rattle.link_core.specs.Steps.{AfterAnswer, AfterStep, AfterWrite, AnsweredPart, AnsweredWhole, Behind, Halfway, IsDrained, Progress, Stand, Stops, TellsOpen, Written, WrittenPart}
 use Rattle.link_core.specs.Talk.{Answers, IsShown, Talks, joined}
 use Rattle.link_core.proofs.Arriving.{behind_reader, bytes_more, bytes_pause, come_bytes, come_end, come_pause, fed_lines, fed_rest}
-use Rattle.link_core.proofs.Tales.{both_map, both_then, part_none, tells_more, written_none}
+use Rattle.link_core.proofs.Tales.{both_map, both_then, tells_more, written_none}
 use Rattle.link_core.proofs.Talking.{HasLast, joined_then, last_of, prefix_append, prefix_more, prefix_refl, talks_then}
 
 -- the texts that a session has written, its opening among them

@@ -1,9 +1,8 @@
 -- Relations of what a link tells, one after the other.
-use Rattle.std.proofs.Common.{◌≡◌, ℕ, Bool, true, false, ◌||◌, List, [], ◌∷◌, ◌++◌, length, take, drop, refl, sym, ap, subst, ◌∙◌, append_assoc, append-nil, take-append-drop}
+use Rattle.std.proofs.Common.{◌≡◌, ℕ, Bool, List, [], ◌++◌, take, drop, refl, sym, ap, subst, ◌∙◌, append_assoc, append-nil, take-append-drop}
 use Rattle.std.specs.declared.option.Option.{Option}
 use Rattle.std.specs.declared.option.Option.TheVariants.{None, Some}
-use Rattle.edge_traits.specs.Link.{Both, Grows, Sign, Tale, Writes}
-use Rattle.edge_traits.specs.declared.sink.Sent.{Sent}
+use Rattle.edge_traits.specs.Link.{Both, Sign, Tale, Writes}
 use Rattle.edge_traits.specs.declared.sink.Sent.TheVariants.{All, Failed, Memory}
 use Rattle.histories.specs.History.{IsPrefix}
 use Rattle.link_core.specs.Steps.{TellsOpen, Written, WrittenPart}

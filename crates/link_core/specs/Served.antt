@@ -13,7 +13,7 @@ use Rattle.session_core.specs.Session.{leaving}
 use Rattle.session_core.specs.Stages.{settled}
 use Rattle.session_core.specs.Texts.{opening_text}
 use Rattle.link_core.specs.declared.link_end.LinkEnd.{LinkEnd}
-use Rattle.link_core.specs.declared.link_end.LinkEnd.TheVariants.{Quit, End, ReadFault, WriteFault, Spent, Memory}
+use Rattle.link_core.specs.declared.link_end.LinkEnd.TheVariants.{Quit, End, WriteFault, Spent, Memory}
 use Rattle.link_core.specs.Arrivals.{inputs_of}
 use Rattle.link_core.specs.Talk.{IsShown, Talks, joined}
 

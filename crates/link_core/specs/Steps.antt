@@ -13,7 +13,7 @@ use Rattle.session_core.specs.Inputs.{input_course}
 use Rattle.session_core.specs.Memory.{MemoryState, has_entered, is_gone, newcomer}
 use Rattle.session_core.specs.Texts.{opening_text}
 use Rattle.link_core.specs.declared.link_end.LinkEnd.{LinkEnd}
-use Rattle.link_core.specs.declared.link_end.LinkEnd.TheVariants.{Quit, End, ReadFault, WriteFault, Spent, Memory}
+use Rattle.link_core.specs.declared.link_end.LinkEnd.TheVariants.{Quit, ReadFault, WriteFault, Memory}
 use Rattle.link_core.specs.Arrivals.{bytes_of, inputs_of}
 use Rattle.link_core.specs.Served.{BeginsNext, Comes, Ends, LastRead, NotRead, QuitsShort, Writes}
 use Rattle.link_core.specs.Talk.{Answers, IsShown, Talks, joined}

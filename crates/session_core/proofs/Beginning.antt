@@ -1,5 +1,5 @@
 -- What a session begins with, and how its whole answer follows from what came of that.
-use Rattle.std.proofs.Common.{◌≡◌, ◌⊎◌, ℕ, Bool, true, ◌||◌, List, [], refl, sym, ap, ◌∙◌, inl, inr, Ok, Err, Result}
+use Rattle.std.proofs.Common.{◌≡◌, ℕ, true, List, sym, inl, inr, Ok, Err, Result}
 use Rattle.std.specs.Result.{OnOk}
 use Rattle.memory.specs.declared.NoMemory.{NoMemory}
 use Rattle.one_server.specs.Running.{IsKnown, RunnerState}

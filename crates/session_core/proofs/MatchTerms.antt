@@ -21,11 +21,7 @@ use Rattle.command_words.specs.Accept.{accept_from, accept_of}
 use Rattle.command_words.specs.Aliases.{alias_of, expanded}
 use Rattle.command_words.specs.Blanks.{Words, first_word, rest_of, trimmed, words_of}
 use Rattle.command_words.specs.Commands.{arguments_of, asked, command_after, command_in, command_made, command_of, move_in, move_or}
-use Rattle.command_words.specs.Flag.{flag_of}
-use Rattle.command_words.specs.Match.{challenge, challenge_of, match_of, two_twelve}
-use Rattle.command_words.specs.Quit.{quit_of}
-use Rattle.command_words.specs.Register.{register_of}
-use Rattle.command_words.specs.Resign.{resign_of}
+use Rattle.command_words.specs.Match.{challenge, challenge_of, two_twelve}
 use Rattle.command_words.specs.TermReading.{agreed, terms_of}
 use Rattle.command_words.specs.TermWords.{Spells, SpellsTime, time_of}
 use Rattle.command_words.specs.Texts.{alone, handle_of, is_text}

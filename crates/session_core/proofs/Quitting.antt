@@ -1,12 +1,11 @@
 -- A session leaves only where it was asked to quit.
-use Rattle.std.proofs.Common.{◌≡◌, ℕ, Bool, true, false, if◌then◌else◌, List, [], ◌∷◌, refl, sym, ap, subst, ◌∙◌, Ok, Err, Result}
+use Rattle.std.proofs.Common.{◌≡◌, ℕ, Bool, true, false, if◌then◌else◌, List, [], ◌∷◌, refl, sym, ap, ◌∙◌, Ok, Err, Result}
 use Rattle.std.specs.declared.option.Option.{Option}
 use Rattle.std.specs.declared.option.Option.TheVariants.{None, Some}
 use Rattle.command_words.specs.declared.command.Command.{Command}
 use Rattle.command_words.specs.declared.command.Command.TheVariants as command
 use Rattle.command_words.specs.Commands.{command_in}
 use Rattle.command_words.specs.Texts.{handle_of}
-use Rattle.fics_words.specs.Handle.{key_of}
 use Rattle.fics_words.specs.declared.refusal.Refusal.{Refusal}
 use Rattle.fics_words.specs.declared.refusal.Refusal.TheVariants as refusal
 use Rattle.line_reader.specs.declared.incoming.Incoming.{Incoming}
@@ -15,7 +14,6 @@ use Rattle.linked_desk.specs.declared.acts.DeskAct.{DeskAct}
 use Rattle.linked_desk.specs.declared.acts.DeskAct.TheVariants as desk_act
 use Rattle.lobby_state.specs.declared.acts.LobbyReply.TheVariants as lobby_reply
 use Rattle.lobby_state.specs.declared.place.Place.{Place}
-use Rattle.one_server.specs.declared.act.Act.{Act}
 use Rattle.one_server.specs.declared.reply.Reply.{Reply}
 use Rattle.one_server.specs.declared.reply.Reply.TheVariants as reply
 use Rattle.one_server.specs.Running.{Log}
@@ -28,7 +26,7 @@ use Rattle.session_core.specs.Course.{Course, Done, Asks, Writes, Follows}
 use Rattle.session_core.specs.Inputs.{ack_course, asked_course, asks_to_quit, input_course, is_greeting, is_quit, line_course, line_quits, past_line, quiet_course, refusing, stamp_on, text_course, text_quits}
 use Rattle.session_core.specs.Login.{admitted, entering, entering_named, is_guest, naming, password_of, proving}
 use Rattle.session_core.specs.Memory.{MemoryState, is_gone, is_out, present_in, told}
-use Rattle.session_core.specs.Session.{acked_at, at_present, command_course, given_up, round, says_over, to_acked, to_desk, visits}
+use Rattle.session_core.specs.Session.{acked_at, at_present, command_course, given_up, round, says_over, to_desk, visits}
 
 -- the session hasn't left at any end of the course
 NeverGone : Course → Type 0

@@ -15,7 +15,6 @@ use Rattle.session_core.specs.declared.standing.Standing.{Standing}
 use Rattle.session_core.specs.declared.standing.Standing.TheVariants.{Login, Password, In, Gone}
 use Rattle.style12_writer.specs.declared.item.Item.{Item}
 use Rattle.style12_writer.specs.declared.item.Item.TheVariants.{Board, Talk, End}
-use Rattle.style12_writer.specs.declared.view.Viewer.{Viewer}
 use Rattle.style12_writer.specs.EndLine.{end_text}
 use Rattle.style12_writer.specs.Line12.{line12_text}
 

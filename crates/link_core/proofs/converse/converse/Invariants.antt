@@ -1,6 +1,6 @@
 use Rattle.std.proofs.Common.{◌≡◌, ◌≤◌, false}
 use Rattle.session_core.specs.Memory.{is_gone}
-use Rattle.link_core.specs.Steps.{IsDrained, Progress, Stand}
+use Rattle.link_core.specs.Steps.{IsDrained, Progress}
 use Rattle.link_core.proofs.converse.converse.Given as goal
 
 abbrev pub invariant-loop-turn : goal.invariant-loop-turn

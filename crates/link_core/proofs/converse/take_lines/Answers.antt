@@ -1,11 +1,10 @@
-use Rattle.std.proofs.Common.{◌≡◌, IfSome, ◌∙◌, le_trans, subst}
+use Rattle.std.proofs.Common.{IfSome, ◌∙◌, le_trans, subst}
 use Rattle.std.specs.declared.option.Option.{Option}
 use Rattle.line_reader.specs.declared.incoming.Incoming.{Incoming}
 use Rattle.line_reader.specs.Reader.{Gives}
-use Rattle.session_core.specs.declared.input.Input.TheVariants.{Line}
 use Rattle.link_core.specs.Steps.{Stand}
 use Rattle.link_core.proofs.Stamps.{given_fits}
-use Rattle.link_core.proofs.Stepping.{progress_line, progress_same, stopped_line, stopped_reader}
+use Rattle.link_core.proofs.Stepping.{progress_line, stopped_line, stopped_reader}
 use Rattle.link_core.proofs.converse.take_lines.Goals as goal
 
 pub answer-requires-clause-fits : goal.answer-requires-clause-fits

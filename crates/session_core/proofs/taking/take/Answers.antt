@@ -1,4 +1,3 @@
-use Rattle.std.proofs.Common.{refl}
 use Rattle.session_core.specs.Inputs.{input_course}
 use Rattle.session_core.specs.Session.{leaving}
 use Rattle.session_core.specs.Stages.{Settles, continues, course_of, first_course}
