@@ -51,21 +51,3 @@ module _ (result : Result Wrote NoMemory) (what : ScriptEvent) (session moment :
       IfOk-weaker result _ _
       (λ wrote h. subst (λ (w : ScriptEvent). HasAnswered w session moment old before new after wrote.bytes.items) (sym copied)
       (record { entries = h.entries; does = record { text = h.text; follows = h.follows; answer = h.answer }; more = h.more }))
-
-  -- an acknowledgement comes
-  pub ack_taken : (stamp : ℕ) → what ≡ event.Ack stamp
-      → IfOk result (λ wrote. HasTaken (input.Line (incoming.Ack stamp)) session moment old before new after wrote.bytes.items)
-      → IfOk result (λ wrote. HasAnswered what session moment old before new after wrote.bytes.items)
-  ack_taken stamp is =
-      IfOk-weaker result _ _
-      (λ wrote h. subst (λ (w : ScriptEvent). HasAnswered w session moment old before new after wrote.bytes.items) (sym is)
-      (record { entries = h.entries; does = record { text = h.text; follows = h.follows; answer = h.answer }; more = h.more }))
-
-  -- nothing comes
-  pub quiet_taken : what ≡ event.Quiet
-      → IfOk result (λ wrote. HasTaken input.Quiet session moment old before new after wrote.bytes.items)
-      → IfOk result (λ wrote. HasAnswered what session moment old before new after wrote.bytes.items)
-  quiet_taken is =
-      IfOk-weaker result _ _
-      (λ wrote h. subst (λ (w : ScriptEvent). HasAnswered w session moment old before new after wrote.bytes.items) (sym is)
-      (record { entries = h.entries; does = record { text = h.text; follows = h.follows; answer = h.answer }; more = h.more }))

@@ -1,5 +1,5 @@
 use Rattle.std.proofs.Common.{◌≡◌, ◌∙◌}
-use Rattle.replay_command.proofs.Doings.{ack_taken, connected, cut, plain_taken, quiet_taken, stamped_taken}
+use Rattle.replay_command.proofs.Doings.{connected, cut, plain_taken, stamped_taken}
 use Rattle.replay_command.proofs.answering.do_event.Goals as goal
 
 pub returns-in_ok-open-in-Connect-clause-done : goal.returns-in_ok-open-in-Connect-clause-done
