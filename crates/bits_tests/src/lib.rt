@@ -4,3 +4,5 @@
 
 #[cfg(test)]
 mod placements;
+#[cfg(test)]
+mod positions;

@@ -2,5 +2,4 @@ pub mod BoardEnds
 pub mod BoardLines
 pub mod Completeness
 pub mod LineAnswers
-pub mod MoveWords
 pub mod Names

@@ -1,20 +1,18 @@
 -- The game that `board` plays: one untimed game of chess between `White` and `Black`, game 1, seen by an observer.
-use Rattle.std.specs.Prelude.{ℕ, Bool, ◌||◌, is_some, if◌then◌else◌, pos, List, [], ◌∷◌, ◌++◌, Option, Some, None, Result, Ok, Err, codes, option_and_then, false}
+use Rattle.std.specs.Prelude.{ℕ, pos, List, [], ◌∷◌, ◌++◌, Option, Some, None, Result, Ok, Err, codes, option_map, false}
 use Rattle.chess_model.specs.declared.variant.Terms.{Terms}
 use Rattle.chess_model.specs.declared.variant.Variant.TheVariants.{Chess}
 use Rattle.chess_model.specs.declared.moves.Move.{Move}
-use Rattle.chess_model.specs.declared.moves.MoveWord.TheVariants.{Coordinate}
-use Rattle.chess_model.specs.Answer.{castling_of, is_promotion}
+use Rattle.chess_model.specs.declared.moves.MoveWord.{MoveWord}
 use Rattle.fics_words.specs.declared.refusal.Refusal.{Refusal}
-use Rattle.game_board.specs.Board.{Board, new_board, to_move, position_of}
+use Rattle.game_board.specs.Board.{Board, new_board, to_move}
 use Rattle.game_board.specs.BoardFace.{board_face, last_taken}
 use Rattle.game_board.specs.Play.{move_answer, with_half_move}
 use Rattle.style12_writer.specs.declared.view.BoardView.{BoardView}
 use Rattle.style12_writer.specs.declared.view.Viewer.{Viewer}
 use Rattle.style12_writer.specs.Line12.{line12_text}
 use Rattle.session_core.specs.Texts.{refusal_line}
-use Rattle.board_command.specs.MoveForm.{squares_of}
-use Rattle.board_command.specs.declared.squares.Squares.{Squares}
+use Rattle.move_reader.specs.Reading.{reading}
 
 -- the game: the board of game_board, whose half-moves are all at moment 0
 abbrev pub GameState : Type 0
@@ -50,22 +48,14 @@ abbrev pub line_text : GameState → List ℕ
 line_text b = line12_text (view_of b) observer ++ codes "\n\r"
 
 -- the answer to a move word, by the rules of chess
-abbrev pub answer_to : GameState → Squares → Result Move Refusal
-answer_to b s = move_answer b (to_move b) (Coordinate s.from s.to None)
-
--- castling and promotion aren't in the grammar
-abbrev pub is_outside : GameState → Squares → Bool
-is_outside b s = is_some (castling_of (position_of b) s.from s.to) || is_promotion (position_of b) s.from s.to
+abbrev pub answer_to : GameState → MoveWord → Result Move Refusal
+answer_to b word = move_answer b (to_move b) word
 
 -- the next state and what is written: the half-move and the board's line, or the refusal
 abbrev pub made : GameState → Result Move Refusal → GameState × List ℕ
 made b (Ok m) = (with_half_move b m 0 None, line_text (with_half_move b m 0 None))
 made b (Err r) = (b, refusal_line r)
 
--- what two squares make of a game
-abbrev pub answer_squares : GameState → Squares → Option (GameState × List ℕ)
-answer_squares b s = if is_outside b s then None else Some (made b (answer_to b s))
-
 -- what a line that isn't empty makes of a game, and what is written for it; nothing where it is outside the grammar
 unfoldable pub answer_line : GameState → List ℕ → Option (GameState × List ℕ)
-answer_line b line = option_and_then (λ s. answer_squares b s) (squares_of line)
+answer_line b line = option_map (λ word. made b (answer_to b word)) (reading line)

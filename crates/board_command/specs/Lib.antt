@@ -1,6 +1,5 @@
 -- What the contracts of this crate cite.
 pub mod BoardEnds
 pub mod Game
-pub mod MoveForm
 pub mod PlayedLinesProof
 pub mod Transcript

@@ -1,15 +1,13 @@
-//! The game that `board` plays: one untimed game of chess between `White` and `Black`, seen by an observer. The
-//! shell knows nothing of chess but what is written here.
+//! The game that `board` plays: one untimed game of chess between `White` and `Black`, seen by an observer.
 
 ghost use Rattle.std.specs.Prelude.{◌≡◌, ◌++◌, OnOk, codes};
 ghost use Rattle.game_board.specs.Play.{play_after};
-ghost use Rattle.board_command.specs.Game.{untimed, view_of, line_text, answer_to, is_outside, made};
+ghost use Rattle.board_command.specs.Game.{untimed, view_of, line_text, answer_to, made};
 
-use crate::move_form::read_squares;
-use crate::squares::Squares;
 use chess_model::{MoveWord, Terms, Variant};
 use fics_words::{Handle, NoMemory};
 use game_board::GameBoard;
+use move_reader::read_word;
 use session_core::put_refusal;
 use std::alloc::Global;
 use std::marker::Model;
@@ -55,13 +53,10 @@ impl Game {
             ((made ≡ false) × (out.new.items ≡ out.old.items))
             (λ next. (made ≡ true) × (self.new ≡ next.0) × (out.new.items ≡ out.old.items ++ next.1))) }
     {
-        let Some(squares) = read_squares(line) else {
+        let Some(word) = read_word(line) else {
             return Ok(false);
         };
-        if is_outside(&self.board, &squares) {
-            return Ok(false);
-        }
-        play(&mut self.board, &squares, out)?;
+        play(&mut self.board, &word, out)?;
         Ok(true)
     }
 }
@@ -78,29 +73,15 @@ fn untimed() -> Terms
     }
 }
 
-/// Whether the squares stand for castling, or bring a pawn to its last rank.
-pub fn is_outside(board: &GameBoard, squares: &Squares) -> bool
-    ensures { result ≡ is_outside board.now squares.now }
-{
-    let position = board.position();
-    position.castling_of(squares.from, squares.to).is_some()
-        || position.is_promotion(squares.from, squares.to)
-}
-
-/// Plays the half-move of the squares and appends the line of the board, or appends the refusal.
-fn play(board: &mut GameBoard, squares: &Squares, out: &mut Vec<u8>) -> Result<(), NoMemory>
+/// Plays the half-move of the word and appends the line of the board, or appends the refusal.
+fn play(board: &mut GameBoard, word: &MoveWord, out: &mut Vec<u8>) -> Result<(), NoMemory>
     requires { board.old.begin ≡ 0 }
     ensures begin { board.new.begin ≡ 0 }
-    ensures board { OnOk result (board.new ≡ (made board.old (answer_to board.old squares.now)).0) }
-    ensures text { OnOk result (out.new.items ≡ out.old.items ++ (made board.old (answer_to board.old squares.now)).1) }
+    ensures board { OnOk result (board.new ≡ (made board.old (answer_to board.old word.now)).0) }
+    ensures text { OnOk result (out.new.items ≡ out.old.items ++ (made board.old (answer_to board.old word.now)).1) }
 {
-    let word = MoveWord::Coordinate {
-        from: squares.from,
-        to: squares.to,
-        promo: None,
-    };
     let colour = board.to_move();
-    match board.play(colour, &word, 0, None) {
+    match board.play(colour, word, 0, None) {
         Ok(_captured) => write_board(board, out),
         Err(refusal) => put_refusal(refusal, out),
     }

@@ -5,13 +5,6 @@
 #![tactic(auto)]
 
 mod game;
-mod laws;
-mod move_form;
 mod playing;
-mod squares;
 
-pub use game::is_outside;
-pub use laws::move_words;
-pub use move_form::read_squares;
 pub use playing::board;
-pub use squares::Squares;

@@ -34,7 +34,6 @@ apart_commute parts one other apart =
       state = states_commute house parts one.session one.timed other.session other.timed apart;
     }
 
-
 desk_alone : (one : Option Part) (k desk serial s : ℕ) (act : DeskAct) → option_and_then (λ (p : Part). second_part p k (Desk desk serial act)) one ≡ Some s → ⊥
 desk_alone None k desk serial s act h = cc
 desk_alone (Some (TheLobby lobby)) k desk serial s act h = cc
@@ -73,9 +72,9 @@ desks_commute parts one other desk desk' serial serial' act act' differ e e' =
 pub lobby_commutes : LobbyCommutes
 lobby_commutes parts one other desk serial act act' is e e' =
     apart_commute parts one other (λ s t u.
-        let z : s ≡ 0 = lobby_touched parts one s act e t in
-        let d : s ≡ desk = desk_touched parts other desk serial s act' e' u in
-        omega (arith, is))
+    let z : s ≡ 0 = lobby_touched parts one s act e t in
+    let d : s ≡ desk = desk_touched parts other desk serial s act' e' u in
+    omega (arith, is))
 
 other_desk : (planned : Option ℕ) (desk s : ℕ) → planned ≢ Some desk → 1 ≤ desk → s ≡ desk → (s ≡ 0) ⊎ (planned ≡ Some s) → ⊥
 other_desk planned desk s differ low d (inl z) = omega arith
@@ -84,9 +83,9 @@ other_desk planned desk s differ low d (inr p) = differ (p ∙ ap (λ (n : ℕ).
 pub pair_commutes : PairCommutes
 pair_commutes parts lobby one other desk serial act act' there differ is e e' =
     apart_commute parts one other (λ s t u.
-        other_desk (planned_desk (plan_of lobby one.session act)) desk s differ is.0
-        (desk_touched parts other desk serial s act' e' u)
-        (pair_touched parts lobby one s act there e t))
+    other_desk (planned_desk (plan_of lobby one.session act)) desk s differ is.0
+    (desk_touched parts other desk serial s act' e' u)
+    (pair_touched parts lobby one s act there e t))
 
 legal_back : (xs : List Part) (es fs : Log) → Legal house xs (es ++ fs) → Legal house (state house xs es) fs
 legal_back xs [] fs l = l
@@ -104,6 +103,6 @@ nobody_can_tell opening before rest one other apart legal =
     ) in (
       legal-append house opening before (other ∷ one ∷ rest) (legal_front house opening before (one ∷ other ∷ rest) legal) swapped,
       state-append house opening before (other ∷ one ∷ rest)
-      ∙ (ap (λ (xs : List Part). state house xs rest) (sym both.state)
-      ∙ sym (state-append house opening before (one ∷ other ∷ rest))),
+          ∙ (ap (λ (xs : List Part). state house xs rest) (sym both.state)
+          ∙ sym (state-append house opening before (one ∷ other ∷ rest))),
     )

@@ -1,11 +1,11 @@
-//! A game by two sessions, over the server of one thread and at the seats of a hall.
+//! Games by two sessions, over the server of one thread and at the seats of a hall.
 
-use crate::steps::{Does, Said, Step, replied};
+use crate::steps::{Does, Game, Said, Step, replied};
 use fics_words::Fail as Failure;
 use hall_core::Hall;
 use lobby_state::Lobby;
 use memory::NoMemory;
-use one_server::OneServer;
+use one_server::{OneServer, Runner};
 use std::alloc::Global;
 use std::sync::Wait;
 use std::test::Fail;
@@ -36,39 +36,63 @@ const GAME: [Step; 20] = [
     Step(9900, 1, Does::Items, Said::Refused(18)),
 ];
 
+/// After a resignation both players fetch what is left of the game, so that nobody looks on any more, and then both
+/// clear the desk: the first Clear frees it for everybody, the second finds nothing to clear, and neither player has a
+/// place.
+const CLEARED_TWICE: [Step; 12] = [
+    Step(0, 1, Does::Enter(*b"Ann"), Said::Entered),
+    Step(0, 2, Does::Enter(*b"Ben"), Said::Entered),
+    Step(0, 1, Does::Match(*b"Ben"), Said::Done),
+    Step(0, 2, Does::Accept, Said::Started),
+    Step(3000, 1, Does::Move(12, 28), Said::Done),
+    Step(4000, 2, Does::Resign, Said::Done),
+    Step(4100, 1, Does::Items, Said::Items(4, true)),
+    Step(4200, 2, Does::Items, Said::Items(4, true)),
+    Step(4300, 1, Does::Clear, Said::Cleared),
+    Step(4400, 2, Does::Clear, Said::Kept),
+    Step(4500, 1, Does::Where, Said::Places(0)),
+    Step(4500, 2, Does::Where, Said::Places(0)),
+];
+
 /// A server with an empty lobby.
 #[tactic(auto, using(one_server::proofs::Opens::opening_is))]
-fn server(alloc: Global) -> Result<OneServer, NoMemory> {
+pub fn server(alloc: Global) -> Result<OneServer, NoMemory> {
     OneServer::new(alloc, Lobby::new(alloc)?)
 }
 
-/// A hall with an empty lobby.
+/// The place of the first step that is replied otherwise at a hall with an empty lobby, if one is.
 #[tactic(auto, using(one_server::proofs::Opens::opening_is))]
 fn over_hall<R: Wait>(rt: &R, alloc: Global, steps: &[Step]) -> Result<Option<usize>, Failure> {
     let (hall, mut first) = Hall::open(alloc, Lobby::new(alloc)?)?;
-    let one = hall.split(&mut first);
-    let two = hall.split(&mut first);
     let gate = OpenGate::new();
-    let mut ann = hall.seat(one, &gate, rt);
-    let mut ben = hall.seat(two, &gate, rt);
+    let mut ann = hall.seat(hall.split(&mut first), &gate, rt);
+    let mut ben = hall.seat(hall.split(&mut first), &gate, rt);
+    at_two_seats(alloc, &mut ann, &mut ben, steps)
+}
+
+/// The place of the first step of the sessions 1 and 2 that is replied otherwise at their seats, if one is.
+pub fn at_two_seats<R: Runner>(
+    alloc: Global,
+    ann: &mut R,
+    ben: &mut R,
+    steps: &[Step],
+) -> Result<Option<usize>, Failure> {
     for (place, step) in steps.iter().enumerate() {
-        let said = match step.1 {
-            1 => replied(&mut ann, alloc, step.0, step.2)?,
-            _ => replied(&mut ben, alloc, step.0, step.2)?,
-        };
-        if said != step.3 {
+        let Step(moment, session, does, expected) = *step;
+        let seat = if session == 1 { &mut *ann } else { &mut *ben };
+        if replied(seat, alloc, moment, Game::First, does)? != expected {
             return Ok(Some(place));
         }
     }
     Ok(None)
 }
 
-/// The place of the first step that is replied otherwise, if one is.
+/// The place of the first step that is replied otherwise by the server of one thread, if one is.
 fn over_one_server(alloc: Global, steps: &[Step]) -> Result<Option<usize>, Failure> {
     let mut server = server(alloc)?;
     for (place, step) in steps.iter().enumerate() {
         let mut seat = server.seat(step.1);
-        if replied(&mut seat, alloc, step.0, step.2)? != step.3 {
+        if replied(&mut seat, alloc, step.0, Game::First, step.2)? != step.3 {
             return Ok(Some(place));
         }
     }
@@ -76,13 +100,15 @@ fn over_one_server(alloc: Global, steps: &[Step]) -> Result<Option<usize>, Failu
 }
 
 #[test]
-fn a_game_over_the_server_of_one_thread(rt: HostRuntime) -> Result<(), Fail> {
+fn games_over_the_server_of_one_thread(rt: HostRuntime) -> Result<(), Fail> {
     assert_eq!(rt; over_one_server(rt.alloc(), &GAME)?, None);
+    assert_eq!(rt; over_one_server(rt.alloc(), &CLEARED_TWICE)?, None);
     Ok(())
 }
 
 #[test]
-fn the_same_game_at_the_hall(rt: HostRuntime) -> Result<(), Fail> {
+fn the_same_games_at_the_hall(rt: HostRuntime) -> Result<(), Fail> {
     assert_eq!(rt; over_hall(&rt, rt.alloc(), &GAME)?, None);
+    assert_eq!(rt; over_hall(&rt, rt.alloc(), &CLEARED_TWICE)?, None);
     Ok(())
 }

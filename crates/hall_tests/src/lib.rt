@@ -1,8 +1,9 @@
-//! Tests of the hall: a game played at its seats and over the server of one thread by the same acts with the same
-//! replies, and a gate inside the hall. Expected replies are those of the rules of the server, written out by hand.
+//! Tests of the hall: games played at its seats and over the server of one thread by the same acts with the same
+//! replies, what two sessions write there, a gate inside the hall, and four threads whose replies are those of one.
+//! Expected replies are those of the rules of the server, written out by hand.
 //!
-//! A test is a table, and what it does stands in functions without contracts, so it is proved quickly: what it shows is
-//! shown by running it.
+//! A test is a table, and what it does stands in functions almost without contracts, so it is proved quickly: what it
+//! shows is shown by running it.
 #![tactic(auto)]
 
 #[cfg(test)]
@@ -10,4 +11,10 @@ mod games;
 #[cfg(test)]
 mod gates;
 #[cfg(test)]
+mod replies;
+#[cfg(test)]
+mod sessions;
+#[cfg(test)]
 mod steps;
+#[cfg(test)]
+mod threads;

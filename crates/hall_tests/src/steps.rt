@@ -1,4 +1,8 @@
-//! Steps of two sessions, each with its expected reply.
+//! Steps of sessions, each with its expected reply.
+
+ghost use Rattle.std.specs.Prelude.{IfOk};
+ghost use Rattle.lobby_state.specs.Desks.{IsDesk};
+ghost use Rattle.one_server.specs.Acts.{FitsAct};
 
 use chess_model::{Colour, MoveWord, Square, Terms, Variant};
 use fics_words::{Fail, Handle, Refusal};
@@ -13,6 +17,9 @@ pub enum Said {
     Refused(u8),
     Done,
     Entered,
+    NeedPassword,
+    /// So many desks.
+    Desks(usize),
     /// So many places.
     Places(usize),
     /// So many lines and so many places.
@@ -25,7 +32,7 @@ pub enum Said {
     Cleared,
 }
 
-/// What a session does. Desk acts and Clears are for the game of serial 1 at desk 1.
+/// What a session does. Desk acts and Clears are for a game.
 #[derive(Clone, Copy, Debug)]
 pub enum Does {
     Enter([u8; 3]),
@@ -39,87 +46,150 @@ pub enum Does {
     /// Moves from a square to another.
     Move(u8, u8),
     Resign,
+    Flag,
     Items,
+}
+
+/// A game: the first one that starts is at desk 1 under serial 1, the second at desk 2 under serial 2.
+#[derive(Clone, Copy, Debug, PartialEq, Eq)]
+pub enum Game {
+    First,
+    Second,
+}
+
+impl Game {
+    /// The game of a session: the sessions 1 and 2 play the first one, and all others the second.
+    pub fn of(session: u32) -> Game {
+        if session == 1 || session == 2 {
+            return Game::First;
+        }
+        Game::Second
+    }
+
+    /// The game of the others.
+    pub fn other(self) -> Game {
+        match self {
+            Game::First => Game::Second,
+            Game::Second => Game::First,
+        }
+    }
+
+    /// The number of its desk, which is its serial too.
+    fn number(self) -> u8
+        ensures { IsDesk result }
+    {
+        match self {
+            Game::First => 1,
+            Game::Second => 2,
+        }
+    }
 }
 
 /// A step: the moment in milliseconds, the session, what it does, and what it has to be replied.
 #[derive(Clone, Copy, Debug)]
 pub struct Step(pub u32, pub u32, pub Does, pub Said);
 
+/// What a session is replied.
+pub fn reply_to<R: Runner>(
+    seat: &mut R,
+    alloc: Global,
+    moment: u32,
+    game: Game,
+    does: Does,
+) -> Result<Reply, Fail> {
+    let act = act_of(game, does)?;
+    let reply = seat.run(alloc, u64::from(moment), act)?;
+    Ok(reply)
+}
+
 /// What a session is replied in short.
 pub fn replied<R: Runner>(
     seat: &mut R,
     alloc: Global,
     moment: u32,
+    game: Game,
     does: Does,
 ) -> Result<Said, Fail> {
-    let reply = match does {
-        Does::Enter(name) => entering(seat, alloc, &name)?,
-        Does::Match(to) => challenging(seat, alloc, &to)?,
-        Does::Where => seat.run(alloc, 0, Act::Lobby(LobbyAct::Where))?,
-        Does::Lines => seat.run(alloc, 0, Act::Lobby(LobbyAct::Fetch))?,
-        Does::Accept => seat.run(alloc, u64::from(moment), Act::Pair(PairAct::Accept(None)))?,
-        Does::Clear => seat.run(alloc, 0, Act::Pair(PairAct::Clear { desk: 1, serial: 1 }))?,
-        Does::Move(from, to) => moving(seat, alloc, moment, from, to)?,
-        Does::Resign => playing(seat, alloc, moment, DeskAct::Resign)?,
-        Does::Items => playing(seat, alloc, moment, DeskAct::Fetch)?,
-    };
+    let reply = reply_to(seat, alloc, moment, game, does)?;
     Ok(in_short(&reply))
 }
 
-fn entering<R: Runner>(seat: &mut R, alloc: Global, name: &[u8; 3]) -> Result<Reply, Fail> {
-    let name = handle(name)?;
-    Ok(seat.run(
-        alloc,
-        0,
-        Act::Lobby(LobbyAct::Enter {
-            name: Some(name),
-            digest: None,
-        }),
-    )?)
+/// The act of what a session does.
+pub fn act_of(game: Game, does: Does) -> Result<Act, Fail>
+    ensures { IfOk result FitsAct }
+{
+    match does {
+        Does::Enter(name) => entering(&name),
+        Does::Match(to) => challenging(&to),
+        Does::Where => Ok(Act::Lobby(LobbyAct::Where)),
+        Does::Lines => Ok(Act::Lobby(LobbyAct::Fetch)),
+        Does::Accept => Ok(Act::Pair(PairAct::Accept(None))),
+        Does::Clear => Ok(clearing(game)),
+        Does::Move(from, to) => moving(game, from, to),
+        Does::Resign => Ok(at_desk(game, DeskAct::Resign)),
+        Does::Flag => Ok(at_desk(game, DeskAct::Flag)),
+        Does::Items => Ok(at_desk(game, DeskAct::Fetch)),
+    }
 }
 
-fn challenging<R: Runner>(seat: &mut R, alloc: Global, to: &[u8; 3]) -> Result<Reply, Fail> {
-    let to = handle(to)?.key();
+/// Enters under a name.
+fn entering(name: &[u8; 3]) -> Result<Act, Fail>
+    ensures { IfOk result FitsAct }
+{
+    let name = handle(name)?;
+    Ok(Act::Lobby(LobbyAct::Enter {
+        name: Some(name),
+        digest: None,
+    }))
+}
+
+fn challenging(name: &[u8; 3]) -> Result<Act, Fail>
+    ensures { IfOk result FitsAct }
+{
+    let to = handle(name)?.key();
     let terms = Terms {
         minutes: 2,
         increment: 12,
         variant: Variant::Chess,
         colour: Some(Colour::White),
     };
-    Ok(seat.run(alloc, 0, Act::Lobby(LobbyAct::Match { to, terms }))?)
+    Ok(Act::Lobby(LobbyAct::Match { to, terms }))
 }
 
-fn moving<R: Runner>(
-    seat: &mut R,
-    alloc: Global,
-    moment: u32,
-    from: u8,
-    to: u8,
-) -> Result<Reply, Fail> {
+fn clearing(game: Game) -> Act
+    ensures { FitsAct result }
+{
+    let desk = game.number();
+    Act::Pair(PairAct::Clear {
+        desk,
+        serial: u64::from(desk),
+    })
+}
+
+fn moving(game: Game, from: u8, to: u8) -> Result<Act, Fail>
+    ensures { IfOk result FitsAct }
+{
     let word = MoveWord::Coordinate {
         from: square(from)?,
         to: square(to)?,
         promo: None,
     };
-    playing(seat, alloc, moment, DeskAct::Move { word, stamp: None })
+    Ok(at_desk(game, DeskAct::Move { word, stamp: None }))
 }
 
-fn playing<R: Runner>(
-    seat: &mut R,
-    alloc: Global,
-    moment: u32,
-    act: DeskAct,
-) -> Result<Reply, Fail> {
-    let act = Act::Desk {
-        desk: 1,
-        serial: 1,
+fn at_desk(game: Game, act: DeskAct) -> Act
+    ensures { FitsAct result }
+{
+    let desk = game.number();
+    Act::Desk {
+        desk,
+        serial: u64::from(desk),
         act,
-    };
-    Ok(seat.run(alloc, u64::from(moment), act)?)
+    }
 }
 
-fn in_short(reply: &Reply) -> Said {
+/// What a reply says, in short.
+pub fn in_short(reply: &Reply) -> Said {
     match reply {
         Reply::Refused(cause) => Said::Refused(cause.number()),
         Reply::Lobby(answer) => of_lobby(answer),
@@ -132,8 +202,10 @@ fn of_lobby(answer: &LobbyReply) -> Said {
     match answer {
         LobbyReply::Done => Said::Done,
         LobbyReply::Entered(_) => Said::Entered,
+        LobbyReply::NeedPassword => Said::NeedPassword,
         LobbyReply::Places(places) => Said::Places(places.rows().len()),
         LobbyReply::Waiting { lines, places } => Said::Waiting(lines.len(), places.rows().len()),
+        LobbyReply::Desks(desks) => Said::Desks(desks.len()),
     }
 }
 

@@ -1,5 +1,5 @@
--- What comes over a link, as inputs: its lines, each at the byte that ends it, a Quiet at each pause, and at the end what
--- is left of a line.
+-- What comes over a link, as inputs: its lines, each at the byte that ends it, a Quiet at each pause, and at the end
+-- what is left of a line.
 use Rattle.std.specs.Prelude.{ℕ, Bool, true, false, List, [], ◌∷◌, ◌++◌, drop, length, map, option_to_list}
 use Rattle.edge_traits.specs.Link.{Sign, Byte, Pause}
 use Rattle.line_reader.specs.declared.incoming.Incoming.{Incoming}

@@ -80,7 +80,8 @@ AfterAnswer shows input old before link new after link_now (Err Quit) =
 AfterAnswer shows input old before link new after link_now (Err WriteFault) =
     AnsweredPart shows input old before link new after link_now
 AfterAnswer shows input old before link new after link_now (Err Memory) =
-    AnsweredPart shows input old before link new after link_now ⊎ BrokeThere shows input old before link new after link_now
+    AnsweredPart shows input old before link new after link_now
+    ⊎ BrokeThere shows input old before link new after link_now
 AfterAnswer shows input old before link new after link_now (Err _) = ⊥
 
 -- what a link tells on the way: it isn't closed
@@ -144,7 +145,8 @@ pub record Stops (shows : ℕ → Bool) (end : LinkEnd) (start now : Stand) : Ty
   pub come : Comes end inputs (inputs_of taken is_ended)
   pub begun : Log
   pub grew : Made start.state (made ++ begun) now.state
-  pub behind : Behind end shows start.state.mark start.state.number inputs (inputs_of taken is_ended) memory now.memory begun
+  pub behind : Behind end shows start.state.mark start.state.number inputs (inputs_of taken is_ended) memory
+      now.memory begun
   pub writes : Writes end (opening_text ∷ pieces) written
   pub read : NotRead taken is_ended start.link now.link
       ⊎ LastRead shows start.state.number taken (made ++ begun) written start.link now.link

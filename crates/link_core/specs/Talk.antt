@@ -1,19 +1,20 @@
 -- What a session makes and writes for one input after the other. This server's own.
-use Rattle.std.specs.Prelude.{◌≡◌, ℕ, ◌^◌, min, Bool, IsTrue, List, [], ◌∷◌, ◌++◌}
+use Rattle.std.specs.Prelude.{◌≡◌, ℕ, ◌^◌, min, Bool, false, IsTrue, List, [], ◌∷◌, ◌++◌}
 use Rattle.one_server.specs.Running.{Log}
 use Rattle.session_core.specs.declared.input.Input.{Input}
 use Rattle.session_core.specs.Course.{Follows}
 use Rattle.session_core.specs.Inputs.{answer_text, input_course}
-use Rattle.session_core.specs.Memory.{MemoryState}
+use Rattle.session_core.specs.Memory.{MemoryState, is_gone}
 
 -- a moment that the clock shows, cut to 2^48 milliseconds
 abbrev pub IsShown : (ℕ → Bool) → ℕ → Type 0
 IsShown shows moment = (m : ℕ) × IsTrue (shows m) × (moment ≡ min m (2 ^ 48))
 
--- the session answered an input: it followed its course at a moment that the clock shows, with these entries, and this
--- is what it wrote and remembers
+-- the session, which hadn't left, answered an input: it followed its course at a moment that the clock shows, with these
+-- entries, and this is what it wrote and remembers
 pub record Answers (shows : ℕ → Bool) (session : ℕ) (input : Input) (before : MemoryState) (made : Log)
     (piece : List ℕ) (after : MemoryState) : Type 0 where
+  pub here : is_gone before ≡ false
   pub moment : ℕ
   pub shown : IsShown shows moment
   pub text : List ℕ

@@ -1,7 +1,8 @@
 //! The answer to one input.
-ghost use Rattle.std.specs.Prelude.{◌≡◌, ◌≤◌};
+ghost use Rattle.std.specs.Prelude.{◌≡◌, ◌≤◌, false, OnOk};
 ghost use Rattle.edge_traits.specs.Faults.{Rose};
 ghost use Rattle.session_core.specs.Inputs.{FitsInput};
+ghost use Rattle.session_core.specs.Memory.{is_gone};
 ghost use Rattle.link_core.specs.Steps.{AfterAnswer, AfterWrite, OnFault};
 
 use crate::link_end::LinkEnd;
@@ -18,10 +19,12 @@ pub(crate) fn answer<R: Runner, L: Link, C: Clock>(
     session: &mut Session,
     input: Input,
 ) -> Result<(), LinkEnd>
-    requires { FitsInput input }
+    requires fits { FitsInput input }
+    requires here { is_gone session.old ≡ false }
     ensures home { R.home r.new ≡ R.home r.old }
     ensures answered { AfterAnswer (C.shows clock.now) input (R.state r.old) session.old (L.tale link.old)
         (R.state r.new) session.new (L.tale link.new) result }
+    ensures here { OnOk result (is_gone session.new ≡ false) }
     ensures cause { OnFault result (Rose (L.faults link.old) (L.faults link.new)) }
     ensures counted { L.faults link.old ≤ L.faults link.new }
 {

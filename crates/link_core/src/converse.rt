@@ -1,10 +1,10 @@
 //! How a link is read, and each input answered before the next read.
-ghost use Rattle.std.specs.Prelude.{◌≡◌, ◌≤◌, ◌+◌, ◌++◌, [], ℕ, List, true, map, option_to_list, Err, OnOk};
+ghost use Rattle.std.specs.Prelude.{◌≡◌, ◌≤◌, ◌+◌, ◌++◌, [], ℕ, List, true, false, map, option_to_list, Err, OnOk};
 ghost use Rattle.edge_traits.specs.Faults.{Rose};
 ghost use Rattle.edge_traits.specs.Link.{Sign};
 ghost use Rattle.line_reader.specs.Reader.{rest_of};
 ghost use Rattle.link_core.specs.Steps.{AfterStep, AfterWrite, Halfway, IsDrained, OnFault, Progress, Stand, Stops};
-ghost use Rattle.session_core.specs.Memory.{newcomer};
+ghost use Rattle.session_core.specs.Memory.{is_gone, newcomer};
 ghost use Rattle.session_core.specs.Texts.{opening_text};
 ghost use Rattle.session_core.specs.declared.input.Input.TheVariants.{Line};
 
@@ -78,12 +78,14 @@ fn take_turn<R: Runner, L: Link, C: Clock>(
     reader: &mut LineReader,
 ) -> Result<(), LinkEnd>
     requires drained { IsDrained reader.old }
+    requires here { is_gone session.old ≡ false }
     ensures home { R.home r.new ≡ R.home r.old }
     ensures steps { (start : Stand) (turns : ℕ) → Progress (C.shows clock.now) start
         (record { state = R.state r.old; memory = session.old; link = L.tale link.old }) reader.old turns
         → AfterStep (C.shows clock.now) start
         (record { state = R.state r.new; memory = session.new; link = L.tale link.new }) reader.new (turns + 1) result }
     ensures drained { OnOk result (IsDrained reader.new) }
+    ensures here { OnOk result (is_gone session.new ≡ false) }
     ensures cause { OnFault result (Rose (L.faults link.old) (L.faults link.new)) }
     ensures counted { L.faults link.old ≤ L.faults link.new }
 {
@@ -105,6 +107,7 @@ fn take_piece<R: Runner, L: Link, C: Clock>(
     reader: &mut LineReader,
     piece: &[u8],
 ) -> Result<(), LinkEnd>
+    requires here { is_gone session.old ≡ false }
     ensures home { R.home r.new ≡ R.home r.old }
     ensures steps { (start : Stand) (turns : ℕ) → Progress (C.shows clock.now) start
         (record { state = R.state r.old; memory = session.old; link = L.tale link.old })
@@ -112,6 +115,7 @@ fn take_piece<R: Runner, L: Link, C: Clock>(
         → AfterStep (C.shows clock.now) start
         (record { state = R.state r.new; memory = session.new; link = L.tale link.new }) reader.new turns result }
     ensures drained { OnOk result (IsDrained reader.new) }
+    ensures here { OnOk result (is_gone session.new ≡ false) }
     ensures cause { OnFault result (Rose (L.faults link.old) (L.faults link.new)) }
     ensures counted { L.faults link.old ≤ L.faults link.new }
 {
@@ -129,12 +133,14 @@ fn take_lines<R: Runner, L: Link, C: Clock>(
     session: &mut Session,
     reader: &mut LineReader,
 ) -> Result<(), LinkEnd>
+    requires here { is_gone session.old ≡ false }
     ensures home { R.home r.new ≡ R.home r.old }
     ensures steps { (start : Stand) (turns : ℕ) → Progress (C.shows clock.now) start
         (record { state = R.state r.old; memory = session.old; link = L.tale link.old }) reader.old turns
         → AfterStep (C.shows clock.now) start
         (record { state = R.state r.new; memory = session.new; link = L.tale link.new }) reader.new turns result }
     ensures drained { OnOk result (IsDrained reader.new) }
+    ensures here { OnOk result (is_gone session.new ≡ false) }
     ensures cause { OnFault result (Rose (L.faults link.old) (L.faults link.new)) }
     ensures counted { L.faults link.old ≤ L.faults link.new }
 {
@@ -158,6 +164,7 @@ fn take_rest<R: Runner, L: Link, C: Clock>(
     session: &mut Session,
     reader: &LineReader,
 ) -> LinkEnd
+    requires here { is_gone session.old ≡ false }
     ensures home { R.home r.new ≡ R.home r.old }
     ensures stops { (start : Stand) (taken : List Sign) → Halfway (C.shows clock.now) start
         (record { state = R.state r.old; memory = session.old; link = L.tale link.old }) taken true

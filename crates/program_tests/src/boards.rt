@@ -82,15 +82,32 @@ fn stops_at_the_first_bad_line(rt: HostRuntime) -> Result<(), Fail> {
     expect(&rt, rt.alloc(), &board(b"e2e9\n"), 7, "bad line 1\n\r")
 }
 
+/// Words of all forms: named men, castling, a drop in chess, marks.
+const WORDS: &str = "\
+e4|<12> rnbqkbnr pppppppp -------- -------- ----P--- -------- PPPP-PPP RNBQKBNR B 4 1 1 1 1 0 1 White Black 0 0 0 39 39 0 0 1 P/e2-e4 (0:00) e4 0
+P@e4|refused 4 NoDrops
+O-O|refused 3 CastleForbidden
+e5|<12> rnbqkbnr pppp-ppp -------- ----p--- ----P--- -------- PPPP-PPP RNBQKBNR W 4 1 1 1 1 0 1 White Black 0 0 0 39 39 0 0 2 P/e7-e5 (0:00) e5 0
+Nf3|<12> rnbqkbnr pppp-ppp -------- ----p--- ----P--- -----N-- PPPP-PPP RNBQKB-R B -1 1 1 1 1 1 1 White Black 0 0 0 39 39 0 0 2 N/g1-f3 (0:00) Ng1f3 0
+Nc6+|<12> r-bqkbnr pppp-ppp --n----- ----p--- ----P--- -----N-- PPPP-PPP RNBQKB-R W -1 1 1 1 1 2 1 White Black 0 0 0 39 39 0 0 3 N/b8-c6 (0:00) Nb8c6 0
+Bc4|<12> r-bqkbnr pppp-ppp --n----- ----p--- --B-P--- -----N-- PPPP-PPP RNBQK--R B -1 1 1 1 1 3 1 White Black 0 0 0 39 39 0 0 3 B/f1-c4 (0:00) Bf1c4 0
+d7d6|<12> r-bqkbnr ppp--ppp --np---- ----p--- --B-P--- -----N-- PPPP-PPP RNBQK--R W -1 1 1 1 1 0 1 White Black 0 0 0 39 39 0 0 4 P/d7-d6 (0:00) d6 0
+e1g1|<12> r-bqkbnr ppp--ppp --np---- ----p--- --B-P--- -----N-- PPPP-PPP RNBQ-RK- B -1 0 0 1 1 1 1 White Black 0 0 0 39 39 0 0 4 o-o (0:00) O-O 0
+Kd8|refused 9 CannotReach
+";
+
 #[test]
-fn castling_and_promotion_are_outside_the_grammar(rt: HostRuntime) -> Result<(), Fail> {
-    let (status, written) = outcome(
-        rt.alloc(),
-        &board(b"e2e4\ne7e5\ng1f3\ng8f6\nf1c4\nf8c5\ne1g1\n"),
-    )?;
-    assert_eq!(rt; status, 7);
-    assert!(rt; written.as_slice().ends_with(b"bad line 7\n\r"));
-    Ok(())
+fn answers_words_of_all_forms(rt: HostRuntime) -> Result<(), Fail> {
+    let mut input = String::new(rt.alloc());
+    let mut text = String::new(rt.alloc());
+    for row in WORDS.lines() {
+        let (word, answer) = row.split_once('|').ok_or("a word and its answer")?;
+        input.push_str(word)?;
+        input.push_str("\n")?;
+        text.push_str(answer)?;
+        text.push_str("\n\r")?;
+    }
+    expect(&rt, rt.alloc(), &board(input.as_bytes()), 0, text.as_str())
 }
 
 #[test]

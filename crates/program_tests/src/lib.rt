@@ -10,6 +10,8 @@ mod replay_clocks;
 #[cfg(test)]
 mod replay_ends;
 #[cfg(test)]
+mod replay_logins;
+#[cfg(test)]
 mod replays;
 #[cfg(test)]
 mod running;

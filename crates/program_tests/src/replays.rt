@@ -313,11 +313,18 @@ seat Ann Ben 0 0 chess
   2|refused 11 NotYourTurn
   2|fics%\x20
 0 1 > e1g1
-  bad line 10
-0 1 > g1f3\
+  1|refused 3 CastleForbidden
+  1|<12> rnbqkbnr pppp-ppp -------- ----p--- ----P--- -------- PPPP-PPP RNBQKBNR W -1 0 0 0 0 4 1 Ann Ben 1 0 0 39 39 0 0 4 K/e7-e8 (0:00) Ke7e8 0
+  1|fics%\x20
+0 1 > O-O-O
+  1|refused 3 CastleForbidden
+  1|fics%\x20
+0 1 > g1f3
+  1|<12> rnbqkbnr pppp-ppp -------- ----p--- ----P--- -----N-- PPPP-PPP RNBQKB-R B -1 0 0 0 0 5 1 Ann Ben -1 0 0 39 39 0 0 4 N/g1-f3 (0:00) Ng1f3 0
+  1|fics%\x20\
 ";
 
-/// A pawn takes all its way to the seventh rank. Its last step is outside the grammar once it is White's turn.
+/// A pawn takes all its way to the last rank, where it becomes a queen.
 const PROMOTION: &str = "\
 seat Ann Ben 3 1 chess
 1000 1 > h2h4
@@ -360,8 +367,12 @@ seat Ann Ben 3 1 chess
   2|<12> rnbqk-nr -pppppP- p------- -------- -------- -------- PPPPPPP- RNBQKBNR W -1 1 1 1 1 0 1 Ann Ben -1 3 1 39 34 180 180 5 P/a7-a6 (0:01) a6 1
   2|fics%\x20
 9000 1 > g7h8
-  bad line 12
-9000 1 > g1f3\
+  1|<12> rnbqk-nr -pppppP- p------- -------- -------- -------- PPPPPPP- RNBQKBNR W -1 1 1 1 1 0 1 Ann Ben 1 3 1 39 34 180 180 5 P/a7-a6 (0:01) a6 0
+  1|<12> rnbqk-nQ -ppppp-- p------- -------- -------- -------- PPPPPPP- RNBQKBNR B -1 1 1 0 1 0 1 Ann Ben -1 3 1 47 29 180 180 5 P/g7-h8=Q (0:01) gxh8=Q 0
+  1|fics%\x20
+9000 1 > g1f3
+  1|refused 11 NotYourTurn
+  1|fics%\x20\
 ";
 
 /// The last lines of the game of 1,200 half-moves.
@@ -389,8 +400,8 @@ const GAMES: [(&str, u8, &str); 9] = [
     ("refused words", 0, REFUSED),
     ("words after the end", 0, ENDED),
     ("resigned by both", 0, ENDED_TWICE),
-    ("a king that came back", 7, KING_BACK),
-    ("a pawn before its last step", 7, PROMOTION),
+    ("a king that came back", 0, KING_BACK),
+    ("a pawn and its last step", 0, PROMOTION),
 ];
 
 /// `replay` over a script that is read whole.

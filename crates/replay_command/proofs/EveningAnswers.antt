@@ -5,6 +5,7 @@ use Rattle.chess_model.specs.declared.variant.Variant.TheVariants.{Chess}
 use Rattle.memory.specs.declared.NoMemory.{NoMemory}
 use Rattle.fics_words.specs.Line.{IsLine}
 use Rattle.histories.specs.History.{Legal}
+use Rattle.line_answers.specs.Handling.{AfterAnswering, IsOutsideAt, Takes}
 use Rattle.one_server.specs.declared.part.Part.{Part}
 use Rattle.one_server.specs.House.{house}
 use Rattle.one_server.specs.Running.{Log}
@@ -15,20 +16,16 @@ use Rattle.replay_core.specs.declared.seat_line.SeatLine.{SeatLine}
 use Rattle.replay_core.specs.Order.{Arrival, MayCome, left_of}
 use Rattle.replay_core.specs.Attendance.{IsAfter}
 use Rattle.replay_core.specs.SeatLine.{IsSeatLine, seat_text}
-use Rattle.session_core.specs.declared.input.Input.{Input}
-use Rattle.session_core.specs.Course.{Follows}
-use Rattle.session_core.specs.Session.{input_course}
-use Rattle.session_core.specs.Memory.{MemoryState, untold}
-use Rattle.replay_command.specs.Evening.{EveningState, HasAnswered, HasMade, AfterLeaving, AreMemories, IsClosed, IsNext, IsNoNext, IsOrdered, LeaveInOrder, MayFollow, Reached, Row, Seats, Comes, arrivals_of, history_of, is_beyond_grammar, is_written, last_moment, left_by, line_of, opening_parts, parts_after, remembered, seating_acts, seats}
+use Rattle.session_core.specs.Memory.{MemoryState, newcomer, seated}
+use Rattle.replay_command.specs.Evening.{EveningState, Does, HasDone, HasMade, AfterLeaving, AreMemories, IsClosed, IsNext, IsNoNext, IsOrdered, KeepsOrder, LeaveInOrder, MayFollow, Reached, Row, Seats, Comes, arrivals_of, history_of, is_written, last_moment, left_by, line_of, opening_parts, parts_after, quit_of, remembered, seated_by, seating_acts, seats}
 use Rattle.replay_command.specs.EveningLinesProof.{no_snoc, none_has, one_line_more}
-use Rattle.replay_command.specs.EveningsProof.{came-append, remembered-push}
+use Rattle.replay_command.specs.EveningsProof.{came-append, remembered-push, seated-push}
 use Rattle.replay_command.specs.FollowingProof.{legal_back}
-use Rattle.replay_command.proofs.Memories.{one_memory, same_memories, untold_memories}
-use Rattle.line_answers.specs.Handling.{AfterAnswering, IsOutsideAt, Takes}
+use Rattle.replay_command.proofs.Memories.{one_memory, two_memories, new_memories}
 
 -- before its first line
 pub reached_none : (evening : EveningState) → evening.server ≡ record { opening = opening_parts; log = [] } → evening.order ≡ None → evening.moment ≡ 0
-    → evening.memories ≡ replicate 64 untold → Reached [] evening []
+    → evening.memories ≡ replicate 64 newcomer → Reached [] evening []
 reached_none evening server order moment memories = record {
   rows = [];
   follow = tt;
@@ -37,7 +34,7 @@ reached_none evening server order moment memories = record {
   server = server;
   ordered = subst (λ (o : Option Attendance). IsOrdered o []) (sym order) refl;
   last = moment;
-  memories = untold_memories evening.memories memories;
+  memories = new_memories evening.memories memories;
 }
 
 pub written_line : (line : List ℕ) → 0 < length line → is_written line ≡ true
@@ -48,49 +45,48 @@ written_line (byte ∷ line) some = refl
 
 row_line : (before : List Row) (row : Row) → MayFollow before row → IsLine (line_of row)
 row_line before (Seats seat made) h = h.short
-row_line before (Comes line asked made text memory) h = h.short
+row_line before (Comes line made bytes memory) h = h.short
 
 -- bytes that are no line
 pub no_line : (old : EveningState) (line : List ℕ) → 0 < length line → (IsLine line → ⊥) → IsOutsideAt Reached old line
 no_line old line some not_line lines due at =
     none_has lines old due at line (written_line line some) (λ row e follows. not_line (subst IsLine (sym e) (row_line at.rows row follows)))
 
--- before the seat line there is no row
-no_rows : (order : Option Attendance) (rows : List Row) → IsOrdered order rows → order ≡ None → rows ≡ []
+-- before the first line there is no row
+pub no_rows : (order : Option Attendance) (rows : List Row) → IsOrdered order rows → order ≡ None → rows ≡ []
 no_rows None rows h e = h
 no_rows (Some progress) rows h e = absurd cc
 
--- after it there is one, and the order is kept
-some_rows : (order : Option Attendance) (progress : Attendance) (rows : List Row) → IsOrdered order rows → order ≡ Some progress → (rows ≢ []) × IsAfter progress seats (arrivals_of rows)
-some_rows order progress rows h e = subst (λ (o : Option Attendance). IsOrdered o rows) e h
+-- and where there is no row no line came
+none_kept : (order : Option Attendance) (rows : List Row) → IsOrdered order rows → rows ≡ [] → order ≡ None
+none_kept None rows h e = refl
+none_kept (Some progress) rows h e = absurd (h.0 e)
 
-no_seat_row : (rows : List Row) (line : List ℕ) → rows ≡ [] → ((seat : SeatLine) → IsSeatLine seat → seat.terms.variant ≡ Chess → line ≢ seat_text seat)
+-- what is kept of the order, where lines came, and before the first
+pub keeps_some : (progress : Attendance) (order : Option Attendance) → order ≡ Some progress → KeepsOrder progress order
+keeps_some progress order e rows h = (subst (λ (o : Option Attendance). IsOrdered o rows) e h).1
+
+pub keeps_none : (progress : Attendance) (order : Option Attendance) → order ≡ None → IsAfter progress 0 [] → KeepsOrder progress order
+keeps_none progress order e after rows h =
+    subst (λ (r : List Row). IsAfter progress (seated_by r) (arrivals_of r)) (sym (no_rows order rows h e)) after
+
+-- behind the first line no seat line comes, and neither does a line of a session that may not come
+no_next_row : (progress : Attendance) (rows : List Row) (line : List ℕ) → IsAfter progress (seated_by rows) (arrivals_of rows) → IsNoNext progress line
+    → (rows ≡ [] → (seat : SeatLine) → IsSeatLine seat → seat.terms.variant ≡ Chess → line ≢ seat_text seat)
     → (row : Row) → line ≡ line_of row → MayFollow rows row → ⊥
-no_seat_row rows line none no_seat (Seats seat made) e h = no_seat seat h.spelled h.chess e
-no_seat_row rows line none no_seat (Comes next asked made text memory) e h = h.seated none
+no_next_row progress rows line after no_next no_seat (Seats seat made) e h = no_seat h.first seat h.spelled h.chess e
+no_next_row progress rows line after no_next no_seat (Comes next made bytes memory) e h = no_next (seated_by rows) (arrivals_of rows) after next h.spelled e h.order
 
--- at the start a line that is no seat line of chess
-pub no_seating : (old : EveningState) (line : List ℕ) → old.order ≡ None → 0 < length line
-    → ((seat : SeatLine) → IsSeatLine seat → seat.terms.variant ≡ Chess → line ≢ seat_text seat) → IsOutsideAt Reached old line
-no_seating old line first some no_seat lines due at =
-    none_has lines old due at line (written_line line some) (no_seat_row at.rows line (no_rows old.order at.rows at.ordered first) no_seat)
-
-no_next_row : (progress : Attendance) (rows : List Row) (line : List ℕ) → rows ≢ [] → IsAfter progress seats (arrivals_of rows) → IsNoNext progress (parts_after rows) line
-    → (row : Row) → line ≡ line_of row → MayFollow rows row → ⊥
-no_next_row progress rows line some after no_next (Seats seat made) e h = some h.first
-no_next_row progress rows line some after no_next (Comes next asked made text memory) e h = no_next (arrivals_of rows) after next asked h.spelled e h.order h.reads h.within
+-- a line that is none of a session that may come next, and no seat line that comes first
+pub no_coming : (old : EveningState) (progress : Attendance) (line : List ℕ) → KeepsOrder progress old.order → 0 < length line → IsNoNext progress line
+    → (old.order ≡ None → (seat : SeatLine) → IsSeatLine seat → seat.terms.variant ≡ Chess → line ≢ seat_text seat) → IsOutsideAt Reached old line
+no_coming old progress line keeps some no_next no_seat lines due at =
+    none_has lines old due at line (written_line line some)
+    (no_next_row progress at.rows line (keeps at.rows at.ordered) no_next (λ none. no_seat (none_kept old.order at.rows at.ordered none)))
 
 -- the parts of the server where the evening stands
 parts_at : (lines : List (List ℕ)) (old : EveningState) (due : List ℕ) (at : Reached lines old due) → parts_in old.server ≡ parts_after at.rows
 parts_at lines old due at = ap parts_in at.server
-
--- after it a line that is none of a session that may come next
-pub no_coming : (old : EveningState) (progress : Attendance) (line : List ℕ) → old.order ≡ Some progress → 0 < length line
-    → IsNoNext progress (parts_in old.server) line → IsOutsideAt Reached old line
-no_coming old progress line order some no_next lines due at =
-    let ordered = some_rows old.order progress at.rows at.ordered order in
-    none_has lines old due at line (written_line line some)
-    (no_next_row progress at.rows line ordered.0 ordered.1 (subst (λ (parts : List Part). IsNoNext progress parts line) (parts_at lines old due at) no_next))
 
 -- ---- one row more
 
@@ -108,105 +104,111 @@ legal_more rows entries new e legal =
     legal_back opening_parts (history_of rows) entries (subst (λ (s : ServerState). Legal house s.opening s.log) e legal)
 
 -- the seat line is taken
-pub seats_taken : (old new : EveningState) (line : List ℕ) (seat : SeatLine) (progress : Attendance) → old.order ≡ None → 0 < length line → IsLine line
-    → line ≡ seat_text seat → IsSeatLine seat → seat.terms.variant ≡ Chess
+pub seats_taken : (old new : EveningState) (seat : SeatLine) (white black : List ℕ) (progress : Attendance) → old.order ≡ None → 0 < length (seat_text seat) → IsLine (seat_text seat)
+    → IsSeatLine seat → seat.terms.variant ≡ Chess → seat.names ≡ white ∷ black ∷ []
     → new.server.opening ≡ old.server.opening → HasMade (seating_acts seat.names seat.terms) old.server.log new.server.log → Legal house new.server.opening new.server.log
-    → new.order ≡ Some progress → IsAfter progress seats [] → new.moment ≡ old.moment → new.memories ≡ old.memories → Takes Reached old line new []
-seats_taken old new line seat progress first some short text spelled chess opening made legal order after moment memories lines due at =
+    → new.order ≡ Some progress → IsAfter progress seats [] → new.moment ≡ old.moment
+    → new.memories ≡ slice_set (slice_set old.memories 0 (seated white)) 1 (seated black) → Takes Reached old (seat_text seat) new []
+seats_taken old new seat white black progress first some short spelled chess names opening made legal order after moment memories lines due at =
     let entries = made.entries in
     let row : Row = Seats seat entries in
     let none : at.rows ≡ [] = no_rows old.order at.rows at.ordered first in
     let server : new.server ≡ record { opening = opening_parts; log = history_of at.rows ++ entries } = server_more lines old due at entries new.server opening made.more in
     let own : Legal house opening_parts entries = subst (λ (rows : List Row). Legal house (parts_after rows) entries) none (legal_more at.rows entries new.server server legal) in
-    let came : arrivals_of (at.rows ++ row ∷ []) ≡ arrivals_of at.rows = came-append at.rows (row ∷ []) ∙ append-nil (arrivals_of at.rows) in
-    let none_came : arrivals_of (at.rows ++ row ∷ []) ≡ [] = came ∙ ap arrivals_of none in
-    one_line_more lines old new due at line row (written_line line some) text
-    (record { first = none; spelled = spelled; short = subst IsLine text short; chess = chess; acts = made.acts_are; legal = own })
+    let last : old.moment ≡ 0 = at.last ∙ ap (λ (rows : List Row). last_moment (arrivals_of rows)) none in
+    let new_ones : AreMemories old.memories (λ session. newcomer) = subst (λ (rows : List Row). AreMemories old.memories (remembered rows)) none at.memories in
+    one_line_more lines old new due at (seat_text seat) row (written_line (seat_text seat) some) refl
+    (record { first = none; spelled = spelled; short = short; chess = chess; acts = made.acts_are; legal = own })
     server
-    (subst (λ (o : Option Attendance). IsOrdered o (at.rows ++ row ∷ [])) (sym order) (no_snoc at.rows row, subst (IsAfter progress seats) (sym none_came) after))
-    (moment ∙ at.last ∙ ap last_moment (sym came))
+    (subst (λ (o : Option Attendance). IsOrdered o (at.rows ++ row ∷ [])) (sym order)
+    (no_snoc at.rows row, subst (λ (rows : List Row). IsAfter progress (seated_by (rows ++ row ∷ [])) (arrivals_of (rows ++ row ∷ []))) (sym none) after))
+    (moment ∙ last ∙ subst (λ (rows : List Row). 0 ≡ last_moment (arrivals_of (rows ++ row ∷ []))) (sym none) refl)
     (subst (λ (m : List MemoryState). AreMemories m (remembered (at.rows ++ row ∷ []))) (sym memories)
-    (same_memories old.memories (remembered at.rows) (remembered (at.rows ++ row ∷ [])) (λ session. sym (remembered-push at.rows row session)) at.memories))
+    (subst (λ (rows : List Row). AreMemories (slice_set (slice_set old.memories 0 (seated white)) 1 (seated black)) (remembered (rows ++ row ∷ []))) (sym none)
+    (two_memories old.memories seat entries white black names new_ones)))
+
+-- and is then answered
+pub seats_answered : (old new : EveningState) (line out : List ℕ) (seat : SeatLine) → line ≡ seat_text seat → Takes Reached old (seat_text seat) new [] → AfterAnswering Reached old line out new out true
+seats_answered old new line out seat text takes = ([], sym (append-nil out), subst (λ (l : List ℕ). Takes Reached old l new []) (sym text) takes)
 
 last-push : (lines : List Arrival) (came : Arrival) → last_moment (lines ++ came ∷ []) ≡ came.line.moment
 last-push [] came = refl
 last-push (first ∷ []) came = refl
 last-push (first ∷ next ∷ lines) came = last-push (next ∷ lines) came
 
--- the line of a session, when it has come
-abbrev pub came : ScriptLine → Arrival
-came line = record { line = line; quit = false }
-
 -- the line of a session is taken
-pub coming_taken : (old new : EveningState) (line : List ℕ) (next : ScriptLine) (asked : Input) (progress then : Attendance) (before kept : MemoryState) (out out' : List ℕ)
-    → old.order ≡ Some progress → 0 < length line → IsLine line → IsNext progress (parts_in old.server) line next asked
+pub coming_taken : (old new : EveningState) (line : List ℕ) (next : ScriptLine) (progress then : Attendance) (before kept : MemoryState) (out out' : List ℕ) (quit : Bool)
+    → KeepsOrder progress old.order → 0 < length line → IsLine line → IsNext progress line next
     → slice_get old.memories (next.session - 1) ≡ Some before → new.memories ≡ slice_set old.memories (next.session - 1) kept
-    → HasAnswered next.session next.moment asked old.server before out new.server kept out' → Legal house new.server.opening new.server.log
+    → HasDone next.event next.session next.moment old.server before out new.server kept out' → quit ≡ quit_of next.event kept → Legal house new.server.opening new.server.log
     → new.order ≡ Some then
-    → ((lines : List Arrival) → IsAfter progress seats lines → MayCome seats lines next → IsAfter then seats (lines ++ came next ∷ []))
+    → ((seated : ℕ) (lines : List Arrival) → IsAfter progress seated lines → MayCome seated lines next → IsAfter then seated (lines ++ record { line = next; quit = quit } ∷ []))
     → new.moment ≡ next.moment → AfterAnswering Reached old line out new out' true
-coming_taken old new line next asked progress then before kept out out' order some short is_next took put answered legal order' after moment = (
+coming_taken old new line next progress then before kept out out' quit keeps some short is_next took put done quits legal order' after moment = (
   _,
-  answered.put,
+  done.put,
   λ lines due at.
-      let entries = answered.followed.entries in
-      let row : Row = Comes next asked entries answered.text kept in
+      let entries = done.entries in
+      let row : Row = Comes next entries done.bytes kept in
       let knew : before ≡ remembered at.rows next.session =
       same_Some before (remembered at.rows next.session) (sym took ∙ at.memories.each next.session is_next.spelled.first is_next.spelled.last) in
-      let ordered = some_rows old.order progress at.rows at.ordered order in
-      let may = is_next.order (arrivals_of at.rows) ordered.1 in
+      let ordered = keeps at.rows at.ordered in
+      let may = is_next.order (seated_by at.rows) (arrivals_of at.rows) ordered in
       let server : new.server ≡ record { opening = opening_parts; log = history_of at.rows ++ entries } =
-      server_more lines old due at entries new.server (ap (λ (s : ServerState). s.opening) answered.followed.more) (ap (λ (s : ServerState). s.log) answered.followed.more) in
-      let rows_came : arrivals_of (at.rows ++ row ∷ []) ≡ arrivals_of at.rows ++ came next ∷ [] = came-append at.rows (row ∷ []) in
+      server_more lines old due at entries new.server (ap (λ (s : ServerState). s.opening) done.more) (ap (λ (s : ServerState). s.log) done.more) in
+      let came : Arrival = record { line = next; quit = quit_of next.event kept } in
+      let rows_came : arrivals_of (at.rows ++ row ∷ []) ≡ arrivals_of at.rows ++ came ∷ [] = came-append at.rows (row ∷ []) in
+      let then_after : IsAfter then (seated_by at.rows) (arrivals_of at.rows ++ came ∷ []) =
+      subst (λ (q : Bool). IsAfter then (seated_by at.rows) (arrivals_of at.rows ++ record { line = next; quit = q } ∷ [])) quits (after (seated_by at.rows) (arrivals_of at.rows) ordered may) in
       one_line_more lines old new due at line row (written_line line some) is_next.text
       (record {
-        seated = ordered.0;
         spelled = is_next.spelled;
         short = subst IsLine is_next.text short;
         order = may;
-        reads = is_next.reads;
-        within = subst (λ (parts : List Part). is_beyond_grammar parts next.session asked ≡ false) (parts_at lines old due at) is_next.within;
-        follows = subst (λ (m : MemoryState). Follows (input_course asked m) next.session next.moment entries answered.text kept) knew answered.followed.follows;
+        does = subst (λ (m : MemoryState). Does next.event m next.session next.moment entries done.bytes kept) knew done.does;
         legal = legal_more at.rows entries new.server server legal;
       })
       server
-      (subst (λ (o : Option Attendance). IsOrdered o (at.rows ++ row ∷ [])) (sym order')
-      (no_snoc at.rows row, subst (IsAfter then seats) (sym rows_came) (after (arrivals_of at.rows) ordered.1 may)))
-      (moment ∙ sym (ap last_moment rows_came ∙ last-push (arrivals_of at.rows) (came next)))
+      (subst (λ (o : Option Attendance). IsOrdered o (at.rows ++ row ∷ [])) (sym order') (
+        no_snoc at.rows row,
+        subst (λ (n : ℕ). IsAfter then n (arrivals_of (at.rows ++ row ∷ []))) (sym (seated-push at.rows next entries done.bytes kept))
+            (subst (IsAfter then (seated_by at.rows)) (sym rows_came) then_after),
+      ))
+      (moment ∙ sym (ap last_moment rows_came ∙ last-push (arrivals_of at.rows) came))
       (subst (λ (m : List MemoryState). AreMemories m (remembered (at.rows ++ row ∷ []))) (sym put)
-      (one_memory old.memories at.rows next asked entries answered.text kept is_next.spelled.first at.memories)),
+      (one_memory old.memories at.rows next entries done.bytes kept is_next.spelled.first at.memories)),
 )
 
 -- ---- the end
-
--- after the seat line the sessions that are left are those that are here
-left_of_rows : (rows : List Row) → rows ≢ [] → left_of seats (arrivals_of rows) ≡ left_by rows
-left_of_rows [] some = absurd (some refl)
-left_of_rows (row ∷ rows) some = refl
 
 -- those that were here have left
 pub closed_after : (old new : EveningState) (progress : Attendance) → old.order ≡ Some progress → AfterLeaving progress old.memories old.moment 64 old.server new.server
     → Legal house new.server.opening new.server.log → IsClosed old new
 closed_after old new progress order leaving legal lines due at =
-    let ordered = some_rows old.order progress at.rows at.ordered order in
-    let left = leaving (arrivals_of at.rows) (remembered at.rows) ordered.1 at.memories in
+    let ordered = keeps_some progress old.order order at.rows at.ordered in
+    let left = leaving (seated_by at.rows) (arrivals_of at.rows) (remembered at.rows) ordered at.memories in
     let server : new.server ≡ record { opening = opening_parts; log = history_of at.rows ++ left.0 } =
     server_more lines old due at left.0 new.server (ap (λ (s : ServerState). s.opening) left.1) (ap (λ (s : ServerState). s.log) left.1) in
     record {
       entries = left.0;
-      leave = subst (λ (sessions : List ℕ). LeaveInOrder (remembered at.rows) (last_moment (arrivals_of at.rows)) sessions left.0) (left_of_rows at.rows ordered.0)
-          (subst (λ (moment : ℕ). LeaveInOrder (remembered at.rows) moment (left_of seats (arrivals_of at.rows)) left.0) at.last left.2);
+      leave = subst (λ (moment : ℕ). LeaveInOrder (remembered at.rows) moment (left_by at.rows) left.0) at.last left.2;
       more = left.1;
       legal = subst (λ (parts : List Part). Legal house parts left.0) (sym (parts_at lines old due at)) (legal_more at.rows left.0 new.server server legal);
     }
 
--- before the seat line nobody leaves
+-- before the first line nobody is there
+nobody_left : left_of 0 [] ≡ []
+nobody_left = refl
+
+-- and nobody leaves
 pub closed_before : (old new : EveningState) → old.order ≡ None → new.server ≡ old.server → IsClosed old new
 closed_before old new first server lines due at =
     let none : [] ≡ at.rows = sym (no_rows old.order at.rows at.ordered first) in
+    let nobody : LeaveInOrder (remembered []) (last_moment (arrivals_of [])) (left_by []) [] =
+    subst (λ (sessions : List ℕ). LeaveInOrder (remembered []) 0 sessions []) (sym nobody_left) refl in
     record {
       entries = [];
-      leave = subst (λ (rows : List Row). LeaveInOrder (remembered rows) (last_moment (arrivals_of rows)) (left_by rows) []) none refl;
+      leave = subst (λ (rows : List Row). LeaveInOrder (remembered rows) (last_moment (arrivals_of rows)) (left_by rows) []) none nobody;
       more = server ∙ ap (λ (l : Log). record old.server { log = l }) (sym (append-nil old.server.log));
       legal = tt;
     }

@@ -10,13 +10,13 @@ use Rattle.replay_core.specs.declared.order.Attendance.{Attendance}
 use Rattle.replay_core.specs.Order.{Arrival, is_here}
 use Rattle.replay_core.specs.Attendance.{IsAfter}
 use Rattle.session_core.specs.Course.{Follows}
-use Rattle.session_core.specs.Memory.{MemoryState, untold}
-use Rattle.session_core.specs.Session.{leaving}
-use Rattle.replay_command.specs.Evening.{AfterLeaving, HasLeft, LeaveInOrder, seats}
+use Rattle.session_core.specs.Memory.{MemoryState, newcomer}
+use Rattle.session_core.specs.Going.{departing}
+use Rattle.replay_command.specs.Evening.{AfterLeaving, HasGone, LeaveInOrder}
 
 -- one session more leaves
 leave-push : (remember : ℕ → MemoryState) (moment : ℕ) (sessions : List ℕ) (session : ℕ) (made own : Log) (last : MemoryState) → LeaveInOrder remember moment sessions made
-    → Follows (leaving (remember session)) session moment own [] last → LeaveInOrder remember moment (sessions ++ session ∷ []) (made ++ own)
+    → Follows (departing (remember session)) session moment own [] last → LeaveInOrder remember moment (sessions ++ session ∷ []) (made ++ own)
 leave-push remember moment [] session made own last h f = (own, [], last, ap (λ (m : Log). m ++ own) h ∙ sym (append-nil own), f, refl)
 leave-push remember moment (first ∷ sessions) session made own last h f =
     (h.0, h.1 ++ own, h.2, ap (λ (m : Log). m ++ own) h.3 ∙ append_assoc h.0 h.1 own, h.4, leave-push remember moment sessions session h.1 own last h.5 f)
@@ -48,35 +48,34 @@ pub left_none : (memories now : List MemoryState) (gone : ℕ) → AreLeft memor
 left_none memories now gone h = record { count = h.count; rest = λ place d low. h.rest place d (omega (arith, low)) }
 
 -- the next session was here, and has left
-pub one_leaves : (progress : Attendance) (memories now : List MemoryState) (memory : MemoryState) (moment place : ℕ) (old mid new : ServerState) (here : Bool) → Tells progress (place + 1) here → here ≡ true → place < 64
-    → AfterLeaving progress memories moment place old mid → AreLeft memories now place → slice_get now place ≡ Some memory → HasLeft memory (place + 1) moment mid new
+pub one_leaves : (progress : Attendance) (memories now : List MemoryState) (memory last : MemoryState) (moment place : ℕ) (old mid new : ServerState) (here : Bool) → Tells progress (place + 1) here → here ≡ true → place < 64
+    → AfterLeaving progress memories moment place old mid → AreLeft memories now place → slice_get now place ≡ Some memory → HasGone memory (place + 1) moment mid new last
     → AfterLeaving progress memories moment (place + 1) old new
-one_leaves progress memories now memory moment place old mid new here tells is_so low before left took gone lines remember after are =
-    let followed = gone.1 in
+one_leaves progress memories now memory last moment place old mid new here tells is_so low before left took gone seated lines remember after are =
     let back : place + 1 - 1 ≡ place = omega arith in
-    let earlier = before lines remember after are in
+    let earlier = before seated lines remember after are in
     let knew : memory ≡ remember (place + 1) =
-    sym (get_or_from_slice_get now place memory untold took)
-    ∙ left.rest place untold (omega arith)
-    ∙ get_or_from_slice_get memories place (remember (place + 1)) untold
+    sym (get_or_from_slice_get now place memory newcomer took)
+    ∙ left.rest place newcomer (omega arith)
+    ∙ get_or_from_slice_get memories place (remember (place + 1)) newcomer
     (ap (slice_get memories) (sym back) ∙ are.each (place + 1) (omega arith) (omega (arith, low))) in
-    let is : is_here seats lines (place + 1) ≡ true = sym (tells seats lines after) ∙ is_so in
-    let sessions : filter (is_here seats lines) (range_with_len 1 (place + 1)) ≡ filter (is_here seats lines) (range_with_len 1 place) ++ (place + 1) ∷ [] =
-    filter-range (is_here seats lines) place ∙ ap (λ (b : Bool). filter (is_here seats lines) (range_with_len 1 place) ++ cond b ((place + 1) ∷ []) []) is in (
-      earlier.0 ++ followed.entries,
-      followed.more ∙ ap (λ (s : ServerState). record s { log = s.log ++ followed.entries }) earlier.1 ∙ ap (λ (l : Log). record old { log = l }) (append_assoc old.log earlier.0 followed.entries),
-      subst (λ (xs : List ℕ). LeaveInOrder remember moment xs (earlier.0 ++ followed.entries)) (sym sessions)
-          (leave-push remember moment (filter (is_here seats lines) (range_with_len 1 place)) (place + 1) earlier.0 followed.entries gone.0 earlier.2
-          (subst (λ (m : MemoryState). Follows (leaving m) (place + 1) moment followed.entries [] gone.0) knew followed.follows)),
+    let is : is_here seated lines (place + 1) ≡ true = sym (tells seated lines after) ∙ is_so in
+    let sessions : filter (is_here seated lines) (range_with_len 1 (place + 1)) ≡ filter (is_here seated lines) (range_with_len 1 place) ++ (place + 1) ∷ [] =
+    filter-range (is_here seated lines) place ∙ ap (λ (b : Bool). filter (is_here seated lines) (range_with_len 1 place) ++ cond b ((place + 1) ∷ []) []) is in (
+      earlier.0 ++ gone.entries,
+      gone.more ∙ ap (λ (s : ServerState). record s { log = s.log ++ gone.entries }) earlier.1 ∙ ap (λ (l : Log). record old { log = l }) (append_assoc old.log earlier.0 gone.entries),
+      subst (λ (xs : List ℕ). LeaveInOrder remember moment xs (earlier.0 ++ gone.entries)) (sym sessions)
+          (leave-push remember moment (filter (is_here seated lines) (range_with_len 1 place)) (place + 1) earlier.0 gone.entries last earlier.2
+          (subst (λ (m : MemoryState). Follows (departing m) (place + 1) moment gone.entries [] last) knew gone.follows)),
     )
 
 -- the next session wasn't here
 pub one_stays : (progress : Attendance) (memories : List MemoryState) (moment place : ℕ) (old mid : ServerState) (here : Bool) → Tells progress (place + 1) here → here ≡ false
     → AfterLeaving progress memories moment place old mid → AfterLeaving progress memories moment (place + 1) old mid
-one_stays progress memories moment place old mid here tells is_not before lines remember after are =
-    let earlier = before lines remember after are in
-    let is : is_here seats lines (place + 1) ≡ false = sym (tells seats lines after) ∙ is_not in
-    let sessions : filter (is_here seats lines) (range_with_len 1 (place + 1)) ≡ filter (is_here seats lines) (range_with_len 1 place) =
-    filter-range (is_here seats lines) place ∙ ap (λ (b : Bool). filter (is_here seats lines) (range_with_len 1 place) ++ cond b ((place + 1) ∷ []) []) is
-    ∙ append-nil (filter (is_here seats lines) (range_with_len 1 place)) in
+one_stays progress memories moment place old mid here tells is_not before seated lines remember after are =
+    let earlier = before seated lines remember after are in
+    let is : is_here seated lines (place + 1) ≡ false = sym (tells seated lines after) ∙ is_not in
+    let sessions : filter (is_here seated lines) (range_with_len 1 (place + 1)) ≡ filter (is_here seated lines) (range_with_len 1 place) =
+    filter-range (is_here seated lines) place ∙ ap (λ (b : Bool). filter (is_here seated lines) (range_with_len 1 place) ++ cond b ((place + 1) ∷ []) []) is
+    ∙ append-nil (filter (is_here seated lines) (range_with_len 1 place)) in
     (earlier.0, earlier.1, subst (λ (xs : List ℕ). LeaveInOrder remember moment xs earlier.0) (sym sessions) earlier.2)

@@ -1,4 +1,5 @@
 pub mod ActsMade
+pub mod Doings
 pub mod EveningAnswers
 pub mod Leaving
 pub mod Memories

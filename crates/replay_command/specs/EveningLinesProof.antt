@@ -7,8 +7,8 @@ use Rattle.std.proofs.lemmas.Option.{slice_get-get_or}
 use Rattle.replay_core.specs.declared.order.Attendance.{Attendance}
 use Rattle.replay_core.specs.Order.{Arrival}
 use Rattle.replay_core.specs.Attendance.{IsAfter, presence_of}
-use Rattle.session_core.specs.Memory.{MemoryState, untold}
-use Rattle.replay_command.specs.Evening.{Row, Seats, Comes, AreMemories, EveningState, IsOrdered, Reached, IsEvening, MayFollow, is_written, line_of, entries_of, text_of_row, history_of, transcript_of, arrivals_of, last_moment, opening_parts, remembered, seats}
+use Rattle.session_core.specs.Memory.{MemoryState, newcomer}
+use Rattle.replay_command.specs.Evening.{Row, Seats, Comes, AreMemories, EveningState, IsOrdered, Reached, IsEvening, MayFollow, is_written, line_of, entries_of, text_of_row, history_of, transcript_of, arrivals_of, last_moment, opening_parts, remembered, seated_by}
 use Rattle.line_answers.specs.Handling.{AreLines, IsOutside}
 use Rattle.replay_command.specs.EveningsProof.{evening_step, history-push, transcript-push, lines-append, one_evening}
 
@@ -46,12 +46,12 @@ progress_after seats lines = record {
 
 order_of : List Row → Option Attendance
 order_of [] = None
-order_of (row ∷ rows) = Some (progress_of seats (arrivals_of (row ∷ rows)))
+order_of (row ∷ rows) = Some (progress_of (seated_by (row ∷ rows)) (arrivals_of (row ∷ rows)))
 
 order_kept : (rows : List Row) → IsOrdered (order_of rows) rows
 unfolding order_of
 order_kept [] = refl
-order_kept (row ∷ rows) = (λ e. absurd cc, progress_after seats (arrivals_of (row ∷ rows)))
+order_kept (row ∷ rows) = (λ e. absurd cc, progress_after (seated_by (row ∷ rows)) (arrivals_of (row ∷ rows)))
 
 -- what each session remembers
 memories_of : (ℕ → MemoryState) → List MemoryState
@@ -64,8 +64,8 @@ memories_kept remember =
     record {
       count = count;
       each = λ session first last.
-          slice_get-get_or (map remember (range_with_len 1 64)) (session - 1) untold (omega (arith, count, first, last))
-          ∙ ap Some (get_or-map-range_with_len remember 1 64 (session - 1) session untold (omega (arith, first, last)) (omega (arith, first, last)));
+          slice_get-get_or (map remember (range_with_len 1 64)) (session - 1) newcomer (omega (arith, count, first, last))
+          ∙ ap Some (get_or-map-range_with_len remember 1 64 (session - 1) session newcomer (omega (arith, first, last)) (omega (arith, first, last)));
     }
 
 -- the place that some rows bring an evening to
@@ -154,7 +154,7 @@ none_has lines evening due at line written none other text reached =
 
 row_short : (before : List Row) (row : Row) → MayFollow before row → length (line_of row) ≤ 1023
 row_short before (Seats seat made) h = h.short.0
-row_short before (Comes line asked made text memory) h = h.short.0
+row_short before (Comes line made bytes memory) h = h.short.0
 
 empty_line : (lines : List (List ℕ)) (evening : EveningState) (due : List ℕ) → Reached lines evening due → Reached (lines ++ [] ∷ []) evening due
 empty_line lines evening due at = record {

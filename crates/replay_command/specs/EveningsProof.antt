@@ -1,5 +1,5 @@
 -- Evenings: one row more, prefixes, legal histories, and that the lines fix the rows.
-use Rattle.std.proofs.Common.{◌≡◌, ◌↔◌, false, ℕ, List, [], ◌∷◌, ◌++◌, map, append_assoc, append-nil, refl, sym, ap, subst, ◌∙◌}
+use Rattle.std.proofs.Common.{◌≡◌, ◌↔◌, ℕ, List, [], ◌∷◌, ◌++◌, map, append_assoc, append-nil, refl, sym, ap, subst, ◌∙◌}
 use Rattle.std.proofs.lemmas.List.Sums.{fold-append}
 use Rattle.std.proofs.lemmas.Option.{same_Some}
 use Rattle.histories.specs.History.{state, Legal}
@@ -11,13 +11,10 @@ use Rattle.replay_core.specs.declared.script.ScriptLine.{ScriptLine}
 use Rattle.replay_core.specs.declared.seat_line.SeatLine.{SeatLine}
 use Rattle.replay_core.specs.Order.{Arrival}
 use Rattle.replay_core.proofs.Events.{one_line}
-use Rattle.replay_core.proofs.Seats.{one_seat_line}
-use Rattle.session_core.specs.declared.input.Input.{Input}
-use Rattle.session_core.specs.Course.{Follows}
-use Rattle.session_core.specs.Memory.{MemoryState, untold}
-use Rattle.session_core.specs.Session.{input_course}
-use Rattle.replay_command.specs.Evening.{Row, Seats, Comes, line_of, entries_of, text_of_row, history_of, transcript_of, arrivals_of, opening_parts, parts_after, remembered, remembered_after, seating_acts, IsSeating, IsComing, MayFollow, FollowInOrder, IsEvening, input_of, asked_of}
-use Rattle.replay_command.specs.FollowingProof.{one_following, one_asking}
+use Rattle.replay_core.proofs.Seats.{one_seat_line, seat_apart}
+use Rattle.session_core.specs.Memory.{MemoryState, newcomer}
+use Rattle.replay_command.specs.Evening.{Row, Seats, Comes, Does, line_of, entries_of, text_of_row, history_of, transcript_of, arrivals_of, opening_parts, parts_after, quit_of, remembered, remembered_after, seated_by, seating_acts, IsSeating, IsComing, MayFollow, FollowInOrder, IsEvening, asked_of}
+use Rattle.replay_command.specs.FollowingProof.{one_doing, one_asking}
 
 -- ---- rows one after another
 
@@ -32,7 +29,7 @@ transcript-append (row ∷ rows) more = ap (λ (t : List ℕ). text_of_row row +
 pub came-append : (rows more : List Row) → arrivals_of (rows ++ more) ≡ arrivals_of rows ++ arrivals_of more
 came-append [] more = refl
 came-append (Seats seat made ∷ rows) more = came-append rows more
-came-append (Comes line asked made text memory ∷ rows) more = ap (λ (c : List Arrival). record { line = line; quit = false } ∷ c) (came-append rows more)
+came-append (Comes line made bytes memory ∷ rows) more = ap (λ (c : List Arrival). record { line = line; quit = quit_of line.event memory } ∷ c) (came-append rows more)
 
 pub lines-append : (rows more : List Row) → map line_of (rows ++ more) ≡ map line_of rows ++ map line_of more
 lines-append [] more = refl
@@ -45,9 +42,15 @@ history-push rows row = history-append rows (row ∷ []) ∙ ap (λ (h : Log). h
 pub transcript-push : (rows : List Row) (row : Row) → transcript_of (rows ++ row ∷ []) ≡ transcript_of rows ++ text_of_row row
 transcript-push rows row = transcript-append rows (row ∷ []) ∙ ap (λ (t : List ℕ). transcript_of rows ++ t) (append-nil (text_of_row row))
 
+-- a session's line seats nobody
+pub seated-push : (rows : List Row) (line : ScriptLine) (made : Log) (bytes : List ℕ) (memory : MemoryState) → seated_by (rows ++ Comes line made bytes memory ∷ []) ≡ seated_by rows
+seated-push [] line made bytes memory = refl
+seated-push (Seats seat before ∷ rows) line made bytes memory = refl
+seated-push (Comes first before text kept ∷ rows) line made bytes memory = refl
+
 -- what a session remembers
 pub remembered-push : (rows : List Row) (row : Row) (session : ℕ) → remembered (rows ++ row ∷ []) session ≡ remembered_after session (remembered rows session) row
-remembered-push rows row session = fold-append (remembered_after session) untold rows (row ∷ [])
+remembered-push rows row session = fold-append (remembered_after session) newcomer rows (row ∷ [])
 
 -- the state after the entries of more rows
 pub parts-append : (rows more : List Row) → parts_after (rows ++ more) ≡ state house (parts_after rows) (history_of more)
@@ -77,7 +80,7 @@ evening_step rows row = follow_step [] rows row
 -- what a row made is legal in the state before it
 pub row_legal : (before : List Row) (row : Row) → MayFollow before row → Legal house (parts_after before) (entries_of row)
 row_legal before (Seats seat made) h = subst (λ (rows : List Row). Legal house (parts_after rows) made) (sym h.first) h.legal
-row_legal before (Comes line asked made text memory) h = h.legal
+row_legal before (Comes line made bytes memory) h = h.legal
 
 rows_legal : (before later : List Row) → FollowInOrder before later → Legal house (parts_after before) (history_of later)
 rows_legal before [] h = tt
@@ -98,29 +101,26 @@ same_seats before seat other made made' h k e =
     let asked : map asked_of made ≡ map asked_of made' = h.acts ∙ ap (λ (s : SeatLine). seating_acts s.names s.terms) one ∙ sym k.acts in
     ap (λ (s : SeatLine). Seats s made) one ∙ ap (Seats other) (one_asking opening_parts made made' asked h.legal k.legal)
 
-same_comes : (before : List Row) (line line' : ScriptLine) (asked asked' : Input) (made made' : Log) (text text' : List ℕ) (memory memory' : MemoryState)
-    → IsComing before line asked made text memory → IsComing before line' asked' made' text' memory' → line_of (Comes line asked made text memory) ≡ line_of (Comes line' asked' made' text' memory')
-    → Comes line asked made text memory ≡ Comes line' asked' made' text' memory'
-same_comes before line line' asked asked' made made' text text' memory memory' h k e =
+same_comes : (before : List Row) (line line' : ScriptLine) (made made' : Log) (bytes bytes' : List ℕ) (memory memory' : MemoryState)
+    → IsComing before line made bytes memory → IsComing before line' made' bytes' memory' → line_of (Comes line made bytes memory) ≡ line_of (Comes line' made' bytes' memory')
+    → Comes line made bytes memory ≡ Comes line' made' bytes' memory'
+same_comes before line line' made made' bytes bytes' memory memory' h k e =
     let one : line ≡ line' = one_line line line' h.spelled k.spelled e in
-    let input : asked ≡ asked' = same_Some asked asked' (sym h.reads ∙ ap (λ (l : ScriptLine). input_of l.event) one ∙ k.reads) in
-    let other : Follows (input_course asked (remembered before line.session)) line.session line.moment made' text' memory' =
-    subst (λ (a : Input). Follows (input_course a (remembered before line.session)) line.session line.moment made' text' memory') (sym input)
-    (subst (λ (l : ScriptLine). Follows (input_course asked' (remembered before l.session)) l.session l.moment made' text' memory') (sym one) k.follows) in
+    let other : Does line.event (remembered before line.session) line.session line.moment made' bytes' memory' =
+    subst (λ (l : ScriptLine). Does l.event (remembered before l.session) l.session l.moment made' bytes' memory') (sym one) k.does in
     let same =
-    one_following (input_course asked (remembered before line.session)) line.session line.moment (parts_after before) made made' text text' memory memory' h.follows other h.legal k.legal in
-    ap (λ (l : ScriptLine). Comes l asked made text memory) one
-    ∙ ap (λ (a : Input). Comes line' a made text memory) input
-    ∙ ap (λ (m : Log). Comes line' asked' m text memory) same.0
-    ∙ ap (λ (t : List ℕ). Comes line' asked' made' t memory) same.1
-    ∙ ap (Comes line' asked' made' text') same.2
+    one_doing line.event (remembered before line.session) line.session line.moment (parts_after before) made made' bytes bytes' memory memory' h.does other h.legal k.legal in
+    ap (λ (l : ScriptLine). Comes l made bytes memory) one
+    ∙ ap (λ (m : Log). Comes line' m bytes memory) same.0
+    ∙ ap (λ (b : List ℕ). Comes line' made' b memory) same.1
+    ∙ ap (Comes line' made' bytes') same.2
 
 -- behind the same rows one line makes one row
 pub one_row : (before : List Row) (row other : Row) → MayFollow before row → MayFollow before other → line_of row ≡ line_of other → row ≡ other
 one_row before (Seats seat made) (Seats other made') h k e = same_seats before seat other made made' h k e
-one_row before (Seats seat made) (Comes line asked made' text memory) h k e = absurd (k.seated h.first)
-one_row before (Comes line asked made text memory) (Seats seat made') h k e = absurd (h.seated k.first)
-one_row before (Comes line asked made text memory) (Comes line' asked' made' text' memory') h k e = same_comes before line line' asked asked' made made' text text' memory memory' h k e
+one_row before (Seats seat made) (Comes line made' bytes memory) h k e = absurd (seat_apart seat line h.spelled k.spelled e)
+one_row before (Comes line made bytes memory) (Seats seat made') h k e = absurd (seat_apart seat line k.spelled h.spelled (sym e))
+one_row before (Comes line made bytes memory) (Comes line' made' bytes' memory') h k e = same_comes before line line' made made' bytes bytes' memory memory' h k e
 
 rows_once : (before rows other : List Row) → FollowInOrder before rows → FollowInOrder before other → map line_of rows ≡ map line_of other → rows ≡ other
 rows_once before [] [] h k e = refl

@@ -12,8 +12,9 @@ use Rattle.one_server.specs.House.{house}
 use Rattle.one_server.specs.Running.{Log}
 use Rattle.session_core.specs.Course.{Course, Done, Asks, Writes, Follows}
 use Rattle.session_core.specs.Memory.{MemoryState}
-use Rattle.session_core.specs.Session.{leaving}
-use Rattle.replay_command.specs.Evening.{LeaveInOrder, asked_of}
+use Rattle.session_core.specs.Going.{departing}
+use Rattle.replay_core.specs.declared.script.ScriptEvent.{ScriptEvent}
+use Rattle.replay_command.specs.Evening.{Does, LeaveInOrder, asked_of, bytes_of, course_of}
 
 -- an entry is fixed by its session, its act and its reply
 same_entry : (one other : Entry Timed Reply) → one.session ≡ other.session → one.act ≡ other.act → one.reply ≡ other.reply → one ≡ other
@@ -52,6 +53,17 @@ one_following (Asks act rest) session moment parts (e ∷ made) (d ∷ other) te
     let rests = one_following (rest e.reply) session moment (after house parts e.session e.act) made other text text' memory memory' f.1 follows l.2 legal in
     (ap (λ (x : Entry Timed Reply). x ∷ made) same ∙ ap (λ (xs : Log). d ∷ xs) rests.0, rests.1, rests.2)
 
+-- what an event does in one state is the same
+pub one_doing : (what : ScriptEvent) (before : MemoryState) (session moment : ℕ) (parts : List Part) (made other : Log) (bytes bytes' : List ℕ) (after after' : MemoryState)
+    → Does what before session moment made bytes after → Does what before session moment other bytes' after' → Legal house parts made → Legal house parts other
+    → (made ≡ other) × (bytes ≡ bytes') × (after ≡ after')
+one_doing what before session moment parts made other bytes bytes' after after' h k l m =
+    let same = one_following (course_of what before) session moment parts made other h.text k.text after after' h.follows k.follows l m in (
+      same.0,
+      h.answer ∙ ap (λ (t : List ℕ). bytes_of what before after t) same.1 ∙ ap (λ (a : MemoryState). bytes_of what before a k.text) same.2 ∙ sym k.answer,
+      same.2,
+    )
+
 -- the entries of one list of acts and one state are the same
 pub one_asking : (parts : List Part) (made other : Log) → map asked_of made ≡ map asked_of other → Legal house parts made → Legal house parts other → made ≡ other
 one_asking parts [] [] e l m = refl
@@ -78,7 +90,7 @@ one_leaving remember moment (session ∷ sessions) parts made other f g l m =
     let whole : Legal house parts (f.0 ++ f.1) = subst (Legal house parts) f.3 l in
     let whole' : Legal house parts (g.0 ++ g.1) = subst (Legal house parts) g.3 m in
     let own : f.0 ≡ g.0 =
-    (one_following (leaving (remember session)) session moment parts f.0 g.0 [] [] f.2 g.2 f.4 g.4 (legal_front house parts f.0 f.1 whole) (legal_front house parts g.0 g.1 whole')).0 in
+    (one_following (departing (remember session)) session moment parts f.0 g.0 [] [] f.2 g.2 f.4 g.4 (legal_front house parts f.0 f.1 whole) (legal_front house parts g.0 g.1 whole')).0 in
     let later : Legal house (state house parts f.0) g.1 = subst (λ (h : Log). Legal house (state house parts h) g.1) (sym own) (legal_back parts g.0 g.1 whole') in
     let others : f.1 ≡ g.1 = one_leaving remember moment sessions (state house parts f.0) f.1 g.1 f.5 g.5 (legal_back parts f.0 f.1 whole) later in
     f.3 ∙ ap (λ (h : Log). h ++ f.1) own ∙ ap (λ (h : Log). g.0 ++ h) others ∙ sym g.3

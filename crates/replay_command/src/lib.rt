@@ -4,13 +4,12 @@
 //! transcript is written. The lines fix the evening (`one_evening`).
 #![tactic(auto)]
 
+mod answering;
 mod evening;
 mod evening_laws;
-mod grammar;
 mod replaying;
 mod seating;
 mod tagged;
-mod waiting;
 
 pub use evening_laws::{evening_examples, lines_of_evenings, one_evening};
 pub use replaying::replay;

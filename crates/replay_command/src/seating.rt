@@ -1,13 +1,15 @@
 //! The acts that seat the players of a seat line.
 
-ghost use Rattle.std.specs.Prelude.{◌≡◌, ◌∷◌, [], OnOk};
+ghost use Rattle.std.specs.Prelude.{◌≡◌, ◌∷◌, [], None, OnOk, Some};
+ghost use Rattle.lobby_state.specs.declared.acts.LobbyAct.TheVariants as lobby_act;
+ghost use Rattle.one_server.specs.declared.act.Act.TheVariants.{Lobby};
 ghost use Rattle.chess_model.specs.declared.variant.Variant.TheVariants.{Chess};
 ghost use Rattle.one_server.specs.Acts.{FitsAct};
 ghost use Rattle.replay_core.specs.SeatLine.{IsSeatLine};
 ghost use Rattle.session_core.specs.Course.{timed};
 ghost use Rattle.replay_command.specs.Evening.{HasMade, seating_acts};
 
-use fics_words::NoMemory;
+use fics_words::{Handle, NoMemory};
 use lobby_state::{LobbyAct, PairAct};
 use one_server::{Act, OneServer};
 use replay_core::SeatLine;
@@ -23,22 +25,8 @@ pub fn seat(server: &mut OneServer, line: &SeatLine) -> Result<(), NoMemory>
     let names = line.names.as_slice();
     let white = names[0];
     let black = names[1];
-    make(
-        server,
-        1,
-        Act::Lobby(LobbyAct::Enter {
-            name: Some(white),
-            digest: None,
-        }),
-    )?;
-    make(
-        server,
-        2,
-        Act::Lobby(LobbyAct::Enter {
-            name: Some(black),
-            digest: None,
-        }),
-    )?;
+    make(server, 1, entering(white))?;
+    make(server, 2, entering(black))?;
     let to = black.key();
     let terms = line.terms;
     make(server, 1, Act::Lobby(LobbyAct::Match { to, terms }))?;
@@ -55,4 +43,14 @@ fn make(server: &mut OneServer, session: u32, act: Act) -> Result<(), NoMemory>
 {
     let _reply = server.run(session, 0, act)?;
     Ok(())
+}
+
+/// The act of entering under a name.
+fn entering(name: Handle) -> Act
+    ensures { result ≡ Lobby (lobby_act.Enter (Some name) None) }
+{
+    Act::Lobby(LobbyAct::Enter {
+        name: Some(name),
+        digest: None,
+    })
 }

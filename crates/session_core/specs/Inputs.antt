@@ -1,5 +1,6 @@
 -- What a session does for an input, and what it answers. This server's own.
-use Rattle.std.specs.Prelude.{ℕ, Bool, true, false, ◌||◌, if◌then◌else◌, List, [], ◌∷◌, ◌++◌, Option, None, Some, Result, Ok, Err, codes, nat_eq}
+use Rattle.std.specs.Prelude.{ℕ, Bool, true, false, ◌||◌, if◌then◌else◌, List, [], ◌∷◌, ◌++◌, codes, nat_eq}
+use Rattle.std.specs.Prelude.{Option, None, Some, Result, Ok, Err}
 use Rattle.std.specs.List.{starts_with}
 use Rattle.clock_ledger.specs.Span.{IsStamp}
 use Rattle.command_words.specs.declared.aliases.Alias.{Alias}
@@ -78,7 +79,9 @@ quiet_course _ memory = Done memory
 abbrev pub input_course : Input → MemoryState → Course
 input_course Quiet memory = quiet_course memory.standing memory
 input_course (Line line) memory =
-    if is_greeting memory.link line then Done (record memory { link = Stamped }) else line_course line (past_line memory)
+    if is_greeting memory.link line
+    then Done (record memory { link = Stamped })
+    else line_course line (past_line memory)
 
 abbrev pub is_ack : Incoming → Bool
 is_ack (incoming.Ack stamp) = true

@@ -1,7 +1,7 @@
 //! How a session begins to answer an input, up to its first act.
 ghost use Rattle.std.specs.Prelude.{◌≡◌, IfOk, None, true};
 ghost use Rattle.session_core.specs.Inputs.{FitsInput, HasStamp, ack_course, asked_course, input_course, is_greeting};
-ghost use Rattle.session_core.specs.Inputs.{line_course, past_line, quiet_course, refusing, stamp_on, text_course};
+ghost use Rattle.session_core.specs.Inputs.{line_course, quiet_course, refusing, stamp_on, text_course};
 ghost use Rattle.session_core.specs.Memory.{has_entered};
 ghost use Rattle.session_core.specs.Stages.{FitsStamp, IsPrepared, Settles, first_course};
 ghost use Rattle.clock_ledger.specs.Span.{IsStamp};

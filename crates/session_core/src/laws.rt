@@ -1,6 +1,6 @@
 //! What a course says, as laws: calls that do nothing. They tell what the definition means, and tie nothing to the
 //! program; that the program follows it is what `take` and `leave` ensure.
-ghost use Rattle.std.specs.Prelude.{◌≡◌, true, false, ◌++◌, ◌∷◌, [], ℕ, List, None, Some};
+ghost use Rattle.std.specs.Prelude.{◌≡◌, true, false, ◌++◌, ◌∷◌, ℕ, List, None, Some};
 ghost use Rattle.histories.specs.declared.entry.Entry.{Entry};
 ghost use Rattle.one_server.specs.declared.act.Timed.{Timed};
 ghost use Rattle.one_server.specs.declared.reply.Reply.{Reply};

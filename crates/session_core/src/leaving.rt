@@ -5,7 +5,8 @@ ghost use Rattle.session_core.specs.Course.{Asks, nothing_told};
 ghost use Rattle.session_core.specs.Going.{Left, LeftInPart, Passed, Went};
 ghost use Rattle.session_core.specs.Memory.{is_gone};
 ghost use Rattle.session_core.specs.Session.{leaving};
-ghost use Rattle.session_core.specs.Stages.{HasGone, IsReady, LeavesDesk, acts_left, acts_of_leaving, course_of, leaves};
+ghost use Rattle.session_core.specs.Stages.{HasGone, IsReady, LeavesDesk, acts_left, acts_of_leaving};
+ghost use Rattle.session_core.specs.Stages.{course_of, leaves};
 
 use crate::leaving_stage::{LeavingStage, ask_going};
 use crate::next::Next;

@@ -2,7 +2,8 @@
 ghost use Rattle.std.specs.Prelude.{◌≡◌, ◌≤◌, ◌*◌, ◌+◌, length};
 ghost use Rattle.session_core.specs.Memory.{MemoryState};
 ghost use Rattle.session_core.specs.Session.{leave_places};
-ghost use Rattle.session_core.specs.Stages.{HasGone, IsReady, LeavesDesk, acts_left, acts_of_leaving, course_of, leaves};
+ghost use Rattle.session_core.specs.Stages.{HasGone, IsReady, LeavesDesk, acts_left, acts_of_leaving};
+ghost use Rattle.session_core.specs.Stages.{course_of, leaves};
 
 use crate::next::Next;
 use crate::rest::Rest;

@@ -2,9 +2,10 @@
 ghost use Rattle.std.specs.Prelude.{◌≡◌, IfOk, None, Some, false};
 ghost use Rattle.command_words.specs.Texts.{handle_of};
 ghost use Rattle.session_core.specs.Going.{is_entered};
-ghost use Rattle.session_core.specs.Login.{admitted, entered_as, entering_named, is_guest, naming, password_of, proving, turned_away};
-ghost use Rattle.session_core.specs.Memory.{has_entered, is_in, stands_at};
-ghost use Rattle.session_core.specs.Stages.{IsPrepared, IsReady, IsSet, Settles, continues, course_of, first_course};
+ghost use Rattle.session_core.specs.Login.{admitted, entered_as, entering_named, is_guest, naming};
+ghost use Rattle.session_core.specs.Login.{password_of, proving, turned_away};
+ghost use Rattle.session_core.specs.Memory.{has_entered, is_in};
+ghost use Rattle.session_core.specs.Stages.{IsPrepared, Settles, continues, course_of, first_course};
 
 use crate::first::First;
 use crate::next::Next;

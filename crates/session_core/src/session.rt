@@ -79,7 +79,8 @@ impl Session {
         requires fits { FitsInput input }
         ensures home { R.home r.new ≡ R.home r.old }
         ensures answered { IfOk result (λ wrote. Answered (input_course input self.old)
-            (answer_text input self.old self.new) moment (R.state r.old) [] (R.state r.new) wrote.bytes.items self.new) }
+            (answer_text input self.old self.new) moment (R.state r.old) []
+            (R.state r.new) wrote.bytes.items self.new) }
         ensures quit { IfOk result (λ wrote. wrote.quit ≡ is_gone self.new) }
         ensures broke { OnErr result (Broke (input_course input self.old) moment (R.state r.old) self.old
             (R.state r.new) self.new) }

@@ -1,8 +1,8 @@
 //! What a session remembers from one input to the next.
 ghost use Rattle.std.specs.Prelude.{◌≡◌, ◌≤◌, IfSome, length};
 ghost use Rattle.lobby_state.specs.Desks.{IsDesk};
-ghost use Rattle.session_core.specs.Login.{admitted};
-ghost use Rattle.session_core.specs.Memory.{departed, has_entered, is_gone, newcomer, past_first, present_in, seated, stands_at, told};
+ghost use Rattle.session_core.specs.Memory.{departed, is_gone, newcomer, past_first, present_in, seated};
+ghost use Rattle.session_core.specs.Memory.{stands_at, told};
 
 use crate::rest::Rest;
 use crate::standing::{LinkMark, Standing};

@@ -7,7 +7,8 @@ ghost use Rattle.one_server.specs.Replies.{IsReply};
 ghost use Rattle.session_core.specs.Course.{Writes};
 ghost use Rattle.session_core.specs.Going.{is_entered};
 ghost use Rattle.session_core.specs.Memory.{MemoryState, has_entered, told};
-ghost use Rattle.session_core.specs.Session.{acking, answered, at_place, clear_at, given_up, placing, rounding, says_over, visits};
+ghost use Rattle.session_core.specs.Session.{acking, answered, at_place, clear_at, given_up};
+ghost use Rattle.session_core.specs.Session.{placing, rounding, says_over, visits};
 ghost use Rattle.session_core.specs.Stages.{IsSet, IsReady, Settles, acts_after, acts_left, continues, course_of};
 ghost use Rattle.session_core.specs.Texts.{news_text, waiting_text};
 
@@ -134,7 +135,8 @@ fn visited(
     requires desk { IsDesk place.now.desk }
     requires fits { IsReply reply.now }
     ensures settles { IfOk result (λ next. Settles
-        (Writes (news_text memory.old.link place.now reply.now) (given_up place.now (says_over reply.now) (visits rest memory.old)))
+        (Writes (news_text memory.old.link place.now reply.now)
+        (given_up place.now (says_over reply.now) (visits rest memory.old)))
         (course_of continues next memory.new) out.old.items out.new.items) }
     ensures ready { IfOk result (IsReady (IsSet memory.new)) }
     ensures fewer { IfOk result (λ next. acts_left acts_after next ≤ 2 * length rest + 1) }

@@ -1,5 +1,5 @@
 //! What a session does for an input.
-ghost use Rattle.std.specs.Prelude.{◌≡◌, ◌≤◌, ◌^◌, OnOk, OnErr};
+ghost use Rattle.std.specs.Prelude.{◌≡◌, ◌≤◌, ◌^◌, OnOk};
 ghost use Rattle.session_core.specs.Going.{Answered, Broke};
 ghost use Rattle.session_core.specs.Inputs.{FitsInput, input_course};
 

@@ -2,7 +2,8 @@
 ghost use Rattle.std.specs.Prelude.{◌≡◌, ◌++◌, All, OnOk, codes};
 ghost use Rattle.linked_desk.specs.Sound.{NamesWinner};
 ghost use Rattle.one_server.specs.Replies.{IsReply};
-ghost use Rattle.session_core.specs.Texts.{asks_back, entered_line, is_own_turn, item_line, item_text, items_text, line_end, lines_text};
+ghost use Rattle.session_core.specs.Texts.{asks_back, entered_line, is_own_turn, item_text, items_text};
+ghost use Rattle.session_core.specs.Texts.{line_end, lines_text};
 ghost use Rattle.session_core.specs.Texts.{news_text, prompt_of, refusal_line, reply_text, waiting_text};
 
 use crate::standing::{LinkMark, Standing};

@@ -71,6 +71,7 @@ fn the_clock_is_asked_for_each_input(rt: HostRuntime) -> Result<(), Fail> {
 }
 
 /// A clock that counts how often it is asked.
+#[derive(Drop)]
 struct CountingClock {
     calls: Cell<u64>,
 }

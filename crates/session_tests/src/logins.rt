@@ -1,6 +1,6 @@
 //! Logins: what is written for each line, until a session has entered and when it quits.
 
-use crate::talks::{Comes, Pair, Row};
+use crate::talks::{Comes, Row, first_failing};
 use std::test::Fail;
 
 #[test]
@@ -20,8 +20,7 @@ fn a_handle_is_registered_and_its_password_asked_for(rt: HostRuntime) -> Result<
         Row(2, 0, Comes::Line(b"Ann"), b"password: "),
         Row(2, 0, Comes::Line(b"abc"), b"Entered as Ann.\n\rfics% "),
     ];
-    let mut pair = Pair::new(rt.alloc())?;
-    assert_eq!(rt; pair.first_failing(&rows), None);
+    assert_eq!(rt; first_failing(rt.alloc(), &rows)?, None);
     Ok(())
 }
 
@@ -79,7 +78,6 @@ fn lines_of_a_login_are_answered(rt: HostRuntime) -> Result<(), Fail> {
         Row(1, 0, Comes::Line(b"quit"), b"Goodbye.\n\r"),
         Row(1, 0, Comes::Line(b"quit"), b""),
     ];
-    let mut pair = Pair::new(rt.alloc())?;
-    assert_eq!(rt; pair.first_failing(&rows), None);
+    assert_eq!(rt; first_failing(rt.alloc(), &rows)?, None);
     Ok(())
 }

@@ -1,7 +1,7 @@
 //! A game over a stamped link: which boards ask for an acknowledgement, and what a move is charged. The board lines are
 //! those of style 12, written out by hand.
 
-use crate::talks::{Comes, Pair, Row};
+use crate::talks::{Comes, Row, first_failing};
 use std::test::Fail;
 
 /// Ben's answer when the game starts: the challenge, and then the start as Black sees it.
@@ -52,8 +52,7 @@ fn a_game_over_a_stamped_link(rt: HostRuntime) -> Result<(), Fail> {
         Row(1, 7_000, Comes::Ack(3_000), b""),
         Row(1, 9_000, Comes::Stamped(b"d2d4", 4_500), THIRD_ANN),
     ];
-    let mut pair = Pair::new(rt.alloc())?;
-    assert_eq!(rt; pair.first_failing(&rows), None);
+    assert_eq!(rt; first_failing(rt.alloc(), &rows)?, None);
     Ok(())
 }
 
@@ -81,7 +80,6 @@ fn a_late_greeting_is_a_name(rt: HostRuntime) -> Result<(), Fail> {
             b"Entered as Ben.\n\rfics% ",
         ),
     ];
-    let mut pair = Pair::new(rt.alloc())?;
-    assert_eq!(rt; pair.first_failing(&rows), None);
+    assert_eq!(rt; first_failing(rt.alloc(), &rows)?, None);
     Ok(())
 }

@@ -28,53 +28,34 @@ pub enum Comes {
 #[derive(Clone, Copy, Debug)]
 pub struct Row(pub u32, pub u32, pub Comes, pub &'static [u8]);
 
-/// A server and its first two sessions.
-#[derive(Drop)]
-pub struct Pair {
-    alloc: Global,
-    pub server: OneServer,
-    one: Session,
-    two: Session,
+/// The place of the first row that two new sessions of a new server answer otherwise, if there is one.
+pub fn first_failing(alloc: Global, rows: &[Row]) -> Result<Option<usize>, Fail> {
+    let mut server = server(alloc)?;
+    let mut one = Session::new(alloc);
+    let mut two = Session::new(alloc);
+    for (place, row) in rows.iter().enumerate() {
+        let bytes = if row.0 == 1 {
+            answer(alloc, &mut server, &mut one, row)?
+        } else {
+            answer(alloc, &mut server, &mut two, row)?
+        };
+        if bytes.as_slice() != row.3 {
+            return Ok(Some(place));
+        }
+    }
+    Ok(None)
 }
 
-impl Pair {
-    /// A server with an empty lobby, and two sessions before their first input.
-    pub fn new(alloc: Global) -> Result<Pair, Fail> {
-        Ok(Pair {
-            alloc,
-            server: server(alloc)?,
-            one: Session::new(alloc),
-            two: Session::new(alloc),
-        })
-    }
-
-    /// The place of the first row that is answered otherwise, if one is.
-    pub fn first_failing(&mut self, rows: &[Row]) -> Option<usize> {
-        for (place, row) in rows.iter().enumerate() {
-            match self.answer(row) {
-                Ok(bytes) => {
-                    if bytes.as_slice() != row.3 {
-                        return Some(place);
-                    }
-                }
-                Err(_) => return Some(place),
-            }
-        }
-        None
-    }
-
-    /// What a session answers to a row.
-    pub fn answer(&mut self, row: &Row) -> Result<Vec<u8>, Fail> {
-        let input = input_of(self.alloc, row.2)?;
-        let session = if row.0 == 1 {
-            &mut self.one
-        } else {
-            &mut self.two
-        };
-        let mut seat = self.server.seat(row.0);
-        let wrote = session.take(&mut seat, u64::from(row.1), input)?;
-        Ok(wrote.bytes)
-    }
+/// What a session answers to a row.
+fn answer(
+    alloc: Global,
+    server: &mut OneServer,
+    session: &mut Session,
+    row: &Row,
+) -> Result<Vec<u8>, Fail> {
+    let input = input_of(alloc, row.2)?;
+    let wrote = session.take(&mut server.seat(row.0), u64::from(row.1), input)?;
+    Ok(wrote.bytes)
 }
 
 /// A server with an empty lobby.

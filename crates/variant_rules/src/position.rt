@@ -1,13 +1,16 @@
 ghost use Rattle.std.specs.Prelude.{◌≡◌, ◌≢◌, ℕ, ◌+◌, ◌<◌, List, [], cond};
 ghost use Rattle.std.specs.Option.{option_map};
 ghost use Rattle.chess_model.specs.Squares.{file_of};
+ghost use Rattle.chess_model.specs.Placement.{man_at};
+ghost use Rattle.chess_model.specs.MoveList.{taken};
 ghost use Rattle.chess_model.specs.Men.{same_kind};
 ghost use Rattle.chess_model.specs.Position.{Stands, hand_of_side};
 ghost use Rattle.chess_model.specs.Holdings.{count_in, hand_of};
 ghost use Rattle.variant_rules.specs.Faces.{LooksLike, Receives};
 
+use crate::changes::taken_by;
 use bitboard_core::{Bits, square_of};
-use chess_model::{Colour, Kind, Man, PlainBoard, Rights, Square, Variant};
+use chess_model::{Colour, Kind, Man, Move, PlainBoard, Rights, Square, Variant};
 use holdings_drops::Holdings;
 use std::marker::Model;
 
@@ -97,6 +100,48 @@ impl Position {
         ensures { result ≡ self.now.to_move }
     {
         self.to_move
+    }
+
+    /// The man on a square.
+    pub fn man(&self, s: Square) -> Option<Man>
+        ensures { result ≡ man_at self.now.men s }
+    {
+        self.men.man(s)
+    }
+
+    /// The men on all squares, by number.
+    pub fn men(&self) -> &[Option<Man>; 64]
+        ensures { result.now ≡ self.now.men }
+    {
+        self.men.squares()
+    }
+
+    /// The en passant square: the one that the last half-move passed over, where it was a double push of a pawn.
+    pub fn en_passant(&self) -> Option<Square>
+        ensures { result ≡ self.now.en_passant }
+    {
+        self.en_passant
+    }
+
+    /// The castling rights that stand.
+    pub fn rights(&self) -> Rights
+        ensures { result ≡ self.now.rights }
+    {
+        self.rights
+    }
+
+    /// Half-moves since the last pawn move, capture or drop; the count stays at 65,535.
+    pub fn quiet(&self) -> u16
+        ensures { result ≡ self.now.quiet }
+    {
+        self.quiet
+    }
+
+    /// The man that a half-move takes, en passant too.
+    pub fn taken(&self, m: &Move) -> Option<Man>
+        ensures { result ≡ taken self.now.men m.now }
+    {
+        taken_by(&self.men, m)
     }
 
     /// What a colour may drop.

@@ -80,12 +80,6 @@ impl Position {
         false
     }
 
-    fn man_here(&self, a: Square) -> Option<Man>
-        ensures { result ≡ man_at self.now.men a }
-    {
-        self.men.man(a)
-    }
-
     fn is_own(&self, m: Man) -> bool
         ensures { IsTrue result ↔ (m.colour ≡ self.now.to_move) }
     {
@@ -109,7 +103,7 @@ impl Position {
         ensures some { IsTrue result → CanMove self.now }
         ensures none { IsFalse result → NoneFrom self.now a }
     {
-        match self.man_here(a) {
+        match self.man(a) {
             Some(m) => self.can_leave_with(m, a),
             None => false,
         }

@@ -1,5 +1,6 @@
-use Rattle.std.proofs.Common.{◌^◌, ◌≤◌, ◌∙◌, arith, le_trans, refl, subst, sym}
+use Rattle.std.proofs.Common.{◌^◌, ◌≤◌, ◌∙◌, ap, arith, le_trans, refl, subst, sym}
 use Rattle.line_reader.specs.Reader.{Reader}
+use Rattle.session_core.specs.Memory.{is_gone}
 use Rattle.session_core.specs.Texts.{opening_text}
 use Rattle.link_core.specs.Steps.{IsDrained, Progress, Stand}
 use Rattle.link_core.proofs.Stepping.{progress_none, stops_opening, stops_opening_memory, stops_spent}
@@ -29,6 +30,7 @@ loop-turn-init g c =
       progress =
           subst (λ (r : Reader). Progress shows start there r 0) (sym c.in-Ok.ensures)
           (progress_none shows start (g.L.Link.tale c.greet.new.link) c.session-session.ensures.known c.requires c.in-Ok-greet.ensures.wrote);
+      here = ap is_gone c.requires;
       counted = c.greet.ensures.counted;
     }
 
@@ -40,6 +42,7 @@ loop-turn-preserved g c =
       home = c.take_turn.ensures.home ∙ c.loop-turn.invariant.home;
       drained = c.in-Ok-take_turn.ensures.drained;
       progress = c.in-Ok-take_turn.ensures.steps start c.loop-turn._turn c.loop-turn.invariant.progress;
+      here = c.in-Ok-take_turn.ensures.here;
       counted = le_trans c.loop-turn.invariant.counted c.take_turn.ensures.counted;
     }
 

@@ -1,4 +1,5 @@
-use Rattle.std.proofs.Common.{◌≡◌, ◌≤◌}
+use Rattle.std.proofs.Common.{◌≡◌, ◌≤◌, false}
+use Rattle.session_core.specs.Memory.{is_gone}
 use Rattle.link_core.specs.Steps.{IsDrained, Progress, Stand}
 use Rattle.link_core.proofs.converse.converse.Given as goal
 
@@ -8,5 +9,6 @@ invariant-loop-turn g l = record {
   drained : IsDrained l.reader;
   progress : Progress (g.C.Clock.shows l.clock) (record { state = g.R.Runner.state l.fn.r; memory = l.fn.session; link = g.L.Link.tale l.fn.link })
       (record { state = g.R.Runner.state l.r; memory = l.session; link = g.L.Link.tale l.link }) l.reader l._turn;
+  here : is_gone l.session ≡ false;
   counted : g.L.Link.faults l.fn.link ≤ g.L.Link.faults l.link;
 }

@@ -8,8 +8,8 @@ use Rattle.link_core.proofs.Stamps.{given_fits}
 use Rattle.link_core.proofs.Stepping.{progress_line, progress_same, stopped_line, stopped_reader}
 use Rattle.link_core.proofs.converse.take_lines.Goals as goal
 
-pub answer-requires : goal.answer-requires
-answer-requires g c =
+pub answer-requires-clause-fits : goal.answer-requires-clause-fits
+answer-requires-clause-fits g c =
     given_fits c.loop-line.reader c.next.new.self c.in-Ok-Some.line
     (subst (λ (o : Option Incoming). IfSome o (λ line. Gives c.loop-line.reader line c.next.new.self)) c.in-Ok-Some.field-0-is c.in-Ok-Some.ensures.line)
 
@@ -24,6 +24,7 @@ loop-line-preserved g c =
       home = c.answer.ensures.home ∙ c.loop-line.invariant.home;
       steps = λ start turns p.
           progress_line shows start here new c.loop-line.reader c.next.new.self turns c.in-Ok-Some.line (c.loop-line.invariant.steps start turns p) gives c.in-Ok.ensures.answered;
+      here = c.in-Ok.ensures.here;
       counted = le_trans c.loop-line.invariant.counted c.answer.ensures.counted;
     }
 

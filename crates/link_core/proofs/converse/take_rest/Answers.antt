@@ -9,8 +9,8 @@ use Rattle.link_core.proofs.Stepping.{answered_one, stopped_one, stops_end, stop
 use Rattle.std.proofs.Common.{true}
 use Rattle.link_core.proofs.converse.take_rest.Goals as goal
 
-pub answer-requires : goal.answer-requires
-answer-requires g c = rest_given c.args.reader.now c.in-Ok-Some.line (subst (λ (o : Option Incoming). o ≡ rest_of c.args.reader.now []) c.in-Ok-Some.field-0-is c.in-Ok-Some.ensures)
+pub answer-requires-clause-fits : goal.answer-requires-clause-fits
+answer-requires-clause-fits g c = rest_given c.args.reader.now c.in-Ok-Some.line (subst (λ (o : Option Incoming). o ≡ rest_of c.args.reader.now []) c.in-Ok-Some.field-0-is c.in-Ok-Some.ensures)
 
 pub returns-in-Ok-clause-stops : goal.returns-in-Ok-clause-stops
 returns-in-Ok-clause-stops g c = λ start taken h.

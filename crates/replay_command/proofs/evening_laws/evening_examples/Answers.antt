@@ -13,10 +13,4 @@ returns c = record {
   news = ap (λ (d : List ℕ). (d ++ codes "|" ++ [] ++ codes "\n") ++ ((d ++ codes "|" ++ codes "abc" ++ codes "\n") ++ ((d ++ codes "|" ++ codes "fics% " ++ codes "\n") ++ []))) two;
   line = ap (λ (d : List ℕ). (d ++ codes "|" ++ codes "abc" ++ codes "\n") ++ []) three;
   nothing = refl;
-  no_word = refl;
-  resign = refl;
-  flag = refl;
-  move = refl;
-  dashed = refl;
-  no_square = refl;
 }

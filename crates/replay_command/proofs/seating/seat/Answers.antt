@@ -1,5 +1,6 @@
 use Rattle.std.proofs.Common.{◌≡◌, ◌∷◌, [], List, ℕ, OnOk, length, get_or, sym, ap, subst, ◌∙◌}
 use Rattle.lobby_state.specs.declared.acts.LobbyAct.TheVariants as lobby_act
+use Rattle.one_server.specs.declared.act.Act.{Act}
 use Rattle.one_server.specs.declared.act.Act.TheVariants.{Lobby}
 use Rattle.replay_core.specs.SeatLine.{players_of}
 use Rattle.session_core.specs.Course.{timed}
@@ -15,7 +16,9 @@ returns c =
     let challenge =
     subst (λ (key : List ℕ). HasMade ((1, timed 0 (Lobby (lobby_act.Match key line.terms))) ∷ []) c.make-2.new.server.log c.make-3.new.server.log) c.key-to.ensures
     c.in_ok-make-3.ensures.made in
-    let two = made_then _ _ _ _ _ c.in_ok-make.ensures.made c.in_ok-make-2.ensures.made in
+    let first = subst (λ (a : Act). HasMade ((1, timed 0 a) ∷ []) c.args.server.now.log c.make.new.server.log) c.entering.ensures c.in_ok-make.ensures.made in
+    let second = subst (λ (a : Act). HasMade ((2, timed 0 a) ∷ []) c.make.new.server.log c.make-2.new.server.log) c.entering-2.ensures c.in_ok-make-2.ensures.made in
+    let two = made_then _ _ _ _ _ first second in
     let three = made_then _ _ _ _ _ two challenge in
     let four = made_then _ _ _ _ _ three c.in_ok-make-4.ensures.made in
     let five = made_then _ _ _ _ _ four c.in_ok-make-5.ensures.made in

@@ -8,7 +8,7 @@ returns-in_default c = (refl, no_line c.args.self.now c.args.line.now c.requires
 pub returns-in-None : goal.returns-in-None
 returns-in-None c =
     let line : c.in-Some.line ≡ c.args.line.now = (rw c.in-Some.is at c.in_ok-line.ensures).1 in
-    same_answer c.take_seat_line.result c.args.self.now c.take_seat_line.new.self c.in-Some.line c.args.line.now c.args.out.now.items c.args.out.now.items line (c.take_seat_line.ensures c.args.out.now.items)
+    same_answer c.take_first.result c.args.self.now c.take_first.new.self c.in-Some.line c.args.line.now c.args.out.now.items c.take_first.new.out.items line c.take_first.ensures
 
 pub returns : goal.returns
 returns c =

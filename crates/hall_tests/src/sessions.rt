@@ -1,0 +1,137 @@
+//! An evening of two players by lines, from their logins to their goodbyes, at a hall and over the server of one
+//! thread: the sessions write the same bytes.
+
+use crate::games::server;
+use fics_words::{Fail as Failure, Line, Refusal};
+use hall_core::Hall;
+use line_reader::Incoming;
+use lobby_state::Lobby;
+use one_server::Runner;
+use session_core::{Input, Session};
+use std::alloc::Global;
+use std::sync::Wait;
+use std::test::Fail;
+use turn_chain::OpenGate;
+
+/// What comes from a player.
+#[derive(Clone, Copy, Debug)]
+enum Comes {
+    Line(&'static [u8]),
+    Quiet,
+}
+
+/// The moment in milliseconds, the session, and what comes from its player.
+#[derive(Clone, Copy, Debug)]
+struct Came(u32, u32, Comes);
+
+const EVENING: [Came; 18] = [
+    Came(100, 1, Comes::Line(b"Ann")),
+    Came(200, 2, Comes::Line(b"Ben")),
+    Came(300, 1, Comes::Line(b"match Ben 2 12 white")),
+    Came(400, 2, Comes::Line(b"accept")),
+    Came(1000, 1, Comes::Quiet),
+    Came(3000, 1, Comes::Line(b"e2e4")),
+    Came(3100, 1, Comes::Line(b"d2d4")),
+    Came(5000, 2, Comes::Line(b"e7e5")),
+    Came(6000, 1, Comes::Quiet),
+    Came(6500, 2, Comes::Line(b"flag")),
+    Came(9000, 1, Comes::Line(b"g1f3")),
+    Came(9100, 2, Comes::Line(b"a1h8")),
+    Came(9500, 2, Comes::Line(b"resign")),
+    Came(9600, 1, Comes::Line(b"")),
+    Came(9700, 1, Comes::Line(b"resign")),
+    Came(9800, 2, Comes::Quiet),
+    Came(9900, 1, Comes::Line(b"quit")),
+    Came(9900, 2, Comes::Line(b"quit")),
+];
+
+fn line_of(alloc: Global, text: &[u8]) -> Result<Line, Failure> {
+    match Line::read(alloc, text)? {
+        Some(line) => Ok(line),
+        None => Err(Failure::Refused(Refusal::BadByte)),
+    }
+}
+
+/// Appends what a session writes for what comes from its player.
+fn hear<R: Runner>(
+    seat: &mut R,
+    alloc: Global,
+    session: &mut Session,
+    came: Came,
+    out: &mut Vec<u8>,
+) -> Result<(), Failure> {
+    let moment = u64::from(came.0);
+    let wrote = match came.2 {
+        Comes::Line(text) => {
+            let line = line_of(alloc, text)?;
+            session.take(seat, moment, Input::Line(Incoming::Plain(line)))?
+        }
+        Comes::Quiet => session.take(seat, moment, Input::Quiet)?,
+    };
+    for byte in wrote.bytes.as_slice() {
+        out.push(*byte)?;
+    }
+    Ok(())
+}
+
+/// What both sessions write at a hall, in the order in which it is written.
+#[tactic(auto, using(one_server::proofs::Opens::opening_is))]
+fn at_the_hall<R: Wait>(rt: &R, alloc: Global, evening: &[Came]) -> Result<Vec<u8>, Failure> {
+    let (hall, mut first) = Hall::open(alloc, Lobby::new(alloc)?)?;
+    let gate = OpenGate::new();
+    let mut ann = hall.seat(hall.split(&mut first), &gate, rt);
+    let mut ben = hall.seat(hall.split(&mut first), &gate, rt);
+    both(alloc, &mut ann, &mut ben, evening)
+}
+
+/// What two sessions write at their seats.
+fn both<R: Runner>(
+    alloc: Global,
+    ann: &mut R,
+    ben: &mut R,
+    evening: &[Came],
+) -> Result<Vec<u8>, Failure> {
+    let mut anns = Session::new(alloc);
+    let mut bens = Session::new(alloc);
+    let mut out = Vec::new(alloc);
+    for came in evening {
+        if came.1 == 1 {
+            hear(ann, alloc, &mut anns, *came, &mut out)?;
+        } else {
+            hear(ben, alloc, &mut bens, *came, &mut out)?;
+        }
+    }
+    Ok(out)
+}
+
+/// What both sessions write over the server of one thread.
+fn over_one_server(alloc: Global, evening: &[Came]) -> Result<Vec<u8>, Failure> {
+    let mut server = server(alloc)?;
+    let mut anns = Session::new(alloc);
+    let mut bens = Session::new(alloc);
+    let mut out = Vec::new(alloc);
+    for came in evening {
+        let mut seat = server.seat(came.1);
+        if came.1 == 1 {
+            hear(&mut seat, alloc, &mut anns, *came, &mut out)?;
+        } else {
+            hear(&mut seat, alloc, &mut bens, *came, &mut out)?;
+        }
+    }
+    Ok(out)
+}
+
+/// The last things written are the refusal of Ann's resignation, since the game is over, and two goodbyes.
+#[test]
+fn two_sessions_write_the_same(rt: HostRuntime) -> Result<(), Fail> {
+    let threads = at_the_hall(&rt, rt.alloc(), &EVENING)?;
+    let alone = over_one_server(rt.alloc(), &EVENING)?;
+    assert!(rt; threads.as_slice() == alone.as_slice());
+    assert!(rt; alone.len() > 1000);
+    assert!(rt;
+        alone
+            .as_slice()
+            .ends_with(b"refused 20 NotPlaying\n\rfics% Goodbye.\n\rGoodbye.\n\r")
+    );
+    Ok(())
+}
