@@ -59,12 +59,7 @@ fn clear_each<R: Runner>(
 }
 
 /// Makes a Clear for a desk, or passes over it.
-fn clear_one<R: Runner>(
-    alloc: Global,
-    runner: &mut R,
-    moment: u64,
-    row: &DeskInUse,
-) -> StewardEnd
+fn clear_one<R: Runner>(alloc: Global, runner: &mut R, moment: u64, row: &DeskInUse) -> StewardEnd
     requires moment { moment ≤ 2 ^ 48 }
     requires desk { IsDesk row.now.desk }
     ensures home { R.home runner.new ≡ R.home runner.old }
