@@ -1,6 +1,7 @@
 //! Steps of sessions, each with its expected reply.
 
 ghost use Rattle.std.specs.Prelude.{IfOk};
+ghost use Rattle.linked_desk.specs.Acts.{FitsDeskAct};
 ghost use Rattle.lobby_state.specs.Desks.{IsDesk};
 ghost use Rattle.one_server.specs.Acts.{FitsAct};
 
@@ -178,6 +179,7 @@ fn moving(game: Game, from: u8, to: u8) -> Result<Act, Fail>
 }
 
 fn at_desk(game: Game, act: DeskAct) -> Act
+    requires { FitsDeskAct act }
     ensures { FitsAct result }
 {
     let desk = game.number();
