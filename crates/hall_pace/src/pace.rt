@@ -66,16 +66,43 @@ struct Share<'a, R: Wait> {
 fn over_hall<R: Threads + Wait + Sync>(rt: &R, alloc: Global, job: Job) -> Result<(), Fail> {
     let (hall, mut first) = Hall::open(alloc, Lobby::new(alloc)?)?;
     let gate = OpenGate::new();
+    let shares = seated(rt, alloc, &hall, &mut first, &gate, job)?;
+    in_threads(rt, alloc, shares, job)
+}
+
+/// The tables of all threads, at which everybody has sat down.
+fn seated<'a, R: Wait>(
+    rt: &'a R,
+    alloc: Global,
+    hall: &'a Hall,
+    first: &mut HallPass,
+    gate: &'a OpenGate,
+    job: Job,
+) -> Result<Vec<Share<'a, R>>, Fail>
+    requires here { first.old.home ≡ hall.now }
+    requires number { first.old.number ≡ 0 }
+    requires unsplit { first.old.splits ≡ 0 }
+{
     let mut shares = no_tables(alloc, job.threads)?;
     for number in 0..job.total() {
-        let white = hall.seat(hall.split(&mut first), &gate, rt);
-        let black = hall.seat(hall.split(&mut first), &gate, rt);
+        let white = hall.seat(hall.split(first), gate, rt);
+        let black = hall.seat(hall.split(first), gate, rt);
         seat_at(alloc, &mut shares, job, number, HallTable { white, black })?;
     }
+    Ok(shares)
+}
+
+/// Makes the rounds at the tables of each thread in a thread of its own.
+fn in_threads<R: Threads + Wait + Sync>(
+    rt: &R,
+    alloc: Global,
+    shares: Vec<Share<'_, R>>,
+    job: Job,
+) -> Result<(), Fail> {
     let ended = map_vec(
         rt,
         shares,
-        &|share| rounds(alloc, share, job.what, job.rounds),
+        &|share| { rounds(alloc, share, job.what, job.rounds) },
     )?;
     all_ended(ended)
 }
