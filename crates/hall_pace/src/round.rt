@@ -1,5 +1,6 @@
 //! What two players do at their table.
 
+ghost use Rattle.linked_desk.specs.Acts.{FitsDeskAct};
 ghost use Rattle.lobby_state.specs.Desks.{IsDesk};
 
 use crate::job::What;
@@ -135,7 +136,8 @@ fn at_desk<T: Table>(
     number: u32,
     act: DeskAct,
 ) -> Result<(), Fail>
-    requires { IsDesk desk }
+    requires desk { IsDesk desk }
+    requires fits { FitsDeskAct act }
 {
     let act = Act::Desk {
         desk,
