@@ -129,7 +129,13 @@ fn moving(server: &mut OneServer, session: u32, moment: u32, does: Does) -> Resu
         Does::Drop(serial, to) => (serial, pawn_drop(to)?),
         _ => return Err(Fail::Memory),
     };
-    playing(server, session, moment, serial, DeskAct::Move { word, stamp: None })
+    playing(
+        server,
+        session,
+        moment,
+        serial,
+        DeskAct::Move { word, stamp: None },
+    )
 }
 
 fn entering(
