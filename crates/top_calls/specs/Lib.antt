@@ -1,3 +1,4 @@
 -- What the contracts of this crate cite.
 pub mod RunEnds
 pub mod Words
+pub mod ServeEnds

@@ -23,6 +23,10 @@ IsCommand words = Names words Board ⊎ Names words Replay
 abbrev pub Does : List (String Global) → (Command → Type 0) → Type 0
 Does words P = (command : Command) × Names words command × P command
 
+-- the words ask to serve players who connect
+abbrev pub AsksToServe : List (String Global) → Type 0
+AsksToServe words = (port : ℕ) × (bind : String Global) × (count : Option ℕ) × jobs.Names words (job.Serve port bind count)
+
 -- the line that is written for words outside the table
 abbrev pub usage_line : List ℕ
 usage_line = codes "usage: ficsd board, replay, demo N, check --store PATH, serve --port P\n"

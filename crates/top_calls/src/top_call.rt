@@ -83,7 +83,7 @@ fn run_command<S: Source, K: Sink>(
 }
 
 /// Writes how the program is called, and gives the status with which it ends.
-fn tell_usage<K: Sink>(sink: &mut K) -> u8
+pub(crate) fn tell_usage<K: Sink>(sink: &mut K) -> u8
     ensures ends { UsageEnds (K.written sink.old) (K.written sink.new) result }
     ensures cause { result ≡ 3 → Rose (K.faults sink.old) (K.faults sink.new) }
 {
