@@ -1,5 +1,5 @@
 -- What each event of a script does, from what its session did.
-use Rattle.std.proofs.Common.{◌≡◌, ℕ, Bool, IfOk, Result, List, [], ◌++◌, append-nil, refl, sym, ap, subst, ◌∙◌}
+use Rattle.std.proofs.Common.{◌≡◌, ℕ, IfOk, Result, List, [], append-nil, refl, sym, ap, subst, ◌∙◌}
 use Rattle.std.proofs.lemmas.Result.{IfOk-weaker}
 use Rattle.line_reader.specs.declared.incoming.Incoming.TheVariants as incoming
 use Rattle.memory.specs.declared.NoMemory.{NoMemory}

@@ -1,5 +1,5 @@
 -- What a line makes of an evening: the answer of the seat line, the answers of sessions, and lines outside the grammar.
-use Rattle.std.proofs.Common.{◌≡◌, ◌≢◌, ℕ, ◌-◌, ◌<◌, Bool, true, false, IfOk, Result, List, [], ◌∷◌, ◌++◌, length, Option, None, Some, append-nil, refl, sym, ap, subst, ◌∙◌, arith, replicate, slice_get, slice_set}
+use Rattle.std.proofs.Common.{◌≡◌, ◌≢◌, ℕ, ◌-◌, ◌<◌, Bool, true, IfOk, Result, List, [], ◌∷◌, ◌++◌, length, Option, None, Some, append-nil, refl, sym, ap, subst, ◌∙◌, arith, replicate, slice_get, slice_set}
 use Rattle.std.proofs.lemmas.Option.{same_Some}
 use Rattle.chess_model.specs.declared.variant.Variant.TheVariants.{Chess}
 use Rattle.memory.specs.declared.NoMemory.{NoMemory}
@@ -19,7 +19,7 @@ use Rattle.replay_core.specs.SeatLine.{IsSeatLine, seat_text}
 use Rattle.session_core.specs.Memory.{MemoryState, newcomer, seated}
 use Rattle.replay_command.specs.Evening.{EveningState, Does, HasDone, HasMade, AfterLeaving, AreMemories, IsClosed, IsNext, IsNoNext, IsOrdered, KeepsOrder, LeaveInOrder, MayFollow, Reached, Row, Seats, Comes, arrivals_of, history_of, is_written, last_moment, left_by, line_of, opening_parts, parts_after, quit_of, remembered, seated_by, seating_acts, seats}
 use Rattle.replay_command.specs.EveningLinesProof.{no_snoc, none_has, one_line_more}
-use Rattle.replay_command.specs.EveningsProof.{came-append, remembered-push, seated-push}
+use Rattle.replay_command.specs.EveningsProof.{came-append, seated-push}
 use Rattle.replay_command.specs.FollowingProof.{legal_back}
 use Rattle.replay_command.proofs.Memories.{one_memory, two_memories, new_memories}
 

@@ -8,7 +8,7 @@ use Rattle.one_server.specs.Running.{Log}
 use Rattle.replay_core.specs.declared.script.ScriptLine.{ScriptLine}
 use Rattle.session_core.specs.Memory.{MemoryState, newcomer, seated}
 use Rattle.replay_core.specs.declared.seat_line.SeatLine.{SeatLine}
-use Rattle.replay_command.specs.Evening.{AreMemories, Row, Seats, Comes, remembered, remembered_after}
+use Rattle.replay_command.specs.Evening.{AreMemories, Row, Seats, Comes, remembered}
 use Rattle.replay_command.specs.EveningsProof.{remembered-push}
 
 -- all sessions are new

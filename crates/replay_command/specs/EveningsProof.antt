@@ -1,7 +1,6 @@
 -- Evenings: one row more, prefixes, legal histories, and that the lines fix the rows.
 use Rattle.std.proofs.Common.{◌≡◌, ◌↔◌, ℕ, List, [], ◌∷◌, ◌++◌, map, append_assoc, append-nil, refl, sym, ap, subst, ◌∙◌}
 use Rattle.std.proofs.lemmas.List.Sums.{fold-append}
-use Rattle.std.proofs.lemmas.Option.{same_Some}
 use Rattle.histories.specs.History.{state, Legal}
 use Rattle.histories.proofs.Histories.{state-append, legal-append}
 use Rattle.one_server.specs.declared.part.Part.{Part}

@@ -1,4 +1,4 @@
-use Rattle.std.proofs.Common.{◌≡◌, ◌∙◌}
+use Rattle.std.proofs.Common.{◌∙◌}
 use Rattle.replay_command.proofs.Doings.{connected, cut, plain_taken, stamped_taken}
 use Rattle.replay_command.proofs.answering.do_event.Goals as goal
 

@@ -1,4 +1,4 @@
-use Rattle.std.proofs.Common.{◌≡◌, ℕ, ◌+◌, List, Some, slice_get, sym, ap, subst, ◌∙◌, arith}
+use Rattle.std.proofs.Common.{◌≡◌, ℕ, ◌+◌, List, Some, slice_get, sym, subst, arith}
 use Rattle.session_core.specs.Memory.{MemoryState}
 use Rattle.replay_command.specs.Evening.{AfterLeaving}
 use Rattle.replay_command.proofs.Leaving.{AreLeft, left_none, left_one, one_leaves, one_stays}

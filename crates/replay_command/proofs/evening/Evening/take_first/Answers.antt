@@ -1,6 +1,5 @@
-use Rattle.std.proofs.Common.{◌≡◌, refl, ap, subst}
-use Rattle.chess_model.specs.declared.variant.Variant.TheVariants.{Chess}
-use Rattle.replay_core.specs.SeatLine.{IsSeatLine, seat_text}
+use Rattle.std.proofs.Common.{◌≡◌}
+use Rattle.replay_core.specs.SeatLine.{seat_text}
 use Rattle.replay_command.proofs.EveningAnswers.{seats_answered}
 use Rattle.replay_command.proofs.evening.Evening.take_first.Goals as goal
 

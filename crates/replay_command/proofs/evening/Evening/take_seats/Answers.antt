@@ -1,4 +1,4 @@
-use Rattle.std.proofs.Common.{◌≡◌, ◌∷◌, [], List, ℕ, Some, length, get_or, refl, sym, ap, subst, ◌∙◌, slice_set}
+use Rattle.std.proofs.Common.{◌≡◌, ◌∷◌, [], List, ℕ, Some, length, get_or, refl, ap, subst, ◌∙◌, slice_set}
 use Rattle.one_server.specs.Running.{Log}
 use Rattle.replay_core.specs.SeatLine.{players_of}
 use Rattle.session_core.specs.Memory.{MemoryState, seated}
