@@ -2,8 +2,7 @@
  * seconds, all in one thread by poll. Prints the round trips and the seconds.
  * usage: load PORT LINKS SECONDS END KIND
  *   END is the text that ends an answer ('fics% ' of ficsd, a line feed of the echo server)
- *   KIND is 'echo' (no login), 'empty' (login as guests, then empty lines), 'moves' (pairs play the knights to and fro),
- *   or 'idle' (login, and then nothing for those seconds) */
+ *   KIND is 'echo' (no login), 'empty' (login, then empty lines), or 'idle' (login, and then nothing for those seconds) */
 #include <arpa/inet.h>
 #include <netinet/in.h>
 #include <poll.h>
@@ -20,8 +19,6 @@ struct peer {
     int link;
     char heard[ROOM];
     size_t length;
-    char name[32];
-    int moves;
 };
 
 static struct peer peers[MOST];
@@ -62,12 +59,6 @@ static void await(struct peer *it, const char *end)
     while (!ends_in(it, end)) hear(it);
 }
 
-/* waits until this text was heard somewhere, and the prompt behind it */
-static void await_text(struct peer *it, const char *text)
-{
-    while (!strstr(it->heard, text) || !ends_in(it, "fics% ")) hear(it);
-}
-
 static void forget(struct peer *it)
 {
     it->length = 0;
@@ -81,31 +72,16 @@ static double now(void)
     return at.tv_sec + at.tv_nsec / 1e9;
 }
 
-static void log_in(struct peer *it, int number, const char *prefix)
+static void log_in(struct peer *it, int number)
 {
-    char line[64];
+    char line[16];
     await(it, "login: ");
     forget(it);
     /* a handle has letters alone */
-    snprintf(it->name, sizeof it->name, "%s%c%c%c", prefix, 'a' + number / 676, 'a' + number / 26 % 26, 'a' + number % 26);
-    snprintf(line, sizeof line, "%s\n", it->name);
+    snprintf(line, sizeof line, "bench%c%c\n", 'a' + number / 26 % 26, 'a' + number % 26);
     say(it, line);
     await(it, "fics% ");
     forget(it);
-}
-
-static void pair_up(struct peer *white, struct peer *black)
-{
-    char line[80];
-    snprintf(line, sizeof line, "match %s 0 0 white\n", black->name);
-    say(white, line);
-    await(white, "fics% ");
-    say(black, "accept\n");
-    await_text(black, "<12>");
-    forget(black);
-    say(white, "\n");
-    await_text(white, "<12>");
-    forget(white);
 }
 
 int main(int count, char **words)
@@ -116,8 +92,7 @@ int main(int count, char **words)
     }
     int links = atoi(words[2]), rest = atoi(words[3]);
     const char *end = words[4], *kind = words[5];
-    int moves = !strcmp(kind, "moves"), echo = !strcmp(kind, "echo"), idle = !strcmp(kind, "idle");
-    static const char *white[] = {"g1f3\n", "f3g1\n"}, *black[] = {"g8f6\n", "f6g8\n"};
+    int echo = !strcmp(kind, "echo"), idle = !strcmp(kind, "idle");
     static struct pollfd polls[MOST];
     struct sockaddr_in at = {.sin_family = AF_INET};
     at.sin_addr.s_addr = htonl(INADDR_LOOPBACK);
@@ -125,11 +100,10 @@ int main(int count, char **words)
     for (int i = 0; i < links; i++) {
         peers[i].link = socket(AF_INET, SOCK_STREAM, 0);
         if (connect(peers[i].link, (struct sockaddr *)&at, sizeof at)) fail("connect");
-        if (!echo) log_in(&peers[i], i, moves ? "mover" : "bench");
+        if (!echo) log_in(&peers[i], i);
         polls[i].fd = peers[i].link;
         polls[i].events = POLLIN;
     }
-    if (moves) for (int i = 0; i + 1 < links; i += 2) pair_up(&peers[i], &peers[i + 1]);
     if (idle) {
         printf("ready\n");
         fflush(stdout);
@@ -138,32 +112,16 @@ int main(int count, char **words)
     }
     double start = now(), last = start + rest;
     long trips = 0;
-    /* in a pair one moves at a time, and the other's news come unasked */
-    for (int i = 0; i < links; i += moves ? 2 : 1) say(&peers[i], moves ? white[0] : "\n");
-    for (int i = 0; i < links; i += moves ? 2 : 1) peers[i].moves = 1;
+    for (int i = 0; i < links; i++) say(&peers[i], "\n");
     while (now() < last) {
         if (poll(polls, links, 100) < 0) fail("poll");
         for (int i = 0; i < links; i++) {
-            struct peer *it = &peers[i];
             if (!(polls[i].revents & (POLLIN | POLLHUP))) continue;
-            hear(it);
-            if (!ends_in(it, end)) continue;
-            if (!moves) {
-                trips++;
-                forget(it);
-                say(it, "\n");
-            } else if (it->moves % 2 == 1) {
-                /* the mover's own answer: the other moves now, which takes what is new with its own line */
-                struct peer *other = &peers[i ^ 1];
-                trips++;
-                it->moves++;
-                if (it->moves >= 1198) { printf("%ld %.3f\n", trips, now() - start); return 0; }
-                forget(it);
-                say(other, (i % 2 ? white : black)[(other->moves / 2) % 2]);
-                other->moves++;
-            } else {
-                forget(it);
-            }
+            hear(&peers[i]);
+            if (!ends_in(&peers[i], end)) continue;
+            trips++;
+            forget(&peers[i]);
+            say(&peers[i], "\n");
         }
     }
     printf("%ld %.3f\n", trips, now() - start);
