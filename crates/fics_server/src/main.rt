@@ -1,31 +1,75 @@
-//! `ficsd`: the program. It calls `run` over the standard streams, and ends with its status.
+//! `ficsd`: the program. It reads its words, and calls `serve` over TCP where they ask for it, and else `run` over the
+//! standard streams; it ends with their status.
 #![tactic(auto)]
 
-mod std_streams;
-
-use crate::std_streams::{StdSink, StdSource};
-use edge_traits::MemKeeper;
+use edge_traits::{MemKeeper, OpenGate};
+use job_words::{Job, JobFail, read_job};
 use line_answers::{End, status};
-use std::alloc::AllocError;
+use real_edges::{StdSink, StdSource, TcpDoor, WallClock};
+use std::alloc::{AllocError, Global};
 use std::io::ErrorKind;
+use std::net::{Net, TcpListener, TcpStream};
 use std::process::ExitCode;
+use std::sync::Wait;
+use std::thread::Threads;
+use std::time::Clock;
 use std::{env, io};
-use top_calls::run;
+use top_calls::{run, serve};
 
 fn main(rt: HostRuntime) -> ExitCode {
     let Ok(words) = words_of(&rt) else {
         return ExitCode::from(status(End::Memory));
     };
-    let mut source = StdSource::new(rt.reader());
     let mut sink = StdSink::new(io::writer(&rt));
-    let mut keeper = MemKeeper::new(rt.alloc(), Vec::new(rt.alloc()));
-    ExitCode::from(run(
-        rt.alloc(),
-        words.as_slice(),
-        &mut source,
-        &mut sink,
+    match read_job(rt.alloc(), words.as_slice()) {
+        Ok(Job::Serve { port, bind, count }) => {
+            let door = TcpDoor::new(&rt, bind, port, count);
+            ExitCode::from(serve_at(&rt, rt.alloc(), words.as_slice(), door, &mut sink))
+        }
+        Err(JobFail::Memory) => ExitCode::from(status(End::Memory)),
+        Ok(_) | Err(JobFail::Usage) => {
+            let mut source = StdSource::new(rt.reader());
+            let mut keeper = MemKeeper::new(rt.alloc(), Vec::new(rt.alloc()));
+            ExitCode::from(run(
+                rt.alloc(),
+                words.as_slice(),
+                &mut source,
+                &mut sink,
+                &mut keeper,
+            ))
+        }
+    }
+}
+
+/// Serves at a door on TCP, by the system's clock, and closes the hall once all is served.
+fn serve_at<T, W>(
+    rt: &T,
+    alloc: Global,
+    words: &[String],
+    mut door: TcpDoor<'_, T>,
+    sink: &mut StdSink<W>,
+) -> u8
+where
+    T: Net<Listener = TcpListener, Stream = TcpStream> + Clock + Threads + Wait + Sync,
+    W: io::Write,
+{
+    let clock = WallClock::new(rt);
+    let gate = OpenGate::new();
+    let mut keeper = MemKeeper::new(alloc, Vec::new(alloc));
+    let (status, served) = serve(
+        rt,
+        alloc,
+        words,
+        &mut door,
+        &clock,
         &mut keeper,
-    ))
+        sink,
+        &gate,
+    );
+    if let Some((hall, pass)) = served {
+        let _parts = hall.close(pass);
+    }
+    status
 }
 
 /// The words behind the program's name; none where one of them is no text.
