@@ -75,22 +75,20 @@ fn spoken(alloc: Global, job: Result<Job, JobFail>) -> Result<String, Fail> {
     match job {
         Ok(Job::Board) => Ok(String::from_str(alloc, "board")?),
         Ok(Job::Replay) => Ok(String::from_str(alloc, "replay")?),
-        Ok(
-            Job::Serve {
-                port,
-                bind,
-                count: Some(count),
-            },
-        ) => Ok(format!(in alloc; "serve {port} {bind} {count}")?),
-        Ok(
-            Job::Serve {
-                port,
-                bind,
-                count: None,
-            },
-        ) => Ok(format!(in alloc; "serve {port} {bind} -")?),
+        Ok(Job::Serve { port, bind, count }) => {
+            let count = count_text(alloc, count)?;
+            Ok(format!(in alloc; "serve {port} {bind} {count}")?)
+        }
         Err(JobFail::Usage) => Ok(String::from_str(alloc, "-")?),
         Err(JobFail::Memory) => Err(Fail::from("out of memory")),
+    }
+}
+
+/// The number of connections, as a row says it.
+fn count_text(alloc: Global, count: Option<u64>) -> Result<String, Fail> {
+    match count {
+        Some(count) => Ok(format!(in alloc; "{count}")?),
+        None => Ok(String::from_str(alloc, "-")?),
     }
 }
 

@@ -1,4 +1,4 @@
-use Rattle.std.proofs.Common.{◌≡◌, ◌++◌, Some, true, false, sym, ap, ◌∙◌, refl}
+use Rattle.std.proofs.Common.{◌≡◌, ◌++◌, Some, sym, ap, ◌∙◌, refl}
 use Rattle.game_board.specs.Board.{Board}
 use Rattle.move_reader.specs.Reading.{reading}
 use Rattle.board_command.specs.Game.{answer_to, made}
