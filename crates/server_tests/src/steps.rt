@@ -1,5 +1,7 @@
 //! Steps of a server, each with its expected reply.
 
+ghost use Rattle.linked_desk.specs.Acts.{FitsDeskAct};
+
 use chess_model::{Colour, Kind, MoveWord, Square, Terms, Variant};
 use fics_words::{Fail, Handle, NoMemory, Refusal};
 use linked_desk::{DeskAct, DeskReply};
@@ -217,7 +219,9 @@ fn playing(
     moment: u32,
     serial: u64,
     act: DeskAct,
-) -> Result<Said, Fail> {
+) -> Result<Said, Fail>
+    requires { FitsDeskAct act }
+{
     let reply = server.run(
         session,
         u64::from(moment),
