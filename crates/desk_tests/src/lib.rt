@@ -3,6 +3,8 @@
 #![tactic(auto)]
 
 #[cfg(test)]
+mod finished;
+#[cfg(test)]
 mod played;
 #[cfg(test)]
 mod refused;

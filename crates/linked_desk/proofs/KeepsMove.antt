@@ -15,8 +15,9 @@ use Rattle.linked_desk.specs.Desk.{GameState, seat_of, moment_at, occupant}
 use Rattle.linked_desk.specs.Playing.{seat_word, moved_by, move_effect}
 use Rattle.linked_desk.specs.Seats.{place_of, colour_at}
 use Rattle.linked_desk.specs.Sound.{IsSound}
-use Rattle.linked_desk.specs.Views.{views_of}
+use Rattle.linked_desk.specs.Views.{views_of, with_board_item}
 use Rattle.linked_desk.proofs.BoardLists.{begin-latest, latest-changed_at, numbers-changed_at, All-changed_at, length-changed_at}
+use Rattle.linked_desk.proofs.Finishing.{IsSound-finished, occupant-finished}
 use Rattle.linked_desk.proofs.Keeps.{Keeps, IsSound-with_view, occupant-with_view}
 
 -- who is to move thinks from no later moment than that of the act
@@ -69,14 +70,16 @@ sound_moved_by : (desk : ℕ) (g : GameState) (moment : ℕ) (seat : Option ℕ)
 sound_moved_by desk g moment None word stamp stamped s = s
 sound_moved_by desk g moment (Some seat) word stamp stamped s =
     let after : GameState = played g moment (place_of seat) stamp (seat_word g seat word) in
-    IsSound-with_view after (slice_get (views_of desk after) (place_of seat)) (IsSound-played g moment (place_of seat) (colour_at seat) word stamp stamped s)
+    IsSound-finished desk (with_board_item desk (place_of seat) after) moment (place_of seat)
+    (IsSound-with_view after (slice_get (views_of desk after) (place_of seat)) (IsSound-played g moment (place_of seat) (colour_at seat) word stamp stamped s))
 
 occupant-moved_by : (desk : ℕ) (g : GameState) (moment : ℕ) (seat : Option ℕ) (word : MoveWord) (stamp : Option ℕ) →
     occupant (moved_by desk g moment seat word stamp) ≡ occupant g
 occupant-moved_by desk g moment None word stamp = refl
 occupant-moved_by desk g moment (Some seat) word stamp =
     let after : GameState = played g moment (place_of seat) stamp (seat_word g seat word) in
-    occupant-with_view after (slice_get (views_of desk after) (place_of seat))
+    occupant-finished desk (with_board_item desk (place_of seat) after) moment (place_of seat)
+    ∙ occupant-with_view after (slice_get (views_of desk after) (place_of seat))
 
 pub Keeps-move_effect : (desk : ℕ) (g : GameState) (session moment : ℕ) (word : MoveWord) (stamp : Option ℕ) →
     Keeps g (IfSome stamp IsStamp) true (move_effect desk g session moment word stamp)

@@ -1,4 +1,5 @@
 pub mod BoardLists
+pub mod Finishing
 pub mod Keeps
 pub mod KeepsActs
 pub mod KeepsAcked

@@ -5,6 +5,7 @@ pub mod Cursors
 pub mod Desk
 pub mod Ends
 pub mod Fetch
+pub mod Finish
 pub mod Flag
 pub mod Holds
 pub mod Leave

@@ -1,4 +1,4 @@
--- A move at a desk.
+-- A move at a desk: the half-move is played, the board is told, and then the end if the half-move brings it.
 use Rattle.std.specs.Prelude.{ℕ, true, ◌∷◌, Option, Some, None, Result, Err, slice_get}
 use Rattle.chess_model.specs.declared.moves.Move.{Move}
 use Rattle.chess_model.specs.declared.moves.MoveWord.{MoveWord}
@@ -10,6 +10,7 @@ use Rattle.linked_desk.specs.declared.acts.DeskReply.TheVariants.{Done}
 use Rattle.linked_desk.specs.Boards.{word_at, boards_after}
 use Rattle.linked_desk.specs.Desk.{GameState, moment_at, seat_of}
 use Rattle.linked_desk.specs.Ends.{no_seat_cause, over_cause}
+use Rattle.linked_desk.specs.Finish.{finished}
 use Rattle.linked_desk.specs.Seats.{place_of, colour_at}
 use Rattle.linked_desk.specs.Views.{with_board_item}
 
@@ -23,13 +24,17 @@ word_by g None word = Err NotPlaying
 word_by g (Some seat) word = seat_word g seat word
 
 -- the game with the half-move played at the board in that place, and this board told
-abbrev pub moved : ℕ → GameState → ℕ → ℕ → Option ℕ → Result Move Refusal → GameState
-moved desk g moment place stamp answer =
+abbrev pub shown_moved : ℕ → GameState → ℕ → ℕ → Option ℕ → Result Move Refusal → GameState
+shown_moved desk g moment place stamp answer =
     with_board_item desk place
     (record g {
       boards = boards_after g.boards place (moment_at g moment) stamp answer;
       last = moment_at g moment;
     })
+
+-- and ended, where the half-move mates or leaves the other player no move
+abbrev pub moved : ℕ → GameState → ℕ → ℕ → Option ℕ → Result Move Refusal → GameState
+moved desk g moment place stamp answer = finished desk (shown_moved desk g moment place stamp answer) moment place
 
 -- the game once who has that seat, or none, has played a word, with the client's stamp if there is one
 abbrev pub moved_by : ℕ → GameState → ℕ → Option ℕ → MoveWord → Option ℕ → GameState

@@ -15,6 +15,7 @@ mod desk;
 mod ended;
 mod ends;
 mod fetch;
+mod finish;
 mod flag;
 mod game;
 mod laws;

@@ -12,7 +12,8 @@ use fics_words::{Fail, Refusal};
 use style12_writer::Item;
 
 impl Game {
-    /// Plays a word of a session at its board, with its client's stamp if it has one, and tells the board.
+    /// Plays a word of a session at its board, with its client's stamp if it has one, and tells the board; mate and
+    /// stalemate end the game.
     pub(crate) fn play(
         &mut self,
         desk: u8,
@@ -41,6 +42,7 @@ impl Game {
         if let Some(view) = self.view(desk, place) {
             self.feed.push(Item::Board(view));
         }
+        self.finish(desk, moment, place);
         Ok(DeskReply::Done)
     }
 }
