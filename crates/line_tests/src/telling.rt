@@ -8,16 +8,44 @@ use std::alloc::Global;
 pub fn told(alloc: Global, text: &[u8], cut: usize) -> Result<Vec<u8>, NoMemory> {
     let mut told = Vec::new(alloc);
     let mut reader = LineReader::new(alloc)?;
-    let (front, back) = text.split_at(cut.min(text.len()));
-    reader.feed(front)?;
-    drain(&mut reader, front.len(), &mut told)?;
-    reader.feed(back)?;
-    drain(&mut reader, text.len(), &mut told)?;
+    feed_cut(&mut reader, text, cut, &mut told)?;
     if let Some(rest) = reader.rest()? {
         told.push(b'>')?;
         tell(&rest, &mut told)?;
     }
     Ok(told)
+}
+
+/// The whole lines of `text`, which is fed in two pieces.
+pub fn whole_lines(alloc: Global, text: &[u8], cut: usize) -> Result<Vec<u8>, NoMemory> {
+    let mut told = Vec::new(alloc);
+    let mut reader = LineReader::new(alloc)?;
+    feed_cut(&mut reader, text, cut, &mut told)?;
+    Ok(told)
+}
+
+/// The whole lines of `text`, which is fed byte by byte.
+pub fn lines_by_bytes(alloc: Global, text: &[u8]) -> Result<Vec<u8>, NoMemory> {
+    let mut told = Vec::new(alloc);
+    let mut reader = LineReader::new(alloc)?;
+    for byte in text {
+        reader.feed(&[*byte])?;
+        drain(&mut reader, 2, &mut told)?;
+    }
+    Ok(told)
+}
+
+fn feed_cut(
+    reader: &mut LineReader,
+    text: &[u8],
+    cut: usize,
+    told: &mut Vec<u8>,
+) -> Result<(), NoMemory> {
+    let (front, back) = text.split_at(cut.min(text.len()));
+    reader.feed(front)?;
+    drain(reader, front.len(), told)?;
+    reader.feed(back)?;
+    drain(reader, text.len(), told)
 }
 
 /// Takes the lines that have come: at most `most`, and `None` behind them.

@@ -12,6 +12,8 @@ mod replay_ends;
 #[cfg(test)]
 mod replay_logins;
 #[cfg(test)]
+mod replay_stamps;
+#[cfg(test)]
 mod replays;
 #[cfg(test)]
 mod running;

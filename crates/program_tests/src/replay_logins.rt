@@ -35,6 +35,83 @@ const LOGINS: &str = "\
   2|fics%\x20\
 ";
 
+/// The password of an account is the rest of the line behind the blanks, without those at its end; where it is asked for,
+/// the line is compared as it is, blank for blank. Empty lines ask again.
+const BLANKS: &str = "\
+0 1 +
+  1|Free Internet Chess Server profile
+  1|login:\x20
+0 1 > Ann
+  1|Entered as Ann.
+  1|fics%\x20
+0 1 > register   two  blanks\x20
+  1|Ok.
+  1|fics%\x20
+0 1 > quit
+  1|Goodbye.
+0 2 +
+  2|Free Internet Chess Server profile
+  2|login:\x20
+0 2 > Ann
+  2|password:\x20
+0 2 >\x20
+  2|password:\x20
+0 2 > two blanks
+  2|refused 23 WrongPassword
+  2|login:\x20
+0 2 > Ann
+  2|password:\x20
+0 2 >  two  blanks
+  2|refused 23 WrongPassword
+  2|login:\x20
+0 2 > Ann
+  2|password:\x20
+0 2 > two  blanks\x20
+  2|refused 23 WrongPassword
+  2|login:\x20
+0 2 > Ann
+  2|password:\x20
+0 2 >  \x20
+  2|refused 23 WrongPassword
+  2|login:\x20
+0 2 > Ann
+  2|password:\x20
+0 2 > two  blanks
+  2|Entered as Ann.
+  2|fics%\x20\
+";
+
+/// Guests have the least free name, and the name of one who has left is free again.
+const GUESTS: &str = "\
+0 1 +
+  1|Free Internet Chess Server profile
+  1|login:\x20
+0 2 +
+  2|Free Internet Chess Server profile
+  2|login:\x20
+0 3 +
+  3|Free Internet Chess Server profile
+  3|login:\x20
+0 4 +
+  4|Free Internet Chess Server profile
+  4|login:\x20
+0 1 > guest
+  1|Entered as GuestAAAA.
+  1|fics%\x20
+0 2 > GuEsT
+  2|Entered as GuestAAAB.
+  2|fics%\x20
+0 1 > quit
+  1|Goodbye.
+0 3 > guest
+  3|Entered as GuestAAAA.
+  3|fics%\x20
+0 2 -
+0 4 > guestaaab
+  4|Entered as guestaaab.
+  4|fics%\x20\
+";
+
 /// Two people meet, play and part. Ann asked, and has White in the first game of the hall.
 const MATCHED: &str = "\
 0 7 +
@@ -187,6 +264,8 @@ const BAD: [&str; 11] = [
 fn replays_sessions(rt: HostRuntime) -> Result<(), Fail> {
     for (name, rows) in [
         ("logins", LOGINS),
+        ("passwords with blanks", BLANKS),
+        ("guests", GUESTS),
         ("a match", MATCHED),
         ("a link that ends", CUT),
         ("stamps", STAMPED),

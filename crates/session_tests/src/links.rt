@@ -18,6 +18,12 @@ const REST: &[u8] =
 
 const CUT: &[u8] = b"Free Internet Chess Server profile\n\rlogin: Entered as GuestAAAA.\n\rfics% ";
 
+/// A line of 1,023 bytes is read, and is no command; a longer one is refused once.
+const LONG: &[u8] =
+    b"Free Internet Chess Server profile\n\rlogin: Entered as GuestAAAA.\n\rfics% refused 26 Unknown\n\rfics% refused 29 TooLong\n\rfics% refused 20 NotPlaying\n\rfics% ";
+
+const LETTERS: [u8; 1_023] = [b'x'; 1_023];
+
 /// What a link gives: a piece of bytes, or a pause.
 #[derive(Clone, Copy, Debug)]
 enum Gives {
@@ -38,6 +44,14 @@ fn links_end_as_they_have_to(rt: HostRuntime) -> Result<(), Fail> {
         Gives::Piece(b"quit\nflag\n"),
     ];
     let rest = [Gives::Piece(b"guest\nfl"), Gives::Piece(b"ag")];
+    let long = [
+        Gives::Piece(b"guest\n"),
+        Gives::Piece(&LETTERS),
+        Gives::Piece(b"\n"),
+        Gives::Piece(&LETTERS),
+        Gives::Piece(b"x"),
+        Gives::Piece(b"\nfl\xFF\xFD\x01ag\n"),
+    ];
     let rows = [
         Row(&[], &[0], LinkEnd::WriteFault, b""),
         Row(&[], &[1], LinkEnd::ReadFault, OPENING),
@@ -46,6 +60,7 @@ fn links_end_as_they_have_to(rt: HostRuntime) -> Result<(), Fail> {
         Row(&rest, &[], LinkEnd::End, REST),
         Row(&rest, &[4], LinkEnd::ReadFault, CUT),
         Row(&rest, &[5], LinkEnd::WriteFault, CUT),
+        Row(&long, &[], LinkEnd::End, LONG),
     ];
     assert_eq!(rt; first_failing(rt.alloc(), &rows), None);
     Ok(())
