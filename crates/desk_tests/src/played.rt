@@ -16,7 +16,7 @@ const CREATED: &str = "{Game 1 (Ann vs. Ben) Creating 2 12 chess match.}";
 
 /// What Black is told of the third half-move, which took 4 of White's 120 seconds and gave 12.
 const THIRD: &str =
-    "<12> rnbqkbnr pppp-ppp -------- ----p--- ----P--- -----N-- PPPP-PPP RNBQKB-R B -1 1 1 1 1 1 1 Ann Ben 1 2 12 39 39 128 120 2 N/g1-f3 (0:04) Ng1f3 1";
+    "<12> rnbqkbnr pppp-ppp -------- ----p--- ----P--- -----N-- PPPP-PPP RNBQKB-R B -1 1 1 1 1 1 1 Ann Ben 1 2 12 39 39 128 120 2 N/g1-f3 (0:04) Nf3 1";
 
 const RESIGNED: &str = "{Game 1 (Ann vs. Ben) Ben resigns} 1-0";
 

@@ -1,17 +1,17 @@
 -- What a board keeps is kept by one allowed half-move more.
-use Rattle.std.proofs.Common.{◌≡◌, ℕ, List, [], ◌∷◌, ◌++◌, Option, sym, ap, subst, ◌∙◌}
+use Rattle.std.proofs.Common.{◌≡◌, ℕ, List, [], ◌∷◌, ◌++◌, sym, ap, subst, ◌∙◌}
 use Rattle.std.proofs.lemmas.List.{map-append}
 use Rattle.chess_model.specs.declared.man.Colour.{Colour}
 use Rattle.chess_model.specs.declared.man.Colour.TheVariants.{White}
-use Rattle.chess_model.specs.declared.moves.Move.{Move}
 use Rattle.chess_model.specs.declared.variant.Terms.{Terms}
+use Rattle.chess_model.specs.declared.variant.Variant.{Variant}
 use Rattle.chess_model.specs.MoveList.{HalfMove}
-use Rattle.chess_model.specs.Position.{Position, Stands}
+use Rattle.chess_model.specs.Position.{Position, position_after, Stands}
 use Rattle.chess_model.specs.Allowed.{Allowed, IsLegal}
 use Rattle.clock_ledger.specs.declared.charges.Charge.{Charge}
 use Rattle.clock_ledger.specs.Clock.{Ledger}
 use Rattle.game_board.specs.declared.played.Played.{Played}
-use Rattle.game_board.specs.Board.{Board, half_move, half_moves, mover_after, position_of}
+use Rattle.game_board.specs.Board.{half_move, half_moves, mover_after}
 use Rattle.game_board.specs.Charges.{charge_to, charges_of, clock_of}
 use Rattle.game_board.proofs.Charged.{charges_from-append}
 use Rattle.game_board.proofs.Legal.{IsLegal-append}
@@ -19,19 +19,17 @@ use Rattle.game_board.proofs.Legal.{IsLegal-append}
 half_moves-append : (number : ℕ) (list : List Played) (p : Played) → half_moves number (list ++ p ∷ []) ≡ half_moves number list ++ half_move number p ∷ []
 half_moves-append number list p = map-append (half_move number) list (p ∷ [])
 
-pub Stands-grown : (p q : Position) (b : Board) (m : Move) (charge : Option Charge) →
-    ((T : List HalfMove) (n : ℕ) → Stands p T n → Stands q (T ++ record { board = n; what = m } ∷ []) n) →
-    Stands p (half_moves b.number b.list) b.number → Stands q (half_moves b.number (b.list ++ record { what = m; charge = charge } ∷ [])) b.number
-Stands-grown p q b m charge grows stands =
-    subst (λ (T : List HalfMove). Stands q T b.number) (sym (half_moves-append b.number b.list (record { what = m; charge = charge })))
-    (grows (half_moves b.number b.list) b.number stands)
+pub Stands-grown : (p q : Position) (number : ℕ) (list : List Played) (h : Played) →
+    ((T : List HalfMove) (n : ℕ) → Stands p T n → Stands q (T ++ record { board = n; what = h.what } ∷ []) n) →
+    Stands p (half_moves number list) number → Stands q (half_moves number (list ++ h ∷ [])) number
+Stands-grown p q number list h grows stands =
+    subst (λ (T : List HalfMove). Stands q T number) (sym (half_moves-append number list h)) (grows (half_moves number list) number stands)
 
-pub IsLegal-grown : (b : Board) (m : Move) (charge : Option Charge) → IsLegal b.terms.variant (half_moves b.number b.list) → Allowed (position_of b) m →
-    IsLegal b.terms.variant (half_moves b.number (b.list ++ record { what = m; charge = charge } ∷ []))
-unfolding position_of
-IsLegal-grown b m charge legal allowed =
-    subst (λ (T : List HalfMove). IsLegal b.terms.variant T) (sym (half_moves-append b.number b.list (record { what = m; charge = charge })))
-    (IsLegal-append b.terms.variant (half_moves b.number b.list) (record { board = b.number; what = m }) legal allowed)
+pub IsLegal-grown : (v : Variant) (number : ℕ) (list : List Played) (h : Played) → IsLegal v (half_moves number list) → Allowed (position_after v (half_moves number list) number) h.what →
+    IsLegal v (half_moves number (list ++ h ∷ []))
+IsLegal-grown v number list h legal allowed =
+    subst (λ (T : List HalfMove). IsLegal v T) (sym (half_moves-append number list h))
+    (IsLegal-append v (half_moves number list) (half_move number h) legal allowed)
 
 -- a clock with one charge more is the clock of the longer list
 pub clock_of-append : (t : Terms) (c mover : Colour) (list : List Played) (p : Played) (k : Ledger) → k ≡ clock_of t c list → mover_after list ≡ mover →

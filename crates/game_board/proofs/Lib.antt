@@ -6,3 +6,4 @@ pub mod Legal
 pub mod Scoresheet
 pub mod Sides
 pub mod Movers
+pub mod Steps

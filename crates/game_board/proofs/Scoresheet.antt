@@ -29,21 +29,10 @@ use Rattle.chess_model.specs.WordAnswer.{IsWordAnswer, word_answer}
 use Rattle.chess_model.proofs.WordsDecide.{word_answer-holds}
 use Rattle.game_board.specs.Scoresheet.{DontFall, IsCharged, IsTrueScore}
 use Rattle.game_board.proofs.Grown.{IsLegal-grown}
-use Rattle.game_board.proofs.LastPlayed.{slice_get-append_end, AreStamps-zip}
+use Rattle.game_board.proofs.LastPlayed.{slice_get-append_end, at_or_last, AreStamps-zip}
 use Rattle.game_board.proofs.Legal.{IsLegal-empty}
 
--- an item of a list with one item more is one of the list, or that item
-at_or_last : {X : Type 0} (xs : List X) (x y : X) (k : ℕ) → slice_get (xs ++ x ∷ []) k ≡ Some y →
-    (slice_get xs k ≡ Some y) ⊎ ((k ≡ length xs) × (x ≡ y))
-at_or_last [] x y zero e = inr (refl, cc)
-at_or_last [] x y (suc k) e = inl e
-at_or_last (z ∷ zs) x y zero e = inl e
-at_or_last (z ∷ zs) x y (suc k) e = elim (at_or_last zs x y k e) [
-  | inl h ↦ inl h
-  | inr h ↦ inr (ap suc h.0, h.1)
-]
-
--- and each item of the list stands where it stood
+-- each item of the list stands where it stood, in a list with one item more
 stays_at : {X : Type 0} (xs : List X) (x y : X) (k : ℕ) → slice_get xs k ≡ Some y → slice_get (xs ++ x ∷ []) k ≡ Some y
 stays_at [] x y k e = absurd cc
 stays_at (z ∷ zs) x y zero e = e
@@ -162,6 +151,7 @@ IsTrueScore-new_board number terms moment = record {
 
 pub IsTrueScore-with_half_move : (b : Board) (m : Move) (moment : ℕ) (stamp : Option ℕ) → IsTrueScore b → b.begin ≤ moment → IfSome stamp IsStamp → Allowed (position_of b) m →
     IsTrueScore (with_half_move b m moment stamp)
+unfolding position_of
 IsTrueScore-with_half_move b m moment stamp s order stamped allowed =
     let charge : Option Charge = next_charge b moment stamp in
     let entry : Played = record { what = m; charge = charge } in
@@ -184,7 +174,7 @@ IsTrueScore-with_half_move b m moment stamp s order stamped allowed =
             (subst (λ (n : ℕ). IsCharged b.terms (s.moments ++ moment ∷ []) n entry) (sym here.0) new)
       ];
       played = omega (arith, many, s.played);
-      legal = IsLegal-grown b m charge s.legal allowed;
+      legal = IsLegal-grown b.terms.variant b.number b.list entry s.legal allowed;
       clocks = λ c timed. clocks-sum (with_half_move b m moment stamp) c timed;
     }
 

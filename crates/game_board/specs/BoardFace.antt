@@ -7,7 +7,8 @@ use Rattle.chess_model.specs.declared.variant.Variant.{Variant}
 use Rattle.chess_model.specs.Position.{position_after}
 use Rattle.clock_ledger.specs.declared.charges.Charge.{Charge}
 use Rattle.clock_ledger.specs.Charges.{amount}
-use Rattle.move_writer.specs.Face.{face_of, plain_shown_of}
+use Rattle.variant_rules.specs.Showing.{shown_of}
+use Rattle.game_board.specs.Face.{face_of}
 use Rattle.game_board.specs.declared.played.Played.{Played}
 use Rattle.game_board.specs.Board.{Board, half_moves, position_of}
 
@@ -22,7 +23,7 @@ before_last list = take (length list - 1) list
 -- what is shown of the last half-move: it is read in the position before it
 abbrev pub last_shown : Variant → ℕ → List Played → Option Shown
 last_shown v number list =
-    option_map (λ p. plain_shown_of (position_after v (half_moves number (before_last list)) number) p.what)
+    option_map (λ p. shown_of (position_after v (half_moves number (before_last list)) number) p.what)
     (last_played list)
 
 -- all that a printed board shows of a game, names and clocks aside

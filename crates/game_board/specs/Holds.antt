@@ -1,4 +1,4 @@
--- What the fields of every board keep: the slow board, the clocks and what was shown last follow the list.
+-- What the fields of every board keep: the position, the clocks and what is kept of each half-move follow the list.
 use Rattle.std.specs.Prelude.{◌≡◌, ◌≤◌, ◌^◌, length, IfSome, All}
 use Rattle.chess_model.specs.declared.man.Colour.TheVariants.{White, Black}
 use Rattle.chess_model.specs.Position.{Stands}
@@ -8,10 +8,10 @@ use Rattle.game_board.specs.Board.{half_moves}
 use Rattle.clock_ledger.specs.Charges.{IsChargeable}
 use Rattle.clock_ledger.specs.Span.{IsStamp}
 use Rattle.game_board.specs.Charges.{clock_of}
-use Rattle.game_board.specs.BoardFace.{last_shown}
+use Rattle.game_board.specs.Steps.{AreSteps}
 
 pub record HoldsBoard (g : Inside) : Type 0 where
-  -- the slow board stands for the list, in which each half-move was allowed
+  -- the position stands for the list, in which each half-move was allowed
   pub stands : Stands g.position (half_moves g.number g.list) g.number
   pub first : 1 ≤ g.number
   pub second : g.number ≤ 2
@@ -22,8 +22,7 @@ pub record HoldsBoard (g : Inside) : Type 0 where
   pub black : g.black ≡ clock_of g.terms Black g.list
   pub sound : All (λ p. IfSome p.charge IsChargeable) g.list
   pub kept : IfSome g.kept IsStamp
-  -- what is shown of the last half-move
-  pub last : g.last ≡ last_shown g.terms.variant g.number g.list
+  pub steps : AreSteps g.terms.variant g.number g.list g.steps
   pub counted : length g.list ≤ g.played
   pub most : g.played ≤ 1200
   pub moment : g.begin ≤ 2 ^ 48

@@ -3,7 +3,10 @@ pub mod Board
 pub mod BoardFace
 pub mod Causes
 pub mod Charges
+pub mod Face
 pub mod Flag
 pub mod Holds
 pub mod Play
+pub mod Put
 pub mod Scoresheet
+pub mod Steps

@@ -1,6 +1,5 @@
 ghost use Rattle.std.specs.Prelude.{◌≡◌, Option, ◌<◌, ◌≤◌, ◌+◌, ◌^◌, [], ◌++◌, ◌∷◌, IfOk, OnOk, OnErr, IfSome, length, option_and_then};
 ghost use Rattle.std.specs.Option.{option_to_list};
-ghost use Rattle.chess_model.specs.Position.{Stands};
 ghost use Rattle.clock_ledger.specs.declared.charges.Charge.{Charge};
 ghost use Rattle.clock_ledger.specs.Charges.{IsChargeable};
 ghost use Rattle.clock_ledger.specs.Span.{IsStamp};
@@ -8,17 +7,19 @@ ghost use Rattle.game_board.specs.Charges.{charge_to};
 ghost use Rattle.chess_model.specs.Holdings.{same_colour};
 ghost use Rattle.game_board.specs.Flag.{is_bare, has_only_king};
 ghost use Rattle.chess_model.specs.Allowed.{Allowed, IsLegal};
+ghost use Rattle.variant_rules.specs.States.{state_in};
 
-use crate::causes::{answer_of, captured_by};
-use crate::played::Played;
-use chess_model::{Colour, Face, Kind, Man, Move, MoveWord, PlainBoard, Shown, Terms, Variant};
+use crate::board_face::face;
+use crate::causes::answer_of;
+use crate::played::{Played, Step};
+use chess_model::{Colour, Face, Kind, Man, Move, MoveWord, Shown, State, Terms, Variant};
 use clock_ledger::{Charge, ClockLedger};
 use collections::{Listed, Roomy};
 use fics_words::Refusal;
 use memory::NoMemory;
-use move_writer::{face, plain_shown};
 use std::alloc::Global;
 use std::marker::Model;
+use variant_rules::Position;
 
 /// How many half-moves may be played on one board.
 pub const MOST_PLAYED: u16 = 1200;
@@ -29,10 +30,10 @@ pub struct GameBoard {
     /// 1, or 2 for the second board of a pair.
     number: u8,
     terms: Terms,
-    position: PlainBoard,
+    position: Position,
     list: Roomy<Played, 1200>,
-    /// What a printed board shows of the last half-move.
-    last: Option<Shown>,
+    /// For each half-move of the list, what takes it back and what a printed board shows of it.
+    steps: Roomy<Step, 1200>,
     white: ClockLedger,
     black: ClockLedger,
     begin: u64,
@@ -66,9 +67,10 @@ impl Model for GameBoard {
 impl GameBoard {
     ghost use Rattle.game_board.specs.Acked.{acknowledged};
     ghost use Rattle.game_board.specs.Board.{new_board, to_move, position_of, has_moved, half_moves};
-    ghost use Rattle.game_board.specs.BoardFace.{board_face, last_played, last_taken};
+    ghost use Rattle.game_board.specs.BoardFace.{board_face, last_played, last_shown, last_taken};
     ghost use Rattle.game_board.specs.Charges.{clock_of, is_timed};
-    ghost use Rattle.game_board.specs.Play.{move_answer, next_charge, with_half_move, play_reply, play_after};
+    ghost use Rattle.game_board.specs.Play.{captured, move_answer, next_charge, with_half_move, play_reply, play_after};
+    ghost use Rattle.game_board.specs.Put.{with_played};
     ghost use Rattle.game_board.specs.Flag.{flag_answer, running, has_fallen, cannot_win};
 
     /// The board of that number, 1 or 2, at the start of a game, whose first player begins to think at `moment`. Room
@@ -87,9 +89,9 @@ impl GameBoard {
         Ok(GameBoard {
             number,
             terms,
-            position: PlainBoard::start(terms.variant),
+            position: Position::start(terms.variant),
             list: Roomy::new(alloc)?,
-            last: None,
+            steps: Roomy::new(alloc)?,
             white: ClockLedger::start(alloc, terms.minutes, terms.increment)?,
             black: ClockLedger::start(alloc, terms.minutes, terms.increment)?,
             begin: moment,
@@ -157,17 +159,33 @@ impl GameBoard {
     }
 
     /// The position on the board.
-    pub fn position(&self) -> &PlainBoard
+    pub fn position(&self) -> &Position
         ensures { result.now ≡ position_of self.now }
     {
         &self.position
+    }
+
+    /// What the position is for the player to move: check, mate or stalemate, or none of these.
+    pub fn state(&self) -> State
+        ensures { result ≡ state_in (position_of self.now) }
+    {
+        self.position().state()
     }
 
     /// What a printed board shows of the game, names and clocks aside.
     pub fn face(&self) -> Face
         ensures { result ≡ board_face self.now }
     {
-        face(self.position(), self.list.len() as u16, self.last.as_ref())
+        let last = self.last_shown();
+        face(self.position(), self.list.len() as u16, last.as_ref())
+    }
+
+    /// What is shown of the last half-move, if there is one.
+    fn last_shown(&self) -> Option<Shown>
+        ensures { result ≡ last_shown self.now.terms.variant self.now.number self.now.list }
+    {
+        let last = self.steps.as_slice().last()?;
+        Some(last.shown)
     }
 
     /// The time that the last half-move is charged with, in milliseconds; 0 where it has no charge.
@@ -215,15 +233,17 @@ impl GameBoard {
 
     /// The charge of a half-move that is made now with this stamp of its client, if it has one.
     fn next_charge(&self, moment: u64, stamp: Option<u32>) -> Option<Charge>
-        ensures { result ≡ next_charge self.now moment stamp }
+        ensures value { result ≡ next_charge self.now moment stamp }
+        ensures kept { IfSome self.now.kept IsStamp }
     {
+        let client = self.kept.zip(stamp);
         if !self.is_timed() || !self.has_moved(self.to_move()) {
             return None;
         }
         Some(Charge {
             begin: self.begin,
             end: moment,
-            client: self.kept.zip(stamp),
+            client,
         })
     }
 
@@ -243,44 +263,42 @@ impl GameBoard {
         answer_of(self.position(), word)
     }
 
-    /// The position after an allowed half-move, whatever its charge.
-    fn next_position(&self, what: &Move) -> PlainBoard
-        requires { Allowed (position_of self.now) what.now }
-        ensures stands { (charge : Option Charge)
-            → Stands result (half_moves self.now.number
-            (self.now.list ++ record { what = what.now; charge = charge } ∷ [])) self.now.number }
-        ensures variant { result.variant ≡ self.now.terms.variant }
-        ensures legal { (charge : Option Charge)
-            → IsLegal self.now.terms.variant
-            (half_moves self.now.number (self.now.list ++ record { what = what.now; charge = charge } ∷ [])) }
+    /// Adds an allowed half-move with its charge, and gives the man that it captures.
+    fn add(&mut self, half: &Played) -> Option<Man>
+        requires allowed { Allowed (position_of self.old) half.now.what }
+        requires room { self.old.played < 1200 }
+        requires sound { IfSome half.now.charge IsChargeable }
+        ensures captured { result ≡ captured self.old half.now.what }
+        ensures after { self.new ≡ with_played self.old half.now }
     {
-        let made = *what;
-        self.position.after(made)
+        let mover = self.to_move();
+        let shown = self.position().shown(half.what);
+        let undo = self.position.make(half.what);
+        charge_clocks(&mut self.white, &mut self.black, mover, half.charge);
+        self.steps.push(Step { undo, shown });
+        self.list.push(*half);
+        self.kept = None;
+        self.played += 1;
+        undo.captured()
     }
 
     /// Makes an allowed half-move.
-    fn make(&mut self, what: &Move, moment: u64, stamp: Option<u32>)
+    fn make(&mut self, what: &Move, moment: u64, stamp: Option<u32>) -> Option<Man>
         requires allowed { Allowed (position_of self.old) what.now }
         requires room { self.old.played < 1200 }
         requires order { self.old.begin ≤ moment }
         requires moment { moment ≤ 2 ^ 48 }
         requires stamp { IfSome stamp IsStamp }
-        ensures { self.new ≡ with_half_move self.old what.now moment stamp }
+        ensures captured { result ≡ captured self.old what.now }
+        ensures after { self.new ≡ with_half_move self.old what.now moment stamp }
     {
         let charge = self.next_charge(moment, stamp);
-        let shown = plain_shown(self.position(), what);
-        let next = self.next_position(what);
-        let mover = self.to_move();
-        charge_clocks(&mut self.white, &mut self.black, mover, charge);
-        self.position = next;
-        self.last = Some(shown);
-        self.list.push(Played {
+        let captured = self.add(&Played {
             what: *what,
             charge,
         });
         self.begin = moment;
-        self.kept = None;
-        self.played += 1;
+        captured
     }
 
     /// Plays a word of `colour` at `moment`, in milliseconds, and gives the man that the half-move captures. `stamp` is
@@ -302,9 +320,7 @@ impl GameBoard {
         ensures unchanged { OnErr result (self.new ≡ self.old) }
     {
         let what = self.resolve(colour, word)?;
-        let captured = captured_by(self.position(), &what);
-        self.make(&what, moment, stamp);
-        Ok(captured)
+        Ok(self.make(&what, moment, stamp))
     }
 
     /// The client of `colour` acknowledges the board with its own time, below `STAMP_CYCLE`. The last stamp of the
@@ -397,7 +413,7 @@ fn is_same_colour(a: Colour, b: Colour) -> bool
 }
 
 /// Whether a colour has only a king.
-fn has_only_king(position: &PlainBoard, colour: Colour) -> bool
+fn has_only_king(position: &Position, colour: Colour) -> bool
     ensures { result ≡ has_only_king position.now.men colour }
 {
     position.men().iter().all(|man| is_bare(colour, man))

@@ -6,11 +6,13 @@
 //! whoever moved, and changes nothing where it refuses; `flag` answers by the clocks with the running time counted.
 #![tactic(auto)]
 
+mod board_face;
 mod causes;
 mod game_board;
 mod laws;
 mod played;
 
+pub use board_face::face;
 pub use clock_ledger::{Charge, ClockLedger};
 pub use game_board::{GameBoard, MOST_PLAYED};
 pub use laws::{

@@ -1,5 +1,6 @@
-use chess_model::Move;
+use chess_model::{Move, Shown};
 use clock_ledger::Charge;
+use variant_rules::Undo;
 
 /// A half-move of a game, with the charge that it made to its colour's clock.
 #[derive(Clone, Copy, Debug, PartialEq, Eq)]
@@ -7,4 +8,13 @@ pub struct Played {
     pub what: Move,
     /// None in an untimed game, and for the first half-move of each colour.
     pub charge: Option<Charge>,
+}
+
+/// What a board keeps of a half-move beside it.
+#[derive(Clone, Copy, Debug)]
+pub(crate) struct Step {
+    /// What takes the half-move back.
+    pub(crate) undo: Undo,
+    /// What a printed board shows of it.
+    pub(crate) shown: Shown,
 }

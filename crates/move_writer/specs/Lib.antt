@@ -1,5 +1,4 @@
 pub mod Blanks
-pub mod Face
 pub mod Letters
 pub mod Pretty
 pub mod Verbose

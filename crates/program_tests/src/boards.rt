@@ -88,9 +88,9 @@ e4|<12> rnbqkbnr pppppppp -------- -------- ----P--- -------- PPPP-PPP RNBQKBNR 
 P@e4|refused 4 NoDrops
 O-O|refused 3 CastleForbidden
 e5|<12> rnbqkbnr pppp-ppp -------- ----p--- ----P--- -------- PPPP-PPP RNBQKBNR W 4 1 1 1 1 0 1 White Black 0 0 0 39 39 0 0 2 P/e7-e5 (0:00) e5 0
-Nf3|<12> rnbqkbnr pppp-ppp -------- ----p--- ----P--- -----N-- PPPP-PPP RNBQKB-R B -1 1 1 1 1 1 1 White Black 0 0 0 39 39 0 0 2 N/g1-f3 (0:00) Ng1f3 0
-Nc6+|<12> r-bqkbnr pppp-ppp --n----- ----p--- ----P--- -----N-- PPPP-PPP RNBQKB-R W -1 1 1 1 1 2 1 White Black 0 0 0 39 39 0 0 3 N/b8-c6 (0:00) Nb8c6 0
-Bc4|<12> r-bqkbnr pppp-ppp --n----- ----p--- --B-P--- -----N-- PPPP-PPP RNBQK--R B -1 1 1 1 1 3 1 White Black 0 0 0 39 39 0 0 3 B/f1-c4 (0:00) Bf1c4 0
+Nf3|<12> rnbqkbnr pppp-ppp -------- ----p--- ----P--- -----N-- PPPP-PPP RNBQKB-R B -1 1 1 1 1 1 1 White Black 0 0 0 39 39 0 0 2 N/g1-f3 (0:00) Nf3 0
+Nc6+|<12> r-bqkbnr pppp-ppp --n----- ----p--- ----P--- -----N-- PPPP-PPP RNBQKB-R W -1 1 1 1 1 2 1 White Black 0 0 0 39 39 0 0 3 N/b8-c6 (0:00) Nc6 0
+Bc4|<12> r-bqkbnr pppp-ppp --n----- ----p--- --B-P--- -----N-- PPPP-PPP RNBQK--R B -1 1 1 1 1 3 1 White Black 0 0 0 39 39 0 0 3 B/f1-c4 (0:00) Bc4 0
 d7d6|<12> r-bqkbnr ppp--ppp --np---- ----p--- --B-P--- -----N-- PPPP-PPP RNBQK--R W -1 1 1 1 1 0 1 White Black 0 0 0 39 39 0 0 4 P/d7-d6 (0:00) d6 0
 e1g1|<12> r-bqkbnr ppp--ppp --np---- ----p--- --B-P--- -----N-- PPPP-PPP RNBQ-RK- B -1 0 0 1 1 1 1 White Black 0 0 0 39 39 0 0 4 o-o (0:00) O-O 0
 Kd8|refused 9 CannotReach

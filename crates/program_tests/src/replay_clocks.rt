@@ -25,7 +25,7 @@ seat Ann Ben 1 0 chess
   2|fics%\x20
 402500 1 > g1f3
   1|<12> rnbqkbnr pppp-ppp -------- ----p--- ----P--- -------- PPPP-PPP RNBQKBNR W 4 1 1 1 1 0 1 Ann Ben 1 1 0 39 39 60 60 2 P/e7-e5 (0:00) e5 0
-  1|<12> rnbqkbnr pppp-ppp -------- ----p--- ----P--- -----N-- PPPP-PPP RNBQKB-R B -1 1 1 1 1 1 1 Ann Ben -1 1 0 39 39 58 60 2 N/g1-f3 (0:01) Ng1f3 0
+  1|<12> rnbqkbnr pppp-ppp -------- ----p--- ----P--- -----N-- PPPP-PPP RNBQKB-R B -1 1 1 1 1 1 1 Ann Ben -1 1 0 39 39 58 60 2 N/g1-f3 (0:01) Nf3 0
   1|fics%\x20
 462499 1 > flag
   1|refused 14 NotFallen
@@ -35,7 +35,7 @@ seat Ann Ben 1 0 chess
   1|fics%\x20
 462600 2 ?
   2|
-  2|<12> rnbqkbnr pppp-ppp -------- ----p--- ----P--- -----N-- PPPP-PPP RNBQKB-R B -1 1 1 1 1 1 1 Ann Ben 1 1 0 39 39 58 60 2 N/g1-f3 (0:01) Ng1f3 1
+  2|<12> rnbqkbnr pppp-ppp -------- ----p--- ----P--- -----N-- PPPP-PPP RNBQKB-R B -1 1 1 1 1 1 1 Ann Ben 1 1 0 39 39 58 60 2 N/g1-f3 (0:01) Nf3 1
   2|{Game 1 (Ann vs. Ben) Ben forfeits on time} 1-0
   2|fics%\x20\
 ";
@@ -56,13 +56,13 @@ seat Ann Ben 1 0 chess
   2|fics%\x20
 60501 1 > g1f3
   1|<12> rnbqkbnr pppp-ppp -------- ----p--- ----P--- -------- PPPP-PPP RNBQKBNR W 4 1 1 1 1 0 1 Ann Ben 1 1 0 39 39 60 60 2 P/e7-e5 (0:00) e5 0
-  1|<12> rnbqkbnr pppp-ppp -------- ----p--- ----P--- -----N-- PPPP-PPP RNBQKB-R B -1 1 1 1 1 1 1 Ann Ben -1 1 0 39 39 0 60 2 N/g1-f3 (1:00) Ng1f3 0
+  1|<12> rnbqkbnr pppp-ppp -------- ----p--- ----P--- -----N-- PPPP-PPP RNBQKB-R B -1 1 1 1 1 1 1 Ann Ben -1 1 0 39 39 0 60 2 N/g1-f3 (1:00) Nf3 0
   1|fics%\x20
 60600 1 > flag
   1|refused 14 NotFallen
   1|fics%\x20
 60700 2 > flag
-  2|<12> rnbqkbnr pppp-ppp -------- ----p--- ----P--- -----N-- PPPP-PPP RNBQKB-R B -1 1 1 1 1 1 1 Ann Ben 1 1 0 39 39 0 60 2 N/g1-f3 (1:00) Ng1f3 1
+  2|<12> rnbqkbnr pppp-ppp -------- ----p--- ----P--- -----N-- PPPP-PPP RNBQKB-R B -1 1 1 1 1 1 1 Ann Ben 1 1 0 39 39 0 60 2 N/g1-f3 (1:00) Nf3 1
   2|{Game 1 (Ann vs. Ben) Ann forfeits on time} 0-1
   2|fics%\x20
 60700 1 > flag
@@ -87,7 +87,7 @@ seat Ann Ben 1 0 chess
   2|fics%\x20
 64500 1 > g1f3
   1|<12> rnbqkbnr pppp-ppp -------- ----p--- ----P--- -------- PPPP-PPP RNBQKBNR W 4 1 1 1 1 0 1 Ann Ben 1 1 0 39 39 60 60 2 P/e7-e5 (0:00) e5 0
-  1|<12> rnbqkbnr pppp-ppp -------- ----p--- ----P--- -----N-- PPPP-PPP RNBQKB-R B -1 1 1 1 1 1 1 Ann Ben -1 1 0 39 39 -2 60 2 N/g1-f3 (1:02) Ng1f3 0
+  1|<12> rnbqkbnr pppp-ppp -------- ----p--- ----P--- -----N-- PPPP-PPP RNBQKB-R B -1 1 1 1 1 1 1 Ann Ben -1 1 0 39 39 -2 60 2 N/g1-f3 (1:02) Nf3 0
   1|fics%\x20
 124499 1 > flag
   1|refused 14 NotFallen
@@ -97,7 +97,7 @@ seat Ann Ben 1 0 chess
   1|fics%\x20
 124600 2 ?
   2|
-  2|<12> rnbqkbnr pppp-ppp -------- ----p--- ----P--- -----N-- PPPP-PPP RNBQKB-R B -1 1 1 1 1 1 1 Ann Ben 1 1 0 39 39 -2 60 2 N/g1-f3 (1:02) Ng1f3 1
+  2|<12> rnbqkbnr pppp-ppp -------- ----p--- ----P--- -----N-- PPPP-PPP RNBQKB-R B -1 1 1 1 1 1 1 Ann Ben 1 1 0 39 39 -2 60 2 N/g1-f3 (1:02) Nf3 1
   2|{Game 1 (Ann vs. Ben) drawn by time} 1/2-1/2
   2|fics%\x20\
 ";
@@ -118,11 +118,11 @@ seat Ann Ben 1 0 chess
   2|fics%\x20
 3000 1 > g1f3
   1|<12> rnbqkbnr pppp-ppp -------- ----p--- ----P--- -------- PPPP-PPP RNBQKBNR W 4 1 1 1 1 0 1 Ann Ben 1 1 0 39 39 60 60 2 P/e7-e5 (0:00) e5 0
-  1|<12> rnbqkbnr pppp-ppp -------- ----p--- ----P--- -----N-- PPPP-PPP RNBQKB-R B -1 1 1 1 1 1 1 Ann Ben -1 1 0 39 39 59 60 2 N/g1-f3 (0:01) Ng1f3 0
+  1|<12> rnbqkbnr pppp-ppp -------- ----p--- ----P--- -----N-- PPPP-PPP RNBQKB-R B -1 1 1 1 1 1 1 Ann Ben -1 1 0 39 39 59 60 2 N/g1-f3 (0:01) Nf3 0
   1|fics%\x20
 64000 2 > b8c6
-  2|<12> rnbqkbnr pppp-ppp -------- ----p--- ----P--- -----N-- PPPP-PPP RNBQKB-R B -1 1 1 1 1 1 1 Ann Ben 1 1 0 39 39 59 60 2 N/g1-f3 (0:01) Ng1f3 1
-  2|<12> r-bqkbnr pppp-ppp --n----- ----p--- ----P--- -----N-- PPPP-PPP RNBQKB-R W -1 1 1 1 1 2 1 Ann Ben -1 1 0 39 39 59 -1 3 N/b8-c6 (1:01) Nb8c6 1
+  2|<12> rnbqkbnr pppp-ppp -------- ----p--- ----P--- -----N-- PPPP-PPP RNBQKB-R B -1 1 1 1 1 1 1 Ann Ben 1 1 0 39 39 59 60 2 N/g1-f3 (0:01) Nf3 1
+  2|<12> r-bqkbnr pppp-ppp --n----- ----p--- ----P--- -----N-- PPPP-PPP RNBQKB-R W -1 1 1 1 1 2 1 Ann Ben -1 1 0 39 39 59 -1 3 N/b8-c6 (1:01) Nc6 1
   2|fics%\x20
 122999 2 > flag
   2|refused 14 NotFallen
@@ -131,7 +131,7 @@ seat Ann Ben 1 0 chess
   2|{Game 1 (Ann vs. Ben) drawn by time} 1/2-1/2
   2|fics%\x20
 123000 1 >\x20
-  1|<12> r-bqkbnr pppp-ppp --n----- ----p--- ----P--- -----N-- PPPP-PPP RNBQKB-R W -1 1 1 1 1 2 1 Ann Ben 1 1 0 39 39 59 -1 3 N/b8-c6 (1:01) Nb8c6 0
+  1|<12> r-bqkbnr pppp-ppp --n----- ----p--- ----P--- -----N-- PPPP-PPP RNBQKB-R W -1 1 1 1 1 2 1 Ann Ben 1 1 0 39 39 59 -1 3 N/b8-c6 (1:01) Nc6 0
   1|{Game 1 (Ann vs. Ben) drawn by time} 1/2-1/2
   1|fics%\x20\
 ";
@@ -171,19 +171,19 @@ seat Ann Ben 0 0 chess
   2|fics%\x20
 100000000 1 > g1f3
   1|<12> rnbqkbnr -p--pppp p--p---- -------- -------- -------- PPPP-PPP RNBQKBNR W -1 1 1 1 1 0 1 Ann Ben 1 0 0 38 38 0 0 4 P/c7-d6 (0:00) cxd6 0
-  1|<12> rnbqkbnr -p--pppp p--p---- -------- -------- -----N-- PPPP-PPP RNBQKB-R B -1 1 1 1 1 1 1 Ann Ben -1 0 0 38 38 0 0 4 N/g1-f3 (0:00) Ng1f3 0
+  1|<12> rnbqkbnr -p--pppp p--p---- -------- -------- -----N-- PPPP-PPP RNBQKB-R B -1 1 1 1 1 1 1 Ann Ben -1 0 0 38 38 0 0 4 N/g1-f3 (0:00) Nf3 0
   1|fics%\x20
 100000000 2 > a8a7
-  2|<12> rnbqkbnr -p--pppp p--p---- -------- -------- -----N-- PPPP-PPP RNBQKB-R B -1 1 1 1 1 1 1 Ann Ben 1 0 0 38 38 0 0 4 N/g1-f3 (0:00) Ng1f3 1
-  2|<12> -nbqkbnr rp--pppp p--p---- -------- -------- -----N-- PPPP-PPP RNBQKB-R W -1 1 1 1 0 2 1 Ann Ben -1 0 0 38 38 0 0 5 R/a8-a7 (0:00) Ra8a7 1
+  2|<12> rnbqkbnr -p--pppp p--p---- -------- -------- -----N-- PPPP-PPP RNBQKB-R B -1 1 1 1 1 1 1 Ann Ben 1 0 0 38 38 0 0 4 N/g1-f3 (0:00) Nf3 1
+  2|<12> -nbqkbnr rp--pppp p--p---- -------- -------- -----N-- PPPP-PPP RNBQKB-R W -1 1 1 1 0 2 1 Ann Ben -1 0 0 38 38 0 0 5 R/a8-a7 (0:00) Ra7 1
   2|fics%\x20
 200000000 1 > h1g1
-  1|<12> -nbqkbnr rp--pppp p--p---- -------- -------- -----N-- PPPP-PPP RNBQKB-R W -1 1 1 1 0 2 1 Ann Ben 1 0 0 38 38 0 0 5 R/a8-a7 (0:00) Ra8a7 0
-  1|<12> -nbqkbnr rp--pppp p--p---- -------- -------- -----N-- PPPP-PPP RNBQKBR- B -1 0 1 1 0 3 1 Ann Ben -1 0 0 38 38 0 0 5 R/h1-g1 (0:00) Rh1g1 0
+  1|<12> -nbqkbnr rp--pppp p--p---- -------- -------- -----N-- PPPP-PPP RNBQKB-R W -1 1 1 1 0 2 1 Ann Ben 1 0 0 38 38 0 0 5 R/a8-a7 (0:00) Ra7 0
+  1|<12> -nbqkbnr rp--pppp p--p---- -------- -------- -----N-- PPPP-PPP RNBQKBR- B -1 0 1 1 0 3 1 Ann Ben -1 0 0 38 38 0 0 5 R/h1-g1 (0:00) Rg1 0
   1|fics%\x20
 200000000 2 > flag
   2|refused 14 NotFallen
-  2|<12> -nbqkbnr rp--pppp p--p---- -------- -------- -----N-- PPPP-PPP RNBQKBR- B -1 0 1 1 0 3 1 Ann Ben 1 0 0 38 38 0 0 5 R/h1-g1 (0:00) Rh1g1 1
+  2|<12> -nbqkbnr rp--pppp p--p---- -------- -------- -----N-- PPPP-PPP RNBQKBR- B -1 0 1 1 0 3 1 Ann Ben 1 0 0 38 38 0 0 5 R/h1-g1 (0:00) Rg1 1
   2|fics%\x20\
 ";
 
@@ -204,19 +204,19 @@ seat Ann Ben 0 3 chess
   2|fics%\x20
 7000 1 > g1f3
   1|<12> rnbqkbnr pppp-ppp -------- ----p--- ----P--- -------- PPPP-PPP RNBQKBNR W 4 1 1 1 1 0 1 Ann Ben 1 0 3 39 39 10 10 2 P/e7-e5 (0:00) e5 0
-  1|<12> rnbqkbnr pppp-ppp -------- ----p--- ----P--- -----N-- PPPP-PPP RNBQKB-R B -1 1 1 1 1 1 1 Ann Ben -1 0 3 39 39 8 10 2 N/g1-f3 (0:05) Ng1f3 0
+  1|<12> rnbqkbnr pppp-ppp -------- ----p--- ----P--- -----N-- PPPP-PPP RNBQKB-R B -1 1 1 1 1 1 1 Ann Ben -1 0 3 39 39 8 10 2 N/g1-f3 (0:05) Nf3 0
   1|fics%\x20
 8250 2 > b8c6
-  2|<12> rnbqkbnr pppp-ppp -------- ----p--- ----P--- -----N-- PPPP-PPP RNBQKB-R B -1 1 1 1 1 1 1 Ann Ben 1 0 3 39 39 8 10 2 N/g1-f3 (0:05) Ng1f3 1
-  2|<12> r-bqkbnr pppp-ppp --n----- ----p--- ----P--- -----N-- PPPP-PPP RNBQKB-R W -1 1 1 1 1 2 1 Ann Ben -1 0 3 39 39 8 11 3 N/b8-c6 (0:01) Nb8c6 1
+  2|<12> rnbqkbnr pppp-ppp -------- ----p--- ----P--- -----N-- PPPP-PPP RNBQKB-R B -1 1 1 1 1 1 1 Ann Ben 1 0 3 39 39 8 10 2 N/g1-f3 (0:05) Nf3 1
+  2|<12> r-bqkbnr pppp-ppp --n----- ----p--- ----P--- -----N-- PPPP-PPP RNBQKB-R W -1 1 1 1 1 2 1 Ann Ben -1 0 3 39 39 8 11 3 N/b8-c6 (0:01) Nc6 1
   2|fics%\x20
 19249 1 > f1b5
-  1|<12> r-bqkbnr pppp-ppp --n----- ----p--- ----P--- -----N-- PPPP-PPP RNBQKB-R W -1 1 1 1 1 2 1 Ann Ben 1 0 3 39 39 8 11 3 N/b8-c6 (0:01) Nb8c6 0
-  1|<12> r-bqkbnr pppp-ppp --n----- -B--p--- ----P--- -----N-- PPPP-PPP RNBQK--R B -1 1 1 1 1 3 1 Ann Ben -1 0 3 39 39 0 11 3 B/f1-b5 (0:10) Bf1b5 0
+  1|<12> r-bqkbnr pppp-ppp --n----- ----p--- ----P--- -----N-- PPPP-PPP RNBQKB-R W -1 1 1 1 1 2 1 Ann Ben 1 0 3 39 39 8 11 3 N/b8-c6 (0:01) Nc6 0
+  1|<12> r-bqkbnr pppp-ppp --n----- -B--p--- ----P--- -----N-- PPPP-PPP RNBQK--R B -1 1 1 1 1 3 1 Ann Ben -1 0 3 39 39 0 11 3 B/f1-b5 (0:10) Bb5 0
   1|fics%\x20
 19249 2 > flag
   2|refused 14 NotFallen
-  2|<12> r-bqkbnr pppp-ppp --n----- -B--p--- ----P--- -----N-- PPPP-PPP RNBQK--R B -1 1 1 1 1 3 1 Ann Ben 1 0 3 39 39 0 11 3 B/f1-b5 (0:10) Bf1b5 1
+  2|<12> r-bqkbnr pppp-ppp --n----- -B--p--- ----P--- -----N-- PPPP-PPP RNBQK--R B -1 1 1 1 1 3 1 Ann Ben 1 0 3 39 39 0 11 3 B/f1-b5 (0:10) Bb5 1
   2|fics%\x20
 33999 2 > a7a6
   2|<12> r-bqkbnr -ppp-ppp p-n----- -B--p--- ----P--- -----N-- PPPP-PPP RNBQK--R W -1 1 1 1 1 0 1 Ann Ben -1 0 3 39 39 0 0 4 P/a7-a6 (0:14) a6 1
@@ -247,26 +247,26 @@ seat Ann Ben 2 12 chess
   2|fics%\x20
 76000 1 > g1f3
   1|<12> rnbqkbnr pppp-ppp -------- ----p--- ----P--- -------- PPPP-PPP RNBQKBNR W 4 1 1 1 1 0 1 Ann Ben 1 2 12 39 39 120 120 2 P/e7-e5 (0:00) e5 0
-  1|<12> rnbqkbnr pppp-ppp -------- ----p--- ----P--- -----N-- PPPP-PPP RNBQKB-R B -1 1 1 1 1 1 1 Ann Ben -1 2 12 39 39 57 120 2 N/g1-f3 (1:15) Ng1f3 0
+  1|<12> rnbqkbnr pppp-ppp -------- ----p--- ----P--- -----N-- PPPP-PPP RNBQKB-R B -1 1 1 1 1 1 1 Ann Ben -1 2 12 39 39 57 120 2 N/g1-f3 (1:15) Nf3 0
   1|fics%\x20
 3801999 2 > b8c6
-  2|<12> rnbqkbnr pppp-ppp -------- ----p--- ----P--- -----N-- PPPP-PPP RNBQKB-R B -1 1 1 1 1 1 1 Ann Ben 1 2 12 39 39 57 120 2 N/g1-f3 (1:15) Ng1f3 1
-  2|<12> r-bqkbnr pppp-ppp --n----- ----p--- ----P--- -----N-- PPPP-PPP RNBQKB-R W -1 1 1 1 1 2 1 Ann Ben -1 2 12 39 39 57 -3593 3 N/b8-c6 (62:05) Nb8c6 1
+  2|<12> rnbqkbnr pppp-ppp -------- ----p--- ----P--- -----N-- PPPP-PPP RNBQKB-R B -1 1 1 1 1 1 1 Ann Ben 1 2 12 39 39 57 120 2 N/g1-f3 (1:15) Nf3 1
+  2|<12> r-bqkbnr pppp-ppp --n----- ----p--- ----P--- -----N-- PPPP-PPP RNBQKB-R W -1 1 1 1 1 2 1 Ann Ben -1 2 12 39 39 57 -3593 3 N/b8-c6 (62:05) Nc6 1
   2|fics%\x20
 3802998 1 > f1b5
-  1|<12> r-bqkbnr pppp-ppp --n----- ----p--- ----P--- -----N-- PPPP-PPP RNBQKB-R W -1 1 1 1 1 2 1 Ann Ben 1 2 12 39 39 57 -3593 3 N/b8-c6 (62:05) Nb8c6 0
-  1|<12> r-bqkbnr pppp-ppp --n----- -B--p--- ----P--- -----N-- PPPP-PPP RNBQK--R B -1 1 1 1 1 3 1 Ann Ben -1 2 12 39 39 68 -3593 3 B/f1-b5 (0:00) Bf1b5 0
+  1|<12> r-bqkbnr pppp-ppp --n----- ----p--- ----P--- -----N-- PPPP-PPP RNBQKB-R W -1 1 1 1 1 2 1 Ann Ben 1 2 12 39 39 57 -3593 3 N/b8-c6 (62:05) Nc6 0
+  1|<12> r-bqkbnr pppp-ppp --n----- -B--p--- ----P--- -----N-- PPPP-PPP RNBQK--R B -1 1 1 1 1 3 1 Ann Ben -1 2 12 39 39 68 -3593 3 B/f1-b5 (0:00) Bb5 0
   1|fics%\x20
 3804498 2 > a7a6
-  2|<12> r-bqkbnr pppp-ppp --n----- -B--p--- ----P--- -----N-- PPPP-PPP RNBQK--R B -1 1 1 1 1 3 1 Ann Ben 1 2 12 39 39 68 -3593 3 B/f1-b5 (0:00) Bf1b5 1
+  2|<12> r-bqkbnr pppp-ppp --n----- -B--p--- ----P--- -----N-- PPPP-PPP RNBQK--R B -1 1 1 1 1 3 1 Ann Ben 1 2 12 39 39 68 -3593 3 B/f1-b5 (0:00) Bb5 1
   2|<12> r-bqkbnr -ppp-ppp p-n----- -B--p--- ----P--- -----N-- PPPP-PPP RNBQK--R W -1 1 1 1 1 0 1 Ann Ben -1 2 12 39 39 68 -3583 4 P/a7-a6 (0:01) a6 1
   2|fics%\x20
 3811497 1 > b5c6
   1|<12> r-bqkbnr -ppp-ppp p-n----- -B--p--- ----P--- -----N-- PPPP-PPP RNBQK--R W -1 1 1 1 1 0 1 Ann Ben 1 2 12 39 39 68 -3583 4 P/a7-a6 (0:01) a6 0
-  1|<12> r-bqkbnr -ppp-ppp p-B----- ----p--- ----P--- -----N-- PPPP-PPP RNBQK--R B -1 1 1 1 1 0 1 Ann Ben -1 2 12 39 36 73 -3583 4 B/b5-c6 (0:06) Bb5xc6 0
+  1|<12> r-bqkbnr -ppp-ppp p-B----- ----p--- ----P--- -----N-- PPPP-PPP RNBQK--R B -1 1 1 1 1 0 1 Ann Ben -1 2 12 39 36 73 -3583 4 B/b5-c6 (0:06) Bxc6 0
   1|fics%\x20
 3940498 2 > d7c6
-  2|<12> r-bqkbnr -ppp-ppp p-B----- ----p--- ----P--- -----N-- PPPP-PPP RNBQK--R B -1 1 1 1 1 0 1 Ann Ben 1 2 12 39 36 73 -3583 4 B/b5-c6 (0:06) Bb5xc6 1
+  2|<12> r-bqkbnr -ppp-ppp p-B----- ----p--- ----P--- -----N-- PPPP-PPP RNBQK--R B -1 1 1 1 1 0 1 Ann Ben 1 2 12 39 36 73 -3583 4 B/b5-c6 (0:06) Bxc6 1
   2|<12> r-bqkbnr -pp--ppp p-p----- ----p--- ----P--- -----N-- PPPP-PPP RNBQK--R W -1 1 1 1 1 0 1 Ann Ben -1 2 12 36 36 73 -3700 5 P/d7-c6 (2:09) dxc6 1
   2|fics%\x20
 3940498 2 ?\
@@ -288,15 +288,15 @@ seat Ann Ben 600 600 chess
   2|fics%\x20
 281474976710656 1 > g1f3
   1|<12> rnbqkbnr pppp-ppp -------- ----p--- ----P--- -------- PPPP-PPP RNBQKBNR W 4 1 1 1 1 0 1 Ann Ben 1 600 600 39 39 36000 36000 2 P/e7-e5 (0:00) e5 0
-  1|<12> rnbqkbnr pppp-ppp -------- ----p--- ----P--- -----N-- PPPP-PPP RNBQKB-R B -1 1 1 1 1 1 1 Ann Ben -1 600 600 39 39 -281474940110 36000 2 N/g1-f3 (4691249611:50) Ng1f3 0
+  1|<12> rnbqkbnr pppp-ppp -------- ----p--- ----P--- -----N-- PPPP-PPP RNBQKB-R B -1 1 1 1 1 1 1 Ann Ben -1 600 600 39 39 -281474940110 36000 2 N/g1-f3 (4691249611:50) Nf3 0
   1|fics%\x20
 281474976710656 2 > b8c6
-  2|<12> rnbqkbnr pppp-ppp -------- ----p--- ----P--- -----N-- PPPP-PPP RNBQKB-R B -1 1 1 1 1 1 1 Ann Ben 1 600 600 39 39 -281474940110 36000 2 N/g1-f3 (4691249611:50) Ng1f3 1
-  2|<12> r-bqkbnr pppp-ppp --n----- ----p--- ----P--- -----N-- PPPP-PPP RNBQKB-R W -1 1 1 1 1 2 1 Ann Ben -1 600 600 39 39 -281474940110 36600 3 N/b8-c6 (0:00) Nb8c6 1
+  2|<12> rnbqkbnr pppp-ppp -------- ----p--- ----P--- -----N-- PPPP-PPP RNBQKB-R B -1 1 1 1 1 1 1 Ann Ben 1 600 600 39 39 -281474940110 36000 2 N/g1-f3 (4691249611:50) Nf3 1
+  2|<12> r-bqkbnr pppp-ppp --n----- ----p--- ----P--- -----N-- PPPP-PPP RNBQKB-R W -1 1 1 1 1 2 1 Ann Ben -1 600 600 39 39 -281474940110 36600 3 N/b8-c6 (0:00) Nc6 1
   2|fics%\x20
 281474976710656 1 > flag
   1|refused 14 NotFallen
-  1|<12> r-bqkbnr pppp-ppp --n----- ----p--- ----P--- -----N-- PPPP-PPP RNBQKB-R W -1 1 1 1 1 2 1 Ann Ben 1 600 600 39 39 -281474940110 36600 3 N/b8-c6 (0:00) Nb8c6 0
+  1|<12> r-bqkbnr pppp-ppp --n----- ----p--- ----P--- -----N-- PPPP-PPP RNBQKB-R W -1 1 1 1 1 2 1 Ann Ben 1 600 600 39 39 -281474940110 36600 3 N/b8-c6 (0:00) Nc6 0
   1|fics%\x20
 281474976710656 2 > flag
   2|{Game 1 (Ann vs. Ben) Ann forfeits on time} 0-1

@@ -25,10 +25,10 @@ seat Ann Ben 2 12 chess
   2|fics%\x20
 9000 1 > g1f3
   1|<12> rnbqkbnr pppp-ppp -------- ----p--- ----P--- -------- PPPP-PPP RNBQKBNR W 4 1 1 1 1 0 1 Ann Ben 1 2 12 39 39 120 120 2 P/e7-e5 (0:00) e5 0
-  1|<12> rnbqkbnr pppp-ppp -------- ----p--- ----P--- -----N-- PPPP-PPP RNBQKB-R B -1 1 1 1 1 1 1 Ann Ben -1 2 12 39 39 128 120 2 N/g1-f3 (0:04) Ng1f3 0
+  1|<12> rnbqkbnr pppp-ppp -------- ----p--- ----P--- -----N-- PPPP-PPP RNBQKB-R B -1 1 1 1 1 1 1 Ann Ben -1 2 12 39 39 128 120 2 N/g1-f3 (0:04) Nf3 0
   1|fics%\x20
 9500 2 > resign
-  2|<12> rnbqkbnr pppp-ppp -------- ----p--- ----P--- -----N-- PPPP-PPP RNBQKB-R B -1 1 1 1 1 1 1 Ann Ben 1 2 12 39 39 128 120 2 N/g1-f3 (0:04) Ng1f3 1
+  2|<12> rnbqkbnr pppp-ppp -------- ----p--- ----P--- -----N-- PPPP-PPP RNBQKB-R B -1 1 1 1 1 1 1 Ann Ben 1 2 12 39 39 128 120 2 N/g1-f3 (0:04) Nf3 1
   2|{Game 1 (Ann vs. Ben) Ben resigns} 1-0
   2|fics%\x20\
 ";
@@ -172,11 +172,11 @@ seat Ann Ben 3 0 chess
   2|fics%\x20
 6000 1 > d1h5
   1|<12> rnbqkbnr ppppp-pp -----p-- -------- ----P--- -------- PPPP-PPP RNBQKBNR W -1 1 1 1 1 0 1 Ann Ben 1 3 0 39 39 180 180 2 P/f7-f6 (0:00) f6 0
-  1|<12> rnbqkbnr ppppp-pp -----p-- -------Q ----P--- -------- PPPP-PPP RNB-KBNR B -1 1 1 1 1 1 1 Ann Ben -1 3 0 39 39 178 180 2 Q/d1-h5 (0:02) Qd1h5 0
+  1|<12> rnbqkbnr ppppp-pp -----p-- -------Q ----P--- -------- PPPP-PPP RNB-KBNR B -1 1 1 1 1 1 1 Ann Ben -1 3 0 39 39 178 180 2 Q/d1-h5 (0:02) Qh5+ 0
   1|fics%\x20
 7000 2 > a7a6
   2|refused 2 LeavesKing
-  2|<12> rnbqkbnr ppppp-pp -----p-- -------Q ----P--- -------- PPPP-PPP RNB-KBNR B -1 1 1 1 1 1 1 Ann Ben 1 3 0 39 39 178 180 2 Q/d1-h5 (0:02) Qd1h5 1
+  2|<12> rnbqkbnr ppppp-pp -----p-- -------Q ----P--- -------- PPPP-PPP RNB-KBNR B -1 1 1 1 1 1 1 Ann Ben 1 3 0 39 39 178 180 2 Q/d1-h5 (0:02) Qh5+ 1
   2|fics%\x20
 7500 2 > g7g5
   2|refused 2 LeavesKing
@@ -195,10 +195,10 @@ seat Ann Ben 3 0 chess
   2|fics%\x20
 9500 1 > h5g6
   1|<12> rnbqkbnr ppppp--p -----pp- -------Q ----P--- -------- PPPP-PPP RNB-KBNR W -1 1 1 1 1 0 1 Ann Ben 1 3 0 39 39 178 177 3 P/g7-g6 (0:03) g6 0
-  1|<12> rnbqkbnr ppppp--p -----pQ- -------- ----P--- -------- PPPP-PPP RNB-KBNR B -1 1 1 1 1 0 1 Ann Ben -1 3 0 39 38 177 177 3 Q/h5-g6 (0:00) Qh5xg6 0
+  1|<12> rnbqkbnr ppppp--p -----pQ- -------- ----P--- -------- PPPP-PPP RNB-KBNR B -1 1 1 1 1 0 1 Ann Ben -1 3 0 39 38 177 177 3 Q/h5-g6 (0:00) Qxg6+ 0
   1|fics%\x20
 10500 2 > h7g6
-  2|<12> rnbqkbnr ppppp--p -----pQ- -------- ----P--- -------- PPPP-PPP RNB-KBNR B -1 1 1 1 1 0 1 Ann Ben 1 3 0 39 38 177 177 3 Q/h5-g6 (0:00) Qh5xg6 1
+  2|<12> rnbqkbnr ppppp--p -----pQ- -------- ----P--- -------- PPPP-PPP RNB-KBNR B -1 1 1 1 1 0 1 Ann Ben 1 3 0 39 38 177 177 3 Q/h5-g6 (0:00) Qxg6+ 1
   2|<12> rnbqkbnr ppppp--- -----pp- -------- ----P--- -------- PPPP-PPP RNB-KBNR W -1 1 1 1 1 0 1 Ann Ben -1 3 0 30 38 177 176 4 P/h7-g6 (0:01) hxg6 1
   2|fics%\x20\
 ";
@@ -292,35 +292,35 @@ seat Ann Ben 0 0 chess
   2|fics%\x20
 0 1 > e1e2
   1|<12> rnbqkbnr pppp-ppp -------- ----p--- ----P--- -------- PPPP-PPP RNBQKBNR W 4 1 1 1 1 0 1 Ann Ben 1 0 0 39 39 0 0 2 P/e7-e5 (0:00) e5 0
-  1|<12> rnbqkbnr pppp-ppp -------- ----p--- ----P--- -------- PPPPKPPP RNBQ-BNR B -1 0 0 1 1 1 1 Ann Ben -1 0 0 39 39 0 0 2 K/e1-e2 (0:00) Ke1e2 0
+  1|<12> rnbqkbnr pppp-ppp -------- ----p--- ----P--- -------- PPPPKPPP RNBQ-BNR B -1 0 0 1 1 1 1 Ann Ben -1 0 0 39 39 0 0 2 K/e1-e2 (0:00) Ke2 0
   1|fics%\x20
 0 2 > e8e7
-  2|<12> rnbqkbnr pppp-ppp -------- ----p--- ----P--- -------- PPPPKPPP RNBQ-BNR B -1 0 0 1 1 1 1 Ann Ben 1 0 0 39 39 0 0 2 K/e1-e2 (0:00) Ke1e2 1
-  2|<12> rnbq-bnr ppppkppp -------- ----p--- ----P--- -------- PPPPKPPP RNBQ-BNR W -1 0 0 0 0 2 1 Ann Ben -1 0 0 39 39 0 0 3 K/e8-e7 (0:00) Ke8e7 1
+  2|<12> rnbqkbnr pppp-ppp -------- ----p--- ----P--- -------- PPPPKPPP RNBQ-BNR B -1 0 0 1 1 1 1 Ann Ben 1 0 0 39 39 0 0 2 K/e1-e2 (0:00) Ke2 1
+  2|<12> rnbq-bnr ppppkppp -------- ----p--- ----P--- -------- PPPPKPPP RNBQ-BNR W -1 0 0 0 0 2 1 Ann Ben -1 0 0 39 39 0 0 3 K/e8-e7 (0:00) Ke7 1
   2|fics%\x20
 0 1 > e1g1
   1|refused 8 NoPiece
-  1|<12> rnbq-bnr ppppkppp -------- ----p--- ----P--- -------- PPPPKPPP RNBQ-BNR W -1 0 0 0 0 2 1 Ann Ben 1 0 0 39 39 0 0 3 K/e8-e7 (0:00) Ke8e7 0
+  1|<12> rnbq-bnr ppppkppp -------- ----p--- ----P--- -------- PPPPKPPP RNBQ-BNR W -1 0 0 0 0 2 1 Ann Ben 1 0 0 39 39 0 0 3 K/e8-e7 (0:00) Ke7 0
   1|fics%\x20
 0 1 > e2e1
-  1|<12> rnbq-bnr ppppkppp -------- ----p--- ----P--- -------- PPPP-PPP RNBQKBNR B -1 0 0 0 0 3 1 Ann Ben -1 0 0 39 39 0 0 3 K/e2-e1 (0:00) Ke2e1 0
+  1|<12> rnbq-bnr ppppkppp -------- ----p--- ----P--- -------- PPPP-PPP RNBQKBNR B -1 0 0 0 0 3 1 Ann Ben -1 0 0 39 39 0 0 3 K/e2-e1 (0:00) Ke1 0
   1|fics%\x20
 0 2 > e7e8
-  2|<12> rnbq-bnr ppppkppp -------- ----p--- ----P--- -------- PPPP-PPP RNBQKBNR B -1 0 0 0 0 3 1 Ann Ben 1 0 0 39 39 0 0 3 K/e2-e1 (0:00) Ke2e1 1
-  2|<12> rnbqkbnr pppp-ppp -------- ----p--- ----P--- -------- PPPP-PPP RNBQKBNR W -1 0 0 0 0 4 1 Ann Ben -1 0 0 39 39 0 0 4 K/e7-e8 (0:00) Ke7e8 1
+  2|<12> rnbq-bnr ppppkppp -------- ----p--- ----P--- -------- PPPP-PPP RNBQKBNR B -1 0 0 0 0 3 1 Ann Ben 1 0 0 39 39 0 0 3 K/e2-e1 (0:00) Ke1 1
+  2|<12> rnbqkbnr pppp-ppp -------- ----p--- ----P--- -------- PPPP-PPP RNBQKBNR W -1 0 0 0 0 4 1 Ann Ben -1 0 0 39 39 0 0 4 K/e7-e8 (0:00) Ke8 1
   2|fics%\x20
 0 2 > e8c8
   2|refused 11 NotYourTurn
   2|fics%\x20
 0 1 > e1g1
   1|refused 3 CastleForbidden
-  1|<12> rnbqkbnr pppp-ppp -------- ----p--- ----P--- -------- PPPP-PPP RNBQKBNR W -1 0 0 0 0 4 1 Ann Ben 1 0 0 39 39 0 0 4 K/e7-e8 (0:00) Ke7e8 0
+  1|<12> rnbqkbnr pppp-ppp -------- ----p--- ----P--- -------- PPPP-PPP RNBQKBNR W -1 0 0 0 0 4 1 Ann Ben 1 0 0 39 39 0 0 4 K/e7-e8 (0:00) Ke8 0
   1|fics%\x20
 0 1 > O-O-O
   1|refused 3 CastleForbidden
   1|fics%\x20
 0 1 > g1f3
-  1|<12> rnbqkbnr pppp-ppp -------- ----p--- ----P--- -----N-- PPPP-PPP RNBQKB-R B -1 0 0 0 0 5 1 Ann Ben -1 0 0 39 39 0 0 4 N/g1-f3 (0:00) Ng1f3 0
+  1|<12> rnbqkbnr pppp-ppp -------- ----p--- ----P--- -----N-- PPPP-PPP RNBQKB-R B -1 0 0 0 0 5 1 Ann Ben -1 0 0 39 39 0 0 4 N/g1-f3 (0:00) Nf3 0
   1|fics%\x20\
 ";
 
@@ -352,10 +352,10 @@ seat Ann Ben 3 1 chess
   1|fics%\x20
 6000 2 > f8g7
   2|<12> rnbqkbnr pppppp-- -------P -------- -------- -------- PPPPPPP- RNBQKBNR B -1 1 1 1 1 0 1 Ann Ben 1 3 1 39 37 180 180 3 P/g5-h6 (0:01) gxh6 1
-  2|<12> rnbqk-nr ppppppb- -------P -------- -------- -------- PPPPPPP- RNBQKBNR W -1 1 1 1 1 1 1 Ann Ben -1 3 1 39 37 180 180 4 B/f8-g7 (0:01) Bf8g7 1
+  2|<12> rnbqk-nr ppppppb- -------P -------- -------- -------- PPPPPPP- RNBQKBNR W -1 1 1 1 1 1 1 Ann Ben -1 3 1 39 37 180 180 4 B/f8-g7 (0:01) Bg7 1
   2|fics%\x20
 7000 1 > h6g7
-  1|<12> rnbqk-nr ppppppb- -------P -------- -------- -------- PPPPPPP- RNBQKBNR W -1 1 1 1 1 1 1 Ann Ben 1 3 1 39 37 180 180 4 B/f8-g7 (0:01) Bf8g7 0
+  1|<12> rnbqk-nr ppppppb- -------P -------- -------- -------- PPPPPPP- RNBQKBNR W -1 1 1 1 1 1 1 Ann Ben 1 3 1 39 37 180 180 4 B/f8-g7 (0:01) Bg7 0
   1|<12> rnbqk-nr ppppppP- -------- -------- -------- -------- PPPPPPP- RNBQKBNR B -1 1 1 1 1 0 1 Ann Ben -1 3 1 39 34 180 180 4 P/h6-g7 (0:01) hxg7 0
   1|fics%\x20
 7000 1 > g7h8
@@ -377,11 +377,11 @@ seat Ann Ben 3 1 chess
 
 /// The last lines of the game of 1,200 half-moves.
 const LAST_OF_1200: &str = "\
-2|<12> rnbqkb-r pppppppp -----n-- -------- -------- -------- PPPPPPPP RNBQKBNR B -1 1 1 1 1 1199 1 Ann Ben 1 0 0 39 39 0 0 600 N/f3-g1 (0:00) Nf3g1 1
-2|<12> rnbqkbnr pppppppp -------- -------- -------- -------- PPPPPPPP RNBQKBNR W -1 1 1 1 1 1200 1 Ann Ben -1 0 0 39 39 0 0 601 N/f6-g8 (0:00) Nf6g8 1
+2|<12> rnbqkb-r pppppppp -----n-- -------- -------- -------- PPPPPPPP RNBQKBNR B -1 1 1 1 1 1199 1 Ann Ben 1 0 0 39 39 0 0 600 N/f3-g1 (0:00) Ng1 1
+2|<12> rnbqkbnr pppppppp -------- -------- -------- -------- PPPPPPPP RNBQKBNR W -1 1 1 1 1 1200 1 Ann Ben -1 0 0 39 39 0 0 601 N/f6-g8 (0:00) Ng8 1
 2|fics%\x20
 1|refused 12 TooManyMoves
-1|<12> rnbqkbnr pppppppp -------- -------- -------- -------- PPPPPPPP RNBQKBNR W -1 1 1 1 1 1200 1 Ann Ben 1 0 0 39 39 0 0 601 N/f6-g8 (0:00) Nf6g8 0
+1|<12> rnbqkbnr pppppppp -------- -------- -------- -------- PPPPPPPP RNBQKBNR W -1 1 1 1 1 1200 1 Ann Ben 1 0 0 39 39 0 0 601 N/f6-g8 (0:00) Ng8 0
 1|fics%\x20
 1|refused 12 TooManyMoves
 1|fics%\x20

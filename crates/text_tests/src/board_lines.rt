@@ -1,7 +1,7 @@
 //! Board lines of games that are played.
 
-use crate::games::{Game, line_of, played, untimed};
-use chess_model::{State, Variant};
+use crate::games::{line_of, played, untimed};
+use chess_model::Variant;
 use std::test::Fail;
 use style12_writer::{BoardView, Viewer};
 
@@ -32,11 +32,11 @@ const CHESS: [(&str, &str); 14] = [
     ),
     (
         "a2a4 h7h5 b1c3",
-        "<12> rnbqkbnr ppppppp- -------- -------p P------- --N----- -PPPPPPP R-BQKBNR B -1 1 1 1 1 1 1 White Black 0 0 0 39 39 0 0 2 N/b1-c3 (0:00) Nb1c3 0",
+        "<12> rnbqkbnr ppppppp- -------- -------p P------- --N----- -PPPPPPP R-BQKBNR B -1 1 1 1 1 1 1 White Black 0 0 0 39 39 0 0 2 N/b1-c3 (0:00) Nc3 0",
     ),
     (
         "e2e4 d7d5 e4d5 d8d5",
-        "<12> rnb-kbnr ppp-pppp -------- ---q---- -------- -------- PPPP-PPP RNBQKBNR W -1 1 1 1 1 0 1 White Black 0 0 0 38 38 0 0 3 Q/d8-d5 (0:00) Qd8xd5 0",
+        "<12> rnb-kbnr ppp-pppp -------- ---q---- -------- -------- PPPP-PPP RNBQKBNR W -1 1 1 1 1 0 1 White Black 0 0 0 38 38 0 0 3 Q/d8-d5 (0:00) Qxd5 0",
     ),
     (
         "e2e4 a7a6 e4e5 d7d5",
@@ -50,12 +50,12 @@ const CHESS: [(&str, &str); 14] = [
     // the king's move takes both rights away
     (
         "e2e4 e7e5 e1e2",
-        "<12> rnbqkbnr pppp-ppp -------- ----p--- ----P--- -------- PPPPKPPP RNBQ-BNR B -1 0 0 1 1 1 1 White Black 0 0 0 39 39 0 0 2 K/e1-e2 (0:00) Ke1e2 0",
+        "<12> rnbqkbnr pppp-ppp -------- ----p--- ----P--- -------- PPPPKPPP RNBQ-BNR B -1 0 0 1 1 1 1 White Black 0 0 0 39 39 0 0 2 K/e1-e2 (0:00) Ke2 0",
     ),
     // a rook's move takes one away, and its way back doesn't give it again
     (
         "a2a4 a7a5 a1a2 a8a7 a2a1",
-        "<12> -nbqkbnr rppppppp -------- p------- P------- -------- -PPPPPPP RNBQKBNR B -1 1 0 1 0 3 1 White Black 0 0 0 39 39 0 0 3 R/a2-a1 (0:00) Ra2a1 0",
+        "<12> -nbqkbnr rppppppp -------- p------- P------- -------- -PPPPPPP RNBQKBNR B -1 1 0 1 0 3 1 White Black 0 0 0 39 39 0 0 3 R/a2-a1 (0:00) Ra1 0",
     ),
     (
         "g1f3 g8f6 g2g3 g7g6 f1g2 f8g7 O-O",
@@ -99,17 +99,6 @@ fn shows_a_drop(rt: HostRuntime) -> Result<(), Fail> {
     Ok(())
 }
 
-/// The same game, its last half-move with the short text's marks.
-fn shown_as(game: &Game, by_file: bool, after: State) -> Game {
-    let mut marked = *game;
-    if let Some(shown) = &mut marked.last {
-        shown.by_file = by_file;
-        shown.by_rank = false;
-        shown.after = after;
-    }
-    marked
-}
-
 fn timed(
     view: BoardView,
     minutes: u16,
@@ -129,14 +118,12 @@ fn timed(
 #[test]
 fn shows_marks(rt: HostRuntime) -> Result<(), Fail> {
     let knights = played(Variant::Chess, "d2d4 d7d5 g1f3 g8f6 b1d2").ok_or("a game")?;
-    let knights = shown_as(&knights, true, State::Safe);
     let view = untimed(knights.face(), "White", "Black").ok_or("names")?;
     let line = line_of(rt.alloc(), &view, OBSERVER)?;
     let text =
         "<12> rnbqkb-r ppp-pppp -----n-- ---p---- ---P---- -----N-- PPPNPPPP R-BQKB-R B -1 1 1 1 1 3 1 White Black 0 0 0 39 39 0 0 3 N/b1-d2 (0:00) Nbd2 0";
     assert_eq!(rt; line.bytes(), text.as_bytes());
     let mate = played(Variant::Chess, "f2f3 e7e5 g2g4 d8h4").ok_or("a game")?;
-    let mate = shown_as(&mate, false, State::Mate);
     let view = untimed(mate.face(), "White", "Black").ok_or("names")?;
     let line = line_of(rt.alloc(), &view, OBSERVER)?;
     let text =
@@ -184,12 +171,9 @@ fn shows_clocks(rt: HostRuntime) -> Result<(), Fail> {
     };
     let line = line_of(rt.alloc(), &view, ben)?;
     let text =
-        "<12> rnbqkbnr pppp-ppp -------- ----p--- ----P--- -----N-- PPPP-PPP RNBQKB-R B -1 1 1 1 1 1 1 Ann Ben 1 2 12 39 39 128 120 2 N/g1-f3 (0:04) Ng1f3 1";
+        "<12> rnbqkbnr pppp-ppp -------- ----p--- ----P--- -----N-- PPPP-PPP RNBQKB-R B -1 1 1 1 1 1 1 Ann Ben 1 2 12 39 39 128 120 2 N/g1-f3 (0:04) Nf3 1";
     assert_eq!(rt; line.bytes(), text.as_bytes());
 
-    let unmarked = shown_as(&knight, false, State::Safe);
-    let view = untimed(unmarked.face(), "Ann", "Ben").ok_or("names")?;
-    let view = timed(view, 2, 12, [128_000, 120_000], 4_000);
     let ann = Viewer {
         relation: -1,
         flip: false,

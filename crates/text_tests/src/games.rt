@@ -1,43 +1,44 @@
 //! Games that the tests play, and what is shown of them.
 
-use chess_model::{Face, Kind, Move, PlainBoard, Shown, Square, Variant};
+use chess_model::{Face, Kind, Move, Shown, Square, Variant};
 use fics_words::{Handle, Line, NoMemory};
-use move_writer::{face, plain_shown};
+use game_board::face;
 use std::alloc::Global;
 use style12_writer::{BoardView, Viewer, line12};
+use variant_rules::Position;
 
-/// The board after some half-moves, how many there were, and how the last one is shown.
-#[derive(Clone, Copy)]
+/// The position after some half-moves, how many there were, and how the last one is shown.
+#[derive(Drop)]
 pub struct Game {
-    pub board: PlainBoard,
+    pub position: Position,
     pub half_moves: u16,
     pub last: Option<Shown>,
 }
 
 impl Game {
-    /// What a board line shows of the game, the last half-move as it is shown in `last`.
+    /// What a board line shows of the game.
     pub fn face(&self) -> Face {
-        face(&self.board, self.half_moves, self.last.as_ref())
+        face(&self.position, self.half_moves, self.last.as_ref())
     }
 }
 
 /// The game of these half-moves, if each is allowed: two squares with what a pawn becomes, as `e2e4` and `a7b8q`;
 /// `O-O` and `O-O-O`; a drop, as `P@e4`.
 pub fn played(variant: Variant, words: &str) -> Option<Game> {
-    let mut board = PlainBoard::start(variant);
+    let mut position = Position::start(variant);
     let mut half_moves: u16 = 0;
     let mut last = None;
     for word in words.split_whitespace() {
         let m = move_of(word.as_bytes())?;
-        if !board.allowed(m) {
+        if !position.allowed(m) {
             return None;
         }
-        last = Some(plain_shown(&board, &m));
-        board = board.after(m);
+        last = Some(position.shown(m));
+        position.make(m);
         half_moves = half_moves.saturating_add(1);
     }
     Some(Game {
-        board,
+        position,
         half_moves,
         last,
     })

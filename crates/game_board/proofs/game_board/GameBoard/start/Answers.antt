@@ -5,9 +5,10 @@ use Rattle.chess_model.specs.Allowed.{IsLegal}
 use Rattle.clock_ledger.specs.Charges.{IsChargeable}
 use Rattle.game_board.specs.declared.played.Played.{Played}
 use Rattle.game_board.specs.Board.{half_moves}
-use Rattle.game_board.specs.BoardFace.{last_shown}
 use Rattle.game_board.specs.Charges.{clock_of}
+use Rattle.game_board.specs.Steps.{AreSteps}
 use Rattle.game_board.proofs.Legal.{IsLegal-empty}
+use Rattle.game_board.proofs.Steps.{AreSteps-empty}
 use Rattle.game_board.proofs.game_board.GameBoard.start.Goals as goal
 
 pub invariant_of-result : goal.invariant_of-result
@@ -23,7 +24,8 @@ invariant_of-result c =
       black = c.in_ok-start-2.ensures ∙ ap (clock_of c.args.terms Black) none;
       sound = subst (All (λ (p : Played). IfSome p.charge IsChargeable)) none (λ k d h. absurd (omega arith));
       kept = tt;
-      last = ap (last_shown c.args.terms.variant c.args.number) none;
+      steps = subst (λ (l : List Played). AreSteps c.args.terms.variant c.args.number l c.in_ok-new-2.field-0) none
+          (subst (AreSteps c.args.terms.variant c.args.number []) (sym c.in_ok-new-2.ensures) (AreSteps-empty c.args.terms.variant c.args.number));
       counted = omega (arith, ap length none);
       most = omega arith;
       moment = c.requires.moment;
