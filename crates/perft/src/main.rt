@@ -62,7 +62,7 @@ fn lists(alloc: Global, position: &mut Position, length: u8) -> Result<u64, NoMe
     Ok(found)
 }
 
-fn rows() -> [Row; 4] {
+fn rows() -> [Row; 8] {
     [
         Row {
             name: "start",
@@ -87,6 +87,36 @@ fn rows() -> [Row; 4] {
             name: "crazyhouse",
             variant: Variant::Crazyhouse,
             words: "e4 e6 d4 Nf6 e5 Ne4 Nc3 Bb4 Nf3 Nc6 Bd3",
+            length: 3,
+        },
+        // few men on open lines: en passant that bares the king along a rank
+        Row {
+            name: "endgame",
+            variant: Variant::Chess,
+            words: "d2d4 h7h6 c1h6 b8c6 h6g7 c6d4 d1d4 h8h2 g7f8 h2h1 d4a7 h1g1 a7b7 a8a2 f8e7 g1f1 \
+                e1d2 f1f2 b7c8 g8e7 c8d8 e8d8 b1a3 a2a3 a1a3 e7d5 c2c3 d5c3 d2c3 f2f5 b2b4 d8e7 b4b5 \
+                e7f6 c3b4 f5h5 a3d3 f6g5 b4a5 g5h4 d3d2 f7f5 d2b2 f5f4 b2b4 d7d6",
+            length: 4,
+        },
+        // a pawn before its last rank, and a king beside an enemy knight
+        Row {
+            name: "promotion",
+            variant: Variant::Chess,
+            words: "e4 Nf6 d4 Nxe4 d5 e6 dxe6 c6 Bc4 Be7 Ne2 Nxf2 exd7 Kf8",
+            length: 3,
+        },
+        // en passant that bares the king along a file
+        Row {
+            name: "passing",
+            variant: Variant::Chess,
+            words: "e4 d5 exd5 e5 Qe2 e4 d4",
+            length: 3,
+        },
+        // a pawn that takes a knight and becomes what it likes
+        Row {
+            name: "corner",
+            variant: Variant::Chess,
+            words: "a4 b5 axb5 a6 bxa6 h6 a7 h5",
             length: 3,
         },
     ]

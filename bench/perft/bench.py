@@ -1,0 +1,98 @@
+#!/usr/bin/env python3
+"""Leaves a second, and processor time beside Stockfish's, of the program `perft`.
+
+Usage: bench.py [PROGRAM]. PROGRAM is `crates/perft/out/perft` where none is named; `(cd crates/perft && rt run)` builds
+it. Stockfish is Debian's (`apt-get install stockfish`); without it, its columns are left out. Both programs count the
+same lists on one thread each, one after the other, and both count the last half-moves of a list without making them.
+"""
+
+import os
+import subprocess
+import sys
+
+sys.path.insert(0, os.path.join(os.path.dirname(os.path.abspath(__file__)), ".."))
+from measure import TOP, machine
+
+STOCKFISH = "/usr/games/stockfish"
+# each word makes the lists one half-move longer
+LONGER = ["more", "more"]
+# the positions of `perft` in Forsyth-Edwards notation, for Stockfish, which knows no crazyhouse
+POSITIONS = {
+    "start": "rnbqkbnr/pppppppp/8/8/8/8/PPPPPPPP/RNBQKBNR w KQkq - 0 1",
+    "kiwipete": "r3k2r/p1ppqpb1/bn2pnp1/3PN3/1p2P3/2N2Q1p/PPPBBPPP/R3K2R w KQkq - 0 1",
+    "italian": "r4rk1/1pp1qppp/p1np1n2/2b1p1B1/2B1P1b1/P1NP1N2/1PP1QPPP/R4RK1 w - - 0 10",
+    "endgame": "8/2p5/3p4/KP5r/1R3p1k/8/4P1P1/8 w - - 0 24",
+    "promotion": "rnbq1k1r/pp1Pbppp/2p5/8/2B5/8/PPP1NnPP/RNBQK2R w KQ - 1 8",
+    "passing": "rnbqkbnr/ppp2ppp/8/3P4/3Pp3/8/PPP1QPPP/RNB1KBNR b KQkq d3 0 4",
+    "corner": "rnbqkbnr/P1ppppp1/8/7p/8/8/1PPPPPPP/RNBQKBNR w KQkq - 0 5",
+}
+
+
+def processor_seconds(process):
+    """The processor time that a running process has taken, to a hundredth of a second."""
+    with open(f"/proc/{process.pid}/stat") as stat:
+        fields = stat.read().rsplit(")", 1)[1].split()
+    return (int(fields[11]) + int(fields[12])) / os.sysconf("SC_CLK_TCK")
+
+
+def our_counts(program):
+    """Each position's name with the length of its lists, their number, and the processor time of counting them."""
+    with subprocess.Popen([program, *LONGER], stdout=subprocess.PIPE, text=True) as process:
+        before = 0.0
+        for line in process.stdout:
+            name, length, found = line.split()
+            now = processor_seconds(process)
+            yield name, int(length), int(found), now - before
+            before = now
+
+
+class Stockfish:
+    """A running Stockfish, whose start isn't measured."""
+
+    def __init__(self):
+        self.process = subprocess.Popen([STOCKFISH], stdin=subprocess.PIPE, stdout=subprocess.PIPE, text=True, bufsize=1)
+        self.say("isready", "readyok")
+
+    def say(self, text, until):
+        """Sends a line, and gives the first line of the answer that begins so."""
+        self.process.stdin.write(text + "\n")
+        for line in self.process.stdout:
+            if line.startswith(until):
+                return line
+        sys.exit("bench: Stockfish ended")
+
+    def count(self, fen, length):
+        """How many lists there are, and the processor time of counting them."""
+        self.process.stdin.write(f"position fen {fen}\n")
+        self.say("isready", "readyok")
+        before = processor_seconds(self.process)
+        line = self.say(f"go perft {length}", "Nodes searched:")
+        return int(line.split()[2]), processor_seconds(self.process) - before
+
+    def close(self):
+        self.process.stdin.write("quit\n")
+        self.process.wait()
+
+
+def main():
+    program = sys.argv[1] if len(sys.argv) > 1 else os.path.join(TOP, "crates", "perft", "out", "perft")
+    if not os.access(program, os.X_OK):
+        sys.exit(f"bench: {program} isn't there; `(cd crates/perft && rt run)` builds it")
+    other = Stockfish() if os.access(STOCKFISH, os.X_OK) else None
+    print(machine())
+    print(f"{'position':<12}{'length':>7}{'lists':>13}{'seconds':>9}{'M/s':>7}{'Stockfish':>11}{'times':>7}")
+    # ours to the end first, so that the two never run side by side
+    for name, length, found, seconds in list(our_counts(program)):
+        row = f"{name:<12}{length:>7}{found:>13}{seconds:>9.2f}{found / max(seconds, 0.01) / 1e6:>7.1f}"
+        if other and name in POSITIONS:
+            count, theirs = other.count(POSITIONS[name], length)
+            if count != found:
+                sys.exit(f"bench: {name}: Stockfish counts {count} lists of {length}")
+            row += f"{theirs:>11.2f}{seconds / max(theirs, 0.01):>7.1f}"
+        print(row, flush=True)
+    if other:
+        other.close()
+
+
+if __name__ == "__main__":
+    main()
