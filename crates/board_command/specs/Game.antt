@@ -1,16 +1,20 @@
 -- The game that `board` plays: one untimed game of chess between `White` and `Black`, game 1, seen by an observer.
-use Rattle.std.specs.Prelude.{ℕ, pos, List, [], ◌∷◌, ◌++◌, Option, None, Result, Ok, Err, codes, option_map, false}
+use Rattle.std.specs.Prelude.{ℕ, pos, Bool, List, [], ◌∷◌, ◌++◌, Option, None, Result, Ok, Err, codes, option_map, false, if◌then◌else◌}
+use Rattle.chess_model.specs.declared.states.State.{State}
 use Rattle.chess_model.specs.declared.variant.Terms.{Terms}
 use Rattle.chess_model.specs.declared.variant.Variant.TheVariants.{Chess}
 use Rattle.chess_model.specs.declared.moves.Move.{Move}
 use Rattle.chess_model.specs.declared.moves.MoveWord.{MoveWord}
 use Rattle.fics_words.specs.declared.refusal.Refusal.{Refusal}
-use Rattle.game_board.specs.Board.{Board, new_board, to_move}
+use Rattle.fics_words.specs.declared.refusal.Refusal.TheVariants.{GameOver}
+use Rattle.game_board.specs.Board.{Board, new_board, to_move, position_of}
 use Rattle.game_board.specs.BoardFace.{board_face, last_taken}
 use Rattle.game_board.specs.Play.{move_answer, with_half_move}
 use Rattle.style12_writer.specs.declared.view.BoardView.{BoardView}
 use Rattle.style12_writer.specs.declared.view.Viewer.{Viewer}
 use Rattle.style12_writer.specs.Line12.{line12_text}
+use Rattle.variant_rules.specs.States.{state_in}
+use Rattle.board_command.specs.Endings.{is_end, end_lines}
 use Rattle.session_core.specs.Texts.{refusal_line}
 use Rattle.move_reader.specs.Reading.{reading}
 
@@ -47,13 +51,25 @@ observer = record { relation = pos 0; flip = false }
 abbrev pub line_text : GameState → List ℕ
 line_text b = line12_text (view_of b) observer ++ codes "\n\r"
 
--- the answer to a move word, by the rules of chess
-abbrev pub answer_to : GameState → MoveWord → Result Move Refusal
-answer_to b word = move_answer b (to_move b) word
+-- what the position is for the player to move
+abbrev pub state_of : GameState → State
+state_of b = state_in (position_of b)
 
--- the next state and what is written: the half-move and the board's line, or the refusal
+-- whether the game has ended: its last half-move gave mate or stalemate
+abbrev pub has_ended : GameState → Bool
+has_ended b = is_end (state_of b)
+
+-- the answer to a move word: that the game is over, else the one by the rules of chess
+abbrev pub answer_to : GameState → MoveWord → Result Move Refusal
+answer_to b word = if has_ended b then Err GameOver else move_answer b (to_move b) word
+
+-- what is written after a half-move: the board's line, and the line of the end where the game has ended
+abbrev pub shown_text : GameState → List ℕ
+shown_text b = line_text b ++ end_lines (view_of b) (to_move b) (state_of b)
+
+-- the next state and what is written: the half-move and what is shown after it, or the refusal
 abbrev pub made : GameState → Result Move Refusal → GameState × List ℕ
-made b (Ok m) = (with_half_move b m 0 None, line_text (with_half_move b m 0 None))
+made b (Ok m) = (with_half_move b m 0 None, shown_text (with_half_move b m 0 None))
 made b (Err r) = (b, refusal_line r)
 
 -- what a line that isn't empty makes of a game, and what is written for it; nothing where it is outside the grammar

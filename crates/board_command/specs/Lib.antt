@@ -1,5 +1,7 @@
 -- What the contracts of this crate cite.
 pub mod BoardEnds
+pub mod Endings
 pub mod Game
+pub mod GameFields
 pub mod PlayedLinesProof
 pub mod Transcript

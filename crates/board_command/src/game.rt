@@ -1,11 +1,12 @@
 //! The game that `board` plays: one untimed game of chess between `White` and `Black`, seen by an observer.
 
 ghost use Rattle.std.specs.Prelude.{◌≡◌, ◌++◌, OnOk, codes};
-ghost use Rattle.game_board.specs.Play.{play_after};
-ghost use Rattle.board_command.specs.Game.{untimed, view_of, line_text, answer_to, made};
+ghost use Rattle.board_command.specs.Game.{untimed, view_of, observer, shown_text, state_of};
+ghost use Rattle.style12_writer.specs.Line12.{line12_text};
 
-use chess_model::{MoveWord, Terms, Variant};
-use fics_words::{Handle, NoMemory};
+use crate::endings::{is_end, put_end};
+use chess_model::{MoveWord, State, Terms, Variant};
+use fics_words::{Handle, NoMemory, Refusal};
 use game_board::GameBoard;
 use move_reader::read_word;
 use session_core::put_refusal;
@@ -20,30 +21,32 @@ pub const END_OF_LINE: &[u8] = b"\n\r";
 #[derive(Drop)]
 pub struct Game {
     board: GameBoard,
+    /// Whether it has ended by mate or stalemate.
+    over: bool,
 }
 
 impl Model for Game {
-    ghost use Rattle.std.specs.Prelude.{◌≡◌};
     ghost use Rattle.board_command.specs.Game.{GameState};
+    ghost use Rattle.board_command.specs.GameFields.{HoldsGame};
 
     ghost Value = { GameState };
 
     ghost view = { λ game. game.board };
 
-    ghost invariant = { λ game. game.board.begin ≡ 0 };
+    ghost invariant = { HoldsGame };
 }
 
 impl Game {
-    ghost use Rattle.std.specs.Prelude.{◌≡◌, ◌++◌, IfOk, MatchOption, true, false};
-    ghost use Rattle.board_command.specs.Game.{new_game, answer_line};
+    ghost use Rattle.std.specs.Prelude.{◌≡◌, ◌++◌, IfOk, OnOk, MatchOption, true, false};
+    ghost use Rattle.board_command.specs.Game.{new_game, answer_to, made, answer_line};
 
     /// A game before its first half-move, with the room for all of them.
     pub fn new(alloc: Global) -> Result<Game, NoMemory>
         ensures { IfOk result (λ game. game ≡ new_game) }
     {
-        Ok(Game {
-            board: GameBoard::start(alloc, 1, untimed(), 0)?,
-        })
+        let board = GameBoard::start(alloc, 1, untimed(), 0)?;
+        let over = is_end(board.state());
+        Ok(Game { board, over })
     }
 
     /// Makes the answer of a line, and appends what is written for it; false where the line is outside the grammar.
@@ -56,8 +59,27 @@ impl Game {
         let Some(word) = read_word(line) else {
             return Ok(false);
         };
-        play(&mut self.board, &word, out)?;
+        self.play(&word, out)?;
         Ok(true)
+    }
+
+    /// Plays the half-move of the word and appends what is shown then, or appends the refusal.
+    fn play(&mut self, word: &MoveWord, out: &mut Vec<u8>) -> Result<(), NoMemory>
+        ensures board { OnOk result (self.new ≡ (made self.old (answer_to self.old word.now)).0) }
+        ensures text { OnOk result (out.new.items ≡ out.old.items ++ (made self.old (answer_to self.old word.now)).1) }
+    {
+        if self.over {
+            return put_refusal(Refusal::GameOver, out);
+        }
+        let colour = self.board.to_move();
+        match self.board.play(colour, word, 0, None) {
+            Ok(_captured) => {
+                let state = self.board.state();
+                self.over = is_end(state);
+                write_board(&self.board, state, out)
+            }
+            Err(refusal) => put_refusal(refusal, out),
+        }
     }
 }
 
@@ -73,30 +95,25 @@ fn untimed() -> Terms
     }
 }
 
-/// Plays the half-move of the word and appends the line of the board, or appends the refusal.
-fn play(board: &mut GameBoard, word: &MoveWord, out: &mut Vec<u8>) -> Result<(), NoMemory>
-    requires { board.old.begin ≡ 0 }
-    ensures begin { board.new.begin ≡ 0 }
-    ensures board { OnOk result (board.new ≡ (made board.old (answer_to board.old word.now)).0) }
-    ensures text { OnOk result (out.new.items ≡ out.old.items ++ (made board.old (answer_to board.old word.now)).1) }
-{
-    let colour = board.to_move();
-    match board.play(colour, word, 0, None) {
-        Ok(_captured) => write_board(board, out),
-        Err(refusal) => put_refusal(refusal, out),
-    }
-}
-
-/// Appends the style 12 line of the board.
-fn write_board(board: &GameBoard, out: &mut Vec<u8>) -> Result<(), NoMemory>
-    ensures { OnOk result (out.new.items ≡ out.old.items ++ line_text board.now) }
+/// Appends what is shown of a board in that state: its line, and the line of the end where the game has ended.
+fn write_board(board: &GameBoard, state: State, out: &mut Vec<u8>) -> Result<(), NoMemory>
+    requires { state ≡ state_of board.now }
+    ensures { OnOk result (out.new.items ≡ out.old.items ++ shown_text board.now) }
 {
     let view = view(board);
+    write_line(&view, out)?;
+    put_end(&view, board.to_move(), state, out)
+}
+
+/// Appends the style 12 line of a board.
+fn write_line(view: &BoardView, out: &mut Vec<u8>) -> Result<(), NoMemory>
+    ensures { OnOk result (out.new.items ≡ out.old.items ++ (line12_text view.now observer ++ codes "\n\r")) }
+{
     let observer = Viewer {
         relation: 0,
         flip: false,
     };
-    let line = line12(*out.allocator(), &view, observer)?;
+    let line = line12(*out.allocator(), view, observer)?;
     out.extend_from_slice(line.bytes())?;
     out.extend_from_slice(END_OF_LINE)?;
     Ok(())

@@ -9,7 +9,8 @@ use std::alloc::Global;
 use std::process::Abort;
 use std::test::Fail;
 
-/// Anderssen against Kieseritzky, London 1851, to its mate: a word and its answer a row.
+/// Anderssen against Kieseritzky, London 1851, to its mate: a word and its answer a row. A row without a word is a line
+/// more of the answer before it.
 const IMMORTAL: &str = "\
 e2e5|refused 9 CannotReach
 e7e5|refused 8 NoPiece
@@ -71,12 +72,12 @@ a6b8|refused 2 LeavesKing
 d8c8|refused 9 CannotReach
 g8f6|<12> r-bk---r p--p-pNp n--B-n-- -p-NP--P ------P- ---P---- P-P-K--- q-----b- W -1 0 0 0 0 0 1 White Black 0 0 0 15 36 0 0 23 N/g8-f6 (0:00) Nxf6 0
 d6e7|<12> r-bk---r p--pBpNp n----n-- -p-NP--P ------P- ---P---- P-P-K--- q-----b- B -1 0 0 0 0 1 1 White Black 0 0 0 15 36 0 0 23 B/d6-e7 (0:00) Be7# 0
-d8e7|refused 2 LeavesKing
-f6d5|refused 2 LeavesKing
-d8c8|refused 9 CannotReach
-d8e8|refused 2 LeavesKing
-e7d8|refused 8 NoPiece
-a6b8|refused 2 LeavesKing\
+|{Game 1 (White vs. Black) Black checkmated} 1-0
+d8e7|refused 10 GameOver
+f6d5|refused 10 GameOver
+d8c8|refused 10 GameOver
+e7d8|refused 10 GameOver
+a6b8|refused 10 GameOver\
 ";
 
 /// A pawn is taken en passant at once; later the same words are refused.

@@ -2,6 +2,8 @@
 #![tactic(auto)]
 
 #[cfg(test)]
+mod board_ends;
+#[cfg(test)]
 mod boards;
 #[cfg(test)]
 mod known_games;

@@ -1,7 +1,5 @@
-use Rattle.std.proofs.Common.{◌≡◌, ◌++◌, Some, sym, ap, ◌∙◌, refl}
-use Rattle.game_board.specs.Board.{Board}
+use Rattle.std.proofs.Common.{◌≡◌, Some, sym, ◌∙◌, refl}
 use Rattle.move_reader.specs.Reading.{reading}
-use Rattle.board_command.specs.Game.{answer_to, made}
 use Rattle.board_command.proofs.LineAnswers.{answer_line-no_word, answer_line-made}
 use Rattle.board_command.proofs.game.Game.answer_line.Goals as goal
 
@@ -16,6 +14,6 @@ returns c =
     let w = c.in-Some.word in
     let read : reading c.args.line.now ≡ Some w = sym c.read_word.ensures.computed ∙ c.in-Some.is in
     let e = answer_line-made b c.args.line.now w read in
-    let next = c.in_ok-play.ensures.board ∙ ap (λ (x : Board). (made x (answer_to x w)).0) c.self.view_is in
-    let text = c.in_ok-play.ensures.text ∙ ap (λ (x : Board). c.args.out.now.items ++ (made x (answer_to x w)).1) c.self.view_is in
+    let next = c.in_ok-play.ensures.board in
+    let text = c.in_ok-play.ensures.text in
     rw e (record { made = (refl, next, text) })

@@ -1,0 +1,23 @@
+-- How the game of `board` ends by itself, by mate or stalemate (FIDE Laws 5.1.1, 5.2.1), and the line that tells it.
+use Rattle.std.specs.Prelude.{ℕ, Bool, true, false, List, [], ◌++◌, Some, None, codes}
+use Rattle.chess_model.specs.declared.man.Colour.{Colour}
+use Rattle.chess_model.specs.declared.states.State.{State}
+use Rattle.chess_model.specs.declared.states.State.TheVariants.{Safe, Check, Mate, Stalemate}
+use Rattle.chess_model.specs.declared.why.Why.TheVariants as why
+use Rattle.chess_model.specs.Placement.{opposite}
+use Rattle.style12_writer.specs.declared.view.BoardView.{BoardView}
+use Rattle.style12_writer.specs.EndLine.{end_text}
+
+-- whether a game has ended in which the player to move is in that state
+abbrev pub is_end : State → Bool
+is_end Safe = false
+is_end Check = false
+is_end Mate = true
+is_end Stalemate = true
+
+-- the line of the end, where the game has ended; the player to move is the one who is mated
+abbrev pub end_lines : BoardView → Colour → State → List ℕ
+end_lines v to_move Safe = []
+end_lines v to_move Check = []
+end_lines v to_move Mate = end_text v why.Mate (Some (opposite to_move)) true ++ codes "\n\r"
+end_lines v to_move Stalemate = end_text v why.Stalemate None true ++ codes "\n\r"
