@@ -35,8 +35,8 @@ const LOGINS: &str = "\
   2|fics%\x20\
 ";
 
-/// The password of an account is the rest of the line behind the blanks, without those at its end; where it is asked for,
-/// the line is compared as it is, blank for blank. Empty lines ask again.
+/// The password of an account is the rest of the line behind the blanks, without those at its end; where it is asked
+/// for, the line is compared as it is, blank for blank. Empty lines ask again.
 const BLANKS: &str = "\
 0 1 +
   1|Free Internet Chess Server profile

@@ -1,12 +1,13 @@
-//! `replay` over the fakes: games over two stamped links. The cases are written as those of `replays`; clocks were worked
-//! out by hand.
+//! `replay` over the fakes: games over two stamped links. The cases are written as those of `replays`; clocks were
+//! worked out by hand.
 
 use crate::replays::expect_rows;
 use std::test::Fail;
 
 /// Eight half-moves at two minutes and twelve seconds. A charge runs from the half-move before it; where the player
-/// acknowledged that one, it is at most what passed on the player's own clock, of which the last acknowledgement counts.
-/// The first half-move of a colour is charged nothing, and each charge comes with twelve seconds.
+/// acknowledged that one, it is at most what passed on the player's own clock since then, and of several
+/// acknowledgements the last one counts. The first half-move of a colour is charged nothing, and each charge comes with
+/// twelve seconds.
 ///
 /// | | from | to | acknowledged | sent | charge | left |
 /// |---|---|---|---|---|---|---|
