@@ -16,7 +16,7 @@ use Rattle.game_board.specs.Charges.{charge_to, charges_of, clock_of}
 use Rattle.game_board.proofs.Charged.{charges_from-append}
 use Rattle.game_board.proofs.Legal.{IsLegal-append}
 
-half_moves-append : (number : ℕ) (list : List Played) (p : Played) → half_moves number (list ++ p ∷ []) ≡ half_moves number list ++ half_move number p ∷ []
+pub half_moves-append : (number : ℕ) (list : List Played) (p : Played) → half_moves number (list ++ p ∷ []) ≡ half_moves number list ++ half_move number p ∷ []
 half_moves-append number list p = map-append (half_move number) list (p ∷ [])
 
 pub Stands-grown : (p q : Position) (number : ℕ) (list : List Played) (h : Played) →

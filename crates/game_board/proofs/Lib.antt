@@ -7,3 +7,7 @@ pub mod Scoresheet
 pub mod Sides
 pub mod Movers
 pub mod Steps
+pub mod SquareTests
+pub mod TakenBack
+pub mod Thirds
+pub mod Takes

@@ -23,17 +23,17 @@ pub position_after-stands : (q : Position) (v : Variant) (number : ℕ) (list : 
 position_after-stands q v number list s e = s.same ∙ ap (λ w. position_after w (half_moves number list) number) e
 
 -- the position after no more half-moves than the list has is the same after one more
-position_at-append : (v : Variant) (number : ℕ) (list : List Played) (p : Played) (k : ℕ) → k ≤ length list →
+pub position_at-append : (v : Variant) (number : ℕ) (list : List Played) (p : Played) (k : ℕ) → k ≤ length list →
     position_at v number (list ++ p ∷ []) k ≡ position_at v number list k
 position_at-append v number list p k within =
     ap (λ (l : List Played). position_after v (half_moves number l) number) (take-append-le k list (p ∷ []) within)
 
-slice_get-append_left : {X : Type 0} (xs ys : List X) (k : ℕ) → k < length xs → slice_get (xs ++ ys) k ≡ slice_get xs k
+pub slice_get-append_left : {X : Type 0} (xs ys : List X) (k : ℕ) → k < length xs → slice_get (xs ++ ys) k ≡ slice_get xs k
 slice_get-append_left [] ys k within = absurd (omega arith)
 slice_get-append_left (x ∷ xs) ys zero within = refl
 slice_get-append_left (x ∷ xs) ys (suc k) within = slice_get-append_left xs ys k (omega arith)
 
-shown_at-append : (v : Variant) (number : ℕ) (list : List Played) (p : Played) (k : ℕ) → k < length list →
+pub shown_at-append : (v : Variant) (number : ℕ) (list : List Played) (p : Played) (k : ℕ) → k < length list →
     shown_at v number (list ++ p ∷ []) k ≡ shown_at v number list k
 shown_at-append v number list p k within =
     ap (λ (q : Position). option_map (λ h. shown_of q h.what) (slice_get (list ++ p ∷ []) k)) (position_at-append v number list p k (omega (arith, within)))
@@ -48,13 +48,13 @@ IsStep-append v number list p k step within is = record {
 }
 
 -- the positions round the last half-move
-before_end : (v : Variant) (number : ℕ) (list : List Played) (p : Played) → position_at v number (list ++ p ∷ []) (length list) ≡ position_after v (half_moves number list) number
+pub before_end : (v : Variant) (number : ℕ) (list : List Played) (p : Played) → position_at v number (list ++ p ∷ []) (length list) ≡ position_after v (half_moves number list) number
 before_end v number list p = ap (λ (l : List Played). position_after v (half_moves number l) number) (take-append_seam list (p ∷ []))
 
 take_whole : {X : Type 0} (xs : List X) (x : X) → take (length xs + 1) (xs ++ x ∷ []) ≡ xs ++ x ∷ []
 take_whole xs x = take_all (length xs + 1) (xs ++ x ∷ []) (omega (arith, length-append xs (x ∷ [])))
 
-at_end : (v : Variant) (number : ℕ) (list : List Played) (p : Played) → position_at v number (list ++ p ∷ []) (length list + 1) ≡ position_after v (half_moves number (list ++ p ∷ [])) number
+pub at_end : (v : Variant) (number : ℕ) (list : List Played) (p : Played) → position_at v number (list ++ p ∷ []) (length list + 1) ≡ position_after v (half_moves number (list ++ p ∷ [])) number
 at_end v number list p = ap (λ (l : List Played). position_after v (half_moves number l) number) (take_whole list p)
 
 IsStep-end : (v : Variant) (number : ℕ) (list : List Played) (p : Played) (step : Step) →
@@ -101,3 +101,14 @@ last_shown-steps v number list steps all = elim (slice_get_cases steps (length s
       ap (option_map (λ (t : Step). t.shown)) h.1
       ∙ sym (ap (option_map (λ (q : Played). shown_of (position_at v number list (length list - 1)) q.what)) (slice_get_past list (length list - 1) (omega (arith, h.0, all.each))))
 ]
+
+-- what is kept of the half-move before the position after the first k takes that position back
+pub undo_at : (v : Variant) (number : ℕ) (list : List Played) (steps : List Step) (k : ℕ) (step : Step) (past : Position) → AreSteps v number list steps →
+    0 < k → slice_get steps (k - 1) ≡ Some step → past ≡ position_at v number list k → IsUndoOf step.undo (position_at v number list (k - 1)) past
+undo_at v number list steps k step past all some e is =
+    let back : k - 1 + 1 ≡ k = omega arith in
+    subst (λ (q : Position). IsUndoOf step.undo (position_at v number list (k - 1)) q) (sym is)
+    (subst (λ (n : ℕ). IsUndoOf step.undo (position_at v number list (k - 1)) (position_at v number list n)) back (all.kept (k - 1) step e).undo)
+
+pub position_at-all : (v : Variant) (number : ℕ) (list : List Played) → position_at v number list (length list) ≡ position_after v (half_moves number list) number
+position_at-all v number list = ap (λ (l : List Played). position_after v (half_moves number l) number) (take_all (length list) list (omega arith))

@@ -3,6 +3,7 @@ pub mod Board
 pub mod BoardFace
 pub mod Causes
 pub mod Charges
+pub mod Claim
 pub mod Face
 pub mod Flag
 pub mod Holds
@@ -10,3 +11,4 @@ pub mod Play
 pub mod Put
 pub mod Scoresheet
 pub mod Steps
+pub mod TakeBack

@@ -1,9 +1,7 @@
 ghost use Rattle.std.specs.Prelude.{◌≡◌, Option, ◌<◌, ◌≤◌, ◌+◌, ◌^◌, [], ◌++◌, ◌∷◌, IfOk, OnOk, OnErr, IfSome, length, option_and_then};
-ghost use Rattle.std.specs.Option.{option_to_list};
 ghost use Rattle.clock_ledger.specs.declared.charges.Charge.{Charge};
 ghost use Rattle.clock_ledger.specs.Charges.{IsChargeable};
 ghost use Rattle.clock_ledger.specs.Span.{IsStamp};
-ghost use Rattle.game_board.specs.Charges.{charge_to};
 ghost use Rattle.chess_model.specs.Holdings.{same_colour};
 ghost use Rattle.game_board.specs.Flag.{is_bare, has_only_king};
 ghost use Rattle.chess_model.specs.Allowed.{Allowed, IsLegal};
@@ -28,18 +26,18 @@ pub const MOST_PLAYED: u16 = 1200;
 #[derive(Debug, Drop)]
 pub struct GameBoard {
     /// 1, or 2 for the second board of a pair.
-    number: u8,
-    terms: Terms,
-    position: Position,
-    list: Roomy<Played, 1200>,
+    pub(crate) number: u8,
+    pub(crate) terms: Terms,
+    pub(crate) position: Position,
+    pub(crate) list: Roomy<Played, 1200>,
     /// For each half-move of the list, what takes it back and what a printed board shows of it.
-    steps: Roomy<Step, 1200>,
-    white: ClockLedger,
-    black: ClockLedger,
-    begin: u64,
+    pub(crate) steps: Roomy<Step, 1200>,
+    pub(crate) white: ClockLedger,
+    pub(crate) black: ClockLedger,
+    pub(crate) begin: u64,
     /// The stamp with which the client of the player to move acknowledged the board, if it did so since `begin`.
-    kept: Option<u32>,
-    played: u16,
+    pub(crate) kept: Option<u32>,
+    pub(crate) played: u16,
     /// The men that came from the partner's board. No call adds to them yet.
     came: Listed<Man>,
 }
@@ -70,7 +68,6 @@ impl GameBoard {
     ghost use Rattle.game_board.specs.BoardFace.{board_face, last_played, last_shown, last_taken};
     ghost use Rattle.game_board.specs.Charges.{clock_of, is_timed};
     ghost use Rattle.game_board.specs.Play.{captured, move_answer, next_charge, with_half_move, play_reply, play_after};
-    ghost use Rattle.game_board.specs.Put.{with_played};
     ghost use Rattle.game_board.specs.Flag.{flag_answer, running, has_fallen, cannot_win};
 
     /// The board of that number, 1 or 2, at the start of a game, whose first player begins to think at `moment`. Room
@@ -215,7 +212,7 @@ impl GameBoard {
     }
 
     /// Whether that colour has made a half-move.
-    fn has_moved(&self, colour: Colour) -> bool
+    pub(crate) fn has_moved(&self, colour: Colour) -> bool
         ensures { result ≡ has_moved colour self.now.list }
     {
         match colour {
@@ -225,7 +222,7 @@ impl GameBoard {
     }
 
     /// Whether the game is played with clocks.
-    fn is_timed(&self) -> bool
+    pub(crate) fn is_timed(&self) -> bool
         ensures { result ≡ is_timed self.now.terms }
     {
         self.white.timed()
@@ -237,7 +234,7 @@ impl GameBoard {
         ensures kept { IfSome self.now.kept IsStamp }
     {
         let client = self.kept.zip(stamp);
-        if !self.is_timed() || !self.has_moved(self.to_move()) {
+        if !self.is_next_charged() {
             return None;
         }
         Some(Charge {
@@ -261,25 +258,6 @@ impl GameBoard {
             return Err(Refusal::TooManyMoves);
         }
         answer_of(self.position(), word)
-    }
-
-    /// Adds an allowed half-move with its charge, and gives the man that it captures.
-    fn add(&mut self, half: &Played) -> Option<Man>
-        requires allowed { Allowed (position_of self.old) half.now.what }
-        requires room { self.old.played < 1200 }
-        requires sound { IfSome half.now.charge IsChargeable }
-        ensures captured { result ≡ captured self.old half.now.what }
-        ensures after { self.new ≡ with_played self.old half.now }
-    {
-        let mover = self.to_move();
-        let shown = self.position().shown(half.what);
-        let undo = self.position.make(half.what);
-        charge_clocks(&mut self.white, &mut self.black, mover, half.charge);
-        self.steps.push(Step { undo, shown });
-        self.list.push(*half);
-        self.kept = None;
-        self.played += 1;
-        undo.captured()
     }
 
     /// Makes an allowed half-move.
@@ -403,7 +381,7 @@ fn is_bare(colour: Colour, man: &Option<Man>) -> bool
     }
 }
 
-fn is_same_colour(a: Colour, b: Colour) -> bool
+pub(crate) fn is_same_colour(a: Colour, b: Colour) -> bool
     ensures { result ≡ same_colour a b }
 {
     match a {
@@ -417,36 +395,4 @@ fn has_only_king(position: &Position, colour: Colour) -> bool
     ensures { result ≡ has_only_king position.now.men colour }
 {
     position.men().iter().all(|man| is_bare(colour, man))
-}
-
-/// Records a charge on the clock of the colour that moved, where there is one.
-fn charge_clocks(
-    white: &mut ClockLedger,
-    black: &mut ClockLedger,
-    mover: Colour,
-    charge: Option<Charge>,
-)
-    requires white_room { mover ≡ Colour.White → length white.old.charges < 600 }
-    requires black_room { mover ≡ Colour.Black → length black.old.charges < 600 }
-    requires sound { IfSome charge IsChargeable }
-    ensures white { white.new ≡ record white.old
-        { charges = white.old.charges ++ charge_to Colour.White mover charge } }
-    ensures black { black.new ≡ record black.old
-        { charges = black.old.charges ++ charge_to Colour.Black mover charge } }
-{
-    match mover {
-        Colour::White => charge_clock(white, charge),
-        Colour::Black => charge_clock(black, charge),
-    }
-}
-
-/// Records a charge, where there is one.
-fn charge_clock(clock: &mut ClockLedger, charge: Option<Charge>)
-    requires room { length clock.old.charges < 600 }
-    requires sound { IfSome charge IsChargeable }
-    ensures { clock.new ≡ record clock.old { charges = clock.old.charges ++ option_to_list charge } }
-{
-    if let Some(charge) = charge {
-        clock.charge(charge);
-    }
 }

@@ -8,9 +8,14 @@
 
 mod board_face;
 mod causes;
+mod claims;
+mod clocks;
 mod game_board;
 mod laws;
 mod played;
+mod put;
+mod sameness;
+mod take_back;
 
 pub use board_face::face;
 pub use clock_ledger::{Charge, ClockLedger};

@@ -88,6 +88,22 @@ impl Position {
         }
     }
 
+    /// The same position once more.
+    pub fn duplicate(&self) -> Position
+        ensures { result ≡ self.now }
+    {
+        Position {
+            variant: self.variant,
+            men: self.men.duplicate(),
+            to_move: self.to_move,
+            en_passant: self.en_passant,
+            rights: self.rights,
+            quiet: self.quiet,
+            white: self.white,
+            black: self.black,
+        }
+    }
+
     /// The rules of the game.
     pub fn variant(&self) -> Variant
         ensures { result ≡ self.now.variant }

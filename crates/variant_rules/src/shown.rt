@@ -52,22 +52,6 @@ fn first_marks(one: bool, by_file: bool, by_rank: bool) -> Marks
 }
 
 impl Position {
-    /// The same position once more.
-    fn duplicate(&self) -> Position
-        ensures { result ≡ self.now }
-    {
-        Position {
-            variant: self.variant,
-            men: self.men.duplicate(),
-            to_move: self.to_move,
-            en_passant: self.en_passant,
-            rights: self.rights,
-            quiet: self.quiet,
-            white: self.white,
-            black: self.black,
-        }
-    }
-
     fn kind_shown(&self, m: &Move) -> Kind
         ensures { result ≡ shown_kind self.now.men m.now }
     {

@@ -1,0 +1,28 @@
+-- The draws that a player may claim, in chess alone (FIDE Laws 9.2 and 9.3).
+use Rattle.std.specs.Prelude.{Bool, true, false, not, ◌&&◌, if◌then◌else◌, Result, Ok, Err}
+use Rattle.chess_model.specs.declared.variant.Variant.{Variant}
+use Rattle.chess_model.specs.declared.variant.Variant.TheVariants.{Chess, Crazyhouse, Bughouse}
+use Rattle.chess_model.specs.declared.why.Why.{Why}
+use Rattle.chess_model.specs.declared.why.Why.TheVariants.{Fifty, Threefold}
+use Rattle.chess_model.specs.Claims.{is_fifty, is_threefold}
+use Rattle.fics_words.specs.declared.refusal.Refusal.{Refusal}
+use Rattle.fics_words.specs.declared.refusal.Refusal.TheVariants.{NothingToClaim}
+use Rattle.game_board.specs.Board.{Board, half_moves, position_of}
+
+-- whether draws are claimed in a variant
+abbrev pub has_claims : Variant → Bool
+has_claims Chess = true
+has_claims Crazyhouse = false
+has_claims Bughouse = false
+
+-- whether the position on the board stands at least for the third time
+abbrev pub is_third_time : Board → Bool
+is_third_time b = is_threefold b.terms.variant (half_moves b.number b.list) b.number
+
+-- why the game is a draw by a claim, the fifty moves first; or the refusal
+unfoldable pub claim_answer : Board → Result Why Refusal
+claim_answer b =
+    if not (has_claims b.terms.variant) then Err NothingToClaim
+    else if is_fifty (position_of b) then Ok Fifty
+    else if is_third_time b then Ok Threefold
+    else Err NothingToClaim

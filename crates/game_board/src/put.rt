@@ -1,0 +1,82 @@
+//! Half-moves that come to a board with the charges that they have.
+ghost use Rattle.std.specs.Prelude.{◌≡◌, ◌<◌, IsTrue, IfSome, Ok};
+ghost use Rattle.chess_model.specs.Allowed.{Allowed};
+ghost use Rattle.clock_ledger.specs.Charges.{IsChargeable};
+ghost use Rattle.game_board.specs.Board.{position_of};
+ghost use Rattle.game_board.specs.Play.{captured};
+ghost use Rattle.game_board.specs.Put.{is_end, is_next_charged, takes_played, with_played};
+
+use crate::clocks::charge_clocks;
+use crate::game_board::{GameBoard, MOST_PLAYED};
+use crate::played::{Played, Step};
+use chess_model::{Man, State};
+use memory::NoMemory;
+
+/// Whether a game ends by that state.
+fn is_end(state: State) -> bool
+    ensures { result ≡ is_end state }
+{
+    match state {
+        State::Safe => false,
+        State::Check => false,
+        State::Mate => true,
+        State::Stalemate => true,
+    }
+}
+
+impl GameBoard {
+    /// Whether the board takes a half-move as it is: the game hasn't ended by mate or stalemate, there is room, the
+    /// half-move is allowed, and it has a charge exactly where the game is timed and it isn't the first of its colour.
+    #[tactic(auto, unfolding(crate::specs::Put::takes_played))]
+    pub fn takes(&self, half: &Played) -> bool
+        ensures { result ≡ takes_played self.now half.now }
+    {
+        if is_end(self.state()) {
+            return false;
+        }
+        if self.played() >= MOST_PLAYED {
+            return false;
+        }
+        if !self.position().allowed(half.what) {
+            return false;
+        }
+        half.charge.is_some() == self.is_next_charged()
+    }
+
+    /// Whether the next half-move is charged.
+    pub(crate) fn is_next_charged(&self) -> bool
+        ensures { result ≡ is_next_charged self.now }
+    {
+        self.is_timed() && self.has_moved(self.to_move())
+    }
+
+    /// Puts a half-move that the board takes on it, with its own charge, and gives the man that it captures. It counts
+    /// as played; the player to move is thinking since the same moment as before. Takes no memory.
+    pub fn put(&mut self, half: Played) -> Result<Option<Man>, NoMemory>
+        requires takes { IsTrue (takes_played self.old half) }
+        requires sound { IfSome half.charge IsChargeable }
+        ensures captured { result ≡ Ok (captured self.old half.what) }
+        ensures after { self.new ≡ with_played self.old half }
+    {
+        Ok(self.add(&half))
+    }
+
+    /// Adds an allowed half-move with its charge, and gives the man that it captures.
+    pub(crate) fn add(&mut self, half: &Played) -> Option<Man>
+        requires allowed { Allowed (position_of self.old) half.now.what }
+        requires room { self.old.played < 1200 }
+        requires sound { IfSome half.now.charge IsChargeable }
+        ensures captured { result ≡ captured self.old half.now.what }
+        ensures after { self.new ≡ with_played self.old half.now }
+    {
+        let mover = self.to_move();
+        let shown = self.position().shown(half.what);
+        let undo = self.position.make(half.what);
+        charge_clocks(&mut self.white, &mut self.black, mover, half.charge);
+        self.steps.push(Step { undo, shown });
+        self.list.push(*half);
+        self.kept = None;
+        self.played += 1;
+        undo.captured()
+    }
+}
