@@ -20,13 +20,13 @@ use Rattle.serve_core.specs.declared.end.ServeEnd.{ServeEnd}
 use Rattle.serve_core.specs.declared.end.ServeEnd.TheVariants.{Done, DoorFault, WriteFault, Memory, Spent}
 use Rattle.serve_core.specs.declared.settle.Supply.{Supply}
 use Rattle.serve_core.specs.declared.settle.Supply.TheVariants.{Enough, Short}
-use Rattle.serve_core.specs.Stewarding.{AreStewards, TurnsLast, asked}
+use Rattle.serve_core.specs.Stewarding.{AreStewards, HasTurns, TurnsLast, asked}
 use Rattle.serve_core.specs.Keeping.{CameAs, CameBack, HasServed, Kept}
 use Rattle.serve_core.specs.Serving.{HasServedAll, IsWhole, Stopped, end_of}
 use Rattle.serve_core.proofs.Among.{in_map_from}
 use Rattle.serve_core.proofs.Telling.{told_and, told_as, goes_same}
 use Rattle.serve_core.proofs.Turning.{turn_all, turn_home, turn_made, turn_number, turn_opening, turn_splits}
-use Rattle.serve_core.proofs.Keeping.{asks_then, served_then, then_short}
+use Rattle.serve_core.proofs.Keeping.{asks_then, served_then, then_short, whole_then}
 
 -- ---- how serving ends
 
@@ -194,6 +194,7 @@ module _ {C : Type 0} (shows : C → ℕ → Bool) (hall : TableId) (clock : C) 
     last = t.end;
     last_turn = (pass.made, t.made.turn.entries, t.made.moment, own_calls ∙ turn_made t.end pass t.mid t.made, t.made.turn.turn);
     turns = λ w. told_as door (λ tale. asked t.mid.made ≡ tale.quiets + 1) (λ tale. asked (calls_of 0 new.seen) ≡ tale.quiets + 1) (λ tale n. ap asked own_calls ∙ n) (asks_then t.end supply door pass t.mid k.turns t.made (sym t.supply ∙ whole w));
+    whole_turns = λ w. subst (λ (l : Log). HasTurns 1 door l) (sym own_calls) (whole_then t.end supply door pass t.mid k.whole_turns t.made (sym t.supply ∙ whole w));
     none_left = subst (λ n. IfTold door (NoneLeft end n)) (sym splits_are) leaves.none_left;
     done_left = leaves.done_left;
     spent = λ e. splits_are ∙ leaves.spent e;

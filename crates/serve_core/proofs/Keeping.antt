@@ -19,12 +19,12 @@ use Rattle.steward_core.specs.declared.turn.StewardEnd.{StewardEnd}
 use Rattle.steward_core.specs.declared.turn.StewardEnd.TheVariants as steward
 use Rattle.serve_core.specs.declared.settle.Supply.{Supply}
 use Rattle.serve_core.specs.declared.settle.Supply.TheVariants.{Enough, Short}
-use Rattle.serve_core.specs.Stewarding.{AreStewards, MadeTurn, asked, supply_then}
+use Rattle.serve_core.specs.Stewarding.{AreStewards, HasTurns, MadeTurn, asked, supply_then}
 use Rattle.serve_core.specs.Working.{Due, IsPaid}
 use Rattle.serve_core.specs.Keeping.{CameAs, CameBack, Comes, HasServed, IsOwed, IsUnused, Kept, due_number, supply_after}
 use Rattle.serve_core.proofs.Among.{in_last, in_cases, in_map_left, in_map_last, in_rest, in_map_rest, one_less, one_longer}
 use Rattle.serve_core.proofs.Telling.{told_then, told_and, told_as, came_stays, came_new, came_back_stays, came_count, came_out, back_came, back_stays, back_new, back_count, back_out}
-use Rattle.serve_core.proofs.Turning.{turn_all, turn_asked, turn_home, turn_number, turn_splits}
+use Rattle.serve_core.proofs.Turning.{turn_all, turn_asked, turn_home, turn_number, turn_splits, turns_go, turns_more}
 use Rattle.turn_table.proofs.Among.{split_on}
 
 -- ---- whether memory ran out
@@ -66,6 +66,11 @@ pub asks_then : (end : StewardEnd) (supply : Supply) (door : Option DoorTale) (o
     → supply_then end supply ≡ Enough → IfTold door (λ tale. asked new.made ≡ tale.quiets + 1)
 asks_then end supply door old new turns turn e = asked_then end supply door old new turns turn e
 
+-- the whole turns that were made, after one more
+pub whole_then : (end : StewardEnd) (supply : Supply) (door : Option DoorTale) (old new : PassState) → (supply ≡ Enough → HasTurns 0 door old.made) → MadeTurn end old new → supply_then end supply ≡ Enough → HasTurns 1 door new.made
+whole_then steward.Done supply door old new turns turn e = turns_more door old new (turns e) turn
+whole_then steward.Memory supply door old new turns turn e = absurd cc
+
 -- ---- sessions that were joined
 
 module _ (shows : ℕ → Bool) (number : ℕ) (calls : Log) where
@@ -100,6 +105,7 @@ module _ {C : Type 0} (shows : C → ℕ → Bool) (hall : TableId) (clock : C) 
         out = told_as door IsUnused (λ tale. length tale.back + 0 ≡ length tale.came) (λ tale u. omega (arith, ap length u.0, ap length u.1)) unused;
         stewards = subst AreStewards (sym made) tt;
         turns = λ e. told_as door IsUnused (λ tale. asked pass.made ≡ tale.quiets) (λ tale u. ap asked made ∙ sym u.2) unused;
+        whole_turns = λ e. (0, made, told_as door IsUnused (λ tale. 0 ≡ tale.quiets + 0) (λ tale u. omega (arith, u.2)) unused);
       }
 
   -- a link came, and has a pass
@@ -145,6 +151,7 @@ module _ {C : Type 0} (shows : C → ℕ → Bool) (hall : TableId) (clock : C) 
           (λ old new e n. subst (λ c. length new.back + c ≡ length new.came) (sym (one_longer d waiting)) (came_out d.link (length waiting) old new e n)) goes k.out;
       stewards = k.stewards;
       turns = λ e. told_then door door' (Comes d.link) (λ tale. asked pass.made ≡ tale.quiets) (λ tale. asked pass.made ≡ tale.quiets) (λ old new c n. n ∙ sym (ap (λ (t : DoorTale). t.quiets) c)) goes (k.turns e);
+      whole_turns = λ e. turns_go 0 0 door door' (Comes d.link) pass.made (λ old new c. sym (ap (λ (t : DoorTale). t.quiets + 0) c)) goes (k.whole_turns e);
     }
 
   -- a Quiet, and a turn of the steward
@@ -169,6 +176,7 @@ module _ {C : Type 0} (shows : C → ℕ → Bool) (hall : TableId) (clock : C) 
             (λ a b e n. ap (λ (t : DoorTale). length t.back + length waiting) e ∙ n ∙ sym (ap (λ (t : DoorTale). length t.came) e)) goes k.out;
         stewards = turn_all end pass new turn k.stewards;
         turns = λ e. told_then door door' R (λ tale. asked new.made ≡ tale.quiets + 1) (λ tale. asked new.made ≡ tale.quiets) (λ a b c n. n ∙ sym (ap (λ (t : DoorTale). t.quiets) c)) goes (asked_then end supply door pass new k.turns turn e);
+        whole_turns = λ e. turns_go 1 0 door door' R new.made (λ a b c. omega (arith, ap (λ (t : DoorTale). t.quiets) c)) goes (whole_then end supply door pass new k.whole_turns turn e);
       }
 
   -- a worker has paid
@@ -248,4 +256,5 @@ module _ {C : Type 0} (shows : C → ℕ → Bool) (hall : TableId) (clock : C) 
                 (λ a b e n. back_out given.number link (length (one ++ two)) (length (one ++ d ∷ two)) a b e (one_less d one two) n) goes k.out;
             stewards = subst AreStewards (sym made) k.stewards;
             turns = λ e. told_then door door' (TakesBack given.number link) (λ tale. asked pass.made ≡ tale.quiets) (λ tale. asked new.made ≡ tale.quiets) (λ a b c n. ap asked made ∙ n ∙ sym (ap (λ (t : DoorTale). t.quiets) c)) goes (k.turns (was_enough end supply e));
+            whole_turns = λ e. subst (λ (l : Log). HasTurns 0 door' l) (sym made) (turns_go 0 0 door door' (TakesBack given.number link) pass.made (λ a b c. sym (ap (λ (t : DoorTale). t.quiets + 0) c)) goes (k.whole_turns (was_enough end supply e)));
           }

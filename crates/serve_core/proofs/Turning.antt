@@ -1,5 +1,5 @@
 -- A turn of the steward, as the first pass made it.
-use Rattle.std.proofs.Common.{◌≡◌, ℕ, ◌+◌, inl, inr, List, [], ◌∷◌, ◌++◌, map, refl, sym, ap, subst, ◌∙◌, arith}
+use Rattle.std.proofs.Common.{◌≡◌, ℕ, suc, ◌+◌, inl, inr, List, [], ◌∷◌, ◌++◌, map, refl, sym, ap, subst, ◌∙◌, arith}
 use Rattle.lobby_state.specs.declared.desk_in_use.DeskInUse.{DeskInUse}
 use Rattle.one_server.specs.declared.act.Timed.{Timed}
 use Rattle.one_server.specs.Running.{Log, RunnerState}
@@ -7,7 +7,10 @@ use Rattle.hall_core.specs.Passes.{PassState, Place}
 use Rattle.steward_core.specs.declared.turn.StewardEnd.{StewardEnd}
 use Rattle.steward_core.specs.declared.turn.StewardEnd.TheVariants.{Done, Memory}
 use Rattle.steward_core.specs.Turn.{AreClears, AsksAndClears, IsPartOf, IsTurn, acts_of, clears, rows_told}
-use Rattle.serve_core.specs.Stewarding.{AreStewards, IsStewards, MadeTurn, asked, asks_once}
+use Rattle.std.specs.declared.option.Option.{Option}
+use Rattle.edge_traits.specs.Door.{DoorTale, Goes}
+use Rattle.serve_core.specs.Stewarding.{AreStewards, HasTurns, IsStewards, MadeTurn, asked, asks_once}
+use Rattle.serve_core.proofs.Telling.{told_as, told_then}
 
 pub stewards_append : (one two : Log) → AreStewards one → AreStewards two → AreStewards (one ++ two)
 stewards_append [] two p q = q
@@ -74,3 +77,21 @@ pub turn_asked : (old new : PassState) → MadeTurn Done old new → asked new.m
 turn_asked old new turn =
     let once = (stewards_turn Done turn.moment turn.turn.entries turn.turn.turn).1 in
     ap asked (turn_made Done old new turn) ∙ asked_append old.made turn.turn.entries ∙ ap (λ n. asked old.made + n) once
+
+-- ---- whole turns
+
+-- one turn more was made
+pub turns_more : (door : Option DoorTale) (old new : PassState) → HasTurns 0 door old.made → MadeTurn Done old new → HasTurns 1 door new.made
+turns_more door old new t turn = (
+  suc t.0,
+  (old.made, turn.turn.entries, turn.moment, t.1, turn.turn.turn, turn_made Done old new turn),
+  told_as door (λ tale. t.0 ≡ tale.quiets + 0) (λ tale. suc t.0 ≡ tale.quiets + 1) (λ tale n. omega (arith, n)) t.2,
+)
+
+-- the door goes on, and gave some more Quiets
+pub turns_go : (more more' : ℕ) (door door' : Option DoorTale) (R : DoorTale → DoorTale → Type 0) (made : Log) → ((old new : DoorTale) → R old new → old.quiets + more ≡ new.quiets + more') → Goes door door' R → HasTurns more door made → HasTurns more' door' made
+turns_go more more' door door' R made same goes t = (
+  t.0,
+  t.1,
+  told_then door door' R (λ tale. t.0 ≡ tale.quiets + more) (λ tale. t.0 ≡ tale.quiets + more') (λ old new r n. n ∙ same old new r) goes t.2,
+)

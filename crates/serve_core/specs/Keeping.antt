@@ -15,7 +15,7 @@ use Rattle.link_core.specs.declared.link_end.LinkEnd.TheVariants as link_end
 use Rattle.link_core.specs.Served.{IsServed}
 use Rattle.serve_core.specs.declared.settle.Supply.{Supply}
 use Rattle.serve_core.specs.declared.settle.Supply.TheVariants.{Enough, Short}
-use Rattle.serve_core.specs.Stewarding.{AreStewards, asked}
+use Rattle.serve_core.specs.Stewarding.{AreStewards, HasTurns, asked}
 use Rattle.serve_core.specs.Working.{Due}
 
 -- whether memory ran out somewhere, once a link was served that ended like this
@@ -68,6 +68,7 @@ module _ {C : Type 0} (shows : C → ℕ → Bool) (hall : TableId) (clock : C) 
     pub out : IfTold door (λ tale. length tale.back + length waiting ≡ length tale.came)
     pub stewards : AreStewards pass.made
     pub turns : supply ≡ Enough → IfTold door (λ tale. asked pass.made ≡ tale.quiets)
+    pub whole_turns : supply ≡ Enough → HasTurns 0 door pass.made
 
 -- a settlement changes neither how many passes were split nor with what the hall opened
 abbrev pub Stays : PassState → PassState → Type 0

@@ -17,7 +17,7 @@ use Rattle.serve_core.specs.declared.end.ServeEnd.TheVariants.{Done, DoorFault, 
 use Rattle.serve_core.specs.declared.settle.Supply.{Supply}
 use Rattle.serve_core.specs.declared.settle.Supply.TheVariants.{Enough, Short}
 use Rattle.serve_core.specs.Keeping.{HasServed}
-use Rattle.serve_core.specs.Stewarding.{AreStewards, EndsWithTurn, asked}
+use Rattle.serve_core.specs.Stewarding.{AreStewards, EndsWithTurn, HasTurns, asked}
 
 -- why no further link is taken, of so many: the door is closed and has none left, where it tells; or it counted a fault;
 -- or 2^31 came
@@ -66,12 +66,13 @@ pub record HasServedAll (shows : ℕ → Bool) (opening : List Part) (end : Serv
   pub sessions : (k : ℕ) → 0 < k → k ≤ pass.splits → HasServed shows supply door k (calls_of k pass.seen)
   pub came : IfTold door (λ tale. length tale.came ≡ pass.splits)
   pub back : IfTold door (λ tale. length tale.back ≡ pass.splits)
-  -- session 0 is the steward: its acts are those of turns, the last ones those of one turn, and there is one turn for
-  -- each Quiet of the door and one more
+  -- session 0 is the steward: its acts are those of turns, the last ones those of one turn. Unless something failed or
+  -- memory ran out, they are those of whole turns, one for each Quiet of the door and one more
   pub stewards : AreStewards (calls_of 0 pass.seen)
   pub last : StewardEnd
   pub last_turn : EndsWithTurn last (calls_of 0 pass.seen)
   pub turns : IsWhole end → IfTold door (λ tale. asked (calls_of 0 pass.seen) ≡ tale.quiets + 1)
+  pub whole_turns : IsWhole end → HasTurns 1 door (calls_of 0 pass.seen)
   -- the door has a link left only after a fault of its own, or where 2^31 came, or where none was taken since `ready`
   -- couldn't be written
   pub none_left : IfTold door (λ tale. (tale.left ≡ [])

@@ -1,5 +1,7 @@
 -- The acts of the steward among those of a session.
-use Rattle.std.specs.Prelude.{◌≡◌, ℕ, ◌+◌, [], ◌∷◌, ◌++◌}
+use Rattle.std.specs.Prelude.{◌≡◌, ℕ, zero, suc, ◌+◌, [], ◌∷◌, ◌++◌}
+use Rattle.std.specs.declared.option.Option.{Option}
+use Rattle.edge_traits.specs.Door.{DoorTale, IfTold}
 use Rattle.lobby_state.specs.declared.acts.LobbyAct.TheVariants.{InUse}
 use Rattle.lobby_state.specs.declared.acts.PairAct.TheVariants.{Clear}
 use Rattle.one_server.specs.declared.act.Act.{Act}
@@ -42,6 +44,15 @@ pub record MadeTurn (end : StewardEnd) (old new : PassState) : Type 0 where
 -- the last entries are those of one turn
 abbrev pub EndsWithTurn : StewardEnd → Log → Type 0
 EndsWithTurn end made = (before : Log) × (entries : Log) × (moment : ℕ) × (made ≡ before ++ entries) × IsTurn end moment entries
+
+-- the entries are those of so many turns, one after the other, in each of which every act was made
+abbrev pub AreTurns : ℕ → Log → Type 0
+AreTurns zero made = made ≡ []
+AreTurns (suc n) made = (before : Log) × (entries : Log) × (moment : ℕ) × AreTurns n before × IsTurn Done moment entries × (made ≡ before ++ entries)
+
+-- all entries are those of such turns, of which there are as many as the door gave Quiets, and so many more
+abbrev pub HasTurns : ℕ → Option DoorTale → Log → Type 0
+HasTurns more door made = (n : ℕ) × AreTurns n made × IfTold door (λ tale. n ≡ tale.quiets + more)
 
 -- whether memory ran out somewhere, once a turn ended like this
 abbrev pub supply_then : StewardEnd → Supply → Supply
