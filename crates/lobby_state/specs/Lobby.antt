@@ -11,8 +11,9 @@ use Rattle.lobby_state.specs.declared.member.Member.{Member}
 use Rattle.lobby_state.specs.Desks.{desks}
 use Rattle.lobby_state.specs.Places.{PlaceList, no_places}
 
--- the accounts in the order in which they were made; the members in the order in which they entered; the challenges in the order in which they were made; for each
--- desk from 1 on the game for which it is in use; and how many games were started, which is the last serial
+-- the accounts in the order in which they were made; the members in the order in which they entered; the challenges in
+-- the order in which they were made; for each desk from 1 on the game for which it is in use; and how many games were
+-- started, which is the last serial
 pub record LobbyState : Type 0 where
   pub accounts : List Account
   pub members : List Member

@@ -9,7 +9,7 @@ use Rattle.lobby_state.specs.Places.{AreAtDesks, PlaceList}
 abbrev pub nowhere : Place
 nowhere = record { desk = 0; serial = 0; seat = 0 }
 
--- the field with these places at its prefix
+-- the field with these places at its front
 abbrev pub field_of : List Place → List Place
 field_of rows = rows ++ replicate (32 - length rows) nowhere
 

@@ -44,7 +44,8 @@ IsStarted started None = Unit {0}
 IsStarted started (Some game) = (1 ≤ game.serial) × (game.serial ≤ started)
 
 -- each handle has at most one account, and there are at most 4,096; no two members have one session, and no two one
--- handle; each challenge is by one member to another; there are 128 desks, and each game has a serial that was given out; and each place of a member is a seat of its own in such a game
+-- handle; each challenge is by one member to another; there are 128 desks, and each game has a serial that was given
+-- out; and each place of a member is a seat of its own in such a game
 pub record IsWellFormed (lobby : LobbyState) : Type 0 where
   pub accounts : AreAccounts lobby.accounts
   pub sessions : AllPairs (λ one another. one.session ≢ another.session) lobby.members

@@ -1,3 +1,4 @@
+//! The acts of the lobby, what they are answered, and what pair acts are to do.
 ghost use Rattle.std.specs.Prelude.{◌≡◌};
 ghost use Rattle.lobby_state.specs.Told.{lists_told};
 ghost use Rattle.lobby_state.specs.Plans.{desk_of};

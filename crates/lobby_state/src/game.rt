@@ -1,3 +1,4 @@
+//! The games for which desks are in use.
 ghost use Rattle.std.specs.Prelude.{◌≡◌, IfOk, None, replicate};
 ghost use Rattle.lobby_state.specs.Desks.{desks};
 

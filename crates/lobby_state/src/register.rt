@@ -13,8 +13,8 @@ use login_handles::Accounts;
 use std::alloc::Global;
 use std::marker::Model;
 
-/// Who is registered and who is in the hall, which challenges stand, and which desks are in use: the acts are carried out here, one file an
-/// act. That they leave it well-formed, `Lobby` knows.
+/// Who is registered and who is in the hall, which challenges stand, and which desks are in use: the acts are carried
+/// out here, one file an act. That they leave it well-formed, `Lobby` knows.
 #[derive(Debug, Drop)]
 pub(crate) struct Register {
     pub(crate) alloc: Global,

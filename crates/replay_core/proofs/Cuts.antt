@@ -59,7 +59,7 @@ letter_is_no_blank b (inr h) e = omega arith
 pub handle_is_word : (name : List ℕ) → IsHandle name → IsWord name
 handle_is_word name h = AllByRecursion-weaker IsAsciiAlphabetic (λ b. b ≢ blank) letter_is_no_blank name (recursion_from_All IsAsciiAlphabetic name h.2)
 
--- a number at the prefix of a text, and what follows its blank, are fixed by the text
+-- a number at the front of a text, and what follows its blank, are fixed by the text
 pub one_number : (m n : ℕ) (x y : List ℕ) → m < 2 ^ 64 → n < 2 ^ 64 → decimal m ++ blank ∷ x ≡ decimal n ++ blank ∷ y → (m ≡ n) × (x ≡ y)
 one_number m n x y p q e =
     let parts = one_cut (decimal m) (decimal n) x y (decimal_is_word m p) (decimal_is_word n q) e in

@@ -43,7 +43,7 @@ number_no_handle n rest small name more h e =
     let one = one_cut (decimal n) name rest more (decimal_is_word n small) (handle_is_word name h) e in
     digits_no_handle (decimal n) (digits_of_decimal n small) (subst IsHandle (sym one.0) h)
 
--- the handles at the prefix of a text, and what follows them, are fixed by the text
+-- the handles at the front of a text, and what follows them, are fixed by the text
 pub one_run : (ns ms : List (List ℕ)) (x y : List ℕ) → AllByRecursion IsHandle ns → AllByRecursion IsHandle ms → NoHandle x → NoHandle y → words_before ns x ≡ words_before ms y → (ns ≡ ms) × (x ≡ y)
 one_run [] [] x y p q f g e = (refl, e)
 one_run [] (m ∷ ms) x y p q f g e = absurd (f m (words_before ms y) q.0 e)

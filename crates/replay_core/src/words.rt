@@ -1,4 +1,4 @@
-//! Words at the prefix of a line, each up to its blank.
+//! Words at the front of a line, each up to its blank.
 
 ghost use Rattle.std.specs.Prelude.{◌≡◌, ◌≢◌, ◌≤◌, ◌∷◌, ◌++◌, ℕ, List, IfSome, IfNone, decimal};
 ghost use Rattle.fics_words.specs.Handle.{IsHandle};

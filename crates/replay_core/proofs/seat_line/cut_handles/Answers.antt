@@ -6,7 +6,7 @@ use Rattle.replay_core.proofs.Seats.{words_before-push}
 use Rattle.replay_core.proofs.seat_line.cut_handles.Invariants.{IsCut}
 use Rattle.replay_core.proofs.seat_line.cut_handles.Goals as goal
 
--- the handle at the prefix of the rest is one name more
+-- the handle at the front of the rest is one name more
 one_more : (bytes : List ℕ) (names new : List (List ℕ)) (rest name after read left : List ℕ) → IsCut bytes names rest → rest ≡ name ++ blank ∷ after → IsHandle name → read ≡ name → left ≡ after → new ≡ names ++ read ∷ [] → IsCut bytes new left
 one_more bytes names new rest name after read left old parts handle same kept pushed =
     rw (pushed, same, kept) record {
