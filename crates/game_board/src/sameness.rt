@@ -123,6 +123,7 @@ fn counted_en_passant(p: &Position) -> Option<Square>
     }
 }
 
+/// Whether two positions are the same. Most differ in their men, so these come first.
 #[tactic(auto, unfolding(chess_model::specs::Claims::same_position))]
 pub(crate) fn is_same_position(p: &Position, q: &Position) -> bool
     ensures { result ≡ same_position p.now q.now }
