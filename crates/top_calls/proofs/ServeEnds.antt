@@ -1,14 +1,17 @@
 -- The statuses of serving.
-use Rattle.std.proofs.Common.{◌≡◌, ℕ, ◌<◌, ◌⊎◌, inl, inr, List, [], ◌∷◌, refl, sym, ap, subst, ◌∙◌, arith}
+use Rattle.std.proofs.Common.{◌≡◌, ℕ, ◌<◌, ◌⊎◌, inl, inr, List, [], ◌∷◌, length, refl, sym, ap, subst, ◌∙◌, arith}
 use Rattle.std.specs.Prelude.{Contains, Option, String}
 use Rattle.std.specs.declared.alloc.Global.{Global}
+use Rattle.std.specs.Io.KnownBytes.{Appends}
+use Rattle.std.proofs.Math.Seq.{take-length}
+use Rattle.edge_traits.specs.Sink.{AppendsFront}
 use Rattle.job_words.specs.Jobs as jobs
 use Rattle.job_words.specs.Jobs.{OnUsage}
 use Rattle.job_words.specs.declared.job.Job.{Job}
 use Rattle.job_words.specs.declared.job.Job.TheVariants as TheJob
 use Rattle.job_words.specs.declared.job.JobFail.{JobFail}
 use Rattle.job_words.specs.declared.job.JobFail.TheVariants as TheFail
-use Rattle.top_calls.specs.Words.{AsksToServe, UsageEnds}
+use Rattle.top_calls.specs.Words.{AsksToServe, UsageEnds, usage_line}
 use Rattle.serve_core.specs.declared.end.ServeEnd.{ServeEnd}
 use Rattle.serve_core.specs.declared.end.ServeEnd.TheVariants.{Done, DoorFault, WriteFault, Memory, Spent}
 use Rattle.serve_core.specs.Serving.{IsWhole, status_of}
@@ -70,3 +73,8 @@ pub usage_listed : (written written' : Option (List ℕ)) (status : ℕ) → Usa
 usage_listed written written' status (inl p) = subst (Contains (0 ∷ 1 ∷ 3 ∷ 6 ∷ 8 ∷ 9 ∷ [])) (sym p.0) (1, omega arith, refl)
 usage_listed written written' status (inr (inl e, front)) = subst (Contains (0 ∷ 1 ∷ 3 ∷ 6 ∷ 8 ∷ 9 ∷ [])) (sym e) (2, omega arith, refl)
 usage_listed written written' status (inr (inr e, front)) = subst (Contains (0 ∷ 1 ∷ 3 ∷ 6 ∷ 8 ∷ 9 ∷ [])) (sym e) (3, omega arith, refl)
+
+-- a front of the usage line was written
+pub usage_front : (written written' : Option (List ℕ)) (status : ℕ) → UsageEnds written written' status → AppendsFront written written' usage_line
+usage_front written written' status (inl p) = (length usage_line, subst (λ (bs : List ℕ). Appends written written' bs) (sym (take-length usage_line)) p.1)
+usage_front written written' status (inr p) = p.1

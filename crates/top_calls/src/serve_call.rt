@@ -1,9 +1,10 @@
 //! The top call that serves players who connect.
 
-ghost use Rattle.std.specs.Prelude.{◌≡◌, ◌⊎◌, ◌∷◌, [], IfSome, IfErr, OnOk, Contains};
-ghost use Rattle.std.specs.Io.KnownBytes.{Appends};
+ghost use Rattle.std.specs.Prelude.{◌≡◌, ◌⊎◌, ◌∷◌, [], IfSome, IfNone, IfErr, OnOk, Contains};
+ghost use Rattle.std.specs.Io.KnownBytes.{Appends, Keeps};
 ghost use Rattle.edge_traits.specs.Door.{IfTold};
 ghost use Rattle.edge_traits.specs.Faults.{Rose};
+ghost use Rattle.edge_traits.specs.Sink.{AppendsFront};
 ghost use Rattle.job_words.specs.Jobs.{OnUsage};
 ghost use Rattle.lobby_state.specs.Lobby.{opening};
 ghost use Rattle.serve_core.specs.Keeping.{IsUnused};
@@ -27,7 +28,8 @@ use std::thread::Threads;
 /// Serves players who connect, where the words ask for it, and gives the status with which the program ends, and the
 /// hall with the pass into which all others were joined: 0 where the door was closed and all was served, 1 where the
 /// words don't ask for it, 3 at a fault of writing, 6 for want of memory, 8 at a fault of the door, and 9 after 2^31
-/// connections. The door is one through which nothing came yet. The keeper isn't called.
+/// connections. Where the words ask for it, a hall is missing only where memory didn't suffice to open one, and then
+/// nothing was written. The door is one through which nothing came yet. The keeper isn't called.
 pub fn serve<T, D, C, P, K, G>(
     rt: &T,
     alloc: Global,
@@ -49,12 +51,17 @@ where
     ensures hall { IfSome result.1 (λ h. h.1.home ≡ h.0) }
     ensures served { IfSome result.1 (λ h. AsksToServe words.now × (end : ServeEnd) × (result.0 ≡ status_of end)
         × HasServedAll (C.shows clock.now) (opened opening) end (D.tale door.new) h.1) }
+    ensures no_hall { IfNone result.1 (AsksToServe words.now → (result.0 ≡ 6)
+        × Keeps (K.written sink.old) (K.written sink.new)) }
     ensures usage { result.0 ≡ 1 → ¬ (AsksToServe words.now)
         × Appends (K.written sink.old) (K.written sink.new) usage_line }
     ensures not_asked { ¬ (AsksToServe words.now) → (result.0 ≡ 1) ⊎ ((result.0 ≡ 3) ⊎ (result.0 ≡ 6)) }
     ensures write_fault { result.0 ≡ 3 → Rose (K.faults sink.old) (K.faults sink.new) }
     ensures door_fault { result.0 ≡ 8 → Rose (D.faults door.old) (D.faults door.new) }
     ensures text { (result.0 ≡ 0) ⊎ (result.0 ≡ 9) → Appends (K.written sink.old) (K.written sink.new) whole_text }
+    ensures text_part { AsksToServe words.now → AppendsFront (K.written sink.old) (K.written sink.new) whole_text }
+    ensures usage_part { ¬ (AsksToServe words.now)
+        → AppendsFront (K.written sink.old) (K.written sink.new) usage_line }
     ensures complete { AsksToServe words.now → ¬ (Rose (D.faults door.old) (D.faults door.new))
         → ¬ (Rose (K.faults sink.old) (K.faults sink.new)) → Contains (0 ∷ 6 ∷ 9 ∷ []) result.0 }
     ensures statuses { Contains (0 ∷ 1 ∷ 3 ∷ 6 ∷ 8 ∷ 9 ∷ []) result.0 }
@@ -98,6 +105,8 @@ where
     ensures hall { IfSome result.1 (λ h. h.1.home ≡ h.0) }
     ensures served { IfSome result.1 (λ h. (end : ServeEnd) × (result.0 ≡ status_of end)
         × HasServedAll (C.shows clock.now) (opened opening) end (D.tale door.new) h.1) }
+    ensures no_hall { IfNone result.1 ((result.0 ≡ status_of ServeEnd.Memory)
+        × Keeps (K.written sink.old) (K.written sink.new)) }
     ensures ends { (end : ServeEnd) × (result.0 ≡ status_of end) × EndsServing end (D.faults door.old)
         (D.faults door.new) (K.faults sink.old) (K.faults sink.new) (K.written sink.old) (K.written sink.new) }
 {

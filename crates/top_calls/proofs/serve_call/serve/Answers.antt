@@ -1,6 +1,6 @@
 use Rattle.std.proofs.Common.{[], ◌∷◌, sym, subst}
 use Rattle.std.specs.Prelude.{Contains}
-use Rattle.top_calls.proofs.ServeEnds.{is_complete, is_listed, usage_listed}
+use Rattle.top_calls.proofs.ServeEnds.{is_complete, is_listed, usage_front, usage_listed}
 use Rattle.top_calls.proofs.serve_call.serve.Goals as goal
 
 pub returns-in-Ok-clause-complete : goal.returns-in-Ok-clause-complete
@@ -15,3 +15,6 @@ returns-in-Ok-clause-statuses g c =
 
 pub returns-in-Err-Usage-clause-statuses : goal.returns-in-Err-Usage-clause-statuses
 returns-in-Err-Usage-clause-statuses g c = usage_listed (g.K.Sink.written c.args.sink.now) (g.K.Sink.written c.tell_usage.new.sink) c.tell_usage.result c.tell_usage.ensures.ends
+
+pub returns-in-Err-Usage-clause-usage_part : goal.returns-in-Err-Usage-clause-usage_part
+returns-in-Err-Usage-clause-usage_part g c = λ none. usage_front (g.K.Sink.written c.args.sink.now) (g.K.Sink.written c.tell_usage.new.sink) c.tell_usage.result c.tell_usage.ensures.ends
