@@ -1,0 +1,77 @@
+#!/usr/bin/env python3
+"""Acts answered a second over the server of one thread and over the hall, by `hall_pace`.
+
+Usage: bench.py [PROGRAM]
+"""
+
+import os
+import subprocess
+import sys
+import time
+
+sys.path.insert(0, os.path.join(os.path.dirname(os.path.abspath(__file__)), ".."))
+from measure import TOP, machine
+
+PROGRAM = os.path.join(TOP, "crates", "hall_pace", "out", "hall_pace")
+THREADS = [1, 2, 4, 8]
+LOOK_ROUNDS = 50_000
+MOVE_ROUNDS = 600
+RUNS = 5
+
+
+def run(program, words):
+    """Runs the program once on these words: the seconds, the processor seconds, and the acts that it says it made."""
+    start = time.perf_counter()
+    process = subprocess.Popen([program, *map(str, words)], stdout=subprocess.PIPE, text=True)
+    said = process.stdout.read()
+    _, status, used = os.wait4(process.pid, 0)
+    seconds = time.perf_counter() - start
+    if status != 0 or not said.endswith("acts\n"):
+        sys.exit(f"bench: {' '.join(map(str, words))}: status {status}, {said!r}")
+    return seconds, used.ru_utime + used.ru_stime, int(said.split()[0])
+
+
+def least(program, words):
+    """The least seconds and the least processor seconds of some runs on these words, and the acts that are made."""
+    runs = [run(program, words) for _ in range(RUNS)]
+    return min(row[0] for row in runs), min(row[1] for row in runs), runs[0][2]
+
+
+def pace(program, place, what, threads, tables, rounds):
+    """The acts of a job, and the seconds and processor seconds that they take beyond the seating and the start."""
+    start, idle, _ = least(program, [place, what, threads, tables, 0])
+    whole, busy, acts = least(program, [place, what, threads, tables, rounds])
+    return acts, whole - start, busy - idle
+
+
+def cases():
+    """Each case: its name, the place, what is done, the threads, the tables of each, and the rounds at each."""
+    yield "looks: one server", "server", "looks", 1, 1, LOOK_ROUNDS
+    for threads in THREADS:
+        yield f"looks: hall, {threads} apart", "apart", "looks", threads, 1, LOOK_ROUNDS
+    for threads in THREADS[1:]:
+        yield f"looks: hall, {threads} at one desk", "same", "looks", threads, 1, LOOK_ROUNDS
+    yield "moves: one server", "server", "moves", 1, 128, MOVE_ROUNDS
+    for threads in THREADS:
+        yield f"moves: hall, {threads} apart", "apart", "moves", threads, 128 // threads, MOVE_ROUNDS
+
+
+def main():
+    program = os.path.abspath(sys.argv[1]) if len(sys.argv) > 1 else PROGRAM
+    if not os.access(program, os.X_OK):
+        sys.exit(f"bench: {program} isn't there; `rt run` in crates/hall_pace builds it")
+    print(f"{machine()}, load {os.getloadavg()[0]:.1f}")
+    print(f"{'case':<28}{'acts':>10}{'seconds':>10}{'acts/s':>12}{'pace':>8}{'us of processor':>17}{'cost':>8}")
+    base = {}
+    for name, place, what, threads, tables, rounds in cases():
+        acts, seconds, busy = pace(program, place, what, threads, tables, rounds)
+        first = base.setdefault(what, (acts / seconds, busy / acts))
+        print(
+            f"{name:<28}{acts:>10}{seconds:>10.3f}{acts / seconds:>12.0f}{acts / seconds / first[0]:>8.2f}"
+            f"{1e6 * busy / acts:>17.2f}{busy / acts / first[1]:>8.2f}",
+            flush=True,
+        )
+
+
+if __name__ == "__main__":
+    main()
