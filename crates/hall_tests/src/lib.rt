@@ -1,6 +1,6 @@
 //! Tests of the hall: games played at its seats and over the server of one thread by the same acts with the same
 //! replies, what two sessions write there, a gate inside the hall, and four threads whose replies are those of one.
-//! Expected replies are those of the rules of the server, written out by hand.
+//! Expected replies and texts are those of the rules of the server, written out by hand.
 //!
 //! A test is a table, and what it does stands in functions almost without contracts, so it is proved quickly: what it
 //! shows is shown by running it.
@@ -15,6 +15,10 @@ mod replies;
 #[cfg(test)]
 mod sessions;
 #[cfg(test)]
+mod stamps;
+#[cfg(test)]
 mod steps;
+#[cfg(test)]
+mod talks;
 #[cfg(test)]
 mod threads;

@@ -2,23 +2,16 @@
 //! thread: the sessions write the same bytes.
 
 use crate::games::server;
-use fics_words::{Fail as Failure, Line, Refusal};
+use crate::talks::{Comes, input_of};
+use fics_words::Fail as Failure;
 use hall_core::Hall;
-use line_reader::Incoming;
 use lobby_state::Lobby;
 use one_server::Runner;
-use session_core::{Input, Session};
+use session_core::Session;
 use std::alloc::Global;
 use std::sync::Wait;
 use std::test::Fail;
 use turn_chain::OpenGate;
-
-/// What comes from a player.
-#[derive(Clone, Copy, Debug)]
-enum Comes {
-    Line(&'static [u8]),
-    Quiet,
-}
 
 /// The moment in milliseconds, the session, and what comes from its player.
 #[derive(Clone, Copy, Debug)]
@@ -45,13 +38,6 @@ const EVENING: [Came; 18] = [
     Came(9900, 2, Comes::Line(b"quit")),
 ];
 
-fn line_of(alloc: Global, text: &[u8]) -> Result<Line, Failure> {
-    match Line::read(alloc, text)? {
-        Some(line) => Ok(line),
-        None => Err(Failure::Refused(Refusal::BadByte)),
-    }
-}
-
 /// Appends what a session writes for what comes from its player.
 fn hear<R: Runner>(
     seat: &mut R,
@@ -60,14 +46,8 @@ fn hear<R: Runner>(
     came: Came,
     out: &mut Vec<u8>,
 ) -> Result<(), Failure> {
-    let moment = u64::from(came.0);
-    let wrote = match came.2 {
-        Comes::Line(text) => {
-            let line = line_of(alloc, text)?;
-            session.take(seat, moment, Input::Line(Incoming::Plain(line)))?
-        }
-        Comes::Quiet => session.take(seat, moment, Input::Quiet)?,
-    };
+    let input = input_of(alloc, came.2)?;
+    let wrote = session.take(seat, u64::from(came.0), input)?;
     for byte in wrote.bytes.as_slice() {
         out.push(*byte)?;
     }

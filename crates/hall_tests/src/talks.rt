@@ -1,0 +1,60 @@
+//! What comes from a player's client, as a session takes it.
+
+ghost use Rattle.std.specs.Prelude.{IfOk};
+ghost use Rattle.session_core.specs.Inputs.{FitsInput};
+
+use fics_words::{Fail, Line, Refusal};
+use line_reader::Incoming;
+use session_core::Input;
+use std::alloc::Global;
+
+/// The most of a client's stamp, and one more.
+const STAMP_CYCLE: u32 = 10_000_000;
+
+/// What comes from a player.
+#[derive(Clone, Copy, Debug)]
+pub enum Comes {
+    Line(&'static [u8]),
+    /// A line with the client's stamp.
+    Stamped(&'static [u8], u32),
+    /// The client has shown the board at this stamp.
+    Ack(u32),
+    Quiet,
+}
+
+/// The input of what comes.
+pub fn input_of(alloc: Global, comes: Comes) -> Result<Input, Fail>
+    ensures { IfOk result FitsInput }
+{
+    Ok(match comes {
+        Comes::Line(text) => Input::Line(Incoming::Plain(line_of(alloc, text)?)),
+        Comes::Stamped(text, stamp) => stamped(line_of(alloc, text)?, stamp)?,
+        Comes::Ack(stamp) => acked(stamp)?,
+        Comes::Quiet => Input::Quiet,
+    })
+}
+
+fn stamped(line: Line, stamp: u32) -> Result<Input, Fail>
+    ensures { IfOk result FitsInput }
+{
+    if stamp >= STAMP_CYCLE {
+        return Err(Fail::Refused(Refusal::BadArguments));
+    }
+    Ok(Input::Line(Incoming::Stamped(line, stamp)))
+}
+
+fn acked(stamp: u32) -> Result<Input, Fail>
+    ensures { IfOk result FitsInput }
+{
+    if stamp >= STAMP_CYCLE {
+        return Err(Fail::Refused(Refusal::BadArguments));
+    }
+    Ok(Input::Line(Incoming::Ack(stamp)))
+}
+
+fn line_of(alloc: Global, text: &[u8]) -> Result<Line, Fail> {
+    match Line::read(alloc, text)? {
+        Some(line) => Ok(line),
+        None => Err(Fail::Refused(Refusal::BadByte)),
+    }
+}
