@@ -7,10 +7,18 @@ mod boards;
 #[cfg(test)]
 mod chess_words;
 #[cfg(test)]
+mod claims;
+#[cfg(test)]
 mod clocks;
 #[cfg(test)]
 mod counted;
 #[cfg(test)]
 mod played;
 #[cfg(test)]
+mod playing;
+#[cfg(test)]
+mod puts;
+#[cfg(test)]
 mod stamped;
+#[cfg(test)]
+mod takebacks;
