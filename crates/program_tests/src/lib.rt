@@ -1,4 +1,4 @@
-//! Tests of the program's top call: its commands over the fakes.
+//! Tests of the program's top calls: the commands of `run` over the fakes, and `serve` over links in memory.
 #![tactic(auto)]
 
 #[cfg(test)]
@@ -19,3 +19,5 @@ mod replay_stamps;
 mod replays;
 #[cfg(test)]
 mod running;
+#[cfg(test)]
+mod serves;

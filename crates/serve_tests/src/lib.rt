@@ -1,5 +1,6 @@
 //! Tests of the server and of its adapters: connections in memory and over TCP, each served to its end, faults of the
-//! door, the sink and a link, and a door that waits for a greeting. What the clients are sent is written out by hand.
+//! door, the sink and a link, a door that waits for a greeting, and a worker that is held with a desk in its hands. What
+//! the clients are sent is written out by hand.
 #![tactic(auto)]
 
 #[cfg(test)]
@@ -8,5 +9,9 @@ mod adapters;
 mod doors;
 #[cfg(test)]
 mod fakes;
+#[cfg(test)]
+mod held_stage;
+#[cfg(test)]
+mod held_worker;
 #[cfg(test)]
 mod tcp;
