@@ -30,11 +30,13 @@ pub fn played(variant: Variant, words: &str) -> Option<Game> {
     let mut last = None;
     for word in words.split_whitespace() {
         let m = move_of(word.as_bytes())?;
+        let shown = m;
+        let made = m;
         if !position.allowed(m) {
             return None;
         }
-        last = Some(position.shown(m));
-        position.make(m);
+        last = Some(position.shown(shown));
+        position.make(made);
         half_moves = half_moves.saturating_add(1);
     }
     Some(Game {
