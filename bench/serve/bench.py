@@ -1,5 +1,6 @@
 #!/usr/bin/env python3
-"""Round trips of `ficsd serve` over loopback, beside an echo server of one thread a link in the same run.
+"""Round trips of `ficsd serve` over loopback, of empty lines and of moves, beside an echo server of one thread a link
+in the same run, and what idle links take.
 
 usage: bench.py [PROGRAM]; without it the program that `./ficsd board </dev/null` builds. Wants a C compiler.
 """
@@ -17,6 +18,7 @@ from measure import machine, program_of  # noqa: E402
 
 SECONDS = 3
 LINKS = (1, 16, 256)
+PLAYERS = (2, 16, 256)
 TICKS = os.sysconf("SC_CLK_TCK")
 
 
@@ -68,6 +70,16 @@ def trips(load, server, port, links, end, kind):
     return int(count) / float(seconds), 1e6 * taken / max(int(count), 1)
 
 
+def beside(load, plain, other, served, port, links, kind):
+    """Prints the round trips of both servers with as many lines under way: one a link, or one a pair of players."""
+    lines = links // 2 if kind == "moves" else links
+    rate, cost = trips(load, plain, other, lines, "\n", "echo")
+    print(f"echo    {lines:4} links: {rate:9.0f} round trips a second, {cost:6.1f} microseconds of processor time each")
+    mine, cost = trips(load, served, port, links, "fics% ", kind)
+    print(f"{kind:7} {links:4} links: {mine:9.0f} round trips a second, {cost:6.1f} microseconds of processor time each, "
+          f"{100 * mine / rate:.0f} % of the echo server's")
+
+
 def main(words):
     program = program_of(words)
     print(machine())
@@ -79,12 +91,7 @@ def main(words):
         try:
             wait_for(other)
             wait_for(port)
-            for links in LINKS:
-                rate, cost = trips(load, plain, other, links, "\n", "echo")
-                print(f"echo    {links:4} links: {rate:9.0f} round trips a second, {cost:6.1f} microseconds of processor time each")
-                rate, cost = trips(load, served, port, links, "fics% ", "empty")
-                print(f"round   {links:4} links: {rate:9.0f} round trips a second, {cost:6.1f} microseconds of processor time each")
-            print(f"memory without links: {resident(served)} KiB")
+            print(f"memory before the first link: {resident(served)} KiB")
             for links in (64, 256):
                 idle = subprocess.Popen([load, str(port), str(links), "2", "x", "idle"], stdout=subprocess.PIPE, text=True)
                 idle.stdout.readline()
@@ -93,6 +100,10 @@ def main(words):
                 share = (processor_seconds(served) - before) / (time.monotonic() - start)
                 print(f"memory with {links} idle links: {resident(served)} KiB, {100 * share:.1f} % of a processor")
                 idle.wait()
+            for kind, counts in (("empty", LINKS), ("moves", PLAYERS)):
+                for links in counts:
+                    beside(load, plain, other, served, port, links, kind)
+            print(f"memory once all have left: {resident(served)} KiB")
         finally:
             plain.kill()
             served.kill()
