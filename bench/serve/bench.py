@@ -92,10 +92,6 @@ def main(words):
             wait_for(other)
             wait_for(port)
             print(f"memory before the first link: {resident(served)} KiB")
-            for kind, counts in (("empty", LINKS), ("moves", PLAYERS)):
-                for links in counts:
-                    beside(load, plain, other, served, port, links, kind)
-            print(f"memory without links: {resident(served)} KiB")
             for links in (64, 256):
                 idle = subprocess.Popen([load, str(port), str(links), "2", "x", "idle"], stdout=subprocess.PIPE, text=True)
                 idle.stdout.readline()
@@ -104,6 +100,10 @@ def main(words):
                 share = (processor_seconds(served) - before) / (time.monotonic() - start)
                 print(f"memory with {links} idle links: {resident(served)} KiB, {100 * share:.1f} % of a processor")
                 idle.wait()
+            for kind, counts in (("empty", LINKS), ("moves", PLAYERS)):
+                for links in counts:
+                    beside(load, plain, other, served, port, links, kind)
+            print(f"memory once all have left: {resident(served)} KiB")
         finally:
             plain.kill()
             served.kill()
