@@ -3,8 +3,9 @@
 use crate::shown::ends_with_end;
 use crate::table::{ANN, BEN, Does, Given, SERIAL, Step, desk_with_game, first_failing, outcome};
 use chess_model::Colour;
-use fics_words::Refusal;
+use fics_words::{NoMemory, Refusal};
 use linked_desk::{Desk, Ended, Why};
+use std::alloc::Global;
 use std::test::Fail;
 
 /// The shortest mate, known as the fool's.
@@ -37,34 +38,83 @@ fn ended(why: Why, winner: Option<Colour>) -> Option<Ended> {
     })
 }
 
+/// A stage of a game that the position on the board ends.
+#[derive(Clone, Copy)]
+enum Stage {
+    /// These half-moves are played in turn.
+    Plays(&'static [&'static str]),
+    /// The game has ended so, and both players are told of it by that line.
+    Ends(Option<Ended>, &'static str),
+    /// No half-move is played any more.
+    IsOver,
+}
+
+/// Whether the game has ended so, with both players there, of whom Black is told by that line.
+fn has_ended(
+    alloc: Global,
+    desk: &Desk,
+    end: Option<Ended>,
+    line: &'static str,
+) -> Result<bool, NoMemory> {
+    if outcome(desk) != (end, 2) {
+        return Ok(false);
+    }
+    ends_with_end(alloc, desk, BEN, line)
+}
+
+fn is_over(desk: &mut Desk) -> bool {
+    let over = Given::Refused(Refusal::GameOver);
+    let steps = [
+        Step(0, ANN, Does::Move("a2a3"), over),
+        Step(0, BEN, Does::Move("a7a6"), over),
+    ];
+    first_failing(desk, SERIAL, &steps).is_none()
+}
+
+fn holds(alloc: Global, desk: &mut Desk, stage: Stage) -> Result<bool, NoMemory> {
+    match stage {
+        Stage::Plays(half_moves) => Ok(first_refused(desk, half_moves).is_none()),
+        Stage::Ends(end, line) => has_ended(alloc, desk, end, line),
+        Stage::IsOver => Ok(is_over(desk)),
+    }
+}
+
+/// The place of the first stage that isn't as it has to be, if one isn't.
+fn first_wrong(
+    alloc: Global,
+    desk: &mut Desk,
+    stages: &[Stage],
+) -> Result<Option<usize>, NoMemory> {
+    for (place, stage) in stages.iter().enumerate() {
+        if !holds(alloc, desk, *stage)? {
+            return Ok(Some(place));
+        }
+    }
+    Ok(None)
+}
+
 #[test]
 fn mate_ends_the_game(rt: HostRuntime) -> Result<(), Fail> {
     let mut desk = desk_with_game(&rt, rt.alloc(), 0, 0);
-    assert_eq!(rt; first_refused(&mut desk, FOOLS_MATE), None);
-    assert_eq!(rt; outcome(&desk), (ended(Why::Mate, Some(Colour::Black)), 2));
-    let told = ends_with_end(
-        rt.alloc(),
-        &desk,
-        BEN,
-        "{Game 1 (Ann vs. Ben) Ann checkmated} 0-1",
-    )?;
-    assert!(rt; told);
-    let over = [Step(
-        0,
-        ANN,
-        Does::Move("a2a3"),
-        Given::Refused(Refusal::GameOver),
-    )];
-    assert_eq!(rt; first_failing(&mut desk, SERIAL, &over), None);
+    let lost = ended(Why::Mate, Some(Colour::Black));
+    let stages = [
+        Stage::Plays(FOOLS_MATE),
+        Stage::Ends(lost, "{Game 1 (Ann vs. Ben) Ann checkmated} 0-1"),
+        Stage::IsOver,
+    ];
+    assert_eq!(rt; first_wrong(rt.alloc(), &mut desk, &stages)?, None);
     Ok(())
 }
 
 #[test]
 fn stalemate_ends_the_game(rt: HostRuntime) -> Result<(), Fail> {
     let mut desk = desk_with_game(&rt, rt.alloc(), 0, 0);
-    assert_eq!(rt; first_refused(&mut desk, STALEMATE), None);
-    assert_eq!(rt; outcome(&desk), (ended(Why::Stalemate, None), 2));
-    let line = "{Game 1 (Ann vs. Ben) drawn by stalemate} 1/2-1/2";
-    assert!(rt; ends_with_end(rt.alloc(), &desk, ANN, line)?);
+    let drawn = ended(Why::Stalemate, None);
+    let stages = [
+        Stage::Plays(STALEMATE),
+        Stage::Ends(drawn, "{Game 1 (Ann vs. Ben) drawn by stalemate} 1/2-1/2"),
+        Stage::IsOver,
+    ];
+    assert_eq!(rt; first_wrong(rt.alloc(), &mut desk, &stages)?, None);
     Ok(())
 }
