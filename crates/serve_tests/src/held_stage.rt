@@ -1,5 +1,9 @@
 //! A stage on which players say their lines one after the other, and its gate, which holds a worker at desk 1.
 
+ghost use Rattle.std.specs.Prelude.{◌<◌, ◌≤◌, length};
+ghost use Rattle.edge_traits.specs.Faults.{Rose};
+ghost use Rattle.edge_traits.specs.Link.{IfHeard, OnHearFailed};
+
 use edge_traits::{Gate, Heard, Link, Sent};
 use std::alloc::Global;
 use std::sync::atomic::{AtomicU64, Ordering};
@@ -209,7 +213,10 @@ impl Link for Player<'_> {
 }
 
 /// Puts a line into the buffer.
-fn say(line: &[u8], buf: &mut [u8]) -> Heard {
+fn say(line: &[u8], buf: &mut [u8]) -> Heard
+    ensures count { IfHeard result (λ n. (0 < n) × (n ≤ length buf.new)) }
+    ensures cause { OnHearFailed result (Rose 0 0) }
+{
     let count = line.len().min(buf.len());
     if count == 0 {
         return Heard::End;
