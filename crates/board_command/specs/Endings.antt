@@ -1,5 +1,5 @@
 -- How the game of `board` ends by itself, by mate or stalemate (FIDE Laws 5.1.1, 5.2.1), and the line that tells it.
-use Rattle.std.specs.Prelude.{ℕ, Bool, true, false, List, [], ◌++◌, Some, None, codes}
+use Rattle.std.specs.Prelude.{ℕ, true, List, [], ◌++◌, Some, None, codes}
 use Rattle.chess_model.specs.declared.man.Colour.{Colour}
 use Rattle.chess_model.specs.declared.states.State.{State}
 use Rattle.chess_model.specs.declared.states.State.TheVariants.{Safe, Check, Mate, Stalemate}
@@ -7,13 +7,6 @@ use Rattle.chess_model.specs.declared.why.Why.TheVariants as why
 use Rattle.chess_model.specs.Placement.{opposite}
 use Rattle.style12_writer.specs.declared.view.BoardView.{BoardView}
 use Rattle.style12_writer.specs.EndLine.{end_text}
-
--- whether a game has ended in which the player to move is in that state
-abbrev pub is_end : State → Bool
-is_end Safe = false
-is_end Check = false
-is_end Mate = true
-is_end Stalemate = true
 
 -- the line of the end, where the game has ended; the player to move is the one who is mated
 abbrev pub end_lines : BoardView → Colour → State → List ℕ

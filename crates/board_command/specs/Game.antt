@@ -14,7 +14,8 @@ use Rattle.style12_writer.specs.declared.view.BoardView.{BoardView}
 use Rattle.style12_writer.specs.declared.view.Viewer.{Viewer}
 use Rattle.style12_writer.specs.Line12.{line12_text}
 use Rattle.variant_rules.specs.States.{state_in}
-use Rattle.board_command.specs.Endings.{is_end, end_lines}
+use Rattle.chess_model.specs.Result.{is_end}
+use Rattle.board_command.specs.Endings.{end_lines}
 use Rattle.session_core.specs.Texts.{refusal_line}
 use Rattle.move_reader.specs.Reading.{reading}
 

@@ -2,24 +2,12 @@
 
 ghost use Rattle.std.specs.Prelude.{◌≡◌, ◌++◌, ◌↔◌, OnOk, IsSome, IsTrue, codes, true};
 ghost use Rattle.style12_writer.specs.EndLine.{is_decisive, end_text};
-ghost use Rattle.board_command.specs.Endings.{is_end, end_lines};
+ghost use Rattle.board_command.specs.Endings.{end_lines};
 
 use crate::game::END_OF_LINE;
 use chess_model::{Colour, State, Why};
 use fics_words::NoMemory;
 use style12_writer::{BoardView, end_line};
-
-/// Whether a game has ended in which the player to move is in that state.
-pub fn is_end(state: State) -> bool
-    ensures { result ≡ is_end state }
-{
-    match state {
-        State::Safe => false,
-        State::Check => false,
-        State::Mate => true,
-        State::Stalemate => true,
-    }
-}
 
 /// Appends the line of the end, where the game has ended: the player to move is the one who is mated.
 pub fn put_end(

@@ -4,7 +4,7 @@ ghost use Rattle.std.specs.Prelude.{◌≡◌, ◌++◌, OnOk, codes};
 ghost use Rattle.board_command.specs.Game.{untimed, view_of, observer, shown_text, state_of};
 ghost use Rattle.style12_writer.specs.Line12.{line12_text};
 
-use crate::endings::{is_end, put_end};
+use crate::endings::put_end;
 use chess_model::{MoveWord, State, Terms, Variant};
 use fics_words::{Handle, NoMemory, Refusal};
 use game_board::GameBoard;
@@ -45,7 +45,7 @@ impl Game {
         ensures { IfOk result (λ game. game ≡ new_game) }
     {
         let board = GameBoard::start(alloc, 1, untimed(), 0)?;
-        let over = is_end(board.state());
+        let over = board.state().is_end();
         Ok(Game { board, over })
     }
 
@@ -75,7 +75,7 @@ impl Game {
         match self.board.play(colour, word, 0, None) {
             Ok(_captured) => {
                 let state = self.board.state();
-                self.over = is_end(state);
+                self.over = state.is_end();
                 write_board(&self.board, state, out)
             }
             Err(refusal) => put_refusal(refusal, out),

@@ -80,3 +80,10 @@ IsState p Check = (¬ IsKingSafe p.men p.to_move) × HasAnswer p.variant p
 IsState p Mate = (¬ IsKingSafe p.men p.to_move) × (¬ HasAnswer p.variant p)
 IsState p Stalemate = IsKingSafe p.men p.to_move × (¬ HasAnswer p.variant p) × (p.variant ≢ Bughouse)
 IsState p Safe = IsKingSafe p.men p.to_move × (HasAnswer p.variant p ⊎ (p.variant ≡ Bughouse))
+
+-- whether a game has ended in which the player to move is in that state
+abbrev pub is_end : State → Bool
+is_end Safe = false
+is_end Check = false
+is_end Mate = true
+is_end Stalemate = true

@@ -6,7 +6,6 @@ ghost use Rattle.chess_model.specs.WordAnswer.{word_answer};
 ghost use Rattle.chess_model.specs.Allowed.{IsMove, IsSafeAfter, Allowed};
 
 use crate::allowed::{has_drops, may_drop_on};
-use crate::hand::is_same_side;
 use crate::man::{Colour, Kind, Man};
 use crate::moves::{Move, MoveWord, Rejection};
 use crate::placement::{home_of_king, is_held_as_kind, is_held_by, last_rank_of, man_on};
@@ -23,24 +22,11 @@ struct NamedWord {
     promo: Option<Kind>,
 }
 
-fn is_same_kind(k: Kind, j: Kind) -> bool
-    ensures { result ≡ same_kind k j }
-{
-    match k {
-        Kind::Pawn => matches!(j, Kind::Pawn),
-        Kind::Knight => matches!(j, Kind::Knight),
-        Kind::Bishop => matches!(j, Kind::Bishop),
-        Kind::Rook => matches!(j, Kind::Rook),
-        Kind::Queen => matches!(j, Kind::Queen),
-        Kind::King => matches!(j, Kind::King),
-    }
-}
-
 fn is_man_of(c: Colour, k: Kind, man: Option<Man>) -> bool
     ensures { result ≡ is_held_as c k man }
 {
     match man {
-        Some(m) => is_same_side(m.colour, c) && is_same_kind(m.kind, k),
+        Some(m) => m.colour.is_same(c) && m.kind.is_same(k),
         None => false,
     }
 }

@@ -82,21 +82,6 @@ fn with_one_less(hand: Hand, k: Kind) -> Hand
     less
 }
 
-pub(crate) fn is_same_side(c: Colour, d: Colour) -> bool
-    ensures { result ≡ same_colour c d }
-{
-    match c {
-        Colour::White => match d {
-            Colour::White => true,
-            Colour::Black => false,
-        },
-        Colour::Black => match d {
-            Colour::White => false,
-            Colour::Black => true,
-        },
-    }
-}
-
 /// The kind as which a captured man is handed over: a promoted one is a pawn again.
 fn handed_over_as(m: Man) -> Kind
     ensures { result ≡ handed_kind m }
@@ -123,7 +108,7 @@ fn with_gain(v: Variant, hand: Hand, c: Colour, men: &Men, by: Colour, m: &Move)
 {
     match v {
         Variant::Crazyhouse => {
-            if is_same_side(by, c) {
+            if by.is_same(c) {
                 with_capture(hand, taken_by(men, m))
             } else {
                 hand
@@ -140,7 +125,7 @@ fn with_drop_paid(hand: Hand, c: Colour, by: Colour, m: &Move) -> Hand
 {
     match m {
         Move::Drop { kind, to: _ } => {
-            if is_same_side(by, c) {
+            if by.is_same(c) {
                 with_one_less(hand, *kind)
             } else {
                 hand

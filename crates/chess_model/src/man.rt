@@ -1,8 +1,23 @@
+ghost use Rattle.std.specs.Prelude.{◌≡◌};
+ghost use Rattle.chess_model.specs.Men.{same_colour, same_kind};
+
 /// The two sides.
 #[derive(Clone, Copy, Debug, PartialEq, Eq)]
 pub enum Colour {
     White,
     Black,
+}
+
+impl Colour {
+    /// Whether another colour is the same.
+    pub fn is_same(self, other: Colour) -> bool
+        ensures { result ≡ same_colour self other }
+    {
+        match self {
+            Colour::White => matches!(other, Colour::White),
+            Colour::Black => matches!(other, Colour::Black),
+        }
+    }
 }
 
 /// The six kinds of men (FIDE Laws, 2.2).
@@ -14,6 +29,22 @@ pub enum Kind {
     Rook,
     Queen,
     King,
+}
+
+impl Kind {
+    /// Whether another kind is the same.
+    pub fn is_same(self, other: Kind) -> bool
+        ensures { result ≡ same_kind self other }
+    {
+        match self {
+            Kind::Pawn => matches!(other, Kind::Pawn),
+            Kind::Knight => matches!(other, Kind::Knight),
+            Kind::Bishop => matches!(other, Kind::Bishop),
+            Kind::Rook => matches!(other, Kind::Rook),
+            Kind::Queen => matches!(other, Kind::Queen),
+            Kind::King => matches!(other, Kind::King),
+        }
+    }
 }
 
 /// A man on the board. `promoted` marks one that a pawn became.

@@ -1,3 +1,6 @@
+ghost use Rattle.std.specs.Prelude.{◌≡◌};
+ghost use Rattle.chess_model.specs.Result.{is_end};
+
 use crate::man::Kind;
 use crate::moves::Move;
 
@@ -8,6 +11,15 @@ pub enum State {
     Check,
     Mate,
     Stalemate,
+}
+
+impl State {
+    /// Whether a game has ended in which the player to move is in that state (FIDE Laws, 5.1.1 and 5.2.1).
+    pub fn is_end(self) -> bool
+        ensures { result ≡ is_end self }
+    {
+        matches!(self, State::Mate | State::Stalemate)
+    }
 }
 
 /// What the printed text of an allowed move needs.

@@ -1,21 +1,13 @@
 -- A half-move that is put on a board with the charge that it has already, as where a game is played again.
 use Rattle.std.specs.Prelude.{◌+◌, Bool, true, false, not, ◌&&◌, nat_lt, is_some, [], ◌∷◌, ◌++◌, None}
 use Rattle.std.specs.Bool.{beq}
-use Rattle.chess_model.specs.declared.states.State.{State}
-use Rattle.chess_model.specs.declared.states.State.TheVariants.{Safe, Check, Mate, Stalemate}
+use Rattle.chess_model.specs.Result.{is_end}
 use Rattle.chess_model.specs.Tests.{is_allowed}
 use Rattle.variant_rules.specs.States.{state_in}
 use Rattle.game_board.specs.declared.played.Played.{Played}
 use Rattle.game_board.specs.Board.{Board, to_move, position_of, has_moved}
 use Rattle.game_board.specs.Charges.{is_timed}
 use Rattle.game_board.specs.Play.{most_played}
-
--- whether a game ends by that state
-abbrev pub is_end : State → Bool
-is_end Safe = false
-is_end Check = false
-is_end Mate = true
-is_end Stalemate = true
 
 -- whether the next half-move is charged: the game is timed, and it isn't the first one of its colour
 abbrev pub is_next_charged : Board → Bool

@@ -208,7 +208,7 @@ impl GameBoard {
     fn is_to_move(&self, colour: Colour) -> bool
         ensures { result ≡ same_colour colour (to_move self.now) }
     {
-        is_same_colour(colour, self.to_move())
+        colour.is_same(self.to_move())
     }
 
     /// Whether that colour has made a half-move.
@@ -377,16 +377,7 @@ fn is_bare(colour: Colour, man: &Option<Man>) -> bool
 {
     match man {
         None => true,
-        Some(man) => !is_same_colour(man.colour, colour) || matches!(man.kind, Kind::King),
-    }
-}
-
-pub(crate) fn is_same_colour(a: Colour, b: Colour) -> bool
-    ensures { result ≡ same_colour a b }
-{
-    match a {
-        Colour::White => matches!(b, Colour::White),
-        Colour::Black => matches!(b, Colour::Black),
+        Some(man) => !man.colour.is_same(colour) || matches!(man.kind, Kind::King),
     }
 }
 

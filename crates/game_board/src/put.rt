@@ -4,25 +4,13 @@ ghost use Rattle.chess_model.specs.Allowed.{Allowed};
 ghost use Rattle.clock_ledger.specs.Charges.{IsChargeable};
 ghost use Rattle.game_board.specs.Board.{position_of};
 ghost use Rattle.game_board.specs.Play.{captured};
-ghost use Rattle.game_board.specs.Put.{is_end, is_next_charged, takes_played, with_played};
+ghost use Rattle.game_board.specs.Put.{is_next_charged, takes_played, with_played};
 
 use crate::clocks::charge_clocks;
 use crate::game_board::{GameBoard, MOST_PLAYED};
 use crate::played::{Played, Step};
-use chess_model::{Man, State};
+use chess_model::Man;
 use memory::NoMemory;
-
-/// Whether a game ends by that state.
-fn is_end(state: State) -> bool
-    ensures { result ≡ is_end state }
-{
-    match state {
-        State::Safe => false,
-        State::Check => false,
-        State::Mate => true,
-        State::Stalemate => true,
-    }
-}
 
 impl GameBoard {
     /// Whether the board takes a half-move as it is: the game hasn't ended by mate or stalemate, there is room, the
@@ -31,7 +19,7 @@ impl GameBoard {
     pub fn takes(&self, half: &Played) -> bool
         ensures { result ≡ takes_played self.now half.now }
     {
-        if is_end(self.state()) {
+        if self.state().is_end() {
             return false;
         }
         if self.played() >= MOST_PLAYED {

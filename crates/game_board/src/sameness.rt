@@ -8,23 +8,9 @@ ghost use Rattle.chess_model.specs.Men.{same_colour, same_kind};
 ghost use Rattle.chess_model.specs.MoveList.{is_en_passant};
 ghost use Rattle.chess_model.specs.Tests.{squares};
 
-use crate::game_board::is_same_colour;
 use bitboard_core::square_of;
 use chess_model::{Kind, Man, Move, Rights, Square};
 use variant_rules::Position;
-
-fn is_same_kind(a: Kind, b: Kind) -> bool
-    ensures { result ≡ same_kind a b }
-{
-    match a {
-        Kind::Pawn => matches!(b, Kind::Pawn),
-        Kind::Knight => matches!(b, Kind::Knight),
-        Kind::Bishop => matches!(b, Kind::Bishop),
-        Kind::Rook => matches!(b, Kind::Rook),
-        Kind::Queen => matches!(b, Kind::Queen),
-        Kind::King => matches!(b, Kind::King),
-    }
-}
 
 /// Whether two squares hold the same, marks of promotion aside.
 fn is_same_man(a: Option<Man>, b: Option<Man>) -> bool
@@ -34,7 +20,7 @@ fn is_same_man(a: Option<Man>, b: Option<Man>) -> bool
         (None, None) => true,
         (None, Some(_)) => false,
         (Some(_), None) => false,
-        (Some(m), Some(n)) => is_same_colour(m.colour, n.colour) && is_same_kind(m.kind, n.kind),
+        (Some(m), Some(n)) => m.colour.is_same(n.colour) && m.kind.is_same(n.kind),
     }
 }
 
@@ -77,7 +63,7 @@ fn is_en_passant(p: &Position, from: Square, to: Square) -> bool
 {
     match p.man(from) {
         Some(man) => {
-            is_same_kind(man.kind, Kind::Pawn) && (p.man(to).is_none() && from.file() != to.file())
+            man.kind.is_same(Kind::Pawn) && (p.man(to).is_none() && from.file() != to.file())
         }
         None => false,
     }
@@ -131,7 +117,7 @@ pub(crate) fn is_same_position(p: &Position, q: &Position) -> bool
     if !is_same_placement(p, q) {
         return false;
     }
-    if !is_same_colour(p.to_move(), q.to_move()) || !is_same_rights(p.rights(), q.rights()) {
+    if !p.to_move().is_same(q.to_move()) || !is_same_rights(p.rights(), q.rights()) {
         return false;
     }
     is_same_square(counted_en_passant(p), counted_en_passant(q))

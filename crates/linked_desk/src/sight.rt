@@ -36,10 +36,10 @@ fn observing() -> Viewer
 fn playing(own: Colour, to_move: Colour) -> Viewer
     ensures { result ≡ playing own to_move }
 {
-    let relation = if is_same(own, to_move) { 1 } else { -1 };
+    let relation = if own.is_same(to_move) { 1 } else { -1 };
     Viewer {
         relation,
-        flip: is_same(own, Colour::Black),
+        flip: own.is_same(Colour::Black),
     }
 }
 
@@ -48,13 +48,4 @@ fn board_in(game: u16) -> u8
     ensures { result ≡ board_in game }
 {
     if game % 2 == 0 { 2 } else { 1 }
-}
-
-fn is_same(one: Colour, another: Colour) -> bool
-    ensures { result ≡ same_colour one another }
-{
-    match one {
-        Colour::White => matches!(another, Colour::White),
-        Colour::Black => matches!(another, Colour::Black),
-    }
 }

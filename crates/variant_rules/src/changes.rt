@@ -214,34 +214,6 @@ pub(crate) fn rights_left(v: Variant, rights: Rights, by: Colour, m: &Move) -> R
     }
 }
 
-pub(crate) fn is_same_side(c: Colour, d: Colour) -> bool
-    ensures { result ≡ same_colour c d }
-{
-    match c {
-        Colour::White => match d {
-            Colour::White => true,
-            Colour::Black => false,
-        },
-        Colour::Black => match d {
-            Colour::White => false,
-            Colour::Black => true,
-        },
-    }
-}
-
-pub(crate) fn is_same_kind(k: Kind, j: Kind) -> bool
-    ensures { result ≡ same_kind k j }
-{
-    match k {
-        Kind::Pawn => matches!(j, Kind::Pawn),
-        Kind::Knight => matches!(j, Kind::Knight),
-        Kind::Bishop => matches!(j, Kind::Bishop),
-        Kind::Rook => matches!(j, Kind::Rook),
-        Kind::Queen => matches!(j, Kind::Queen),
-        Kind::King => matches!(j, Kind::King),
-    }
-}
-
 /// The kind as which a captured man is handed over: a promoted one is a pawn again.
 fn handed_over_as(m: Man) -> Kind
     ensures { result ≡ handed_kind m }
@@ -268,7 +240,7 @@ fn with_gain(v: Variant, hand: Holdings, c: Colour, men: &Bits, by: Colour, m: &
 {
     match v {
         Variant::Crazyhouse => {
-            if is_same_side(by, c) {
+            if by.is_same(c) {
                 with_capture(hand, taken_by(men, m))
             } else {
                 hand
@@ -285,7 +257,7 @@ fn with_drop_paid(hand: Holdings, c: Colour, by: Colour, m: &Move) -> Holdings
 {
     match m {
         Move::Drop { kind, to: _ } => {
-            if is_same_side(by, c) {
+            if by.is_same(c) {
                 hand.with_one_less(*kind)
             } else {
                 hand

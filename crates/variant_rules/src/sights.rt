@@ -8,7 +8,7 @@ ghost use Rattle.bitboard_core.specs.Sets.{IsSetOf};
 ghost use Rattle.bitboard_core.specs.Strikers.{man_place, is_placed, AreMenOf};
 ghost use Rattle.variant_rules.specs.Watches.{AreSightsOf};
 
-use crate::changes::{is_same_kind, is_same_side, landed_man, takes_on, unpromoted_man};
+use crate::changes::{landed_man, takes_on, unpromoted_man};
 use crate::homes::{end_of_king, end_of_rook, home_of_king, home_of_rook};
 use bitboard_core::{Bits, Side, are_safe};
 use chess_model::{Colour, Kind, Man, Move, Square, Variant};
@@ -37,7 +37,7 @@ pub(crate) fn is_held_as(c: Colour, k: Kind, man: Option<Man>) -> bool
     ensures { result ≡ is_held_as c k man }
 {
     match man {
-        Some(m) => is_same_side(m.colour, c) && is_same_kind(m.kind, k),
+        Some(m) => m.colour.is_same(c) && m.kind.is_same(k),
         None => false,
     }
 }

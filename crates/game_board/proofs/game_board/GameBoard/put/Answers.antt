@@ -2,11 +2,12 @@ use Rattle.std.proofs.Common.{◌≡◌, ◌<◌, ◌&&◌, not, true, Bool}
 use Rattle.std.specs.Prelude.{nat_lt, is_some}
 use Rattle.std.specs.Bool.{beq}
 use Rattle.std.proofs.lemmas.Bool.Decides.{Decides-ltb}
+use Rattle.chess_model.specs.Result.{is_end}
 use Rattle.chess_model.specs.Tests.{is_allowed}
 use Rattle.chess_model.proofs.TestsDecide.{Decides-allowed}
 use Rattle.variant_rules.specs.States.{state_in}
 use Rattle.game_board.specs.Board.{position_of}
-use Rattle.game_board.specs.Put.{is_end, is_next_charged, takes_played}
+use Rattle.game_board.specs.Put.{is_next_charged, takes_played}
 use Rattle.game_board.proofs.Takes.{four_parts}
 use Rattle.game_board.proofs.game_board.GameBoard.put.Goals as goal
 
