@@ -1,4 +1,3 @@
-ghost use Rattle.std.specs.Prelude.{◌≡◌};
 ghost use Rattle.bitboard_core.specs.Rays.{Sense, IsRaySet};
 
 use crate::stops::{down_to_stop, up_to_stop};

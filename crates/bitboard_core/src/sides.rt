@@ -1,4 +1,4 @@
-ghost use Rattle.std.specs.Prelude.{◌≡◌, ◌↔◌, IsTrue};
+ghost use Rattle.std.specs.Prelude.{◌↔◌, IsTrue};
 ghost use Rattle.chess_model.specs.Placement.{Placement, opposite};
 ghost use Rattle.chess_model.specs.Attacked.{IsAttacked, IsKingSafe};
 ghost use Rattle.bitboard_core.specs.Strikers.{IsOccupied, AreMenOf, AreKingsOf, IsStrikerSet};

@@ -1,4 +1,3 @@
-ghost use Rattle.std.specs.Prelude.{◌≡◌};
 ghost use Rattle.chess_model.specs.Placement.{Placement};
 ghost use Rattle.bitboard_core.specs.Strikers.{IsOccupied, IsStruckSet, IsPushSet};
 

@@ -1,7 +1,7 @@
 -- A position stands for the third time exactly where it has stood twice before.
 use Rattle.std.proofs.Common.{arith, ◌≡◌, ℕ, ◌+◌, ◌<◌, ◌≤◌, ◌⊎◌, inl, inr, suc, zero, List, [], ◌∷◌, map, filter, take, length, Bool, true, false, ◌&&◌, cond, nat_eq, nat_le, Option, Some, None, refl, sym, ap, subst, ◌∙◌}
 use Rattle.std.specs.Bool.{beq}
-use Rattle.std.specs.List.{list_all, count_by, sum_by, range_with_len}
+use Rattle.std.specs.List.{count_by, sum_by, range_with_len}
 use Rattle.std.proofs.lemmas.Bool.{cases_eq, and_from, eq-eqb, leb-true, le-leb}
 use Rattle.std.proofs.lemmas.List.{take_all}
 use Rattle.std.proofs.lemmas.List.FromFn.{sum_by-map-range_with_len_more}
@@ -18,7 +18,7 @@ use Rattle.chess_model.specs.MoveList.{HalfMove, moves_of, settings, place_from,
 use Rattle.chess_model.specs.RightsAndCounts.{rights_after, en_passant_after}
 use Rattle.chess_model.specs.Position.{Position, position_after}
 use Rattle.chess_model.specs.Tests.{squares, is_allowed, is_move, is_safe_after}
-use Rattle.chess_model.specs.Claims.{same_man, same_placement, same_rights, same_square, same_position, counted_en_passant, alone_on, after_first, positions_of, is_threefold, HasStoodTwice, ThirdTimes}
+use Rattle.chess_model.specs.Claims.{same_man, same_placement, same_rights, same_square, same_position, counted_en_passant, alone_on, after_first, positions_of, is_threefold, ThirdTimes}
 use Rattle.chess_model.proofs.Among.{list_all-from}
 use Rattle.chess_model.proofs.TestsDecide.{same_colour-self, same_kind-self}
 

@@ -1,9 +1,7 @@
 ghost use Rattle.std.specs.Prelude.{◌≡◌, ℕ, ◌<◌, ◌≤◌, ◌↔◌, IsTrue, IsFalse, ◌+◌, IfOk, IfErr, IfSome, IfNone, Some, None};
-ghost use Rattle.chess_model.specs.Placement.{man_at};
-ghost use Rattle.chess_model.specs.Men.{same_kind, is_held_as};
-ghost use Rattle.chess_model.specs.Answer.{is_promotion, promotion_of, is_king_at_home, castling_of, IsAsGiven, IsNamed, IsAnswer, IsRefusal};
+ghost use Rattle.chess_model.specs.Men.{is_held_as};
+ghost use Rattle.chess_model.specs.Answer.{is_promotion, promotion_of, is_king_at_home, castling_of, IsAsGiven, IsAnswer, IsRefusal};
 ghost use Rattle.chess_model.specs.WordAnswer.{word_answer};
-ghost use Rattle.chess_model.specs.Allowed.{IsMove, IsSafeAfter, Allowed};
 
 use crate::allowed::{has_drops, may_drop_on};
 use crate::man::{Colour, Kind, Man};

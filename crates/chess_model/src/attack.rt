@@ -1,4 +1,4 @@
-ghost use Rattle.std.specs.Prelude.{◌≡◌, ℕ, ◌<◌, ◌↔◌, IsTrue, Option};
+ghost use Rattle.std.specs.Prelude.{◌↔◌, IsTrue};
 ghost use Rattle.chess_model.specs.Attacked.{StrikesFrom, IsAttacked, IsInCheckOn, IsKingSafe};
 
 use crate::man::{Colour, Kind};

@@ -1,4 +1,4 @@
-ghost use Rattle.std.specs.Prelude.{◌≡◌, ◌≤◌};
+ghost use Rattle.std.specs.Prelude.{◌≡◌};
 ghost use Rattle.chess_model.specs.RightsAndCounts.{passed_over, is_quiet};
 ghost use Rattle.chess_model.specs.Next.{next_quiet};
 

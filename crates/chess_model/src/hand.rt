@@ -1,6 +1,5 @@
 ghost use Rattle.std.specs.Prelude.{◌≡◌, ◌+◌, ◌-◌, ◌<◌, ◌&&◌, cond};
-ghost use Rattle.chess_model.specs.MoveList.{Ply};
-ghost use Rattle.chess_model.specs.Holdings.{same_colour, same_kind, handed_kind, hands_over, is_drop_of, drops, count_in, hand_of};
+ghost use Rattle.chess_model.specs.Holdings.{same_colour, same_kind, handed_kind, hands_over, is_drop_of, count_in, hand_of};
 ghost use Rattle.chess_model.specs.Next.{gain, next_hand};
 ghost use Rattle.chess_model.specs.Census.{men_in};
 

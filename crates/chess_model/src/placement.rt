@@ -1,4 +1,4 @@
-ghost use Rattle.std.specs.Prelude.{◌≡◌, ℕ, ◌<◌, ◌↔◌, IsTrue, Option};
+ghost use Rattle.std.specs.Prelude.{◌≡◌, ◌<◌, ◌↔◌, IsTrue, Option};
 ghost use Rattle.chess_model.specs.Placement.{man_at, opposite, IsHeldBy, IsHeldAs, home_rank, second_rank, last_rank, king_home, rook_home, king_end, rook_end};
 
 use crate::man::{Colour, Kind, Man};

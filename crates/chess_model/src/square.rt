@@ -1,4 +1,4 @@
-ghost use Rattle.std.specs.Prelude.{◌≡◌, ℕ, ◌<◌, ◌≤◌, ◌↔◌, IsSome, IfSome};
+ghost use Rattle.std.specs.Prelude.{◌≡◌, ℕ, ◌<◌, ◌↔◌, IsSome, IfSome};
 ghost use Rattle.chess_model.specs.Squares.{file_of, rank_of, square_at, files_apart, ranks_apart, distance, toward, along};
 
 use std::marker::Model;

@@ -1,5 +1,5 @@
 //! Exact copies of a row of items.
-ghost use Rattle.std.specs.Prelude.{◌≡◌, ◌≤◌, ◌<◌, length, IfOk, vec_capacity, vec_len};
+ghost use Rattle.std.specs.Prelude.{◌≡◌, ◌≤◌, ◌<◌, IfOk, vec_capacity};
 
 use memory::{Duplicate, NoMemory};
 use std::alloc::Global;

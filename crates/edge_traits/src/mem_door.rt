@@ -49,7 +49,7 @@ impl Model for MemDoor {
 }
 
 impl MemDoor {
-    ghost use Rattle.std.specs.Prelude.{◌≡◌, [], IfSome, IfNone, Some};
+    ghost use Rattle.std.specs.Prelude.{◌≡◌, [], Some};
     ghost use Rattle.edge_traits.specs.MemDoor.{AreNew, told_by};
 
     /// A door that gives these links, which are new; `fails` are the numbers of the calls of `next` that fail, from 0.
@@ -94,8 +94,8 @@ fn written_in(links: &[MemLink], number: u64) -> Option<&[u8]>
 }
 
 impl Doorway for MemDoor {
-    ghost use Rattle.std.specs.Prelude.{◌≡◌, ◌≤◌, ◌↔◌, Some};
-    ghost use Rattle.edge_traits.specs.Faults.{Rose, IsToFail, after_call};
+    ghost use Rattle.std.specs.Prelude.{◌≡◌, ◌≤◌, Some};
+    ghost use Rattle.edge_traits.specs.Faults.{Rose, after_call};
     ghost use Rattle.edge_traits.specs.Door.{Gives, Goes, IfCame, IsNew, IsOut, IfTold, TakesBack, OnDoorFailed, door_failed, IsQuiet};
 
     type Link = MemLink;

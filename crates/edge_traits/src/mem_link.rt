@@ -55,7 +55,7 @@ impl Model for MemLink {
 }
 
 impl MemLink {
-    ghost use Rattle.std.specs.Prelude.{◌≡◌, []};
+    ghost use Rattle.std.specs.Prelude.{◌≡◌};
     ghost use Rattle.edge_traits.specs.Link.{IsFresh};
     ghost use Rattle.edge_traits.specs.Wire.{signs_in};
 

@@ -54,7 +54,7 @@ impl MemSource {
 }
 
 impl Source for MemSource {
-    ghost use Rattle.std.specs.Prelude.{◌≡◌, ◌↔◌, ◌<◌, ◌≤◌, Some, [], length, min};
+    ghost use Rattle.std.specs.Prelude.{◌≡◌, ◌↔◌, ◌<◌, ◌≤◌, Some, length, min};
     ghost use Rattle.edge_traits.specs.Faults.{Rose, IsToFail, after_call};
     ghost use Rattle.edge_traits.specs.Source.{Took, OnReadFailed, IfBytes, read_failed};
 

@@ -1,6 +1,5 @@
 -- What a board keeps is kept without the last half-move.
-use Rattle.std.proofs.Common.{◌≡◌, ℕ, ◌+◌, ◌-◌, ◌<◌, ◌≤◌, zero, suc, List, [], ◌∷◌, ◌++◌, length, length-append, take, map, Some, refl, sym, ap, subst, ◌∙◌, append_assoc, arith}
-use Rattle.std.specs.Prelude.{slice_get}
+use Rattle.std.proofs.Common.{◌≡◌, ℕ, ◌+◌, ◌-◌, ◌<◌, ◌≤◌, zero, suc, List, [], ◌∷◌, ◌++◌, length, length-append, take, map, refl, sym, ap, subst, ◌∙◌, append_assoc, arith}
 use Rattle.std.proofs.Math.Seq.{take-append_seam}
 use Rattle.std.proofs.lemmas.List.{append-nil, map-append, length-take}
 use Rattle.std.proofs.lemmas.Option.{slice_get_within}
@@ -22,7 +21,7 @@ use Rattle.game_board.specs.declared.played.Played.{Played}
 use Rattle.game_board.specs.declared.played.Step.{Step}
 use Rattle.game_board.specs.Board.{Board, half_move, half_moves, mover_after}
 use Rattle.game_board.specs.Charges.{charge_to, charges_of, clock_of}
-use Rattle.game_board.specs.Steps.{position_at, shown_at, IsStep, AreSteps}
+use Rattle.game_board.specs.Steps.{position_at, IsStep, AreSteps}
 use Rattle.game_board.specs.TakeBack.{without_end, without_last}
 use Rattle.game_board.proofs.Charged.{charges_from-append}
 use Rattle.game_board.proofs.Grown.{half_moves-append}

@@ -1,5 +1,5 @@
 -- The draws that a player may claim, in chess alone (FIDE Laws 9.2 and 9.3).
-use Rattle.std.specs.Prelude.{Bool, true, false, not, ◌&&◌, if◌then◌else◌, Result, Ok, Err}
+use Rattle.std.specs.Prelude.{Bool, true, false, not, if◌then◌else◌, Result, Ok, Err}
 use Rattle.chess_model.specs.declared.variant.Variant.{Variant}
 use Rattle.chess_model.specs.declared.variant.Variant.TheVariants.{Chess, Crazyhouse, Bughouse}
 use Rattle.chess_model.specs.declared.why.Why.{Why}

@@ -1,5 +1,5 @@
 -- A half-move that is put on a board with the charge that it has already, as where a game is played again.
-use Rattle.std.specs.Prelude.{◌+◌, Bool, true, false, not, ◌&&◌, nat_lt, is_some, [], ◌∷◌, ◌++◌, None}
+use Rattle.std.specs.Prelude.{◌+◌, Bool, not, ◌&&◌, nat_lt, is_some, [], ◌∷◌, ◌++◌, None}
 use Rattle.std.specs.Bool.{beq}
 use Rattle.chess_model.specs.Result.{is_end}
 use Rattle.chess_model.specs.Tests.{is_allowed}

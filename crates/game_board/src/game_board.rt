@@ -1,4 +1,4 @@
-ghost use Rattle.std.specs.Prelude.{◌≡◌, Option, ◌<◌, ◌≤◌, ◌+◌, ◌^◌, [], ◌++◌, ◌∷◌, IfOk, OnOk, OnErr, IfSome, length, option_and_then};
+ghost use Rattle.std.specs.Prelude.{◌≡◌, Option, ◌<◌, ◌≤◌, ◌^◌, IfOk, OnOk, OnErr, IfSome, option_and_then};
 ghost use Rattle.clock_ledger.specs.declared.charges.Charge.{Charge};
 ghost use Rattle.clock_ledger.specs.Charges.{IsChargeable};
 ghost use Rattle.clock_ledger.specs.Span.{IsStamp};

@@ -1,10 +1,9 @@
 //! Whether two positions are the same, as the claim of a position that stands for the third time asks (FIDE Laws,
 //! 9.2.3): the men on the squares, marks of promotion aside, who is to move, the castling rights, and the en passant
 //! square, which counts only where a capture on it is allowed.
-ghost use Rattle.std.specs.Prelude.{◌≡◌, not, nat_eq};
+ghost use Rattle.std.specs.Prelude.{◌≡◌};
 ghost use Rattle.std.specs.List.{list_any};
 ghost use Rattle.chess_model.specs.Claims.{same_man, same_placement, same_rights, same_square, may_pass, counted_en_passant, same_position};
-ghost use Rattle.chess_model.specs.Men.{same_colour, same_kind};
 ghost use Rattle.chess_model.specs.MoveList.{is_en_passant};
 ghost use Rattle.chess_model.specs.Tests.{squares};
 

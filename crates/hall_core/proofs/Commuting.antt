@@ -4,7 +4,6 @@ use Rattle.std.specs.List.{slice_get}
 use Rattle.std.specs.Option.{option_and_then}
 use Rattle.std.specs.declared.option.Option.{Option}
 use Rattle.std.specs.declared.option.Option.TheVariants.{None, Some}
-use Rattle.histories.specs.declared.entry.Entry.{Entry}
 use Rattle.histories.specs.Core.{Touches, after}
 use Rattle.histories.specs.History.{state, Legal}
 use Rattle.histories.proofs.Steps.{replies_commute, states_commute}
@@ -16,10 +15,8 @@ use Rattle.lobby_state.specs.Lobby.{LobbyState}
 use Rattle.lobby_state.specs.Plans.{plan_of}
 use Rattle.one_server.specs.declared.act.Act.{Act}
 use Rattle.one_server.specs.declared.act.Act.TheVariants.{Lobby, Desk, Pair}
-use Rattle.one_server.specs.declared.act.Timed.{Timed}
 use Rattle.one_server.specs.declared.part.Part.{Part}
 use Rattle.one_server.specs.declared.part.Part.TheVariants.{Lobby as TheLobby, Desk as ADesk}
-use Rattle.one_server.specs.declared.reply.Reply.{Reply}
 use Rattle.one_server.specs.Acts.{first_part, second_part, planned_desk}
 use Rattle.one_server.specs.House.{house}
 use Rattle.one_server.specs.Running.{Log}

@@ -1,7 +1,7 @@
 //! The hall: the parts of the server behind their turns.
 
 ghost use Rattle.std.specs.Prelude.{◌≡◌, ◌≢◌, ℕ, ◌-◌, ◌^◌, ◌<◌, [], IfOk, IsOk, OnErr};
-ghost use Rattle.histories.specs.History.{IsPrefix, calls_of, state, Legal};
+ghost use Rattle.histories.specs.History.{calls_of, state, Legal};
 ghost use Rattle.turn_table.specs.declared.view.Joined.{Joined};
 ghost use Rattle.turn_table.specs.Views.{In};
 ghost use Rattle.one_server.specs.declared.act.Timed.{Timed};

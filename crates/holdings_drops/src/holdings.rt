@@ -1,4 +1,4 @@
-ghost use Rattle.std.specs.Prelude.{◌≡◌, ◌≢◌, ℕ, ◌+◌, ◌-◌, ◌<◌, cond};
+ghost use Rattle.std.specs.Prelude.{◌≡◌, ◌≢◌, ◌+◌, ◌-◌, ◌<◌, cond};
 ghost use Rattle.chess_model.specs.Holdings.{count_in, hand_of};
 ghost use Rattle.chess_model.specs.Men.{same_kind};
 ghost use Rattle.chess_model.specs.declared.man.Kind.TheVariants.{King};

@@ -1,6 +1,6 @@
 //! The numbers among the values of options.
 
-ghost use Rattle.std.specs.Prelude.{◌≡◌, ◌≤◌, ◌^◌, ◌≢◌, ℕ, Option, IfSome, IfNone, Some, decimal, option_copied};
+ghost use Rattle.std.specs.Prelude.{ℕ, Option, IfSome, IfNone, Some, option_copied};
 ghost use Rattle.job_words.specs.Jobs.{IsCount, IsPort, NumberFrom1};
 
 use fics_words::read_number;

@@ -1,6 +1,6 @@
 //! The options of `serve`, each with its value.
 
-ghost use Rattle.std.specs.Prelude.{◌≡◌, ◌↔◌, ◌≢◌, ◌∷◌, ◌++◌, ℕ, List, [], IfSome, IfNone, IsTrue, length, map, string_bytes};
+ghost use Rattle.std.specs.Prelude.{◌≡◌, ◌↔◌, ◌≢◌, ℕ, List, [], IfSome, IfNone, IsTrue, map, string_bytes};
 ghost use Rattle.job_words.specs.Jobs.{BeginsWith, IsCut, IsValue, name_of};
 
 /// What may be said of serving.

@@ -1,6 +1,6 @@
 //! The reading of the words.
 
-ghost use Rattle.std.specs.Prelude.{◌≡◌, ◌≢◌, ◌∷◌, ◌++◌, [], ℕ, List, Option, IfOk, IfErr, IfSome, IfNone, codes, map, string_bytes};
+ghost use Rattle.std.specs.Prelude.{◌∷◌, ℕ, List, Option, IfOk, IfErr, IfSome, IfNone, codes, map, string_bytes};
 ghost use Rattle.job_words.specs.Jobs.{AreOptions, Chosen, GivenValue, IsServe, Names, OnUsage, Tells, TextsName};
 ghost use Rattle.job_words.specs.declared.job.Job.{Job};
 

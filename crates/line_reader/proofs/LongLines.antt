@@ -1,11 +1,11 @@
 -- The prefix of a text that is a line, and lines that are too long whatever follows.
-use Rattle.std.proofs.Common.{◌≡◌, ℕ, ◌+◌, ◌-◌, ◌<◌, ◌≤◌, Bool, true, false, cond, List, [], ◌∷◌, ◌++◌, length, take, map, refl, sym, ap, ◌∙◌, arith, append_assoc, length-append, append-nil}
-use Rattle.std.specs.Prelude.{◌==◌, nat_lt, slice_index, Some}
+use Rattle.std.proofs.Common.{◌≡◌, ℕ, ◌≤◌, Bool, true, false, cond, List, [], ◌∷◌, ◌++◌, length, refl, ap, ◌∙◌, arith}
+use Rattle.std.specs.Prelude.{◌==◌, nat_lt, Some}
 use Rattle.std.specs.List.{onto_first}
 use Rattle.std.proofs.lemmas.Bool.Decides.{nat_tests}
 use Rattle.line_reader.specs.declared.incoming.Incoming.{Incoming}
 use Rattle.line_reader.specs.declared.incoming.Incoming.TheVariants.{TooLong}
-use Rattle.line_reader.specs.Pieces.{pieces, but_last, last_of, IsUnbroken}
+use Rattle.line_reader.specs.Pieces.{pieces, IsUnbroken}
 use Rattle.line_reader.specs.Reading.{is_stamped, stamped_reading, plain_reading, reading, rest_reading}
 
 -- a list with a first element

@@ -1,12 +1,11 @@
 -- Each text has its units, and their data is what is read.
-use Rattle.std.proofs.Common.{◌≡◌, ℕ, ◌<◌, ◌≤◌, Bool, true, false, cond, List, [], ◌∷◌, ◌++◌, refl, sym, ap, subst, ◌∙◌, arith, append_assoc, append-nil}
-use Rattle.std.specs.Prelude.{◌==◌, ◌&&◌, not, nat_le}
+use Rattle.std.proofs.Common.{◌≡◌, ℕ, Bool, true, false, cond, List, [], ◌∷◌, ◌++◌, refl, sym, ap, subst, ◌∙◌, arith, append_assoc, append-nil}
+use Rattle.std.specs.Prelude.{◌==◌, not, nat_le}
 use Rattle.std.specs.List.{AllByRecursion}
 use Rattle.std.proofs.lemmas.Bool.{and_parts}
 use Rattle.std.proofs.lemmas.Bool.Decides.{nat_tests}
-use Rattle.line_reader.specs.declared.telnet.Telnet.{Telnet}
 use Rattle.line_reader.specs.declared.telnet.Telnet.TheVariants.{Data, Command, Choice, Block, BlockCommand}
-use Rattle.line_reader.specs.Telnet.{is_choice, after, is_data, data_from}
+use Rattle.line_reader.specs.Telnet.{is_choice, after, data_from}
 use Rattle.line_reader.specs.Grammar.{Part, Inside, Pair, Sent, DataByte, Order, Request, Section, Begun, Nothing, AfterIac, AfterVerb, InSection, InSectionIac, IsPart, part_bytes, IsSent, sent_bytes, sent_data, all_bytes, all_data, IsBegun, begun_bytes, AreUnits}
 
 -- parts of a block are skipped

@@ -1,5 +1,5 @@
 -- The lines of a whole text are those of its grammar, and no others.
-use Rattle.std.proofs.Common.{◌≡◌, ℕ, Bool, true, false, cond, List, [], ◌∷◌, ◌++◌, map, filter, refl, sym, ap, subst, ◌∙◌, append-nil}
+use Rattle.std.proofs.Common.{◌≡◌, ℕ, true, false, cond, List, [], ◌∷◌, ◌++◌, map, filter, refl, sym, ap, subst, ◌∙◌, append-nil}
 use Rattle.std.specs.Prelude.{◌==◌, Option}
 use Rattle.std.specs.List.{AllByRecursion, onto_first, join_with_byte}
 use Rattle.std.proofs.lemmas.List.Splits.{join_with_byte-slice_split}
@@ -9,7 +9,7 @@ use Rattle.line_reader.specs.Pieces.{is_kept, pieces, but_last, last_of, IsUnbro
 use Rattle.line_reader.specs.Telnet.{data_from}
 use Rattle.line_reader.specs.Reading.{reading, rest_reading}
 use Rattle.line_reader.specs.Reader.{fresh, lines_of, rest_of}
-use Rattle.line_reader.specs.Grammar.{AreLines, all_data}
+use Rattle.line_reader.specs.Grammar.{AreLines}
 use Rattle.line_reader.proofs.LongLines.{Begins, Begins-pieces, pieces_front}
 use Rattle.line_reader.proofs.Units.{units_data, units_of}
 

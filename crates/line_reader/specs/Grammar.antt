@@ -1,5 +1,5 @@
 -- What a telnet client sends, unit by unit, and the lines of the whole (RFC 854).
-use Rattle.std.specs.Prelude.{◌≡◌, ◌≢◌, ℕ, Bool, true, false, ◌==◌, if◌then◌else◌, List, [], ◌∷◌, ◌++◌, filter, map, Option}
+use Rattle.std.specs.Prelude.{◌≡◌, ℕ, true, false, ◌==◌, if◌then◌else◌, List, [], ◌∷◌, ◌++◌, filter, map, Option}
 use Rattle.std.specs.List.{AllByRecursion, join_with_byte}
 use Rattle.line_reader.specs.declared.incoming.Incoming.{Incoming}
 use Rattle.line_reader.specs.Pieces.{is_kept, IsUnbroken}

@@ -1,6 +1,6 @@
 -- A text of bytes, cut at its line feeds.
-use Rattle.std.specs.Prelude.{◌≡◌, ◌≢◌, ℕ, Bool, false, not, ◌&&◌, ◌==◌, List, [], ◌∷◌, All}
-use Rattle.std.specs.List.{slice_split, join_with_byte, AllByRecursion}
+use Rattle.std.specs.Prelude.{◌≡◌, ℕ, Bool, false, not, ◌&&◌, ◌==◌, List, [], ◌∷◌}
+use Rattle.std.specs.List.{slice_split, AllByRecursion}
 
 -- CR and NUL aren't part of any line
 abbrev pub is_kept : ℕ → Bool

@@ -1,5 +1,5 @@
 //! The place in the telnet text, and the line that has begun.
-ghost use Rattle.std.specs.Prelude.{◌≡◌, [], true, false, ◌==◌, ◌&&◌, ◌∷◌, ◌++◌, take, if◌then◌else◌};
+ghost use Rattle.std.specs.Prelude.{◌≡◌, [], false, ◌==◌, ◌&&◌};
 
 use crate::open_line::OpenLine;
 use crate::telnet::Telnet;

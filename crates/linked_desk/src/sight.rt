@@ -1,6 +1,5 @@
 //! Who sees which board, and how.
 ghost use Rattle.std.specs.Prelude.{◌≡◌};
-ghost use Rattle.chess_model.specs.Holdings.{same_colour};
 ghost use Rattle.linked_desk.specs.Sight.{board_in, observing, playing, sight};
 
 use crate::seats::{board_of, colour_at};

@@ -1,5 +1,5 @@
 //! The lobby itself: which act is carried out by which function, and that every lobby is well-formed.
-ghost use Rattle.std.specs.Prelude.{◌≡◌, IfOk, IfSome, IsOk, length};
+ghost use Rattle.std.specs.Prelude.{◌≡◌, IfOk, IfSome, IsOk};
 ghost use Rattle.fics_words.specs.Effect.{Takes};
 ghost use Rattle.lobby_state.specs.Acts.{LobbyNeedsNoMemory, lobby_effect};
 ghost use Rattle.lobby_state.specs.Desks.{IsDesk};

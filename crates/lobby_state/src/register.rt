@@ -1,5 +1,5 @@
 //! What a lobby keeps, and the look-ups in it.
-ghost use Rattle.std.specs.Prelude.{◌≡◌, ◌≤◌, IfOk, option_copied};
+ghost use Rattle.std.specs.Prelude.{◌≡◌, IfOk, option_copied};
 ghost use Rattle.lobby_state.specs.Desks.{IsDesk};
 ghost use Rattle.lobby_state.specs.Lobby.{holder_of, opening, member_of, named, places_of, waiting_of, free_slot, game_at};
 

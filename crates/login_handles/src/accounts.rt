@@ -1,6 +1,6 @@
 //! Accounts: the registered handles and their passwords' digests.
 
-ghost use Rattle.std.specs.Prelude.{◌≡◌, IfOk, option_copied};
+ghost use Rattle.std.specs.Prelude.{◌≡◌, option_copied};
 ghost use Rattle.login_handles.specs.Accounts.{account_of};
 
 use crate::check::Check;

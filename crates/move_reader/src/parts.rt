@@ -1,8 +1,8 @@
 //! The parts of a move word, read from its prefix.
 
-ghost use Rattle.std.specs.Prelude.{◌≡◌, ◌<◌, ◌↔◌, IfSome, IsTrue, option_map};
+ghost use Rattle.std.specs.Prelude.{◌≡◌, ◌<◌, IfSome, option_map};
 ghost use Rattle.move_reader.specs.Ends.{is_end};
-ghost use Rattle.move_reader.specs.Reading.{man_of, lookup, promotions, leading, file_of_letter, rank_of_digit, behind, squared, leading_square, promotion_of, is_mark, is_empty, promoted};
+ghost use Rattle.move_reader.specs.Reading.{man_of, lookup, promotions, leading, file_of_letter, rank_of_digit, behind, squared, leading_square, promotion_of, is_mark, is_empty};
 
 use crate::letters::{file_of, man_of, promotion_of, rank_of};
 use chess_model::{Kind, Square};

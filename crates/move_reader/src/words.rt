@@ -1,10 +1,9 @@
 //! Move words, each in its own form.
 
-ghost use Rattle.std.specs.Prelude.{◌≡◌, IfSome, IfNone, codes};
-ghost use Rattle.move_reader.specs.Reading.{coordinate_of, named_of, is_marked, is_castling, castle_of, drop_of, reading, to_square, target_of, promotion_of, squared, is_mark};
+ghost use Rattle.std.specs.Prelude.{◌≡◌, IfSome, IfNone};
+ghost use Rattle.move_reader.specs.Reading.{coordinate_of, named_of, is_marked, castle_of, drop_of, reading, squared, is_mark};
 ghost use Rattle.move_reader.specs.Spellings.{IsReading};
 ghost use Rattle.chess_model.specs.declared.moves.MoveWord.{MoveWord};
-ghost use Rattle.move_reader.specs.Ends.{is_end};
 
 use crate::letters::droppable;
 use crate::parts::{

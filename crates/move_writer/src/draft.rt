@@ -1,5 +1,4 @@
 ghost use Rattle.std.specs.Prelude.{◌≡◌, ◌+◌, ◌<◌, ◌≤◌, List, [], ◌∷◌, ◌++◌, length, All};
-ghost use Rattle.chess_model.specs.MoveText.{IsMoveText};
 ghost use Rattle.move_writer.specs.Letters.{square_text, promotion_text};
 ghost use Rattle.move_writer.specs.Pretty.{only_if};
 ghost use Rattle.move_writer.specs.Blanks.{Shows, HasNoBlank};

@@ -1,4 +1,4 @@
-ghost use Rattle.std.specs.Prelude.{◌≡◌, ◌<◌};
+ghost use Rattle.std.specs.Prelude.{◌≡◌};
 ghost use Rattle.move_writer.specs.Letters.{letter_of, file_letter, rank_digit};
 ghost use Rattle.move_writer.specs.Blanks.{Shows};
 

@@ -1,5 +1,5 @@
 //! The server of one thread.
-ghost use Rattle.std.specs.Prelude.{◌≡◌, ◌≤◌, ◌++◌, ◌∷◌, [], Some, IfOk, OnErr, slice_get};
+ghost use Rattle.std.specs.Prelude.{◌≡◌, ◌++◌, ◌∷◌, [], Some, IfOk, OnErr, slice_get};
 ghost use Rattle.lobby_state.specs.Desks.{IsDesk, desks as desk_count};
 ghost use Rattle.one_server.specs.Whole.{vacant_from};
 

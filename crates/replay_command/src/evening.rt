@@ -58,7 +58,7 @@ impl Model for Evening {
 }
 
 impl Evening {
-    ghost use Rattle.std.specs.Prelude.{◌≡◌, ◌≢◌, ◌<◌, [], ℕ, List, None, Some, IfOk, OnOk, length};
+    ghost use Rattle.std.specs.Prelude.{◌≡◌, ◌≢◌, ◌<◌, [], None, Some, IfOk, OnOk, length};
     ghost use Rattle.chess_model.specs.declared.variant.Variant.TheVariants.{Chess};
     ghost use Rattle.fics_words.specs.Line.{IsLine};
     ghost use Rattle.line_answers.specs.Handling.{AfterAnswering, Takes};

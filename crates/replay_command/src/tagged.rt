@@ -1,6 +1,6 @@
 //! How a transcript shows what is written to a session.
 
-ghost use Rattle.std.specs.Prelude.{◌≡◌, ◌∷◌, ◌++◌, All, IfOk, IfNone, IfSome, OnOk, filter};
+ghost use Rattle.std.specs.Prelude.{◌≡◌, ◌∷◌, ◌++◌, IfOk, IfNone, IfSome, OnOk, filter};
 ghost use Rattle.line_answers.specs.Lines.{HasNoLineFeed, is_kept, pieces};
 ghost use Rattle.replay_command.specs.Tagged.{shown, tagged, tagged_line, tagged_lines};
 

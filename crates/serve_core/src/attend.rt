@@ -1,6 +1,6 @@
 //! A link that came: it gets a pass, and is served by a worker of its own, or here.
 
-ghost use Rattle.std.specs.Prelude.{◌≡◌, ◌≤◌, ◌<◌, ◌+◌, ◌-◌, ◌^◌, OnSome, vec_len, vec_capacity};
+ghost use Rattle.std.specs.Prelude.{◌≡◌, ◌<◌, ◌+◌, ◌^◌, OnSome, vec_len, vec_capacity};
 ghost use Rattle.std.specs.declared.option.Option.{Option};
 ghost use Rattle.edge_traits.specs.Door.{DoorTale};
 ghost use Rattle.edge_traits.specs.Door.{Goes};

@@ -1,6 +1,6 @@
 //! What the door's thread keeps of its workers, and how it settles with those that have ended.
 
-ghost use Rattle.std.specs.Prelude.{◌≡◌, ◌≢◌, ◌≤◌, [], OnSome, vec_len, vec_capacity, ◌<◌};
+ghost use Rattle.std.specs.Prelude.{◌≡◌, ◌≢◌, [], OnSome, vec_len, vec_capacity, ◌<◌};
 ghost use Rattle.edge_traits.specs.Door.{Goes};
 ghost use Rattle.edge_traits.specs.Door.{IfTold, IsOut, TakesBack};
 ghost use Rattle.hall_core.specs.Passes.{IsJoined};

@@ -1,7 +1,7 @@
 -- Stamped lines worked out by hand, and by another program.
 use Rattle.std.specs.Prelude.{◌≡◌, ℕ, List, [], ◌∷◌, codes, Some, None, refl}
 use Rattle.std.specs.Fmt.{digits}
-use Rattle.stamp_codec.specs.Message.{Text, Ack}
+use Rattle.stamp_codec.specs.Message.{Text}
 use Rattle.stamp_codec.specs.Spelling.{body, padded, swapped, spelling}
 use Rattle.stamp_codec.specs.Opening.{opened}
 

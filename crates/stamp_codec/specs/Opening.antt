@@ -1,5 +1,5 @@
 -- What a line says, if it is the spelling of a message.
-use Rattle.std.specs.Prelude.{ℕ, ◌+◌, ◌-◌, ◌*◌, ◌%◌, Bool, ◌==◌, ◌&&◌, if◌then◌else◌, List, [], ◌∷◌, length, take, fold, bytes_eq, bit_xor, Option, Some, None}
+use Rattle.std.specs.Prelude.{ℕ, ◌+◌, ◌-◌, ◌*◌, ◌%◌, ◌==◌, ◌&&◌, if◌then◌else◌, List, [], ◌∷◌, length, take, fold, bytes_eq, bit_xor, Option, Some, None}
 use Rattle.stamp_codec.specs.Message.{Message, is_message, message_of}
 use Rattle.stamp_codec.specs.Spelling.{key_at, by_place, swapped, spelling}
 

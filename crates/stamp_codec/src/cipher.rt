@@ -1,5 +1,5 @@
 //! Each byte of a line by its place: with its high bit set, xor a byte of the key, minus 32 modulo 256.
-ghost use Rattle.std.specs.Prelude.{◌≡◌, ◌<◌};
+ghost use Rattle.std.specs.Prelude.{◌≡◌};
 ghost use Rattle.stamp_codec.specs.Opening.{decipher};
 ghost use Rattle.stamp_codec.specs.Spelling.{by_place, cipher, key_at};
 

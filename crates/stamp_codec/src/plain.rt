@@ -1,7 +1,7 @@
 //! What a line says in the open, when its swaps and its cipher are undone.
 ghost use Rattle.std.specs.Prelude.{◌≡◌, ◌≢◌, ◌↔◌, ◌∷◌, ◌++◌, ◌<◌, true, IfSome, IfNone, IsTrue, replicate};
 ghost use Rattle.std.specs.List.{AllByRecursion, list_all};
-ghost use Rattle.stamp_codec.specs.Message.{Message, is_message, is_printable, is_text, ack_text, message_of};
+ghost use Rattle.stamp_codec.specs.Message.{Message, is_message, is_printable, is_text, message_of};
 ghost use Rattle.stamp_codec.specs.Sealed.{message};
 ghost use Rattle.stamp_codec.specs.Spelling.{pads, written};
 

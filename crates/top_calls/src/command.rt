@@ -1,6 +1,6 @@
 //! Which command the words name.
 
-ghost use Rattle.std.specs.Prelude.{◌≡◌, IfOk, IfErr};
+ghost use Rattle.std.specs.Prelude.{IfOk, IfErr};
 ghost use Rattle.job_words.specs.Jobs.{OnUsage};
 ghost use Rattle.top_calls.specs.Words.{IsCommand, Names};
 

@@ -3,7 +3,7 @@
 ghost use Rattle.std.specs.Prelude.{◌≡◌, ◌⊎◌, ◌<◌, ◌^◌, [], ◌∷◌, length, IfSome, Contains};
 ghost use Rattle.std.specs.Io.KnownBytes.{Appends, Keeps};
 ghost use Rattle.edge_traits.specs.Faults.{Rose};
-ghost use Rattle.line_answers.specs.Ends.{OnReadFault, OnWriteFault, status_of};
+ghost use Rattle.line_answers.specs.Ends.{OnReadFault, OnWriteFault};
 ghost use Rattle.line_answers.specs.Lines.{lines_of};
 ghost use Rattle.top_calls.specs.RunEnds.{AreGood, CommandEnds, WritesPart};
 ghost use Rattle.top_calls.specs.Words.{Does, IsCommand, Names, UsageEnds, usage_line};

@@ -1,6 +1,6 @@
 //! The steps of a pass on the words and slots.
 
-ghost use Rattle.std.specs.Prelude.{◌≡◌, ◌+◌, ◌==◌, ◌<◌, true, Some, None, [], ◌∷◌, map, length, MatchOption};
+ghost use Rattle.std.specs.Prelude.{◌≡◌, ◌==◌, ◌<◌, true, Some, None, [], ◌∷◌, map, length, MatchOption};
 ghost use Rattle.std.specs.declared.option.Option.{Option};
 ghost use Rattle.atomic_table.specs.Table.{rest};
 ghost use Rattle.turn_table.specs.Views.{In, Holds, AllOut, given, let_go};

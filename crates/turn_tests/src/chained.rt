@@ -1,6 +1,5 @@
 //! The acts of the two counters, made by the chain that every server of parts shares.
 
-ghost use Rattle.std.specs.Prelude.{◌≡◌, []};
 
 use crate::bump::Bump;
 use crate::counters::Counters;

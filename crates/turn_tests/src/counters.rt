@@ -1,6 +1,6 @@
 //! Two counters behind turns, and workers that add to them in threads.
 
-ghost use Rattle.std.specs.Prelude.{◌≡◌, ℕ, ◌*◌, [], IfOk};
+ghost use Rattle.std.specs.Prelude.{◌≡◌, ◌*◌, [], IfOk};
 ghost use Rattle.turn_tests.specs.Worked.{MadeOne, MadeMany};
 
 use crate::bump::Bump;

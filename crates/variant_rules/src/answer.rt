@@ -1,8 +1,7 @@
 ghost use Rattle.std.specs.Prelude.{◌≡◌, ℕ, ◌<◌, ◌≤◌, ◌↔◌, IsTrue, IsFalse, ◌+◌, IfOk, IfErr, IfSome, IfNone, Some, None};
 ghost use Rattle.chess_model.specs.Placement.{IsHeldBy, IsHeldAs};
-ghost use Rattle.chess_model.specs.Answer.{is_promotion, promotion_of, is_king_at_home, castling_of, IsAsGiven, IsNamed, IsAnswer, IsRefusal};
+ghost use Rattle.chess_model.specs.Answer.{is_promotion, promotion_of, is_king_at_home, castling_of, IsAsGiven, IsAnswer, IsRefusal};
 ghost use Rattle.chess_model.specs.WordAnswer.{word_answer};
-ghost use Rattle.chess_model.specs.Allowed.{IsMove, IsSafeAfter, Allowed};
 
 use crate::homes::{home_of_king, last_rank_of};
 use crate::position::Position;

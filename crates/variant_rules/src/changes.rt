@@ -1,7 +1,7 @@
-ghost use Rattle.std.specs.Prelude.{◌≡◌, ◌≢◌, ◌+◌, ◌-◌, ◌<◌, ◌&&◌, cond, Option, Some};
+ghost use Rattle.std.specs.Prelude.{◌≡◌, ◌+◌, ◌-◌, ◌<◌, ◌&&◌, cond, Option, Some};
 ghost use Rattle.chess_model.specs.Placement.{unpromoted};
-ghost use Rattle.chess_model.specs.Men.{same_colour, same_kind};
-ghost use Rattle.chess_model.specs.MoveList.{Ply, is_pawn_kind, is_pawn, is_en_passant, taking_square, landed, two_moved, place_after, taken};
+ghost use Rattle.chess_model.specs.Men.{same_colour};
+ghost use Rattle.chess_model.specs.MoveList.{is_pawn_kind, is_pawn, is_en_passant, taking_square, landed, two_moved, place_after, taken};
 ghost use Rattle.chess_model.specs.Squares.{ranks_apart};
 ghost use Rattle.chess_model.specs.RightsAndCounts.{passed_over, is_quiet, touches, keeps_right};
 ghost use Rattle.chess_model.specs.Next.{next_quiet, next_rights, next_hand, gain};

@@ -1,4 +1,4 @@
-ghost use Rattle.std.specs.Prelude.{◌≡◌, ◌≢◌, ℕ, ◌<◌, List, [], ◌∷◌, ◌++◌};
+ghost use Rattle.std.specs.Prelude.{◌≡◌, ℕ, ◌<◌, List, [], ◌∷◌, ◌++◌};
 ghost use Rattle.chess_model.specs.MoveList.{HalfMove, taken};
 ghost use Rattle.chess_model.specs.Placement.{man_at};
 ghost use Rattle.chess_model.specs.Allowed.{Allowed};

@@ -1,11 +1,10 @@
-ghost use Rattle.std.specs.Prelude.{◌≡◌, ◌≢◌, ℕ, ◌+◌, ◌<◌, List, [], cond};
+ghost use Rattle.std.specs.Prelude.{◌≡◌, ◌≢◌, ℕ, ◌<◌, []};
 ghost use Rattle.std.specs.Option.{option_map};
 ghost use Rattle.chess_model.specs.Squares.{file_of};
 ghost use Rattle.chess_model.specs.Placement.{man_at};
 ghost use Rattle.chess_model.specs.MoveList.{taken};
-ghost use Rattle.chess_model.specs.Men.{same_kind};
 ghost use Rattle.chess_model.specs.Position.{Stands, hand_of_side};
-ghost use Rattle.chess_model.specs.Holdings.{count_in, hand_of};
+ghost use Rattle.chess_model.specs.Holdings.{count_in};
 ghost use Rattle.variant_rules.specs.Faces.{LooksLike, Receives};
 
 use crate::changes::taken_by;

@@ -1,7 +1,7 @@
 //! `match`: challenges a player to a game.
 
 ghost use Rattle.std.specs.Prelude.{◌≡◌};
-ghost use Rattle.command_words.specs.Match.{challenge, match_of, two_twelve};
+ghost use Rattle.command_words.specs.Match.{challenge, match_of};
 
 use crate::arguments::handle_of;
 use crate::blanks::cut_word;

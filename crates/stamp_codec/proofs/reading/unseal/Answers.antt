@@ -1,4 +1,4 @@
-use Rattle.std.proofs.Common.{◌≡◌, ◌-◌, ℕ, List, length, true, sym, ap, ◌∙◌, arith, refl}
+use Rattle.std.proofs.Common.{◌≡◌, ◌-◌, length, true, sym, ap, ◌∙◌, refl}
 use Rattle.stamp_codec.specs.Message.{is_message}
 use Rattle.stamp_codec.specs.Sealed.{message}
 use Rattle.stamp_codec.specs.Spelling.{written, swapped, IsSpelled}

@@ -1,4 +1,4 @@
-use Rattle.std.proofs.Common.{◌≡◌, ℕ, ◌<◌, IfSome, All, List, [], ◌∷◌, ◌++◌, length, length-append, ap, ◌∙◌, sym, subst, arith}
+use Rattle.std.proofs.Common.{◌≡◌, ◌<◌, IfSome, All, List, [], ◌∷◌, ◌++◌, length, length-append, ap, ◌∙◌, sym, subst, arith}
 use Rattle.chess_model.specs.declared.man.Colour.TheVariants.{White, Black}
 use Rattle.std.proofs.lemmas.List.Elements.{All-append}
 use Rattle.chess_model.specs.Position.{Position, position_after, Stands}

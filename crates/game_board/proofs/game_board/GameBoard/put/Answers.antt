@@ -1,4 +1,4 @@
-use Rattle.std.proofs.Common.{◌≡◌, ◌<◌, ◌&&◌, not, true, Bool}
+use Rattle.std.proofs.Common.{not}
 use Rattle.std.specs.Prelude.{nat_lt, is_some}
 use Rattle.std.specs.Bool.{beq}
 use Rattle.std.proofs.lemmas.Bool.Decides.{Decides-ltb}

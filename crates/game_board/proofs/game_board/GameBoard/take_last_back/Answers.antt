@@ -4,12 +4,11 @@ use Rattle.chess_model.specs.declared.man.Colour.TheVariants.{White, Black}
 use Rattle.chess_model.specs.Position.{Position, position_after, Stands}
 use Rattle.chess_model.specs.Allowed.{IsLegal}
 use Rattle.clock_ledger.specs.Charges.{IsChargeable}
-use Rattle.clock_ledger.specs.Clock.{Ledger}
 use Rattle.variant_rules.specs.Undos.{IsUndoOf}
 use Rattle.game_board.specs.declared.played.Played.{Played}
 use Rattle.game_board.specs.declared.played.Step.{Step}
 use Rattle.game_board.specs.Board.{Board, half_moves, mover_after}
-use Rattle.game_board.specs.Charges.{charge_to, clock_of}
+use Rattle.game_board.specs.Charges.{clock_of}
 use Rattle.game_board.specs.Steps.{AreSteps}
 use Rattle.game_board.proofs.Steps.{position_after-stands}
 use Rattle.game_board.proofs.TakenBack.{Stands-legal, IsLegal-shorter, AreSteps-shorter, last_undo, last_mover, has_charge, clock_of-shorter}

@@ -1,5 +1,5 @@
-use Rattle.std.proofs.Common.{◌≡◌, ◌<◌, ◌++◌, ◌∷◌, [], ℕ, List, take, length, length-take, sym, ap, ◌∙◌, arith}
-use Rattle.line_reader.proofs.OpenLines.{grown_by, full_stays, IsKept-grown}
+use Rattle.std.proofs.Common.{◌++◌, ◌∷◌, [], ℕ, List, take, length, length-take, sym, ap, ◌∙◌, arith}
+use Rattle.line_reader.proofs.OpenLines.{grown_by, full_stays}
 use Rattle.line_reader.proofs.open_line.OpenLine.push.Goals as goal
 
 pub returns-then-self-lt-ROOM-clause-grown : goal.returns-then-self-lt-ROOM-clause-grown
