@@ -46,7 +46,7 @@ pub fn alone<S: Steps>(
             Ok(reply)
         }
         Err(NoMemory) => {
-            table.give(pass, number, part);
+            table.give(pass, number, part); // nothing was made of it
             Err(NoMemory)
         }
     }
