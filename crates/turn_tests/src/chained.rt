@@ -1,6 +1,5 @@
 //! The acts of the two counters, made by the chain that every server of parts shares.
 
-
 use crate::bump::Bump;
 use crate::counters::Counters;
 use memory::NoMemory;
