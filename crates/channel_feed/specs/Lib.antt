@@ -1,0 +1,4 @@
+pub mod Channels
+pub mod NameLists
+pub mod Waiting
+pub mod Laws

@@ -1,0 +1,141 @@
+//! Who is in which channel.
+ghost use Rattle.std.specs.Prelude.{◌≡◌, ◌==◌, not};
+ghost use Rattle.channel_feed.specs.Channels.{channels_of, is_in, is_row};
+
+use collections::{Listed, Predicate};
+use fics_words::{Duplicate, Fail, NoMemory, Refusal};
+use std::alloc::Global;
+use std::marker::Model;
+
+/// The most channels that a player is in.
+const MOST: usize = 20;
+
+/// A player, by its session, in a channel.
+#[derive(Clone, Copy, Debug, PartialEq, Eq)]
+pub struct Membership {
+    pub who: u32,
+    pub channel: u8,
+}
+
+impl Duplicate for Membership {
+    /// Takes no memory.
+    fn duplicate(&self) -> Result<Membership, NoMemory>
+        ensures { result ≡ Ok self.now }
+    {
+        Ok(*self)
+    }
+}
+
+/// Every row but that of this player in this channel.
+#[derive(Clone, Copy)]
+struct WithoutOne(Membership);
+
+impl Predicate<Membership> for WithoutOne {
+    ghost passes = { λ test row. not (is_row test.0.who test.0.channel row) };
+
+    fn passes(&self, row: &Membership) -> bool {
+        !(row.who == self.0.who && row.channel == self.0.channel)
+    }
+}
+
+/// Every row but those of this player.
+#[derive(Clone, Copy)]
+struct WithoutPlayer(u32);
+
+impl Predicate<Membership> for WithoutPlayer {
+    ghost passes = { λ test row. not (row.who == test.0) };
+
+    fn passes(&self, row: &Membership) -> bool {
+        row.who != self.0
+    }
+}
+
+/// The channels, numbered 0 to 255, with the players that are in them. Contracts see the list of these, in the order of
+/// joining.
+#[derive(Debug, Drop)]
+pub struct Channels {
+    rows: Listed<Membership>,
+}
+
+impl Model for Channels {
+    ghost use Rattle.std.specs.Prelude.{List};
+    ghost use Rattle.channel_feed.specs.declared.channels.Membership.{Membership};
+
+    ghost Value = { List Membership };
+
+    ghost view = { λ channels. channels.rows };
+}
+
+impl Channels {
+    ghost use Rattle.std.specs.Prelude.{◌≡◌, []};
+    ghost use Rattle.fics_words.specs.Effect.{Takes, answer_of, state_of};
+    ghost use Rattle.channel_feed.specs.Channels.{is_in, joining, leaving, without_player};
+
+    /// Nobody is in a channel; takes no memory.
+    pub fn new(alloc: Global) -> Channels
+        ensures { result ≡ [] }
+    {
+        Channels {
+            rows: Listed::new(alloc),
+        }
+    }
+
+    /// Whether the player is in the channel.
+    pub fn has(&self, who: u32, channel: u8) -> bool
+        ensures { result ≡ is_in self.now who channel }
+    {
+        self.rows
+            .as_slice()
+            .iter()
+            .any(|row| row.who == who && row.channel == channel)
+    }
+
+    /// The player joins the channel. Refuses with `OnList` where it is in it, and else with `ListFull` where it is in
+    /// 20 channels.
+    pub fn join(&mut self, who: u32, channel: u8) -> Result<(), Fail>
+        ensures { Takes (joining self.old who channel) self.old self.new result }
+    {
+        if self.has(who, channel) {
+            return Err(Fail::Refused(Refusal::OnList));
+        }
+        if channels_of(self.rows.as_slice(), who) >= MOST {
+            return Err(Fail::Refused(Refusal::ListFull));
+        }
+        self.rows.push(Membership { who, channel })?;
+        Ok(())
+    }
+
+    /// The player leaves the channel; takes no memory. Refuses with `NotInChannel` where it isn't in it.
+    pub fn leave(&mut self, who: u32, channel: u8) -> Result<(), Refusal>
+        ensures answer { result ≡ answer_of (leaving self.old who channel) }
+        ensures after { self.new ≡ state_of self.old (leaving self.old who channel) }
+    {
+        if !self.has(who, channel) {
+            return Err(Refusal::NotInChannel);
+        }
+        self.rows.retain(&WithoutOne(Membership { who, channel }));
+        Ok(())
+    }
+
+    /// The player leaves all channels; takes no memory.
+    pub fn forget(&mut self, who: u32)
+        ensures { self.new ≡ without_player who self.old }
+    {
+        self.rows.retain(&WithoutPlayer(who));
+    }
+}
+
+impl Duplicate for Channels {
+    fn duplicate(&self) -> Result<Channels, NoMemory> {
+        Ok(Channels {
+            rows: self.rows.duplicate()?,
+        })
+    }
+}
+
+/// How many channels the player is in.
+fn channels_of(rows: &[Membership], who: u32) -> usize
+    ensures { result ≡ channels_of rows.now who }
+{
+    rows.iter().filter(|row| row.who == who).count()
+}

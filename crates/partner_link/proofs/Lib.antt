@@ -1,0 +1,3 @@
+-- Lemmas of this crate.
+pub mod Links
+pub mod Requests

@@ -1,0 +1,31 @@
+-- Challenges: games that a player offers to one other. This server's own.
+use Rattle.std.specs.Prelude.{◌≡◌, ℕ, ◌==◌, Bool, false, not, ◌&&◌, List, [], ◌∷◌, ◌++◌, Option, None, Some}
+use Rattle.std.specs.List.{filter, find, list_any}
+use Rattle.seek_match.specs.declared.challenge.Challenge.{Challenge}
+
+-- the challenge is by the first player to the second
+abbrev pub is_between : ℕ → ℕ → Challenge → Bool
+is_between from to challenge = (challenge.from == from) && (challenge.to == to)
+
+-- the challenge is to this player, and by that one, if one is given
+abbrev pub is_to : Option ℕ → ℕ → Challenge → Bool
+is_to None to challenge = challenge.to == to
+is_to (Some from) to challenge = is_between from to challenge
+
+-- the oldest such challenge, if there is one
+abbrev pub challenge_to : List Challenge → Option ℕ → ℕ → Option Challenge
+challenge_to challenges from to = find (is_to from to) challenges
+
+-- the two challenges are by the same player to the same player
+abbrev pub is_same_pair : Challenge → Challenge → Bool
+is_same_pair new old = is_between new.from new.to old
+
+-- nobody has two challenges to one player
+abbrev pub AreChallenges : List Challenge → Type 0
+AreChallenges [] = Unit {0}
+AreChallenges (challenge ∷ challenges) =
+    (list_any (is_same_pair challenge) challenges ≡ false) × AreChallenges challenges
+
+-- the challenges with a new one last; an older one by the same player to the same player goes
+abbrev pub with_challenge : Challenge → List Challenge → List Challenge
+with_challenge new challenges = filter (λ old. not (is_same_pair new old)) challenges ++ new ∷ []

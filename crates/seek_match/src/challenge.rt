@@ -1,0 +1,63 @@
+//! A challenge, and between whom it is.
+ghost use Rattle.std.specs.Prelude.{◌≡◌, Ok, not};
+ghost use Rattle.seek_match.specs.Matches.{is_between, is_same_pair, is_to};
+
+use chess_model::Terms;
+use collections::Predicate;
+use fics_words::{Duplicate, NoMemory};
+
+/// A game that a player offers to one other: by which session, to which, and on which terms.
+#[derive(Clone, Copy, Debug, PartialEq, Eq)]
+pub struct Challenge {
+    pub from: u32,
+    pub to: u32,
+    pub terms: Terms,
+}
+
+impl Challenge {
+    /// Whether the challenge is to this player, and by that one, if one is given.
+    pub(crate) fn is_to(&self, from: Option<u32>, to: u32) -> bool
+        ensures { result ≡ is_to from to self.now }
+    {
+        match from {
+            None => self.to == to,
+            Some(from) => self.from == from && self.to == to,
+        }
+    }
+}
+
+impl Duplicate for Challenge {
+    /// Takes no memory.
+    fn duplicate(&self) -> Result<Challenge, NoMemory>
+        ensures { result ≡ Ok self.now }
+    {
+        Ok(*self)
+    }
+}
+
+/// A challenge that isn't by the same player to the same player as this one.
+#[derive(Clone, Copy)]
+pub(crate) struct OfAnotherPair(pub(crate) Challenge);
+
+impl Predicate<Challenge> for OfAnotherPair {
+    ghost passes = { λ test challenge. not (is_same_pair test.0 challenge) };
+
+    fn passes(&self, challenge: &Challenge) -> bool {
+        !(challenge.from == self.0.from && challenge.to == self.0.to)
+    }
+}
+
+/// A challenge that isn't by the first player to the second.
+#[derive(Clone, Copy)]
+pub(crate) struct NotBetween {
+    pub(crate) from: u32,
+    pub(crate) to: u32,
+}
+
+impl Predicate<Challenge> for NotBetween {
+    ghost passes = { λ test challenge. not (is_between test.from test.to challenge) };
+
+    fn passes(&self, challenge: &Challenge) -> bool {
+        !(challenge.from == self.from && challenge.to == self.to)
+    }
+}

@@ -1,0 +1,116 @@
+//! The challenges that stand.
+ghost use Rattle.std.specs.Prelude.{◌≡◌, option_copied};
+ghost use Rattle.std.specs.List.{find, list_any};
+ghost use Rattle.seek_match.specs.Matches.{is_between, is_to};
+
+use crate::challenge::{Challenge, NotBetween, OfAnotherPair};
+use collections::Reserved;
+use fics_words::{Duplicate, NoMemory};
+use std::alloc::Global;
+use std::marker::Model;
+
+/// The challenges that stand, in the order of making. Contracts see the list of them. Nobody has two challenges to one
+/// player.
+#[derive(Debug, Drop)]
+pub struct MatchBook {
+    rows: Reserved<Challenge>,
+}
+
+impl Model for MatchBook {
+    ghost use Rattle.std.specs.Prelude.{List};
+    ghost use Rattle.seek_match.specs.declared.challenge.Challenge.{Challenge};
+    ghost use Rattle.seek_match.specs.Matches.{AreChallenges};
+
+    ghost Value = { List Challenge };
+
+    ghost view = { λ book. book.rows.items };
+
+    ghost invariant = { λ book. AreChallenges book.rows.items };
+}
+
+impl MatchBook {
+    ghost use Rattle.std.specs.Prelude.{◌≡◌, OnErr, OnOk, [], not};
+    ghost use Rattle.std.specs.List.{filter, list_any};
+    ghost use Rattle.seek_match.specs.Matches.{AreChallenges, challenge_to, is_between, with_challenge};
+
+    /// No challenges; takes no memory.
+    pub fn new(alloc: Global) -> MatchBook
+        ensures { result ≡ [] }
+    {
+        MatchBook {
+            rows: Reserved::new(alloc),
+        }
+    }
+
+    /// Puts the challenge behind the others, in place of an older one by the same player to the same player. Running
+    /// out of memory leaves everything as it was.
+    pub fn put(&mut self, challenge: Challenge) -> Result<(), NoMemory>
+        ensures put { OnOk result (self.new ≡ with_challenge challenge self.old) }
+        ensures unchanged { OnErr result (self.new ≡ self.old) }
+    {
+        self.rows.reserve(1)?;
+        self.rows.retain(&OfAnotherPair(challenge));
+        self.rows.push(challenge);
+        Ok(())
+    }
+
+    /// The challenge by the first player to the second, and without a first player the oldest one to the second, if
+    /// there is one.
+    pub fn find(&self, from: Option<u32>, to: u32) -> Option<Challenge>
+        ensures { result ≡ challenge_to self.now from to }
+    {
+        find_challenge(self.rows.as_slice(), from, to).copied()
+    }
+
+    /// Takes away the challenge by the first player to the second, and tells whether there was one.
+    pub fn remove(&mut self, from: u32, to: u32) -> bool
+        ensures found { result ≡ list_any (is_between from to) self.old }
+        ensures after { self.new ≡ filter (λ challenge. not (is_between from to challenge)) self.old }
+    {
+        let found = has_between(self.rows.as_slice(), from, to);
+        self.rows.retain(&NotBetween { from, to });
+        if self.rows.is_empty() {
+            // a book that is left empty gives its block back
+            self.rows.take();
+        }
+        found
+    }
+
+    /// The challenges, in the order of making.
+    pub fn rows(&self) -> &[Challenge]
+        ensures rows { result.now ≡ self.now }
+        ensures pairs { AreChallenges self.now }
+    {
+        self.rows.as_slice()
+    }
+}
+
+impl Duplicate for MatchBook {
+    fn duplicate(&self) -> Result<MatchBook, NoMemory> {
+        Ok(MatchBook {
+            rows: self.rows.duplicate()?,
+        })
+    }
+}
+
+/// The first of these challenges that is to this player, and by that one, if one is given.
+fn find_challenge<'a>(
+    challenges: &'a [Challenge],
+    from: Option<u32>,
+    to: u32,
+) -> Option<&'a Challenge>
+    ensures { option_copied result ≡ find (is_to from to) challenges.now }
+{
+    challenges
+        .iter()
+        .find(|challenge| challenge.is_to(from, to))
+}
+
+/// Whether one of these challenges is by the first player to the second.
+fn has_between(challenges: &[Challenge], from: u32, to: u32) -> bool
+    ensures { result ≡ list_any (is_between from to) challenges.now }
+{
+    challenges
+        .iter()
+        .any(|challenge| challenge.is_to(Some(from), to))
+}

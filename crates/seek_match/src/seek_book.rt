@@ -1,0 +1,147 @@
+//! The seeks that stand.
+ghost use Rattle.std.specs.Prelude.{◌≡◌, ◌+◌, ◌<◌, ◌≤◌, IfOk, length, not, option_copied};
+ghost use Rattle.std.specs.List.{count_by, filter, find};
+ghost use Rattle.seek_match.specs.Seeks.{has_number, is_by, next_number};
+
+use crate::seek::Seek;
+use chess_model::Terms;
+use fics_words::{Duplicate, Fail, NoMemory, Refusal};
+use std::alloc::Global;
+use std::marker::Model;
+
+/// The most seeks of a player.
+const MOST: usize = 3;
+
+/// The seeks that stand, in the order of their numbers. Contracts see the list of them.
+#[derive(Debug, Drop)]
+pub struct SeekBook {
+    pub(crate) rows: Vec<Seek>,
+}
+
+impl Model for SeekBook {
+    ghost use Rattle.std.specs.Prelude.{List};
+    ghost use Rattle.seek_match.specs.declared.seek.Seek.{Seek};
+    ghost use Rattle.seek_match.specs.Seeks.{AreSeeks};
+
+    ghost Value = { List Seek };
+
+    ghost view = { λ book. book.rows.items };
+
+    ghost invariant = { λ book. AreSeeks book.rows.items };
+}
+
+impl SeekBook {
+    ghost use Rattle.std.specs.Prelude.{◌≡◌, ◌<◌, [], length};
+    ghost use Rattle.fics_words.specs.Effect.{Takes, answer_of, state_of};
+    ghost use Rattle.seek_match.specs.Seeks.{AreSeeks, posting, removing, seek_of};
+
+    /// No seeks; takes no memory.
+    pub fn new(alloc: Global) -> SeekBook
+        ensures { result ≡ [] }
+    {
+        SeekBook {
+            rows: Vec::new(alloc),
+        }
+    }
+
+    /// Makes a seek of this player on these terms, under the least positive number that isn't in use, and gives the
+    /// number. Refuses with `SeekFull` where the player has 3 seeks.
+    pub fn post(&mut self, by: u32, terms: Terms) -> Result<u16, Fail>
+        requires { length self.old < 65535 }
+        ensures { Takes (posting self.old by terms) self.old self.new result }
+    {
+        if count_by(self.rows.as_slice(), by, None) >= MOST {
+            return Err(Fail::Refused(Refusal::SeekFull));
+        }
+        let number = next_number(self.rows.as_slice());
+        self.rows
+            .insert(number as usize - 1, Seek { number, by, terms })?;
+        Ok(number)
+    }
+
+    /// The seek of that number, if there is one.
+    pub fn get(&self, number: u16) -> Option<Seek>
+        ensures { result ≡ seek_of self.now number }
+    {
+        find_seek(self.rows.as_slice(), number).copied()
+    }
+
+    /// Takes away this player's seek of that number, or without a number all seeks of this player, and gives how many
+    /// it took away. Refuses with `NoSuchSeek` where there is none.
+    pub fn remove(&mut self, by: u32, number: Option<u16>) -> Result<u16, Refusal>
+        ensures answer { result ≡ answer_of (removing self.old by number) }
+        ensures after { self.new ≡ state_of self.old (removing self.old by number) }
+    {
+        let count = count_by(self.rows.as_slice(), by, number);
+        if count == 0 {
+            return Err(Refusal::NoSuchSeek);
+        }
+        drop_seeks(&mut self.rows, by, number);
+        Ok(count as u16)
+    }
+
+    /// The seeks, in the order of their numbers.
+    pub fn rows(&self) -> &[Seek]
+        ensures rows { result.now ≡ self.now }
+        ensures order { AreSeeks self.now }
+    {
+        self.rows.as_slice()
+    }
+}
+
+impl Duplicate for SeekBook {
+    fn duplicate(&self) -> Result<SeekBook, NoMemory> {
+        Ok(SeekBook {
+            rows: copy_of(*self.rows.allocator(), self.rows.as_slice())?,
+        })
+    }
+}
+
+/// A copy of the seeks.
+fn copy_of(alloc: Global, seeks: &[Seek]) -> Result<Vec<Seek>, NoMemory>
+    ensures { IfOk result (λ copy. copy.items ≡ seeks.now) }
+{
+    Ok(Vec::from_slice(alloc, seeks)?)
+}
+
+/// The seek of that number among these, if there is one.
+fn find_seek<'a>(seeks: &'a [Seek], number: u16) -> Option<&'a Seek>
+    ensures { option_copied result ≡ find (has_number number) seeks.now }
+{
+    seeks.iter().find(|seek| seek.number == number)
+}
+
+/// How many of these are by this player, and have the number, if one is given.
+fn count_by(seeks: &[Seek], by: u32, number: Option<u16>) -> usize
+    ensures { result ≡ count_by (is_by by number) seeks.now }
+{
+    seeks.iter().filter(|seek| seek.is_by(by, number)).count()
+}
+
+/// The least positive number that none of these seeks, in the order of their numbers, has.
+fn next_number(seeks: &[Seek]) -> u16
+    requires { length seeks.now < 65535 }
+    ensures number { result ≡ next_number seeks.now }
+    ensures positive { 0 < result }
+    ensures within { result ≤ length seeks.now + 1 }
+{
+    let mut number = 1;
+    for seek in seeks {
+        if seek.number != number {
+            return number;
+        }
+        number += 1;
+    }
+    number
+}
+
+/// Takes away the seeks that are by this player, and have the number, if one is given. A list that is left empty gives
+/// its block back.
+fn drop_seeks(seeks: &mut Vec<Seek>, by: u32, number: Option<u16>)
+    ensures { seeks.new.items ≡ filter (λ seek. not (is_by by number seek)) seeks.old.items }
+{
+    seeks.retain(|seek| !seek.is_by(by, number));
+    if seeks.is_empty() {
+        *seeks = Vec::new(*seeks.allocator());
+    }
+}
