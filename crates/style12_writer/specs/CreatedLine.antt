@@ -2,6 +2,7 @@
 use Rattle.std.specs.Prelude.{ℕ, List, ◌++◌, codes, decimal}
 use Rattle.chess_model.specs.declared.variant.Terms.{Terms}
 use Rattle.chess_model.specs.VariantWord.{word_of}
+use Rattle.style12_writer.specs.GameLine.{game_text}
 
 -- the minutes, the increment and the variant
 abbrev pub terms_text : Terms → List ℕ
@@ -10,5 +11,4 @@ terms_text t = decimal t.minutes ++ codes " " ++ decimal t.increment ++ codes " 
 -- the whole line
 abbrev pub created_text : ℕ → List ℕ → List ℕ → Terms → List ℕ
 created_text game white black t =
-    codes "{Game " ++ decimal game ++ codes " (" ++ white ++ codes " vs. " ++ black ++ codes ") Creating "
-    ++ terms_text t ++ codes " match.}"
+    game_text game white black ++ codes "Creating " ++ terms_text t ++ codes " match.}"

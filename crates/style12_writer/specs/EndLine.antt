@@ -1,10 +1,11 @@
 -- The line that tells how a game ended: `{Game G (W vs. B) REASON} RESULT`. The reasons are this server's texts.
-use Rattle.std.specs.Prelude.{ℕ, Bool, true, false, List, [], ◌++◌, Option, Some, None, codes, decimal}
+use Rattle.std.specs.Prelude.{ℕ, Bool, true, false, List, [], ◌++◌, Option, Some, None, codes}
 use Rattle.chess_model.specs.declared.man.Colour.{Colour}
 use Rattle.chess_model.specs.declared.man.Colour.TheVariants.{White, Black}
 use Rattle.chess_model.specs.declared.why.Why.{Why}
 use Rattle.chess_model.specs.declared.why.Why.TheVariants.{Mate, Stalemate, Resigned, Flag, FlagDraw, Agreed, Fifty, Threefold, Aborted, Adjourned, Left}
 use Rattle.style12_writer.specs.declared.view.BoardView.{BoardView}
+use Rattle.style12_writer.specs.GameLine.{game_text}
 
 -- a win of one of the players ends the game so
 abbrev pub is_decisive : Why → Bool
@@ -60,5 +61,4 @@ result_text None why = unwon_text why
 -- the whole line
 abbrev pub end_text : BoardView → Why → Option Colour → Bool → List ℕ
 end_text v why winner own =
-    codes "{Game " ++ decimal v.game ++ codes " (" ++ v.white ++ codes " vs. " ++ v.black ++ codes ") "
-    ++ reason_text v why winner own ++ codes "} " ++ result_text winner why
+    game_text v.game v.white v.black ++ reason_text v why winner own ++ codes "} " ++ result_text winner why

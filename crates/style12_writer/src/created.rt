@@ -4,6 +4,7 @@ ghost use Rattle.chess_model.specs.VariantWord.{word_of};
 ghost use Rattle.style12_writer.specs.CreatedLine.{created_text, terms_text};
 
 use crate::draft::Draft;
+use crate::game_line::put_game;
 use chess_model::{Terms, Variant};
 use fics_words::{Handle, Line};
 use memory::NoMemory;
@@ -20,13 +21,8 @@ pub fn created_line(
     ensures { IfOk result (λ line. line ≡ created_text game white.now black.now terms.now) }
 {
     let mut line = Draft::new(alloc);
-    line.text(b"{Game ")?;
-    line.number(u64::from(game))?;
-    line.text(b" (")?;
-    line.name(white)?;
-    line.text(b" vs. ")?;
-    line.name(black)?;
-    line.text(b") Creating ")?;
+    put_game(&mut line, game, white, black)?;
+    line.text(b"Creating ")?;
     put_terms(&mut line, terms)?;
     line.text(b" match.}")?;
     Ok(line.finish())

@@ -5,6 +5,7 @@ ghost use Rattle.chess_model.specs.MoveText.{is_printable};
 ghost use Rattle.style12_writer.specs.EndLine.{is_decisive, loser_text, manner_text, reason_text, result_text, end_text};
 
 use crate::draft::Draft;
+use crate::game_line::put_game;
 use crate::view::BoardView;
 use chess_model::{Colour, Why};
 use fics_words::Line;
@@ -41,13 +42,7 @@ pub fn end_line(
     ensures { IfOk result (λ line. line ≡ end_text v.now why winner own) }
 {
     let mut line = Draft::new(alloc);
-    line.text(b"{Game ")?;
-    line.number(u64::from(v.game))?;
-    line.text(b" (")?;
-    line.name(&v.white)?;
-    line.text(b" vs. ")?;
-    line.name(&v.black)?;
-    line.text(b") ")?;
+    put_game(&mut line, v.game, &v.white, &v.black)?;
     put_reason(&mut line, v, why, winner, own)?;
     line.text(b"} ")?;
     line.text(result_of(why, winner))?;

@@ -8,6 +8,7 @@ mod board;
 mod created;
 mod draft;
 mod end;
+mod game_line;
 mod item;
 mod line;
 mod view;
