@@ -1,8 +1,8 @@
 -- Aliases: short names for texts that a player types often. This server's own.
-use Rattle.std.specs.Prelude.{◌≡◌, ℕ, ◌-◌, ◌==◌, nat_le, ◌&&◌, ◌||◌, not, bytes_eq, if◌then◌else◌, Bool, true, List, [], ◌∷◌, ◌++◌, length, Option, Some, None, is_none, find, position, slice_set, codes, refl}
+use Rattle.std.specs.Prelude.{◌≡◌, ℕ, ◌-◌, ◌==◌, nat_le, ◌&&◌, ◌||◌, not, bytes_eq, if◌then◌else◌, Bool, true, false, List, [], ◌∷◌, ◌++◌, length, Option, Some, None, is_none, find, position, remove, slice_set, codes, refl}
 use Rattle.std.specs.List.{list_all, list_any}
 use Rattle.fics_words.specs.Effect.{Effect}
-use Rattle.fics_words.specs.declared.refusal.Refusal.TheVariants.{BadArguments, ListFull}
+use Rattle.fics_words.specs.declared.refusal.Refusal.TheVariants.{BadArguments, ListFull, NotOnList}
 use Rattle.command_words.specs.declared.aliases.Alias.{Alias}
 use Rattle.command_words.specs.Blanks.{word_at}
 use Rattle.command_words.specs.Texts.{is_text}
@@ -33,6 +33,20 @@ setting aliases name text = record {
   memory = true;
   reply = tt;
   after = with_alias aliases (record { name = name; text = text }) (position (has_name name) aliases);
+}
+
+-- the aliases without the one in this place, if there is one
+abbrev pub without_alias : List Alias → Option ℕ → List Alias
+without_alias aliases None = aliases
+without_alias aliases (Some place) = remove aliases place
+
+-- unsetting an alias: refused where none has the name
+abbrev pub unsetting : List Alias → List ℕ → Effect (List Alias) (Unit {0})
+unsetting aliases name = record {
+  causes = (is_none (position (has_name name) aliases), NotOnList) ∷ [];
+  memory = false;
+  reply = tt;
+  after = without_alias aliases (position (has_name name) aliases);
 }
 
 -- what stands behind a `$` in an alias's text, where it is a place: a digit 1 to 9, or `@`

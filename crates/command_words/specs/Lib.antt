@@ -1,4 +1,5 @@
 pub mod Accept
+pub mod Alias
 pub mod Aliases
 pub mod Blanks
 pub mod Commands

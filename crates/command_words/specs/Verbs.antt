@@ -4,20 +4,22 @@ use Rattle.std.specs.List.{starts_with}
 use Rattle.fics_words.specs.declared.refusal.Refusal.{Refusal}
 use Rattle.fics_words.specs.declared.refusal.Refusal.TheVariants.{Unknown, AmbiguousWord}
 use Rattle.command_words.specs.declared.verbs.Verb.{Verb}
-use Rattle.command_words.specs.declared.verbs.Verb.TheVariants.{Accept, Flag, Match, Quit, Register, Resign}
+use Rattle.command_words.specs.declared.verbs.Verb.TheVariants.{Accept, Alias, Flag, Match, Quit, Register, Resign, Unalias}
 
 -- the commands
 abbrev pub verbs : List Verb
-verbs = Accept ∷ Flag ∷ Match ∷ Quit ∷ Register ∷ Resign ∷ []
+verbs = Accept ∷ Alias ∷ Flag ∷ Match ∷ Quit ∷ Register ∷ Resign ∷ Unalias ∷ []
 
 -- a command's name
 abbrev pub name_of : Verb → List ℕ
 name_of Accept = codes "accept"
+name_of Alias = codes "alias"
 name_of Flag = codes "flag"
 name_of Match = codes "match"
 name_of Quit = codes "quit"
 name_of Register = codes "register"
 name_of Resign = codes "resign"
+name_of Unalias = codes "unalias"
 
 -- a command's short form; its name where it has none
 abbrev pub short_of : Verb → List ℕ

@@ -49,9 +49,9 @@ impl Model for Aliases {
 }
 
 impl Aliases {
-    ghost use Rattle.std.specs.Prelude.{◌≡◌, [], None, Some, IfSome, OnOk, OnErr, ◌↔◌, remove, position, option_copied, Err};
-    ghost use Rattle.fics_words.specs.Effect.{Takes};
-    ghost use Rattle.command_words.specs.Aliases.{alias_of, has_name, setting};
+    ghost use Rattle.std.specs.Prelude.{◌≡◌, [], option_copied};
+    ghost use Rattle.fics_words.specs.Effect.{Takes, answer_of, state_of};
+    ghost use Rattle.command_words.specs.Aliases.{alias_of, setting, unsetting};
 
     /// No aliases; takes no memory.
     pub fn new(alloc: Global) -> Aliases
@@ -92,10 +92,8 @@ impl Aliases {
 
     /// Takes away the alias of that name. Refuses with `NotOnList` where there is none.
     pub fn unset(&mut self, name: &[u8]) -> Result<(), Refusal>
-        ensures gone { OnOk result (IfSome (position (has_name name.now) self.old)
-            (λ place. self.new ≡ remove self.old place)) }
-        ensures none { (result ≡ Err Refusal.NotOnList) ↔ (position (has_name name.now) self.old ≡ None) }
-        ensures unchanged { OnErr result (self.new ≡ self.old) }
+        ensures answer { result ≡ answer_of (unsetting self.old name.now) }
+        ensures after { self.new ≡ state_of self.old (unsetting self.old name.now) }
     {
         let Some(place) = place_of(self.rows.as_slice(), name) else {
             return Err(Refusal::NotOnList);
@@ -133,7 +131,7 @@ fn new_alias(alloc: Global, name: &[u8], text: &[u8]) -> Result<Alias, NoMemory>
 }
 
 /// Whether the bytes are an alias's name: 1 to 15 lower-case letters.
-fn is_alias_name(name: &[u8]) -> bool
+pub(crate) fn is_alias_name(name: &[u8]) -> bool
     ensures { result ≡ is_alias_name name.now }
 {
     if name.is_empty() {

@@ -20,6 +20,10 @@ pub enum Command {
     Flag,
     /// To make an account of the session's handle with this password.
     Register(Line),
+    /// To make a name, 1 to 15 lower-case letters, stand for a text.
+    Alias { name: Line, text: Line },
+    /// To make this name stand for nothing any more.
+    Unalias(Line),
     /// To leave.
     Quit,
 }

@@ -10,7 +10,7 @@ ghost use Rattle.command_words.specs.Commands.{command_in, command_after, comman
 use crate::aliases::{Alias, Aliases};
 use crate::blanks::{first_word, rest_of, trimmed};
 use crate::command::Command;
-use crate::commands::{accept, flag, matching, quit, register, resign};
+use crate::commands::{accept, alias, flag, matching, quit, register, resign};
 use crate::expansion::expanded;
 use crate::verbs::{Verb, verb_of};
 use chess_model::MoveWord;
@@ -107,11 +107,13 @@ fn read_arguments(alloc: Global, verb: Verb, rest: &[u8]) -> Result<Command, Fai
 {
     match verb {
         Verb::Accept => Ok(accept::read(rest)?),
+        Verb::Alias => alias::read(alloc, rest),
         Verb::Flag => Ok(flag::read(rest)?),
         Verb::Match => Ok(matching::read(rest)?),
         Verb::Quit => Ok(quit::read(rest)?),
         Verb::Register => register::read(alloc, rest),
         Verb::Resign => Ok(resign::read(rest)?),
+        Verb::Unalias => alias::read_unalias(alloc, rest),
     }
 }
 

@@ -9,21 +9,25 @@ use fics_words::Refusal;
 #[derive(Clone, Copy, Debug, PartialEq, Eq)]
 pub enum Verb {
     Accept,
+    Alias,
     Flag,
     Match,
     Quit,
     Register,
     Resign,
+    Unalias,
 }
 
 /// The commands.
-pub const VERBS: [Verb; 6] = [
+pub const VERBS: [Verb; 8] = [
     Verb::Accept,
+    Verb::Alias,
     Verb::Flag,
     Verb::Match,
     Verb::Quit,
     Verb::Register,
     Verb::Resign,
+    Verb::Unalias,
 ];
 
 /// The command that a word in lower case names: the one whose name or short form it is, and else the one whose name it
@@ -98,11 +102,13 @@ fn name_of(verb: Verb) -> &'static [u8]
 {
     match verb {
         Verb::Accept => b"accept",
+        Verb::Alias => b"alias",
         Verb::Flag => b"flag",
         Verb::Match => b"match",
         Verb::Quit => b"quit",
         Verb::Register => b"register",
         Verb::Resign => b"resign",
+        Verb::Unalias => b"unalias",
     }
 }
 

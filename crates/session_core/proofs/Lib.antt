@@ -4,4 +4,5 @@ pub mod Lists
 pub mod Passing
 pub mod MatchTerms
 pub mod Beginning
+pub mod OwnAnswers
 pub mod Quitting

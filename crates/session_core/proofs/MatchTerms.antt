@@ -2,7 +2,7 @@
 use Rattle.std.proofs.Common.{◌≡◌, ℕ, ◌≤◌, List, [], ◌∷◌, Ok, Err, Result, refl, sym, ap, subst, inl, inr, rules}
 use Rattle.std.specs.declared.option.Option.{Option}
 use Rattle.std.specs.declared.option.Option.TheVariants.{None, Some}
-use Rattle.std.specs.Prelude.{Bool, true, false, if◌then◌else◌, length, map, nat_lt}
+use Rattle.std.specs.Prelude.{Bool, true, false, if◌then◌else◌, ◌&&◌, length, map, nat_lt}
 use Rattle.std.specs.Char.{to_ascii_lowercase}
 use Rattle.chess_model.specs.declared.moves.MoveWord.{MoveWord}
 use Rattle.chess_model.specs.declared.man.Colour.{Colour}
@@ -18,7 +18,7 @@ use Rattle.command_words.specs.declared.command.Command.TheVariants as command
 use Rattle.command_words.specs.declared.verbs.Verb.{Verb}
 use Rattle.command_words.specs.declared.verbs.Verb.TheVariants as verb
 use Rattle.command_words.specs.Accept.{accept_from, accept_of}
-use Rattle.command_words.specs.Aliases.{alias_of, expanded}
+use Rattle.command_words.specs.Aliases.{alias_of, expanded, is_alias_name}
 use Rattle.command_words.specs.Blanks.{Words, first_word, rest_of, trimmed, words_of}
 use Rattle.command_words.specs.Commands.{arguments_of, asked, command_after, command_in, command_made, command_of, move_in, move_or}
 use Rattle.command_words.specs.Match.{challenge, challenge_of, two_twelve}
@@ -72,11 +72,14 @@ either_fits false a b p q = q
 
 arguments_fit : (v : Verb) (rest : List ℕ) → FitsAnswer (arguments_of v rest)
 arguments_fit verb.Accept rest = accept_fits rest
+arguments_fit verb.Alias rest =
+    either_fits (is_alias_name (first_word rest) && is_text (rest_of rest)) (Ok (command.Alias (first_word rest) (rest_of rest))) (Err BadArguments) tt tt
 arguments_fit verb.Flag rest = alone_fits command.Flag rest tt
 arguments_fit verb.Match rest = challenge_of_fits (words_of rest)
 arguments_fit verb.Quit rest = alone_fits command.Quit rest tt
 arguments_fit verb.Register rest = either_fits (is_text rest) (Ok (command.Register rest)) (Err BadArguments) tt tt
 arguments_fit verb.Resign rest = alone_fits command.Resign rest tt
+arguments_fit verb.Unalias rest = either_fits (is_alias_name rest) (Ok (command.Unalias rest)) (Err BadArguments) tt tt
 
 asked_fits : (v : Result Verb Refusal) (rest : List ℕ) → FitsAnswer (asked v rest)
 asked_fits (Ok v) rest = arguments_fit v rest

@@ -25,6 +25,7 @@ use Rattle.session_core.specs.declared.standing.Standing.TheVariants as standing
 use Rattle.session_core.specs.Course.{Course, Done, Asks, Writes, Follows}
 use Rattle.session_core.specs.Inputs.{ack_course, asked_course, asks_to_quit, input_course, is_greeting, is_quit, line_course, line_quits, past_line, quiet_course, refusing, stamp_on, text_course, text_quits}
 use Rattle.session_core.specs.Login.{admitted, entering, entering_named, is_guest, naming, password_of, proving}
+use Rattle.session_core.specs.OwnCommands.{set_alias, unset_alias}
 use Rattle.session_core.specs.Memory.{MemoryState, is_gone, is_out, present_in, told}
 use Rattle.session_core.specs.Session.{acked_at, at_present, command_course, given_up, round, says_over, to_desk, visits}
 
@@ -81,6 +82,8 @@ never_command (command.Accept name) stamp memory here goes_on = λ r. never_roun
 never_command command.Resign stamp memory here goes_on = never_desk desk_act.Resign memory here
 never_command command.Flag stamp memory here goes_on = never_desk desk_act.Flag memory here
 never_command (command.Register password) stamp memory here goes_on = λ r. never_round memory here
+never_command (command.Alias name text) stamp memory here goes_on = never_round (set_alias name text memory).memory here
+never_command (command.Unalias name) stamp memory here goes_on = never_round (unset_alias name memory).memory here
 never_command command.Quit stamp memory here goes_on = absurd (let bad : true ≡ false = goes_on in cc)
 
 never_asked : (asked : Result Command Refusal) (stamp : Option ℕ) (memory : MemoryState) → is_gone memory ≡ false → is_quit asked ≡ false → NeverGone (asked_course asked stamp memory)

@@ -2,6 +2,7 @@ pub mod Memory
 pub mod Course
 pub mod Texts
 pub mod Login
+pub mod OwnCommands
 pub mod Session
 pub mod Inputs
 pub mod Stages

@@ -18,6 +18,7 @@ use Rattle.one_server.specs.declared.reply.Reply.{Reply}
 use Rattle.one_server.specs.declared.reply.Reply.TheVariants as reply
 use Rattle.session_core.specs.Course.{Course, Done, Asks, Writes}
 use Rattle.session_core.specs.Memory.{MemoryState, departed, present_in, told}
+use Rattle.session_core.specs.OwnCommands.{OwnAnswer, set_alias, unset_alias}
 use Rattle.session_core.specs.Texts.{refusal_line, reply_text, news_text, waiting_text}
 use Rattle.sha2.specs.Sha256.{sha256}
 
@@ -76,6 +77,10 @@ to_desk act memory = Asks (Lobby lobby_act.Where) (λ reply. placing act (told m
 abbrev pub to_server : Act → MemoryState → Course
 to_server act memory = Asks act (λ reply. answered reply memory)
 
+-- a command that the session carries out by itself: its line, and then the round
+abbrev pub by_itself : OwnAnswer → Course
+by_itself answer = Writes answer.line (round answer.memory)
+
 -- each place is left and given up, in order, and then the member is gone
 abbrev pub leave_places : List Place → MemoryState → Course
 leave_places [] memory = Asks (Lobby lobby_act.Bye) (λ reply. Done (departed memory))
@@ -98,6 +103,8 @@ command_course command.Resign stamp memory = to_desk desk_act.Resign memory
 command_course command.Flag stamp memory = to_desk desk_act.Flag memory
 command_course (command.Register password) stamp memory =
     to_server (Lobby (lobby_act.Register (sha256 password))) memory
+command_course (command.Alias name text) stamp memory = by_itself (set_alias name text memory)
+command_course (command.Unalias name) stamp memory = by_itself (unset_alias name memory)
 command_course command.Quit stamp memory = leaving memory
 
 -- an acknowledgement reaches the present place, if there is any; it prints nothing, and no round follows

@@ -41,11 +41,15 @@ refusal_line cause = codes "refused " ++ decimal (number_of cause) ++ codes " " 
 abbrev pub entered_line : List ℕ → List ℕ
 entered_line name = codes "Entered as " ++ name ++ codes "." ++ line_end
 
+-- the line of what was done
+abbrev pub done_line : List ℕ
+done_line = codes "Ok." ++ line_end
+
 -- what a reply prints: the refusal; that an act of the lobby was done; under which name the session is in; and else
 -- nothing
 abbrev pub reply_text : Reply → List ℕ
 reply_text (reply.Refused cause) = refusal_line cause
-reply_text (reply.Lobby Done) = codes "Ok." ++ line_end
+reply_text (reply.Lobby Done) = done_line
 reply_text (reply.Lobby (Entered name)) = entered_line name
 reply_text _ = []
 

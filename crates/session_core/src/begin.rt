@@ -136,10 +136,10 @@ fn read_text(
         (asked_course (command_in memory.old.aliases text.now) stamp memory.old)
         (first_course first memory.new) out.old.items out.new.items) }
     ensures ready { IfOk result (IsPrepared memory.new) }
-    ensures same { memory.new ≡ memory.old }
+    ensures inside { has_entered memory.new ≡ true }
 {
     match read_command(alloc, text, memory.aliases()) {
-        Ok(command) => Ok(begin_command(command, stamp)),
+        Ok(command) => begin_command(memory, command, stamp, out),
         Err(Fail::Refused(cause)) => {
             put_refusal(cause, out)?;
             Ok(First::Going(ask_round()))

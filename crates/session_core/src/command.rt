@@ -1,28 +1,39 @@
 //! How a session begins to carry out a command.
-ghost use Rattle.std.specs.Prelude.{◌≡◌, true};
+ghost use Rattle.std.specs.Prelude.{◌≡◌, IfOk, true};
 ghost use Rattle.one_server.specs.Acts.{FitsAct};
 ghost use Rattle.linked_desk.specs.Acts.{FitsDeskAct};
 ghost use Rattle.session_core.specs.Memory.{MemoryState, has_entered};
 ghost use Rattle.session_core.specs.Session.{command_course, to_desk, to_server};
-ghost use Rattle.session_core.specs.Stages.{FitsCommand, FitsStamp, IsPrepared, first_course};
+ghost use Rattle.session_core.specs.Stages.{FitsCommand, FitsStamp, IsPrepared, Settles, first_course};
 
 use crate::first::First;
 use crate::next::Next;
+use crate::own_commands::{set_alias, unset_alias};
+use crate::session_memory::Memory;
 use crate::stage::{Stage, ask_round};
 use command_words::Command;
+use fics_words::NoMemory;
 use linked_desk::DeskAct;
 use lobby_state::{LobbyAct, PairAct};
 use login_handles::digest_of;
 use one_server::Act;
 
-/// What a session does first for a command; a move carries the stamp of its line.
-pub(crate) fn begin_command(command: Command, stamp: Option<u32>) -> First
+/// Begins to carry out a command, and writes what stands before its first act; a move carries the stamp of its line.
+pub(crate) fn begin_command(
+    memory: &mut Memory,
+    command: Command,
+    stamp: Option<u32>,
+    out: &mut Vec<u8>,
+) -> Result<First, NoMemory>
     requires stamp { FitsStamp stamp }
     requires fits { FitsCommand command }
-    ensures goes { (memory : MemoryState) → first_course result memory ≡ command_course command stamp memory }
-    ensures ready { (memory : MemoryState) → has_entered memory ≡ true → IsPrepared memory result }
+    requires inside { has_entered memory.old ≡ true }
+    ensures settles { IfOk result (λ first. Settles (command_course command stamp memory.old)
+        (first_course first memory.new) out.old.items out.new.items) }
+    ensures ready { IfOk result (IsPrepared memory.new) }
+    ensures inside { has_entered memory.new ≡ true }
 {
-    match command {
+    let first = match command {
         Command::Nothing => First::Going(ask_round()),
         Command::Move(word) => to_desk(DeskAct::Move { word, stamp }),
         Command::Match(name, terms) => to_server(Act::Lobby(LobbyAct::Match {
@@ -36,8 +47,17 @@ pub(crate) fn begin_command(command: Command, stamp: Option<u32>) -> First
             let digest = digest_of(password.bytes());
             to_server(Act::Lobby(LobbyAct::Register { digest }))
         },
+        Command::Alias { name, text } => {
+            set_alias(memory, &name, &text, out)?;
+            First::Going(ask_round())
+        },
+        Command::Unalias(name) => {
+            unset_alias(memory, &name, out)?;
+            First::Going(ask_round())
+        },
         Command::Quit => First::Leaving,
-    }
+    };
+    Ok(first)
 }
 
 /// An act whose reply is printed.

@@ -18,6 +18,7 @@ mod leaving;
 mod leaving_stage;
 mod login;
 mod next;
+mod own_commands;
 mod rest;
 mod session;
 mod session_memory;

@@ -1,5 +1,7 @@
 //! What a session remembers from one input to the next.
 ghost use Rattle.std.specs.Prelude.{◌≡◌, ◌≤◌, IfSome, length};
+ghost use Rattle.command_words.specs.Aliases.{setting, unsetting};
+ghost use Rattle.fics_words.specs.Effect.{Takes, answer_of, state_of};
 ghost use Rattle.lobby_state.specs.Desks.{IsDesk};
 ghost use Rattle.session_core.specs.Memory.{departed, is_gone, newcomer, past_first, present_in, seated};
 ghost use Rattle.session_core.specs.Memory.{stands_at, told};
@@ -7,7 +9,7 @@ ghost use Rattle.session_core.specs.Memory.{stands_at, told};
 use crate::rest::Rest;
 use crate::standing::{LinkMark, Standing};
 use command_words::Aliases;
-use fics_words::Handle;
+use fics_words::{Fail, Handle, Refusal};
 use lobby_state::{LobbyReply, Place, Places};
 use one_server::Reply;
 use std::alloc::Global;
@@ -114,6 +116,23 @@ impl Memory {
         ensures { result.now ≡ self.now.aliases }
     {
         &self.aliases
+    }
+
+    /// Makes a name stand for a text.
+    pub(crate) fn set_alias(&mut self, name: &[u8], text: &[u8]) -> Result<(), Fail>
+        ensures aliases { Takes (setting self.old.aliases name.now text.now) self.old.aliases self.new.aliases result }
+        ensures rest { self.new ≡ record self.old { aliases = self.new.aliases } }
+    {
+        self.aliases.set(name, text)
+    }
+
+    /// Makes a name stand for nothing any more.
+    pub(crate) fn unset_alias(&mut self, name: &[u8]) -> Result<(), Refusal>
+        ensures answer { result ≡ answer_of (unsetting self.old.aliases name.now) }
+        ensures after { self.new ≡ record self.old
+            { aliases = state_of self.old.aliases (unsetting self.old.aliases name.now) } }
+    {
+        self.aliases.unset(name)
     }
 
     /// Remembers what a reply tells.

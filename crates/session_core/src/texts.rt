@@ -2,7 +2,7 @@
 ghost use Rattle.std.specs.Prelude.{◌≡◌, ◌++◌, All, OnOk, codes};
 ghost use Rattle.linked_desk.specs.Sound.{NamesWinner};
 ghost use Rattle.one_server.specs.Replies.{IsReply};
-ghost use Rattle.session_core.specs.Texts.{asks_back, entered_line, is_own_turn, item_text, items_text};
+ghost use Rattle.session_core.specs.Texts.{asks_back, done_line, entered_line, is_own_turn, item_text, items_text};
 ghost use Rattle.session_core.specs.Texts.{line_end, lines_text};
 ghost use Rattle.session_core.specs.Texts.{news_text, prompt_of, refusal_line, reply_text, waiting_text};
 
@@ -54,9 +54,9 @@ pub(crate) fn put_reply(reply: &Reply, out: &mut Vec<u8>) -> Result<(), NoMemory
     }
 }
 
-/// Appends the line of an act of the lobby that was done.
-fn put_done(out: &mut Vec<u8>) -> Result<(), NoMemory>
-    ensures { OnOk result (out.new.items ≡ out.old.items ++ codes "Ok." ++ line_end) }
+/// Appends the line of what was done.
+pub(crate) fn put_done(out: &mut Vec<u8>) -> Result<(), NoMemory>
+    ensures { OnOk result (out.new.items ≡ out.old.items ++ done_line) }
 {
     out.extend_from_slice(b"Ok.")?;
     out.extend_from_slice(LINE_END)?;

@@ -1,0 +1,49 @@
+//! Commands that a session carries out by itself, with no act.
+ghost use Rattle.std.specs.Prelude.{◌≡◌, ◌++◌, OnOk};
+ghost use Rattle.session_core.specs.OwnCommands.{own_line, set_alias, unset_alias};
+
+use crate::session_memory::Memory;
+use crate::texts::{put_done, put_refusal};
+use fics_words::{Fail, Line, NoMemory, Refusal};
+
+/// Makes a name stand for a text, and tells whether that was done.
+pub(crate) fn set_alias(
+    memory: &mut Memory,
+    name: &Line,
+    text: &Line,
+    out: &mut Vec<u8>,
+) -> Result<(), NoMemory>
+    ensures memory { OnOk result (memory.new ≡ (set_alias name.now text.now memory.old).memory) }
+    ensures line { OnOk result (out.new.items ≡ out.old.items ++ (set_alias name.now text.now memory.old).line) }
+    ensures stands { memory.new.standing ≡ memory.old.standing }
+{
+    match memory.set_alias(name.bytes(), text.bytes()) {
+        Ok(()) => put_done(out)?,
+        Err(Fail::Refused(cause)) => put_refusal(cause, out)?,
+        Err(Fail::Memory) => return Err(NoMemory),
+    }
+    Ok(())
+}
+
+/// Makes a name stand for nothing any more, and tells whether that was done.
+pub(crate) fn unset_alias(
+    memory: &mut Memory,
+    name: &Line,
+    out: &mut Vec<u8>,
+) -> Result<(), NoMemory>
+    ensures memory { OnOk result (memory.new ≡ (unset_alias name.now memory.old).memory) }
+    ensures line { OnOk result (out.new.items ≡ out.old.items ++ (unset_alias name.now memory.old).line) }
+    ensures stands { memory.new.standing ≡ memory.old.standing }
+{
+    put_own(memory.unset_alias(name.bytes()), out)
+}
+
+/// Appends the line of what was done, or refused.
+fn put_own(answer: Result<(), Refusal>, out: &mut Vec<u8>) -> Result<(), NoMemory>
+    ensures { OnOk result (out.new.items ≡ out.old.items ++ own_line answer) }
+{
+    match answer {
+        Ok(()) => put_done(out),
+        Err(cause) => put_refusal(cause, out),
+    }
+}
