@@ -1,5 +1,6 @@
 pub mod BoardLists
 pub mod Finishing
+pub mod Holding
 pub mod Keeps
 pub mod KeepsActs
 pub mod KeepsAcked

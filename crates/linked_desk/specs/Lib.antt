@@ -7,6 +7,7 @@ pub mod Ends
 pub mod Fetch
 pub mod Finish
 pub mod Flag
+pub mod Hands
 pub mod Holds
 pub mod Leave
 pub mod Playing

@@ -18,6 +18,7 @@ mod fetch;
 mod finish;
 mod flag;
 mod game;
+mod hands;
 mod laws;
 mod leave;
 mod playing;

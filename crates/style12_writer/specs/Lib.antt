@@ -2,5 +2,6 @@ pub mod Board
 pub mod Clocks
 pub mod CreatedLine
 pub mod EndLine
+pub mod HoldingsLine
 pub mod Line12
 pub mod Spaced
