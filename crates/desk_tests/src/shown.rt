@@ -94,9 +94,9 @@ pub fn first_told_otherwise(
 fn is_told(alloc: Global, item: &Item, row: &str) -> Result<bool, NoMemory> {
     let row = row.as_bytes();
     match item {
-        Item::Board(_) => Ok(row == b"board"),
-        Item::Talk(_) => Ok(row == b"talk"),
-        Item::End { .. } => Ok(row == b"end"),
+        Item::Board(_) => Ok(row == b"board".as_slice()),
+        Item::Talk(_) => Ok(row == b"talk".as_slice()),
+        Item::End { .. } => Ok(row == b"end".as_slice()),
         Item::Hold {
             game,
             white,

@@ -10,3 +10,4 @@ pub mod KeepsLeave
 pub mod KeepsMove
 pub mod KeepsResign
 pub mod KeepsStart
+pub mod WholeSets

@@ -17,3 +17,4 @@ pub mod Seats
 pub mod Sight
 pub mod Sound
 pub mod Views
+pub mod WholeSets
