@@ -5,8 +5,8 @@ use crate::table::{ANN, BEN, Does, Given, SERIAL, Step, desk_with_house, first_f
 use fics_words::Refusal;
 use std::test::Fail;
 
-/// White captures two pawns, and a knight with a pawn that becomes a queen by it. Black captures the queen, and both drop
-/// a pawn; White's takes a rook. What the rules refuse tells nobody anything.
+/// White captures two pawns, and a knight with a pawn that becomes a queen by it. Black captures the queen, and both
+/// drop a pawn; White's takes a rook. What the rules refuse tells nobody anything.
 const STEPS: [Step; 17] = [
     Step(0, ANN, Does::Move("a2a4"), Given::Done),
     Step(0, BEN, Does::Move("b7b5"), Given::Done),

@@ -1,5 +1,5 @@
--- A move at a desk: the half-move is played, the board is told, then its hands where they have changed, and then the end
--- if the half-move brings it.
+-- A move at a desk: the half-move is played, the board is told, then its hands where they have changed, and then the
+-- end if the half-move brings it.
 use Rattle.std.specs.Prelude.{ℕ, true, ◌∷◌, Option, Some, None, Result, Ok, Err, slice_get}
 use Rattle.chess_model.specs.declared.man.Man.{Man}
 use Rattle.chess_model.specs.declared.moves.Move.{Move}

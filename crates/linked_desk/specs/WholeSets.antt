@@ -15,12 +15,12 @@ use Rattle.style12_writer.specs.HoldingsLine.{most_of_a_kind}
 use Rattle.linked_desk.specs.Desk.{DeskState, boards_at}
 
 -- by the position of a board and the half-moves that led to it. In chess the men of a colour and kind on the board, and
--- those captured, are those of one set. In crazyhouse the men of a kind, of both colours, on the board and in both hands
--- are those of two. A pair of boards has its men together, so one board of it says nothing
+-- those captured, are those of one set. In crazyhouse the men of a kind, of both colours, on the board and in both
+-- hands are those of two. A pair of boards has its men together, so one board of it says nothing
 abbrev pub HasMenOf : Variant → Position → List HalfMove → ℕ → Type 0
 HasMenOf Chess p T number = (c : Colour) (k : Kind) → men_of c k p.men + captured Chess T number c k ≡ one_set k
-HasMenOf Crazyhouse p T number = (k : Kind) → men_of White k p.men + men_of Black k p.men + (count_in p.white k + count_in p.black k)
-    ≡ 2 * one_set k
+HasMenOf Crazyhouse p T number =
+    (k : Kind) → men_of White k p.men + men_of Black k p.men + (count_in p.white k + count_in p.black k) ≡ 2 * one_set k
 HasMenOf Bughouse p T number = Unit {0}
 
 -- the men of a board are whole

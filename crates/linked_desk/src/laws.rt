@@ -41,8 +41,8 @@ pub fn boards_are_known_by_their_games()
 {}
 
 /// No man of a game at a desk is made or lost: in chess the men of a colour and kind on the board, and those captured,
-/// are those of one set, and in crazyhouse the men of a kind on the board and in both hands are those of two. So no hand
-/// has more men of a kind than a holdings line has letters for.
+/// are those of one set, and in crazyhouse the men of a kind on the board and in both hands are those of two. So no
+/// hand has more men of a kind than a holdings line has letters for.
 pub fn men_stay_whole()
     ensures sets { (d : DeskState) → HasSoundGame d → AllAt HasWholeSets d }
     ensures hands { (d : DeskState) → HasSoundGame d → AllAt HasPrintedHands d }

@@ -37,9 +37,7 @@ impl Game {
         self.feed.reserve(2 + ROOM_TO_END)?;
         let now = self.last.max(moment);
         let place = place_of(seat);
-        let captured = self
-            .boards
-            .play(place, colour_at(seat), word, now, stamp)?;
+        let captured = self.boards.play(place, colour_at(seat), word, now, stamp)?;
         self.last = now;
         if let Some(view) = self.view(desk, place) {
             self.feed.push(Item::Board(view));

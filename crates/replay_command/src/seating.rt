@@ -13,8 +13,8 @@ use lobby_state::{LobbyAct, PairAct};
 use one_server::{Act, OneServer};
 use replay_core::SeatLine;
 
-/// Seats the two players of a seat line of chess or crazyhouse, as the sessions 1 and 2, all at moment 0: both enter, the first
-/// challenges the second, who accepts, and both take what waits for them.
+/// Seats the two players of a seat line of chess or crazyhouse, as the sessions 1 and 2, all at moment 0: both enter,
+/// the first challenges the second, who accepts, and both take what waits for them.
 pub fn seat(server: &mut OneServer, line: &SeatLine) -> Result<(), NoMemory>
     requires spelled { IsSeatLine line.now }
     requires two { players_of line.now.terms.variant ≡ 2 }
