@@ -5,6 +5,8 @@
 #[cfg(test)]
 mod finished;
 #[cfg(test)]
+mod hands;
+#[cfg(test)]
 mod played;
 #[cfg(test)]
 mod refused;

@@ -3,7 +3,7 @@
 use fics_words::NoMemory;
 use linked_desk::{Desk, Item};
 use std::alloc::Global;
-use style12_writer::{BoardView, Viewer, end_line, is_decisive, line12};
+use style12_writer::{BoardView, Viewer, end_line, is_decisive, line_b1, line12};
 
 /// Whether the first item that a session hasn't been given is this line of text.
 pub fn begins_with_talk(desk: &Desk, session: u32, text: &str) -> bool {
@@ -65,4 +65,43 @@ pub fn ends_with_end(
         return Ok(false);
     }
     Ok(end_line(alloc, view, *why, *winner, *own)?.bytes() == text.as_bytes())
+}
+
+/// The place of the first item that a session hasn't been given and that isn't told by its row, if one isn't. A row is
+/// the holdings line as it is written, or `board`, `talk` or `end`.
+pub fn first_told_otherwise(
+    alloc: Global,
+    desk: &Desk,
+    session: u32,
+    rows: &[&str],
+) -> Result<Option<usize>, NoMemory> {
+    let items = desk.ahead(session);
+    for (place, item) in items.iter().enumerate() {
+        let Some(row) = rows.get(place) else {
+            return Ok(Some(place));
+        };
+        if !is_told(alloc, item, row)? {
+            return Ok(Some(place));
+        }
+    }
+    Ok(if items.len() < rows.len() {
+        Some(items.len())
+    } else {
+        None
+    })
+}
+
+fn is_told(alloc: Global, item: &Item, row: &str) -> Result<bool, NoMemory> {
+    let row = row.as_bytes();
+    match item {
+        Item::Board(_) => Ok(row == b"board".as_slice()),
+        Item::Talk(_) => Ok(row == b"talk".as_slice()),
+        Item::End { .. } => Ok(row == b"end".as_slice()),
+        Item::Hold {
+            game,
+            white,
+            black,
+            came,
+        } => Ok(line_b1(alloc, *game, white, black, *came)?.bytes() == row),
+    }
 }

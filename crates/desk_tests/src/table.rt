@@ -1,9 +1,10 @@
 //! A desk with two players, and steps at it, each with what it has to be given.
-ghost use Rattle.std.specs.Prelude.{IfSome};
+ghost use Rattle.std.specs.Prelude.{◌≡◌, ◌≢◌, IfSome, length};
 ghost use Rattle.clock_ledger.specs.Span.{IsStamp};
 ghost use Rattle.linked_desk.specs.Acts.{FitsDeskAct};
+ghost use Rattle.linked_desk.specs.Boards.{board_numbers};
 
-use chess_model::{MoveWord, Square, Terms, Variant};
+use chess_model::{Kind, MoveWord, Square, Terms, Variant};
 use clock_ledger::STAMP_CYCLE;
 use fics_words::{Fail, Handle, Opponents, Player, Refusal, Seats};
 use linked_desk::{Desk, DeskAct, DeskReply, Ended};
@@ -23,7 +24,7 @@ pub const STRANGER: u32 = 3;
 /// What a session does at the desk.
 #[derive(Clone, Copy)]
 pub enum Does {
-    /// Moves by two squares, as `e2e4`.
+    /// Moves by two squares, as `e2e4`, or drops, as `P@e4`.
     Move(&'static str),
     /// Moves, with the client's stamp.
     Stamped(&'static str, u32),
@@ -60,6 +61,24 @@ fn player(rt: &impl Abort, session: u32, name: &str) -> Player {
 
 /// Desk 1 with a game of chess between Ann and Ben that began at moment 0.
 pub fn desk_with_game(rt: &impl Abort, alloc: Global, minutes: u16, increment: u16) -> Desk {
+    desk_with(rt, alloc, minutes, increment, Variant::Chess)
+}
+
+/// Desk 1 with an untimed game of crazyhouse between Ann and Ben that began at moment 0.
+pub fn desk_with_house(rt: &impl Abort, alloc: Global) -> Desk {
+    desk_with(rt, alloc, 0, 0, Variant::Crazyhouse)
+}
+
+fn desk_with(
+    rt: &impl Abort,
+    alloc: Global,
+    minutes: u16,
+    increment: u16,
+    variant: Variant,
+) -> Desk
+    requires pairs { length (board_numbers variant) ≡ 1 }
+    requires one_board { variant ≢ Variant.Bughouse }
+{
     let mut desk = Desk::vacant(1);
     let white = player(rt, ANN, "Ann");
     let black = player(rt, BEN, "Ben");
@@ -68,7 +87,7 @@ pub fn desk_with_game(rt: &impl Abort, alloc: Global, minutes: u16, increment: u
     let terms = Terms {
         minutes,
         increment,
-        variant: Variant::Chess,
+        variant,
         colour: None,
     };
     let seats = Seats {
@@ -156,15 +175,39 @@ fn move_of(text: &[u8], stamp: Option<u32>) -> Option<DeskAct>
     requires { IfSome stamp IsStamp }
     ensures { IfSome result FitsDeskAct }
 {
-    let [a, b, c, d] = text else {
-        return None;
-    };
-    let word = MoveWord::Coordinate {
-        from: square(*a, *b)?,
-        to: square(*c, *d)?,
-        promo: None,
-    };
+    let word = word_of(text)?;
     Some(DeskAct::Move { word, stamp })
+}
+
+fn word_of(text: &[u8]) -> Option<MoveWord> {
+    match text {
+        [kind, b'@', file, rank] => Some(MoveWord::Drop {
+            kind: kind_of(*kind)?,
+            to: square(*file, *rank)?,
+        }),
+        [a, b, c, d] => Some(MoveWord::Coordinate {
+            from: square(*a, *b)?,
+            to: square(*c, *d)?,
+            promo: None,
+        }),
+        [a, b, c, d, letter] => Some(MoveWord::Coordinate {
+            from: square(*a, *b)?,
+            to: square(*c, *d)?,
+            promo: Some(kind_of(*letter)?),
+        }),
+        _ => None,
+    }
+}
+
+fn kind_of(letter: u8) -> Option<Kind> {
+    match letter {
+        b'P' => Some(Kind::Pawn),
+        b'N' => Some(Kind::Knight),
+        b'B' => Some(Kind::Bishop),
+        b'R' => Some(Kind::Rook),
+        b'Q' => Some(Kind::Queen),
+        _ => None,
+    }
 }
 
 fn square(file: u8, rank: u8) -> Option<Square> {

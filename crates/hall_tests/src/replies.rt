@@ -60,6 +60,20 @@ fn is_same_item(one: &Item, other: &Item) -> bool {
             Item::Board(another) => view == another,
             _ => false,
         },
+        Item::Hold {
+            game,
+            white,
+            black,
+            came,
+        } => match other {
+            Item::Hold {
+                game: number,
+                white: first,
+                black: second,
+                came: comer,
+            } => game == number && white == first && black == second && came == comer,
+            _ => false,
+        },
         Item::Talk(line) => match other {
             Item::Talk(another) => line == another,
             _ => false,

@@ -1,12 +1,13 @@
 -- What an act keeps of the game at a desk, and what is shared by the acts that end it.
 use Rattle.std.proofs.Common.{◌≡◌, ℕ, ◌==◌, Bool, true, false, if◌then◌else◌, List, [], ◌∷◌, Option, Some, None, refl, All, arith}
-use Rattle.std.specs.Prelude.{◌↔◌, IsSome, IsTrue}
+use Rattle.std.specs.Prelude.{◌↔◌, IfSome, IsSome, IsTrue}
 use Rattle.std.specs.Option.{option_map}
 use Rattle.std.proofs.lemmas.List.Elements.{All-nil, All-cons, All-append, All-push}
 use Rattle.chess_model.specs.declared.man.Colour.{Colour}
 use Rattle.chess_model.specs.Placement.{opposite}
 use Rattle.fics_words.specs.declared.seats.Opponents.{Opponents}
 use Rattle.fics_words.specs.Effect.{Effect}
+use Rattle.style12_writer.specs.declared.item.Item.{Item}
 use Rattle.style12_writer.specs.declared.item.Item.TheVariants as item
 use Rattle.style12_writer.specs.declared.view.BoardView.{BoardView}
 use Rattle.style12_writer.specs.EndLine.{is_decisive}
@@ -17,7 +18,7 @@ use Rattle.linked_desk.specs.Desk.{GameState, occupant}
 use Rattle.linked_desk.specs.Ends.{end_item, end_items, ended_by}
 use Rattle.linked_desk.specs.Seats.{pairs_of}
 use Rattle.linked_desk.specs.Sound.{Names, NamesWinner, IsSound, TellsWinners}
-use Rattle.linked_desk.specs.Views.{each_board, with_view}
+use Rattle.linked_desk.specs.Views.{each_board, with_view, with_item}
 
 -- an act keeps who plays, keeps the game sound where the act's numbers fit, and tells ends with their winners; it may
 -- run out of memory only where it says so
@@ -71,6 +72,23 @@ IsSound-with_view g (Some view) s = record {
   winners = All-push NamesWinner g.feed (item.Board view) s.winners tt;
   ended = s.ended;
 }
+
+-- one item more that, if it is an end, names its winner
+pub IsSound-with_item : (g : GameState) (x : Option Item) → IfSome x NamesWinner → IsSound g → IsSound (with_item g x)
+IsSound-with_item g None names s = s
+IsSound-with_item g (Some x) names s = record {
+  numbers = s.numbers;
+  seated = s.seated;
+  terms = s.terms;
+  scores = s.scores;
+  order = s.order;
+  winners = All-push NamesWinner g.feed x s.winners names;
+  ended = s.ended;
+}
+
+pub occupant-with_item : (g : GameState) (x : Option Item) → occupant (with_item g x) ≡ occupant g
+occupant-with_item g None = refl
+occupant-with_item g (Some x) = refl
 
 pub occupant-with_view : (g : GameState) (view : Option BoardView) → occupant (with_view g view) ≡ occupant g
 occupant-with_view g None = refl

@@ -2,6 +2,7 @@
 use Rattle.std.proofs.Common.{◌≡◌, ℕ, ◌*◌, ◌≤◌, true, Option, Some, None, IfSome, Result, Ok, Err, refl, sym, ap, subst, ◌∙◌, arith}
 use Rattle.std.specs.Prelude.{slice_get}
 use Rattle.chess_model.specs.declared.man.Colour.{Colour}
+use Rattle.chess_model.specs.declared.man.Man.{Man}
 use Rattle.chess_model.specs.declared.moves.Move.{Move}
 use Rattle.chess_model.specs.declared.moves.MoveWord.{MoveWord}
 use Rattle.clock_ledger.specs.Span.{IsStamp}
@@ -10,15 +11,17 @@ use Rattle.game_board.specs.Board.{Board}
 use Rattle.game_board.specs.Play.{play_after}
 use Rattle.game_board.specs.Scoresheet.{IsTrueScore}
 use Rattle.game_board.proofs.Scoresheet.{IsTrueScore-play_after}
-use Rattle.linked_desk.specs.Boards.{word_at, latest, boards_after}
+use Rattle.linked_desk.specs.Boards.{word_at, reply_at, latest, boards_after}
 use Rattle.linked_desk.specs.Desk.{GameState, seat_of, moment_at, occupant}
-use Rattle.linked_desk.specs.Playing.{seat_word, moved_by, move_effect}
+use Rattle.linked_desk.specs.Hands.{hands_at}
+use Rattle.linked_desk.specs.Playing.{seat_word, captured_by, with_hands, moved_by, move_effect}
 use Rattle.linked_desk.specs.Seats.{place_of, colour_at}
 use Rattle.linked_desk.specs.Sound.{IsSound}
 use Rattle.linked_desk.specs.Views.{views_of, with_board_item}
 use Rattle.linked_desk.proofs.BoardLists.{begin-latest, latest-changed_at, numbers-changed_at, All-changed_at, length-changed_at}
 use Rattle.linked_desk.proofs.Finishing.{IsSound-finished, occupant-finished}
-use Rattle.linked_desk.proofs.Keeps.{Keeps, IsSound-with_view, occupant-with_view}
+use Rattle.linked_desk.proofs.Holding.{names_hands_at}
+use Rattle.linked_desk.proofs.Keeps.{Keeps, IsSound-with_view, IsSound-with_item, occupant-with_view, occupant-with_item}
 
 -- who is to move thinks from no later moment than that of the act
 begin-played : (b : Board) (moment : ℕ) (stamp : Option ℕ) (answer : Result Move Refusal) → b.begin ≤ moment → (play_after b moment stamp answer).begin ≤ moment
@@ -65,20 +68,33 @@ IsSound-played g moment place colour word stamp stamped s =
       ended = s.ended;
     }
 
+-- the man that a seat's word captures, if it does
+abbrev captured_of : GameState → ℕ → MoveWord → Option Man
+captured_of g seat word = captured_by (reply_at (slice_get g.boards (place_of seat)) (seat_word g seat word))
+
+IsSound-with_hands : (desk place : ℕ) (man : Option Man) (g : GameState) → IsSound g → IsSound (with_hands desk place man g)
+IsSound-with_hands desk place man g s = IsSound-with_item g (hands_at desk g place man) (names_hands_at desk g place man) s
+
 sound_moved_by : (desk : ℕ) (g : GameState) (moment : ℕ) (seat : Option ℕ) (word : MoveWord) (stamp : Option ℕ) → IfSome stamp IsStamp → IsSound g →
     IsSound (moved_by desk g moment seat word stamp)
 sound_moved_by desk g moment None word stamp stamped s = s
 sound_moved_by desk g moment (Some seat) word stamp stamped s =
     let after : GameState = played g moment (place_of seat) stamp (seat_word g seat word) in
-    IsSound-finished desk (with_board_item desk (place_of seat) after) moment (place_of seat)
-    (IsSound-with_view after (slice_get (views_of desk after) (place_of seat)) (IsSound-played g moment (place_of seat) (colour_at seat) word stamp stamped s))
+    let shown : GameState = with_board_item desk (place_of seat) after in
+    let man : Option Man = captured_of g seat word in
+    IsSound-finished desk (with_hands desk (place_of seat) man shown) moment (place_of seat)
+    (IsSound-with_hands desk (place_of seat) man shown
+    (IsSound-with_view after (slice_get (views_of desk after) (place_of seat)) (IsSound-played g moment (place_of seat) (colour_at seat) word stamp stamped s)))
 
 occupant-moved_by : (desk : ℕ) (g : GameState) (moment : ℕ) (seat : Option ℕ) (word : MoveWord) (stamp : Option ℕ) →
     occupant (moved_by desk g moment seat word stamp) ≡ occupant g
 occupant-moved_by desk g moment None word stamp = refl
 occupant-moved_by desk g moment (Some seat) word stamp =
     let after : GameState = played g moment (place_of seat) stamp (seat_word g seat word) in
-    occupant-finished desk (with_board_item desk (place_of seat) after) moment (place_of seat)
+    let shown : GameState = with_board_item desk (place_of seat) after in
+    let man : Option Man = captured_of g seat word in
+    occupant-finished desk (with_hands desk (place_of seat) man shown) moment (place_of seat)
+    ∙ occupant-with_item shown (hands_at desk shown (place_of seat) man)
     ∙ occupant-with_view after (slice_get (views_of desk after) (place_of seat))
 
 pub Keeps-move_effect : (desk : ℕ) (g : GameState) (session moment : ℕ) (word : MoveWord) (stamp : Option ℕ) →

@@ -1,5 +1,6 @@
 pub mod BoardLists
 pub mod Finishing
+pub mod Holding
 pub mod Keeps
 pub mod KeepsActs
 pub mod KeepsAcked
@@ -9,3 +10,4 @@ pub mod KeepsLeave
 pub mod KeepsMove
 pub mod KeepsResign
 pub mod KeepsStart
+pub mod WholeSets

@@ -2,6 +2,7 @@
 use Rattle.std.specs.Prelude.{ℕ, zero, suc, max, List, [], ◌∷◌, map, Option, Some, None, Result, Err, slice_get, slice_set}
 use Rattle.std.specs.Option.{option_map}
 use Rattle.chess_model.specs.declared.man.Colour.{Colour}
+use Rattle.chess_model.specs.declared.man.Man.{Man}
 use Rattle.chess_model.specs.declared.moves.Move.{Move}
 use Rattle.chess_model.specs.declared.moves.MoveWord.{MoveWord}
 use Rattle.chess_model.specs.declared.variant.Terms.{Terms}
@@ -12,7 +13,7 @@ use Rattle.fics_words.specs.declared.refusal.Refusal.TheVariants.{NotPlaying}
 use Rattle.game_board.specs.Acked.{acknowledged}
 use Rattle.game_board.specs.Board.{Board, new_board}
 use Rattle.game_board.specs.Flag.{flag_answer}
-use Rattle.game_board.specs.Play.{move_answer, play_after}
+use Rattle.game_board.specs.Play.{move_answer, play_after, play_reply}
 
 -- the numbers of the boards on which a variant is played
 abbrev pub board_numbers : Variant → List ℕ
@@ -38,6 +39,11 @@ latest (b ∷ boards) = max b.begin (latest boards)
 abbrev pub word_at : Option Board → Colour → MoveWord → Result Move Refusal
 word_at None colour word = Err NotPlaying
 word_at (Some b) colour word = move_answer b colour word
+
+-- the reply to a word at a board: the captured man, or the refusal
+abbrev pub reply_at : Option Board → Result Move Refusal → Result (Option Man) Refusal
+reply_at None answer = Err NotPlaying
+reply_at (Some b) answer = play_reply b answer
 
 -- what the call of a flag brings at a board: the winner, None for a draw, or the refusal
 abbrev pub flag_at : Option Board → Colour → ℕ → Result (Option Colour) Refusal

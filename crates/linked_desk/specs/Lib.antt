@@ -7,6 +7,7 @@ pub mod Ends
 pub mod Fetch
 pub mod Finish
 pub mod Flag
+pub mod Hands
 pub mod Holds
 pub mod Leave
 pub mod Playing
@@ -16,3 +17,4 @@ pub mod Seats
 pub mod Sight
 pub mod Sound
 pub mod Views
+pub mod WholeSets

@@ -1,5 +1,7 @@
--- A move at a desk: the half-move is played, the board is told, and then the end if the half-move brings it.
-use Rattle.std.specs.Prelude.{ℕ, true, ◌∷◌, Option, Some, None, Result, Err, slice_get}
+-- A move at a desk: the half-move is played, the board is told, then its hands where they have changed, and then the
+-- end if the half-move brings it.
+use Rattle.std.specs.Prelude.{ℕ, true, ◌∷◌, Option, Some, None, Result, Ok, Err, slice_get}
+use Rattle.chess_model.specs.declared.man.Man.{Man}
 use Rattle.chess_model.specs.declared.moves.Move.{Move}
 use Rattle.chess_model.specs.declared.moves.MoveWord.{MoveWord}
 use Rattle.fics_words.specs.Effect.{Effect, refused_by}
@@ -7,12 +9,13 @@ use Rattle.fics_words.specs.declared.refusal.Refusal.{Refusal}
 use Rattle.fics_words.specs.declared.refusal.Refusal.TheVariants.{NotPlaying}
 use Rattle.linked_desk.specs.declared.acts.DeskReply.{DeskReply}
 use Rattle.linked_desk.specs.declared.acts.DeskReply.TheVariants.{Done}
-use Rattle.linked_desk.specs.Boards.{word_at, boards_after}
+use Rattle.linked_desk.specs.Boards.{word_at, reply_at, boards_after}
 use Rattle.linked_desk.specs.Desk.{GameState, moment_at, seat_of}
 use Rattle.linked_desk.specs.Ends.{no_seat_cause, over_cause}
 use Rattle.linked_desk.specs.Finish.{finished}
+use Rattle.linked_desk.specs.Hands.{hands_at}
 use Rattle.linked_desk.specs.Seats.{place_of, colour_at}
-use Rattle.linked_desk.specs.Views.{with_board_item}
+use Rattle.linked_desk.specs.Views.{with_board_item, with_item}
 
 -- the half-move that a word of a seat stands for, or the refusal
 abbrev pub seat_word : GameState → ℕ → MoveWord → Result Move Refusal
@@ -32,9 +35,24 @@ shown_moved desk g moment place stamp answer =
       last = moment_at g moment;
     })
 
+-- the man that a reply gives, if it does
+abbrev pub captured_by : Result (Option Man) Refusal → Option Man
+captured_by (Ok man) = man
+captured_by (Err cause) = None
+
+-- the game with what is told of the hands at the board in that place, where a half-move there captured this man
+abbrev pub with_hands : ℕ → ℕ → Option Man → GameState → GameState
+with_hands desk place man g = with_item g (hands_at desk g place man)
+
+-- and the board's hands told, where the half-move has changed them
+abbrev pub held_moved : ℕ → GameState → ℕ → ℕ → Option ℕ → Result Move Refusal → GameState
+held_moved desk g moment place stamp answer =
+    with_hands desk place (captured_by (reply_at (slice_get g.boards place) answer))
+    (shown_moved desk g moment place stamp answer)
+
 -- and ended, where the half-move mates or leaves the other player no move
 abbrev pub moved : ℕ → GameState → ℕ → ℕ → Option ℕ → Result Move Refusal → GameState
-moved desk g moment place stamp answer = finished desk (shown_moved desk g moment place stamp answer) moment place
+moved desk g moment place stamp answer = finished desk (held_moved desk g moment place stamp answer) moment place
 
 -- the game once who has that seat, or none, has played a word, with the client's stamp if there is one
 abbrev pub moved_by : ℕ → GameState → ℕ → Option ℕ → MoveWord → Option ℕ → GameState

@@ -1,5 +1,5 @@
 -- How a game begins at a desk.
-use Rattle.std.specs.Prelude.{◌≡◌, ◌≢◌, ◌*◌, ℕ, [], ◌∷◌, ◌++◌, length, map, List, Some, None}
+use Rattle.std.specs.Prelude.{◌≡◌, ◌≢◌, ◌*◌, ℕ, [], ◌∷◌, ◌++◌, flat_map, length, map, List, Some, None, option_to_list}
 use Rattle.fics_words.specs.Handle.{key_of}
 use Rattle.chess_model.specs.declared.variant.Terms.{Terms}
 use Rattle.fics_words.specs.declared.player.Player.{Player}
@@ -13,6 +13,7 @@ use Rattle.game_board.specs.Board.{Board}
 use Rattle.linked_desk.specs.declared.cursor.Cursor.{Cursor}
 use Rattle.linked_desk.specs.Boards.{board_numbers, new_boards}
 use Rattle.linked_desk.specs.Desk.{GameState, DeskState, game_number}
+use Rattle.linked_desk.specs.Hands.{first_hands}
 use Rattle.linked_desk.specs.Seats.{pairs_of}
 use Rattle.linked_desk.specs.Views.{view_of, each_board}
 
@@ -50,10 +51,15 @@ created_item desk terms players board =
 abbrev pub board_item : ℕ → Opponents → Board → Item
 board_item desk players board = item.Board (view_of desk players board)
 
--- what is told of the beginning: a line for each board, and then each board
+-- what is shown of a board at the beginning: the board, and its hands where the variant has them
+abbrev pub first_items : ℕ → Opponents → Board → List Item
+first_items desk players board = board_item desk players board ∷ option_to_list (first_hands desk board)
+
+-- what is told of the beginning: a line for each board, and then each board with its hands
 abbrev pub opening_items : ℕ → Terms → List Opponents → List Board → List Item
 opening_items desk terms pairs boards =
-    each_board (created_item desk terms) pairs boards ++ each_board (board_item desk) pairs boards
+    each_board (created_item desk terms) pairs boards
+    ++ flat_map (λ items. items) (each_board (first_items desk) pairs boards)
 
 -- a game that begins at this moment: the players are its viewers from the start
 abbrev pub opened : ℕ → ℕ → Terms → Seats → ℕ → GameState

@@ -5,7 +5,7 @@ use Rattle.chess_model.specs.declared.why.Why.{Why}
 use Rattle.fics_words.specs.Seats.{seat_list}
 use Rattle.fics_words.specs.declared.refusal.Refusal.{Refusal}
 use Rattle.style12_writer.specs.declared.item.Item.{Item}
-use Rattle.style12_writer.specs.declared.item.Item.TheVariants.{Board as BoardItem, Talk, End}
+use Rattle.style12_writer.specs.declared.item.Item.TheVariants.{End}
 use Rattle.style12_writer.specs.EndLine.{is_decisive}
 use Rattle.game_board.specs.Board.{Board}
 use Rattle.game_board.specs.Scoresheet.{IsTrueScore}
@@ -20,9 +20,8 @@ Names why winner = IsSome winner ↔ IsTrue (is_decisive why)
 
 -- an end that is told names its winner
 abbrev pub NamesWinner : Item → Type 0
-NamesWinner (BoardItem view) = Unit {0}
-NamesWinner (Talk line) = Unit {0}
 NamesWinner (End view why winner own) = Names why winner
+NamesWinner _ = Unit {0}
 
 pub record IsSound (g : GameState) : Type 0 where
   -- there are as many boards as the variant wants, with their numbers, and two players sit at each

@@ -38,6 +38,11 @@ views_of desk g = each_board (view_of desk) (pairs_of g.seats) g.boards
 abbrev pub with_items : GameState → List Item → GameState
 with_items g items = record g { feed = g.feed ++ items }
 
+-- the game with one item more, if there is one
+abbrev pub with_item : GameState → Option Item → GameState
+with_item g None = g
+with_item g (Some x) = with_items g (x ∷ [])
+
 -- the game with a board as the last item
 abbrev pub with_view : GameState → Option BoardView → GameState
 with_view g None = g

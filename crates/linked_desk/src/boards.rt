@@ -3,9 +3,9 @@ ghost use Rattle.std.specs.Prelude.{◌≡◌, ◌≤◌, ◌^◌, ◌∷◌, If
 ghost use Rattle.std.specs.Option.{option_copied, option_to_list};
 ghost use Rattle.clock_ledger.specs.Span.{IsStamp};
 ghost use Rattle.fics_words.specs.Effect.{first_cause, refusal_of, refused_by};
-ghost use Rattle.linked_desk.specs.Boards.{boards_acked, boards_after, flag_at, latest, new_boards, numbered, word_at};
+ghost use Rattle.linked_desk.specs.Boards.{boards_acked, boards_after, flag_at, latest, new_boards, numbered, reply_at, word_at};
 
-use chess_model::{Colour, MoveWord, Terms, Variant};
+use chess_model::{Colour, Man, MoveWord, Terms, Variant};
 use fics_words::{NoMemory, Refusal};
 use game_board::GameBoard;
 use std::alloc::Global;
@@ -73,7 +73,8 @@ impl Boards {
         }
     }
 
-    /// Plays a word of a colour at the board in that place, with the stamp of its client if it has one.
+    /// Plays a word of a colour at the board in that place, with the stamp of its client if it has one, and gives the
+    /// man that the half-move captures.
     pub(crate) fn play(
         &mut self,
         place: u8,
@@ -81,12 +82,14 @@ impl Boards {
         word: &MoveWord,
         moment: u64,
         stamp: Option<u32>,
-    ) -> Result<(), Refusal>
+    ) -> Result<Option<Man>, Refusal>
         requires order { latest self.old ≤ moment }
         requires moment { moment ≤ 2 ^ 48 }
         requires stamp { IfSome stamp IsStamp }
         ensures refused { first_cause (refused_by (word_at (slice_get self.old place) colour word.now))
             ≡ refusal_of result }
+        ensures reply { result ≡ reply_at (slice_get self.old place)
+            (word_at (slice_get self.old place) colour word.now) }
         ensures after { self.new ≡ boards_after self.old place moment stamp
             (word_at (slice_get self.old place) colour word.now) }
         ensures unchanged { OnErr result (self.new ≡ self.old) }
@@ -94,15 +97,15 @@ impl Boards {
     {
         match place {
             0 => {
-                self.first.play(colour, word, moment, stamp)?;
-                Ok(())
+                let captured = self.first.play(colour, word, moment, stamp)?;
+                Ok(captured)
             }
             1 => {
                 let Some(board) = &mut self.second else {
                     return Err(Refusal::NotPlaying);
                 };
-                board.play(colour, word, moment, stamp)?;
-                Ok(())
+                let captured = board.play(colour, word, moment, stamp)?;
+                Ok(captured)
             }
             _ => Err(Refusal::NotPlaying),
         }

@@ -8,6 +8,7 @@ ghost use Rattle.linked_desk.specs.Seating.{HasPairsFor, started};
 ghost use Rattle.linked_desk.specs.Sight.{board_in};
 ghost use Rattle.linked_desk.specs.Sound.{AnswersSoundly, HasSoundGame};
 ghost use Rattle.linked_desk.specs.Acts.{FitsDeskAct, desk_answer, desk_after};
+ghost use Rattle.linked_desk.specs.WholeSets.{AllAt, HasPrintedHands, HasWholeSets};
 
 /// Who plays at a desk is settled when the game starts: no act changes the desk's number, nor the serial, the terms
 /// and the players of its game, and none makes it vacant or puts a game there.
@@ -37,4 +38,12 @@ pub fn acts_keep_the_game()
 /// Each board of a desk is shown under a number of its own, by which viewers know which board it is.
 pub fn boards_are_known_by_their_games()
     ensures { (desk board : ℕ) → 1 ≤ board → board ≤ 2 → board_in (game_number desk board) ≡ board }
+{}
+
+/// No man of a game at a desk is made or lost: in chess the men of a colour and kind on the board, and those captured,
+/// are those of one set, and in crazyhouse the men of a kind on the board and in both hands are those of two. So no
+/// hand has more men of a kind than a holdings line has letters for.
+pub fn men_stay_whole()
+    ensures sets { (d : DeskState) → HasSoundGame d → AllAt HasWholeSets d }
+    ensures hands { (d : DeskState) → HasSoundGame d → AllAt HasPrintedHands d }
 {}

@@ -18,6 +18,7 @@ mod fetch;
 mod finish;
 mod flag;
 mod game;
+mod hands;
 mod laws;
 mod leave;
 mod playing;
@@ -32,7 +33,9 @@ pub use chess_model::Why;
 pub use cursor::Cursor;
 pub use desk::Desk;
 pub use ended::Ended;
-pub use laws::{acts_keep_the_game, acts_keep_the_players, boards_are_known_by_their_games};
+pub use laws::{
+    acts_keep_the_game, acts_keep_the_players, boards_are_known_by_their_games, men_stay_whole,
+};
 pub use seats::colour_at;
 pub use sight::viewer_of;
 pub use style12_writer::{BoardView, Item, ItemList};

@@ -12,8 +12,8 @@ use fics_words::{Fail, Refusal};
 use style12_writer::Item;
 
 impl Game {
-    /// Plays a word of a session at its board, with its client's stamp if it has one, and tells the board; mate and
-    /// stalemate end the game.
+    /// Plays a word of a session at its board, with its client's stamp if it has one, and tells the board and its hands
+    /// where they have changed; mate and stalemate end the game.
     pub(crate) fn play(
         &mut self,
         desk: u8,
@@ -34,13 +34,16 @@ impl Game {
         if self.ended.is_some() {
             return Err(Fail::Refused(Refusal::GameOver));
         }
-        self.feed.reserve(1 + ROOM_TO_END)?;
+        self.feed.reserve(2 + ROOM_TO_END)?;
         let now = self.last.max(moment);
         let place = place_of(seat);
-        self.boards.play(place, colour_at(seat), word, now, stamp)?;
+        let captured = self.boards.play(place, colour_at(seat), word, now, stamp)?;
         self.last = now;
         if let Some(view) = self.view(desk, place) {
             self.feed.push(Item::Board(view));
+        }
+        if let Some(hold) = self.hands_at(desk, place, captured) {
+            self.feed.push(hold);
         }
         self.finish(desk, moment, place);
         Ok(DeskReply::Done)

@@ -1,12 +1,13 @@
 //! How a game begins.
-ghost use Rattle.std.specs.Prelude.{◌≡◌, ◌≤◌, ◌^◌, map, IfOk};
+ghost use Rattle.std.specs.Prelude.{◌≡◌, ◌+◌, ◌≤◌, ◌^◌, ◌++◌, map, IfOk};
 ghost use Rattle.fics_words.specs.Seats.{seat_list};
-ghost use Rattle.linked_desk.specs.Seating.{created_item, from_start, opened, opening_items};
+ghost use Rattle.linked_desk.specs.Seating.{created_item, first_items, from_start, opened, opening_items};
 ghost use Rattle.linked_desk.specs.Seats.{pairs_of};
 
 use crate::boards::Boards;
 use crate::cursor::Cursor;
 use crate::game::{Game, ROOM_TO_END};
+use crate::hands::first_hands;
 use crate::views::{game_number, view_of};
 use chess_model::Terms;
 use collections::{Listed, Reserved};
@@ -15,8 +16,8 @@ use game_board::GameBoard;
 use std::alloc::Global;
 use style12_writer::{Item, created_line};
 
-/// A game that begins at a desk: each board is announced by a line and then shown, and the players are viewers from the
-/// start.
+/// A game that begins at a desk: each board is announced by a line and then shown, with its hands where the variant has
+/// them, and the players are viewers from the start.
 pub(crate) fn opened(
     alloc: Global,
     desk: u8,
@@ -46,7 +47,7 @@ pub(crate) fn opened(
     })
 }
 
-/// What is told of the beginning: a line for each board, and then each board. There is room for the end.
+/// What is told of the beginning: a line for each board, and then each board with its hands. There is room for the end.
 fn opening_feed(
     alloc: Global,
     desk: u8,
@@ -61,18 +62,32 @@ fn opening_feed(
 {
     let (first, second) = boards.both();
     let mut feed = Reserved::new(alloc);
-    feed.reserve(4 + ROOM_TO_END)?;
+    feed.reserve(6 + ROOM_TO_END)?;
     feed.push(created_item(alloc, desk, terms, &seats.first, first)?);
     if let Some(players) = &seats.second {
         if let Some(board) = second {
             feed.push(created_item(alloc, desk, terms, players, board)?);
-            feed.push(Item::Board(view_of(desk, &seats.first, first)));
-            feed.push(Item::Board(view_of(desk, players, board)));
+            show(&mut feed, desk, &seats.first, first);
+            show(&mut feed, desk, players, board);
             return Ok(feed);
         }
     }
-    feed.push(Item::Board(view_of(desk, &seats.first, first)));
+    show(&mut feed, desk, &seats.first, first);
     Ok(feed)
+}
+
+/// Shows a board at the beginning, with its hands where the variant has them.
+fn show(feed: &mut Reserved<Item>, desk: u8, players: &Opponents, board: &GameBoard)
+    requires low { 1 ≤ desk }
+    requires high { desk ≤ 128 }
+    requires room { 2 ≤ feed.old.room }
+    ensures items { feed.new.items ≡ feed.old.items ++ first_items desk players.now board.now }
+    ensures room { feed.old.room ≤ feed.new.room + 2 }
+{
+    feed.push(Item::Board(view_of(desk, players, board)));
+    if let Some(hold) = first_hands(desk, board) {
+        feed.push(hold);
+    }
 }
 
 /// The line that tells that a game begins at a board.

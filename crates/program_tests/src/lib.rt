@@ -12,6 +12,8 @@ mod replay_clocks;
 #[cfg(test)]
 mod replay_ends;
 #[cfg(test)]
+mod replay_houses;
+#[cfg(test)]
 mod replay_logins;
 #[cfg(test)]
 mod replay_stamps;

@@ -98,7 +98,7 @@ const BAD_FIRST: &str = "\
 [seat Ann 2 12 chess]
 [seat Ann Ben Cat 2 12 chess]
 [seat Ann Ben Cat Dan 2 12 chess]
-[seat Ann Ben 2 12 crazyhouse]
+[seat Ann Ben Cat Dan 2 12 crazyhouse]
 [seat Ann Ben Cat Dan 2 12 bughouse]
 [seat Ann Ben 2 12 bughouse]
 [seat Ann Ben 2 12 Chess]

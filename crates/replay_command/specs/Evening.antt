@@ -4,7 +4,6 @@ use Rattle.std.specs.Prelude.{List, [], ◌∷◌, ◌++◌, map, filter, fold, 
 use Rattle.std.specs.List.{range_with_len}
 use Rattle.std.specs.Option.{option_map_or}
 use Rattle.chess_model.specs.declared.variant.Terms.{Terms}
-use Rattle.chess_model.specs.declared.variant.Variant.TheVariants.{Chess}
 use Rattle.fics_words.specs.Handle.{key_of}
 use Rattle.fics_words.specs.Line.{IsLine}
 use Rattle.histories.specs.declared.entry.Entry.{Entry}
@@ -29,7 +28,7 @@ use Rattle.replay_core.specs.declared.seat_line.SeatLine.{SeatLine}
 use Rattle.replay_core.specs.Order.{Arrival, MayCome, is_here, left_of}
 use Rattle.replay_core.specs.Attendance.{IsAfter}
 use Rattle.replay_core.specs.Script.{IsScriptLine, script_text}
-use Rattle.replay_core.specs.SeatLine.{IsSeatLine, seat_text}
+use Rattle.replay_core.specs.SeatLine.{IsSeatLine, players_of, seat_text}
 use Rattle.session_core.specs.declared.input.Input.{Input}
 use Rattle.session_core.specs.declared.input.Input.TheVariants as input
 use Rattle.session_core.specs.Course.{Course, Done, Follows, timed}
@@ -171,12 +170,12 @@ pub record HasMade (acts : List (ℕ × Timed)) (before after : Log) : Type 0 wh
   pub more : after ≡ before ++ entries
   pub acts_are : map asked_of entries ≡ acts
 
--- the seat line comes first, is for two players of chess, and makes the acts that seat them
+-- the seat line comes first, is for two players, and makes the acts that seat them
 pub record IsSeating (before : List Row) (seat : SeatLine) (made : Log) : Type 0 where
   pub first : before ≡ []
   pub spelled : IsSeatLine seat
   pub short : IsLine (seat_text seat)
-  pub chess : seat.terms.variant ≡ Chess
+  pub two : players_of seat.terms.variant ≡ 2
   pub acts : map asked_of made ≡ seating_acts seat.names seat.terms
   pub legal : Legal house opening_parts made
 

@@ -1,8 +1,7 @@
 //! An evening: what the lines of a script make of one server.
 
 ghost use Rattle.std.specs.Prelude.{◌≡◌, ◌≢◌, ◌≤◌, ◌<◌, ◌^◌, [], IfOk, IfNone, IfSome, OnOk, length, replicate};
-ghost use Rattle.chess_model.specs.declared.variant.Variant.TheVariants.{Chess};
-ghost use Rattle.replay_core.specs.SeatLine.{IsSeatLine, seat_text};
+ghost use Rattle.replay_core.specs.SeatLine.{IsSeatLine, players_of, seat_text};
 ghost use Rattle.replay_core.specs.declared.seat_line.SeatLine.{SeatLine};
 ghost use Rattle.session_core.specs.Memory.{newcomer};
 ghost use Rattle.replay_command.specs.Evening.{AfterLeaving, IsNext, IsNoNext};
@@ -59,10 +58,9 @@ impl Model for Evening {
 
 impl Evening {
     ghost use Rattle.std.specs.Prelude.{◌≡◌, ◌≢◌, ◌<◌, [], None, Some, IfOk, OnOk, length};
-    ghost use Rattle.chess_model.specs.declared.variant.Variant.TheVariants.{Chess};
     ghost use Rattle.fics_words.specs.Line.{IsLine};
     ghost use Rattle.line_answers.specs.Handling.{AfterAnswering, Takes};
-    ghost use Rattle.replay_core.specs.SeatLine.{IsSeatLine, seat_text};
+    ghost use Rattle.replay_core.specs.SeatLine.{IsSeatLine, players_of, seat_text};
     ghost use Rattle.replay_core.specs.declared.seat_line.SeatLine.{SeatLine};
     ghost use Rattle.replay_command.specs.Evening.{KeepsOrder, Reached};
 
@@ -80,8 +78,8 @@ impl Evening {
         })
     }
 
-    /// Takes the first line: the seat line of two players of chess, whom it seats, or a session's line; false where it
-    /// is neither.
+    /// Takes the first line: the seat line of two players, whom it seats, or a session's line; false where it is
+    /// neither.
     fn take_first(&mut self, line: &Line, out: &mut Vec<u8>) -> Result<bool, NoMemory>
         requires first { self.old.order ≡ None }
         requires some { 0 < length line.now }
@@ -89,7 +87,7 @@ impl Evening {
         ensures { IfOk result
             (λ good. AfterAnswering Reached self.old line.now out.old.items self.new out.new.items good) }
     {
-        let Some(seats) = read_chess_seat(self.alloc, line)? else {
+        let Some(seats) = read_two_seats(self.alloc, line)? else {
             return self.take_event(Attendance::new(0), line, out);
         };
         self.take_seats(&seats)?;
@@ -100,7 +98,7 @@ impl Evening {
     fn take_seats(&mut self, seats: &SeatLine) -> Result<(), NoMemory>
         requires first { self.old.order ≡ None }
         requires spelled { IsSeatLine seats.now }
-        requires chess { seats.now.terms.variant ≡ Chess }
+        requires two { players_of seats.now.terms.variant ≡ 2 }
         requires some { 0 < length (seat_text seats.now) }
         requires short { IsLine (seat_text seats.now) }
         ensures { OnOk result (Takes Reached self.old (seat_text seats.now) self.new []) }
@@ -124,8 +122,8 @@ impl Evening {
         requires order { KeepsOrder order self.old.order }
         requires some { 0 < length line.now }
         requires line { IsLine line.now }
-        requires no_seat { self.old.order ≡ None → (seat : SeatLine) → IsSeatLine seat → seat.terms.variant ≡ Chess
-            → line.now ≢ seat_text seat }
+        requires no_seat { self.old.order ≡ None → (seat : SeatLine) → IsSeatLine seat
+            → players_of seat.terms.variant ≡ 2 → line.now ≢ seat_text seat }
         ensures { IfOk result
             (λ good. AfterAnswering Reached self.old line.now out.old.items self.new out.new.items good) }
     {
@@ -226,19 +224,20 @@ fn close_sessions(
     Ok(())
 }
 
-/// Reads the seat line of two players of chess.
-fn read_chess_seat(alloc: Global, line: &Line) -> Result<Option<SeatLine>, NoMemory>
+/// Reads the seat line of two players: a game of chess or crazyhouse.
+fn read_two_seats(alloc: Global, line: &Line) -> Result<Option<SeatLine>, NoMemory>
     ensures spelled { IfOk result (λ read. IfSome read (λ seat. line.now ≡ seat_text seat)) }
     ensures in_range { IfOk result (λ read. IfSome read IsSeatLine) }
-    ensures chess { IfOk result (λ read. IfSome read (λ seat. seat.terms.variant ≡ Chess)) }
+    ensures two { IfOk result (λ read. IfSome read (λ seat. players_of seat.terms.variant ≡ 2)) }
     ensures none { IfOk result (λ read. IfNone read
-        ((seat : SeatLine) → IsSeatLine seat → seat.terms.variant ≡ Chess → line.now ≢ seat_text seat)) }
+        ((seat : SeatLine) → IsSeatLine seat → players_of seat.terms.variant ≡ 2 → line.now ≢ seat_text seat)) }
 {
     let Some(seat) = read_seat(alloc, line)? else {
         return Ok(None);
     };
     match seat.terms.variant {
         Variant::Chess => Ok(Some(seat)),
-        _ => Ok(None),
+        Variant::Crazyhouse => Ok(Some(seat)),
+        Variant::Bughouse => Ok(None),
     }
 }

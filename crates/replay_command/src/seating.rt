@@ -3,9 +3,8 @@
 ghost use Rattle.std.specs.Prelude.{◌≡◌, ◌∷◌, [], None, OnOk, Some};
 ghost use Rattle.lobby_state.specs.declared.acts.LobbyAct.TheVariants as lobby_act;
 ghost use Rattle.one_server.specs.declared.act.Act.TheVariants.{Lobby};
-ghost use Rattle.chess_model.specs.declared.variant.Variant.TheVariants.{Chess};
 ghost use Rattle.one_server.specs.Acts.{FitsAct};
-ghost use Rattle.replay_core.specs.SeatLine.{IsSeatLine};
+ghost use Rattle.replay_core.specs.SeatLine.{IsSeatLine, players_of};
 ghost use Rattle.session_core.specs.Course.{timed};
 ghost use Rattle.replay_command.specs.Evening.{HasMade, seating_acts};
 
@@ -14,11 +13,11 @@ use lobby_state::{LobbyAct, PairAct};
 use one_server::{Act, OneServer};
 use replay_core::SeatLine;
 
-/// Seats the two players of a seat line of chess, as the sessions 1 and 2, all at moment 0: both enter, the first
-/// challenges the second, who accepts, and both take what waits for them.
+/// Seats the two players of a seat line of chess or crazyhouse, as the sessions 1 and 2, all at moment 0: both enter,
+/// the first challenges the second, who accepts, and both take what waits for them.
 pub fn seat(server: &mut OneServer, line: &SeatLine) -> Result<(), NoMemory>
     requires spelled { IsSeatLine line.now }
-    requires chess { line.now.terms.variant ≡ Chess }
+    requires two { players_of line.now.terms.variant ≡ 2 }
     ensures opening { server.new.opening ≡ server.old.opening }
     ensures made { OnOk result (HasMade (seating_acts line.now.names line.now.terms) server.old.log server.new.log) }
 {

@@ -14,8 +14,9 @@ use Rattle.session_core.specs.declared.standing.LinkMark.TheVariants.{Stamped}
 use Rattle.session_core.specs.declared.standing.Standing.{Standing}
 use Rattle.session_core.specs.declared.standing.Standing.TheVariants.{Login, Password, In, Gone}
 use Rattle.style12_writer.specs.declared.item.Item.{Item}
-use Rattle.style12_writer.specs.declared.item.Item.TheVariants.{Board, Talk, End}
+use Rattle.style12_writer.specs.declared.item.Item.TheVariants.{Board, Hold, Talk, End}
 use Rattle.style12_writer.specs.EndLine.{end_text}
+use Rattle.style12_writer.specs.HoldingsLine.{holdings_text}
 use Rattle.style12_writer.specs.Line12.{line12_text}
 
 -- the end of a line
@@ -61,6 +62,7 @@ lines_text (line ∷ lines) = line ++ line_end ++ lines_text lines
 -- the line of an item, for the player of a seat: a board is seen as the desk shows it to that player
 abbrev pub item_text : ℕ → Item → List ℕ
 item_text seat (Board view) = line12_text view (sight (Some seat) (board_in view.game) view.face.to_move)
+item_text seat (Hold game white black came) = holdings_text game white black came
 item_text seat (Talk line) = line
 item_text seat (End view why winner on_own) = end_text view why winner on_own
 

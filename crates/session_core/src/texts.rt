@@ -11,7 +11,7 @@ use fics_words::{Handle, Line, NoMemory, Refusal, write_number};
 use linked_desk::{DeskReply, viewer_of};
 use lobby_state::{LobbyReply, Place};
 use one_server::Reply;
-use style12_writer::{Item, end_line, line12};
+use style12_writer::{Item, end_line, line_b1, line12};
 
 /// The end of a line.
 pub(crate) const LINE_END: &[u8] = b"\n\r";
@@ -133,6 +133,15 @@ fn put_item(seat: u8, item: &Item, out: &mut Vec<u8>) -> Result<(), NoMemory>
     match item {
         Item::Board(view) => {
             let line = line12(alloc, view, viewer_of(Some(seat), view))?;
+            put_line(&line, out)
+        }
+        Item::Hold {
+            game,
+            white,
+            black,
+            came,
+        } => {
+            let line = line_b1(alloc, *game, white, black, *came)?;
             put_line(&line, out)
         }
         Item::Talk(line) => put_line(line, out),

@@ -1,8 +1,9 @@
 //! What waits for the viewers of a game.
 use crate::view::BoardView;
-use chess_model::{Colour, Why};
+use chess_model::{Colour, Kind, Why};
 use collections::Listed;
 use fics_words::{Duplicate, Line, NoMemory};
+use holdings_drops::Holdings;
 
 /// Lines, seen as their list.
 pub type LineList = Listed<Line>;
@@ -15,6 +16,13 @@ pub type ItemList = Listed<Item>;
 pub enum Item {
     /// A board line.
     Board(BoardView),
+    /// The men in hand at a board, by what `line_b1` takes.
+    Hold {
+        game: u16,
+        white: Holdings,
+        black: Holdings,
+        came: Option<Kind>,
+    },
     /// A line of text.
     Talk(Line),
     /// The line of a game's end, by what `end_line` takes.
@@ -30,6 +38,17 @@ impl Duplicate for Item {
     fn duplicate(&self) -> Result<Item, NoMemory> {
         Ok(match self {
             Item::Board(view) => Item::Board(*view),
+            Item::Hold {
+                game,
+                white,
+                black,
+                came,
+            } => Item::Hold {
+                game: *game,
+                white: *white,
+                black: *black,
+                came: *came,
+            },
             Item::Talk(line) => Item::Talk(line.duplicate()?),
             Item::End {
                 view,

@@ -1,7 +1,9 @@
-//! The lines that show a game to a player's client: the board line of FICS style 12 and the line of a game's end.
+//! The lines that show a game to a player's client: the board line of FICS style 12, the holdings line and the line of
+//! a game's end.
 //!
-//! The contract: `line12` writes exactly the 31 fields that `specs/Line12.antt` names, between single blanks, and
-//! `end_line` the text of `specs/EndLine.antt`, for every view. Both answer `NoMemory` only when out of memory.
+//! The contract: `line12` writes exactly the 31 fields that `specs/Line12.antt` names, between single blanks, `line_b1`
+//! the text of `specs/HoldingsLine.antt` and `end_line` that of `specs/EndLine.antt`. They answer `NoMemory` only when
+//! out of memory.
 #![tactic(auto)]
 
 mod board;
@@ -9,12 +11,14 @@ mod created;
 mod draft;
 mod end;
 mod game_line;
+mod holdings;
 mod item;
 mod line;
 mod view;
 
 pub use created::created_line;
 pub use end::{end_line, is_decisive};
+pub use holdings::line_b1;
 pub use item::{Item, ItemList, LineList};
 pub use line::{line12, line12_fields};
 pub use view::{BoardView, Viewer};

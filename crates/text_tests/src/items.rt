@@ -1,8 +1,9 @@
 //! Copies of items.
 
 use crate::games::{played, untimed};
-use chess_model::{Variant, Why};
+use chess_model::{Kind, Variant, Why};
 use fics_words::{Duplicate, Line};
+use holdings_drops::Holdings;
 use std::test::Fail;
 use style12_writer::{Item, ItemList, LineList};
 
@@ -11,8 +12,15 @@ fn copies_items(rt: HostRuntime) -> Result<(), Fail> {
     let game = played(Variant::Chess, "e2e4").ok_or("a game")?;
     let view = untimed(game.face(), "Ann", "Ben").ok_or("names")?;
     let talk = Line::read(rt.alloc(), b"Ann kibitzes: hello")?.ok_or("a line")?;
+    let white = Holdings::empty().with_one_more(Kind::Rook);
     let mut items = ItemList::new(rt.alloc());
     items.push(Item::Board(view))?;
+    items.push(Item::Hold {
+        game: 7,
+        white,
+        black: Holdings::empty(),
+        came: Some(Kind::Rook),
+    })?;
     items.push(Item::Talk(talk))?;
     items.push(Item::End {
         view,
@@ -21,10 +29,16 @@ fn copies_items(rt: HostRuntime) -> Result<(), Fail> {
         own: true,
     })?;
     let copies = items.duplicate()?;
-    assert_eq!(rt; copies.len(), 3);
+    assert_eq!(rt; copies.len(), 4);
     match copies.as_slice() {
         [
             Item::Board(board),
+            Item::Hold {
+                game,
+                white: held,
+                black,
+                came,
+            },
             Item::Talk(line),
             Item::End {
                 view: end,
@@ -34,6 +48,10 @@ fn copies_items(rt: HostRuntime) -> Result<(), Fail> {
             },
         ] => {
             assert_eq!(rt; *board, view);
+            assert_eq!(rt; *game, 7);
+            assert_eq!(rt; *held, white);
+            assert_eq!(rt; *black, Holdings::empty());
+            assert_eq!(rt; *came, Some(Kind::Rook));
             assert_eq!(rt; line.bytes(), b"Ann kibitzes: hello".as_slice());
             assert_eq!(rt; *end, view);
             assert_eq!(rt; *why, Why::Agreed);

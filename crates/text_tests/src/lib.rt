@@ -1,5 +1,5 @@
-//! Tests of the texts that players see, one file a subject: the texts of moves, board lines, the lines of a game's end,
-//! and copies of items. There is nothing else here.
+//! Tests of the texts that players see, one file a subject: the texts of moves, board lines, holdings lines, the lines
+//! of a game's end, and copies of items. There is nothing else here.
 #![tactic(auto)]
 
 #[cfg(test)]
@@ -8,6 +8,8 @@ mod board_lines;
 mod end_lines;
 #[cfg(test)]
 mod games;
+#[cfg(test)]
+mod holdings;
 #[cfg(test)]
 mod items;
 #[cfg(test)]

@@ -2,7 +2,6 @@ use Rattle.std.proofs.Common.{◌≡◌, ◌∷◌, [], List, ℕ, OnOk, length,
 use Rattle.lobby_state.specs.declared.acts.LobbyAct.TheVariants as lobby_act
 use Rattle.one_server.specs.declared.act.Act.{Act}
 use Rattle.one_server.specs.declared.act.Act.TheVariants.{Lobby}
-use Rattle.replay_core.specs.SeatLine.{players_of}
 use Rattle.session_core.specs.Course.{timed}
 use Rattle.replay_command.specs.Evening.{HasMade, seating_acts}
 use Rattle.replay_command.proofs.ActsMade.{made_last, made_then, two_names}
@@ -23,7 +22,7 @@ returns c =
     let four = made_then _ _ _ _ _ three c.in_ok-make-4.ensures.made in
     let five = made_then _ _ _ _ _ four c.in_ok-make-5.ensures.made in
     let all = made_last c.make-6.result _ _ _ _ _ five c.make-6.ensures.made in
-    let count : length line.names ≡ 2 = c.requires.spelled.count ∙ ap players_of c.requires.chess in
+    let count : length line.names ≡ 2 = c.requires.spelled.count ∙ c.requires.two in
     let names : line.names ≡ white ∷ black ∷ [] =
     two_names line.names white black count
     (c.index-names-0.is ∙ ap (λ (l : List (List ℕ)). get_or l 0 white) c.as_slice-names.ensures)

@@ -1,6 +1,5 @@
 use Rattle.std.proofs.Common.{◌≡◌, ◌∷◌, [], List, ℕ, Some, length, get_or, refl, ap, subst, ◌∙◌, slice_set}
 use Rattle.one_server.specs.Running.{Log}
-use Rattle.replay_core.specs.SeatLine.{players_of}
 use Rattle.session_core.specs.Memory.{MemoryState, seated}
 use Rattle.replay_command.specs.Evening.{EveningState, HasMade, seating_acts}
 use Rattle.replay_command.proofs.ActsMade.{two_names}
@@ -13,7 +12,7 @@ returns c =
     let seat = c.args.seats.now in
     let white = c.index-names-0.result in
     let black = c.index-names-1.result in
-    let count : length seat.names ≡ 2 = c.requires.spelled.count ∙ ap players_of c.requires.chess in
+    let count : length seat.names ≡ 2 = c.requires.spelled.count ∙ c.requires.two in
     let names : seat.names ≡ white ∷ black ∷ [] =
     two_names seat.names white black count
     (c.index-names-0.is ∙ ap (λ (l : List (List ℕ)). get_or l 0 white) c.as_slice-names.ensures)
@@ -32,5 +31,5 @@ returns c =
     ap (λ (m : MemoryState). slice_set (slice_set c.self.inside.sessions 0 m) 1 c.seated-2.result) c.seated.ensures
     ∙ ap (λ (m : MemoryState). slice_set (slice_set c.self.inside.sessions 0 (seated white)) 1 m) c.seated-2.ensures
     ∙ ap (λ (v : EveningState). slice_set (slice_set v.memories 0 (seated white)) 1 (seated black)) c.self.view_is in
-    seats_taken old new seat white black c.new.result c.requires.first c.requires.some c.requires.short c.requires.spelled c.requires.chess names opening made
+    seats_taken old new seat white black c.new.result c.requires.first c.requires.some c.requires.short c.requires.spelled c.requires.two names opening made
     c.history-history.ensures.legal refl c.new.ensures moment memories
