@@ -2,11 +2,15 @@ pub mod Field
 pub mod First
 pub mod Words
 pub mod Lists
+pub mod SeekRows
 pub mod Causes
 pub mod WellFormed
 pub mod KeepsEnter
 pub mod KeepsRegistration
 pub mod KeepsMatch
+pub mod KeepsUnpost
+pub mod KeepsSought
+pub mod KeepsWho
 pub mod KeepsWhere
 pub mod KeepsFetch
 pub mod KeepsGoing
@@ -15,7 +19,9 @@ pub mod RowsInUse
 pub mod KeepsInUse
 pub mod Copying
 pub mod KeepsActs
+pub mod Starts
 pub mod KeepsAccept
+pub mod KeepsPlay
 pub mod KeepsStart
 pub mod KeepsClear
 pub mod KeepsPlans

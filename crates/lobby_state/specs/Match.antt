@@ -1,12 +1,9 @@
 -- Match: a member challenges another to a game. This server's own.
-use Rattle.std.specs.Prelude.{ℕ, ◌==◌, Bool, true, false, not, ◌&&◌, ◌||◌, nat_le, List, [], ◌∷◌, ◌++◌, length, Option, None, Some, is_none, codes, decimal}
+use Rattle.std.specs.Prelude.{ℕ, ◌==◌, Bool, true, false, not, ◌&&◌, ◌||◌, nat_le, List, [], ◌∷◌, ◌++◌, length, Option, None, Some, is_none, codes}
 use Rattle.std.specs.List.{filter}
-use Rattle.chess_model.specs.declared.man.Colour.{Colour}
-use Rattle.chess_model.specs.declared.man.Colour.TheVariants.{White, Black}
 use Rattle.chess_model.specs.declared.variant.Terms.{Terms}
 use Rattle.chess_model.specs.declared.variant.Variant.{Variant}
 use Rattle.chess_model.specs.declared.variant.Variant.TheVariants.{Bughouse}
-use Rattle.chess_model.specs.VariantWord.{word_of}
 use Rattle.fics_words.specs.Effect.{Effect}
 use Rattle.fics_words.specs.declared.refusal.Refusal.TheVariants.{NotIn, NoSuchPlayer, BadOpponent, Playing, NoPartner, QueueFull}
 use Rattle.lobby_state.specs.declared.acts.LobbyReply.{LobbyReply}
@@ -15,18 +12,11 @@ use Rattle.lobby_state.specs.declared.challenge.Challenge.{Challenge}
 use Rattle.lobby_state.specs.declared.member.Member.{Member}
 use Rattle.lobby_state.specs.Change.{change_first, holds}
 use Rattle.lobby_state.specs.Lobby.{LobbyState, most_lines, is_session, is_named, has_place, member_of, named}
+use Rattle.lobby_state.specs.TermsText.{terms_words}
 
--- the colour that the challenger asks for, behind a blank; nothing where it asks for none
-abbrev pub colour_words : Option Colour → List ℕ
-colour_words None = []
-colour_words (Some White) = codes " white"
-colour_words (Some Black) = codes " black"
-
--- the line that a challenge sends: who challenges, the minutes, the increment in seconds, the variant, the colour
+-- the line that a challenge sends: who challenges, and on which terms
 abbrev pub challenge_words : List ℕ → Terms → List ℕ
-challenge_words name terms =
-    codes "Challenge: " ++ name ++ codes " " ++ decimal terms.minutes ++ codes " " ++ decimal terms.increment ++
-    codes " " ++ word_of terms.variant ++ colour_words terms.colour
+challenge_words name terms = codes "Challenge: " ++ name ++ codes " " ++ terms_words terms
 
 -- bughouse is played by pairs of partners, and nobody has a partner yet
 abbrev pub needs_partners : Variant → Bool

@@ -28,11 +28,19 @@ pub enum LobbyAct {
         to: HandleKey,
         terms: Terms,
     },
+    /// The member takes back its seek of that number, or without a number all its seeks.
+    Unpost {
+        number: Option<u16>,
+    },
+    /// Asks which seeks stand.
+    Sought,
+    /// Asks who is in the hall.
+    Who,
     /// Asks for the member's places.
     Where,
     /// Takes the lines that wait for the member, and asks for its places.
     Fetch,
-    /// The member begins to leave: its challenges go, and it can't be named from then on.
+    /// The member begins to leave: its challenges and its seeks go, and it can't be named from then on.
     Going,
     /// The member is gone.
     Bye,
@@ -48,6 +56,8 @@ pub enum LobbyReply {
     Entered(Handle),
     /// The handle has an account, whose password wasn't given: nothing was done.
     NeedPassword,
+    /// These lines, for whoever asked.
+    Lines(Listed<Line>),
     Places(Places),
     Waiting { lines: Listed<Line>, places: Places },
     /// The desks in use, in ascending order.
@@ -64,6 +74,7 @@ impl LobbyReply {
             LobbyReply::Done => LobbyReply::Done,
             LobbyReply::Entered(name) => LobbyReply::Entered(*name),
             LobbyReply::NeedPassword => LobbyReply::NeedPassword,
+            LobbyReply::Lines(_) => LobbyReply::Lines(lists.lines),
             LobbyReply::Places(places) => LobbyReply::Places(*places),
             LobbyReply::Waiting { places, .. } => LobbyReply::Waiting {
                 lines: lists.lines,
@@ -79,6 +90,8 @@ impl LobbyReply {
 pub enum PairAct {
     /// Accepts the challenge of the player with this handle, or without one the oldest challenge.
     Accept(Option<HandleKey>),
+    /// Takes the seek of that number.
+    Play(u16),
     /// Gives up the place at a desk whose game has ended, and frees the desk where nobody looks on any more.
     Clear { desk: u8, serial: u64 },
 }

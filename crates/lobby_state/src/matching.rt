@@ -7,8 +7,9 @@ use crate::acts::LobbyReply;
 use crate::challenge::{Challenge, put_challenge};
 use crate::member::add_line;
 use crate::register::Register;
-use chess_model::{Colour, Terms, Variant, variant_word};
-use fics_words::{Fail, Handle, HandleKey, Line, NoMemory, Refusal, write_number};
+use crate::terms::put_terms;
+use chess_model::{Terms, Variant};
+use fics_words::{Fail, Handle, HandleKey, Line, NoMemory, Refusal};
 use std::alloc::Global;
 
 /// The most lines that wait for a member.
@@ -73,15 +74,6 @@ fn challenge_text(alloc: Global, letters: &[u8], terms: Terms) -> Result<Vec<u8>
     let mut text = Vec::from_slice(alloc, b"Challenge: ")?;
     text.extend_from_slice(letters)?;
     text.push(b' ')?;
-    write_number(&mut text, u64::from(terms.minutes))?;
-    text.push(b' ')?;
-    write_number(&mut text, u64::from(terms.increment))?;
-    text.push(b' ')?;
-    text.extend_from_slice(variant_word(terms.variant).bytes())?;
-    match terms.colour {
-        Some(Colour::White) => text.extend_from_slice(b" white")?,
-        Some(Colour::Black) => text.extend_from_slice(b" black")?,
-        None => {}
-    }
+    put_terms(alloc, terms, &mut text)?;
     Ok(text)
 }

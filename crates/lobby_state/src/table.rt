@@ -20,6 +20,9 @@ impl Register {
             LobbyAct::Enter { name, digest } => self.enter(session, *name, *digest),
             LobbyAct::Register { digest } => self.register(session, *digest),
             LobbyAct::Match { to, terms } => self.challenge(session, *to, *terms),
+            LobbyAct::Unpost { number } => self.unpost(session, *number),
+            LobbyAct::Sought => self.sought(session),
+            LobbyAct::Who => self.who(session),
             LobbyAct::Where => Ok(self.where_is(session)),
             LobbyAct::Fetch => Ok(self.fetch(session)),
             LobbyAct::Going => Ok(self.going(session)),
@@ -39,6 +42,14 @@ impl Register {
                 lines: self.waiting_copy(session)?,
                 ..none
             }),
+            LobbyAct::Sought => Ok(ReplyLists {
+                lines: self.sought_lines()?,
+                ..none
+            }),
+            LobbyAct::Who => Ok(ReplyLists {
+                lines: self.who_lines()?,
+                ..none
+            }),
             LobbyAct::InUse => Ok(ReplyLists {
                 desks: self.desks_in_use()?,
                 ..none
@@ -53,6 +64,7 @@ impl Register {
     {
         match act {
             PairAct::Accept(name) => self.accept_plan(session, *name),
+            PairAct::Play(number) => self.play_plan(session, *number),
             PairAct::Clear { desk, serial } => Ok(Plan::Clear {
                 by: session,
                 desk: *desk,
