@@ -6,7 +6,7 @@ use Rattle.fics_words.specs.declared.fail.Fail.{Fail}
 use Rattle.fics_words.specs.declared.fail.Fail.TheVariants.{Refused, Memory}
 use Rattle.fics_words.specs.declared.refusal.Refusal.{Refusal}
 use Rattle.lobby_state.specs.declared.acts.LobbyAct.{LobbyAct}
-use Rattle.lobby_state.specs.declared.acts.LobbyAct.TheVariants.{Enter, Register, Match, Where, Fetch, Going, Bye, InUse}
+use Rattle.lobby_state.specs.declared.acts.LobbyAct.TheVariants.{Enter, Register, Match, Var, Where, Fetch, Going, Bye, InUse}
 use Rattle.lobby_state.specs.declared.acts.LobbyReply.{LobbyReply}
 use Rattle.lobby_state.specs.Acts.{LobbyNeedsNoMemory, lobby_after, lobby_answer, lobby_effect}
 use Rattle.lobby_state.specs.Keeps.{Keeps, TellsDesks}
@@ -20,6 +20,7 @@ use Rattle.lobby_state.proofs.KeepsGoing.{keeps_going}
 use Rattle.lobby_state.proofs.KeepsInUse.{keeps_in_use}
 use Rattle.lobby_state.proofs.KeepsMatch.{keeps_match}
 use Rattle.lobby_state.proofs.KeepsRegistration.{keeps_registration}
+use Rattle.lobby_state.proofs.KeepsVar.{keeps_var}
 use Rattle.lobby_state.proofs.KeepsWhere.{keeps_where}
 
 -- the table: what each act keeps
@@ -27,6 +28,7 @@ pub keeps_act : (lobby : LobbyState) (session : ℕ) (act : LobbyAct) → Keeps 
 keeps_act lobby session (Enter name digest) = keeps_enter lobby session name digest
 keeps_act lobby session (Register digest) = keeps_registration lobby session digest
 keeps_act lobby session (Match to terms) = keeps_match lobby session to terms
+keeps_act lobby session (Var which on) = keeps_var lobby session which on
 keeps_act lobby session Where = keeps_where lobby session
 keeps_act lobby session Fetch = keeps_fetch lobby session
 keeps_act lobby session Going = keeps_going lobby session

@@ -7,6 +7,7 @@ pub mod WellFormed
 pub mod KeepsEnter
 pub mod KeepsRegistration
 pub mod KeepsMatch
+pub mod KeepsVar
 pub mod KeepsWhere
 pub mod KeepsFetch
 pub mod KeepsGoing

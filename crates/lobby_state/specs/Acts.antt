@@ -4,7 +4,7 @@ use Rattle.chess_model.specs.declared.variant.Terms.{Terms}
 use Rattle.fics_words.specs.declared.refusal.Refusal.{Refusal}
 use Rattle.fics_words.specs.Effect.{Effect, answer_of, state_of}
 use Rattle.lobby_state.specs.declared.acts.LobbyAct.{LobbyAct}
-use Rattle.lobby_state.specs.declared.acts.LobbyAct.TheVariants.{Enter, Register, Match, Where, Fetch, Going, Bye, InUse}
+use Rattle.lobby_state.specs.declared.acts.LobbyAct.TheVariants.{Enter, Register, Match, Var, Where, Fetch, Going, Bye, InUse}
 use Rattle.lobby_state.specs.declared.acts.LobbyReply.{LobbyReply}
 use Rattle.lobby_state.specs.Bye.{bye_effect}
 use Rattle.lobby_state.specs.Enter.{enter_effect}
@@ -14,6 +14,7 @@ use Rattle.lobby_state.specs.InUse.{in_use_effect}
 use Rattle.lobby_state.specs.Lobby.{LobbyState}
 use Rattle.lobby_state.specs.Match.{match_effect}
 use Rattle.lobby_state.specs.Registration.{registration_effect}
+use Rattle.lobby_state.specs.Var.{var_effect}
 use Rattle.lobby_state.specs.Where.{where_effect}
 
 -- what a lobby act does
@@ -21,6 +22,7 @@ abbrev pub lobby_effect : LobbyState → ℕ → LobbyAct → Effect LobbyState 
 lobby_effect lobby session (Enter name digest) = enter_effect lobby session name digest
 lobby_effect lobby session (Register digest) = registration_effect lobby session digest
 lobby_effect lobby session (Match to terms) = match_effect lobby session to terms
+lobby_effect lobby session (Var which on) = var_effect lobby session which on
 lobby_effect lobby session Where = where_effect lobby session
 lobby_effect lobby session Fetch = fetch_effect lobby session
 lobby_effect lobby session Going = going_effect lobby session

@@ -6,6 +6,7 @@ pub mod Lobby
 pub mod Enter
 pub mod Registration
 pub mod Match
+pub mod Var
 pub mod Where
 pub mod Fetch
 pub mod Going

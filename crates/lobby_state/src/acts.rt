@@ -6,6 +6,7 @@ ghost use Rattle.lobby_state.specs.Plans.{desk_of};
 use crate::desk_in_use::DeskInUse;
 use crate::places::Places;
 use crate::told::ReplyLists;
+use crate::var::Var;
 use chess_model::Terms;
 use collections::Listed;
 use fics_words::{Digest, Handle, HandleKey, Line, Seats};
@@ -27,6 +28,11 @@ pub enum LobbyAct {
     Match {
         to: HandleKey,
         terms: Terms,
+    },
+    /// The member's variable is on or off from now on.
+    Var {
+        which: Var,
+        on: bool,
     },
     /// Asks for the member's places.
     Where,

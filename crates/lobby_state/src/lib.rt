@@ -31,6 +31,8 @@ mod registration;
 mod start;
 mod table;
 mod told;
+mod var;
+mod wants;
 mod where_is;
 
 pub use acts::{LobbyAct, LobbyReply, PairAct, Plan};
@@ -46,3 +48,5 @@ pub use member::Member;
 pub use place::Place;
 pub use places::Places;
 pub use told::ReplyLists;
+pub use var::Var;
+pub use wants::Wants;

@@ -8,6 +8,7 @@ ghost use Rattle.lobby_state.specs.Lobby.{is_session, is_named, has_place, lines
 ghost use Rattle.lobby_state.specs.Match.{with_line};
 
 use crate::places::Places;
+use crate::wants::Wants;
 use collections::{Change, Listed, Predicate, position};
 use fics_words::{Handle, HandleKey, Line, NoMemory};
 use std::alloc::Global;
@@ -20,6 +21,8 @@ pub struct Member {
     /// Whether the member leaves, and can't be named any more.
     pub going: bool,
     pub places: Places,
+    /// What the member wants others to send.
+    pub wants: Wants,
     /// The lines that wait for the member, the oldest first.
     pub waiting: Listed<Line>,
 }
@@ -34,6 +37,11 @@ impl Member {
             name,
             going: false,
             places: Places::none(),
+            wants: Wants {
+                matches: true,
+                shouts: true,
+                seeks: true,
+            },
             waiting: Listed::new(alloc),
         }
     }

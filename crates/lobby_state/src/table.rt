@@ -20,6 +20,7 @@ impl Register {
             LobbyAct::Enter { name, digest } => self.enter(session, *name, *digest),
             LobbyAct::Register { digest } => self.register(session, *digest),
             LobbyAct::Match { to, terms } => self.challenge(session, *to, *terms),
+            LobbyAct::Var { which, on } => self.set_var(session, *which, *on),
             LobbyAct::Where => Ok(self.where_is(session)),
             LobbyAct::Fetch => Ok(self.fetch(session)),
             LobbyAct::Going => Ok(self.going(session)),
