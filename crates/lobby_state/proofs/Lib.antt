@@ -7,6 +7,11 @@ pub mod WellFormed
 pub mod KeepsEnter
 pub mod KeepsRegistration
 pub mod KeepsMatch
+pub mod Broadcasting
+pub mod KeepsShout
+pub mod KeepsTell
+pub mod KeepsDecline
+pub mod KeepsWithdraw
 pub mod KeepsVar
 pub mod KeepsWhere
 pub mod KeepsFetch

@@ -6,6 +6,10 @@ pub mod Lobby
 pub mod Enter
 pub mod Registration
 pub mod Match
+pub mod Broadcast
+pub mod Said
+pub mod Shout
+pub mod Tell
 pub mod Var
 pub mod Where
 pub mod Fetch
@@ -14,6 +18,8 @@ pub mod Bye
 pub mod InUse
 pub mod Told
 pub mod Accept
+pub mod Decline
+pub mod Withdraw
 pub mod Start
 pub mod Clear
 pub mod Acts

@@ -1,5 +1,5 @@
 -- Var: a member says what it wants others to send. The variables are FICS's.
-use Rattle.std.specs.Prelude.{ℕ, Bool, true, false, [], ◌∷◌, is_none}
+use Rattle.std.specs.Prelude.{ℕ, Bool, false, [], ◌∷◌, is_none}
 use Rattle.fics_words.specs.Effect.{Effect}
 use Rattle.fics_words.specs.declared.refusal.Refusal.TheVariants.{NotIn}
 use Rattle.lobby_state.specs.declared.acts.LobbyReply.{LobbyReply}

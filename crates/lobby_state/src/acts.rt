@@ -34,6 +34,23 @@ pub enum LobbyAct {
         which: Var,
         on: bool,
     },
+    /// The member says the text, of at most 800 bytes, to the player with this handle.
+    Tell {
+        to: HandleKey,
+        text: Line,
+    },
+    /// The member says the text, of at most 800 bytes, to all others who want to hear it.
+    Shout {
+        text: Line,
+    },
+    /// The member turns down the challenge of the player with this handle, or without one the oldest challenge.
+    Decline {
+        name: Option<HandleKey>,
+    },
+    /// The member takes back its challenge to the player with this handle, or without one its oldest challenge.
+    Withdraw {
+        name: Option<HandleKey>,
+    },
     /// Asks for the member's places.
     Where,
     /// Takes the lines that wait for the member, and asks for its places.
@@ -54,6 +71,8 @@ pub enum LobbyReply {
     Entered(Handle),
     /// The handle has an account, whose password wasn't given: nothing was done.
     NeedPassword,
+    /// So many members were told.
+    Told(u16),
     Places(Places),
     Waiting { lines: Listed<Line>, places: Places },
     /// The desks in use, in ascending order.
@@ -70,6 +89,7 @@ impl LobbyReply {
             LobbyReply::Done => LobbyReply::Done,
             LobbyReply::Entered(name) => LobbyReply::Entered(*name),
             LobbyReply::NeedPassword => LobbyReply::NeedPassword,
+            LobbyReply::Told(count) => LobbyReply::Told(*count),
             LobbyReply::Places(places) => LobbyReply::Places(*places),
             LobbyReply::Waiting { places, .. } => LobbyReply::Waiting {
                 lines: lists.lines,

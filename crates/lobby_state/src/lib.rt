@@ -11,9 +11,11 @@
 
 mod accept;
 mod acts;
+mod broadcast;
 mod bye;
 mod challenge;
 mod clear;
+mod decline;
 mod desk_in_use;
 mod enter;
 mod fetch;
@@ -28,12 +30,16 @@ mod place;
 mod places;
 mod register;
 mod registration;
+mod said;
+mod shout;
 mod start;
 mod table;
+mod tell;
 mod told;
 mod var;
 mod wants;
 mod where_is;
+mod withdraw;
 
 pub use acts::{LobbyAct, LobbyReply, PairAct, Plan};
 pub use challenge::Challenge;
