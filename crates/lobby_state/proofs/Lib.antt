@@ -11,6 +11,12 @@ pub mod KeepsMatch
 pub mod KeepsUnpost
 pub mod KeepsSought
 pub mod KeepsWho
+pub mod Broadcasting
+pub mod KeepsShout
+pub mod KeepsTell
+pub mod KeepsDecline
+pub mod KeepsWithdraw
+pub mod KeepsVar
 pub mod KeepsWhere
 pub mod KeepsFetch
 pub mod KeepsGoing

@@ -10,6 +10,11 @@ pub mod Match
 pub mod Unpost
 pub mod Sought
 pub mod Who
+pub mod Broadcast
+pub mod Said
+pub mod Shout
+pub mod Tell
+pub mod Var
 pub mod Where
 pub mod Fetch
 pub mod Going
@@ -19,6 +24,8 @@ pub mod Told
 pub mod Starting
 pub mod Accept
 pub mod Play
+pub mod Decline
+pub mod Withdraw
 pub mod Start
 pub mod Clear
 pub mod Acts

@@ -5,7 +5,7 @@ use Rattle.chess_model.specs.declared.variant.Terms.{Terms}
 use Rattle.chess_model.specs.declared.variant.Variant.{Variant}
 use Rattle.chess_model.specs.declared.variant.Variant.TheVariants.{Bughouse}
 use Rattle.fics_words.specs.Effect.{Effect}
-use Rattle.fics_words.specs.declared.refusal.Refusal.TheVariants.{NotIn, NoSuchPlayer, BadOpponent, Playing, NoPartner, QueueFull}
+use Rattle.fics_words.specs.declared.refusal.Refusal.TheVariants.{NotIn, NoSuchPlayer, BadOpponent, Playing, Refuses, NoPartner, QueueFull}
 use Rattle.lobby_state.specs.declared.acts.LobbyReply.{LobbyReply}
 use Rattle.lobby_state.specs.declared.acts.LobbyReply.TheVariants.{Done}
 use Rattle.lobby_state.specs.declared.challenge.Challenge.{Challenge}
@@ -22,6 +22,10 @@ challenge_words name terms = codes "Challenge: " ++ name ++ codes " " ++ terms_w
 abbrev pub needs_partners : Variant → Bool
 needs_partners Bughouse = true
 needs_partners _ = false
+
+-- the member doesn't want to be challenged
+abbrev pub is_closed : Member → Bool
+is_closed member = not member.wants.matches
 
 -- no more lines can wait for the member
 abbrev pub is_full : Member → Bool
@@ -49,8 +53,8 @@ challenged lobby (Some caller) (Some other) to terms = record lobby {
 }
 
 -- a challenge is refused where the session isn't a member; where nobody has the handle, or that member is going; where
--- it is the session itself; where one of the two has a place; where the game needs partners; and where 512 lines wait
--- for the other
+-- it is the session itself; where one of the two has a place; where the other doesn't want to be challenged; where the
+-- game needs partners; and where 512 lines wait for the other
 abbrev pub match_effect : LobbyState → ℕ → List ℕ → Terms → Effect LobbyState LobbyReply
 match_effect lobby session to terms = record {
   causes =
@@ -58,6 +62,7 @@ match_effect lobby session to terms = record {
       (is_none (named lobby to), NoSuchPlayer) ∷
       (holds (is_session session) (named lobby to), BadOpponent) ∷
       (holds has_place (member_of lobby session) || holds has_place (named lobby to), Playing) ∷
+      (holds is_closed (named lobby to), Refuses) ∷
       (needs_partners terms.variant, NoPartner) ∷
       (holds is_full (named lobby to), QueueFull) ∷ [];
   memory = true;

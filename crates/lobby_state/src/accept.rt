@@ -1,11 +1,11 @@
 //! Accept: a challenge is accepted, and the plan of its game is told.
-ghost use Rattle.std.specs.Prelude.{◌≡◌, ◌==◌, ◌&&◌, option_copied};
+ghost use Rattle.std.specs.Prelude.{◌≡◌, ◌==◌, option_copied};
 ghost use Rattle.std.specs.List.{find};
 ghost use Rattle.fics_words.specs.Effect.{answer_of};
 ghost use Rattle.lobby_state.specs.Accept.{accept_effect, offer_of};
 
 use crate::acts::Plan;
-use crate::challenge::Challenge;
+use crate::challenge::{Challenge, first_between};
 use crate::register::Register;
 use fics_words::{HandleKey, Refusal};
 
@@ -28,7 +28,7 @@ impl Register {
     }
 
     /// The challenge that an acceptance means: the named player's, and without a name the oldest to the session.
-    fn offer(&self, session: u32, name: Option<HandleKey>) -> Option<Challenge>
+    pub(crate) fn offer(&self, session: u32, name: Option<HandleKey>) -> Option<Challenge>
         ensures { result ≡ offer_of self.now session name }
     {
         let Some(key) = name else {
@@ -46,14 +46,4 @@ fn first_to(challenges: &[Challenge], session: u32) -> Option<&Challenge>
     ensures { option_copied result ≡ find (λ challenge. challenge.to == session) challenges.now }
 {
     challenges.iter().find(|challenge| challenge.to == session)
-}
-
-/// The oldest challenge by one session to another.
-fn first_between(challenges: &[Challenge], from: u32, to: u32) -> Option<&Challenge>
-    ensures { option_copied result
-        ≡ find (λ challenge. (challenge.from == from) && (challenge.to == to)) challenges.now }
-{
-    challenges
-        .iter()
-        .find(|challenge| challenge.from == from && challenge.to == to)
 }

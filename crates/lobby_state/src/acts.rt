@@ -6,6 +6,7 @@ ghost use Rattle.lobby_state.specs.Plans.{desk_of};
 use crate::desk_in_use::DeskInUse;
 use crate::places::Places;
 use crate::told::ReplyLists;
+use crate::var::Var;
 use chess_model::Terms;
 use collections::Listed;
 use fics_words::{Digest, Handle, HandleKey, Line, Seats};
@@ -36,6 +37,28 @@ pub enum LobbyAct {
     Sought,
     /// Asks who is in the hall.
     Who,
+    /// The member's variable is on or off from now on.
+    Var {
+        which: Var,
+        on: bool,
+    },
+    /// The member says the text, of at most 800 bytes, to the player with this handle.
+    Tell {
+        to: HandleKey,
+        text: Line,
+    },
+    /// The member says the text, of at most 800 bytes, to all others who want to hear it.
+    Shout {
+        text: Line,
+    },
+    /// The member turns down the challenge of the player with this handle, or without one the oldest challenge.
+    Decline {
+        name: Option<HandleKey>,
+    },
+    /// The member takes back its challenge to the player with this handle, or without one its oldest challenge.
+    Withdraw {
+        name: Option<HandleKey>,
+    },
     /// Asks for the member's places.
     Where,
     /// Takes the lines that wait for the member, and asks for its places.
@@ -58,6 +81,8 @@ pub enum LobbyReply {
     NeedPassword,
     /// These lines, for whoever asked.
     Lines(Listed<Line>),
+    /// So many members were told.
+    Told(u16),
     Places(Places),
     Waiting { lines: Listed<Line>, places: Places },
     /// The desks in use, in ascending order.
@@ -75,6 +100,7 @@ impl LobbyReply {
             LobbyReply::Entered(name) => LobbyReply::Entered(*name),
             LobbyReply::NeedPassword => LobbyReply::NeedPassword,
             LobbyReply::Lines(_) => LobbyReply::Lines(lists.lines),
+            LobbyReply::Told(count) => LobbyReply::Told(*count),
             LobbyReply::Places(places) => LobbyReply::Places(*places),
             LobbyReply::Waiting { places, .. } => LobbyReply::Waiting {
                 lines: lists.lines,

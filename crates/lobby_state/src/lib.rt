@@ -11,9 +11,11 @@
 
 mod accept;
 mod acts;
+mod broadcast;
 mod bye;
 mod challenge;
 mod clear;
+mod decline;
 mod desk_in_use;
 mod enter;
 mod fetch;
@@ -31,6 +33,8 @@ mod register;
 mod registration;
 mod seeks;
 mod sought;
+mod said;
+mod shout;
 mod start;
 mod starting;
 mod table;
@@ -39,6 +43,10 @@ mod told;
 mod unpost;
 mod where_is;
 mod who;
+mod tell;
+mod var;
+mod wants;
+mod withdraw;
 
 pub use acts::{LobbyAct, LobbyReply, PairAct, Plan};
 pub use challenge::Challenge;
@@ -53,3 +61,5 @@ pub use member::Member;
 pub use place::Place;
 pub use places::Places;
 pub use told::ReplyLists;
+pub use var::Var;
+pub use wants::Wants;

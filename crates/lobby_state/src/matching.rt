@@ -12,13 +12,10 @@ use chess_model::{Terms, Variant};
 use fics_words::{Fail, Handle, HandleKey, Line, NoMemory, Refusal};
 use std::alloc::Global;
 
-/// The most lines that wait for a member.
-const MOST_LINES: usize = 512;
-
 impl Register {
     /// The session challenges the named player. The causes of a refusal, in order: the session isn't a member; nobody
-    /// has the handle, or that member is going; it is the session itself; one of the two has a place; the game needs
-    /// partners; 512 lines wait for the other.
+    /// has the handle, or that member is going; it is the session itself; one of the two has a place; the other has
+    /// `open` off; the game needs partners; 512 lines wait for the other.
     pub(crate) fn challenge(
         &mut self,
         session: u32,
@@ -39,10 +36,13 @@ impl Register {
         if caller.has_place() || other.has_place() {
             return Err(Fail::Refused(Refusal::Playing));
         }
+        if !other.wants.matches {
+            return Err(Fail::Refused(Refusal::Refuses));
+        }
         if matches!(terms.variant, Variant::Bughouse) {
             return Err(Fail::Refused(Refusal::NoPartner));
         }
-        if other.waiting.len() >= MOST_LINES {
+        if other.is_full() {
             return Err(Fail::Refused(Refusal::QueueFull));
         }
         let challenge = Challenge {

@@ -5,7 +5,7 @@ ghost use Rattle.lobby_state.specs.Lobby.{holder_of, opening, member_of, named, 
 
 use crate::challenge::Challenge;
 use crate::game::{Game, no_games};
-use crate::member::Member;
+use crate::member::{Member, Members};
 use crate::places::Places;
 use collections::{Listed, Reserved};
 use fics_words::{Duplicate, HandleKey, Line, NoMemory};
@@ -20,7 +20,7 @@ use std::marker::Model;
 pub(crate) struct Register {
     pub(crate) alloc: Global,
     pub(crate) accounts: Accounts,
-    pub(crate) members: Listed<Member>,
+    pub(crate) members: Members,
     pub(crate) challenges: Reserved<Challenge>,
     pub(crate) seeks: SeekBook,
     /// The game of each desk from 1 on, where it is in use.
@@ -56,7 +56,7 @@ impl Register {
         Ok(Register {
             alloc,
             accounts: Accounts::new(alloc),
-            members: Listed::new(alloc),
+            members: Members::new(alloc)?,
             challenges: Reserved::new(alloc),
             seeks: SeekBook::new(alloc),
             games: no_games(alloc)?,

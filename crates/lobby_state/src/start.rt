@@ -6,12 +6,12 @@ ghost use Rattle.lobby_state.specs.Start.{concerns_seated, in_seat, is_by_seated
 
 use crate::challenge::{Challenge, WithoutSeated};
 use crate::game::Game;
-use crate::member::Member;
+use crate::member::{Member, Members};
 use crate::place::Place;
 use crate::register::Register;
 use crate::seeks::ByUnseated;
 use chess_model::Terms;
-use collections::{Change, Listed, Reserved};
+use collections::{Change, Reserved};
 use fics_words::Seats;
 use seek_match::SeekBook;
 use std::marker::Model;
@@ -72,7 +72,7 @@ impl Register {
 }
 
 /// The players have their places.
-fn sit_down(members: &mut Listed<Member>, desk: u8, serial: u64, seats: &Seats)
+fn sit_down(members: &mut Members, desk: u8, serial: u64, seats: &Seats)
     requires { IsDesk desk }
     ensures { members.new
         ≡ map (λ member. in_seat desk serial (seat_number member.session (seat_list seats.now)) member) members.old }

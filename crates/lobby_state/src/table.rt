@@ -1,7 +1,7 @@
 //! Which act is carried out by which function.
 ghost use Rattle.std.specs.Prelude.{◌≡◌, IfOk, IfSome, IsOk};
 ghost use Rattle.fics_words.specs.Effect.{Takes};
-ghost use Rattle.lobby_state.specs.Acts.{LobbyNeedsNoMemory, lobby_effect};
+ghost use Rattle.lobby_state.specs.Acts.{FitsLobby, LobbyNeedsNoMemory, lobby_effect};
 ghost use Rattle.lobby_state.specs.Desks.{IsDesk};
 ghost use Rattle.lobby_state.specs.Told.{lists_told};
 ghost use Rattle.lobby_state.specs.Plans.{committed, desk_of, plan_of};
@@ -14,6 +14,7 @@ use fics_words::{Fail, NoMemory, Refusal};
 impl Register {
     /// Carries out an act that needs the lobby alone.
     pub(crate) fn act(&mut self, session: u32, act: &LobbyAct) -> Result<LobbyReply, Fail>
+        requires { FitsLobby act.now }
         ensures { Takes (lobby_effect self.old session act.now) self.old self.new result }
     {
         match act {
@@ -23,6 +24,11 @@ impl Register {
             LobbyAct::Unpost { number } => self.unpost(session, *number),
             LobbyAct::Sought => self.sought(session),
             LobbyAct::Who => self.who(session),
+            LobbyAct::Var { which, on } => self.set_var(session, *which, *on),
+            LobbyAct::Tell { to, text } => self.tell(session, *to, text),
+            LobbyAct::Shout { text } => self.shout(session, text),
+            LobbyAct::Decline { name } => self.decline(session, *name),
+            LobbyAct::Withdraw { name } => self.withdraw(session, *name),
             LobbyAct::Where => Ok(self.where_is(session)),
             LobbyAct::Fetch => Ok(self.fetch(session)),
             LobbyAct::Going => Ok(self.going(session)),
