@@ -6,7 +6,7 @@ use Rattle.fics_words.specs.declared.fail.Fail.{Fail}
 use Rattle.fics_words.specs.declared.fail.Fail.TheVariants.{Refused, Memory}
 use Rattle.fics_words.specs.declared.refusal.Refusal.{Refusal}
 use Rattle.lobby_state.specs.declared.acts.LobbyAct.{LobbyAct}
-use Rattle.lobby_state.specs.declared.acts.LobbyAct.TheVariants.{Enter, Register, Match, Unpost, Sought, Who, Where, Fetch, Going, Bye, InUse, Var, Tell, Shout, Decline, Withdraw}
+use Rattle.lobby_state.specs.declared.acts.LobbyAct.TheVariants.{Enter, Register, Match, Unpost, Sought, Who, Where, Fetch, Going, Bye, InUse, Var, Tell, Shout, Decline, Withdraw, Post}
 use Rattle.lobby_state.specs.declared.acts.LobbyReply.{LobbyReply}
 use Rattle.lobby_state.specs.Acts.{LobbyNeedsNoMemory, lobby_after, lobby_answer, lobby_effect}
 use Rattle.lobby_state.specs.Keeps.{Keeps, TellsDesks}
@@ -20,6 +20,7 @@ use Rattle.lobby_state.proofs.KeepsFetch.{keeps_fetch}
 use Rattle.lobby_state.proofs.KeepsGoing.{keeps_going}
 use Rattle.lobby_state.proofs.KeepsInUse.{keeps_in_use}
 use Rattle.lobby_state.proofs.KeepsMatch.{keeps_match}
+use Rattle.lobby_state.proofs.KeepsPost.{keeps_post}
 use Rattle.lobby_state.proofs.KeepsRegistration.{keeps_registration}
 use Rattle.lobby_state.proofs.KeepsSought.{keeps_sought}
 use Rattle.lobby_state.proofs.KeepsUnpost.{keeps_unpost}
@@ -35,6 +36,7 @@ pub keeps_act : (lobby : LobbyState) (session : ℕ) (act : LobbyAct) → Keeps 
 keeps_act lobby session (Enter name digest) = keeps_enter lobby session name digest
 keeps_act lobby session (Register digest) = keeps_registration lobby session digest
 keeps_act lobby session (Match to terms) = keeps_match lobby session to terms
+keeps_act lobby session (Post terms) = keeps_post lobby session terms
 keeps_act lobby session (Unpost number) = keeps_unpost lobby session number
 keeps_act lobby session Sought = keeps_sought lobby session
 keeps_act lobby session Who = keeps_who lobby session

@@ -8,6 +8,7 @@ pub mod WellFormed
 pub mod KeepsEnter
 pub mod KeepsRegistration
 pub mod KeepsMatch
+pub mod KeepsPost
 pub mod KeepsUnpost
 pub mod KeepsSought
 pub mod KeepsWho

@@ -1,5 +1,5 @@
 -- What leaves a lobby well-formed that was.
-use Rattle.std.proofs.Common.{◌≡◌, ℕ, ◌≤◌, Bool, List, [], ◌∷◌, Option, None, Some, length, map, filter, refl, sym, ap, subst, ◌∙◌, inl, inr, arith}
+use Rattle.std.proofs.Common.{◌≡◌, ℕ, ◌<◌, ◌≤◌, Bool, List, [], ◌∷◌, Option, None, Some, length, map, filter, refl, sym, ap, subst, ◌∙◌, inl, inr, arith}
 use Rattle.std.specs.Prelude.{All}
 use Rattle.std.specs.List.{find}
 use Rattle.std.proofs.lemmas.List.{length-map}
@@ -14,7 +14,7 @@ use Rattle.lobby_state.specs.Desks.{IsDesk, desks}
 use Rattle.lobby_state.specs.Lobby.{LobbyState, most_members, opening, is_session, member_of, places_in, places_of}
 use Rattle.lobby_state.specs.WellFormed.{IsWellFormed, IsBetweenMembers, IsByMember, AreSeeksOf, IsSeatOf, IsStarted, HasSeats, sessions_of}
 use Rattle.lobby_state.proofs.Lists.{map-change_first_same, All-change_first, AllPairs-same, find-step}
-use Rattle.lobby_state.proofs.SeekRows.{AreSeeksOf-filter}
+use Rattle.lobby_state.proofs.SeekRows.{AreSeeksOf-filter, has_numbers_left}
 use Rattle.seek_match.specs.declared.seek.Seek.{Seek}
 
 -- lists that show the same are of one length
@@ -67,6 +67,14 @@ challenges_gone lobby test h = record {
   serials = h.serials;
   places = h.places;
 }
+
+-- there are at most as many sessions as members
+pub members_few : (lobby : LobbyState) → IsWellFormed lobby → length (sessions_of lobby.members) ≤ 256
+members_few lobby h = omega (arith, length-map lobby.members (λ (m : Member). m.session), h.hall)
+
+-- there is always a number left for a seek
+pub has_number_left : (lobby : LobbyState) → IsWellFormed lobby → length lobby.seeks < 65535
+has_number_left lobby h = has_numbers_left (sessions_of lobby.members) lobby.seeks (members_few lobby h) h.seeks
 
 -- there are other seeks
 pub with_seeks : (lobby : LobbyState) (seeks : List Seek) → AreSeeksOf (sessions_of lobby.members) seeks → IsWellFormed lobby

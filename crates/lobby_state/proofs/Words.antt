@@ -17,6 +17,7 @@ use Rattle.chess_model.specs.VariantWord.{word_of}
 use Rattle.fics_words.specs.Handle.{IsHandle}
 use Rattle.fics_words.specs.Line.{IsLine, IsPrintable}
 use Rattle.lobby_state.specs.Match.{challenge_words}
+use Rattle.lobby_state.specs.Post.{seek_words}
 use Rattle.lobby_state.specs.Sought.{sought_words}
 use Rattle.lobby_state.specs.TermsText.{colour_words, terms_words}
 use Rattle.seek_match.specs.declared.seek.Seek.{Seek}
@@ -104,6 +105,22 @@ IsPrinted-sought_words name seek h number minutes increment =
     let join = IsPrinted-append in
     join 24 28 _ _ (join 23 1 _ _ (join 6 17 _ _ (join 5 1 _ _ (IsPrinted-decimal seek.number number) IsPrinted-blank) h) IsPrinted-blank)
     (IsPrinted-terms_words seek.terms minutes increment)
+
+IsPrinted-seeking : IsPrinted 9 (codes " seeking ")
+IsPrinted-seeking = IsPrinted-from_test 9 (codes " seeking ") (omega arith) refl
+
+IsPrinted-play : IsPrinted 8 (codes " (\"play ")
+IsPrinted-play = IsPrinted-from_test 8 (codes " (\"play ") (omega arith) refl
+
+IsPrinted-respond : IsPrinted 13 (codes "\" to respond)")
+IsPrinted-respond = IsPrinted-from_test 13 (codes "\" to respond)") (omega arith) refl
+
+pub IsPrinted-seek_words : (name : List ℕ) (number : ℕ) (terms : Terms) → IsPrinted 17 name → number < 2 ^ 16 → terms.minutes < 2 ^ 16 → terms.increment < 2 ^ 16
+    → IsPrinted 80 (seek_words name number terms)
+IsPrinted-seek_words name number terms h small minutes increment =
+    let join = IsPrinted-append in
+    join 67 13 _ _ (join 62 5 _ _ (join 54 8 _ _ (join 26 28 _ _ (join 17 9 _ _ h IsPrinted-seeking) (IsPrinted-terms_words terms minutes increment))
+    IsPrinted-play) (IsPrinted-decimal number small)) IsPrinted-respond
 
 pub IsLine-from_printed : (most : ℕ) (text : List ℕ) → most ≤ 1023 → IsPrinted most text → IsLine text
 IsLine-from_printed most text few h = (omega (arith, few, h.short), h.shows)

@@ -4,7 +4,7 @@ use Rattle.chess_model.specs.declared.variant.Terms.{Terms}
 use Rattle.fics_words.specs.declared.refusal.Refusal.{Refusal}
 use Rattle.fics_words.specs.Effect.{Effect, answer_of, state_of}
 use Rattle.lobby_state.specs.declared.acts.LobbyAct.{LobbyAct}
-use Rattle.lobby_state.specs.declared.acts.LobbyAct.TheVariants.{Enter, Register, Match, Unpost, Sought, Who, Where, Fetch, Going, Bye, InUse, Var, Tell, Shout, Decline, Withdraw}
+use Rattle.lobby_state.specs.declared.acts.LobbyAct.TheVariants.{Enter, Register, Match, Unpost, Sought, Who, Where, Fetch, Going, Bye, InUse, Var, Tell, Shout, Decline, Withdraw, Post}
 use Rattle.lobby_state.specs.declared.acts.LobbyReply.{LobbyReply}
 use Rattle.lobby_state.specs.Bye.{bye_effect}
 use Rattle.lobby_state.specs.Decline.{decline_effect}
@@ -14,6 +14,7 @@ use Rattle.lobby_state.specs.Going.{going_effect}
 use Rattle.lobby_state.specs.InUse.{in_use_effect}
 use Rattle.lobby_state.specs.Lobby.{LobbyState}
 use Rattle.lobby_state.specs.Match.{match_effect}
+use Rattle.lobby_state.specs.Post.{post_effect}
 use Rattle.lobby_state.specs.Registration.{registration_effect}
 use Rattle.lobby_state.specs.Sought.{sought_effect}
 use Rattle.lobby_state.specs.Unpost.{unpost_effect}
@@ -29,6 +30,7 @@ abbrev pub lobby_effect : LobbyState → ℕ → LobbyAct → Effect LobbyState 
 lobby_effect lobby session (Enter name digest) = enter_effect lobby session name digest
 lobby_effect lobby session (Register digest) = registration_effect lobby session digest
 lobby_effect lobby session (Match to terms) = match_effect lobby session to terms
+lobby_effect lobby session (Post terms) = post_effect lobby session terms
 lobby_effect lobby session (Unpost number) = unpost_effect lobby session number
 lobby_effect lobby session Sought = sought_effect lobby session
 lobby_effect lobby session Who = who_effect lobby session
@@ -61,6 +63,7 @@ abbrev pub FitsLobby : LobbyAct → Type 0
 FitsLobby (Match to terms) = AreTerms terms
 FitsLobby (Tell to text) = length text ≤ 800
 FitsLobby (Shout text) = length text ≤ 800
+FitsLobby (Post terms) = AreTerms terms
 FitsLobby _ = Unit {0}
 
 -- Where, Going and Bye need no memory, also not for a copy of what they answer

@@ -7,6 +7,7 @@ pub mod Enter
 pub mod Registration
 pub mod TermsText
 pub mod Match
+pub mod Post
 pub mod Unpost
 pub mod Sought
 pub mod Who

@@ -29,6 +29,10 @@ pub enum LobbyAct {
         to: HandleKey,
         terms: Terms,
     },
+    /// The member offers a game to whoever takes it.
+    Post {
+        terms: Terms,
+    },
     /// The member takes back its seek of that number, or without a number all its seeks.
     Unpost {
         number: Option<u16>,
@@ -79,6 +83,8 @@ pub enum LobbyReply {
     Entered(Handle),
     /// The handle has an account, whose password wasn't given: nothing was done.
     NeedPassword,
+    /// The seek has this number.
+    Number(u16),
     /// These lines, for whoever asked.
     Lines(Listed<Line>),
     /// So many members were told.
@@ -99,6 +105,7 @@ impl LobbyReply {
             LobbyReply::Done => LobbyReply::Done,
             LobbyReply::Entered(name) => LobbyReply::Entered(*name),
             LobbyReply::NeedPassword => LobbyReply::NeedPassword,
+            LobbyReply::Number(number) => LobbyReply::Number(*number),
             LobbyReply::Lines(_) => LobbyReply::Lines(lists.lines),
             LobbyReply::Told(count) => LobbyReply::Told(*count),
             LobbyReply::Places(places) => LobbyReply::Places(*places),

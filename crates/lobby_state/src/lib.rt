@@ -29,6 +29,7 @@ mod member;
 mod place;
 mod places;
 mod play;
+mod post;
 mod register;
 mod registration;
 mod seeks;

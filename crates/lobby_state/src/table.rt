@@ -1,5 +1,5 @@
 //! Which act is carried out by which function.
-ghost use Rattle.std.specs.Prelude.{◌≡◌, IfOk, IfSome, IsOk};
+ghost use Rattle.std.specs.Prelude.{◌≡◌, ◌<◌, IfOk, IfSome, IsOk, length};
 ghost use Rattle.fics_words.specs.Effect.{Takes};
 ghost use Rattle.lobby_state.specs.Acts.{FitsLobby, LobbyNeedsNoMemory, lobby_effect};
 ghost use Rattle.lobby_state.specs.Desks.{IsDesk};
@@ -14,13 +14,15 @@ use fics_words::{Fail, NoMemory, Refusal};
 impl Register {
     /// Carries out an act that needs the lobby alone.
     pub(crate) fn act(&mut self, session: u32, act: &LobbyAct) -> Result<LobbyReply, Fail>
-        requires { FitsLobby act.now }
+        requires fits { FitsLobby act.now }
+        requires numbers { length self.old.seeks < 65535 }
         ensures { Takes (lobby_effect self.old session act.now) self.old self.new result }
     {
         match act {
             LobbyAct::Enter { name, digest } => self.enter(session, *name, *digest),
             LobbyAct::Register { digest } => self.register(session, *digest),
             LobbyAct::Match { to, terms } => self.challenge(session, *to, *terms),
+            LobbyAct::Post { terms } => self.post(session, *terms),
             LobbyAct::Unpost { number } => self.unpost(session, *number),
             LobbyAct::Sought => self.sought(session),
             LobbyAct::Who => self.who(session),
