@@ -5,10 +5,15 @@ pub mod Commands
 pub mod Flag
 pub mod Match
 pub mod Numbers
+pub mod Play
 pub mod Quit
 pub mod Register
 pub mod Resign
+pub mod Seek
+pub mod Sought
 pub mod TermReading
 pub mod TermWords
 pub mod Texts
+pub mod Unseek
 pub mod Verbs
+pub mod Who

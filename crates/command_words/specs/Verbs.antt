@@ -4,20 +4,25 @@ use Rattle.std.specs.List.{starts_with}
 use Rattle.fics_words.specs.declared.refusal.Refusal.{Refusal}
 use Rattle.fics_words.specs.declared.refusal.Refusal.TheVariants.{Unknown, AmbiguousWord}
 use Rattle.command_words.specs.declared.verbs.Verb.{Verb}
-use Rattle.command_words.specs.declared.verbs.Verb.TheVariants.{Accept, Flag, Match, Quit, Register, Resign}
+use Rattle.command_words.specs.declared.verbs.Verb.TheVariants.{Accept, Flag, Match, Play, Quit, Register, Resign, Seek, Sought, Unseek, Who}
 
 -- the commands
 abbrev pub verbs : List Verb
-verbs = Accept ∷ Flag ∷ Match ∷ Quit ∷ Register ∷ Resign ∷ []
+verbs = Accept ∷ Flag ∷ Match ∷ Play ∷ Quit ∷ Register ∷ Resign ∷ Seek ∷ Sought ∷ Unseek ∷ Who ∷ []
 
 -- a command's name
 abbrev pub name_of : Verb → List ℕ
 name_of Accept = codes "accept"
 name_of Flag = codes "flag"
 name_of Match = codes "match"
+name_of Play = codes "play"
 name_of Quit = codes "quit"
 name_of Register = codes "register"
 name_of Resign = codes "resign"
+name_of Seek = codes "seek"
+name_of Sought = codes "sought"
+name_of Unseek = codes "unseek"
+name_of Who = codes "who"
 
 -- a command's short form; its name where it has none
 abbrev pub short_of : Verb → List ℕ
@@ -64,3 +69,6 @@ example_two = refl
 
 example_none : verb_of (codes "zz") ≡ Err Unknown
 example_none = refl
+
+example_seek_or_sought : verb_of (codes "s") ≡ Err AmbiguousWord
+example_seek_or_sought = refl

@@ -12,6 +12,16 @@ pub enum Command {
     Move(MoveWord),
     /// To challenge a player to a game of these terms.
     Match(Handle, Terms),
+    /// To offer a game of these terms to whoever takes it.
+    Seek(Terms),
+    /// To take back the seek of this number, or all of them.
+    Unseek(Option<u16>),
+    /// To be told which seeks stand.
+    Sought,
+    /// To take the seek of this number.
+    Play(u16),
+    /// To be told who is in the hall.
+    Who,
     /// To accept the offer or challenge of this player, or the oldest one.
     Accept(Option<Handle>),
     /// To give up the game at the present place.

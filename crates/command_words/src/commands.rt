@@ -3,6 +3,11 @@
 pub(crate) mod accept;
 pub(crate) mod flag;
 pub(crate) mod matching;
+pub(crate) mod play;
 pub(crate) mod quit;
 pub(crate) mod register;
 pub(crate) mod resign;
+pub(crate) mod seek;
+pub(crate) mod sought;
+pub(crate) mod unseek;
+pub(crate) mod who;

@@ -11,19 +11,29 @@ pub enum Verb {
     Accept,
     Flag,
     Match,
+    Play,
     Quit,
     Register,
     Resign,
+    Seek,
+    Sought,
+    Unseek,
+    Who,
 }
 
 /// The commands.
-pub const VERBS: [Verb; 6] = [
+pub const VERBS: [Verb; 11] = [
     Verb::Accept,
     Verb::Flag,
     Verb::Match,
+    Verb::Play,
     Verb::Quit,
     Verb::Register,
     Verb::Resign,
+    Verb::Seek,
+    Verb::Sought,
+    Verb::Unseek,
+    Verb::Who,
 ];
 
 /// The command that a word in lower case names: the one whose name or short form it is, and else the one whose name it
@@ -100,9 +110,14 @@ fn name_of(verb: Verb) -> &'static [u8]
         Verb::Accept => b"accept",
         Verb::Flag => b"flag",
         Verb::Match => b"match",
+        Verb::Play => b"play",
         Verb::Quit => b"quit",
         Verb::Register => b"register",
         Verb::Resign => b"resign",
+        Verb::Seek => b"seek",
+        Verb::Sought => b"sought",
+        Verb::Unseek => b"unseek",
+        Verb::Who => b"who",
     }
 }
 

@@ -14,6 +14,8 @@ mod replay_ends;
 #[cfg(test)]
 mod replay_logins;
 #[cfg(test)]
+mod replay_seeks;
+#[cfg(test)]
 mod replay_stamps;
 #[cfg(test)]
 mod replays;
