@@ -4,25 +4,43 @@ use Rattle.std.specs.List.{starts_with}
 use Rattle.fics_words.specs.declared.refusal.Refusal.{Refusal}
 use Rattle.fics_words.specs.declared.refusal.Refusal.TheVariants.{Unknown, AmbiguousWord}
 use Rattle.command_words.specs.declared.verbs.Verb.{Verb}
-use Rattle.command_words.specs.declared.verbs.Verb.TheVariants.{Accept, Flag, Match, Quit, Register, Resign}
+use Rattle.command_words.specs.declared.verbs.Verb.TheVariants.{Accept, Decline, Flag, Match, Quit, Register, Resign, Set, Shout, Tell, Withdraw}
 
 -- the commands
 abbrev pub verbs : List Verb
-verbs = Accept ∷ Flag ∷ Match ∷ Quit ∷ Register ∷ Resign ∷ []
+verbs =
+    Accept ∷
+    Decline ∷
+    Flag ∷
+    Match ∷
+    Quit ∷
+    Register ∷
+    Resign ∷
+    Set ∷
+    Shout ∷
+    Tell ∷
+    Withdraw ∷
+    []
 
 -- a command's name
 abbrev pub name_of : Verb → List ℕ
 name_of Accept = codes "accept"
+name_of Decline = codes "decline"
 name_of Flag = codes "flag"
 name_of Match = codes "match"
 name_of Quit = codes "quit"
 name_of Register = codes "register"
 name_of Resign = codes "resign"
+name_of Set = codes "set"
+name_of Shout = codes "shout"
+name_of Tell = codes "tell"
+name_of Withdraw = codes "withdraw"
 
 -- a command's short form; its name where it has none
 abbrev pub short_of : Verb → List ℕ
 short_of Accept = codes "a"
 short_of Match = codes "m"
+short_of Tell = codes "t"
 short_of verb = name_of verb
 
 -- the word is the command's name or its short form

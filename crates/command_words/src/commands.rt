@@ -1,8 +1,13 @@
 //! The commands, each in a file of its own.
 
 pub(crate) mod accept;
+pub(crate) mod decline;
 pub(crate) mod flag;
 pub(crate) mod matching;
 pub(crate) mod quit;
 pub(crate) mod register;
 pub(crate) mod resign;
+pub(crate) mod set;
+pub(crate) mod shout;
+pub(crate) mod tell;
+pub(crate) mod withdraw;

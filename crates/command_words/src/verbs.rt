@@ -9,21 +9,31 @@ use fics_words::Refusal;
 #[derive(Clone, Copy, Debug, PartialEq, Eq)]
 pub enum Verb {
     Accept,
+    Decline,
     Flag,
     Match,
     Quit,
     Register,
     Resign,
+    Set,
+    Shout,
+    Tell,
+    Withdraw,
 }
 
 /// The commands.
-pub const VERBS: [Verb; 6] = [
+pub const VERBS: [Verb; 11] = [
     Verb::Accept,
+    Verb::Decline,
     Verb::Flag,
     Verb::Match,
     Verb::Quit,
     Verb::Register,
     Verb::Resign,
+    Verb::Set,
+    Verb::Shout,
+    Verb::Tell,
+    Verb::Withdraw,
 ];
 
 /// The command that a word in lower case names: the one whose name or short form it is, and else the one whose name it
@@ -98,11 +108,16 @@ fn name_of(verb: Verb) -> &'static [u8]
 {
     match verb {
         Verb::Accept => b"accept",
+        Verb::Decline => b"decline",
         Verb::Flag => b"flag",
         Verb::Match => b"match",
         Verb::Quit => b"quit",
         Verb::Register => b"register",
         Verb::Resign => b"resign",
+        Verb::Set => b"set",
+        Verb::Shout => b"shout",
+        Verb::Tell => b"tell",
+        Verb::Withdraw => b"withdraw",
     }
 }
 
@@ -113,6 +128,7 @@ fn short_of(verb: Verb) -> &'static [u8]
     match verb {
         Verb::Accept => b"a",
         Verb::Match => b"m",
+        Verb::Tell => b"t",
         _ => name_of(verb),
     }
 }
