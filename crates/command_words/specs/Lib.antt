@@ -2,6 +2,7 @@ pub mod Accept
 pub mod Aliases
 pub mod Blanks
 pub mod Commands
+pub mod Decline
 pub mod Flag
 pub mod Match
 pub mod Numbers
@@ -11,9 +12,13 @@ pub mod Register
 pub mod Resign
 pub mod Seek
 pub mod Sought
+pub mod Set
+pub mod Shout
+pub mod Tell
 pub mod TermReading
 pub mod TermWords
 pub mod Texts
 pub mod Unseek
 pub mod Verbs
 pub mod Who
+pub mod Withdraw

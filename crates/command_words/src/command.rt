@@ -24,6 +24,20 @@ pub enum Command {
     Who,
     /// To accept the offer or challenge of this player, or the oldest one.
     Accept(Option<Handle>),
+    /// To turn down the offer or challenge of this player, or the oldest one.
+    Decline(Option<Handle>),
+    /// To take back the challenge to this player, or the oldest one.
+    Withdraw(Option<Handle>),
+    /// To say this text to a player.
+    Tell(Handle, Line),
+    /// To say this text to all who want to hear it.
+    Shout(Line),
+    /// To be challenged, or not to be.
+    SetOpen(bool),
+    /// To hear what others shout, or not to.
+    SetShout(bool),
+    /// To hear of seeks, or not to.
+    SetSeek(bool),
     /// To give up the game at the present place.
     Resign,
     /// To call the flag on the opponent at the present place.

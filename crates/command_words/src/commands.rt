@@ -1,6 +1,7 @@
 //! The commands, each in a file of its own.
 
 pub(crate) mod accept;
+pub(crate) mod decline;
 pub(crate) mod flag;
 pub(crate) mod matching;
 pub(crate) mod play;
@@ -11,3 +12,7 @@ pub(crate) mod seek;
 pub(crate) mod sought;
 pub(crate) mod unseek;
 pub(crate) mod who;
+pub(crate) mod set;
+pub(crate) mod shout;
+pub(crate) mod tell;
+pub(crate) mod withdraw;

@@ -11,7 +11,8 @@ use crate::aliases::{Alias, Aliases};
 use crate::blanks::{first_word, rest_of, trimmed};
 use crate::command::Command;
 use crate::commands::{
-    accept, flag, matching, play, quit, register, resign, seek, sought, unseek, who,
+    accept, decline, flag, matching, play, quit, register, resign, seek, set, shout, sought, tell,
+    unseek, who, withdraw,
 };
 use crate::expansion::expanded;
 use crate::verbs::{Verb, verb_of};
@@ -109,6 +110,7 @@ fn read_arguments(alloc: Global, verb: Verb, rest: &[u8]) -> Result<Command, Fai
 {
     match verb {
         Verb::Accept => Ok(accept::read(rest)?),
+        Verb::Decline => Ok(decline::read(rest)?),
         Verb::Flag => Ok(flag::read(rest)?),
         Verb::Match => Ok(matching::read(rest)?),
         Verb::Play => Ok(play::read(rest)?),
@@ -119,6 +121,10 @@ fn read_arguments(alloc: Global, verb: Verb, rest: &[u8]) -> Result<Command, Fai
         Verb::Sought => Ok(sought::read(rest)?),
         Verb::Unseek => Ok(unseek::read(rest)?),
         Verb::Who => Ok(who::read(rest)?),
+        Verb::Set => Ok(set::read(rest)?),
+        Verb::Shout => shout::read(alloc, rest),
+        Verb::Tell => tell::read(alloc, rest),
+        Verb::Withdraw => Ok(withdraw::read(rest)?),
     }
 }
 

@@ -9,6 +9,7 @@ use fics_words::Refusal;
 #[derive(Clone, Copy, Debug, PartialEq, Eq)]
 pub enum Verb {
     Accept,
+    Decline,
     Flag,
     Match,
     Play,
@@ -16,14 +17,19 @@ pub enum Verb {
     Register,
     Resign,
     Seek,
+    Set,
+    Shout,
     Sought,
+    Tell,
     Unseek,
     Who,
+    Withdraw,
 }
 
 /// The commands.
-pub const VERBS: [Verb; 11] = [
+pub const VERBS: [Verb; 16] = [
     Verb::Accept,
+    Verb::Decline,
     Verb::Flag,
     Verb::Match,
     Verb::Play,
@@ -31,9 +37,13 @@ pub const VERBS: [Verb; 11] = [
     Verb::Register,
     Verb::Resign,
     Verb::Seek,
+    Verb::Set,
+    Verb::Shout,
     Verb::Sought,
+    Verb::Tell,
     Verb::Unseek,
     Verb::Who,
+    Verb::Withdraw,
 ];
 
 /// The command that a word in lower case names: the one whose name or short form it is, and else the one whose name it
@@ -108,6 +118,7 @@ fn name_of(verb: Verb) -> &'static [u8]
 {
     match verb {
         Verb::Accept => b"accept",
+        Verb::Decline => b"decline",
         Verb::Flag => b"flag",
         Verb::Match => b"match",
         Verb::Play => b"play",
@@ -118,6 +129,10 @@ fn name_of(verb: Verb) -> &'static [u8]
         Verb::Sought => b"sought",
         Verb::Unseek => b"unseek",
         Verb::Who => b"who",
+        Verb::Set => b"set",
+        Verb::Shout => b"shout",
+        Verb::Tell => b"tell",
+        Verb::Withdraw => b"withdraw",
     }
 }
 
@@ -128,6 +143,7 @@ fn short_of(verb: Verb) -> &'static [u8]
     match verb {
         Verb::Accept => b"a",
         Verb::Match => b"m",
+        Verb::Tell => b"t",
         _ => name_of(verb),
     }
 }
