@@ -1,5 +1,6 @@
 pub mod CommandOfLine
 pub mod Decimals
+pub mod Digits
 pub mod Forms
 pub mod Parts
 pub mod TermParts

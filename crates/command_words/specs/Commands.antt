@@ -10,29 +10,49 @@ use Rattle.command_words.specs.declared.aliases.Alias.{Alias}
 use Rattle.command_words.specs.declared.command.Command.{Command}
 use Rattle.command_words.specs.declared.command.Command.TheVariants as command
 use Rattle.command_words.specs.declared.verbs.Verb.{Verb}
-use Rattle.command_words.specs.declared.verbs.Verb.TheVariants.{Accept, Flag, Match, Quit, Register, Resign, Unalias}
 use Rattle.command_words.specs.declared.verbs.Verb.TheVariants as verb
+use Rattle.command_words.specs.declared.verbs.Verb.TheVariants.{Accept, Decline, Flag, Match, Play, Quit, Register, Resign, Seek, Set, Shout, Sought, Tell, Unalias, Unseek, Who, Withdraw}
 use Rattle.command_words.specs.Blanks.{trimmed, first_word, rest_of}
 use Rattle.command_words.specs.Aliases.{alias_of, expanded}
 use Rattle.command_words.specs.Verbs.{verb_of}
 use Rattle.command_words.specs.Accept.{accept_of}
 use Rattle.command_words.specs.Alias.{alias_command, unalias_command}
+use Rattle.command_words.specs.Decline.{decline_of}
 use Rattle.command_words.specs.Flag.{flag_of}
 use Rattle.command_words.specs.Match.{match_of}
+use Rattle.command_words.specs.Play.{play_of}
 use Rattle.command_words.specs.Quit.{quit_of}
 use Rattle.command_words.specs.Register.{register_of}
 use Rattle.command_words.specs.Resign.{resign_of}
+use Rattle.command_words.specs.Seek.{seek_of}
+use Rattle.command_words.specs.Sought.{sought_of}
+use Rattle.command_words.specs.Unseek.{unseek_of}
+use Rattle.command_words.specs.Who.{who_of}
+use Rattle.command_words.specs.Set.{set_of}
+use Rattle.command_words.specs.Shout.{shout_of}
+use Rattle.command_words.specs.Tell.{tell_of}
+use Rattle.command_words.specs.Withdraw.{withdraw_of}
 
 -- what the rest of the line says, as each command reads its arguments
 abbrev pub arguments_of : Verb → List ℕ → Result Command Refusal
 arguments_of Accept rest = accept_of rest
 arguments_of verb.Alias rest = alias_command rest
+arguments_of Decline rest = decline_of rest
 arguments_of Flag rest = flag_of rest
 arguments_of Match rest = match_of rest
+arguments_of Play rest = play_of rest
 arguments_of Quit rest = quit_of rest
 arguments_of Register rest = register_of rest
 arguments_of Resign rest = resign_of rest
+arguments_of Seek rest = seek_of rest
+arguments_of Sought rest = sought_of rest
 arguments_of Unalias rest = unalias_command rest
+arguments_of Unseek rest = unseek_of rest
+arguments_of Who rest = who_of rest
+arguments_of Set rest = set_of rest
+arguments_of Shout rest = shout_of rest
+arguments_of Tell rest = tell_of rest
+arguments_of Withdraw rest = withdraw_of rest
 
 abbrev pub asked : Result Verb Refusal → List ℕ → Result Command Refusal
 asked (Ok verb) rest = arguments_of verb rest

@@ -1,5 +1,5 @@
 -- Numbers as arguments: decimals without leading zeros, up to a limit.
-use Rattle.std.specs.Prelude.{◌≡◌, ℕ, nat_le, ◌==◌, not, ◌&&◌, if◌then◌else◌, Bool, false, List, [], ◌∷◌, Option, Some, None, codes, refl}
+use Rattle.std.specs.Prelude.{◌≡◌, ℕ, nat_le, ◌==◌, not, ◌&&◌, if◌then◌else◌, Bool, false, List, [], ◌∷◌, Option, Some, None, is_none, codes, refl}
 use Rattle.std.specs.Str.{all_ascii_digits}
 use Rattle.std.specs.Str.Parse.{digits_value}
 
@@ -13,6 +13,10 @@ is_decimal (digit ∷ next ∷ digits) = not (digit == 48) && all_ascii_digits (
 unfoldable pub number_of : ℕ → List ℕ → Option ℕ
 number_of most word =
     let number = digits_value 10 word in if is_decimal word && nat_le number most then Some number else None
+
+-- the word is a decimal above 255, however long, which no channel has as its number
+abbrev pub is_no_channel : List ℕ → Bool
+is_no_channel word = is_decimal word && is_none (number_of 255 word)
 
 example_most : number_of 600 (codes "600") ≡ Some 600
 unfolding number_of

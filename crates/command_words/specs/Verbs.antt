@@ -4,27 +4,57 @@ use Rattle.std.specs.List.{starts_with}
 use Rattle.fics_words.specs.declared.refusal.Refusal.{Refusal}
 use Rattle.fics_words.specs.declared.refusal.Refusal.TheVariants.{Unknown, AmbiguousWord}
 use Rattle.command_words.specs.declared.verbs.Verb.{Verb}
-use Rattle.command_words.specs.declared.verbs.Verb.TheVariants.{Accept, Alias, Flag, Match, Quit, Register, Resign, Unalias}
+use Rattle.command_words.specs.declared.verbs.Verb.TheVariants.{Accept, Alias, Decline, Flag, Match, Play, Quit, Register, Resign, Seek, Set, Shout, Sought, Tell, Unalias, Unseek, Who, Withdraw}
 
 -- the commands
 abbrev pub verbs : List Verb
-verbs = Accept ∷ Alias ∷ Flag ∷ Match ∷ Quit ∷ Register ∷ Resign ∷ Unalias ∷ []
+verbs =
+    Accept ∷
+    Alias ∷
+    Decline ∷
+    Flag ∷
+    Match ∷
+    Play ∷
+    Quit ∷
+    Register ∷
+    Resign ∷
+    Seek ∷
+    Set ∷
+    Shout ∷
+    Sought ∷
+    Tell ∷
+    Unalias ∷
+    Unseek ∷
+    Who ∷
+    Withdraw ∷
+    []
 
 -- a command's name
 abbrev pub name_of : Verb → List ℕ
 name_of Accept = codes "accept"
 name_of Alias = codes "alias"
+name_of Decline = codes "decline"
 name_of Flag = codes "flag"
 name_of Match = codes "match"
+name_of Play = codes "play"
 name_of Quit = codes "quit"
 name_of Register = codes "register"
 name_of Resign = codes "resign"
+name_of Seek = codes "seek"
+name_of Sought = codes "sought"
 name_of Unalias = codes "unalias"
+name_of Unseek = codes "unseek"
+name_of Who = codes "who"
+name_of Set = codes "set"
+name_of Shout = codes "shout"
+name_of Tell = codes "tell"
+name_of Withdraw = codes "withdraw"
 
 -- a command's short form; its name where it has none
 abbrev pub short_of : Verb → List ℕ
 short_of Accept = codes "a"
 short_of Match = codes "m"
+short_of Tell = codes "t"
 short_of verb = name_of verb
 
 -- the word is the command's name or its short form
@@ -66,3 +96,6 @@ example_two = refl
 
 example_none : verb_of (codes "zz") ≡ Err Unknown
 example_none = refl
+
+example_seek_or_sought : verb_of (codes "s") ≡ Err AmbiguousWord
+example_seek_or_sought = refl

@@ -12,8 +12,32 @@ pub enum Command {
     Move(MoveWord),
     /// To challenge a player to a game of these terms.
     Match(Handle, Terms),
+    /// To offer a game of these terms to whoever takes it.
+    Seek(Terms),
+    /// To take back the seek of this number, or all of them.
+    Unseek(Option<u16>),
+    /// To be told which seeks stand.
+    Sought,
+    /// To take the seek of this number.
+    Play(u16),
+    /// To be told who is in the hall.
+    Who,
     /// To accept the offer or challenge of this player, or the oldest one.
     Accept(Option<Handle>),
+    /// To turn down the offer or challenge of this player, or the oldest one.
+    Decline(Option<Handle>),
+    /// To take back the challenge to this player, or the oldest one.
+    Withdraw(Option<Handle>),
+    /// To say this text to a player.
+    Tell(Handle, Line),
+    /// To say this text to all who want to hear it.
+    Shout(Line),
+    /// To be challenged, or not to be.
+    SetOpen(bool),
+    /// To hear what others shout, or not to.
+    SetShout(bool),
+    /// To hear of seeks, or not to.
+    SetSeek(bool),
     /// To give up the game at the present place.
     Resign,
     /// To call the flag on the opponent at the present place.

@@ -2,8 +2,18 @@
 
 pub(crate) mod accept;
 pub(crate) mod alias;
+pub(crate) mod decline;
 pub(crate) mod flag;
 pub(crate) mod matching;
+pub(crate) mod play;
 pub(crate) mod quit;
 pub(crate) mod register;
 pub(crate) mod resign;
+pub(crate) mod seek;
+pub(crate) mod sought;
+pub(crate) mod unseek;
+pub(crate) mod who;
+pub(crate) mod set;
+pub(crate) mod shout;
+pub(crate) mod tell;
+pub(crate) mod withdraw;

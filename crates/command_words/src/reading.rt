@@ -10,7 +10,10 @@ ghost use Rattle.command_words.specs.Commands.{command_in, command_after, comman
 use crate::aliases::{Alias, Aliases};
 use crate::blanks::{first_word, rest_of, trimmed};
 use crate::command::Command;
-use crate::commands::{accept, alias, flag, matching, quit, register, resign};
+use crate::commands::{
+    accept, alias, decline, flag, matching, play, quit, register, resign, seek, set, shout, sought, tell,
+    unseek, who, withdraw,
+};
 use crate::expansion::expanded;
 use crate::verbs::{Verb, verb_of};
 use chess_model::MoveWord;
@@ -108,12 +111,22 @@ fn read_arguments(alloc: Global, verb: Verb, rest: &[u8]) -> Result<Command, Fai
     match verb {
         Verb::Accept => Ok(accept::read(rest)?),
         Verb::Alias => alias::read(alloc, rest),
+        Verb::Decline => Ok(decline::read(rest)?),
         Verb::Flag => Ok(flag::read(rest)?),
         Verb::Match => Ok(matching::read(rest)?),
+        Verb::Play => Ok(play::read(rest)?),
         Verb::Quit => Ok(quit::read(rest)?),
         Verb::Register => register::read(alloc, rest),
         Verb::Resign => Ok(resign::read(rest)?),
+        Verb::Seek => Ok(seek::read(rest)?),
+        Verb::Sought => Ok(sought::read(rest)?),
         Verb::Unalias => alias::read_unalias(alloc, rest),
+        Verb::Unseek => Ok(unseek::read(rest)?),
+        Verb::Who => Ok(who::read(rest)?),
+        Verb::Set => Ok(set::read(rest)?),
+        Verb::Shout => shout::read(alloc, rest),
+        Verb::Tell => tell::read(alloc, rest),
+        Verb::Withdraw => Ok(withdraw::read(rest)?),
     }
 }
 

@@ -10,24 +10,44 @@ use fics_words::Refusal;
 pub enum Verb {
     Accept,
     Alias,
+    Decline,
     Flag,
     Match,
+    Play,
     Quit,
     Register,
     Resign,
+    Seek,
+    Set,
+    Shout,
+    Sought,
+    Tell,
     Unalias,
+    Unseek,
+    Who,
+    Withdraw,
 }
 
 /// The commands.
-pub const VERBS: [Verb; 8] = [
+pub const VERBS: [Verb; 18] = [
     Verb::Accept,
     Verb::Alias,
+    Verb::Decline,
     Verb::Flag,
     Verb::Match,
+    Verb::Play,
     Verb::Quit,
     Verb::Register,
     Verb::Resign,
+    Verb::Seek,
+    Verb::Set,
+    Verb::Shout,
+    Verb::Sought,
+    Verb::Tell,
     Verb::Unalias,
+    Verb::Unseek,
+    Verb::Who,
+    Verb::Withdraw,
 ];
 
 /// The command that a word in lower case names: the one whose name or short form it is, and else the one whose name it
@@ -103,12 +123,22 @@ fn name_of(verb: Verb) -> &'static [u8]
     match verb {
         Verb::Accept => b"accept",
         Verb::Alias => b"alias",
+        Verb::Decline => b"decline",
         Verb::Flag => b"flag",
         Verb::Match => b"match",
+        Verb::Play => b"play",
         Verb::Quit => b"quit",
         Verb::Register => b"register",
         Verb::Resign => b"resign",
+        Verb::Seek => b"seek",
+        Verb::Sought => b"sought",
         Verb::Unalias => b"unalias",
+        Verb::Unseek => b"unseek",
+        Verb::Who => b"who",
+        Verb::Set => b"set",
+        Verb::Shout => b"shout",
+        Verb::Tell => b"tell",
+        Verb::Withdraw => b"withdraw",
     }
 }
 
@@ -119,6 +149,7 @@ fn short_of(verb: Verb) -> &'static [u8]
     match verb {
         Verb::Accept => b"a",
         Verb::Match => b"m",
+        Verb::Tell => b"t",
         _ => name_of(verb),
     }
 }

@@ -19,6 +19,10 @@ pub enum Said {
     Done,
     Entered,
     NeedPassword,
+    /// The number of a seek.
+    Number(u16),
+    /// So many lines of a list.
+    Lines(usize),
     /// So many desks.
     Desks(usize),
     /// So many places.
@@ -205,6 +209,8 @@ fn of_lobby(answer: &LobbyReply) -> Said {
         LobbyReply::Done => Said::Done,
         LobbyReply::Entered(_) => Said::Entered,
         LobbyReply::NeedPassword => Said::NeedPassword,
+        LobbyReply::Number(number) => Said::Number(*number),
+        LobbyReply::Lines(lines) => Said::Lines(lines.len()),
         LobbyReply::Places(places) => Said::Places(places.rows().len()),
         LobbyReply::Waiting { lines, places } => Said::Waiting(lines.len(), places.rows().len()),
         LobbyReply::Desks(desks) => Said::Desks(desks.len()),

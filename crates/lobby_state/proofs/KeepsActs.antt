@@ -6,7 +6,7 @@ use Rattle.fics_words.specs.declared.fail.Fail.{Fail}
 use Rattle.fics_words.specs.declared.fail.Fail.TheVariants.{Refused, Memory}
 use Rattle.fics_words.specs.declared.refusal.Refusal.{Refusal}
 use Rattle.lobby_state.specs.declared.acts.LobbyAct.{LobbyAct}
-use Rattle.lobby_state.specs.declared.acts.LobbyAct.TheVariants.{Enter, Register, Match, Where, Fetch, Going, Bye, InUse}
+use Rattle.lobby_state.specs.declared.acts.LobbyAct.TheVariants.{Enter, Register, Match, Unpost, Sought, Who, Where, Fetch, Going, Bye, InUse, Var, Tell, Shout, Decline, Withdraw, Post}
 use Rattle.lobby_state.specs.declared.acts.LobbyReply.{LobbyReply}
 use Rattle.lobby_state.specs.Acts.{LobbyNeedsNoMemory, lobby_after, lobby_answer, lobby_effect}
 use Rattle.lobby_state.specs.Keeps.{Keeps, TellsDesks}
@@ -14,19 +14,37 @@ use Rattle.lobby_state.specs.Lobby.{LobbyState}
 use Rattle.lobby_state.specs.WellFormed.{IsWellFormed}
 use Rattle.lobby_state.proofs.Causes.{none_holds}
 use Rattle.lobby_state.proofs.KeepsBye.{keeps_bye}
+use Rattle.lobby_state.proofs.KeepsDecline.{keeps_decline}
 use Rattle.lobby_state.proofs.KeepsEnter.{keeps_enter}
 use Rattle.lobby_state.proofs.KeepsFetch.{keeps_fetch}
 use Rattle.lobby_state.proofs.KeepsGoing.{keeps_going}
 use Rattle.lobby_state.proofs.KeepsInUse.{keeps_in_use}
 use Rattle.lobby_state.proofs.KeepsMatch.{keeps_match}
+use Rattle.lobby_state.proofs.KeepsPost.{keeps_post}
 use Rattle.lobby_state.proofs.KeepsRegistration.{keeps_registration}
+use Rattle.lobby_state.proofs.KeepsSought.{keeps_sought}
+use Rattle.lobby_state.proofs.KeepsUnpost.{keeps_unpost}
 use Rattle.lobby_state.proofs.KeepsWhere.{keeps_where}
+use Rattle.lobby_state.proofs.KeepsWho.{keeps_who}
+use Rattle.lobby_state.proofs.KeepsShout.{keeps_shout}
+use Rattle.lobby_state.proofs.KeepsTell.{keeps_tell}
+use Rattle.lobby_state.proofs.KeepsVar.{keeps_var}
+use Rattle.lobby_state.proofs.KeepsWithdraw.{keeps_withdraw}
 
 -- the table: what each act keeps
 pub keeps_act : (lobby : LobbyState) (session : ℕ) (act : LobbyAct) → Keeps lobby (lobby_effect lobby session act)
 keeps_act lobby session (Enter name digest) = keeps_enter lobby session name digest
 keeps_act lobby session (Register digest) = keeps_registration lobby session digest
 keeps_act lobby session (Match to terms) = keeps_match lobby session to terms
+keeps_act lobby session (Post terms) = keeps_post lobby session terms
+keeps_act lobby session (Unpost number) = keeps_unpost lobby session number
+keeps_act lobby session Sought = keeps_sought lobby session
+keeps_act lobby session Who = keeps_who lobby session
+keeps_act lobby session (Var which on) = keeps_var lobby session which on
+keeps_act lobby session (Tell to text) = keeps_tell lobby session to text
+keeps_act lobby session (Shout text) = keeps_shout lobby session text
+keeps_act lobby session (Decline name) = keeps_decline lobby session name
+keeps_act lobby session (Withdraw name) = keeps_withdraw lobby session name
 keeps_act lobby session Where = keeps_where lobby session
 keeps_act lobby session Fetch = keeps_fetch lobby session
 keeps_act lobby session Going = keeps_going lobby session

@@ -1,16 +1,19 @@
 -- What a Bye keeps.
-use Rattle.std.proofs.Common.{◌≡◌, ◌≢◌, ℕ, Bool, not, eqb, List, filter, refl, sym, ap, subst}
+use Rattle.std.proofs.Common.{◌≡◌, ◌≢◌, ℕ, Bool, not, eqb, List, None, filter, refl, sym, ap, subst, arith}
 use Rattle.std.specs.Prelude.{All}
 use Rattle.std.proofs.lemmas.Bool.{or_parts, not-true}
 use Rattle.std.proofs.lemmas.List.Elements.{All-filter}
 use Rattle.std.proofs.lemmas.List.Kept.{AllPairs-filter}
+use Rattle.std.proofs.lemmas.List.Sums.{count_by-le-length, length-filter}
 use Rattle.fics_words.specs.Handle.{key_of}
 use Rattle.lobby_state.specs.declared.member.Member.{Member}
 use Rattle.lobby_state.specs.Bye.{bye_effect}
 use Rattle.lobby_state.specs.Keeps.{Keeps}
 use Rattle.lobby_state.specs.Lobby.{LobbyState, concerns, is_session}
-use Rattle.lobby_state.specs.WellFormed.{IsWellFormed, IsBetweenMembers, HasSeats, sessions_of}
+use Rattle.lobby_state.specs.WellFormed.{IsWellFormed, IsBetweenMembers, AreSeeksOf, HasSeats, sessions_of}
 use Rattle.lobby_state.proofs.Lists.{All-filter_passing, map-filter, Contains-filter}
+use Rattle.lobby_state.proofs.SeekRows.{AreSeeksOf-without}
+use Rattle.seek_match.specs.Seeks.{is_by}
 
 parted : (lobby : LobbyState) (session : ℕ) → IsWellFormed lobby → IsWellFormed (bye_effect lobby session).after
 parted lobby session h =
@@ -20,6 +23,7 @@ parted lobby session h =
     let sessions : sessions_of (filter others lobby.members) ≡ left = map-filter (λ (m : Member). m.session) stays lobby.members in
     record {
       accounts = h.accounts;
+      hall = omega (arith, length-filter others lobby.members, count_by-le-length others lobby.members, h.hall);
       sessions = AllPairs-filter (λ a b. a.session ≢ b.session) others lobby.members h.sessions;
       handles = AllPairs-filter (λ a b. key_of a.name ≢ key_of b.name) others lobby.members h.handles;
       challenges = subst (λ (ss : List ℕ). All (IsBetweenMembers ss) (filter (λ c. not (concerns session c)) lobby.challenges)) (sym sessions)
@@ -32,6 +36,8 @@ parted lobby session h =
             differ = b.differ;
             for_two = b.for_two;
           }) lobby.challenges h.challenges);
+      seeks = subst (λ (ss : List ℕ). AreSeeksOf ss (filter (λ seek. not (is_by session None seek)) lobby.seeks)) (sym sessions)
+          (AreSeeksOf-without (sessions_of lobby.members) session lobby.seeks h.seeks);
       games = h.games;
       serials = h.serials;
       places = All-filter others (HasSeats lobby.games) lobby.members h.places;

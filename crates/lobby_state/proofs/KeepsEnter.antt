@@ -1,5 +1,5 @@
 -- What an Enter keeps.
-use Rattle.std.proofs.Common.{◌≡◌, ◌≢◌, ℕ, ◌<◌, length, length-append, map, arith, true, false, List, [], ◌∷◌, ◌++◌, Option, None, Some, is_some, bytes_eq, refl, sym, ap, subst, ◌∙◌}
+use Rattle.std.proofs.Common.{◌≡◌, ◌≢◌, ℕ, ◌<◌, length, length-append, map, arith, true, false, List, [], ◌∷◌, ◌++◌, Option, None, Some, is_some, bytes_eq, leb, refl, sym, ap, subst, ◌∙◌, rules, tests}
 use Rattle.std.specs.Prelude.{All}
 use Rattle.std.proofs.lemmas.Bool.{or_parts, eqb-false}
 use Rattle.std.proofs.lemmas.Cmp.{nat_list_eq_equiv}
@@ -16,8 +16,9 @@ use Rattle.login_handles.specs.declared.check.Check.TheVariants.{NeedPassword as
 use Rattle.lobby_state.specs.Enter.{enter_effect, entrant_of, guest_in, names_taken, newcomer, welcome, welcomed, with_newcomer}
 use Rattle.lobby_state.specs.Keeps.{Keeps, TellsDesks}
 use Rattle.lobby_state.specs.Lobby.{LobbyState, has_handle, holder_of, is_session, member_of}
-use Rattle.lobby_state.specs.WellFormed.{IsWellFormed, IsBetweenMembers, IsSeatOf, HasSeats, sessions_of}
+use Rattle.lobby_state.specs.WellFormed.{IsWellFormed, IsBetweenMembers, AreSeeksOf, IsSeatOf, HasSeats, sessions_of}
 use Rattle.lobby_state.proofs.Lists.{find-none}
+use Rattle.lobby_state.proofs.SeekRows.{AreSeeksOf-more}
 
 none_some : {X : Type 0} (o : Option X) → is_some o ≡ false → o ≡ None
 none_some None e = refl
@@ -28,10 +29,14 @@ same_key a b e same =
     let yes : bytes_eq a a ≡ true = nat_list_eq_equiv.refl a in
     let bad : true ≡ false = sym yes ∙ ap (bytes_eq a) same ∙ e in cc
 
-with_one_more : (lobby : LobbyState) (session : ℕ) (name : List ℕ) → member_of lobby session ≡ None → holder_of lobby (key_of name) ≡ None
-    → IsWellFormed lobby → IsWellFormed (with_newcomer lobby session name)
-with_one_more lobby session name alone free h = record {
+has_room : (n m : ℕ) → leb n m ≡ false → m < n
+has_room n m e = search (rules, tests)
+
+with_one_more : (lobby : LobbyState) (session : ℕ) (name : List ℕ) → length lobby.members < 256 → member_of lobby session ≡ None
+    → holder_of lobby (key_of name) ≡ None → IsWellFormed lobby → IsWellFormed (with_newcomer lobby session name)
+with_one_more lobby session name few alone free h = record {
   accounts = h.accounts;
+  hall = omega (arith, few, length-append lobby.members (newcomer session name ∷ []));
   sessions = all_pairs_push (λ a b. a.session ≢ b.session) lobby.members (newcomer session name) h.sessions
       (λ k d inside. eqb-false _ session (find-none (is_session session) lobby.members alone k d inside));
   handles = all_pairs_push (λ a b. key_of a.name ≢ key_of b.name) lobby.members (newcomer session name) h.handles
@@ -46,16 +51,21 @@ with_one_more lobby session name alone free h = record {
         differ = b.differ;
         for_two = b.for_two;
       }) lobby.challenges h.challenges);
+  seeks =
+      let more = map-append (λ (m : Member). m.session) lobby.members (newcomer session name ∷ []) in
+      subst (λ (ss : List ℕ). AreSeeksOf ss lobby.seeks) (sym more)
+      (AreSeeksOf-more (sessions_of lobby.members) (sessions_of lobby.members ++ session ∷ []) lobby.seeks
+      (Contains-append_left (sessions_of lobby.members) (session ∷ [])) h.seeks);
   games = h.games;
   serials = h.serials;
   places = All-push (HasSeats lobby.games) lobby.members (newcomer session name) h.places (All-nil (IsSeatOf lobby.games session));
 }
 
 -- whatever the accounts say, nobody comes in whose session or handle is there
-formed_welcomed : (check : Check) (lobby : LobbyState) (session : ℕ) (name : List ℕ) → member_of lobby session ≡ None → holder_of lobby (key_of name) ≡ None
-    → IsWellFormed lobby → IsWellFormed (welcomed check lobby session name)
-formed_welcomed MissesPassword lobby session name alone free h = h
-formed_welcomed _ lobby session name alone free h = with_one_more lobby session name alone free h
+formed_welcomed : (check : Check) (lobby : LobbyState) (session : ℕ) (name : List ℕ) → length lobby.members < 256 → member_of lobby session ≡ None
+    → holder_of lobby (key_of name) ≡ None → IsWellFormed lobby → IsWellFormed (welcomed check lobby session name)
+formed_welcomed MissesPassword lobby session name few alone free h = h
+formed_welcomed _ lobby session name few alone free h = with_one_more lobby session name few alone free h
 
 games_welcomed : (check : Check) (lobby : LobbyState) (session : ℕ) (name : List ℕ) → (welcomed check lobby session name).games ≡ lobby.games
 games_welcomed MissesPassword lobby session name = refl
@@ -71,7 +81,7 @@ keeps_enter lobby session name digest =
     record {
       formed = λ allowed h.
           let parts = or_parts (is_some (member_of lobby session)) (is_some (holder_of lobby (key_of entrant.name))) allowed.1.0 in
-          formed_welcomed entrant.check lobby session entrant.name (none_some (member_of lobby session) parts.0)
+          formed_welcomed entrant.check lobby session entrant.name (has_room 256 (length lobby.members) allowed.0) (none_some (member_of lobby session) parts.0)
           (none_some (holder_of lobby (key_of entrant.name)) parts.1) h;
       games = games_welcomed entrant.check lobby session entrant.name;
       tells = λ _. tells_welcome entrant.check entrant.name;

@@ -44,7 +44,7 @@ pub keeps_match : (lobby : LobbyState) (session : ℕ) (to : List ℕ) (terms : 
 keeps_match lobby session to terms = record {
   formed = λ allowed h.
       let apart = allowed.1.1.0 in
-      let two = allowed.1.1.1.1.0 in
+      let two = allowed.1.1.1.1.1.0 in
       formed_challenged lobby session to terms (member_of lobby session) (named lobby to) refl refl apart two h;
   games = games_challenged lobby to terms (member_of lobby session) (named lobby to);
   tells = λ _. tt;

@@ -4,7 +4,7 @@ use Rattle.std.specs.Prelude.{Bool, IfOk, IfSome}
 use Rattle.fics_words.specs.Effect.{answered, first_cause}
 use Rattle.fics_words.specs.declared.refusal.Refusal.{Refusal}
 use Rattle.lobby_state.specs.declared.acts.PairAct.{PairAct}
-use Rattle.lobby_state.specs.declared.acts.PairAct.TheVariants.{Accept, Clear}
+use Rattle.lobby_state.specs.declared.acts.PairAct.TheVariants.{Accept, Play, Clear}
 use Rattle.lobby_state.specs.declared.acts.Plan.{Plan}
 use Rattle.lobby_state.specs.declared.acts.Plan.TheVariants.{Start, Clear as Clearing}
 use Rattle.lobby_state.specs.Keeps.{KeepsPlan, KeepsPlanned}
@@ -16,11 +16,13 @@ use Rattle.lobby_state.specs.WellFormed.{IsWellFormed}
 use Rattle.lobby_state.proofs.Causes.{none_holds}
 use Rattle.lobby_state.proofs.KeepsAccept.{keeps_accept}
 use Rattle.lobby_state.proofs.KeepsClear.{keeps_clear, keeps_cleared}
+use Rattle.lobby_state.proofs.KeepsPlay.{keeps_play}
 use Rattle.lobby_state.proofs.KeepsStart.{keeps_started}
 
 -- the table: what each pair act keeps
 pub keeps_pair : (lobby : LobbyState) (session : ℕ) (act : PairAct) → NamesDesk act → KeepsPlanned lobby (plan_effect lobby session act)
 keeps_pair lobby session (Accept name) names = keeps_accept lobby session name
+keeps_pair lobby session (Play number) names = keeps_play lobby session number
 keeps_pair lobby session (Clear desk serial) names = keeps_clear lobby session desk serial names
 
 -- and what each plan keeps

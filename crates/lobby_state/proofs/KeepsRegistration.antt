@@ -31,9 +31,11 @@ with_one_account lobby account free room h = record {
     HasOneEach-append lobby.accounts account h.accounts.0 (none_there (account_of lobby.accounts (key_of account.name)) free),
     length-one_more lobby.accounts account (has_room 4096 (length lobby.accounts) room),
   );
+  hall = h.hall;
   sessions = h.sessions;
   handles = h.handles;
   challenges = h.challenges;
+  seeks = h.seeks;
   games = h.games;
   serials = h.serials;
   places = h.places;

@@ -20,11 +20,11 @@ use Rattle.lobby_state.specs.Desks.{IsDesk}
 use Rattle.lobby_state.specs.Lobby.{LobbyState}
 use Rattle.lobby_state.specs.Places.{PlaceList}
 use Rattle.lobby_state.specs.Planned.{CanStart}
-use Rattle.lobby_state.specs.Start.{concerns_seated, in_seat, seated}
+use Rattle.lobby_state.specs.Start.{concerns_seated, in_seat, is_by_seated, seated}
 use Rattle.lobby_state.specs.WellFormed.{IsWellFormed, IsBetweenMembers, IsSeatOf, IsStarted, HasSeats, sessions_of}
 use Rattle.lobby_state.proofs.First.{position-within, find-found}
 use Rattle.lobby_state.proofs.Lists.{map-map_same, All-map_each, find-passes, get-set_same, get-set_other, get_inside}
-use Rattle.lobby_state.proofs.WellFormed.{kept}
+use Rattle.lobby_state.proofs.WellFormed.{kept, seeks_gone}
 
 -- a number of a seat is that of the session's own
 record Sits (session : ℕ) (seats : Seats) (number : ℕ) : Type 0 where
@@ -101,7 +101,14 @@ formed_seated lobby desk serial terms seats can h =
     let in_use = get-set_same lobby.games (desk - 1) (Some game) inside in
     let rising : All (IsStarted serial) lobby.games =
     subst (λ (n : ℕ). All (IsStarted n) lobby.games) (sym can.is_next) (All-weaker (IsStarted lobby.started) (IsStarted (lobby.started + 1)) (IsStarted-later lobby.started) lobby.games h.serials) in
-    kept lobby (map sit lobby.members) (filter (λ c. not (concerns_seated seats c)) lobby.challenges) games serial
+    let others : LobbyState = record lobby {
+      members = map sit lobby.members;
+      challenges = filter (λ c. not (concerns_seated seats c)) lobby.challenges;
+      games = games;
+      started = serial;
+    } in
+    seeks_gone others (λ seek. not (is_by_seated seats seek))
+    (kept lobby (map sit lobby.members) (filter (λ c. not (concerns_seated seats c)) lobby.challenges) games serial
     (map-map_same (λ m. m.session) sit (λ m. in_seat_session desk serial (seat_number m.session (seat_list seats)) m) lobby.members)
     (map-map_same (λ m. key_of m.name) sit (λ m. ap key_of (in_seat_name desk serial (seat_number m.session (seat_list seats)) m)) lobby.members)
     (All-filter (λ c. not (concerns_seated seats c)) (IsBetweenMembers (sessions_of lobby.members)) lobby.challenges h.challenges)
@@ -110,7 +117,7 @@ formed_seated lobby desk serial terms seats can h =
     (All-map_each (HasSeats lobby.games) (HasSeats games) sit
     (λ m has. HasSeats-in_seat games desk serial terms seats m (seat_number m.session (seat_list seats)) can.is_desk in_use refl
     (All-weaker (IsSeatOf lobby.games m.session) (IsSeatOf games m.session) (λ p. IsSeatOf-started lobby.games (desk - 1) (Some game) m.session p can.is_free) m.places.rows has))
-    lobby.members h.places) h
+    lobby.members h.places) h)
 
 same_number : (one another : ℕ) → Some one ≡ Some another → one ≡ another
 same_number one another e = cc

@@ -1,7 +1,8 @@
 -- What leaves a lobby well-formed that was.
-use Rattle.std.proofs.Common.{◌≡◌, ℕ, Bool, List, [], ◌∷◌, Option, None, Some, length, map, filter, refl, sym, ap, subst, inl, inr, arith}
+use Rattle.std.proofs.Common.{◌≡◌, ℕ, ◌<◌, ◌≤◌, Bool, List, [], ◌∷◌, Option, None, Some, length, map, filter, refl, sym, ap, subst, ◌∙◌, inl, inr, arith}
 use Rattle.std.specs.Prelude.{All}
 use Rattle.std.specs.List.{find}
+use Rattle.std.proofs.lemmas.List.{length-map}
 use Rattle.std.proofs.lemmas.List.Elements.{All-nil, All-filter, All-replicate, All-weaker, All-head, All-tail}
 use Rattle.fics_words.specs.Handle.{key_of}
 use Rattle.lobby_state.specs.declared.challenge.Challenge.{Challenge}
@@ -10,9 +11,15 @@ use Rattle.lobby_state.specs.declared.member.Member.{Member}
 use Rattle.lobby_state.specs.Change.{change_first}
 use Rattle.lobby_state.specs.Places.{AreAtDesks}
 use Rattle.lobby_state.specs.Desks.{IsDesk, desks}
-use Rattle.lobby_state.specs.Lobby.{LobbyState, opening, is_session, member_of, places_in, places_of}
-use Rattle.lobby_state.specs.WellFormed.{IsWellFormed, IsBetweenMembers, IsSeatOf, IsStarted, HasSeats, sessions_of}
+use Rattle.lobby_state.specs.Lobby.{LobbyState, most_members, opening, is_session, member_of, places_in, places_of}
+use Rattle.lobby_state.specs.WellFormed.{IsWellFormed, IsBetweenMembers, IsByMember, AreSeeksOf, IsSeatOf, IsStarted, HasSeats, sessions_of}
 use Rattle.lobby_state.proofs.Lists.{map-change_first_same, All-change_first, AllPairs-same, find-step}
+use Rattle.lobby_state.proofs.SeekRows.{AreSeeksOf-filter, has_numbers_left}
+use Rattle.seek_match.specs.declared.seek.Seek.{Seek}
+
+-- lists that show the same are of one length
+length-kept : {X Y : Type 0} (g : X → Y) (xs ys : List X) → map g xs ≡ map g ys → length xs ≡ length ys
+length-kept g xs ys e = sym (length-map xs g) ∙ ap length e ∙ length-map ys g
 
 -- the lobby has other members and challenges, where sessions and handles are those of before
 pub kept : (lobby : LobbyState) (members : List Member) (challenges : List Challenge) (games : List (Option Game)) (started : ℕ)
@@ -26,7 +33,9 @@ kept lobby members challenges games started sessions keys between long serials p
   accounts = h.accounts;
   sessions = AllPairs-same (λ m. m.session) lobby.members members sessions h.sessions;
   handles = AllPairs-same (λ m. key_of m.name) lobby.members members keys h.handles;
+  hall = subst (λ (n : ℕ). n ≤ most_members) (sym (length-kept (λ m. m.session) members lobby.members sessions)) h.hall;
   challenges = subst (λ (ss : List ℕ). All (IsBetweenMembers ss) challenges) (sym sessions) between;
+  seeks = subst (λ (ss : List ℕ). AreSeeksOf ss lobby.seeks) (sym sessions) h.seeks;
   games = long;
   serials = serials;
   places = places;
@@ -49,20 +58,52 @@ pub challenges_gone : (lobby : LobbyState) (test : Challenge → Bool) → IsWel
     → IsWellFormed (record lobby { challenges = filter test lobby.challenges })
 challenges_gone lobby test h = record {
   accounts = h.accounts;
+  hall = h.hall;
   sessions = h.sessions;
   handles = h.handles;
   challenges = All-filter test (IsBetweenMembers (sessions_of lobby.members)) lobby.challenges h.challenges;
+  seeks = h.seeks;
   games = h.games;
   serials = h.serials;
   places = h.places;
 }
 
+-- there are at most as many sessions as members
+pub members_few : (lobby : LobbyState) → IsWellFormed lobby → length (sessions_of lobby.members) ≤ 256
+members_few lobby h = omega (arith, length-map lobby.members (λ (m : Member). m.session), h.hall)
+
+-- there is always a number left for a seek
+pub has_number_left : (lobby : LobbyState) → IsWellFormed lobby → length lobby.seeks < 65535
+has_number_left lobby h = has_numbers_left (sessions_of lobby.members) lobby.seeks (members_few lobby h) h.seeks
+
+-- there are other seeks
+pub with_seeks : (lobby : LobbyState) (seeks : List Seek) → AreSeeksOf (sessions_of lobby.members) seeks → IsWellFormed lobby
+    → IsWellFormed (record lobby { seeks = seeks })
+with_seeks lobby seeks are h = record {
+  accounts = h.accounts;
+  hall = h.hall;
+  sessions = h.sessions;
+  handles = h.handles;
+  challenges = h.challenges;
+  seeks = are;
+  games = h.games;
+  serials = h.serials;
+  places = h.places;
+}
+
+-- some seeks go
+pub seeks_gone : (lobby : LobbyState) (test : Seek → Bool) → IsWellFormed lobby → IsWellFormed (record lobby { seeks = filter test lobby.seeks })
+seeks_gone lobby test h =
+    with_seeks lobby (filter test lobby.seeks) (AreSeeksOf-filter (sessions_of lobby.members) test lobby.seeks h.seeks) h
+
 pub IsWellFormed-opening : IsWellFormed opening
 IsWellFormed-opening = record {
   accounts = (tt, omega arith);
+  hall = omega arith;
   sessions = λ i j d before inside. absurd (omega arith);
   handles = λ i j d before inside. absurd (omega arith);
   challenges = All-nil (IsBetweenMembers []);
+  seeks = record { numbers = tt; members = All-nil (IsByMember []); few = λ session. omega arith };
   games = refl;
   serials = All-replicate (IsStarted 0) 128 None tt;
   places = All-nil (HasSeats opening.games);

@@ -1,4 +1,4 @@
--- The line of a challenge is a line: it is printable and short.
+-- The lines that the lobby writes are lines: they are printable and short.
 use Rattle.std.proofs.Common.{◌≡◌, ℕ, ◌+◌, ◌<◌, ◌≤◌, ◌^◌, Bool, true, List, ◌++◌, Option, None, Some, length, codes, decimal, refl, subst, inl, inr, arith, rules, tests, length-append, ◌&&◌, leb}
 use Rattle.std.specs.Prelude.{All}
 use Rattle.std.specs.Char.{IsAsciiAlphabetic}
@@ -16,7 +16,11 @@ use Rattle.chess_model.specs.declared.variant.Variant.TheVariants.{Chess, Crazyh
 use Rattle.chess_model.specs.VariantWord.{word_of}
 use Rattle.fics_words.specs.Handle.{IsHandle}
 use Rattle.fics_words.specs.Line.{IsLine, IsPrintable}
-use Rattle.lobby_state.specs.Match.{challenge_words, colour_words}
+use Rattle.lobby_state.specs.Match.{challenge_words}
+use Rattle.lobby_state.specs.Post.{seek_words}
+use Rattle.lobby_state.specs.Sought.{sought_words}
+use Rattle.lobby_state.specs.TermsText.{colour_words, terms_words}
+use Rattle.seek_match.specs.declared.seek.Seek.{Seek}
 
 -- at most so many bytes, all of them printable
 pub record IsPrinted (most : ℕ) (text : List ℕ) : Type 0 where
@@ -57,7 +61,7 @@ IsPrintable-letter : (byte : ℕ) → IsAsciiAlphabetic byte → IsPrintable byt
 IsPrintable-letter byte (inl upper) = (omega (arith, upper), omega (arith, upper))
 IsPrintable-letter byte (inr lower) = (omega (arith, lower), omega (arith, lower))
 
-IsPrinted-handle : (name : List ℕ) → IsHandle name → IsPrinted 17 name
+pub IsPrinted-handle : (name : List ℕ) → IsHandle name → IsPrinted 17 name
 IsPrinted-handle name h = record { short = h.1; shows = λ k d inside. IsPrintable-letter _ (h.2 k d inside) }
 
 IsPrinted-variant : (variant : Variant) → IsPrinted 10 (word_of variant)
@@ -76,17 +80,47 @@ IsPrinted-blank = IsPrinted-from_test 1 (codes " ") (omega arith) refl
 IsPrinted-front : IsPrinted 11 (codes "Challenge: ")
 IsPrinted-front = IsPrinted-from_test 11 (codes "Challenge: ") (omega arith) refl
 
+pub IsPrinted-terms_words : (terms : Terms) → terms.minutes < 2 ^ 16 → terms.increment < 2 ^ 16 → IsPrinted 28 (terms_words terms)
+IsPrinted-terms_words terms minutes increment =
+    let join = IsPrinted-append in
+    join 22 6 _ _ (join 12 10 _ _ (join 11 1 _ _ (join 6 5 _ _ (join 5 1 _ _ (IsPrinted-decimal terms.minutes minutes) IsPrinted-blank)
+    (IsPrinted-decimal terms.increment increment)) IsPrinted-blank) (IsPrinted-variant terms.variant)) (IsPrinted-colour terms.colour)
+
 pub IsPrinted-challenge_words : (name : List ℕ) (terms : Terms) → IsHandle name → terms.minutes < 2 ^ 16 → terms.increment < 2 ^ 16
     → IsPrinted 57 (challenge_words name terms)
 IsPrinted-challenge_words name terms h minutes increment =
     let join = IsPrinted-append in
-    join 51 6 _ _ (join 41 10 _ _ (join 40 1 _ _ (join 35 5 _ _ (join 34 1 _ _ (join 29 5 _ _ (join 28 1 _ _
-    (join 11 17 _ _ IsPrinted-front (IsPrinted-handle name h)) IsPrinted-blank) (IsPrinted-decimal terms.minutes minutes))
-    IsPrinted-blank) (IsPrinted-decimal terms.increment increment)) IsPrinted-blank) (IsPrinted-variant terms.variant))
-    (IsPrinted-colour terms.colour)
+    join 29 28 _ _ (join 28 1 _ _ (join 11 17 _ _ IsPrinted-front (IsPrinted-handle name h)) IsPrinted-blank)
+    (IsPrinted-terms_words terms minutes increment)
 
 pub IsLine-challenge_words : (name : List ℕ) (terms : Terms) → IsHandle name → terms.minutes < 2 ^ 16 → terms.increment < 2 ^ 16
     → IsLine (challenge_words name terms)
 IsLine-challenge_words name terms h minutes increment =
     let printed = IsPrinted-challenge_words name terms h minutes increment in
     (omega (arith, printed.short), printed.shows)
+
+pub IsPrinted-sought_words : (name : List ℕ) (seek : Seek) → IsPrinted 17 name → seek.number < 2 ^ 16 → seek.terms.minutes < 2 ^ 16 → seek.terms.increment < 2 ^ 16
+    → IsPrinted 52 (sought_words name seek)
+IsPrinted-sought_words name seek h number minutes increment =
+    let join = IsPrinted-append in
+    join 24 28 _ _ (join 23 1 _ _ (join 6 17 _ _ (join 5 1 _ _ (IsPrinted-decimal seek.number number) IsPrinted-blank) h) IsPrinted-blank)
+    (IsPrinted-terms_words seek.terms minutes increment)
+
+IsPrinted-seeking : IsPrinted 9 (codes " seeking ")
+IsPrinted-seeking = IsPrinted-from_test 9 (codes " seeking ") (omega arith) refl
+
+IsPrinted-play : IsPrinted 8 (codes " (\"play ")
+IsPrinted-play = IsPrinted-from_test 8 (codes " (\"play ") (omega arith) refl
+
+IsPrinted-respond : IsPrinted 13 (codes "\" to respond)")
+IsPrinted-respond = IsPrinted-from_test 13 (codes "\" to respond)") (omega arith) refl
+
+pub IsPrinted-seek_words : (name : List ℕ) (number : ℕ) (terms : Terms) → IsPrinted 17 name → number < 2 ^ 16 → terms.minutes < 2 ^ 16 → terms.increment < 2 ^ 16
+    → IsPrinted 80 (seek_words name number terms)
+IsPrinted-seek_words name number terms h small minutes increment =
+    let join = IsPrinted-append in
+    join 67 13 _ _ (join 62 5 _ _ (join 54 8 _ _ (join 26 28 _ _ (join 17 9 _ _ h IsPrinted-seeking) (IsPrinted-terms_words terms minutes increment))
+    IsPrinted-play) (IsPrinted-decimal number small)) IsPrinted-respond
+
+pub IsLine-from_printed : (most : ℕ) (text : List ℕ) → most ≤ 1023 → IsPrinted most text → IsLine text
+IsLine-from_printed most text few h = (omega (arith, few, h.short), h.shows)

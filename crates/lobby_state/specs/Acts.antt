@@ -1,26 +1,44 @@
 -- All lobby acts in one table: what each does, by the lobby before, the session and the act. This server's own.
-use Rattle.std.specs.Prelude.{ℕ, ◌≤◌, Result}
+use Rattle.std.specs.Prelude.{ℕ, ◌≤◌, length, Result}
 use Rattle.chess_model.specs.declared.variant.Terms.{Terms}
 use Rattle.fics_words.specs.declared.refusal.Refusal.{Refusal}
 use Rattle.fics_words.specs.Effect.{Effect, answer_of, state_of}
 use Rattle.lobby_state.specs.declared.acts.LobbyAct.{LobbyAct}
-use Rattle.lobby_state.specs.declared.acts.LobbyAct.TheVariants.{Enter, Register, Match, Where, Fetch, Going, Bye, InUse}
+use Rattle.lobby_state.specs.declared.acts.LobbyAct.TheVariants.{Enter, Register, Match, Unpost, Sought, Who, Where, Fetch, Going, Bye, InUse, Var, Tell, Shout, Decline, Withdraw, Post}
 use Rattle.lobby_state.specs.declared.acts.LobbyReply.{LobbyReply}
 use Rattle.lobby_state.specs.Bye.{bye_effect}
+use Rattle.lobby_state.specs.Decline.{decline_effect}
 use Rattle.lobby_state.specs.Enter.{enter_effect}
 use Rattle.lobby_state.specs.Fetch.{fetch_effect}
 use Rattle.lobby_state.specs.Going.{going_effect}
 use Rattle.lobby_state.specs.InUse.{in_use_effect}
 use Rattle.lobby_state.specs.Lobby.{LobbyState}
 use Rattle.lobby_state.specs.Match.{match_effect}
+use Rattle.lobby_state.specs.Post.{post_effect}
 use Rattle.lobby_state.specs.Registration.{registration_effect}
+use Rattle.lobby_state.specs.Sought.{sought_effect}
+use Rattle.lobby_state.specs.Unpost.{unpost_effect}
 use Rattle.lobby_state.specs.Where.{where_effect}
+use Rattle.lobby_state.specs.Who.{who_effect}
+use Rattle.lobby_state.specs.Shout.{shout_effect}
+use Rattle.lobby_state.specs.Tell.{tell_effect}
+use Rattle.lobby_state.specs.Var.{var_effect}
+use Rattle.lobby_state.specs.Withdraw.{withdraw_effect}
 
 -- what a lobby act does
 abbrev pub lobby_effect : LobbyState → ℕ → LobbyAct → Effect LobbyState LobbyReply
 lobby_effect lobby session (Enter name digest) = enter_effect lobby session name digest
 lobby_effect lobby session (Register digest) = registration_effect lobby session digest
 lobby_effect lobby session (Match to terms) = match_effect lobby session to terms
+lobby_effect lobby session (Post terms) = post_effect lobby session terms
+lobby_effect lobby session (Unpost number) = unpost_effect lobby session number
+lobby_effect lobby session Sought = sought_effect lobby session
+lobby_effect lobby session Who = who_effect lobby session
+lobby_effect lobby session (Var which on) = var_effect lobby session which on
+lobby_effect lobby session (Tell to text) = tell_effect lobby session to text
+lobby_effect lobby session (Shout text) = shout_effect lobby session text
+lobby_effect lobby session (Decline name) = decline_effect lobby session name
+lobby_effect lobby session (Withdraw name) = withdraw_effect lobby session name
 lobby_effect lobby session Where = where_effect lobby session
 lobby_effect lobby session Fetch = fetch_effect lobby session
 lobby_effect lobby session Going = going_effect lobby session
@@ -40,9 +58,12 @@ pub record AreTerms (terms : Terms) : Type 0 where
   pub minutes : terms.minutes ≤ 600
   pub increment : terms.increment ≤ 600
 
--- the conditions on the numbers of an act
+-- the conditions on the numbers of an act, and a text that a member says to others has at most 800 bytes
 abbrev pub FitsLobby : LobbyAct → Type 0
 FitsLobby (Match to terms) = AreTerms terms
+FitsLobby (Tell to text) = length text ≤ 800
+FitsLobby (Shout text) = length text ≤ 800
+FitsLobby (Post terms) = AreTerms terms
 FitsLobby _ = Unit {0}
 
 -- Where, Going and Bye need no memory, also not for a copy of what they answer

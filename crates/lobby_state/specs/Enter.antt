@@ -12,6 +12,7 @@ use Rattle.lobby_state.specs.declared.acts.LobbyReply.{LobbyReply}
 use Rattle.lobby_state.specs.declared.acts.LobbyReply.TheVariants.{Entered, NeedPassword}
 use Rattle.lobby_state.specs.declared.enter.Entrant.{Entrant}
 use Rattle.lobby_state.specs.declared.member.Member.{Member}
+use Rattle.lobby_state.specs.declared.wants.Wants.{Wants}
 use Rattle.lobby_state.specs.Lobby.{LobbyState, most_members, member_of, holder_of}
 use Rattle.lobby_state.specs.Places.{no_places}
 
@@ -37,10 +38,20 @@ entrant_of lobby (Some name) digest =
     let account = account_of lobby.accounts (key_of name) in
     record { name = spelled name account; check = check_of account digest }
 
+-- everything that others send is wanted
+abbrev pub all_wanted : Wants
+all_wanted = record { matches = true; shouts = true; seeks = true }
+
 -- one who comes in
 abbrev pub newcomer : ℕ → List ℕ → Member
-newcomer session name =
-    record { session = session; name = name; going = false; places = no_places; waiting = [] }
+newcomer session name = record {
+  session = session;
+  name = name;
+  going = false;
+  places = no_places;
+  wants = all_wanted;
+  waiting = [];
+}
 
 -- the newcomer stands behind the other members
 abbrev pub with_newcomer : LobbyState → ℕ → List ℕ → LobbyState

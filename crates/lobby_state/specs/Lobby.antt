@@ -1,10 +1,12 @@
--- A lobby: who is registered and who is in the hall, which challenges stand, and which desks are in use. This server's
--- own.
+-- A lobby: who is registered and who is in the hall, which challenges and seeks stand, and which desks are in use. This
+-- server's own.
 use Rattle.std.specs.Prelude.{ℕ, ◌-◌, ◌^◌, ◌==◌, Bool, not, ◌&&◌, ◌||◌, List, [], length, replicate, Option, None, Some, is_none, is_some, bytes_eq, filter, slice_get}
 use Rattle.std.specs.List.{find, position}
 use Rattle.fics_words.specs.Handle.{key_of}
 use Rattle.fics_words.specs.declared.account.Account.{Account}
 use Rattle.login_handles.specs.Accounts.{account_of}
+use Rattle.seek_match.specs.declared.seek.Seek.{Seek}
+use Rattle.seek_match.specs.Seeks.{is_by}
 use Rattle.lobby_state.specs.declared.challenge.Challenge.{Challenge}
 use Rattle.lobby_state.specs.declared.game.Game.{Game}
 use Rattle.lobby_state.specs.declared.member.Member.{Member}
@@ -12,12 +14,13 @@ use Rattle.lobby_state.specs.Desks.{desks}
 use Rattle.lobby_state.specs.Places.{PlaceList, no_places}
 
 -- the accounts in the order in which they were made; the members in the order in which they entered; the challenges in
--- the order in which they were made; for each desk from 1 on the game for which it is in use; and how many games were
--- started, which is the last serial
+-- the order in which they were made; the seeks in the order of their numbers; for each desk from 1 on the game for which
+-- it is in use; and how many games were started, which is the last serial
 pub record LobbyState : Type 0 where
   pub accounts : List Account
   pub members : List Member
   pub challenges : List Challenge
+  pub seeks : List Seek
   pub games : List (Option Game)
   pub started : ℕ
 
@@ -39,7 +42,14 @@ most_games = 2 ^ 62
 
 -- a lobby at its opening: nobody is registered or there, and each desk is free
 abbrev pub opening : LobbyState
-opening = record { accounts = []; members = []; challenges = []; games = replicate desks None; started = 0 }
+opening = record {
+  accounts = [];
+  members = [];
+  challenges = [];
+  seeks = [];
+  games = replicate desks None;
+  started = 0;
+}
 
 -- the member is the one of this session
 abbrev pub is_session : ℕ → Member → Bool
@@ -116,3 +126,8 @@ game_at lobby desk = game_in (slice_get lobby.games (desk - 1))
 abbrev pub without_challenges : ℕ → LobbyState → LobbyState
 without_challenges session lobby =
     record lobby { challenges = filter (λ challenge. not (concerns session challenge)) lobby.challenges }
+
+-- the lobby without the seeks by this session
+abbrev pub without_seeks : ℕ → LobbyState → LobbyState
+without_seeks session lobby =
+    record lobby { seeks = filter (λ seek. not (is_by session None seek)) lobby.seeks }

@@ -1,37 +1,31 @@
 -- Match: a member challenges another to a game. This server's own.
-use Rattle.std.specs.Prelude.{ℕ, ◌==◌, Bool, true, false, not, ◌&&◌, ◌||◌, nat_le, List, [], ◌∷◌, ◌++◌, length, Option, None, Some, is_none, codes, decimal}
+use Rattle.std.specs.Prelude.{ℕ, ◌==◌, Bool, true, false, not, ◌&&◌, ◌||◌, nat_le, List, [], ◌∷◌, ◌++◌, length, Option, None, Some, is_none, codes}
 use Rattle.std.specs.List.{filter}
-use Rattle.chess_model.specs.declared.man.Colour.{Colour}
-use Rattle.chess_model.specs.declared.man.Colour.TheVariants.{White, Black}
 use Rattle.chess_model.specs.declared.variant.Terms.{Terms}
 use Rattle.chess_model.specs.declared.variant.Variant.{Variant}
 use Rattle.chess_model.specs.declared.variant.Variant.TheVariants.{Bughouse}
-use Rattle.chess_model.specs.VariantWord.{word_of}
 use Rattle.fics_words.specs.Effect.{Effect}
-use Rattle.fics_words.specs.declared.refusal.Refusal.TheVariants.{NotIn, NoSuchPlayer, BadOpponent, Playing, NoPartner, QueueFull}
+use Rattle.fics_words.specs.declared.refusal.Refusal.TheVariants.{NotIn, NoSuchPlayer, BadOpponent, Playing, Refuses, NoPartner, QueueFull}
 use Rattle.lobby_state.specs.declared.acts.LobbyReply.{LobbyReply}
 use Rattle.lobby_state.specs.declared.acts.LobbyReply.TheVariants.{Done}
 use Rattle.lobby_state.specs.declared.challenge.Challenge.{Challenge}
 use Rattle.lobby_state.specs.declared.member.Member.{Member}
 use Rattle.lobby_state.specs.Change.{change_first, holds}
 use Rattle.lobby_state.specs.Lobby.{LobbyState, most_lines, is_session, is_named, has_place, member_of, named}
+use Rattle.lobby_state.specs.TermsText.{terms_words}
 
--- the colour that the challenger asks for, behind a blank; nothing where it asks for none
-abbrev pub colour_words : Option Colour → List ℕ
-colour_words None = []
-colour_words (Some White) = codes " white"
-colour_words (Some Black) = codes " black"
-
--- the line that a challenge sends: who challenges, the minutes, the increment in seconds, the variant, the colour
+-- the line that a challenge sends: who challenges, and on which terms
 abbrev pub challenge_words : List ℕ → Terms → List ℕ
-challenge_words name terms =
-    codes "Challenge: " ++ name ++ codes " " ++ decimal terms.minutes ++ codes " " ++ decimal terms.increment ++
-    codes " " ++ word_of terms.variant ++ colour_words terms.colour
+challenge_words name terms = codes "Challenge: " ++ name ++ codes " " ++ terms_words terms
 
 -- bughouse is played by pairs of partners, and nobody has a partner yet
 abbrev pub needs_partners : Variant → Bool
 needs_partners Bughouse = true
 needs_partners _ = false
+
+-- the member doesn't want to be challenged
+abbrev pub is_closed : Member → Bool
+is_closed member = not member.wants.matches
 
 -- no more lines can wait for the member
 abbrev pub is_full : Member → Bool
@@ -59,8 +53,8 @@ challenged lobby (Some caller) (Some other) to terms = record lobby {
 }
 
 -- a challenge is refused where the session isn't a member; where nobody has the handle, or that member is going; where
--- it is the session itself; where one of the two has a place; where the game needs partners; and where 512 lines wait
--- for the other
+-- it is the session itself; where one of the two has a place; where the other doesn't want to be challenged; where the
+-- game needs partners; and where 512 lines wait for the other
 abbrev pub match_effect : LobbyState → ℕ → List ℕ → Terms → Effect LobbyState LobbyReply
 match_effect lobby session to terms = record {
   causes =
@@ -68,6 +62,7 @@ match_effect lobby session to terms = record {
       (is_none (named lobby to), NoSuchPlayer) ∷
       (holds (is_session session) (named lobby to), BadOpponent) ∷
       (holds has_place (member_of lobby session) || holds has_place (named lobby to), Playing) ∷
+      (holds is_closed (named lobby to), Refuses) ∷
       (needs_partners terms.variant, NoPartner) ∷
       (holds is_full (named lobby to), QueueFull) ∷ [];
   memory = true;

@@ -4,7 +4,7 @@ use Rattle.std.specs.Prelude.{ℕ, Bool, true, false, Option, None, Some, Result
 use Rattle.fics_words.specs.declared.refusal.Refusal.{Refusal}
 use Rattle.fics_words.specs.Effect.{Effect, answer_of}
 use Rattle.lobby_state.specs.declared.acts.PairAct.{PairAct}
-use Rattle.lobby_state.specs.declared.acts.PairAct.TheVariants.{Accept, Clear}
+use Rattle.lobby_state.specs.declared.acts.PairAct.TheVariants.{Accept, Play, Clear}
 use Rattle.lobby_state.specs.declared.acts.Plan.{Plan}
 use Rattle.lobby_state.specs.declared.acts.Plan.TheVariants.{Start, Clear as Clearing}
 use Rattle.lobby_state.specs.declared.game.Game.{Game}
@@ -12,11 +12,13 @@ use Rattle.lobby_state.specs.Accept.{accept_effect}
 use Rattle.lobby_state.specs.Clear.{clear_effect, freed, cleared}
 use Rattle.lobby_state.specs.Desks.{IsDesk}
 use Rattle.lobby_state.specs.Lobby.{LobbyState}
+use Rattle.lobby_state.specs.Play.{play_effect}
 use Rattle.lobby_state.specs.Start.{seated}
 
 -- what a pair act does in the lobby: nothing stands otherwise yet, and the reply is a plan
 abbrev pub plan_effect : LobbyState → ℕ → PairAct → Effect LobbyState Plan
 plan_effect lobby session (Accept name) = accept_effect lobby session name
+plan_effect lobby session (Play number) = play_effect lobby session number
 plan_effect lobby session (Clear desk serial) = clear_effect lobby session desk serial
 
 -- what a pair act is to do, by the lobby alone, or why it is refused

@@ -1,5 +1,5 @@
 -- Start: the plan of a game is carried out. This server's own.
-use Rattle.std.specs.Prelude.{ℕ, ◌-◌, Bool, not, ◌||◌, map, Option, None, Some, filter, slice_set}
+use Rattle.std.specs.Prelude.{ℕ, ◌-◌, Bool, not, ◌||◌, map, Option, None, Some, is_some, filter, slice_set}
 use Rattle.chess_model.specs.declared.variant.Terms.{Terms}
 use Rattle.fics_words.specs.declared.seats.Opponents.{Opponents}
 use Rattle.fics_words.specs.declared.seats.Seats.{Seats}
@@ -9,6 +9,7 @@ use Rattle.lobby_state.specs.declared.member.Member.{Member}
 use Rattle.lobby_state.specs.Change.{holds}
 use Rattle.lobby_state.specs.Lobby.{LobbyState, concerns}
 use Rattle.lobby_state.specs.Places.{with_place}
+use Rattle.seek_match.specs.declared.seek.Seek.{Seek}
 
 -- the start of a game: at which desk, under which serial, and who plays
 pub record Sitting : Type 0 where
@@ -32,11 +33,17 @@ abbrev pub concerns_seated : Seats → Challenge → Bool
 concerns_seated seats challenge =
     concerns_board challenge seats.first || holds (concerns_board challenge) seats.second
 
--- the lobby once the game has started: the desk is in use, the players have their places, and their challenges go
+-- the seek is by a player of the game
+abbrev pub is_by_seated : Seats → Seek → Bool
+is_by_seated seats seek = is_some (seat_number seek.by (seat_list seats))
+
+-- the lobby once the game has started: the desk is in use, the players have their places, and their challenges and
+-- their seeks go
 abbrev pub seated : LobbyState → ℕ → ℕ → Terms → Seats → LobbyState
 seated lobby desk serial terms seats = record lobby {
   members = map (λ member. in_seat desk serial (seat_number member.session (seat_list seats)) member) lobby.members;
   challenges = filter (λ challenge. not (concerns_seated seats challenge)) lobby.challenges;
+  seeks = filter (λ seek. not (is_by_seated seats seek)) lobby.seeks;
   games = slice_set lobby.games (desk - 1) (Some (record { serial = serial; terms = terms; seats = seats }));
   started = serial;
 }

@@ -1,5 +1,5 @@
 -- What holds of a lobby at all times, from its opening on. This server's own.
-use Rattle.std.specs.Prelude.{◌≡◌, ◌≢◌, ℕ, ◌-◌, ◌≤◌, false, List, length, map, All, Contains, Option, None, Some, slice_get}
+use Rattle.std.specs.Prelude.{◌≡◌, ◌≢◌, ℕ, ◌-◌, ◌≤◌, false, List, length, map, count_by, All, Contains, Option, None, Some, slice_get}
 use Rattle.std.specs.List.{AllPairs}
 use Rattle.fics_words.specs.Handle.{key_of}
 use Rattle.fics_words.specs.declared.player.Player.{Player}
@@ -10,8 +10,10 @@ use Rattle.lobby_state.specs.declared.game.Game.{Game}
 use Rattle.lobby_state.specs.declared.member.Member.{Member}
 use Rattle.lobby_state.specs.declared.place.Place.{Place}
 use Rattle.lobby_state.specs.Desks.{IsDesk, desks}
-use Rattle.lobby_state.specs.Lobby.{LobbyState}
+use Rattle.lobby_state.specs.Lobby.{LobbyState, most_members}
 use Rattle.lobby_state.specs.Match.{needs_partners}
+use Rattle.seek_match.specs.declared.seek.Seek.{Seek}
+use Rattle.seek_match.specs.Seeks.{AreSeeks, is_by, most_seeks}
 
 -- the sessions of the members
 abbrev pub sessions_of : List Member → List ℕ
@@ -23,6 +25,17 @@ pub record IsBetweenMembers (sessions : List ℕ) (challenge : Challenge) : Type
   pub to : Contains sessions challenge.to
   pub differ : challenge.from ≢ challenge.to
   pub for_two : needs_partners challenge.terms.variant ≡ false
+
+-- the seek is by a member, and of a game that two can play
+pub record IsByMember (sessions : List ℕ) (seek : Seek) : Type 0 where
+  pub by : Contains sessions seek.by
+  pub for_two : needs_partners seek.terms.variant ≡ false
+
+-- the seeks stand in the order of their numbers, which differ; each is by a member; and nobody has more than three
+pub record AreSeeksOf (sessions : List ℕ) (seeks : List Seek) : Type 0 where
+  pub numbers : AreSeeks seeks
+  pub members : All (IsByMember sessions) seeks
+  pub few : (session : ℕ) → count_by (is_by session None) seeks ≤ most_seeks
 
 -- the place is a seat of this session's, at a desk in use under that serial
 pub record IsSeatOf (games : List (Option Game)) (session : ℕ) (place : Place) : Type 0 where
@@ -43,14 +56,17 @@ abbrev pub IsStarted : ℕ → Option Game → Type 0
 IsStarted started None = Unit {0}
 IsStarted started (Some game) = (1 ≤ game.serial) × (game.serial ≤ started)
 
--- each handle has at most one account, and there are at most 4,096; no two members have one session, and no two one
--- handle; each challenge is by one member to another; there are 128 desks, and each game has a serial that was given
--- out; and each place of a member is a seat of its own in such a game
+-- each handle has at most one account, and there are at most 4,096; there are at most 256 members, of whom no two have
+-- one session, and no two one handle; each challenge is by one member to another; the seeks are by members; there are
+-- 128 desks, and each game has a serial that was given out; and each place of a member is a seat of its own in such a
+-- game
 pub record IsWellFormed (lobby : LobbyState) : Type 0 where
   pub accounts : AreAccounts lobby.accounts
+  pub hall : length lobby.members ≤ most_members
   pub sessions : AllPairs (λ one another. one.session ≢ another.session) lobby.members
   pub handles : AllPairs (λ one another. key_of one.name ≢ key_of another.name) lobby.members
   pub challenges : All (IsBetweenMembers (sessions_of lobby.members)) lobby.challenges
+  pub seeks : AreSeeksOf (sessions_of lobby.members) lobby.seeks
   pub games : length lobby.games ≡ desks
   pub serials : All (IsStarted lobby.started) lobby.games
   pub places : All (HasSeats lobby.games) lobby.members

@@ -6,6 +6,7 @@ ghost use Rattle.lobby_state.specs.Plans.{desk_of};
 use crate::desk_in_use::DeskInUse;
 use crate::places::Places;
 use crate::told::ReplyLists;
+use crate::var::Var;
 use chess_model::Terms;
 use collections::Listed;
 use fics_words::{Digest, Handle, HandleKey, Line, Seats};
@@ -28,11 +29,45 @@ pub enum LobbyAct {
         to: HandleKey,
         terms: Terms,
     },
+    /// The member offers a game to whoever takes it.
+    Post {
+        terms: Terms,
+    },
+    /// The member takes back its seek of that number, or without a number all its seeks.
+    Unpost {
+        number: Option<u16>,
+    },
+    /// Asks which seeks stand.
+    Sought,
+    /// Asks who is in the hall.
+    Who,
+    /// The member's variable is on or off from now on.
+    Var {
+        which: Var,
+        on: bool,
+    },
+    /// The member says the text, of at most 800 bytes, to the player with this handle.
+    Tell {
+        to: HandleKey,
+        text: Line,
+    },
+    /// The member says the text, of at most 800 bytes, to all others who want to hear it.
+    Shout {
+        text: Line,
+    },
+    /// The member turns down the challenge of the player with this handle, or without one the oldest challenge.
+    Decline {
+        name: Option<HandleKey>,
+    },
+    /// The member takes back its challenge to the player with this handle, or without one its oldest challenge.
+    Withdraw {
+        name: Option<HandleKey>,
+    },
     /// Asks for the member's places.
     Where,
     /// Takes the lines that wait for the member, and asks for its places.
     Fetch,
-    /// The member begins to leave: its challenges go, and it can't be named from then on.
+    /// The member begins to leave: its challenges and its seeks go, and it can't be named from then on.
     Going,
     /// The member is gone.
     Bye,
@@ -48,6 +83,12 @@ pub enum LobbyReply {
     Entered(Handle),
     /// The handle has an account, whose password wasn't given: nothing was done.
     NeedPassword,
+    /// The seek has this number.
+    Number(u16),
+    /// These lines, for whoever asked.
+    Lines(Listed<Line>),
+    /// So many members were told.
+    Told(u16),
     Places(Places),
     Waiting { lines: Listed<Line>, places: Places },
     /// The desks in use, in ascending order.
@@ -64,6 +105,9 @@ impl LobbyReply {
             LobbyReply::Done => LobbyReply::Done,
             LobbyReply::Entered(name) => LobbyReply::Entered(*name),
             LobbyReply::NeedPassword => LobbyReply::NeedPassword,
+            LobbyReply::Number(number) => LobbyReply::Number(*number),
+            LobbyReply::Lines(_) => LobbyReply::Lines(lists.lines),
+            LobbyReply::Told(count) => LobbyReply::Told(*count),
             LobbyReply::Places(places) => LobbyReply::Places(*places),
             LobbyReply::Waiting { places, .. } => LobbyReply::Waiting {
                 lines: lists.lines,
@@ -79,6 +123,8 @@ impl LobbyReply {
 pub enum PairAct {
     /// Accepts the challenge of the player with this handle, or without one the oldest challenge.
     Accept(Option<HandleKey>),
+    /// Takes the seek of that number.
+    Play(u16),
     /// Gives up the place at a desk whose game has ended, and frees the desk where nobody looks on any more.
     Clear { desk: u8, serial: u64 },
 }

@@ -8,6 +8,7 @@ use crate::acts::LobbyReply;
 use crate::challenge::Without;
 use crate::member::Member;
 use crate::register::Register;
+use crate::seeks::ByAnother;
 use collections::Predicate;
 
 /// A member of another session.
@@ -23,12 +24,14 @@ impl Predicate<Member> for OfAnother {
 }
 
 impl Register {
-    /// The session is gone, with every challenge that still names it. It takes no memory and is never refused.
+    /// The session is gone, with every challenge and every seek that still names it. It takes no memory and is never
+    /// refused.
     pub(crate) fn bye(&mut self, session: u32) -> LobbyReply
         ensures { Takes (bye_effect self.old session) self.old self.new (Ok result) }
     {
         self.members.retain(&OfAnother(session));
         self.challenges.retain(&Without(session));
+        self.seeks.keep(&ByAnother(session));
         LobbyReply::Done
     }
 }

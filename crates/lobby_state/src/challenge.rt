@@ -1,5 +1,6 @@
 //! The challenges that stand.
-ghost use Rattle.std.specs.Prelude.{◌≡◌, ◌<◌, not};
+ghost use Rattle.std.specs.Prelude.{◌≡◌, ◌<◌, ◌==◌, ◌&&◌, not, option_copied};
+ghost use Rattle.std.specs.List.{find};
 ghost use Rattle.lobby_state.specs.Lobby.{concerns};
 ghost use Rattle.lobby_state.specs.Match.{is_same_pair, with_challenge};
 ghost use Rattle.lobby_state.specs.Start.{concerns_board, concerns_seated};
@@ -47,7 +48,7 @@ impl Challenge {
 
 /// A challenge that isn't by the same player to the same player as this one.
 #[derive(Clone, Copy)]
-struct OfOthers(Challenge);
+pub(crate) struct OfOthers(pub(crate) Challenge);
 
 impl Predicate<Challenge> for OfOthers {
     ghost passes = { λ test challenge. not (is_same_pair test.0 challenge) };
@@ -88,4 +89,14 @@ pub(crate) fn put_challenge(challenges: &mut Reserved<Challenge>, challenge: Cha
 {
     challenges.retain(&OfOthers(challenge));
     challenges.push(challenge);
+}
+
+/// The oldest challenge by one session to another.
+pub(crate) fn first_between(challenges: &[Challenge], from: u32, to: u32) -> Option<&Challenge>
+    ensures { option_copied result
+        ≡ find (λ challenge. (challenge.from == from) && (challenge.to == to)) challenges.now }
+{
+    challenges
+        .iter()
+        .find(|challenge| challenge.from == from && challenge.to == to)
 }

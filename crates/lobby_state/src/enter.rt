@@ -6,13 +6,10 @@ ghost use Rattle.lobby_state.specs.Enter.{enter_effect, entering, entrant_of, gu
 ghost use Rattle.lobby_state.specs.Lobby.{most_members};
 
 use crate::acts::LobbyReply;
-use crate::member::Member;
+use crate::member::{MOST_MEMBERS, Member};
 use crate::register::Register;
 use fics_words::{Account, Digest, Fail, Handle, HandleKey, NoMemory, Refusal};
 use login_handles::{Check, guest_name};
-
-/// The most members that the hall holds.
-const MOST_MEMBERS: usize = 256;
 
 /// Who asks to come in: under which handle, and what its account says of the password.
 #[derive(Clone, Copy)]
@@ -49,10 +46,11 @@ impl Register {
 
     /// The session stands behind the other members.
     fn come_in(&mut self, session: u32, name: Handle) -> Result<LobbyReply, Fail>
+        requires { length self.old.members < most_members }
         ensures { Takes (entering self.old session name) self.old self.new result }
     {
         let newcomer = Member::newcomer(self.alloc, session, name);
-        self.members.push(newcomer)?;
+        self.members.push(newcomer);
         Ok(LobbyReply::Entered(name))
     }
 

@@ -7,6 +7,7 @@ use crate::acts::LobbyReply;
 use crate::challenge::Without;
 use crate::member::{Member, OfSession, change_first};
 use crate::register::Register;
+use crate::seeks::ByAnother;
 use collections::Change;
 
 /// Leaving: the member can't be named from then on.
@@ -22,14 +23,15 @@ impl Change<Member> for Leave {
 }
 
 impl Register {
-    /// The session begins to leave: its challenges go, and it can't be named from then on. Its places are answered. It
-    /// takes no memory and is never refused.
+    /// The session begins to leave: its challenges and its seeks go, and it can't be named from then on. Its places are
+    /// answered. It takes no memory and is never refused.
     pub(crate) fn going(&mut self, session: u32) -> LobbyReply
         ensures { Takes (going_effect self.old session) self.old self.new (Ok result) }
     {
         let places = self.places(session);
         change_first(&mut self.members, &OfSession(session), &Leave);
         self.challenges.retain(&Without(session));
+        self.seeks.keep(&ByAnother(session));
         LobbyReply::Places(places)
     }
 }

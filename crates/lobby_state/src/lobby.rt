@@ -1,7 +1,7 @@
 //! The lobby itself: which act is carried out by which function, and that every lobby is well-formed.
 ghost use Rattle.std.specs.Prelude.{◌≡◌, IfOk, IfSome, IsOk};
 ghost use Rattle.fics_words.specs.Effect.{Takes};
-ghost use Rattle.lobby_state.specs.Acts.{LobbyNeedsNoMemory, lobby_effect};
+ghost use Rattle.lobby_state.specs.Acts.{FitsLobby, LobbyNeedsNoMemory, lobby_effect};
 ghost use Rattle.lobby_state.specs.Desks.{IsDesk};
 ghost use Rattle.lobby_state.specs.Lobby.{game_at, opening, places_of, waiting_of};
 ghost use Rattle.lobby_state.specs.Told.{lists_told};
@@ -85,6 +85,7 @@ impl Lobby {
     /// Carries out an act that needs the lobby alone. A refusal and running out of memory leave everything as it was.
     /// No lobby act asks for the moment.
     pub fn act(&mut self, session: u32, _moment: u64, act: &LobbyAct) -> Result<LobbyReply, Fail>
+        requires { FitsLobby act.now }
         ensures { Takes (lobby_effect self.old session act.now) self.old self.new result }
     {
         self.register.act(session, act)

@@ -7,17 +7,15 @@ use crate::acts::LobbyReply;
 use crate::challenge::{Challenge, put_challenge};
 use crate::member::add_line;
 use crate::register::Register;
-use chess_model::{Colour, Terms, Variant, variant_word};
-use fics_words::{Fail, Handle, HandleKey, Line, NoMemory, Refusal, write_number};
+use crate::terms::put_terms;
+use chess_model::{Terms, Variant};
+use fics_words::{Fail, Handle, HandleKey, Line, NoMemory, Refusal};
 use std::alloc::Global;
-
-/// The most lines that wait for a member.
-const MOST_LINES: usize = 512;
 
 impl Register {
     /// The session challenges the named player. The causes of a refusal, in order: the session isn't a member; nobody
-    /// has the handle, or that member is going; it is the session itself; one of the two has a place; the game needs
-    /// partners; 512 lines wait for the other.
+    /// has the handle, or that member is going; it is the session itself; one of the two has a place; the other has
+    /// `open` off; the game needs partners; 512 lines wait for the other.
     pub(crate) fn challenge(
         &mut self,
         session: u32,
@@ -38,10 +36,13 @@ impl Register {
         if caller.has_place() || other.has_place() {
             return Err(Fail::Refused(Refusal::Playing));
         }
+        if !other.wants.matches {
+            return Err(Fail::Refused(Refusal::Refuses));
+        }
         if matches!(terms.variant, Variant::Bughouse) {
             return Err(Fail::Refused(Refusal::NoPartner));
         }
-        if other.waiting.len() >= MOST_LINES {
+        if other.is_full() {
             return Err(Fail::Refused(Refusal::QueueFull));
         }
         let challenge = Challenge {
@@ -73,15 +74,6 @@ fn challenge_text(alloc: Global, letters: &[u8], terms: Terms) -> Result<Vec<u8>
     let mut text = Vec::from_slice(alloc, b"Challenge: ")?;
     text.extend_from_slice(letters)?;
     text.push(b' ')?;
-    write_number(&mut text, u64::from(terms.minutes))?;
-    text.push(b' ')?;
-    write_number(&mut text, u64::from(terms.increment))?;
-    text.push(b' ')?;
-    text.extend_from_slice(variant_word(terms.variant).bytes())?;
-    match terms.colour {
-        Some(Colour::White) => text.extend_from_slice(b" white")?,
-        Some(Colour::Black) => text.extend_from_slice(b" black")?,
-        None => {}
-    }
+    put_terms(alloc, terms, &mut text)?;
     Ok(text)
 }

@@ -5,12 +5,22 @@ ghost use Rattle.lobby_state.specs.Change.{change_first};
 ghost use Rattle.lobby_state.specs.Enter.{newcomer};
 ghost use Rattle.lobby_state.specs.Fetch.{emptied};
 ghost use Rattle.lobby_state.specs.Lobby.{is_session, is_named, has_place, lines_in};
-ghost use Rattle.lobby_state.specs.Match.{with_line};
+ghost use Rattle.lobby_state.specs.Match.{is_full, with_line};
 
 use crate::places::Places;
-use collections::{Change, Listed, Predicate, position};
+use crate::wants::Wants;
+use collections::{Change, Listed, Predicate, Roomy, position};
 use fics_words::{Handle, HandleKey, Line, NoMemory};
 use std::alloc::Global;
+
+/// The most members that the hall holds.
+pub(crate) const MOST_MEMBERS: usize = 256;
+
+/// The most lines that wait for a member.
+const MOST_LINES: usize = 512;
+
+/// The members, in the order in which they entered.
+pub(crate) type Members = Roomy<Member, MOST_MEMBERS>;
 
 /// Somebody who is in the hall.
 #[derive(Debug, Drop)]
@@ -20,6 +30,8 @@ pub struct Member {
     /// Whether the member leaves, and can't be named any more.
     pub going: bool,
     pub places: Places,
+    /// What the member wants others to send.
+    pub wants: Wants,
     /// The lines that wait for the member, the oldest first.
     pub waiting: Listed<Line>,
 }
@@ -34,6 +46,11 @@ impl Member {
             name,
             going: false,
             places: Places::none(),
+            wants: Wants {
+                matches: true,
+                shouts: true,
+                seeks: true,
+            },
             waiting: Listed::new(alloc),
         }
     }
@@ -43,6 +60,13 @@ impl Member {
         ensures { result ≡ has_place self.now }
     {
         !self.places.rows().is_empty()
+    }
+
+    /// Whether no more lines can wait for the member.
+    pub(crate) fn is_full(&self) -> bool
+        ensures { result ≡ is_full self.now }
+    {
+        self.waiting.len() >= MOST_LINES
     }
 }
 
@@ -73,7 +97,7 @@ impl Predicate<Member> for Named {
 /// Changes the first member that passes the test, if any does.
 #[tactic(auto, using(crate::proofs::First::the_first))]
 pub(crate) fn change_first<P: Predicate<Member>, C: Change<Member>>(
-    members: &mut Listed<Member>,
+    members: &mut Members,
     test: &P,
     change: &C,
 )
@@ -85,11 +109,7 @@ pub(crate) fn change_first<P: Predicate<Member>, C: Change<Member>>(
 }
 
 /// Puts a line behind those that wait for the member that the key names.
-pub(crate) fn add_line(
-    members: &mut Listed<Member>,
-    to: HandleKey,
-    line: Line,
-) -> Result<(), NoMemory>
+pub(crate) fn add_line(members: &mut Members, to: HandleKey, line: Line) -> Result<(), NoMemory>
     ensures ok { OnOk result (members.new ≡ change_first (is_named to) (with_line line) members.old) }
     ensures err { OnErr result (members.new ≡ members.old) }
 {
@@ -102,7 +122,7 @@ pub(crate) fn add_line(
 }
 
 /// Takes the lines that wait for the session.
-pub(crate) fn take_lines(alloc: Global, members: &mut Listed<Member>, session: u32) -> Listed<Line>
+pub(crate) fn take_lines(alloc: Global, members: &mut Members, session: u32) -> Listed<Line>
     ensures lines { result ≡ lines_in (find (is_session session) members.old) }
     ensures emptied { members.new ≡ change_first (is_session session) emptied members.old }
 {

@@ -5,22 +5,24 @@ ghost use Rattle.lobby_state.specs.Lobby.{holder_of, opening, member_of, named, 
 
 use crate::challenge::Challenge;
 use crate::game::{Game, no_games};
-use crate::member::Member;
+use crate::member::{Member, Members};
 use crate::places::Places;
 use collections::{Listed, Reserved};
 use fics_words::{Duplicate, HandleKey, Line, NoMemory};
 use login_handles::Accounts;
+use seek_match::SeekBook;
 use std::alloc::Global;
 use std::marker::Model;
 
-/// Who is registered and who is in the hall, which challenges stand, and which desks are in use: the acts are carried
-/// out here, one file an act. That they leave it well-formed, `Lobby` knows.
+/// Who is registered and who is in the hall, which challenges and seeks stand, and which desks are in use: the acts are
+/// carried out here, one file an act. That they leave it well-formed, `Lobby` knows.
 #[derive(Debug, Drop)]
 pub(crate) struct Register {
     pub(crate) alloc: Global,
     pub(crate) accounts: Accounts,
-    pub(crate) members: Listed<Member>,
+    pub(crate) members: Members,
     pub(crate) challenges: Reserved<Challenge>,
+    pub(crate) seeks: SeekBook,
     /// The game of each desk from 1 on, where it is in use.
     pub(crate) games: Listed<Option<Game>>,
     /// How many games were started, which is the last serial.
@@ -38,6 +40,7 @@ impl Model for Register {
       accounts = register.accounts;
       members = register.members;
       challenges = register.challenges.items;
+      seeks = register.seeks;
       games = register.games;
       started = register.started;
     } };
@@ -53,8 +56,9 @@ impl Register {
         Ok(Register {
             alloc,
             accounts: Accounts::new(alloc),
-            members: Listed::new(alloc),
+            members: Members::new(alloc)?,
             challenges: Reserved::new(alloc),
+            seeks: SeekBook::new(alloc),
             games: no_games(alloc)?,
             started: 0,
         })

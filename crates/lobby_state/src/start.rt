@@ -2,16 +2,18 @@
 ghost use Rattle.std.specs.Prelude.{◌≡◌, filter, map, not};
 ghost use Rattle.fics_words.specs.Seats.{seat_list, seat_number};
 ghost use Rattle.lobby_state.specs.Desks.{IsDesk};
-ghost use Rattle.lobby_state.specs.Start.{concerns_seated, in_seat, seated};
+ghost use Rattle.lobby_state.specs.Start.{concerns_seated, in_seat, is_by_seated, seated};
 
 use crate::challenge::{Challenge, WithoutSeated};
 use crate::game::Game;
-use crate::member::Member;
+use crate::member::{Member, Members};
 use crate::place::Place;
 use crate::register::Register;
+use crate::seeks::ByUnseated;
 use chess_model::Terms;
-use collections::{Change, Listed, Reserved};
+use collections::{Change, Reserved};
 use fics_words::Seats;
+use seek_match::SeekBook;
 use std::marker::Model;
 
 /// The start of a game at a desk of the hall: its players have their places.
@@ -49,13 +51,15 @@ impl Change<Member> for Sit {
 }
 
 impl Register {
-    /// The game starts: the desk is in use, the players have their places, and their challenges go. It takes no memory.
+    /// The game starts: the desk is in use, the players have their places, and their challenges and their seeks go. It
+    /// takes no memory.
     pub(crate) fn start(&mut self, desk: u8, serial: u64, terms: Terms, seats: &Seats)
         requires { IsDesk desk }
         ensures { self.new ≡ seated self.old desk serial terms seats.now }
     {
         sit_down(&mut self.members, desk, serial, seats);
         drop_challenges(&mut self.challenges, seats);
+        drop_seeks(&mut self.seeks, seats);
         let game = Game {
             serial,
             terms,
@@ -68,7 +72,7 @@ impl Register {
 }
 
 /// The players have their places.
-fn sit_down(members: &mut Listed<Member>, desk: u8, serial: u64, seats: &Seats)
+fn sit_down(members: &mut Members, desk: u8, serial: u64, seats: &Seats)
     requires { IsDesk desk }
     ensures { members.new
         ≡ map (λ member. in_seat desk serial (seat_number member.session (seat_list seats.now)) member) members.old }
@@ -88,4 +92,12 @@ fn drop_challenges(challenges: &mut Reserved<Challenge>, seats: &Seats)
 {
     let without = WithoutSeated(*seats);
     challenges.retain(&without);
+}
+
+/// The seeks of the players go.
+fn drop_seeks(seeks: &mut SeekBook, seats: &Seats)
+    ensures { seeks.new ≡ filter (λ seek. not (is_by_seated seats.now seek)) seeks.old }
+{
+    let unseated = ByUnseated(*seats);
+    seeks.keep(&unseated);
 }

@@ -1,7 +1,7 @@
 //! Which act is carried out by which function.
-ghost use Rattle.std.specs.Prelude.{◌≡◌, IfOk, IfSome, IsOk};
+ghost use Rattle.std.specs.Prelude.{◌≡◌, ◌<◌, IfOk, IfSome, IsOk, length};
 ghost use Rattle.fics_words.specs.Effect.{Takes};
-ghost use Rattle.lobby_state.specs.Acts.{LobbyNeedsNoMemory, lobby_effect};
+ghost use Rattle.lobby_state.specs.Acts.{FitsLobby, LobbyNeedsNoMemory, lobby_effect};
 ghost use Rattle.lobby_state.specs.Desks.{IsDesk};
 ghost use Rattle.lobby_state.specs.Told.{lists_told};
 ghost use Rattle.lobby_state.specs.Plans.{committed, desk_of, plan_of};
@@ -14,12 +14,23 @@ use fics_words::{Fail, NoMemory, Refusal};
 impl Register {
     /// Carries out an act that needs the lobby alone.
     pub(crate) fn act(&mut self, session: u32, act: &LobbyAct) -> Result<LobbyReply, Fail>
+        requires fits { FitsLobby act.now }
+        requires numbers { length self.old.seeks < 65535 }
         ensures { Takes (lobby_effect self.old session act.now) self.old self.new result }
     {
         match act {
             LobbyAct::Enter { name, digest } => self.enter(session, *name, *digest),
             LobbyAct::Register { digest } => self.register(session, *digest),
             LobbyAct::Match { to, terms } => self.challenge(session, *to, *terms),
+            LobbyAct::Post { terms } => self.post(session, *terms),
+            LobbyAct::Unpost { number } => self.unpost(session, *number),
+            LobbyAct::Sought => self.sought(session),
+            LobbyAct::Who => self.who(session),
+            LobbyAct::Var { which, on } => self.set_var(session, *which, *on),
+            LobbyAct::Tell { to, text } => self.tell(session, *to, text),
+            LobbyAct::Shout { text } => self.shout(session, text),
+            LobbyAct::Decline { name } => self.decline(session, *name),
+            LobbyAct::Withdraw { name } => self.withdraw(session, *name),
             LobbyAct::Where => Ok(self.where_is(session)),
             LobbyAct::Fetch => Ok(self.fetch(session)),
             LobbyAct::Going => Ok(self.going(session)),
@@ -39,6 +50,14 @@ impl Register {
                 lines: self.waiting_copy(session)?,
                 ..none
             }),
+            LobbyAct::Sought => Ok(ReplyLists {
+                lines: self.sought_lines()?,
+                ..none
+            }),
+            LobbyAct::Who => Ok(ReplyLists {
+                lines: self.who_lines()?,
+                ..none
+            }),
             LobbyAct::InUse => Ok(ReplyLists {
                 desks: self.desks_in_use()?,
                 ..none
@@ -53,6 +72,7 @@ impl Register {
     {
         match act {
             PairAct::Accept(name) => self.accept_plan(session, *name),
+            PairAct::Play(number) => self.play_plan(session, *number),
             PairAct::Clear { desk, serial } => Ok(Plan::Clear {
                 by: session,
                 desk: *desk,

@@ -14,4 +14,8 @@ mod paths;
 #[cfg(test)]
 mod refusals;
 #[cfg(test)]
+mod seek_steps;
+#[cfg(test)]
+mod seeks;
+#[cfg(test)]
 mod steps;

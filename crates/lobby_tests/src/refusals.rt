@@ -3,6 +3,7 @@
 //! games. 47 isn't tried, since 4,096 accounts are made by eight million comparisons of handles.
 
 use crate::login_steps::{Login, Met, first_failing_login};
+use crate::seek_steps::{playing, posts};
 use crate::steps::{
     CHESS, DONE, PAIRS, Step, asking, challenging, entering, first_failing, hall, numbered, starts,
 };
@@ -128,5 +129,7 @@ fn all_desks_are_in_use(rt: HostRuntime) -> Result<(), Fail> {
     ];
     assert_eq!(rt; first_failing(&mut lobby, &steps), None);
     assert_eq!(rt; asking(&lobby, 1, None), 35);
+    assert!(rt; posts(&mut lobby, 0, CHESS, 1, DONE));
+    assert_eq!(rt; playing(&lobby, 1, 1), 35);
     Ok(())
 }

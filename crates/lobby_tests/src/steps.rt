@@ -70,7 +70,8 @@ pub fn first_failing(lobby: &mut Lobby, steps: &[Step]) -> Option<usize> {
     None
 }
 
-fn is_as_expected(lobby: &mut Lobby, step: &Step) -> bool {
+/// Whether the step answers as it has to.
+pub fn is_as_expected(lobby: &mut Lobby, step: &Step) -> bool {
     match step {
         Step::Enter(session, name, number) => entering(lobby, *session, name) == *number,
         Step::Match(session, to, terms, number) => {
@@ -104,7 +105,7 @@ pub fn numbered(n: u32) -> [u8; 3] {
 }
 
 /// The number of the refusal of an answer.
-fn number_of(answer: &Result<LobbyReply, Fail>) -> u8 {
+pub fn number_of(answer: &Result<LobbyReply, Fail>) -> u8 {
     match answer {
         Ok(_) => DONE,
         Err(Fail::Refused(refusal)) => refusal.number(),

@@ -1,7 +1,7 @@
 //! The three kinds of step: on the lobby alone, on a desk alone, and on both.
 ghost use Rattle.std.specs.Prelude.{◌≡◌, ◌≤◌, ◌^◌, IfOk, IsOk, OnOk, OnErr, true};
 ghost use Rattle.linked_desk.specs.Acts.{FitsDeskAct, desk_answer, desk_after, needs_memory};
-ghost use Rattle.lobby_state.specs.Acts.{LobbyNeedsNoMemory, lobby_answer, lobby_after};
+ghost use Rattle.lobby_state.specs.Acts.{FitsLobby, LobbyNeedsNoMemory, lobby_answer, lobby_after};
 ghost use Rattle.lobby_state.specs.Planned.{IsPlanned};
 ghost use Rattle.one_server.specs.Acts.{lobby_reply, desk_reply};
 ghost use Rattle.one_server.specs.Desks.{has_ended, is_left};
@@ -22,6 +22,7 @@ pub fn lobby_step(
     moment: u64,
     act: &LobbyAct,
 ) -> Result<Reply, NoMemory>
+    requires { FitsLobby act.now }
     ensures reply { IfOk result (λ reply. reply ≡ lobby_reply (lobby_answer lobby.old session act.now)) }
     ensures after { OnOk result (lobby.new ≡ lobby_after lobby.old session act.now) }
     ensures err { OnErr result (lobby.new ≡ lobby.old) }

@@ -5,6 +5,7 @@ ghost use Rattle.seek_match.specs.Seeks.{has_number, is_by, next_number};
 
 use crate::seek::Seek;
 use chess_model::Terms;
+use collections::Predicate;
 use fics_words::{Duplicate, Fail, NoMemory, Refusal};
 use std::alloc::Global;
 use std::marker::Model;
@@ -32,6 +33,7 @@ impl Model for SeekBook {
 
 impl SeekBook {
     ghost use Rattle.std.specs.Prelude.{◌≡◌, ◌<◌, [], length};
+    ghost use Rattle.std.specs.List.{filter};
     ghost use Rattle.fics_words.specs.Effect.{Takes, answer_of, state_of};
     ghost use Rattle.seek_match.specs.Seeks.{AreSeeks, posting, removing, seek_of};
 
@@ -78,6 +80,13 @@ impl SeekBook {
         }
         drop_seeks(&mut self.rows, by, number);
         Ok(count as u16)
+    }
+
+    /// Keeps the seeks that pass `test`, in their order. It takes no memory and is never refused.
+    pub fn keep<P: Predicate<Seek>>(&mut self, test: &P)
+        ensures { self.new ≡ filter (P.passes test.now) self.old }
+    {
+        keep_seeks(&mut self.rows, test);
     }
 
     /// The seeks, in the order of their numbers.
@@ -141,6 +150,16 @@ fn drop_seeks(seeks: &mut Vec<Seek>, by: u32, number: Option<u16>)
     ensures { seeks.new.items ≡ filter (λ seek. not (is_by by number seek)) seeks.old.items }
 {
     seeks.retain(|seek| !seek.is_by(by, number));
+    if seeks.is_empty() {
+        *seeks = Vec::new(*seeks.allocator());
+    }
+}
+
+/// Keeps the seeks that pass `test`. A list that is left empty gives its block back.
+fn keep_seeks<P: Predicate<Seek>>(seeks: &mut Vec<Seek>, test: &P)
+    ensures { seeks.new.items ≡ filter (P.passes test.now) seeks.old.items }
+{
+    seeks.retain(|seek| test.passes(seek));
     if seeks.is_empty() {
         *seeks = Vec::new(*seeks.allocator());
     }

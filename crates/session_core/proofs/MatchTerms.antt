@@ -1,4 +1,4 @@
--- The terms of a challenge that was read are within their bounds.
+-- The terms of a challenge and of a seek that were read are within their bounds.
 use Rattle.std.proofs.Common.{◌≡◌, ℕ, ◌≤◌, List, [], ◌∷◌, Ok, Err, Result, refl, sym, ap, subst, inl, inr, rules}
 use Rattle.std.specs.declared.option.Option.{Option}
 use Rattle.std.specs.declared.option.Option.TheVariants.{None, Some}
@@ -22,19 +22,24 @@ use Rattle.command_words.specs.Aliases.{alias_of, expanded, is_alias_name}
 use Rattle.command_words.specs.Blanks.{Words, first_word, rest_of, trimmed, words_of}
 use Rattle.command_words.specs.Commands.{arguments_of, asked, command_after, command_in, command_made, command_of, move_in, move_or}
 use Rattle.command_words.specs.Match.{challenge, challenge_of, two_twelve}
+use Rattle.command_words.specs.declared.terms.Time.{Time}
+use Rattle.command_words.specs.Numbers.{number_of}
+use Rattle.command_words.specs.Play.{play_from}
+use Rattle.command_words.specs.Seek.{five_nothing, seeking}
 use Rattle.command_words.specs.TermReading.{agreed, terms_of}
+use Rattle.command_words.specs.Unseek.{unseek_from, unseek_of}
 use Rattle.command_words.specs.TermWords.{Spells, SpellsTime, time_of}
 use Rattle.command_words.specs.Texts.{alone, handle_of, is_text}
 use Rattle.command_words.specs.Verbs.{verb_of}
 use Rattle.command_words.proofs.TermParts.{are_read_as_spelled}
 use Rattle.session_core.specs.Stages.{FitsCommand}
 
--- a time that was spelled is within its bounds, and so is the usual one
-spelled_fits : (words : Words) (terms : Terms) → SpellsTime two_twelve words (time_of terms) → AreTerms terms
-spelled_fits words terms (inl s) = record { minutes = s.0; increment = s.1 }
-spelled_fits words terms (inr s) = record {
-  minutes = subst (λ (n : ℕ). n ≤ 600) (sym (ap (λ (f : Variant → Option Colour → Terms). (f Chess None).minutes) (ap agreed s.1))) (search rules);
-  increment = subst (λ (n : ℕ). n ≤ 600) (sym (ap (λ (f : Variant → Option Colour → Terms). (f Chess None).increment) (ap agreed s.1))) (search rules);
+-- a time that was spelled is within its bounds, where the usual one is
+spelled_fits : (usual : Time) (words : Words) (terms : Terms) → usual.minutes ≤ 600 → usual.increment ≤ 600 → SpellsTime usual words (time_of terms) → AreTerms terms
+spelled_fits usual words terms few short (inl s) = record { minutes = s.0; increment = s.1 }
+spelled_fits usual words terms few short (inr s) = record {
+  minutes = subst (λ (n : ℕ). n ≤ 600) (sym (ap (λ (f : Variant → Option Colour → Terms). (f Chess None).minutes) (ap agreed s.1))) few;
+  increment = subst (λ (n : ℕ). n ≤ 600) (sym (ap (λ (f : Variant → Option Colour → Terms). (f Chess None).increment) (ap agreed s.1))) short;
 }
 
 -- what the answer of a reader asks for
@@ -45,7 +50,7 @@ FitsAnswer (Err cause) = Unit {0}
 challenge_fits : (name : Option (List ℕ)) (words : Words) (terms : Option Terms) → terms ≡ terms_of two_twelve words → FitsAnswer (challenge name terms)
 challenge_fits (Some name) words (Some terms) is =
     let s : Spells two_twelve words terms = (are_read_as_spelled two_twelve words terms).0 (sym is) in
-    spelled_fits s.time terms s.spells_time
+    spelled_fits two_twelve s.time terms (search rules) (search rules) s.spells_time
 challenge_fits (Some name) words None is = tt
 challenge_fits None words (Some terms) is = tt
 challenge_fits None words None is = tt
@@ -53,6 +58,24 @@ challenge_fits None words None is = tt
 challenge_of_fits : (words : Words) → FitsAnswer (challenge_of words)
 challenge_of_fits [] = tt
 challenge_of_fits (name ∷ words) = challenge_fits (handle_of name) words (terms_of two_twelve words) refl
+
+seeking_fits : (words : Words) (terms : Option Terms) → terms ≡ terms_of five_nothing words → FitsAnswer (seeking terms)
+seeking_fits words (Some terms) is =
+    let s : Spells five_nothing words terms = (are_read_as_spelled five_nothing words terms).0 (sym is) in
+    spelled_fits five_nothing s.time terms (search rules) (search rules) s.spells_time
+seeking_fits words None is = tt
+
+unseek_from_fits : (number : Option ℕ) → FitsAnswer (unseek_from number)
+unseek_from_fits None = tt
+unseek_from_fits (Some number) = tt
+
+unseek_fits : (rest : List ℕ) → FitsAnswer (unseek_of rest)
+unseek_fits [] = tt
+unseek_fits (b ∷ rest) = unseek_from_fits (number_of 65535 (b ∷ rest))
+
+play_fits : (number : Option ℕ) → FitsAnswer (play_from number)
+play_fits None = tt
+play_fits (Some number) = tt
 
 accept_from_fits : (name : Option (List ℕ)) → FitsAnswer (accept_from name)
 accept_from_fits None = tt
@@ -76,10 +99,15 @@ arguments_fit verb.Alias rest =
     either_fits (is_alias_name (first_word rest) && is_text (rest_of rest)) (Ok (command.Alias (first_word rest) (rest_of rest))) (Err BadArguments) tt tt
 arguments_fit verb.Flag rest = alone_fits command.Flag rest tt
 arguments_fit verb.Match rest = challenge_of_fits (words_of rest)
+arguments_fit verb.Play rest = play_fits (number_of 65535 rest)
 arguments_fit verb.Quit rest = alone_fits command.Quit rest tt
 arguments_fit verb.Register rest = either_fits (is_text rest) (Ok (command.Register rest)) (Err BadArguments) tt tt
 arguments_fit verb.Resign rest = alone_fits command.Resign rest tt
 arguments_fit verb.Unalias rest = either_fits (is_alias_name rest) (Ok (command.Unalias rest)) (Err BadArguments) tt tt
+arguments_fit verb.Seek rest = seeking_fits (words_of rest) (terms_of five_nothing (words_of rest)) refl
+arguments_fit verb.Sought rest = alone_fits command.Sought rest tt
+arguments_fit verb.Unseek rest = unseek_fits rest
+arguments_fit verb.Who rest = alone_fits command.Who rest tt
 
 asked_fits : (v : Result Verb Refusal) (rest : List ℕ) → FitsAnswer (asked v rest)
 asked_fits (Ok v) rest = arguments_fit v rest

@@ -98,6 +98,11 @@ command_course command.Nothing stamp memory = round memory
 command_course (command.Move word) stamp memory = to_desk (desk_act.Move word stamp) memory
 command_course (command.Match name terms) stamp memory =
     to_server (Lobby (lobby_act.Match (key_of name) terms)) memory
+command_course (command.Seek terms) stamp memory = to_server (Lobby (lobby_act.Post terms)) memory
+command_course (command.Unseek number) stamp memory = to_server (Lobby (lobby_act.Unpost number)) memory
+command_course command.Sought stamp memory = to_server (Lobby lobby_act.Sought) memory
+command_course (command.Play number) stamp memory = to_server (Pair (pair_act.Play number)) memory
+command_course command.Who stamp memory = to_server (Lobby lobby_act.Who) memory
 command_course (command.Accept name) stamp memory = to_server (Pair (pair_act.Accept (option_map key_of name))) memory
 command_course command.Resign stamp memory = to_desk desk_act.Resign memory
 command_course command.Flag stamp memory = to_desk desk_act.Flag memory

@@ -3,7 +3,7 @@ ghost use Rattle.std.specs.Prelude.{◌≡◌, ◌++◌, All, OnOk, codes};
 ghost use Rattle.linked_desk.specs.Sound.{NamesWinner};
 ghost use Rattle.one_server.specs.Replies.{IsReply};
 ghost use Rattle.session_core.specs.Texts.{asks_back, done_line, entered_line, is_own_turn, item_text, items_text};
-ghost use Rattle.session_core.specs.Texts.{line_end, lines_text};
+ghost use Rattle.session_core.specs.Texts.{line_end, lines_text, list_text, number_line};
 ghost use Rattle.session_core.specs.Texts.{news_text, prompt_of, refusal_line, reply_text, waiting_text};
 
 use crate::standing::{LinkMark, Standing};
@@ -50,6 +50,8 @@ pub(crate) fn put_reply(reply: &Reply, out: &mut Vec<u8>) -> Result<(), NoMemory
         Reply::Refused(cause) => put_refusal(*cause, out),
         Reply::Lobby(LobbyReply::Done) => put_done(out),
         Reply::Lobby(LobbyReply::Entered(name)) => put_entered(*name, out),
+        Reply::Lobby(LobbyReply::Number(number)) => put_number(*number, out),
+        Reply::Lobby(LobbyReply::Lines(lines)) => put_list(lines.as_slice(), out),
         _ => Ok(()),
     }
 }
@@ -70,6 +72,36 @@ fn put_entered(name: Handle, out: &mut Vec<u8>) -> Result<(), NoMemory>
     out.extend_from_slice(b"Entered as ")?;
     out.extend_from_slice(name.letters())?;
     out.extend_from_slice(b".")?;
+    out.extend_from_slice(LINE_END)?;
+    Ok(())
+}
+
+/// Appends the line that tells the number of a new seek.
+fn put_number(number: u16, out: &mut Vec<u8>) -> Result<(), NoMemory>
+    ensures { OnOk result (out.new.items ≡ out.old.items ++ number_line number) }
+{
+    out.extend_from_slice(b"Your seek is ")?;
+    write_number(out, u64::from(number))?;
+    out.extend_from_slice(b".")?;
+    out.extend_from_slice(LINE_END)?;
+    Ok(())
+}
+
+/// Appends the lines of a list, or that there are none.
+fn put_list(lines: &[Line], out: &mut Vec<u8>) -> Result<(), NoMemory>
+    ensures { OnOk result (out.new.items ≡ out.old.items ++ list_text lines.now) }
+{
+    match lines {
+        [] => put_none(out),
+        [_, ..] => put_lines(lines, out),
+    }
+}
+
+/// Appends the line of a list without lines.
+fn put_none(out: &mut Vec<u8>) -> Result<(), NoMemory>
+    ensures { OnOk result (out.new.items ≡ out.old.items ++ codes "none" ++ line_end) }
+{
+    out.extend_from_slice(b"none")?;
     out.extend_from_slice(LINE_END)?;
     Ok(())
 }

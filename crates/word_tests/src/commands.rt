@@ -43,7 +43,35 @@ RE x|refused 27
 zz|refused 26
 ?|refused 26
 1|refused 26
-seek|refused 26
+seek|seek 5 0 chess
+see 3 2 crazyhouse|seek 3 2 crazyhouse
+seek unrated w|seek 5 0 chess white
+seek 0 600 unrated bughouse black|seek 0 600 bughouse black
+seek 5|refused 28
+seek 5 0 rated|refused 28
+seek 5 0 Chess|refused 28
+seek 601 0|refused 28
+unseek|unseek
+u 65535|unseek 65535
+unseek 0|unseek 0
+unseek 65536|refused 28
+unseek 01|refused 28
+unseek 1 2|refused 28
+unseek x|refused 28
+sought|sought
+SO|sought
+sought 1|refused 28
+play 1|play 1
+pl 65535|play 65535
+play|refused 28
+play 65536|refused 28
+play 18446744073709551617|refused 28
+play -1|refused 28
+play ann|refused 28
+who|who
+wh|who
+who ann|refused 28
+s|refused 27
 matches ann|refused 26
 match ann|match ann 2 12 chess
 MATCH Ann|match Ann 2 12 chess
@@ -155,6 +183,12 @@ fn told(alloc: Global, command: &Command) -> Result<Vec<u8>, NoMemory> {
         Command::Nothing => of(alloc, b"nothing"),
         Command::Move(_) => of(alloc, b"move"),
         Command::Match(name, terms) => challenge(alloc, name, terms),
+        Command::Seek(terms) => with_terms(alloc, b"seek", terms),
+        Command::Unseek(None) => of(alloc, b"unseek"),
+        Command::Unseek(Some(number)) => with_number(alloc, b"unseek ", *number),
+        Command::Sought => of(alloc, b"sought"),
+        Command::Play(number) => with_number(alloc, b"play ", *number),
+        Command::Who => of(alloc, b"who"),
         Command::Accept(None) => of(alloc, b"accept"),
         Command::Accept(Some(name)) => with_text(alloc, b"accept ", name.letters()),
         Command::Resign => of(alloc, b"resign"),
@@ -174,9 +208,21 @@ fn with_text(alloc: Global, word: &[u8], text: &[u8]) -> Result<Vec<u8>, NoMemor
     Ok(whole)
 }
 
+fn with_number(alloc: Global, word: &[u8], number: u16) -> Result<Vec<u8>, NoMemory> {
+    let mut whole = Vec::from_slice(alloc, word)?;
+    write_number(&mut whole, number as u64)?;
+    Ok(whole)
+}
+
 /// The text of a challenge, with all its terms.
 fn challenge(alloc: Global, name: &Handle, terms: &Terms) -> Result<Vec<u8>, NoMemory> {
-    let mut text = with_text(alloc, b"match ", name.letters())?;
+    let front = with_text(alloc, b"match ", name.letters())?;
+    with_terms(alloc, &front, terms)
+}
+
+/// A text with all the terms of a game behind it.
+fn with_terms(alloc: Global, front: &[u8], terms: &Terms) -> Result<Vec<u8>, NoMemory> {
+    let mut text = Vec::from_slice(alloc, front)?;
     text.push(b' ')?;
     write_number(&mut text, terms.minutes as u64)?;
     text.push(b' ')?;

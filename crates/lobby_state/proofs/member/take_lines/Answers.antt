@@ -9,24 +9,24 @@ use Rattle.lobby_state.proofs.member.take_lines.Goals as goal
 pub returns-in_default-clause-lines : goal.returns-in_default-clause-lines
 returns-in_default-clause-lines c =
     let p = is_session c.args.session in
-    let nowhere : position p c.args.members.now ≡ None = ap (position p) (sym c.deref.ensures) ∙ sym c.in_default.ensures in
+    let nowhere : position p c.args.members.now ≡ None = ap (position p) (sym c.deref.ensures.0) ∙ sym c.in_default.ensures in
     c.new.ensures ∙ ap lines_in (sym (find-missing p c.args.members.now nowhere))
 
 pub returns-in_default-clause-emptied : goal.returns-in_default-clause-emptied
 returns-in_default-clause-emptied c =
     let p = is_session c.args.session in
-    let nowhere : position p c.args.members.now ≡ None = ap (position p) (sym c.deref.ensures) ∙ sym c.in_default.ensures in
+    let nowhere : position p c.args.members.now ≡ None = ap (position p) (sym c.deref.ensures.0) ∙ sym c.in_default.ensures in
     sym (change_first-missing p emptied c.args.members.now nowhere)
 
 pub returns-clause-lines : goal.returns-clause-lines
 returns-clause-lines c =
     let p = is_session c.args.session in
-    let here : position p c.args.members.now ≡ Some c.in-Some.place = ap (position p) (sym c.deref.ensures) ∙ sym c.in-Some.ensures in
+    let here : position p c.args.members.now ≡ Some c.in-Some.place = ap (position p) (sym c.deref.ensures.0) ∙ sym c.in-Some.ensures in
     c.take.ensures.taken ∙ ap lines_in (sym (find-found p c.args.members.now c.in-Some.place here ∙ c.item_mut-member.ensures.value))
 
 pub returns-clause-emptied : goal.returns-clause-emptied
 returns-clause-emptied c =
     let p = is_session c.args.session in
-    let here : position p c.args.members.now ≡ Some c.in-Some.place = ap (position p) (sym c.deref.ensures) ∙ sym c.in-Some.ensures in
+    let here : position p c.args.members.now ≡ Some c.in-Some.place = ap (position p) (sym c.deref.ensures.0) ∙ sym c.in-Some.ensures in
     ap (λ lines. set c.args.members.now c.in-Some.place (record c.item_mut-member.result.now { waiting = lines })) c.take.ensures.emptied
     ∙ sym (change_first-found p emptied c.args.members.now c.in-Some.place _ here c.item_mut-member.ensures.value)

@@ -1,0 +1,40 @@
+-- `tell HANDLE TEXT`, short `t`: says something to a player. A decimal in the handle's place is a channel, and there are
+-- no channels yet.
+use Rattle.std.specs.Prelude.{◌≡◌, ℕ, if◌then◌else◌, List, Option, Some, None, Result, Ok, Err, codes, refl}
+use Rattle.fics_words.specs.declared.refusal.Refusal.{Refusal}
+use Rattle.fics_words.specs.declared.refusal.Refusal.TheVariants.{BadArguments, BadChannel}
+use Rattle.command_words.specs.declared.command.Command.{Command}
+use Rattle.command_words.specs.declared.command.Command.TheVariants.{Tell}
+use Rattle.command_words.specs.Blanks.{first_word, rest_of}
+use Rattle.command_words.specs.Numbers.{is_no_channel, number_of}
+use Rattle.command_words.specs.Texts.{handle_of, is_text}
+
+abbrev pub telling : Option (List ℕ) → List ℕ → Result Command Refusal
+telling None text = Err BadArguments
+telling (Some name) text = if is_text text then Ok (Tell name text) else Err BadArguments
+
+abbrev pub tell_to : List ℕ → List ℕ → Result Command Refusal
+tell_to word text = if is_no_channel word then Err BadChannel else telling (handle_of word) text
+
+abbrev pub tell_of : List ℕ → Result Command Refusal
+tell_of rest = tell_to (first_word rest) (rest_of rest)
+
+example_player : tell_of (codes "Bob  hi there") ≡ Ok (Tell (codes "Bob") (codes "hi there"))
+unfolding number_of
+example_player = refl
+
+example_no_text : tell_of (codes "Bob") ≡ Err BadArguments
+unfolding number_of
+example_no_text = refl
+
+example_channel : tell_of (codes "255 hi") ≡ Err BadArguments
+unfolding number_of
+example_channel = refl
+
+example_no_channel : tell_of (codes "256") ≡ Err BadChannel
+unfolding number_of
+example_no_channel = refl
+
+example_leading_zero : tell_of (codes "0300 hi") ≡ Err BadArguments
+unfolding number_of
+example_leading_zero = refl

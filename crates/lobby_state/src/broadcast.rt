@@ -1,0 +1,72 @@
+//! A line that goes to all members whom a test names.
+ghost use Rattle.std.specs.Prelude.{◌≡◌, ◌+◌, ◌-◌, ◌≤◌, ◌++◌, IfOk, OnErr, OnOk, drop, length, take};
+ghost use Rattle.lobby_state.specs.Broadcast.{broadcast, heard, hears, hearing};
+
+use crate::member::{MOST_MEMBERS, Member, Members};
+use collections::Predicate;
+use fics_words::{Line, NoMemory};
+
+/// Puts a copy of the line behind those that wait for each member whom the test names and for whom fewer than 512
+/// wait, and answers how many members that are. Running out of memory changes nothing.
+pub(crate) fn broadcast<P: Predicate<Member>>(
+    members: &mut Members,
+    test: &P,
+    line: &Line,
+) -> Result<u16, NoMemory>
+    ensures told { IfOk result (λ told. told ≡ heard (P.passes test.now) members.old) }
+    ensures ok { OnOk result (members.new ≡ broadcast (P.passes test.now) line.now members.old) }
+    ensures err { OnErr result (members.new ≡ members.old) }
+{
+    let told = tell_from(members, 0, test, line)?;
+    Ok(told as u16)
+}
+
+/// Tells the members from this place on. Where memory runs out behind a member, the member's copy is taken back.
+fn tell_from<P: Predicate<Member>>(
+    members: &mut Members,
+    place: usize,
+    test: &P,
+    line: &Line,
+) -> Result<usize, NoMemory>
+    requires { place ≤ length members.old }
+    ensures told { IfOk result (λ told. told ≡ heard (P.passes test.now) (drop place members.old)) }
+    ensures few { IfOk result (λ told. place + told ≤ length members.old) }
+    ensures most { length members.old ≤ MOST_MEMBERS }
+    ensures ok { OnOk result (members.new
+        ≡ take place members.old ++ broadcast (P.passes test.now) line.now (drop place members.old)) }
+    ensures err { OnErr result (members.new ≡ members.old) }
+{
+    if place == members.len() {
+        return Ok(0);
+    }
+    let is_told = tell(members.item_mut(place), test, line)?;
+    match tell_from(members, place + 1, test, line) {
+        Ok(others) => Ok(if is_told { others + 1 } else { others }),
+        Err(NoMemory) => {
+            if is_told {
+                take_back(members.item_mut(place));
+            }
+            Err(NoMemory)
+        }
+    }
+}
+
+/// Tells one member, where the test names it and fewer than 512 lines wait for it, and answers whether it did.
+fn tell<P: Predicate<Member>>(member: &mut Member, test: &P, line: &Line) -> Result<bool, NoMemory>
+    ensures told { IfOk result (λ is_told. is_told ≡ hears (P.passes test.now) member.old) }
+    ensures ok { OnOk result (member.new ≡ hearing (P.passes test.now) line.now member.old) }
+    ensures err { OnErr result (member.new ≡ member.old) }
+{
+    if !test.passes(member) || member.is_full() {
+        return Ok(false);
+    }
+    member.waiting.push(line.duplicate()?)?;
+    Ok(true)
+}
+
+/// Takes back the line that the member was told last.
+fn take_back(member: &mut Member)
+    ensures { member.new ≡ record member.old { waiting = take (length member.old.waiting - 1) member.old.waiting } }
+{
+    member.waiting.pop();
+}

@@ -1,0 +1,79 @@
+//! Post: a member offers a game to whoever takes it.
+ghost use Rattle.std.specs.Prelude.{◌≡◌, ◌<◌, IfOk, length, not, ◌&&◌};
+ghost use Rattle.fics_words.specs.Effect.{Takes};
+ghost use Rattle.lobby_state.specs.Post.{hears_seeks, post_effect, seek_words};
+
+use crate::acts::LobbyReply;
+use crate::broadcast::broadcast;
+use crate::member::Member;
+use crate::register::Register;
+use crate::terms::put_terms;
+use chess_model::{Terms, Variant};
+use collections::Predicate;
+use fics_words::{Duplicate, Fail, Handle, Line, NoMemory, Refusal, write_number};
+use std::alloc::Global;
+
+/// A member of another session who wants to hear of seeks.
+#[derive(Clone, Copy)]
+struct HearsSeeks(u32);
+
+impl Predicate<Member> for HearsSeeks {
+    ghost passes = { λ test member. hears_seeks test.0 member };
+
+    fn passes(&self, member: &Member) -> bool {
+        member.session != self.0 && member.wants.seeks
+    }
+}
+
+impl Register {
+    /// The session offers a game on these terms, and all others who want to hear of seeks are told. The causes of a
+    /// refusal, in order: the session isn't a member; the game is bughouse; the member has a place; it has three seeks.
+    pub(crate) fn post(&mut self, session: u32, terms: Terms) -> Result<LobbyReply, Fail>
+        requires { length self.old.seeks < 65535 }
+        ensures { Takes (post_effect self.old session terms) self.old self.new result }
+    {
+        let Some(caller) = self.member(session) else {
+            return Err(Fail::Refused(Refusal::NotIn));
+        };
+        if matches!(terms.variant, Variant::Bughouse) {
+            return Err(Fail::Refused(Refusal::NotInVariant));
+        }
+        if caller.has_place() {
+            return Err(Fail::Refused(Refusal::Playing));
+        }
+        let name = caller.name;
+        // the seeks are made anew beside the old ones, so that want of memory for the lines changes nothing
+        let mut seeks = self.seeks.duplicate()?;
+        let number = seeks.post(session, terms)?;
+        let line = seek_line(self.alloc, name, number, terms)?;
+        let _told = broadcast(&mut self.members, &HearsSeeks(session), &line)?;
+        self.seeks = seeks;
+        Ok(LobbyReply::Number(number))
+    }
+}
+
+/// The line that a seek sends, `H seeking M I V C ("play N" to respond)`: whose it is, on which terms, and its number.
+fn seek_line(alloc: Global, name: Handle, number: u16, terms: Terms) -> Result<Line, NoMemory>
+    ensures { IfOk result (λ line. line ≡ seek_words name number terms) }
+{
+    let text = seek_text(alloc, name.letters(), number, terms)?;
+    Ok(Line::from_bytes(text))
+}
+
+/// The bytes of that line, for a player with these letters.
+fn seek_text(
+    alloc: Global,
+    letters: &[u8],
+    number: u16,
+    terms: Terms,
+) -> Result<Vec<u8>, NoMemory>
+    ensures { IfOk result (λ text. text.items ≡ seek_words letters.now number terms) }
+{
+    let mut text = Vec::from_slice(alloc, letters)?;
+    text.extend_from_slice(b" seeking ")?;
+    put_terms(alloc, terms, &mut text)?;
+    text.extend_from_slice(b" (\"play ")?;
+    write_number(&mut text, u64::from(number))?;
+    text.extend_from_slice(b"\" to respond)")?;
+    Ok(text)
+}

@@ -1,0 +1,39 @@
+//! Shout: a member says something to all others who want to hear it.
+ghost use Rattle.std.specs.Prelude.{◌≤◌, length, not, ◌&&◌};
+ghost use Rattle.fics_words.specs.Effect.{Takes};
+ghost use Rattle.lobby_state.specs.Shout.{hears_shouts, shout_effect};
+
+use crate::acts::LobbyReply;
+use crate::broadcast::broadcast;
+use crate::member::Member;
+use crate::register::Register;
+use crate::said::said_line;
+use collections::Predicate;
+use fics_words::{Fail, Line, Refusal};
+
+/// A member of another session who wants to hear what others shout.
+#[derive(Clone, Copy)]
+struct HearsShouts(u32);
+
+impl Predicate<Member> for HearsShouts {
+    ghost passes = { λ test member. hears_shouts test.0 member };
+
+    fn passes(&self, member: &Member) -> bool {
+        member.session != self.0 && member.wants.shouts
+    }
+}
+
+impl Register {
+    /// The member says the text to all others who want to hear it. It is refused where the session isn't a member.
+    pub(crate) fn shout(&mut self, session: u32, text: &Line) -> Result<LobbyReply, Fail>
+        requires { length text.now ≤ 800 }
+        ensures { Takes (shout_effect self.old session text.now) self.old self.new result }
+    {
+        let Some(caller) = self.member(session) else {
+            return Err(Fail::Refused(Refusal::NotIn));
+        };
+        let line = said_line(self.alloc, caller.name, b" shouts: ", text.bytes())?;
+        let told = broadcast(&mut self.members, &HearsShouts(session), &line)?;
+        Ok(LobbyReply::Told(told))
+    }
+}

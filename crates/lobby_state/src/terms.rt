@@ -1,0 +1,42 @@
+//! The terms of a game in a line.
+ghost use Rattle.std.specs.Prelude.{◌≡◌, ◌++◌, IfOk, OnOk};
+ghost use Rattle.lobby_state.specs.TermsText.{colour_words, terms_words};
+
+use chess_model::{Colour, Terms, variant_word};
+use fics_words::{NoMemory, write_number};
+use std::alloc::Global;
+
+/// Appends the terms as lines of the lobby have them, `M I V C`: the minutes, the increment in seconds, the variant, and
+/// the colour where one is asked for.
+pub(crate) fn put_terms(alloc: Global, terms: Terms, text: &mut Vec<u8>) -> Result<(), NoMemory>
+    ensures { OnOk result (text.new.items ≡ text.old.items ++ terms_words terms) }
+{
+    let words = words_of_terms(alloc, terms)?;
+    text.extend_from_slice(&words)?;
+    Ok(())
+}
+
+/// The bytes of these words.
+fn words_of_terms(alloc: Global, terms: Terms) -> Result<Vec<u8>, NoMemory>
+    ensures { IfOk result (λ words. words.items ≡ terms_words terms) }
+{
+    let mut words = Vec::new(alloc);
+    write_number(&mut words, u64::from(terms.minutes))?;
+    words.push(b' ')?;
+    write_number(&mut words, u64::from(terms.increment))?;
+    words.push(b' ')?;
+    words.extend_from_slice(variant_word(terms.variant).bytes())?;
+    words.extend_from_slice(colour_words(terms.colour))?;
+    Ok(words)
+}
+
+/// The colour, behind a blank; nothing where none is asked for.
+fn colour_words(colour: Option<Colour>) -> &'static [u8]
+    ensures { result.now ≡ colour_words colour }
+{
+    match colour {
+        None => b"",
+        Some(Colour::White) => b" white",
+        Some(Colour::Black) => b" black",
+    }
+}

@@ -1,0 +1,57 @@
+//! Var: a member says what it wants others to send.
+ghost use Rattle.fics_words.specs.Effect.{Takes};
+ghost use Rattle.lobby_state.specs.Var.{var_effect, with_var};
+
+use crate::acts::LobbyReply;
+use crate::member::{Member, OfSession, change_first};
+use crate::register::Register;
+use collections::Change;
+use fics_words::{Fail, Refusal};
+
+/// A variable of a member, by FICS's names.
+#[derive(Clone, Copy, Debug, PartialEq, Eq)]
+pub enum Var {
+    /// Whether the member can be challenged.
+    Open,
+    /// Whether the member hears what others shout.
+    Shout,
+    /// Whether the member hears of seeks.
+    Seek,
+}
+
+/// The setting of a variable.
+#[derive(Clone, Copy)]
+struct Setting {
+    which: Var,
+    on: bool,
+}
+
+impl Change<Member> for Setting {
+    ghost changed = { λ setting member. with_var setting.which setting.on member };
+
+    fn change(&self, member: &mut Member) {
+        match self.which {
+            Var::Open => member.wants.matches = self.on,
+            Var::Shout => member.wants.shouts = self.on,
+            Var::Seek => member.wants.seeks = self.on,
+        }
+    }
+}
+
+impl Register {
+    /// The member's variable is on or off from now on. It takes no memory, and is refused where the session isn't a
+    /// member.
+    pub(crate) fn set_var(&mut self, session: u32, which: Var, on: bool) -> Result<LobbyReply, Fail>
+        ensures { Takes (var_effect self.old session which on) self.old self.new result }
+    {
+        if self.member(session).is_none() {
+            return Err(Fail::Refused(Refusal::NotIn));
+        }
+        change_first(
+            &mut self.members,
+            &OfSession(session),
+            &Setting { which, on },
+        );
+        Ok(LobbyReply::Done)
+    }
+}

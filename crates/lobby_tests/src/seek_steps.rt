@@ -1,0 +1,154 @@
+//! Steps of seeks, each with its expected answer.
+
+use crate::steps::{DONE, Step, is_as_expected, number_of};
+use chess_model::{Colour, Terms, Variant};
+use fics_words::{Fail, Line, Refusal};
+use lobby_state::{Lobby, LobbyAct, LobbyReply, PairAct, Plan};
+
+/// Chess of 5 minutes, in which the seeker asks for White.
+pub const WHITE: Terms = Terms {
+    minutes: 5,
+    increment: 0,
+    variant: Variant::Chess,
+    colour: Some(Colour::White),
+};
+
+/// A step: the session that makes it, what it does, and what it has to answer; where a number may be that of a refusal
+/// it stands last, and 0 for none.
+#[derive(Clone, Copy)]
+pub enum Seeking {
+    /// Posts a seek, which gets this number.
+    Post(u32, Terms, u16, u8),
+    Unpost(u32, Option<u16>, u8),
+    /// The seeks are these lines.
+    Sought(u32, &'static [&'static [u8]]),
+    /// The members are these.
+    Who(u32, &'static [&'static [u8]]),
+    /// Asks for a list without being a member.
+    Outside(u32),
+    /// Asks for the plan of taking this seek, and doesn't carry it out.
+    Ask(u32, u16, u8),
+    /// Takes this seek: the desk, the serial and White's session.
+    Play(u32, u16, u8, u64, u32),
+    /// A step of another kind.
+    Other(Step),
+}
+
+/// The place of the first step that answers otherwise, if one does.
+pub fn first_failing_seek(lobby: &mut Lobby, steps: &[Seeking]) -> Option<usize> {
+    for (place, step) in steps.iter().enumerate() {
+        if !answers(lobby, step) {
+            return Some(place);
+        }
+    }
+    None
+}
+
+fn answers(lobby: &mut Lobby, step: &Seeking) -> bool {
+    match step {
+        Seeking::Post(session, terms, number, refusal) => {
+            posts(lobby, *session, *terms, *number, *refusal)
+        }
+        Seeking::Unpost(session, number, refusal) => {
+            unposting(lobby, *session, *number) == *refusal
+        }
+        Seeking::Sought(session, rows) => tells(lobby, *session, &LobbyAct::Sought, rows),
+        Seeking::Who(session, rows) => tells(lobby, *session, &LobbyAct::Who, rows),
+        Seeking::Outside(session) => is_outside(lobby, *session),
+        Seeking::Ask(session, number, refusal) => playing(lobby, *session, *number) == *refusal,
+        Seeking::Play(session, number, desk, serial, white) => {
+            plays(lobby, *session, *number, *desk, *serial, *white)
+        }
+        Seeking::Other(step) => is_as_expected(lobby, step),
+    }
+}
+
+/// Posts a seek, and says whether the answer is this number, or this refusal.
+pub fn posts(lobby: &mut Lobby, session: u32, terms: Terms, number: u16, refusal: u8) -> bool {
+    if terms.minutes > 600 || terms.increment > 600 {
+        return false;
+    }
+    match lobby.act(session, 0, &LobbyAct::Post { terms }) {
+        Ok(LobbyReply::Number(got)) => refusal == DONE && got == number,
+        Err(Fail::Refused(cause)) => cause.number() == refusal,
+        _ => false,
+    }
+}
+
+fn unposting(lobby: &mut Lobby, session: u32, number: Option<u16>) -> u8 {
+    let answer = lobby.act(session, 0, &LobbyAct::Unpost { number });
+    number_of(&answer)
+}
+
+/// Asks for a list, and says whether it is these lines, and those of which a copy was made before.
+fn tells(lobby: &mut Lobby, session: u32, act: &LobbyAct, rows: &[&[u8]]) -> bool {
+    let Ok(ahead) = lobby.lists_ahead(session, act) else {
+        return false;
+    };
+    match made(lobby, session, act) {
+        Ok(LobbyReply::Lines(lines)) => lines == ahead.lines && are_rows(lines.as_slice(), rows),
+        _ => false,
+    }
+}
+
+fn are_rows(lines: &[Line], rows: &[&[u8]]) -> bool {
+    if lines.len() != rows.len() {
+        return false;
+    }
+    for place in 0..lines.len() {
+        if lines[place].bytes() != rows[place] {
+            return false;
+        }
+    }
+    true
+}
+
+/// Makes an act that asks for a list.
+fn made(lobby: &mut Lobby, session: u32, act: &LobbyAct) -> Result<LobbyReply, Fail> {
+    match act {
+        LobbyAct::Sought => lobby.act(session, 0, &LobbyAct::Sought),
+        _ => lobby.act(session, 0, &LobbyAct::Who),
+    }
+}
+
+fn is_outside(lobby: &mut Lobby, session: u32) -> bool {
+    let first = made(lobby, session, &LobbyAct::Sought);
+    let second = made(lobby, session, &LobbyAct::Who);
+    number_of(&first) == 54 && number_of(&second) == 54
+}
+
+/// Asks for the plan of taking a seek.
+pub fn playing(lobby: &Lobby, session: u32, number: u16) -> u8 {
+    match taking(lobby, session, number) {
+        Ok(_) => DONE,
+        Err(refusal) => refusal.number(),
+    }
+}
+
+fn taking(lobby: &Lobby, session: u32, number: u16) -> Result<Plan, Refusal> {
+    lobby.plan(session, &PairAct::Play(number))
+}
+
+/// Takes a seek, and says whether this game starts.
+fn plays(
+    lobby: &mut Lobby,
+    session: u32,
+    number: u16,
+    desk: u8,
+    serial: u64,
+    white: u32,
+) -> bool {
+    let Ok(plan) = lobby.plan(session, &PairAct::Play(number)) else {
+        return false;
+    };
+    lobby.commit(&plan, false);
+    match plan {
+        Plan::Start {
+            desk: at,
+            serial: under,
+            seats,
+            ..
+        } => at == desk && under == serial && seats.first.white.session == white,
+        _ => false,
+    }
+}
