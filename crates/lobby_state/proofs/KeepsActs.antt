@@ -6,7 +6,7 @@ use Rattle.fics_words.specs.declared.fail.Fail.{Fail}
 use Rattle.fics_words.specs.declared.fail.Fail.TheVariants.{Refused, Memory}
 use Rattle.fics_words.specs.declared.refusal.Refusal.{Refusal}
 use Rattle.lobby_state.specs.declared.acts.LobbyAct.{LobbyAct}
-use Rattle.lobby_state.specs.declared.acts.LobbyAct.TheVariants.{Enter, Register, Match, Unpost, Sought, Who, Where, Fetch, Going, Bye, InUse, Var, Tell, Shout, Decline, Withdraw, Post}
+use Rattle.lobby_state.specs.declared.acts.LobbyAct.TheVariants.{Enter, Register, Match, Unpost, Sought, Who, Where, Fetch, Going, Bye, InUse, Var, Tell, Shout, Decline, Withdraw, Post, Channel, TellChannel, InChannel}
 use Rattle.lobby_state.specs.declared.acts.LobbyReply.{LobbyReply}
 use Rattle.lobby_state.specs.Acts.{LobbyNeedsNoMemory, lobby_after, lobby_answer, lobby_effect}
 use Rattle.lobby_state.specs.Keeps.{Keeps, TellsDesks}
@@ -14,6 +14,9 @@ use Rattle.lobby_state.specs.Lobby.{LobbyState}
 use Rattle.lobby_state.specs.WellFormed.{IsWellFormed}
 use Rattle.lobby_state.proofs.Causes.{none_holds}
 use Rattle.lobby_state.proofs.KeepsBye.{keeps_bye}
+use Rattle.lobby_state.proofs.KeepsChannel.{keeps_channel}
+use Rattle.lobby_state.proofs.KeepsInChannel.{keeps_in_channel}
+use Rattle.lobby_state.proofs.KeepsTellChannel.{keeps_tell_channel}
 use Rattle.lobby_state.proofs.KeepsDecline.{keeps_decline}
 use Rattle.lobby_state.proofs.KeepsEnter.{keeps_enter}
 use Rattle.lobby_state.proofs.KeepsFetch.{keeps_fetch}
@@ -43,6 +46,9 @@ keeps_act lobby session Who = keeps_who lobby session
 keeps_act lobby session (Var which on) = keeps_var lobby session which on
 keeps_act lobby session (Tell to text) = keeps_tell lobby session to text
 keeps_act lobby session (Shout text) = keeps_shout lobby session text
+keeps_act lobby session (Channel channel on) = keeps_channel lobby session channel on
+keeps_act lobby session (TellChannel channel text) = keeps_tell_channel lobby session channel text
+keeps_act lobby session (InChannel channel) = keeps_in_channel lobby session channel
 keeps_act lobby session (Decline name) = keeps_decline lobby session name
 keeps_act lobby session (Withdraw name) = keeps_withdraw lobby session name
 keeps_act lobby session Where = keeps_where lobby session

@@ -15,6 +15,9 @@ pub mod KeepsWho
 pub mod Broadcasting
 pub mod KeepsShout
 pub mod KeepsTell
+pub mod KeepsChannel
+pub mod KeepsTellChannel
+pub mod KeepsInChannel
 pub mod KeepsDecline
 pub mod KeepsWithdraw
 pub mod KeepsVar

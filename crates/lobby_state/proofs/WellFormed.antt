@@ -4,6 +4,7 @@ use Rattle.std.specs.Prelude.{All}
 use Rattle.std.specs.List.{find}
 use Rattle.std.proofs.lemmas.List.{length-map}
 use Rattle.std.proofs.lemmas.List.Elements.{All-nil, All-filter, All-replicate, All-weaker, All-head, All-tail}
+use Rattle.channel_feed.specs.declared.channels.Membership.{Membership}
 use Rattle.fics_words.specs.Handle.{key_of}
 use Rattle.lobby_state.specs.declared.challenge.Challenge.{Challenge}
 use Rattle.lobby_state.specs.declared.game.Game.{Game}
@@ -95,6 +96,20 @@ with_seeks lobby seeks are h = record {
 pub seeks_gone : (lobby : LobbyState) (test : Seek → Bool) → IsWellFormed lobby → IsWellFormed (record lobby { seeks = filter test lobby.seeks })
 seeks_gone lobby test h =
     with_seeks lobby (filter test lobby.seeks) (AreSeeksOf-filter (sessions_of lobby.members) test lobby.seeks h.seeks) h
+
+-- others are in the channels
+pub with_channels : (lobby : LobbyState) (channels : List Membership) → IsWellFormed lobby → IsWellFormed (record lobby { channels = channels })
+with_channels lobby channels h = record {
+  accounts = h.accounts;
+  hall = h.hall;
+  sessions = h.sessions;
+  handles = h.handles;
+  challenges = h.challenges;
+  seeks = h.seeks;
+  games = h.games;
+  serials = h.serials;
+  places = h.places;
+}
 
 pub IsWellFormed-opening : IsWellFormed opening
 IsWellFormed-opening = record {

@@ -19,6 +19,7 @@ use Rattle.fics_words.specs.Line.{IsLine, IsPrintable}
 use Rattle.lobby_state.specs.Match.{challenge_words}
 use Rattle.lobby_state.specs.Post.{seek_words}
 use Rattle.lobby_state.specs.Sought.{sought_words}
+use Rattle.lobby_state.specs.TellChannel.{channel_words}
 use Rattle.lobby_state.specs.TermsText.{colour_words, terms_words}
 use Rattle.seek_match.specs.declared.seek.Seek.{Seek}
 
@@ -121,6 +122,11 @@ IsPrinted-seek_words name number terms h small minutes increment =
     let join = IsPrinted-append in
     join 67 13 _ _ (join 62 5 _ _ (join 54 8 _ _ (join 26 28 _ _ (join 17 9 _ _ h IsPrinted-seeking) (IsPrinted-terms_words terms minutes increment))
     IsPrinted-play) (IsPrinted-decimal number small)) IsPrinted-respond
+
+pub IsPrinted-channel_words : (channel : ℕ) → channel < 2 ^ 16 → IsPrinted 9 (channel_words channel)
+IsPrinted-channel_words channel small =
+    IsPrinted-append 6 3 _ _ (IsPrinted-append 1 5 _ _ (IsPrinted-from_test 1 (codes "(") (omega arith) refl) (IsPrinted-decimal channel small))
+    (IsPrinted-from_test 3 (codes "): ") (omega arith) refl)
 
 pub IsLine-from_printed : (most : ℕ) (text : List ℕ) → most ≤ 1023 → IsPrinted most text → IsLine text
 IsLine-from_printed most text few h = (omega (arith, few, h.short), h.shows)

@@ -4,9 +4,12 @@ use Rattle.chess_model.specs.declared.variant.Terms.{Terms}
 use Rattle.fics_words.specs.declared.refusal.Refusal.{Refusal}
 use Rattle.fics_words.specs.Effect.{Effect, answer_of, state_of}
 use Rattle.lobby_state.specs.declared.acts.LobbyAct.{LobbyAct}
-use Rattle.lobby_state.specs.declared.acts.LobbyAct.TheVariants.{Enter, Register, Match, Unpost, Sought, Who, Where, Fetch, Going, Bye, InUse, Var, Tell, Shout, Decline, Withdraw, Post}
+use Rattle.lobby_state.specs.declared.acts.LobbyAct.TheVariants.{Enter, Register, Match, Unpost, Sought, Who, Where, Fetch, Going, Bye, InUse, Var, Tell, Shout, Decline, Withdraw, Post, Channel, TellChannel, InChannel}
 use Rattle.lobby_state.specs.declared.acts.LobbyReply.{LobbyReply}
 use Rattle.lobby_state.specs.Bye.{bye_effect}
+use Rattle.lobby_state.specs.Channel.{channel_effect}
+use Rattle.lobby_state.specs.InChannel.{in_channel_effect}
+use Rattle.lobby_state.specs.TellChannel.{tell_channel_effect}
 use Rattle.lobby_state.specs.Decline.{decline_effect}
 use Rattle.lobby_state.specs.Enter.{enter_effect}
 use Rattle.lobby_state.specs.Fetch.{fetch_effect}
@@ -37,6 +40,9 @@ lobby_effect lobby session Who = who_effect lobby session
 lobby_effect lobby session (Var which on) = var_effect lobby session which on
 lobby_effect lobby session (Tell to text) = tell_effect lobby session to text
 lobby_effect lobby session (Shout text) = shout_effect lobby session text
+lobby_effect lobby session (Channel channel on) = channel_effect lobby session channel on
+lobby_effect lobby session (TellChannel channel text) = tell_channel_effect lobby session channel text
+lobby_effect lobby session (InChannel channel) = in_channel_effect lobby session channel
 lobby_effect lobby session (Decline name) = decline_effect lobby session name
 lobby_effect lobby session (Withdraw name) = withdraw_effect lobby session name
 lobby_effect lobby session Where = where_effect lobby session
@@ -62,6 +68,7 @@ pub record AreTerms (terms : Terms) : Type 0 where
 abbrev pub FitsLobby : LobbyAct → Type 0
 FitsLobby (Match to terms) = AreTerms terms
 FitsLobby (Tell to text) = length text ≤ 800
+FitsLobby (TellChannel channel text) = length text ≤ 800
 FitsLobby (Shout text) = length text ≤ 800
 FitsLobby (Post terms) = AreTerms terms
 FitsLobby _ = Unit {0}

@@ -15,6 +15,9 @@ pub mod Broadcast
 pub mod Said
 pub mod Shout
 pub mod Tell
+pub mod Channel
+pub mod TellChannel
+pub mod InChannel
 pub mod Var
 pub mod Where
 pub mod Fetch

@@ -2,6 +2,8 @@
 -- server's own.
 use Rattle.std.specs.Prelude.{ℕ, ◌-◌, ◌^◌, ◌==◌, Bool, not, ◌&&◌, ◌||◌, List, [], length, replicate, Option, None, Some, is_none, is_some, bytes_eq, filter, slice_get}
 use Rattle.std.specs.List.{find, position}
+use Rattle.channel_feed.specs.declared.channels.Membership.{Membership}
+use Rattle.channel_feed.specs.Channels.{without_player}
 use Rattle.fics_words.specs.Handle.{key_of}
 use Rattle.fics_words.specs.declared.account.Account.{Account}
 use Rattle.login_handles.specs.Accounts.{account_of}
@@ -14,13 +16,15 @@ use Rattle.lobby_state.specs.Desks.{desks}
 use Rattle.lobby_state.specs.Places.{PlaceList, no_places}
 
 -- the accounts in the order in which they were made; the members in the order in which they entered; the challenges in
--- the order in which they were made; the seeks in the order of their numbers; for each desk from 1 on the game for which
--- it is in use; and how many games were started, which is the last serial
+-- the order in which they were made; the seeks in the order of their numbers; who is in which channel, in the order of
+-- joining; for each desk from 1 on the game for which it is in use; and how many games were started, which is the last
+-- serial
 pub record LobbyState : Type 0 where
   pub accounts : List Account
   pub members : List Member
   pub challenges : List Challenge
   pub seeks : List Seek
+  pub channels : List Membership
   pub games : List (Option Game)
   pub started : ℕ
 
@@ -47,6 +51,7 @@ opening = record {
   members = [];
   challenges = [];
   seeks = [];
+  channels = [];
   games = replicate desks None;
   started = 0;
 }
@@ -131,3 +136,7 @@ without_challenges session lobby =
 abbrev pub without_seeks : ℕ → LobbyState → LobbyState
 without_seeks session lobby =
     record lobby { seeks = filter (λ seek. not (is_by session None seek)) lobby.seeks }
+
+-- the lobby where this session is in no channel
+abbrev pub without_channels : ℕ → LobbyState → LobbyState
+without_channels session lobby = record lobby { channels = without_player session lobby.channels }

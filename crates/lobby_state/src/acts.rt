@@ -55,6 +55,20 @@ pub enum LobbyAct {
     Shout {
         text: Line,
     },
+    /// The member joins the channel, or leaves it where `on` is false.
+    Channel {
+        channel: u8,
+        on: bool,
+    },
+    /// The member says the text, of at most 800 bytes, to all others in the channel.
+    TellChannel {
+        channel: u8,
+        text: Line,
+    },
+    /// Asks who is in the channel.
+    InChannel {
+        channel: u8,
+    },
     /// The member turns down the challenge of the player with this handle, or without one the oldest challenge.
     Decline {
         name: Option<HandleKey>,

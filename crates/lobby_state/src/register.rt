@@ -7,6 +7,7 @@ use crate::challenge::Challenge;
 use crate::game::{Game, no_games};
 use crate::member::{Member, Members};
 use crate::places::Places;
+use channel_feed::Channels;
 use collections::{Listed, Reserved};
 use fics_words::{Duplicate, HandleKey, Line, NoMemory};
 use login_handles::Accounts;
@@ -14,8 +15,8 @@ use seek_match::SeekBook;
 use std::alloc::Global;
 use std::marker::Model;
 
-/// Who is registered and who is in the hall, which challenges and seeks stand, and which desks are in use: the acts are
-/// carried out here, one file an act. That they leave it well-formed, `Lobby` knows.
+/// Who is registered and who is in the hall, which challenges and seeks stand, who is in which channel, and which desks are in
+/// use: the acts are carried out here, one file an act. That they leave it well-formed, `Lobby` knows.
 #[derive(Debug, Drop)]
 pub(crate) struct Register {
     pub(crate) alloc: Global,
@@ -23,6 +24,7 @@ pub(crate) struct Register {
     pub(crate) members: Members,
     pub(crate) challenges: Reserved<Challenge>,
     pub(crate) seeks: SeekBook,
+    pub(crate) channels: Channels,
     /// The game of each desk from 1 on, where it is in use.
     pub(crate) games: Listed<Option<Game>>,
     /// How many games were started, which is the last serial.
@@ -41,6 +43,7 @@ impl Model for Register {
       members = register.members;
       challenges = register.challenges.items;
       seeks = register.seeks;
+      channels = register.channels;
       games = register.games;
       started = register.started;
     } };
@@ -59,6 +62,7 @@ impl Register {
             members: Members::new(alloc)?,
             challenges: Reserved::new(alloc),
             seeks: SeekBook::new(alloc),
+            channels: Channels::new(alloc),
             games: no_games(alloc)?,
             started: 0,
         })

@@ -29,6 +29,9 @@ impl Register {
             LobbyAct::Var { which, on } => self.set_var(session, *which, *on),
             LobbyAct::Tell { to, text } => self.tell(session, *to, text),
             LobbyAct::Shout { text } => self.shout(session, text),
+            LobbyAct::Channel { channel, on } => self.channel(session, *channel, *on),
+            LobbyAct::TellChannel { channel, text } => self.tell_channel(session, *channel, text),
+            LobbyAct::InChannel { channel } => self.in_channel(session, *channel),
             LobbyAct::Decline { name } => self.decline(session, *name),
             LobbyAct::Withdraw { name } => self.withdraw(session, *name),
             LobbyAct::Where => Ok(self.where_is(session)),
@@ -56,6 +59,10 @@ impl Register {
             }),
             LobbyAct::Who => Ok(ReplyLists {
                 lines: self.who_lines()?,
+                ..none
+            }),
+            LobbyAct::InChannel { channel } => Ok(ReplyLists {
+                lines: self.in_channel_lines(*channel)?,
                 ..none
             }),
             LobbyAct::InUse => Ok(ReplyLists {

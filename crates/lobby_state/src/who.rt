@@ -43,7 +43,7 @@ fn names_of(alloc: Global, members: &[Member]) -> Result<Vec<Handle>, NoMemory>
 }
 
 /// Puts a handle among others in the order of their keys.
-fn put_name(names: &mut Vec<Handle>, name: Handle) -> Result<(), NoMemory>
+pub(crate) fn put_name(names: &mut Vec<Handle>, name: Handle) -> Result<(), NoMemory>
     ensures { OnOk result (names.new.items ≡ with_name name names.old.items) }
 {
     names.insert(place_of(name, names.as_slice()), name)?;
@@ -77,7 +77,7 @@ fn is_before(name: Handle, other: Handle) -> bool
 }
 
 /// The handles as lines.
-fn lines_of(alloc: Global, names: &[Handle]) -> Result<Listed<Line>, NoMemory>
+pub(crate) fn lines_of(alloc: Global, names: &[Handle]) -> Result<Listed<Line>, NoMemory>
     ensures { IfOk result (λ lines. lines ≡ names.now) }
 {
     let mut lines = Listed::new(alloc);

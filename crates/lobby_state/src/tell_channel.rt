@@ -1,0 +1,71 @@
+//! TellChannel: a member says something to all others in a channel.
+ghost use Rattle.std.specs.Prelude.{◌≡◌, ◌≤◌, IfOk, length, not, ◌&&◌};
+ghost use Rattle.fics_words.specs.Effect.{Takes};
+ghost use Rattle.lobby_state.specs.TellChannel.{channel_words, hears_channel, tell_channel_effect};
+
+use crate::acts::LobbyReply;
+use crate::broadcast::broadcast;
+use crate::member::Member;
+use crate::register::Register;
+use crate::said::said_line;
+use channel_feed::Channels;
+use collections::Predicate;
+use fics_words::{Fail, Line, NoMemory, Refusal, write_number};
+use std::alloc::Global;
+
+/// A member of another session who is in the channel.
+#[derive(Clone, Copy)]
+struct HearsChannel<'a> {
+    channels: &'a Channels,
+    session: u32,
+    channel: u8,
+}
+
+impl<'a> Predicate<Member> for HearsChannel<'a> {
+    ghost passes = { λ test member. hears_channel test.channels.now test.session test.channel member };
+
+    fn passes(&self, member: &Member) -> bool {
+        member.session != self.session && self.channels.has(member.session, self.channel)
+    }
+}
+
+impl Register {
+    /// The member says the text to all others in the channel. The causes of a refusal, in order: the session isn't a
+    /// member; it isn't in the channel.
+    pub(crate) fn tell_channel(
+        &mut self,
+        session: u32,
+        channel: u8,
+        text: &Line,
+    ) -> Result<LobbyReply, Fail>
+        requires { length text.now ≤ 800 }
+        ensures { Takes (tell_channel_effect self.old session channel text.now) self.old self.new result }
+    {
+        let Some(caller) = self.member(session) else {
+            return Err(Fail::Refused(Refusal::NotIn));
+        };
+        if !self.channels.has(session, channel) {
+            return Err(Fail::Refused(Refusal::NotInChannel));
+        }
+        let name = caller.name;
+        let wording = channel_words(self.alloc, channel)?;
+        let line = said_line(self.alloc, name, &wording, text.bytes())?;
+        let others = HearsChannel {
+            channels: &self.channels,
+            session,
+            channel,
+        };
+        let told = broadcast(&mut self.members, &others, &line)?;
+        Ok(LobbyReply::Told(told))
+    }
+}
+
+/// What stands between the name and the text of a line to the channel.
+fn channel_words(alloc: Global, channel: u8) -> Result<Vec<u8>, NoMemory>
+    ensures { IfOk result (λ words. words.items ≡ channel_words channel) }
+{
+    let mut words = Vec::from_slice(alloc, b"(")?;
+    write_number(&mut words, u64::from(channel))?;
+    words.extend_from_slice(b"): ")?;
+    Ok(words)
+}
