@@ -1,6 +1,7 @@
 //! Channel: a member joins or leaves a channel.
+ghost use Rattle.std.specs.Prelude.{true, false};
 ghost use Rattle.fics_words.specs.Effect.{Takes};
-ghost use Rattle.lobby_state.specs.Channel.{channel_effect, join_effect, leave_effect};
+ghost use Rattle.lobby_state.specs.Channel.{channel_effect};
 
 use crate::acts::LobbyReply;
 use crate::register::Register;
@@ -21,7 +22,7 @@ impl Register {
     /// The member joins the channel. The causes of a refusal, in order: the session isn't a member; it is in the
     /// channel; it is in 20 channels.
     fn join(&mut self, session: u32, channel: u8) -> Result<LobbyReply, Fail>
-        ensures { Takes (join_effect self.old session channel) self.old self.new result }
+        ensures { Takes (channel_effect self.old session channel true) self.old self.new result }
     {
         if self.member(session).is_none() {
             return Err(Fail::Refused(Refusal::NotIn));
@@ -33,7 +34,7 @@ impl Register {
     /// The member leaves the channel, which takes no memory. The causes of a refusal, in order: the session isn't a
     /// member; it isn't in the channel.
     fn leave(&mut self, session: u32, channel: u8) -> Result<LobbyReply, Fail>
-        ensures { Takes (leave_effect self.old session channel) self.old self.new result }
+        ensures { Takes (channel_effect self.old session channel false) self.old self.new result }
     {
         if self.member(session).is_none() {
             return Err(Fail::Refused(Refusal::NotIn));
