@@ -87,6 +87,7 @@ never_command command.Resign stamp memory here goes_on = never_desk desk_act.Res
 never_command command.Flag stamp memory here goes_on = never_desk desk_act.Flag memory here
 never_command (command.Register password) stamp memory here goes_on = λ r. never_round memory here
 never_command command.Quit stamp memory here goes_on = absurd (let bad : true ≡ false = goes_on in cc)
+never_command _ stamp memory here goes_on = λ r. never_round memory here
 
 never_asked : (asked : Result Command Refusal) (stamp : Option ℕ) (memory : MemoryState) → is_gone memory ≡ false → is_quit asked ≡ false → NeverGone (asked_course asked stamp memory)
 unfolding NeverGone
