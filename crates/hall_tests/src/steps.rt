@@ -19,6 +19,8 @@ pub enum Said {
     Done,
     Entered,
     NeedPassword,
+    /// So many were told.
+    Told(u16),
     /// So many desks.
     Desks(usize),
     /// So many places.
@@ -205,6 +207,7 @@ fn of_lobby(answer: &LobbyReply) -> Said {
         LobbyReply::Done => Said::Done,
         LobbyReply::Entered(_) => Said::Entered,
         LobbyReply::NeedPassword => Said::NeedPassword,
+        LobbyReply::Told(count) => Said::Told(*count),
         LobbyReply::Places(places) => Said::Places(places.rows().len()),
         LobbyReply::Waiting { lines, places } => Said::Waiting(lines.len(), places.rows().len()),
         LobbyReply::Desks(desks) => Said::Desks(desks.len()),

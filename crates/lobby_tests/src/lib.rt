@@ -15,3 +15,7 @@ mod paths;
 mod refusals;
 #[cfg(test)]
 mod steps;
+#[cfg(test)]
+mod talk_steps;
+#[cfg(test)]
+mod talking;

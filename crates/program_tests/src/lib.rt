@@ -16,6 +16,8 @@ mod replay_logins;
 #[cfg(test)]
 mod replay_stamps;
 #[cfg(test)]
+mod replay_talk;
+#[cfg(test)]
 mod replays;
 #[cfg(test)]
 mod running;

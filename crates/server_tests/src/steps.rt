@@ -17,6 +17,8 @@ pub enum Said {
     Entered,
     /// A password is asked for.
     NeedPassword,
+    /// So many were told.
+    Told(u16),
     /// So many places.
     Places(usize),
     /// So many lines and so many places.
@@ -248,6 +250,7 @@ fn of_lobby(answer: &LobbyReply) -> Said {
         LobbyReply::Done => Said::Done,
         LobbyReply::Entered(_) => Said::Entered,
         LobbyReply::NeedPassword => Said::NeedPassword,
+        LobbyReply::Told(count) => Said::Told(*count),
         LobbyReply::Places(places) => Said::Places(places.rows().len()),
         LobbyReply::Waiting { lines, places } => Said::Waiting(lines.len(), places.rows().len()),
         LobbyReply::Desks(desks) => Said::Desks(desks.len()),
