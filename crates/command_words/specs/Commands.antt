@@ -1,5 +1,5 @@
 -- What a line asks for. This server's own.
-use Rattle.std.specs.Prelude.{◌≡◌, ℕ, nat_lt, if◌then◌else◌, List, [], ◌∷◌, length, map, Option, Some, None, Result, Ok, Err, codes, refl}
+use Rattle.std.specs.Prelude.{◌≡◌, ℕ, nat_lt, if◌then◌else◌, true, false, List, [], ◌∷◌, length, map, Option, Some, None, Result, Ok, Err, codes, refl}
 use Rattle.std.specs.Char.{to_ascii_lowercase}
 use Rattle.chess_model.specs.declared.moves.MoveWord.{MoveWord}
 use Rattle.chess_model.specs.declared.moves.MoveWord.TheVariants.{Coordinate}
@@ -11,14 +11,16 @@ use Rattle.command_words.specs.declared.command.Command.{Command}
 use Rattle.command_words.specs.declared.command.Command.TheVariants as command
 use Rattle.command_words.specs.declared.verbs.Verb.{Verb}
 use Rattle.command_words.specs.declared.verbs.Verb.TheVariants as verb
-use Rattle.command_words.specs.declared.verbs.Verb.TheVariants.{Accept, Decline, Flag, Match, Play, Quit, Register, Resign, Seek, Set, Shout, Sought, Tell, Unalias, Unseek, Who, Withdraw}
+use Rattle.command_words.specs.declared.verbs.Verb.TheVariants.{Accept, Decline, Flag, InChannel, JoinChannel, LeaveChannel, Match, Play, Quit, Register, Resign, Seek, Set, Shout, Sought, Tell, Unalias, Unseek, Who, Withdraw}
 use Rattle.command_words.specs.Blanks.{trimmed, first_word, rest_of}
 use Rattle.command_words.specs.Aliases.{alias_of, expanded}
 use Rattle.command_words.specs.Verbs.{verb_of}
 use Rattle.command_words.specs.Accept.{accept_of}
 use Rattle.command_words.specs.Alias.{alias_command, unalias_command}
+use Rattle.command_words.specs.Channel.{channel_of}
 use Rattle.command_words.specs.Decline.{decline_of}
 use Rattle.command_words.specs.Flag.{flag_of}
+use Rattle.command_words.specs.InChannel.{in_channel_of}
 use Rattle.command_words.specs.Match.{match_of}
 use Rattle.command_words.specs.Play.{play_of}
 use Rattle.command_words.specs.Quit.{quit_of}
@@ -39,6 +41,9 @@ arguments_of Accept rest = accept_of rest
 arguments_of verb.Alias rest = alias_command rest
 arguments_of Decline rest = decline_of rest
 arguments_of Flag rest = flag_of rest
+arguments_of InChannel rest = in_channel_of rest
+arguments_of JoinChannel rest = channel_of true rest
+arguments_of LeaveChannel rest = channel_of false rest
 arguments_of Match rest = match_of rest
 arguments_of Play rest = play_of rest
 arguments_of Quit rest = quit_of rest

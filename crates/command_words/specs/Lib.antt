@@ -2,9 +2,11 @@ pub mod Accept
 pub mod Alias
 pub mod Aliases
 pub mod Blanks
+pub mod Channel
 pub mod Commands
 pub mod Decline
 pub mod Flag
+pub mod InChannel
 pub mod Match
 pub mod Numbers
 pub mod Play

@@ -1,10 +1,9 @@
--- `tell HANDLE TEXT`, short `t`: says something to a player. A decimal in the handle's place is a channel, and there are
--- no channels yet.
+-- `tell HANDLE TEXT` and `tell N TEXT`, short `t`: says something to a player, or to all others in a channel.
 use Rattle.std.specs.Prelude.{◌≡◌, ℕ, if◌then◌else◌, List, Option, Some, None, Result, Ok, Err, codes, refl}
 use Rattle.fics_words.specs.declared.refusal.Refusal.{Refusal}
 use Rattle.fics_words.specs.declared.refusal.Refusal.TheVariants.{BadArguments, BadChannel}
 use Rattle.command_words.specs.declared.command.Command.{Command}
-use Rattle.command_words.specs.declared.command.Command.TheVariants.{Tell}
+use Rattle.command_words.specs.declared.command.Command.TheVariants.{Tell, TellChannel}
 use Rattle.command_words.specs.Blanks.{first_word, rest_of}
 use Rattle.command_words.specs.Numbers.{is_no_channel, number_of}
 use Rattle.command_words.specs.Texts.{handle_of, is_text}
@@ -13,8 +12,13 @@ abbrev pub telling : Option (List ℕ) → List ℕ → Result Command Refusal
 telling None text = Err BadArguments
 telling (Some name) text = if is_text text then Ok (Tell name text) else Err BadArguments
 
+-- a word that is the number of a channel names that, and another a player
+abbrev pub telling_to : Option ℕ → List ℕ → List ℕ → Result Command Refusal
+telling_to None word text = telling (handle_of word) text
+telling_to (Some channel) word text = if is_text text then Ok (TellChannel channel text) else Err BadArguments
+
 abbrev pub tell_to : List ℕ → List ℕ → Result Command Refusal
-tell_to word text = if is_no_channel word then Err BadChannel else telling (handle_of word) text
+tell_to word text = if is_no_channel word then Err BadChannel else telling_to (number_of 255 word) word text
 
 abbrev pub tell_of : List ℕ → Result Command Refusal
 tell_of rest = tell_to (first_word rest) (rest_of rest)
@@ -27,7 +31,7 @@ example_no_text : tell_of (codes "Bob") ≡ Err BadArguments
 unfolding number_of
 example_no_text = refl
 
-example_channel : tell_of (codes "255 hi") ≡ Err BadArguments
+example_channel : tell_of (codes "255 hi") ≡ Ok (TellChannel 255 (codes "hi"))
 unfolding number_of
 example_channel = refl
 

@@ -4,7 +4,7 @@ use Rattle.std.specs.List.{starts_with}
 use Rattle.fics_words.specs.declared.refusal.Refusal.{Refusal}
 use Rattle.fics_words.specs.declared.refusal.Refusal.TheVariants.{Unknown, AmbiguousWord}
 use Rattle.command_words.specs.declared.verbs.Verb.{Verb}
-use Rattle.command_words.specs.declared.verbs.Verb.TheVariants.{Accept, Alias, Decline, Flag, Match, Play, Quit, Register, Resign, Seek, Set, Shout, Sought, Tell, Unalias, Unseek, Who, Withdraw}
+use Rattle.command_words.specs.declared.verbs.Verb.TheVariants.{Accept, Alias, Decline, Flag, InChannel, JoinChannel, LeaveChannel, Match, Play, Quit, Register, Resign, Seek, Set, Shout, Sought, Tell, Unalias, Unseek, Who, Withdraw}
 
 -- the commands
 abbrev pub verbs : List Verb
@@ -13,6 +13,9 @@ verbs =
     Alias ∷
     Decline ∷
     Flag ∷
+    InChannel ∷
+    JoinChannel ∷
+    LeaveChannel ∷
     Match ∷
     Play ∷
     Quit ∷
@@ -35,6 +38,9 @@ name_of Accept = codes "accept"
 name_of Alias = codes "alias"
 name_of Decline = codes "decline"
 name_of Flag = codes "flag"
+name_of InChannel = codes "inchannel"
+name_of JoinChannel = codes "+channel"
+name_of LeaveChannel = codes "-channel"
 name_of Match = codes "match"
 name_of Play = codes "play"
 name_of Quit = codes "quit"

@@ -30,6 +30,12 @@ pub enum Command {
     Withdraw(Option<Handle>),
     /// To say this text to a player.
     Tell(Handle, Line),
+    /// To say this text to all others in the channel.
+    TellChannel(u8, Line),
+    /// To be told who is in the channel.
+    InChannel(u8),
+    /// To join the channel, or to leave it.
+    Channel { number: u8, on: bool },
     /// To say this text to all who want to hear it.
     Shout(Line),
     /// To be challenged, or not to be.

@@ -2,8 +2,10 @@
 
 pub(crate) mod accept;
 pub(crate) mod alias;
+pub(crate) mod channel;
 pub(crate) mod decline;
 pub(crate) mod flag;
+pub(crate) mod in_channel;
 pub(crate) mod matching;
 pub(crate) mod play;
 pub(crate) mod quit;

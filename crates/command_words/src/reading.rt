@@ -11,7 +11,7 @@ use crate::aliases::{Alias, Aliases};
 use crate::blanks::{first_word, rest_of, trimmed};
 use crate::command::Command;
 use crate::commands::{
-    accept, alias, decline, flag, matching, play, quit, register, resign, seek, set, shout, sought, tell,
+    accept, alias, channel, decline, flag, in_channel, matching, play, quit, register, resign, seek, set, shout, sought, tell,
     unseek, who, withdraw,
 };
 use crate::expansion::expanded;
@@ -113,6 +113,9 @@ fn read_arguments(alloc: Global, verb: Verb, rest: &[u8]) -> Result<Command, Fai
         Verb::Alias => alias::read(alloc, rest),
         Verb::Decline => Ok(decline::read(rest)?),
         Verb::Flag => Ok(flag::read(rest)?),
+        Verb::InChannel => Ok(in_channel::read(rest)?),
+        Verb::JoinChannel => Ok(channel::read(true, rest)?),
+        Verb::LeaveChannel => Ok(channel::read(false, rest)?),
         Verb::Match => Ok(matching::read(rest)?),
         Verb::Play => Ok(play::read(rest)?),
         Verb::Quit => Ok(quit::read(rest)?),

@@ -12,6 +12,9 @@ pub enum Verb {
     Alias,
     Decline,
     Flag,
+    InChannel,
+    JoinChannel,
+    LeaveChannel,
     Match,
     Play,
     Quit,
@@ -29,11 +32,14 @@ pub enum Verb {
 }
 
 /// The commands.
-pub const VERBS: [Verb; 18] = [
+pub const VERBS: [Verb; 21] = [
     Verb::Accept,
     Verb::Alias,
     Verb::Decline,
     Verb::Flag,
+    Verb::InChannel,
+    Verb::JoinChannel,
+    Verb::LeaveChannel,
     Verb::Match,
     Verb::Play,
     Verb::Quit,
@@ -125,6 +131,9 @@ fn name_of(verb: Verb) -> &'static [u8]
         Verb::Alias => b"alias",
         Verb::Decline => b"decline",
         Verb::Flag => b"flag",
+        Verb::InChannel => b"inchannel",
+        Verb::JoinChannel => b"+channel",
+        Verb::LeaveChannel => b"-channel",
         Verb::Match => b"match",
         Verb::Play => b"play",
         Verb::Quit => b"quit",

@@ -1,17 +1,18 @@
-//! `tell`: says something to a player.
+//! `tell`: says something to a player, or to all others in a channel.
 
+ghost use Rattle.std.specs.Prelude.{Some, []};
 ghost use Rattle.fics_words.specs.Effect.{Gives};
-ghost use Rattle.command_words.specs.Tell.{tell_of, tell_to, telling};
+ghost use Rattle.command_words.specs.Tell.{tell_of, tell_to, telling, telling_to};
 
 use crate::arguments::{handle_of, text_of};
 use crate::blanks::{first_word, rest_of};
 use crate::command::Command;
-use crate::numbers::is_no_channel;
+use crate::numbers::{channel_of, is_no_channel};
 use fics_words::{Fail, Handle, Refusal};
 use std::alloc::Global;
 
-/// Reads the arguments, a handle and a text of 1 to 800 bytes. Refuses with `BadChannel` where a decimal above 255
-/// stands in the handle's place, and else with `BadArguments`.
+/// Reads the arguments, a handle or a channel and then a text of 1 to 800 bytes. Refuses with `BadChannel` where a
+/// decimal above 255 stands in their place, and else with `BadArguments`.
 pub(crate) fn read(alloc: Global, rest: &[u8]) -> Result<Command, Fail>
     ensures { Gives (tell_of rest.now) result }
 {
@@ -25,7 +26,20 @@ fn tell_to(alloc: Global, word: &[u8], text: &[u8]) -> Result<Command, Fail>
     if is_no_channel(word) {
         return Err(Fail::Refused(Refusal::BadChannel));
     }
-    telling(alloc, handle_of(word), text)
+    match channel_of(word) {
+        Some(channel) => tell_channel(alloc, channel, text),
+        None => telling(alloc, handle_of(word), text),
+    }
+}
+
+/// The tell to the channel that the word names, where the text is one.
+fn tell_channel(alloc: Global, channel: u8, text: &[u8]) -> Result<Command, Fail>
+    ensures { Gives (telling_to (Some channel) [] text.now) result }
+{
+    match text_of(alloc, text)? {
+        Some(text) => Ok(Command::TellChannel(channel, text)),
+        None => Err(Fail::Refused(Refusal::BadArguments)),
+    }
 }
 
 /// The tell, where the handle is one and the text is one.

@@ -1,0 +1,19 @@
+//! `+channel` and `-channel`: joins and leaves a channel.
+
+ghost use Rattle.std.specs.Prelude.{◌≡◌};
+ghost use Rattle.command_words.specs.Channel.{channel_of};
+
+use crate::command::Command;
+use crate::numbers::channel_number;
+use fics_words::Refusal;
+
+/// Reads the argument, a channel. Refuses with `BadChannel` where a decimal above 255 stands in its place, and else with
+/// `BadArguments`.
+pub(crate) fn read(on: bool, rest: &[u8]) -> Result<Command, Refusal>
+    ensures { result ≡ channel_of on rest.now }
+{
+    match channel_number(rest) {
+        Ok(number) => Ok(Command::Channel { number, on }),
+        Err(refusal) => Err(refusal),
+    }
+}
