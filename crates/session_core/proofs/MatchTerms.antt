@@ -21,14 +21,16 @@ use Rattle.command_words.specs.Accept.{accept_from, accept_of}
 use Rattle.command_words.specs.Aliases.{alias_of, expanded, is_alias_name}
 use Rattle.command_words.specs.Blanks.{Words, first_word, rest_of, trimmed, words_of}
 use Rattle.command_words.specs.Decline.{decline_from, decline_of}
+use Rattle.command_words.specs.Channel.{channel_from}
+use Rattle.command_words.specs.InChannel.{in_channel_from}
 use Rattle.command_words.specs.Commands.{arguments_of, asked, command_after, command_in, command_made, command_of, move_in, move_or}
 use Rattle.command_words.specs.Match.{challenge, challenge_of, two_twelve}
 use Rattle.command_words.specs.declared.terms.Time.{Time}
 use Rattle.command_words.specs.Play.{play_from}
 use Rattle.command_words.specs.Seek.{five_nothing, seeking}
-use Rattle.command_words.specs.Numbers.{is_no_channel, number_of}
+use Rattle.command_words.specs.Numbers.{channel_number, is_no_channel, number_of}
 use Rattle.command_words.specs.Set.{is_on, set_to, setting_of}
-use Rattle.command_words.specs.Tell.{tell_to, telling}
+use Rattle.command_words.specs.Tell.{tell_to, telling, telling_to}
 use Rattle.command_words.specs.TermReading.{agreed, terms_of}
 use Rattle.command_words.specs.Unseek.{unseek_from, unseek_of}
 use Rattle.command_words.specs.TermWords.{Spells, SpellsTime, time_of}
@@ -131,8 +133,20 @@ telling_fits : (name : Option (List ℕ)) (text : List ℕ) → FitsAnswer (tell
 telling_fits None text = tt
 telling_fits (Some name) text = text_fits (command.Tell name) text (λ short. short)
 
+telling_to_fits : (channel : Option ℕ) (word text : List ℕ) → FitsAnswer (telling_to channel word text)
+telling_to_fits None word text = telling_fits (handle_of word) text
+telling_to_fits (Some channel) word text = text_fits (command.TellChannel channel) text (λ short. short)
+
+channel_fits : (on : Bool) (asked : Result ℕ Refusal) → FitsAnswer (channel_from on asked)
+channel_fits on (Ok number) = tt
+channel_fits on (Err cause) = tt
+
+in_channel_fits : (asked : Result ℕ Refusal) → FitsAnswer (in_channel_from asked)
+in_channel_fits (Ok number) = tt
+in_channel_fits (Err cause) = tt
+
 tell_fits : (word text : List ℕ) → FitsAnswer (tell_to word text)
-tell_fits word text = either_fits (is_no_channel word) (Err BadChannel) (telling (handle_of word) text) tt (telling_fits (handle_of word) text)
+tell_fits word text = either_fits (is_no_channel word) (Err BadChannel) (telling_to (number_of 255 word) word text) tt (telling_to_fits (number_of 255 word) word text)
 
 set_to_fits : (name : List ℕ) (on : Option Bool) → FitsAnswer (set_to name on)
 set_to_fits name None = tt
@@ -152,6 +166,9 @@ arguments_fit verb.Alias rest =
     either_fits (is_alias_name (first_word rest) && is_text (rest_of rest)) (Ok (command.Alias (first_word rest) (rest_of rest))) (Err BadArguments) tt tt
 arguments_fit verb.Decline rest = decline_fits rest
 arguments_fit verb.Flag rest = alone_fits command.Flag rest tt
+arguments_fit verb.InChannel rest = in_channel_fits (channel_number rest)
+arguments_fit verb.JoinChannel rest = channel_fits true (channel_number rest)
+arguments_fit verb.LeaveChannel rest = channel_fits false (channel_number rest)
 arguments_fit verb.Match rest = challenge_of_fits (words_of rest)
 arguments_fit verb.Play rest = play_fits (number_of 65535 rest)
 arguments_fit verb.Quit rest = alone_fits command.Quit rest tt

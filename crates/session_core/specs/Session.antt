@@ -115,6 +115,9 @@ command_course (command.Decline name) stamp memory =
 command_course (command.Withdraw name) stamp memory =
     to_server (Lobby (lobby_act.Withdraw (option_map key_of name))) memory
 command_course (command.Tell name text) stamp memory = to_server (Lobby (lobby_act.Tell (key_of name) text)) memory
+command_course (command.TellChannel channel text) stamp memory = to_server (Lobby (lobby_act.TellChannel channel text)) memory
+command_course (command.InChannel channel) stamp memory = to_server (Lobby (lobby_act.InChannel channel)) memory
+command_course (command.Channel number on) stamp memory = to_server (Lobby (lobby_act.Channel number on)) memory
 command_course (command.Shout text) stamp memory = to_server (Lobby (lobby_act.Shout text)) memory
 command_course (command.SetOpen on) stamp memory = to_server (setting Open on) memory
 command_course (command.SetShout on) stamp memory = to_server (setting Shout on) memory

@@ -56,6 +56,15 @@ pub(crate) fn begin_command(
             to: name.key(),
             text,
         })),
+        Command::TellChannel(channel, text) => to_server(Act::Lobby(LobbyAct::TellChannel {
+            channel,
+            text,
+        })),
+        Command::InChannel(channel) => to_server(Act::Lobby(LobbyAct::InChannel { channel })),
+        Command::Channel { number, on } => to_server(Act::Lobby(LobbyAct::Channel {
+            channel: number,
+            on,
+        })),
         Command::Shout(text) => to_server(Act::Lobby(LobbyAct::Shout { text })),
         Command::SetOpen(on) => to_server(set(Var::Open, on)),
         Command::SetShout(on) => to_server(set(Var::Shout, on)),
