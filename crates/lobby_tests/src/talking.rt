@@ -2,7 +2,7 @@
 //! which a member says what it wants others to send.
 
 use crate::steps::{CHESS, DONE, PAIRS, Step, hall};
-use crate::talk_steps::{Talk, first_failing_talk, telling};
+use crate::talk_steps::{Talk, first_failing_talk, joining, telling};
 use lobby_state::Var;
 use std::test::Fail;
 
@@ -57,6 +57,69 @@ fn shouts(rt: HostRuntime) -> Result<(), Fail> {
         Talk::Other(Step::Going(4)),
         Talk::Shout(1, b"again", 3),
         Talk::Other(Step::Line(3, 0, b"Ann shouts: again")),
+    ];
+    assert_eq!(rt; first_failing_talk(rt.alloc(), &mut lobby, &steps), None);
+    Ok(())
+}
+
+#[test]
+fn channels(rt: HostRuntime) -> Result<(), Fail> {
+    let mut lobby = hall(rt.alloc())?;
+    let steps = [
+        Talk::Other(Step::Enter(1, *b"Cid", DONE)),
+        Talk::Other(Step::Enter(2, *b"Ben", DONE)),
+        Talk::Other(Step::Enter(3, *b"Ann", DONE)),
+        Talk::Channel(9, 4, true, 54),
+        Talk::Channel(9, 4, false, 54),
+        Talk::TellChannel(9, 4, b"hi", 1054),
+        Talk::InChannel(9, 4, 1054, b""),
+        Talk::Channel(1, 4, false, 39),
+        Talk::TellChannel(1, 4, b"hi", 1039),
+        Talk::InChannel(1, 4, 0, b""),
+        Talk::Channel(1, 4, true, DONE),
+        Talk::Channel(1, 4, true, 51),
+        Talk::TellChannel(1, 4, b"alone", 0),
+        Talk::Channel(2, 4, true, DONE),
+        Talk::Channel(3, 5, true, DONE),
+        Talk::TellChannel(1, 4, b"hi there", 1),
+        Talk::InChannel(3, 4, 2, b"Ben"),
+        Talk::Channel(3, 4, true, DONE),
+        Talk::InChannel(1, 4, 3, b"Ann"),
+        Talk::TellChannel(2, 4, b"all", 2),
+        Talk::Channel(3, 4, false, DONE),
+        Talk::TellChannel(3, 4, b"gone", 1039),
+        Talk::TellChannel(1, 4, b"two", 1),
+        Talk::Other(Step::Line(1, 0, b"Ben(4): all")),
+        Talk::Other(Step::Line(2, 0, b"Cid(4): hi there")),
+        Talk::Other(Step::Line(2, 1, b"Cid(4): two")),
+        Talk::Other(Step::Line(3, 0, b"Ben(4): all")),
+        Talk::Other(Step::Fetch(1, 1)),
+        Talk::Other(Step::Fetch(2, 2)),
+        Talk::Other(Step::Fetch(3, 1)),
+        Talk::Other(Step::Bye(2)),
+        Talk::InChannel(3, 4, 1, b"Cid"),
+        Talk::Other(Step::Enter(2, *b"Ben", DONE)),
+        Talk::TellChannel(1, 4, b"anew", 0),
+        Talk::TellChannel(2, 4, b"anew", 1039),
+    ];
+    assert_eq!(rt; first_failing_talk(rt.alloc(), &mut lobby, &steps), None);
+    Ok(())
+}
+
+#[test]
+fn twenty_channels_are_all(rt: HostRuntime) -> Result<(), Fail> {
+    let mut lobby = hall(rt.alloc())?;
+    let ann = [Talk::Other(Step::Enter(1, *b"Ann", DONE))];
+    assert_eq!(rt; first_failing_talk(rt.alloc(), &mut lobby, &ann), None);
+    for channel in 236..=255u8 {
+        assert_eq!(rt; joining(&mut lobby, 1, channel, true), DONE);
+    }
+    let steps = [
+        Talk::Channel(1, 255, true, 51),
+        Talk::Channel(1, 0, true, 40),
+        Talk::Channel(1, 240, false, DONE),
+        Talk::Channel(1, 0, true, DONE),
+        Talk::Channel(1, 240, true, 40),
     ];
     assert_eq!(rt; first_failing_talk(rt.alloc(), &mut lobby, &steps), None);
     Ok(())

@@ -82,6 +82,29 @@ const TALK: &str = "\
   1|(told 1)
   1|Ann tells you: me
   1|fics%\x20
+3950 1 > +channel 4
+  1|Ok.
+  1|fics%\x20
+4000 2 > +channel 4
+  2|Ok.
+  2|fics%\x20
+4100 1 > tell 4 hello channel
+  1|(told 1)
+  1|fics%\x20
+4200 3 > inchannel 4
+  3|Ann
+  3|Ben
+  3|fics%\x20
+4300 2 > -channel 4
+  2|Ok.
+  2|Ann(4): hello channel
+  2|fics%\x20
+4400 1 > tell 4 alone
+  1|(told 0)
+  1|fics%\x20
+4500 2 > tell 4 gone
+  2|refused 39 NotInChannel
+  2|fics%\x20
 ";
 
 #[test]

@@ -91,9 +91,11 @@ tell|refused 28
 tell Ann|refused 28
 tell an hi|refused 28
 tell Ann7 hi|refused 28
-tell 1 hi|refused 28
-tell 0 hi|refused 28
-tell 255 hi|refused 28
+tell 1 hi|tell 1 hi
+T 0  hi  all|tell 0 hi  all
+tell 255 hi|tell 255 hi
+tell 1|refused 28
+tell 00 hi|refused 28
 tell 256 hi|refused 41
 tell 256|refused 41
 tell 18446744073709551617 hi|refused 41
@@ -102,6 +104,24 @@ tell 0300 hi|refused 28
 tell 256x hi|refused 28
 tell +256 hi|refused 28
 tells Ann hi|refused 26
++channel 1|+channel 1
++CH 0|+channel 0
+-channel 255|-channel 255
+-|refused 28
+-channel|refused 28
++channel one|refused 28
++channel 1 2|refused 28
++channel 01|refused 28
++channel -1|refused 28
++channel 256|refused 41
+-channel 256 x|refused 41
++channel 18446744073709551617|refused 41
+inchannel 12|inchannel 12
+in 3|inchannel 3
+inchannel|refused 28
+inchannel 12 now|refused 28
+inchannel 300|refused 41
+channel 1|refused 26
 shout hi|shout hi
 sh  Hello  all |shout Hello  all
 shout|refused 28
@@ -260,6 +280,10 @@ fn told(alloc: Global, command: &Command) -> Result<Vec<u8>, NoMemory> {
         Command::Withdraw(None) => of(alloc, b"withdraw"),
         Command::Withdraw(Some(name)) => with_text(alloc, b"withdraw ", name.letters()),
         Command::Tell(name, text) => tell(alloc, name, text),
+        Command::TellChannel(channel, text) => tell_channel(alloc, *channel, text),
+        Command::InChannel(channel) => with_number(alloc, b"inchannel ", u16::from(*channel)),
+        Command::Channel { number, on: true } => with_number(alloc, b"+channel ", u16::from(*number)),
+        Command::Channel { number, on: false } => with_number(alloc, b"-channel ", u16::from(*number)),
         Command::Shout(text) => with_text(alloc, b"shout ", text.bytes()),
         Command::SetOpen(on) => with_text(alloc, b"set open ", digit(*on)),
         Command::SetShout(on) => with_text(alloc, b"set shout ", digit(*on)),
@@ -267,6 +291,11 @@ fn told(alloc: Global, command: &Command) -> Result<Vec<u8>, NoMemory> {
         Command::Resign => of(alloc, b"resign"),
         Command::Flag => of(alloc, b"flag"),
         Command::Register(password) => with_text(alloc, b"register ", password.bytes()),
+        Command::Alias { name, text } => {
+            let front = with_text(alloc, b"alias ", name.bytes())?;
+            with_text(alloc, &with_text(alloc, &front, b" ")?, text.bytes())
+        }
+        Command::Unalias(name) => with_text(alloc, b"unalias ", name.bytes()),
         Command::Quit => of(alloc, b"quit"),
     }
 }
@@ -290,6 +319,14 @@ fn with_number(alloc: Global, word: &[u8], number: u16) -> Result<Vec<u8>, NoMem
 /// The text of a tell.
 fn tell(alloc: Global, name: &Handle, text: &Line) -> Result<Vec<u8>, NoMemory> {
     let mut whole = with_text(alloc, b"tell ", name.letters())?;
+    whole.push(b' ')?;
+    whole.extend_from_slice(text.bytes())?;
+    Ok(whole)
+}
+
+/// The text of a tell to a channel.
+fn tell_channel(alloc: Global, channel: u8, text: &Line) -> Result<Vec<u8>, NoMemory> {
+    let mut whole = with_number(alloc, b"tell ", u16::from(channel))?;
     whole.push(b' ')?;
     whole.extend_from_slice(text.bytes())?;
     Ok(whole)
