@@ -1,5 +1,5 @@
 //! Accept: a challenge is accepted, and the plan of its game is told.
-ghost use Rattle.std.specs.Prelude.{◌≡◌, ◌==◌, ◌&&◌, option_copied};
+ghost use Rattle.std.specs.Prelude.{◌≡◌, ◌==◌, option_copied};
 ghost use Rattle.std.specs.List.{find};
 ghost use Rattle.fics_words.specs.Effect.{answer_of};
 ghost use Rattle.lobby_state.specs.Accept.{accept_effect, offer_of, offers_white, opponents_of, player_of};
