@@ -23,7 +23,6 @@ use Rattle.command_words.specs.Blanks.{Words, first_word, rest_of, trimmed, word
 use Rattle.command_words.specs.Decline.{decline_from, decline_of}
 use Rattle.command_words.specs.Commands.{arguments_of, asked, command_after, command_in, command_made, command_of, move_in, move_or}
 use Rattle.command_words.specs.Match.{challenge, challenge_of, two_twelve}
-use Rattle.command_words.specs.declared.terms.Time.{Time}
 use Rattle.command_words.specs.Play.{play_from}
 use Rattle.command_words.specs.Seek.{five_nothing, seeking}
 use Rattle.command_words.specs.Numbers.{is_no_channel, number_of}
@@ -39,12 +38,20 @@ use Rattle.command_words.proofs.Forms.{at_least, both_true}
 use Rattle.command_words.proofs.TermParts.{are_read_as_spelled}
 use Rattle.session_core.specs.Stages.{FitsCommand}
 
--- a time that was spelled is within its bounds, where the usual one is
-spelled_fits : (usual : Time) (words : Words) (terms : Terms) → usual.minutes ≤ 600 → usual.increment ≤ 600 → SpellsTime usual words (time_of terms) → AreTerms terms
-spelled_fits usual words terms few short (inl s) = record { minutes = s.0; increment = s.1 }
-spelled_fits usual words terms few short (inr s) = record {
-  minutes = subst (λ (n : ℕ). n ≤ 600) (sym (ap (λ (f : Variant → Option Colour → Terms). (f Chess None).minutes) (ap agreed s.1))) few;
-  increment = subst (λ (n : ℕ). n ≤ 600) (sym (ap (λ (f : Variant → Option Colour → Terms). (f Chess None).increment) (ap agreed s.1))) short;
+-- a time that was spelled for a challenge is within its bounds, and so is the usual one
+spelled_fits : (words : Words) (terms : Terms) → SpellsTime two_twelve words (time_of terms) → AreTerms terms
+spelled_fits words terms (inl s) = record { minutes = s.0; increment = s.1 }
+spelled_fits words terms (inr s) = record {
+  minutes = subst (λ (n : ℕ). n ≤ 600) (sym (ap (λ (f : Variant → Option Colour → Terms). (f Chess None).minutes) (ap agreed s.1))) (search rules);
+  increment = subst (λ (n : ℕ). n ≤ 600) (sym (ap (λ (f : Variant → Option Colour → Terms). (f Chess None).increment) (ap agreed s.1))) (search rules);
+}
+
+-- and for a seek
+sought_fits : (words : Words) (terms : Terms) → SpellsTime five_nothing words (time_of terms) → AreTerms terms
+sought_fits words terms (inl s) = record { minutes = s.0; increment = s.1 }
+sought_fits words terms (inr s) = record {
+  minutes = subst (λ (n : ℕ). n ≤ 600) (sym (ap (λ (f : Variant → Option Colour → Terms). (f Chess None).minutes) (ap agreed s.1))) (search rules);
+  increment = subst (λ (n : ℕ). n ≤ 600) (sym (ap (λ (f : Variant → Option Colour → Terms). (f Chess None).increment) (ap agreed s.1))) (search rules);
 }
 
 -- what the answer of a reader asks for
@@ -55,7 +62,7 @@ FitsAnswer (Err cause) = Unit {0}
 challenge_fits : (name : Option (List ℕ)) (words : Words) (terms : Option Terms) → terms ≡ terms_of two_twelve words → FitsAnswer (challenge name terms)
 challenge_fits (Some name) words (Some terms) is =
     let s : Spells two_twelve words terms = (are_read_as_spelled two_twelve words terms).0 (sym is) in
-    spelled_fits two_twelve s.time terms (search rules) (search rules) s.spells_time
+    spelled_fits s.time terms s.spells_time
 challenge_fits (Some name) words None is = tt
 challenge_fits None words (Some terms) is = tt
 challenge_fits None words None is = tt
@@ -67,7 +74,7 @@ challenge_of_fits (name ∷ words) = challenge_fits (handle_of name) words (term
 seeking_fits : (words : Words) (terms : Option Terms) → terms ≡ terms_of five_nothing words → FitsAnswer (seeking terms)
 seeking_fits words (Some terms) is =
     let s : Spells five_nothing words terms = (are_read_as_spelled five_nothing words terms).0 (sym is) in
-    spelled_fits five_nothing s.time terms (search rules) (search rules) s.spells_time
+    sought_fits s.time terms s.spells_time
 seeking_fits words None is = tt
 
 unseek_from_fits : (number : Option ℕ) → FitsAnswer (unseek_from number)
