@@ -11,8 +11,8 @@ use crate::aliases::{Alias, Aliases};
 use crate::blanks::{first_word, rest_of, trimmed};
 use crate::command::Command;
 use crate::commands::{
-    accept, alias, channel, decline, flag, in_channel, matching, play, quit, register, resign, seek, set, shout, sought, tell,
-    unseek, who, withdraw,
+    accept, alias, channel, decline, flag, in_channel, matching, play, quit, register, resign,
+    seek, set, shout, sought, tell, unseek, who, withdraw,
 };
 use crate::expansion::expanded;
 use crate::verbs::{Verb, verb_of};

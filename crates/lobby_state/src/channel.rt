@@ -9,7 +9,12 @@ use fics_words::{Fail, Refusal};
 
 impl Register {
     /// The member joins the channel, or leaves it where `on` is false.
-    pub(crate) fn channel(&mut self, session: u32, channel: u8, on: bool) -> Result<LobbyReply, Fail>
+    pub(crate) fn channel(
+        &mut self,
+        session: u32,
+        channel: u8,
+        on: bool,
+    ) -> Result<LobbyReply, Fail>
         ensures { Takes (channel_effect self.old session channel on) self.old self.new result }
     {
         if on {

@@ -297,8 +297,16 @@ fn told(alloc: Global, command: &Command) -> Result<Vec<u8>, NoMemory> {
         Command::Tell(name, text) => tell(alloc, name, text),
         Command::TellChannel(channel, text) => tell_channel(alloc, *channel, text),
         Command::InChannel(channel) => with_number(alloc, b"inchannel ", u16::from(*channel)),
-        Command::Channel { number, on: true } => with_number(alloc, b"+channel ", u16::from(*number)),
-        Command::Channel { number, on: false } => with_number(alloc, b"-channel ", u16::from(*number)),
+        Command::Channel { number, on: true } => with_number(
+            alloc,
+            b"+channel ",
+            u16::from(*number),
+        ),
+        Command::Channel { number, on: false } => with_number(
+            alloc,
+            b"-channel ",
+            u16::from(*number),
+        ),
         Command::Shout(text) => with_text(alloc, b"shout ", text.bytes()),
         Command::SetOpen(on) => with_text(alloc, b"set open ", digit(*on)),
         Command::SetShout(on) => with_text(alloc, b"set shout ", digit(*on)),
