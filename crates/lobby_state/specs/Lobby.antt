@@ -1,10 +1,11 @@
--- A lobby: who is registered and who is in the hall, which challenges and seeks stand, and which desks are in use. This
--- server's own.
+-- A lobby: who is registered and who is in the hall, which challenges and seeks stand, who asks whom to be its partner
+-- and who are partners, and which desks are in use. This server's own.
 use Rattle.std.specs.Prelude.{ℕ, ◌-◌, ◌^◌, ◌==◌, Bool, not, ◌&&◌, ◌||◌, List, [], length, replicate, Option, None, Some, is_none, is_some, bytes_eq, filter, slice_get}
 use Rattle.std.specs.List.{find, position}
 use Rattle.fics_words.specs.Handle.{key_of}
 use Rattle.fics_words.specs.declared.account.Account.{Account}
 use Rattle.login_handles.specs.Accounts.{account_of}
+use Rattle.partner_link.specs.Partners.{PartnerLists, partner_of, without}
 use Rattle.seek_match.specs.declared.seek.Seek.{Seek}
 use Rattle.seek_match.specs.Seeks.{is_by}
 use Rattle.lobby_state.specs.declared.challenge.Challenge.{Challenge}
@@ -14,13 +15,14 @@ use Rattle.lobby_state.specs.Desks.{desks}
 use Rattle.lobby_state.specs.Places.{PlaceList, no_places}
 
 -- the accounts in the order in which they were made; the members in the order in which they entered; the challenges in
--- the order in which they were made; the seeks in the order of their numbers; for each desk from 1 on the game for which
--- it is in use; and how many games were started, which is the last serial
+-- the order in which they were made; the seeks in the order of their numbers; the requests and links of partners; for
+-- each desk from 1 on the game for which it is in use; and how many games were started, which is the last serial
 pub record LobbyState : Type 0 where
   pub accounts : List Account
   pub members : List Member
   pub challenges : List Challenge
   pub seeks : List Seek
+  pub partners : PartnerLists
   pub games : List (Option Game)
   pub started : ℕ
 
@@ -47,6 +49,7 @@ opening = record {
   members = [];
   challenges = [];
   seeks = [];
+  partners = record { requests = []; links = [] };
   games = replicate desks None;
   started = 0;
 }
@@ -131,3 +134,11 @@ without_challenges session lobby =
 abbrev pub without_seeks : ℕ → LobbyState → LobbyState
 without_seeks session lobby =
     record lobby { seeks = filter (λ seek. not (is_by session None seek)) lobby.seeks }
+
+-- the session's partner, if it has one
+abbrev pub partner_in : LobbyState → ℕ → Option ℕ
+partner_in lobby session = partner_of lobby.partners.links session
+
+-- the lobby without the requests and the link that name this session
+abbrev pub without_partner : ℕ → LobbyState → LobbyState
+without_partner session lobby = record lobby { partners = without lobby.partners session }

@@ -24,14 +24,15 @@ impl Predicate<Member> for OfAnother {
 }
 
 impl Register {
-    /// The session is gone, with every challenge and every seek that still names it. It takes no memory and is never
-    /// refused.
+    /// The session is gone, with every challenge, every seek, every request and the link that still names it. It
+    /// takes no memory and is never refused.
     pub(crate) fn bye(&mut self, session: u32) -> LobbyReply
         ensures { Takes (bye_effect self.old session) self.old self.new (Ok result) }
     {
         self.members.retain(&OfAnother(session));
         self.challenges.retain(&Without(session));
         self.seeks.keep(&ByAnother(session));
+        self.partners.forget(session);
         LobbyReply::Done
     }
 }

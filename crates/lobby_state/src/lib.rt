@@ -1,4 +1,5 @@
-//! The lobby: who is registered and who is in the hall, which challenges stand, and which desks are in use for which game.
+//! The lobby: who is registered and who is in the hall, which challenges stand, who are partners, and which desks are in
+//! use for which game.
 //!
 //! The contract: what an act does, by the lobby before, the session and the act, stands in one record of its own file
 //! in `specs/`: why it is refused, what it replies, and what stands afterwards. A refusal and running out of memory
@@ -48,6 +49,8 @@ mod tell;
 mod var;
 mod wants;
 mod withdraw;
+mod partner;
+mod ptell;
 
 pub use acts::{LobbyAct, LobbyReply, PairAct, Plan};
 pub use challenge::Challenge;
