@@ -11,7 +11,7 @@ use Rattle.command_words.specs.declared.command.Command.{Command}
 use Rattle.command_words.specs.declared.command.Command.TheVariants as command
 use Rattle.command_words.specs.declared.verbs.Verb.{Verb}
 use Rattle.command_words.specs.declared.verbs.Verb.TheVariants as verb
-use Rattle.command_words.specs.declared.verbs.Verb.TheVariants.{Accept, Decline, Flag, Match, Play, Quit, Register, Resign, Seek, Set, Shout, Sought, Tell, Unalias, Unseek, Who, Withdraw}
+use Rattle.command_words.specs.declared.verbs.Verb.TheVariants.{Accept, Decline, Flag, Match, Partner, Play, Ptell, Quit, Register, Resign, Seek, Set, Shout, Sought, Tell, Unalias, Unseek, Who, Withdraw}
 use Rattle.command_words.specs.Blanks.{trimmed, first_word, rest_of}
 use Rattle.command_words.specs.Aliases.{alias_of, expanded}
 use Rattle.command_words.specs.Verbs.{verb_of}
@@ -32,6 +32,8 @@ use Rattle.command_words.specs.Set.{set_of}
 use Rattle.command_words.specs.Shout.{shout_of}
 use Rattle.command_words.specs.Tell.{tell_of}
 use Rattle.command_words.specs.Withdraw.{withdraw_of}
+use Rattle.command_words.specs.Partner.{partner_of}
+use Rattle.command_words.specs.Ptell.{ptell_of}
 
 -- what the rest of the line says, as each command reads its arguments
 abbrev pub arguments_of : Verb → List ℕ → Result Command Refusal
@@ -40,7 +42,9 @@ arguments_of verb.Alias rest = alias_command rest
 arguments_of Decline rest = decline_of rest
 arguments_of Flag rest = flag_of rest
 arguments_of Match rest = match_of rest
+arguments_of Partner rest = partner_of rest
 arguments_of Play rest = play_of rest
+arguments_of Ptell rest = ptell_of rest
 arguments_of Quit rest = quit_of rest
 arguments_of Register rest = register_of rest
 arguments_of Resign rest = resign_of rest

@@ -4,7 +4,7 @@ use Rattle.std.specs.List.{starts_with}
 use Rattle.fics_words.specs.declared.refusal.Refusal.{Refusal}
 use Rattle.fics_words.specs.declared.refusal.Refusal.TheVariants.{Unknown, AmbiguousWord}
 use Rattle.command_words.specs.declared.verbs.Verb.{Verb}
-use Rattle.command_words.specs.declared.verbs.Verb.TheVariants.{Accept, Alias, Decline, Flag, Match, Play, Quit, Register, Resign, Seek, Set, Shout, Sought, Tell, Unalias, Unseek, Who, Withdraw}
+use Rattle.command_words.specs.declared.verbs.Verb.TheVariants.{Accept, Alias, Decline, Flag, Match, Partner, Play, Ptell, Quit, Register, Resign, Seek, Set, Shout, Sought, Tell, Unalias, Unseek, Who, Withdraw}
 
 -- the commands
 abbrev pub verbs : List Verb
@@ -14,7 +14,9 @@ verbs =
     Decline ∷
     Flag ∷
     Match ∷
+    Partner ∷
     Play ∷
+    Ptell ∷
     Quit ∷
     Register ∷
     Resign ∷
@@ -36,7 +38,9 @@ name_of Alias = codes "alias"
 name_of Decline = codes "decline"
 name_of Flag = codes "flag"
 name_of Match = codes "match"
+name_of Partner = codes "partner"
 name_of Play = codes "play"
+name_of Ptell = codes "ptell"
 name_of Quit = codes "quit"
 name_of Register = codes "register"
 name_of Resign = codes "resign"
@@ -99,3 +103,6 @@ example_none = refl
 
 example_seek_or_sought : verb_of (codes "s") ≡ Err AmbiguousWord
 example_seek_or_sought = refl
+
+example_partner_play_or_ptell : verb_of (codes "p") ≡ Err AmbiguousWord
+example_partner_play_or_ptell = refl

@@ -13,7 +13,9 @@ pub enum Verb {
     Decline,
     Flag,
     Match,
+    Partner,
     Play,
+    Ptell,
     Quit,
     Register,
     Resign,
@@ -29,13 +31,15 @@ pub enum Verb {
 }
 
 /// The commands.
-pub const VERBS: [Verb; 18] = [
+pub const VERBS: [Verb; 20] = [
     Verb::Accept,
     Verb::Alias,
     Verb::Decline,
     Verb::Flag,
     Verb::Match,
+    Verb::Partner,
     Verb::Play,
+    Verb::Ptell,
     Verb::Quit,
     Verb::Register,
     Verb::Resign,
@@ -126,7 +130,9 @@ fn name_of(verb: Verb) -> &'static [u8]
         Verb::Decline => b"decline",
         Verb::Flag => b"flag",
         Verb::Match => b"match",
+        Verb::Partner => b"partner",
         Verb::Play => b"play",
+        Verb::Ptell => b"ptell",
         Verb::Quit => b"quit",
         Verb::Register => b"register",
         Verb::Resign => b"resign",
