@@ -67,7 +67,10 @@ fn hands_are_told(rt: HostRuntime) -> Result<(), Fail> {
     let mut desk = desk_with_house(&rt, rt.alloc());
     assert_eq!(rt; first_failing(&mut desk, SERIAL, &STEPS), None);
     for viewer in [ANN, BEN] {
-        assert_eq!(rt; first_told_otherwise(rt.alloc(), &desk, viewer, &TOLD)?, None);
+        assert_eq!(rt;
+            first_told_otherwise(rt.alloc(), &desk, viewer, &TOLD)?,
+            None
+        );
     }
     Ok(())
 }

@@ -69,13 +69,7 @@ pub fn desk_with_house(rt: &impl Abort, alloc: Global) -> Desk {
     desk_with(rt, alloc, 0, 0, Variant::Crazyhouse)
 }
 
-fn desk_with(
-    rt: &impl Abort,
-    alloc: Global,
-    minutes: u16,
-    increment: u16,
-    variant: Variant,
-) -> Desk
+fn desk_with(rt: &impl Abort, alloc: Global, minutes: u16, increment: u16, variant: Variant) -> Desk
     requires pairs { length (board_numbers variant) ≡ 1 }
     requires one_board { variant ≢ Variant.Bughouse }
 {

@@ -1,10 +1,9 @@
 -- What a Post keeps.
-use Rattle.std.proofs.Common.{◌≡◌, ℕ, false, leb, map, Option, None, Some, count_by, length, refl, subst, sym, ◌∙◌}
+use Rattle.std.proofs.Common.{◌≡◌, ℕ, false, leb, Option, None, Some, count_by, refl, subst}
 use Rattle.std.proofs.lemmas.Bool.{eqb-true}
 use Rattle.std.specs.Prelude.{Contains}
 use Rattle.chess_model.specs.declared.variant.Terms.{Terms}
 use Rattle.lobby_state.specs.declared.member.Member.{Member}
-use Rattle.lobby_state.specs.Broadcast.{broadcast}
 use Rattle.lobby_state.specs.Keeps.{Keeps}
 use Rattle.lobby_state.specs.Lobby.{LobbyState, is_session, member_of}
 use Rattle.lobby_state.specs.Match.{needs_partners}

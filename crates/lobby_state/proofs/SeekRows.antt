@@ -1,5 +1,5 @@
 -- The seeks of members: some go, one comes, and how many there are.
-use Rattle.std.proofs.Common.{◌≡◌, ◌≢◌, ℕ, ◌+◌, ◌-◌, ◌*◌, ◌<◌, ◌≤◌, zero, suc, Bool, true, false, not, cond, eqb, leb, List, [], ◌∷◌, None, length, take, drop, get_or, refl, sym, ap, subst, ◌∙◌, arith, rules, tests}
+use Rattle.std.proofs.Common.{◌≡◌, ◌≢◌, ℕ, ◌+◌, ◌-◌, ◌*◌, ◌<◌, ◌≤◌, zero, suc, Bool, true, false, not, cond, eqb, leb, List, [], ◌∷◌, None, length, take, drop, refl, sym, ap, subst, ◌∙◌, arith, rules, tests}
 use Rattle.std.specs.Prelude.{All, Contains}
 use Rattle.std.specs.List.{count_by, filter, insert}
 use Rattle.std.proofs.lemmas.Bool.{eqb-true, eqb-false, not-true}
@@ -7,7 +7,7 @@ use Rattle.std.proofs.lemmas.List.Elements.{All-append, All-cons, All-drop, All-
 use Rattle.std.proofs.lemmas.List.Sums.{sum_by-cons, sum_by-insert}
 use Rattle.chess_model.specs.declared.variant.Terms.{Terms}
 use Rattle.seek_match.specs.declared.seek.Seek.{Seek}
-use Rattle.seek_match.specs.Seeks.{AreSeeks, is_by, next_number, posting}
+use Rattle.seek_match.specs.Seeks.{is_by, next_number, posting}
 use Rattle.seek_match.proofs.Rising.{RiseAbove-filter, RiseAbove-insert, first_gap-above, first_gap-within}
 use Rattle.lobby_state.specs.Match.{needs_partners}
 use Rattle.lobby_state.specs.WellFormed.{AreSeeksOf, IsByMember}

@@ -1,5 +1,5 @@
 -- Play: a seek is taken, and the plan of its game is told. This server's own.
-use Rattle.std.specs.Prelude.{ℕ, ◌+◌, ◌==◌, false, ◌∷◌, Option, None, Some, is_none}
+use Rattle.std.specs.Prelude.{ℕ, ◌+◌, false, ◌∷◌, Option, None, Some, is_none}
 use Rattle.chess_model.specs.declared.variant.Terms.{Terms}
 use Rattle.fics_words.specs.Effect.{Effect}
 use Rattle.fics_words.specs.declared.refusal.Refusal.TheVariants.{NotIn, NoSuchSeek, BadOpponent}

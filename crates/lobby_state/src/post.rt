@@ -1,5 +1,5 @@
 //! Post: a member offers a game to whoever takes it.
-ghost use Rattle.std.specs.Prelude.{◌≡◌, ◌<◌, IfOk, length, not, ◌&&◌};
+ghost use Rattle.std.specs.Prelude.{◌≡◌, ◌<◌, IfOk, length};
 ghost use Rattle.fics_words.specs.Effect.{Takes};
 ghost use Rattle.lobby_state.specs.Post.{hears_seeks, post_effect, seek_words};
 
@@ -61,12 +61,7 @@ fn seek_line(alloc: Global, name: Handle, number: u16, terms: Terms) -> Result<L
 }
 
 /// The bytes of that line, for a player with these letters.
-fn seek_text(
-    alloc: Global,
-    letters: &[u8],
-    number: u16,
-    terms: Terms,
-) -> Result<Vec<u8>, NoMemory>
+fn seek_text(alloc: Global, letters: &[u8], number: u16, terms: Terms) -> Result<Vec<u8>, NoMemory>
     ensures { IfOk result (λ text. text.items ≡ seek_words letters.now number terms) }
 {
     let mut text = Vec::from_slice(alloc, letters)?;

@@ -9,11 +9,7 @@ use fics_words::{Fail, Refusal};
 impl Register {
     /// The session's seek of that number goes, or without a number all its seeks. The causes of a refusal, in order:
     /// the session isn't a member; it has no such seek. It takes no memory.
-    pub(crate) fn unpost(
-        &mut self,
-        session: u32,
-        number: Option<u16>,
-    ) -> Result<LobbyReply, Fail>
+    pub(crate) fn unpost(&mut self, session: u32, number: Option<u16>) -> Result<LobbyReply, Fail>
         ensures { Takes (unpost_effect self.old session number) self.old self.new result }
     {
         if self.member(session).is_none() {

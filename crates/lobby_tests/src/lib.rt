@@ -23,3 +23,7 @@ mod seek_steps;
 mod seeks;
 #[cfg(test)]
 mod steps;
+#[cfg(test)]
+mod talk_steps;
+#[cfg(test)]
+mod talking;

@@ -3,7 +3,7 @@
 use crate::steps::{DONE, Step, is_as_expected, number_of};
 use chess_model::{Colour, Terms, Variant};
 use fics_words::{Fail, Line, Refusal};
-use lobby_state::{Lobby, LobbyAct, LobbyReply, PairAct, Plan};
+use lobby_state::{Lobby, LobbyAct, LobbyReply, PairAct, Plan, Var};
 
 /// Chess of 5 minutes, in which the seeker asks for White.
 pub const WHITE: Terms = Terms {
@@ -30,6 +30,8 @@ pub enum Seeking {
     Ask(u32, u16, u8),
     /// Takes this seek: the desk, the serial and White's session.
     Play(u32, u16, u8, u64, u32),
+    /// Doesn't want to hear of seeks from now on.
+    Deaf(u32),
     /// A step of another kind.
     Other(Step),
 }
@@ -59,6 +61,7 @@ fn answers(lobby: &mut Lobby, step: &Seeking) -> bool {
         Seeking::Play(session, number, desk, serial, white) => {
             plays(lobby, *session, *number, *desk, *serial, *white)
         }
+        Seeking::Deaf(session) => turns_deaf(lobby, *session),
         Seeking::Other(step) => is_as_expected(lobby, step),
     }
 }
@@ -78,6 +81,13 @@ pub fn posts(lobby: &mut Lobby, session: u32, terms: Terms, number: u16, refusal
 fn unposting(lobby: &mut Lobby, session: u32, number: Option<u16>) -> u8 {
     let answer = lobby.act(session, 0, &LobbyAct::Unpost { number });
     number_of(&answer)
+}
+
+fn turns_deaf(lobby: &mut Lobby, session: u32) -> bool {
+    let which = Var::Seek;
+    lobby
+        .act(session, 0, &LobbyAct::Var { which, on: false })
+        .is_ok()
 }
 
 /// Asks for a list, and says whether it is these lines, and those of which a copy was made before.
@@ -130,14 +140,7 @@ fn taking(lobby: &Lobby, session: u32, number: u16) -> Result<Plan, Refusal> {
 }
 
 /// Takes a seek, and says whether this game starts.
-fn plays(
-    lobby: &mut Lobby,
-    session: u32,
-    number: u16,
-    desk: u8,
-    serial: u64,
-    white: u32,
-) -> bool {
+fn plays(lobby: &mut Lobby, session: u32, number: u16, desk: u8, serial: u64, white: u32) -> bool {
     let Ok(plan) = lobby.plan(session, &PairAct::Play(number)) else {
         return false;
     };

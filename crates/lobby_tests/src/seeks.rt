@@ -5,8 +5,11 @@ use crate::steps::{CHESS, DONE, HOUSE, PAIRS, Step, hall};
 use std::test::Fail;
 
 const ANN: Seeking = Seeking::Other(Step::Enter(1, *b"Ann", DONE));
+
 const BEN: Seeking = Seeking::Other(Step::Enter(2, *b"beN", DONE));
+
 const CID: Seeking = Seeking::Other(Step::Enter(3, *b"Cid", DONE));
+
 const DAN: Seeking = Seeking::Other(Step::Enter(4, *b"Dan", DONE));
 
 #[test]
@@ -97,24 +100,21 @@ fn others_hear_of_a_seek(rt: HostRuntime) -> Result<(), Fail> {
         Seeking::Post(1, CHESS, 1, DONE),
         Seeking::Post(2, HOUSE, 2, DONE),
         Seeking::Post(1, WHITE, 3, DONE),
-        Seeking::Other(Step::Line(
-            3,
-            0,
-            b"Ann seeking 2 12 chess (\"play 1\" to respond)",
-        )),
+        Seeking::Other(Step::Line(3, 0, b"Ann seeking 2 12 chess (\"play 1\" to respond)")),
         Seeking::Other(Step::Line(
             3,
             1,
             b"beN seeking 3 0 crazyhouse black (\"play 2\" to respond)",
         )),
-        Seeking::Other(Step::Line(
-            3,
-            2,
-            b"Ann seeking 5 0 chess white (\"play 3\" to respond)",
-        )),
+        Seeking::Other(Step::Line(3, 2, b"Ann seeking 5 0 chess white (\"play 3\" to respond)")),
         Seeking::Other(Step::Fetch(1, 1)),
         Seeking::Other(Step::Fetch(2, 2)),
         Seeking::Other(Step::Fetch(3, 3)),
+        Seeking::Deaf(3),
+        Seeking::Unpost(1, None, DONE),
+        Seeking::Post(1, CHESS, 1, DONE),
+        Seeking::Other(Step::Fetch(3, 0)),
+        Seeking::Other(Step::Fetch(2, 1)),
     ];
     assert_eq!(rt; first_failing_seek(&mut lobby, &steps), None);
     Ok(())

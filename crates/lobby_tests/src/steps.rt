@@ -33,7 +33,7 @@ pub const PAIRS: Terms = Terms {
 pub const DONE: u8 = 0;
 
 /// The number that stands when out of memory, or for an answer of another kind than the step has.
-const STRANGE: u8 = 255;
+pub const STRANGE: u8 = 255;
 
 /// A step: the session that makes it, what it does, and what it has to answer; a number is that of the refusal.
 #[derive(Clone, Copy)]
@@ -89,8 +89,8 @@ pub fn is_as_expected(lobby: &mut Lobby, step: &Step) -> bool {
         Step::Seated(session, count, desk, seat) => sits(lobby, *session, *count, *desk, *seat),
         Step::InUse(desk, expected) => is_in_use(lobby, *desk) == *expected,
         Step::Desks(rows) => tells_desks(lobby, rows),
-        Step::Going(session) => leaves(lobby, *session, &LobbyAct::Going),
-        Step::Bye(session) => leaves(lobby, *session, &LobbyAct::Bye),
+        Step::Going(session) => lobby.act(*session, 0, &LobbyAct::Going).is_ok(),
+        Step::Bye(session) => lobby.act(*session, 0, &LobbyAct::Bye).is_ok(),
     }
 }
 
@@ -141,7 +141,7 @@ fn is_entered(reply: &LobbyReply, letters: &[u8]) -> bool {
     }
 }
 
-fn key_of(letters: &[u8]) -> Option<HandleKey> {
+pub fn key_of(letters: &[u8]) -> Option<HandleKey> {
     match Handle::read(letters) {
         Some(name) => Some(name.key()),
         None => None,
@@ -153,6 +153,9 @@ pub fn challenging(lobby: &mut Lobby, session: u32, to: &[u8], terms: Terms) -> 
     let Some(to) = key_of(to) else {
         return STRANGE;
     };
+    if terms.minutes > 600 || terms.increment > 600 {
+        return STRANGE;
+    }
     let answer = lobby.act(session, 0, &LobbyAct::Match { to, terms });
     if let Ok(reply) = &answer {
         if !matches!(reply, LobbyReply::Done) {
@@ -298,8 +301,4 @@ pub fn registered_seats(lobby: &mut Lobby, session: u32) -> Option<(bool, bool)>
         }
         _ => None,
     }
-}
-
-fn leaves(lobby: &mut Lobby, session: u32, act: &LobbyAct) -> bool {
-    lobby.act(session, 0, act).is_ok()
 }

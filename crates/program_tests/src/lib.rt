@@ -20,6 +20,8 @@ mod replay_seeks;
 #[cfg(test)]
 mod replay_stamps;
 #[cfg(test)]
+mod replay_talk;
+#[cfg(test)]
 mod replays;
 #[cfg(test)]
 mod running;

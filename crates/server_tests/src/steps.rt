@@ -21,6 +21,8 @@ pub enum Said {
     Number(u16),
     /// So many lines of a list.
     Lines(usize),
+    /// So many were told.
+    Told(u16),
     /// So many places.
     Places(usize),
     /// So many lines and so many places.
@@ -254,6 +256,7 @@ fn of_lobby(answer: &LobbyReply) -> Said {
         LobbyReply::NeedPassword => Said::NeedPassword,
         LobbyReply::Number(number) => Said::Number(*number),
         LobbyReply::Lines(lines) => Said::Lines(lines.len()),
+        LobbyReply::Told(count) => Said::Told(*count),
         LobbyReply::Places(places) => Said::Places(places.rows().len()),
         LobbyReply::Waiting { lines, places } => Said::Waiting(lines.len(), places.rows().len()),
         LobbyReply::Desks(desks) => Said::Desks(desks.len()),

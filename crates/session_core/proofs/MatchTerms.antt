@@ -1,8 +1,8 @@
--- The terms of a challenge and of a seek that were read are within their bounds.
+-- The terms of a challenge and of a seek that were read are within their bounds, and so are texts.
 use Rattle.std.proofs.Common.{◌≡◌, ℕ, ◌≤◌, List, [], ◌∷◌, Ok, Err, Result, refl, sym, ap, subst, inl, inr, rules}
 use Rattle.std.specs.declared.option.Option.{Option}
 use Rattle.std.specs.declared.option.Option.TheVariants.{None, Some}
-use Rattle.std.specs.Prelude.{Bool, true, false, if◌then◌else◌, ◌&&◌, length, map, nat_lt}
+use Rattle.std.specs.Prelude.{Bool, true, false, if◌then◌else◌, ◌&&◌, bytes_eq, codes, length, map, nat_le, nat_lt}
 use Rattle.std.specs.Char.{to_ascii_lowercase}
 use Rattle.chess_model.specs.declared.moves.MoveWord.{MoveWord}
 use Rattle.chess_model.specs.declared.man.Colour.{Colour}
@@ -10,7 +10,7 @@ use Rattle.chess_model.specs.declared.variant.Terms.{Terms}
 use Rattle.chess_model.specs.declared.variant.Variant.{Variant}
 use Rattle.chess_model.specs.declared.variant.Variant.TheVariants.{Chess}
 use Rattle.fics_words.specs.declared.refusal.Refusal.{Refusal}
-use Rattle.fics_words.specs.declared.refusal.Refusal.TheVariants.{BadArguments, TooLong}
+use Rattle.fics_words.specs.declared.refusal.Refusal.TheVariants.{BadArguments, BadChannel, TooLong}
 use Rattle.lobby_state.specs.Acts.{AreTerms}
 use Rattle.command_words.specs.declared.aliases.Alias.{Alias}
 use Rattle.command_words.specs.declared.command.Command.{Command}
@@ -20,17 +20,22 @@ use Rattle.command_words.specs.declared.verbs.Verb.TheVariants as verb
 use Rattle.command_words.specs.Accept.{accept_from, accept_of}
 use Rattle.command_words.specs.Aliases.{alias_of, expanded, is_alias_name}
 use Rattle.command_words.specs.Blanks.{Words, first_word, rest_of, trimmed, words_of}
+use Rattle.command_words.specs.Decline.{decline_from, decline_of}
 use Rattle.command_words.specs.Commands.{arguments_of, asked, command_after, command_in, command_made, command_of, move_in, move_or}
 use Rattle.command_words.specs.Match.{challenge, challenge_of, two_twelve}
 use Rattle.command_words.specs.declared.terms.Time.{Time}
-use Rattle.command_words.specs.Numbers.{number_of}
 use Rattle.command_words.specs.Play.{play_from}
 use Rattle.command_words.specs.Seek.{five_nothing, seeking}
+use Rattle.command_words.specs.Numbers.{is_no_channel, number_of}
+use Rattle.command_words.specs.Set.{is_on, set_to, setting_of}
+use Rattle.command_words.specs.Tell.{tell_to, telling}
 use Rattle.command_words.specs.TermReading.{agreed, terms_of}
 use Rattle.command_words.specs.Unseek.{unseek_from, unseek_of}
 use Rattle.command_words.specs.TermWords.{Spells, SpellsTime, time_of}
 use Rattle.command_words.specs.Texts.{alone, handle_of, is_text}
 use Rattle.command_words.specs.Verbs.{verb_of}
+use Rattle.command_words.specs.Withdraw.{withdraw_from, withdraw_of}
+use Rattle.command_words.proofs.Forms.{at_least, both_true}
 use Rattle.command_words.proofs.TermParts.{are_read_as_spelled}
 use Rattle.session_core.specs.Stages.{FitsCommand}
 
@@ -85,6 +90,22 @@ accept_fits : (rest : List ℕ) → FitsAnswer (accept_of rest)
 accept_fits [] = tt
 accept_fits (b ∷ rest) = accept_from_fits (handle_of (b ∷ rest))
 
+decline_from_fits : (name : Option (List ℕ)) → FitsAnswer (decline_from name)
+decline_from_fits None = tt
+decline_from_fits (Some name) = tt
+
+decline_fits : (rest : List ℕ) → FitsAnswer (decline_of rest)
+decline_fits [] = tt
+decline_fits (b ∷ rest) = decline_from_fits (handle_of (b ∷ rest))
+
+withdraw_from_fits : (name : Option (List ℕ)) → FitsAnswer (withdraw_from name)
+withdraw_from_fits None = tt
+withdraw_from_fits (Some name) = tt
+
+withdraw_fits : (rest : List ℕ) → FitsAnswer (withdraw_of rest)
+withdraw_fits [] = tt
+withdraw_fits (b ∷ rest) = withdraw_from_fits (handle_of (b ∷ rest))
+
 alone_fits : (command : Command) (rest : List ℕ) → FitsCommand command → FitsAnswer (alone command rest)
 alone_fits command [] fits = fits
 alone_fits command (b ∷ rest) fits = tt
@@ -93,10 +114,43 @@ either_fits : (is : Bool) (a b : Result Command Refusal) → FitsAnswer a → Fi
 either_fits true a b p q = p
 either_fits false a b p q = q
 
+-- a text that was read has at most 800 bytes
+text_short : (text : List ℕ) → is_text text ≡ true → length text ≤ 800
+text_short text e = at_least (length text) 800 (both_true _ _ (both_true (nat_le 1 (length text)) _ e).1).0
+
+-- so has what is read of a text
+text_fits : (made : List ℕ → Command) (text : List ℕ) → (length text ≤ 800 → FitsCommand (made text))
+    → FitsAnswer (if is_text text then Ok (made text) else Err BadArguments)
+text_fits made text fits =
+    elim (is_text text) as (λ is. is_text text ≡ is → FitsAnswer (if is then Ok (made text) else Err BadArguments)) [
+      | true ↦ λ e. fits (text_short text e)
+      | false ↦ λ e. tt
+    ] refl
+
+telling_fits : (name : Option (List ℕ)) (text : List ℕ) → FitsAnswer (telling name text)
+telling_fits None text = tt
+telling_fits (Some name) text = text_fits (command.Tell name) text (λ short. short)
+
+tell_fits : (word text : List ℕ) → FitsAnswer (tell_to word text)
+tell_fits word text = either_fits (is_no_channel word) (Err BadChannel) (telling (handle_of word) text) tt (telling_fits (handle_of word) text)
+
+set_to_fits : (name : List ℕ) (on : Option Bool) → FitsAnswer (set_to name on)
+set_to_fits name None = tt
+set_to_fits name (Some on) =
+    either_fits (bytes_eq name (codes "open")) _ _ tt
+    (either_fits (bytes_eq name (codes "shout")) _ _ tt (either_fits (bytes_eq name (codes "seek")) _ _ tt tt))
+
+setting_fits : (words : Words) → FitsAnswer (setting_of words)
+setting_fits [] = tt
+setting_fits (name ∷ []) = tt
+setting_fits (name ∷ value ∷ []) = set_to_fits name (is_on value)
+setting_fits (name ∷ value ∷ more ∷ words) = tt
+
 arguments_fit : (v : Verb) (rest : List ℕ) → FitsAnswer (arguments_of v rest)
 arguments_fit verb.Accept rest = accept_fits rest
 arguments_fit verb.Alias rest =
     either_fits (is_alias_name (first_word rest) && is_text (rest_of rest)) (Ok (command.Alias (first_word rest) (rest_of rest))) (Err BadArguments) tt tt
+arguments_fit verb.Decline rest = decline_fits rest
 arguments_fit verb.Flag rest = alone_fits command.Flag rest tt
 arguments_fit verb.Match rest = challenge_of_fits (words_of rest)
 arguments_fit verb.Play rest = play_fits (number_of 65535 rest)
@@ -108,6 +162,10 @@ arguments_fit verb.Seek rest = seeking_fits (words_of rest) (terms_of five_nothi
 arguments_fit verb.Sought rest = alone_fits command.Sought rest tt
 arguments_fit verb.Unseek rest = unseek_fits rest
 arguments_fit verb.Who rest = alone_fits command.Who rest tt
+arguments_fit verb.Set rest = setting_fits (words_of rest)
+arguments_fit verb.Shout rest = text_fits command.Shout rest (λ short. short)
+arguments_fit verb.Tell rest = tell_fits (first_word rest) (rest_of rest)
+arguments_fit verb.Withdraw rest = withdraw_fits rest
 
 asked_fits : (v : Result Verb Refusal) (rest : List ℕ) → FitsAnswer (asked v rest)
 asked_fits (Ok v) rest = arguments_fit v rest

@@ -90,6 +90,7 @@ never_command (command.Register password) stamp memory here goes_on = λ r. neve
 never_command (command.Alias name text) stamp memory here goes_on = never_round (set_alias name text memory).memory here
 never_command (command.Unalias name) stamp memory here goes_on = never_round (unset_alias name memory).memory here
 never_command command.Quit stamp memory here goes_on = absurd (let bad : true ≡ false = goes_on in cc)
+never_command _ stamp memory here goes_on = λ r. never_round memory here
 
 never_asked : (asked : Result Command Refusal) (stamp : Option ℕ) (memory : MemoryState) → is_gone memory ≡ false → is_quit asked ≡ false → NeverGone (asked_course asked stamp memory)
 unfolding NeverGone

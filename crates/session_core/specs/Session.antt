@@ -12,6 +12,8 @@ use Rattle.linked_desk.specs.declared.acts.DeskReply.TheVariants.{Items}
 use Rattle.lobby_state.specs.declared.acts.LobbyAct.TheVariants as lobby_act
 use Rattle.lobby_state.specs.declared.acts.PairAct.TheVariants as pair_act
 use Rattle.lobby_state.specs.declared.place.Place.{Place}
+use Rattle.lobby_state.specs.declared.var.Var.{Var}
+use Rattle.lobby_state.specs.declared.var.Var.TheVariants.{Open, Shout, Seek}
 use Rattle.one_server.specs.declared.act.Act.{Act}
 use Rattle.one_server.specs.declared.act.Act.TheVariants.{Lobby, Desk, Pair}
 use Rattle.one_server.specs.declared.reply.Reply.{Reply}
@@ -92,6 +94,10 @@ abbrev pub leaving : MemoryState → Course
 leaving memory =
     Asks (Lobby lobby_act.Going) (λ reply. leave_places (told memory reply).places.rows (told memory reply))
 
+-- the setting of a variable
+abbrev pub setting : Var → Bool → Act
+setting which on = Lobby (lobby_act.Var which on)
+
 -- what a session does for a command; a move carries the stamp of its line, where it has one
 abbrev pub command_course : Command → Option ℕ → MemoryState → Course
 command_course command.Nothing stamp memory = round memory
@@ -104,6 +110,15 @@ command_course command.Sought stamp memory = to_server (Lobby lobby_act.Sought) 
 command_course (command.Play number) stamp memory = to_server (Pair (pair_act.Play number)) memory
 command_course command.Who stamp memory = to_server (Lobby lobby_act.Who) memory
 command_course (command.Accept name) stamp memory = to_server (Pair (pair_act.Accept (option_map key_of name))) memory
+command_course (command.Decline name) stamp memory =
+    to_server (Lobby (lobby_act.Decline (option_map key_of name))) memory
+command_course (command.Withdraw name) stamp memory =
+    to_server (Lobby (lobby_act.Withdraw (option_map key_of name))) memory
+command_course (command.Tell name text) stamp memory = to_server (Lobby (lobby_act.Tell (key_of name) text)) memory
+command_course (command.Shout text) stamp memory = to_server (Lobby (lobby_act.Shout text)) memory
+command_course (command.SetOpen on) stamp memory = to_server (setting Open on) memory
+command_course (command.SetShout on) stamp memory = to_server (setting Shout on) memory
+command_course (command.SetSeek on) stamp memory = to_server (setting Seek on) memory
 command_course command.Resign stamp memory = to_desk desk_act.Resign memory
 command_course command.Flag stamp memory = to_desk desk_act.Flag memory
 command_course (command.Register password) stamp memory =

@@ -1,8 +1,8 @@
 -- The stages of a session: what stands between an act and its reply, and what follows. This server's own.
-use Rattle.std.specs.Prelude.{◌≡◌, ℕ, ◌+◌, ◌*◌, true, false, List, ◌++◌, length, Option, IfSome}
+use Rattle.std.specs.Prelude.{◌≡◌, ℕ, ◌+◌, ◌*◌, ◌≤◌, true, false, List, ◌++◌, length, Option, IfSome}
 use Rattle.clock_ledger.specs.Span.{IsStamp}
 use Rattle.command_words.specs.declared.command.Command.{Command}
-use Rattle.command_words.specs.declared.command.Command.TheVariants.{Match, Seek}
+use Rattle.command_words.specs.declared.command.Command.TheVariants.{Match, Seek, Tell, Shout}
 use Rattle.linked_desk.specs.Acts.{FitsDeskAct}
 use Rattle.lobby_state.specs.Acts.{AreTerms}
 use Rattle.lobby_state.specs.Desks.{IsDesk}
@@ -72,10 +72,12 @@ acts_left after End = 0
 abbrev pub FitsStamp : Option ℕ → Type 0
 FitsStamp stamp = IfSome stamp IsStamp
 
--- the terms of a challenge and of a seek are within their bounds
+-- the terms of a challenge and of a seek are within their bounds, and a text has at most 800 bytes
 abbrev pub FitsCommand : Command → Type 0
 FitsCommand (Match name terms) = AreTerms terms
 FitsCommand (Seek terms) = AreTerms terms
+FitsCommand (Tell name text) = length text ≤ 800
+FitsCommand (Shout text) = length text ≤ 800
 FitsCommand _ = Unit {0}
 
 -- a stage has what its next act needs, an act that a desk can take, a place at a desk, a stamp; and it is one of a

@@ -3,7 +3,7 @@ ghost use Rattle.std.specs.Prelude.{◌≡◌, IfOk, true};
 ghost use Rattle.one_server.specs.Acts.{FitsAct};
 ghost use Rattle.linked_desk.specs.Acts.{FitsDeskAct};
 ghost use Rattle.session_core.specs.Memory.{MemoryState, has_entered};
-ghost use Rattle.session_core.specs.Session.{command_course, to_desk, to_server};
+ghost use Rattle.session_core.specs.Session.{command_course, setting, to_desk, to_server};
 ghost use Rattle.session_core.specs.Stages.{FitsCommand, FitsStamp, IsPrepared, Settles, first_course};
 
 use crate::first::First;
@@ -14,7 +14,7 @@ use crate::stage::{Stage, ask_round};
 use command_words::Command;
 use fics_words::NoMemory;
 use linked_desk::DeskAct;
-use lobby_state::{LobbyAct, PairAct};
+use lobby_state::{LobbyAct, PairAct, Var};
 use login_handles::digest_of;
 use one_server::Act;
 
@@ -46,6 +46,20 @@ pub(crate) fn begin_command(
         Command::Play(number) => to_server(Act::Pair(PairAct::Play(number))),
         Command::Who => to_server(Act::Lobby(LobbyAct::Who)),
         Command::Accept(name) => to_server(Act::Pair(PairAct::Accept(name.map(|name| name.key())))),
+        Command::Decline(name) => to_server(Act::Lobby(LobbyAct::Decline {
+            name: name.map(|name| name.key()),
+        })),
+        Command::Withdraw(name) => to_server(Act::Lobby(LobbyAct::Withdraw {
+            name: name.map(|name| name.key()),
+        })),
+        Command::Tell(name, text) => to_server(Act::Lobby(LobbyAct::Tell {
+            to: name.key(),
+            text,
+        })),
+        Command::Shout(text) => to_server(Act::Lobby(LobbyAct::Shout { text })),
+        Command::SetOpen(on) => to_server(set(Var::Open, on)),
+        Command::SetShout(on) => to_server(set(Var::Shout, on)),
+        Command::SetSeek(on) => to_server(set(Var::Seek, on)),
         Command::Resign => to_desk(DeskAct::Resign),
         Command::Flag => to_desk(DeskAct::Flag),
         Command::Register(password) => {
@@ -63,6 +77,13 @@ pub(crate) fn begin_command(
         Command::Quit => First::Leaving,
     };
     Ok(first)
+}
+
+/// The setting of a variable.
+fn set(which: Var, on: bool) -> Act
+    ensures { result ≡ setting which on }
+{
+    Act::Lobby(LobbyAct::Var { which, on })
 }
 
 /// An act whose reply is printed.

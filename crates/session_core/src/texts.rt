@@ -4,7 +4,7 @@ ghost use Rattle.linked_desk.specs.Sound.{NamesWinner};
 ghost use Rattle.one_server.specs.Replies.{IsReply};
 ghost use Rattle.session_core.specs.Texts.{asks_back, done_line, entered_line, is_own_turn, item_text, items_text};
 ghost use Rattle.session_core.specs.Texts.{line_end, lines_text, list_text, number_line};
-ghost use Rattle.session_core.specs.Texts.{news_text, prompt_of, refusal_line, reply_text, waiting_text};
+ghost use Rattle.session_core.specs.Texts.{news_text, prompt_of, refusal_line, reply_text, told_line, waiting_text};
 
 use crate::standing::{LinkMark, Standing};
 use fics_words::{Handle, Line, NoMemory, Refusal, write_number};
@@ -52,6 +52,7 @@ pub(crate) fn put_reply(reply: &Reply, out: &mut Vec<u8>) -> Result<(), NoMemory
         Reply::Lobby(LobbyReply::Entered(name)) => put_entered(*name, out),
         Reply::Lobby(LobbyReply::Number(number)) => put_number(*number, out),
         Reply::Lobby(LobbyReply::Lines(lines)) => put_list(lines.as_slice(), out),
+        Reply::Lobby(LobbyReply::Told(count)) => put_told(*count, out),
         _ => Ok(()),
     }
 }
@@ -102,6 +103,17 @@ fn put_none(out: &mut Vec<u8>) -> Result<(), NoMemory>
     ensures { OnOk result (out.new.items ≡ out.old.items ++ codes "none" ++ line_end) }
 {
     out.extend_from_slice(b"none")?;
+    out.extend_from_slice(LINE_END)?;
+    Ok(())
+}
+
+/// Appends the line of how many were told.
+fn put_told(count: u16, out: &mut Vec<u8>) -> Result<(), NoMemory>
+    ensures { OnOk result (out.new.items ≡ out.old.items ++ told_line count) }
+{
+    out.extend_from_slice(b"(told ")?;
+    write_number(out, u64::from(count))?;
+    out.extend_from_slice(b")")?;
     out.extend_from_slice(LINE_END)?;
     Ok(())
 }

@@ -24,6 +24,16 @@ accept Bob Ann|refused 28
 accept 7|refused 28
 a an|refused 28
 acceptance|refused 26
+decline|decline
+de|decline
+Decl Ann|decline Ann
+decline an|refused 28
+decline Ann Bob|refused 28
+withdraw|withdraw
+wi|withdraw
+with Ann|withdraw Ann
+withdraw 7|refused 28
+withdraw Ann Bob|refused 28
 flag|flag
 f|flag
 flag now|refused 28
@@ -39,6 +49,7 @@ REGISTER ~ $1 7|register ~ $1 7
 register|refused 28
 re|refused 27
 r|refused 27
+s|refused 27
 RE x|refused 27
 zz|refused 26
 ?|refused 26
@@ -73,6 +84,43 @@ wh|who
 who ann|refused 28
 s|refused 27
 matches ann|refused 26
+tell Ann hi|tell Ann hi
+t  ann  hi   there |tell ann hi   there
+TE Ann ~ $1|tell Ann ~ $1
+tell|refused 28
+tell Ann|refused 28
+tell an hi|refused 28
+tell Ann7 hi|refused 28
+tell 1 hi|refused 28
+tell 0 hi|refused 28
+tell 255 hi|refused 28
+tell 256 hi|refused 41
+tell 256|refused 41
+tell 18446744073709551617 hi|refused 41
+tell 99999999999999999999999999 hi|refused 41
+tell 0300 hi|refused 28
+tell 256x hi|refused 28
+tell +256 hi|refused 28
+tells Ann hi|refused 26
+shout hi|shout hi
+sh  Hello  all |shout Hello  all
+shout|refused 28
+set open 0|set open 0
+set open 1|set open 1
+SET  shout   0 |set shout 0
+set shout 1|set shout 1
+set seek 0|set seek 0
+set seek 1|set seek 1
+set|refused 28
+set open|refused 28
+set 1|refused 28
+set open 2|refused 28
+set open 00|refused 28
+set open on|refused 28
+set Open 1|refused 28
+set tell 1|refused 28
+set 1 open|refused 28
+set open 1 1|refused 28
 match ann|match ann 2 12 chess
 MATCH Ann|match Ann 2 12 chess
 mat ann 0 0|match ann 0 0 chess
@@ -145,6 +193,22 @@ fn a_password_has_800_bytes_at_most(rt: HostRuntime) -> Result<(), Fail> {
     Ok(())
 }
 
+#[test]
+fn what_is_said_has_800_bytes_at_most(rt: HostRuntime) -> Result<(), Fail> {
+    let none = Aliases::new(rt.alloc());
+    for front in ["tell Ann ", "shout "] {
+        let mut line = String::new(rt.alloc());
+        line.push_str(front)?;
+        line.push_str("ten bytes.".repeat(rt.alloc(), 80)?.as_str())?;
+        let told = read(rt.alloc(), line.as_str(), &none)?;
+        assert_eq!(rt; told.as_slice(), line.as_bytes());
+        line.push('x')?;
+        let told = read(rt.alloc(), line.as_str(), &none)?;
+        assert_eq!(rt; told.as_slice(), b"refused 28".as_slice());
+    }
+    Ok(())
+}
+
 /// Looks at each row's line whether it is read as the row says.
 pub(crate) fn read_rows(
     rt: &impl Abort,
@@ -191,6 +255,15 @@ fn told(alloc: Global, command: &Command) -> Result<Vec<u8>, NoMemory> {
         Command::Who => of(alloc, b"who"),
         Command::Accept(None) => of(alloc, b"accept"),
         Command::Accept(Some(name)) => with_text(alloc, b"accept ", name.letters()),
+        Command::Decline(None) => of(alloc, b"decline"),
+        Command::Decline(Some(name)) => with_text(alloc, b"decline ", name.letters()),
+        Command::Withdraw(None) => of(alloc, b"withdraw"),
+        Command::Withdraw(Some(name)) => with_text(alloc, b"withdraw ", name.letters()),
+        Command::Tell(name, text) => tell(alloc, name, text),
+        Command::Shout(text) => with_text(alloc, b"shout ", text.bytes()),
+        Command::SetOpen(on) => with_text(alloc, b"set open ", digit(*on)),
+        Command::SetShout(on) => with_text(alloc, b"set shout ", digit(*on)),
+        Command::SetSeek(on) => with_text(alloc, b"set seek ", digit(*on)),
         Command::Resign => of(alloc, b"resign"),
         Command::Flag => of(alloc, b"flag"),
         Command::Register(password) => with_text(alloc, b"register ", password.bytes()),
@@ -212,6 +285,19 @@ fn with_number(alloc: Global, word: &[u8], number: u16) -> Result<Vec<u8>, NoMem
     let mut whole = Vec::from_slice(alloc, word)?;
     write_number(&mut whole, number as u64)?;
     Ok(whole)
+}
+
+/// The text of a tell.
+fn tell(alloc: Global, name: &Handle, text: &Line) -> Result<Vec<u8>, NoMemory> {
+    let mut whole = with_text(alloc, b"tell ", name.letters())?;
+    whole.push(b' ')?;
+    whole.extend_from_slice(text.bytes())?;
+    Ok(whole)
+}
+
+/// How a variable's value is typed.
+fn digit(on: bool) -> &'static [u8] {
+    if on { b"1" } else { b"0" }
 }
 
 /// The text of a challenge, with all its terms.
