@@ -22,7 +22,7 @@ use Rattle.seek_match.specs.Seeks.{AreSeeks, is_by, most_seeks}
 abbrev pub sessions_of : List Member → List ℕ
 sessions_of members = map (λ member. member.session) members
 
--- the challenge is by one member to another, and to a game that two can play, since nobody has a partner yet
+-- the challenge is by one member to another, and to a game that two can play, since no other can be started yet
 pub record IsBetweenMembers (sessions : List ℕ) (challenge : Challenge) : Type 0 where
   pub from : Contains sessions challenge.from
   pub to : Contains sessions challenge.to
