@@ -11,8 +11,8 @@ use crate::aliases::{Alias, Aliases};
 use crate::blanks::{first_word, rest_of, trimmed};
 use crate::command::Command;
 use crate::commands::{
-    accept, alias, decline, flag, matching, partner, play, ptell, quit, register, resign, seek, set, shout,
-    sought, tell, unseek, who, withdraw,
+    accept, alias, decline, flag, matching, partner, play, ptell, quit, register, resign, seek,
+    set, shout, sought, tell, unseek, who, withdraw,
 };
 use crate::expansion::expanded;
 use crate::verbs::{Verb, verb_of};
