@@ -25,11 +25,7 @@ pub enum Pairing {
 }
 
 /// The place of the first step that answers otherwise, if one does.
-pub fn first_failing_pairing(
-    alloc: Global,
-    lobby: &mut Lobby,
-    steps: &[Pairing],
-) -> Option<usize> {
+pub fn first_failing_pairing(alloc: Global, lobby: &mut Lobby, steps: &[Pairing]) -> Option<usize> {
     for (place, step) in steps.iter().enumerate() {
         if !answers(alloc, lobby, step) {
             return Some(place);

@@ -5,7 +5,9 @@ use crate::steps::{DONE, Step, hall};
 use std::test::Fail;
 
 const ANN: Pairing = Pairing::Other(Step::Enter(1, *b"Ann", DONE));
+
 const BEN: Pairing = Pairing::Other(Step::Enter(2, *b"beN", DONE));
+
 const CID: Pairing = Pairing::Other(Step::Enter(3, *b"Cid", DONE));
 
 const fn line(session: u32, place: usize, text: &'static [u8]) -> Pairing {
