@@ -10,6 +10,10 @@ use Rattle.chess_model.specs.VariantWord.{word_of}
 use Rattle.command_words.specs.declared.terms.Time.{Time}
 use Rattle.command_words.specs.Blanks.{Words}
 
+-- the time of a game where a line names none
+abbrev pub UsualTime : Type 0
+UsualTime = Time
+
 -- the words are one of these lists of words
 abbrev pub OneOf : List Words → Words → Type 0
 OneOf [] words = ⊥

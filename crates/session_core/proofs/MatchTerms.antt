@@ -23,7 +23,6 @@ use Rattle.command_words.specs.Blanks.{Words, first_word, rest_of, trimmed, word
 use Rattle.command_words.specs.Decline.{decline_from, decline_of}
 use Rattle.command_words.specs.Commands.{arguments_of, asked, command_after, command_in, command_made, command_of, move_in, move_or}
 use Rattle.command_words.specs.Match.{challenge, challenge_of, two_twelve}
-use Rattle.command_words.specs.declared.terms.Time.{Time}
 use Rattle.command_words.specs.Play.{play_from}
 use Rattle.command_words.specs.Seek.{five_nothing, seeking}
 use Rattle.command_words.specs.Numbers.{is_no_channel, number_of}
@@ -31,7 +30,7 @@ use Rattle.command_words.specs.Set.{is_on, set_to, setting_of}
 use Rattle.command_words.specs.Tell.{tell_to, telling}
 use Rattle.command_words.specs.TermReading.{agreed, terms_of}
 use Rattle.command_words.specs.Unseek.{unseek_from, unseek_of}
-use Rattle.command_words.specs.TermWords.{Spells, SpellsTime, time_of}
+use Rattle.command_words.specs.TermWords.{Spells, SpellsTime, UsualTime, time_of}
 use Rattle.command_words.specs.Texts.{alone, handle_of, is_text}
 use Rattle.command_words.specs.Verbs.{verb_of}
 use Rattle.command_words.specs.Withdraw.{withdraw_from, withdraw_of}
@@ -40,7 +39,7 @@ use Rattle.command_words.proofs.TermParts.{are_read_as_spelled}
 use Rattle.session_core.specs.Stages.{FitsCommand}
 
 -- a time that was spelled is within its bounds, where the usual one is
-spelled_fits : (usual : Time) (words : Words) (terms : Terms) → usual.minutes ≤ 600 → usual.increment ≤ 600 → SpellsTime usual words (time_of terms) → AreTerms terms
+spelled_fits : (usual : UsualTime) (words : Words) (terms : Terms) → usual.minutes ≤ 600 → usual.increment ≤ 600 → SpellsTime usual words (time_of terms) → AreTerms terms
 spelled_fits usual words terms few short (inl s) = record { minutes = s.0; increment = s.1 }
 spelled_fits usual words terms few short (inr s) = record {
   minutes = subst (λ (n : ℕ). n ≤ 600) (sym (ap (λ (f : Variant → Option Colour → Terms). (f Chess None).minutes) (ap agreed s.1))) few;

@@ -1,6 +1,6 @@
--- What a refused change answers and leaves.
-use Rattle.std.proofs.Common.{◌≡◌, Some, Err, ap, subst}
-use Rattle.fics_words.specs.Effect.{Effect, Takes, answered, answer_of, first_cause, state_of, unless}
+-- What a refused call answers and leaves.
+use Rattle.std.proofs.Common.{◌≡◌, Some, Err, Result, ap, subst}
+use Rattle.fics_words.specs.Effect.{Effect, Gives, Takes, answered, answer_of, first_cause, state_of, unless}
 use Rattle.fics_words.specs.declared.fail.Fail.{Fail}
 use Rattle.fics_words.specs.declared.fail.Fail.TheVariants.{Refused}
 use Rattle.fics_words.specs.declared.refusal.Refusal.{Refusal}
@@ -14,3 +14,6 @@ refused-state old effect cause is = ap (λ refusal. unless refusal old effect.af
 pub refused-cause : {S R : Type 0} (effect : Effect S R) (old new : S) (fail : Fail) (cause : Refusal) → fail ≡ Refused cause →
     Takes effect old new (Err fail) → (first_cause effect.causes ≡ Some cause) × (new ≡ old)
 refused-cause effect old new fail cause is takes = subst (λ (f : Fail). Takes effect old new (Err f)) is takes
+
+pub refused-answered : {R : Type 0} (answer : Result R Refusal) (fail : Fail) (cause : Refusal) → fail ≡ Refused cause → Gives answer (Err fail) → answer ≡ Err cause
+refused-answered answer fail cause is gives = subst (λ (f : Fail). Gives answer (Err f)) is gives
