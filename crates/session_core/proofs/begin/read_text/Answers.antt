@@ -2,7 +2,6 @@ use Rattle.std.proofs.Common.{◌≡◌, ◌++◌, Result, Err, ap, subst, sym, 
 use Rattle.command_words.specs.Commands.{command_in}
 use Rattle.command_words.specs.declared.command.Command.{Command}
 use Rattle.fics_words.specs.declared.refusal.Refusal.{Refusal}
-use Rattle.one_server.specs.declared.act.Act.{Act}
 use Rattle.session_core.specs.declared.next.Next.{Next}
 use Rattle.session_core.specs.declared.stage.Stage.{Stage}
 use Rattle.session_core.specs.Inputs.{asked_course}
