@@ -1,5 +1,5 @@
--- `tell HANDLE TEXT`, short `t`: says something to a player. A decimal in the handle's place is a channel, and there are
--- no channels yet.
+-- `tell HANDLE TEXT`, short `t`: says something to a player. A decimal in the handle's place is a channel, and there
+-- are no channels yet.
 use Rattle.std.specs.Prelude.{◌≡◌, ℕ, if◌then◌else◌, List, Option, Some, None, Result, Ok, Err, codes, refl}
 use Rattle.fics_words.specs.declared.refusal.Refusal.{Refusal}
 use Rattle.fics_words.specs.declared.refusal.Refusal.TheVariants.{BadArguments, BadChannel}

@@ -7,7 +7,7 @@ use std::test::Fail;
 
 /// White captures two pawns, and a knight with a pawn that becomes a queen by it. Black captures the queen, and both
 /// drop a pawn; White's takes a rook. What the rules refuse tells nobody anything.
-const STEPS: [Step; 17] = [
+const STEPS: &[Step] = &[
     Step(0, ANN, Does::Move("a2a4"), Given::Done),
     Step(0, BEN, Does::Move("b7b5"), Given::Done),
     Step(0, ANN, Does::Move("a4b5"), Given::Done),
@@ -34,7 +34,7 @@ const STEPS: [Step; 17] = [
 
 /// What each viewer is told of it: the line of the game, the board and empty hands at the start; for each half-move its
 /// board, and behind it the hands where they have changed; and the end.
-const TOLD: [&str; 25] = [
+const TOLD: &[&str] = &[
     "talk",
     "board",
     "<b1> game 1 white [] black []",
@@ -65,10 +65,10 @@ const TOLD: [&str; 25] = [
 #[test]
 fn hands_are_told(rt: HostRuntime) -> Result<(), Fail> {
     let mut desk = desk_with_house(&rt, rt.alloc());
-    assert_eq!(rt; first_failing(&mut desk, SERIAL, &STEPS), None);
+    assert_eq!(rt; first_failing(&mut desk, SERIAL, STEPS), None);
     for viewer in [ANN, BEN] {
         assert_eq!(rt;
-            first_told_otherwise(rt.alloc(), &desk, viewer, &TOLD)?,
+            first_told_otherwise(rt.alloc(), &desk, viewer, TOLD)?,
             None
         );
     }

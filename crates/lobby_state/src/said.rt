@@ -1,5 +1,5 @@
 //! The lines of what members say to others.
-ghost use Rattle.std.specs.Prelude.{◌≡◌, ◌≤◌, IfOk, length};
+ghost use Rattle.std.specs.Prelude.{◌≡◌, IfOk};
 ghost use Rattle.lobby_state.specs.Said.{IsText, IsWording, said};
 
 use fics_words::{Handle, Line, NoMemory};

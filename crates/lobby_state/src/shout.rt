@@ -1,5 +1,5 @@
 //! Shout: a member says something to all others who want to hear it.
-ghost use Rattle.std.specs.Prelude.{◌≤◌, length, not, ◌&&◌};
+ghost use Rattle.std.specs.Prelude.{◌≤◌, length};
 ghost use Rattle.fics_words.specs.Effect.{Takes};
 ghost use Rattle.lobby_state.specs.Shout.{hears_shouts, shout_effect};
 

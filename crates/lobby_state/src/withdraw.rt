@@ -1,5 +1,5 @@
 //! Withdraw: a member takes a challenge back.
-ghost use Rattle.std.specs.Prelude.{◌≡◌, ◌==◌, ◌&&◌, option_copied};
+ghost use Rattle.std.specs.Prelude.{◌≡◌, ◌==◌, option_copied};
 ghost use Rattle.std.specs.List.{find};
 ghost use Rattle.fics_words.specs.Effect.{Takes};
 ghost use Rattle.lobby_state.specs.Withdraw.{own_of, withdraw_effect};

@@ -8,6 +8,8 @@ mod boards;
 #[cfg(test)]
 mod known_games;
 #[cfg(test)]
+mod replay_aliases;
+#[cfg(test)]
 mod replay_clocks;
 #[cfg(test)]
 mod replay_ends;

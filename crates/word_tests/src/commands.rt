@@ -40,6 +40,20 @@ flag now|refused 28
 Quit|quit
 q|quit
 quit now|refused 28
+alias x tell Bob $@|alias x tell Bob $@
+ALIAS   abcdefghijklmno   e4  |alias abcdefghijklmno e4
+al x y|alias x y
+alias|refused 28
+alias x|refused 28
+alias abcdefghijklmnop e4|refused 28
+alias x1 e4|refused 28
+alias X e4|refused 28
+unalias x|unalias x
+unal abcdefghijklmno|unalias abcdefghijklmno
+unalias|refused 28
+unalias X|refused 28
+unalias x y|refused 28
+un|refused 27
 resign|resign
 RES|resign
 resign x|refused 28
@@ -63,7 +77,8 @@ seek 5 0 rated|refused 28
 seek 5 0 Chess|refused 28
 seek 601 0|refused 28
 unseek|unseek
-u 65535|unseek 65535
+uns 65535|unseek 65535
+u 65535|refused 27
 unseek 0|unseek 0
 unseek 65536|refused 28
 unseek 01|refused 28
@@ -280,8 +295,18 @@ fn told(alloc: Global, command: &Command) -> Result<Vec<u8>, NoMemory> {
         Command::Resign => of(alloc, b"resign"),
         Command::Flag => of(alloc, b"flag"),
         Command::Register(password) => with_text(alloc, b"register ", password.bytes()),
+        Command::Alias { name, text } => alias(alloc, name, text),
+        Command::Unalias(name) => with_text(alloc, b"unalias ", name.bytes()),
         Command::Quit => of(alloc, b"quit"),
     }
+}
+
+/// The text of the making of an alias.
+fn alias(alloc: Global, name: &Line, text: &Line) -> Result<Vec<u8>, NoMemory> {
+    let mut whole = with_text(alloc, b"alias ", name.bytes())?;
+    whole.push(b' ')?;
+    whole.extend_from_slice(text.bytes())?;
+    Ok(whole)
 }
 
 fn of(alloc: Global, word: &[u8]) -> Result<Vec<u8>, NoMemory> {
