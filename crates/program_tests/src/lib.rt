@@ -18,8 +18,6 @@ mod replay_houses;
 #[cfg(test)]
 mod replay_logins;
 #[cfg(test)]
-mod replay_partners;
-#[cfg(test)]
 mod replay_seeks;
 #[cfg(test)]
 mod replay_stamps;
