@@ -11,7 +11,7 @@ use Rattle.command_words.specs.declared.command.Command.{Command}
 use Rattle.command_words.specs.declared.command.Command.TheVariants as command
 use Rattle.command_words.specs.declared.verbs.Verb.{Verb}
 use Rattle.command_words.specs.declared.verbs.Verb.TheVariants as verb
-use Rattle.command_words.specs.declared.verbs.Verb.TheVariants.{Accept, Decline, Flag, InChannel, JoinChannel, LeaveChannel, Match, Play, Quit, Register, Resign, Seek, Set, Shout, Sought, Tell, Unalias, Unseek, Who, Withdraw}
+use Rattle.command_words.specs.declared.verbs.Verb.TheVariants.{Accept, Decline, Flag, InChannel, JoinChannel, LeaveChannel, Match, Play, Quit, Register, Resign, Seek, Set, Shout, Sought, Tell, Unalias, Unseek, Who, Withdraw, Partner, Ptell}
 use Rattle.command_words.specs.Blanks.{trimmed, first_word, rest_of}
 use Rattle.command_words.specs.Aliases.{alias_of, expanded}
 use Rattle.command_words.specs.Verbs.{verb_of}
@@ -34,6 +34,8 @@ use Rattle.command_words.specs.Set.{set_of}
 use Rattle.command_words.specs.Shout.{shout_of}
 use Rattle.command_words.specs.Tell.{tell_of}
 use Rattle.command_words.specs.Withdraw.{withdraw_of}
+use Rattle.command_words.specs.Partner.{partner_of}
+use Rattle.command_words.specs.Ptell.{ptell_of}
 
 -- what the rest of the line says, as each command reads its arguments
 abbrev pub arguments_of : Verb → List ℕ → Result Command Refusal
@@ -45,7 +47,9 @@ arguments_of InChannel rest = in_channel_of rest
 arguments_of JoinChannel rest = channel_of true rest
 arguments_of LeaveChannel rest = channel_of false rest
 arguments_of Match rest = match_of rest
+arguments_of Partner rest = partner_of rest
 arguments_of Play rest = play_of rest
+arguments_of Ptell rest = ptell_of rest
 arguments_of Quit rest = quit_of rest
 arguments_of Register rest = register_of rest
 arguments_of Resign rest = resign_of rest

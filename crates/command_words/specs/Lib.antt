@@ -9,7 +9,9 @@ pub mod Flag
 pub mod InChannel
 pub mod Match
 pub mod Numbers
+pub mod Partner
 pub mod Play
+pub mod Ptell
 pub mod Quit
 pub mod Register
 pub mod Resign

@@ -4,7 +4,7 @@ use Rattle.std.specs.List.{starts_with}
 use Rattle.fics_words.specs.declared.refusal.Refusal.{Refusal}
 use Rattle.fics_words.specs.declared.refusal.Refusal.TheVariants.{Unknown, AmbiguousWord}
 use Rattle.command_words.specs.declared.verbs.Verb.{Verb}
-use Rattle.command_words.specs.declared.verbs.Verb.TheVariants.{Accept, Alias, Decline, Flag, InChannel, JoinChannel, LeaveChannel, Match, Play, Quit, Register, Resign, Seek, Set, Shout, Sought, Tell, Unalias, Unseek, Who, Withdraw}
+use Rattle.command_words.specs.declared.verbs.Verb.TheVariants.{Accept, Alias, Decline, Flag, InChannel, JoinChannel, LeaveChannel, Match, Play, Quit, Register, Resign, Seek, Set, Shout, Sought, Tell, Unalias, Unseek, Who, Withdraw, Partner, Ptell}
 
 -- the commands
 abbrev pub verbs : List Verb
@@ -17,7 +17,9 @@ verbs =
     JoinChannel ∷
     LeaveChannel ∷
     Match ∷
+    Partner ∷
     Play ∷
+    Ptell ∷
     Quit ∷
     Register ∷
     Resign ∷
@@ -42,7 +44,9 @@ name_of InChannel = codes "inchannel"
 name_of JoinChannel = codes "+channel"
 name_of LeaveChannel = codes "-channel"
 name_of Match = codes "match"
+name_of Partner = codes "partner"
 name_of Play = codes "play"
+name_of Ptell = codes "ptell"
 name_of Quit = codes "quit"
 name_of Register = codes "register"
 name_of Resign = codes "resign"
@@ -105,3 +109,6 @@ example_none = refl
 
 example_seek_or_sought : verb_of (codes "s") ≡ Err AmbiguousWord
 example_seek_or_sought = refl
+
+example_partner_play_or_ptell : verb_of (codes "p") ≡ Err AmbiguousWord
+example_partner_play_or_ptell = refl

@@ -28,6 +28,10 @@ pub enum Command {
     Decline(Option<Handle>),
     /// To take back the challenge to this player, or the oldest one.
     Withdraw(Option<Handle>),
+    /// To ask this player to be one's partner, or to part with one's own.
+    Partner(Option<Handle>),
+    /// To say this text to one's partner.
+    Ptell(Line),
     /// To say this text to a player.
     Tell(Handle, Line),
     /// To say this text to all others in the channel.

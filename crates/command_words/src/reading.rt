@@ -11,8 +11,8 @@ use crate::aliases::{Alias, Aliases};
 use crate::blanks::{first_word, rest_of, trimmed};
 use crate::command::Command;
 use crate::commands::{
-    accept, alias, channel, decline, flag, in_channel, matching, play, quit, register, resign,
-    seek, set, shout, sought, tell, unseek, who, withdraw,
+    accept, alias, channel, decline, flag, in_channel, matching, partner, play, ptell, quit,
+    register, resign, seek, set, shout, sought, tell, unseek, who, withdraw,
 };
 use crate::expansion::expanded;
 use crate::verbs::{Verb, verb_of};
@@ -117,7 +117,9 @@ fn read_arguments(alloc: Global, verb: Verb, rest: &[u8]) -> Result<Command, Fai
         Verb::JoinChannel => Ok(channel::read(true, rest)?),
         Verb::LeaveChannel => Ok(channel::read(false, rest)?),
         Verb::Match => Ok(matching::read(rest)?),
+        Verb::Partner => Ok(partner::read(rest)?),
         Verb::Play => Ok(play::read(rest)?),
+        Verb::Ptell => ptell::read(alloc, rest),
         Verb::Quit => Ok(quit::read(rest)?),
         Verb::Register => register::read(alloc, rest),
         Verb::Resign => Ok(resign::read(rest)?),

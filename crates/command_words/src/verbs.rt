@@ -16,7 +16,9 @@ pub enum Verb {
     JoinChannel,
     LeaveChannel,
     Match,
+    Partner,
     Play,
+    Ptell,
     Quit,
     Register,
     Resign,
@@ -32,7 +34,7 @@ pub enum Verb {
 }
 
 /// The commands.
-pub const VERBS: [Verb; 21] = [
+pub const VERBS: [Verb; 23] = [
     Verb::Accept,
     Verb::Alias,
     Verb::Decline,
@@ -41,7 +43,9 @@ pub const VERBS: [Verb; 21] = [
     Verb::JoinChannel,
     Verb::LeaveChannel,
     Verb::Match,
+    Verb::Partner,
     Verb::Play,
+    Verb::Ptell,
     Verb::Quit,
     Verb::Register,
     Verb::Resign,
@@ -135,7 +139,9 @@ fn name_of(verb: Verb) -> &'static [u8]
         Verb::JoinChannel => b"+channel",
         Verb::LeaveChannel => b"-channel",
         Verb::Match => b"match",
+        Verb::Partner => b"partner",
         Verb::Play => b"play",
+        Verb::Ptell => b"ptell",
         Verb::Quit => b"quit",
         Verb::Register => b"register",
         Verb::Resign => b"resign",

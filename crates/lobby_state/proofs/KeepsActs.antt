@@ -6,7 +6,7 @@ use Rattle.fics_words.specs.declared.fail.Fail.{Fail}
 use Rattle.fics_words.specs.declared.fail.Fail.TheVariants.{Refused, Memory}
 use Rattle.fics_words.specs.declared.refusal.Refusal.{Refusal}
 use Rattle.lobby_state.specs.declared.acts.LobbyAct.{LobbyAct}
-use Rattle.lobby_state.specs.declared.acts.LobbyAct.TheVariants.{Enter, Register, Match, Unpost, Sought, Who, Where, Fetch, Going, Bye, InUse, Var, Tell, Shout, Decline, Withdraw, Post, Channel, TellChannel, InChannel}
+use Rattle.lobby_state.specs.declared.acts.LobbyAct.TheVariants.{Enter, Register, Match, Unpost, Sought, Who, Where, Fetch, Going, Bye, InUse, Var, Tell, Shout, Decline, Withdraw, Post, Channel, TellChannel, InChannel, Partner, Ptell}
 use Rattle.lobby_state.specs.declared.acts.LobbyReply.{LobbyReply}
 use Rattle.lobby_state.specs.Acts.{LobbyNeedsNoMemory, lobby_after, lobby_answer, lobby_effect}
 use Rattle.lobby_state.specs.Keeps.{Keeps, TellsDesks}
@@ -33,6 +33,8 @@ use Rattle.lobby_state.proofs.KeepsShout.{keeps_shout}
 use Rattle.lobby_state.proofs.KeepsTell.{keeps_tell}
 use Rattle.lobby_state.proofs.KeepsVar.{keeps_var}
 use Rattle.lobby_state.proofs.KeepsWithdraw.{keeps_withdraw}
+use Rattle.lobby_state.proofs.KeepsPartner.{keeps_partner}
+use Rattle.lobby_state.proofs.KeepsPtell.{keeps_ptell}
 
 -- the table: what each act keeps
 pub keeps_act : (lobby : LobbyState) (session : ℕ) (act : LobbyAct) → Keeps lobby (lobby_effect lobby session act)
@@ -51,6 +53,8 @@ keeps_act lobby session (TellChannel channel text) = keeps_tell_channel lobby se
 keeps_act lobby session (InChannel channel) = keeps_in_channel lobby session channel
 keeps_act lobby session (Decline name) = keeps_decline lobby session name
 keeps_act lobby session (Withdraw name) = keeps_withdraw lobby session name
+keeps_act lobby session (Partner name) = keeps_partner lobby session name
+keeps_act lobby session (Ptell text) = keeps_ptell lobby session text
 keeps_act lobby session Where = keeps_where lobby session
 keeps_act lobby session Fetch = keeps_fetch lobby session
 keeps_act lobby session Going = keeps_going lobby session

@@ -10,9 +10,11 @@ use Rattle.lobby_state.specs.declared.member.Member.{Member}
 use Rattle.lobby_state.specs.Bye.{bye_effect}
 use Rattle.lobby_state.specs.Keeps.{Keeps}
 use Rattle.lobby_state.specs.Lobby.{LobbyState, concerns, is_session}
-use Rattle.lobby_state.specs.WellFormed.{IsWellFormed, IsBetweenMembers, AreSeeksOf, HasSeats, sessions_of}
+use Rattle.lobby_state.specs.WellFormed.{IsWellFormed, IsBetweenMembers, AreSeeksOf, ArePartnersOf, HasSeats, sessions_of}
 use Rattle.lobby_state.proofs.Lists.{All-filter_passing, map-filter, Contains-filter}
 use Rattle.lobby_state.proofs.SeekRows.{AreSeeksOf-without}
+use Rattle.lobby_state.proofs.PartnerRows.{ArePartnersOf-without}
+use Rattle.partner_link.specs.Partners.{without}
 use Rattle.seek_match.specs.Seeks.{is_by}
 
 parted : (lobby : LobbyState) (session : ℕ) → IsWellFormed lobby → IsWellFormed (bye_effect lobby session).after
@@ -38,6 +40,8 @@ parted lobby session h =
           }) lobby.challenges h.challenges);
       seeks = subst (λ (ss : List ℕ). AreSeeksOf ss (filter (λ seek. not (is_by session None seek)) lobby.seeks)) (sym sessions)
           (AreSeeksOf-without (sessions_of lobby.members) session lobby.seeks h.seeks);
+      partners = subst (λ (ss : List ℕ). ArePartnersOf ss (without lobby.partners session)) (sym sessions)
+          (ArePartnersOf-without (sessions_of lobby.members) session lobby.partners h.partners);
       games = h.games;
       serials = h.serials;
       places = All-filter others (HasSeats lobby.games) lobby.members h.places;

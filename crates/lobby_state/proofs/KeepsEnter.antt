@@ -16,9 +16,10 @@ use Rattle.login_handles.specs.declared.check.Check.TheVariants.{NeedPassword as
 use Rattle.lobby_state.specs.Enter.{enter_effect, entrant_of, guest_in, names_taken, newcomer, welcome, welcomed, with_newcomer}
 use Rattle.lobby_state.specs.Keeps.{Keeps, TellsDesks}
 use Rattle.lobby_state.specs.Lobby.{LobbyState, has_handle, holder_of, is_session, member_of}
-use Rattle.lobby_state.specs.WellFormed.{IsWellFormed, IsBetweenMembers, AreSeeksOf, IsSeatOf, HasSeats, sessions_of}
+use Rattle.lobby_state.specs.WellFormed.{IsWellFormed, IsBetweenMembers, AreSeeksOf, ArePartnersOf, IsSeatOf, HasSeats, sessions_of}
 use Rattle.lobby_state.proofs.Lists.{find-none}
 use Rattle.lobby_state.proofs.SeekRows.{AreSeeksOf-more}
+use Rattle.lobby_state.proofs.PartnerRows.{ArePartnersOf-more}
 
 none_some : {X : Type 0} (o : Option X) → is_some o ≡ false → o ≡ None
 none_some None e = refl
@@ -56,6 +57,11 @@ with_one_more lobby session name few alone free h = record {
       subst (λ (ss : List ℕ). AreSeeksOf ss lobby.seeks) (sym more)
       (AreSeeksOf-more (sessions_of lobby.members) (sessions_of lobby.members ++ session ∷ []) lobby.seeks
       (Contains-append_left (sessions_of lobby.members) (session ∷ [])) h.seeks);
+  partners =
+      let more = map-append (λ (m : Member). m.session) lobby.members (newcomer session name ∷ []) in
+      subst (λ (ss : List ℕ). ArePartnersOf ss lobby.partners) (sym more)
+      (ArePartnersOf-more (sessions_of lobby.members) (sessions_of lobby.members ++ session ∷ []) lobby.partners
+      (Contains-append_left (sessions_of lobby.members) (session ∷ [])) h.partners);
   games = h.games;
   serials = h.serials;
   places = All-push (HasSeats lobby.games) lobby.members (newcomer session name) h.places (All-nil (IsSeatOf lobby.games session));

@@ -36,6 +36,7 @@ with_one_account lobby account free room h = record {
   handles = h.handles;
   challenges = h.challenges;
   seeks = h.seeks;
+  partners = h.partners;
   games = h.games;
   serials = h.serials;
   places = h.places;

@@ -3,6 +3,7 @@ pub mod First
 pub mod Words
 pub mod Lists
 pub mod SeekRows
+pub mod PartnerRows
 pub mod Causes
 pub mod WellFormed
 pub mod KeepsEnter
@@ -20,6 +21,8 @@ pub mod KeepsTellChannel
 pub mod KeepsInChannel
 pub mod KeepsDecline
 pub mod KeepsWithdraw
+pub mod KeepsPartner
+pub mod KeepsPtell
 pub mod KeepsVar
 pub mod KeepsWhere
 pub mod KeepsFetch

@@ -13,10 +13,11 @@ use Rattle.lobby_state.specs.Change.{change_first}
 use Rattle.lobby_state.specs.Places.{AreAtDesks}
 use Rattle.lobby_state.specs.Desks.{IsDesk, desks}
 use Rattle.lobby_state.specs.Lobby.{LobbyState, most_members, opening, is_session, member_of, places_in, places_of}
-use Rattle.lobby_state.specs.WellFormed.{IsWellFormed, IsBetweenMembers, IsByMember, AreSeeksOf, IsSeatOf, IsStarted, HasSeats, sessions_of}
+use Rattle.lobby_state.specs.WellFormed.{IsWellFormed, IsBetweenMembers, IsByMember, AreSeeksOf, IsAskedByMember, IsLinkOfMembers, ArePartnersOf, IsSeatOf, IsStarted, HasSeats, sessions_of}
 use Rattle.lobby_state.proofs.Lists.{map-change_first_same, All-change_first, AllPairs-same, find-step}
 use Rattle.lobby_state.proofs.SeekRows.{AreSeeksOf-filter, has_numbers_left}
 use Rattle.seek_match.specs.declared.seek.Seek.{Seek}
+use Rattle.partner_link.specs.Partners.{PartnerLists}
 
 -- lists that show the same are of one length
 length-kept : {X Y : Type 0} (g : X → Y) (xs ys : List X) → map g xs ≡ map g ys → length xs ≡ length ys
@@ -37,6 +38,7 @@ kept lobby members challenges games started sessions keys between long serials p
   hall = subst (λ (n : ℕ). n ≤ most_members) (sym (length-kept (λ m. m.session) members lobby.members sessions)) h.hall;
   challenges = subst (λ (ss : List ℕ). All (IsBetweenMembers ss) challenges) (sym sessions) between;
   seeks = subst (λ (ss : List ℕ). AreSeeksOf ss lobby.seeks) (sym sessions) h.seeks;
+  partners = subst (λ (ss : List ℕ). ArePartnersOf ss lobby.partners) (sym sessions) h.partners;
   games = long;
   serials = serials;
   places = places;
@@ -64,6 +66,7 @@ challenges_gone lobby test h = record {
   handles = h.handles;
   challenges = All-filter test (IsBetweenMembers (sessions_of lobby.members)) lobby.challenges h.challenges;
   seeks = h.seeks;
+  partners = h.partners;
   games = h.games;
   serials = h.serials;
   places = h.places;
@@ -87,6 +90,7 @@ with_seeks lobby seeks are h = record {
   handles = h.handles;
   challenges = h.challenges;
   seeks = are;
+  partners = h.partners;
   games = h.games;
   serials = h.serials;
   places = h.places;
@@ -106,6 +110,23 @@ with_channels lobby channels h = record {
   handles = h.handles;
   challenges = h.challenges;
   seeks = h.seeks;
+  partners = h.partners;
+  games = h.games;
+  serials = h.serials;
+  places = h.places;
+}
+
+-- there are other requests and links of partners
+pub with_partners : (lobby : LobbyState) (partners : PartnerLists) → ArePartnersOf (sessions_of lobby.members) partners → IsWellFormed lobby
+    → IsWellFormed (record lobby { partners = partners })
+with_partners lobby partners are h = record {
+  accounts = h.accounts;
+  hall = h.hall;
+  sessions = h.sessions;
+  handles = h.handles;
+  challenges = h.challenges;
+  seeks = h.seeks;
+  partners = are;
   games = h.games;
   serials = h.serials;
   places = h.places;
@@ -119,6 +140,7 @@ IsWellFormed-opening = record {
   handles = λ i j d before inside. absurd (omega arith);
   challenges = All-nil (IsBetweenMembers []);
   seeks = record { numbers = tt; members = All-nil (IsByMember []); few = λ session. omega arith };
+  partners = record { requests = All-nil (IsAskedByMember []); links = All-nil (IsLinkOfMembers []) };
   games = refl;
   serials = All-replicate (IsStarted 0) 128 None tt;
   places = All-nil (HasSeats opening.games);

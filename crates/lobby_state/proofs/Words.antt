@@ -17,7 +17,9 @@ use Rattle.chess_model.specs.VariantWord.{word_of}
 use Rattle.fics_words.specs.Handle.{IsHandle}
 use Rattle.fics_words.specs.Line.{IsLine, IsPrintable}
 use Rattle.lobby_state.specs.Match.{challenge_words}
+use Rattle.lobby_state.specs.Partner.{partner_words}
 use Rattle.lobby_state.specs.Post.{seek_words}
+use Rattle.lobby_state.specs.Said.{IsWording}
 use Rattle.lobby_state.specs.Sought.{sought_words}
 use Rattle.lobby_state.specs.TellChannel.{channel_words}
 use Rattle.lobby_state.specs.TermsText.{colour_words, terms_words}
@@ -127,6 +129,31 @@ pub IsPrinted-channel_words : (channel : ℕ) → channel < 2 ^ 16 → IsPrinted
 IsPrinted-channel_words channel small =
     IsPrinted-append 6 3 _ _ (IsPrinted-append 1 5 _ _ (IsPrinted-from_test 1 (codes "(") (omega arith) refl) (IsPrinted-decimal channel small))
     (IsPrinted-from_test 3 (codes "): ") (omega arith) refl)
+
+IsWording-from_test : (wording : List ℕ) → length wording ≤ 30 → list_all in_range wording ≡ true → IsWording wording
+IsWording-from_test wording short h =
+    let printed = IsPrinted-from_test 30 wording short h in
+    (printed.short, printed.shows)
+
+pub IsWording-offers : IsWording (codes " offers to be your partner.")
+IsWording-offers = IsWording-from_test (codes " offers to be your partner.") (omega arith) refl
+
+pub IsWording-parts : IsWording (codes " is no longer your partner.")
+IsWording-parts = IsWording-from_test (codes " is no longer your partner.") (omega arith) refl
+
+pub IsWording-confides : IsWording (codes " (your partner) tells you: ")
+IsWording-confides = IsWording-from_test (codes " (your partner) tells you: ") (omega arith) refl
+
+IsPrinted-now : IsPrinted 27 (codes "You are now the partner of ")
+IsPrinted-now = IsPrinted-from_test 27 (codes "You are now the partner of ") (omega arith) refl
+
+IsPrinted-stop : IsPrinted 1 (codes ".")
+IsPrinted-stop = IsPrinted-from_test 1 (codes ".") (omega arith) refl
+
+pub IsPrinted-link_words : (name : List ℕ) → IsPrinted 17 name → IsPrinted 45 (partner_words true name)
+IsPrinted-link_words name h =
+    let join = IsPrinted-append in
+    join 44 1 _ _ (join 27 17 _ _ IsPrinted-now h) IsPrinted-stop
 
 pub IsLine-from_printed : (most : ℕ) (text : List ℕ) → most ≤ 1023 → IsPrinted most text → IsLine text
 IsLine-from_printed most text few h = (omega (arith, few, h.short), h.shows)

@@ -4,7 +4,7 @@ use Rattle.chess_model.specs.declared.variant.Terms.{Terms}
 use Rattle.fics_words.specs.declared.refusal.Refusal.{Refusal}
 use Rattle.fics_words.specs.Effect.{Effect, answer_of, state_of}
 use Rattle.lobby_state.specs.declared.acts.LobbyAct.{LobbyAct}
-use Rattle.lobby_state.specs.declared.acts.LobbyAct.TheVariants.{Enter, Register, Match, Unpost, Sought, Who, Where, Fetch, Going, Bye, InUse, Var, Tell, Shout, Decline, Withdraw, Post, Channel, TellChannel, InChannel}
+use Rattle.lobby_state.specs.declared.acts.LobbyAct.TheVariants.{Enter, Register, Match, Unpost, Sought, Who, Where, Fetch, Going, Bye, InUse, Var, Tell, Shout, Decline, Withdraw, Post, Channel, TellChannel, InChannel, Partner, Ptell}
 use Rattle.lobby_state.specs.declared.acts.LobbyReply.{LobbyReply}
 use Rattle.lobby_state.specs.Bye.{bye_effect}
 use Rattle.lobby_state.specs.Channel.{channel_effect}
@@ -27,6 +27,8 @@ use Rattle.lobby_state.specs.Shout.{shout_effect}
 use Rattle.lobby_state.specs.Tell.{tell_effect}
 use Rattle.lobby_state.specs.Var.{var_effect}
 use Rattle.lobby_state.specs.Withdraw.{withdraw_effect}
+use Rattle.lobby_state.specs.Partner.{partner_effect}
+use Rattle.lobby_state.specs.Ptell.{ptell_effect}
 
 -- what a lobby act does
 abbrev pub lobby_effect : LobbyState → ℕ → LobbyAct → Effect LobbyState LobbyReply
@@ -45,6 +47,8 @@ lobby_effect lobby session (TellChannel channel text) = tell_channel_effect lobb
 lobby_effect lobby session (InChannel channel) = in_channel_effect lobby session channel
 lobby_effect lobby session (Decline name) = decline_effect lobby session name
 lobby_effect lobby session (Withdraw name) = withdraw_effect lobby session name
+lobby_effect lobby session (Partner name) = partner_effect lobby session name
+lobby_effect lobby session (Ptell text) = ptell_effect lobby session text
 lobby_effect lobby session Where = where_effect lobby session
 lobby_effect lobby session Fetch = fetch_effect lobby session
 lobby_effect lobby session Going = going_effect lobby session
@@ -70,6 +74,7 @@ FitsLobby (Match to terms) = AreTerms terms
 FitsLobby (Tell to text) = length text ≤ 800
 FitsLobby (TellChannel channel text) = length text ≤ 800
 FitsLobby (Shout text) = length text ≤ 800
+FitsLobby (Ptell text) = length text ≤ 800
 FitsLobby (Post terms) = AreTerms terms
 FitsLobby _ = Unit {0}
 

@@ -3,7 +3,7 @@
 use Rattle.std.specs.Prelude.{◌≡◌, ◌≢◌, ℕ, ◌-◌, ◌≤◌, All, Bool, IfSome, Option, Some, slice_get}
 use Rattle.fics_words.specs.Effect.{Effect, NoneHolds}
 use Rattle.lobby_state.specs.declared.acts.LobbyReply.{LobbyReply}
-use Rattle.lobby_state.specs.declared.acts.LobbyReply.TheVariants.{Done, Entered, NeedPassword, Lines, Places, Waiting, Desks, Told, Number}
+use Rattle.lobby_state.specs.declared.acts.LobbyReply.TheVariants.{Done, Entered, NeedPassword, Lines, Places, Waiting, Desks, Told, Number, Asked}
 use Rattle.lobby_state.specs.declared.acts.Plan.{Plan}
 use Rattle.lobby_state.specs.declared.game.Game.{Game}
 use Rattle.lobby_state.specs.Desks.{IsDesk}
@@ -19,6 +19,7 @@ TellsDesks Done = Unit {0}
 TellsDesks (Entered name) = Unit {0}
 TellsDesks NeedPassword = Unit {0}
 TellsDesks (Number number) = Unit {0}
+TellsDesks Asked = Unit {0}
 TellsDesks (Lines lines) = Unit {0}
 TellsDesks (Told count) = Unit {0}
 TellsDesks (Places places) = AreAtDesks places.rows

@@ -30,6 +30,8 @@ pub mod Accept
 pub mod Play
 pub mod Decline
 pub mod Withdraw
+pub mod Partner
+pub mod Ptell
 pub mod Start
 pub mod Clear
 pub mod Acts

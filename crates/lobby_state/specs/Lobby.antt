@@ -1,5 +1,5 @@
--- A lobby: who is registered and who is in the hall, which challenges and seeks stand, and which desks are in use. This
--- server's own.
+-- A lobby: who is registered and who is in the hall, which challenges and seeks stand, who asks whom to be its partner
+-- and who are partners, and which desks are in use. This server's own.
 use Rattle.std.specs.Prelude.{ℕ, ◌-◌, ◌^◌, ◌==◌, Bool, not, ◌&&◌, ◌||◌, List, [], length, replicate, Option, None, Some, is_none, is_some, bytes_eq, filter, slice_get}
 use Rattle.std.specs.List.{find, position}
 use Rattle.channel_feed.specs.declared.channels.Membership.{Membership}
@@ -7,6 +7,7 @@ use Rattle.channel_feed.specs.Channels.{without_player}
 use Rattle.fics_words.specs.Handle.{key_of}
 use Rattle.fics_words.specs.declared.account.Account.{Account}
 use Rattle.login_handles.specs.Accounts.{account_of}
+use Rattle.partner_link.specs.Partners.{PartnerLists, partner_of, without}
 use Rattle.seek_match.specs.declared.seek.Seek.{Seek}
 use Rattle.seek_match.specs.Seeks.{is_by}
 use Rattle.lobby_state.specs.declared.challenge.Challenge.{Challenge}
@@ -17,14 +18,15 @@ use Rattle.lobby_state.specs.Places.{PlaceList, no_places}
 
 -- the accounts in the order in which they were made; the members in the order in which they entered; the challenges in
 -- the order in which they were made; the seeks in the order of their numbers; who is in which channel, in the order of
--- joining; for each desk from 1 on the game for which it is in use; and how many games were started, which is the last
--- serial
+-- joining; the requests and links of partners; for each desk from 1 on the game for which it is in use; and how many games
+-- were started, which is the last serial
 pub record LobbyState : Type 0 where
   pub accounts : List Account
   pub members : List Member
   pub challenges : List Challenge
   pub seeks : List Seek
   pub channels : List Membership
+  pub partners : PartnerLists
   pub games : List (Option Game)
   pub started : ℕ
 
@@ -52,6 +54,7 @@ opening = record {
   challenges = [];
   seeks = [];
   channels = [];
+  partners = record { requests = []; links = [] };
   games = replicate desks None;
   started = 0;
 }
@@ -140,3 +143,10 @@ without_seeks session lobby =
 -- the lobby where this session is in no channel
 abbrev pub without_channels : ℕ → LobbyState → LobbyState
 without_channels session lobby = record lobby { channels = without_player session lobby.channels }
+-- the session's partner, if it has one
+abbrev pub partner_in : LobbyState → ℕ → Option ℕ
+partner_in lobby session = partner_of lobby.partners.links session
+
+-- the lobby without the requests and the link that name this session
+abbrev pub without_partner : ℕ → LobbyState → LobbyState
+without_partner session lobby = record lobby { partners = without lobby.partners session }

@@ -18,7 +18,7 @@ use Rattle.lobby_state.specs.TermsText.{terms_words}
 abbrev pub challenge_words : List ℕ → Terms → List ℕ
 challenge_words name terms = codes "Challenge: " ++ name ++ codes " " ++ terms_words terms
 
--- bughouse is played by pairs of partners, and nobody has a partner yet
+-- bughouse is played by pairs of partners, and no game of it can be started yet
 abbrev pub needs_partners : Variant → Bool
 needs_partners Bughouse = true
 needs_partners _ = false

@@ -24,7 +24,7 @@ FitsVariant Bughouse seats = IsSome seats.second
 FitsVariant _ seats = IsNone seats.second
 
 -- a game on these terms can start at this desk under this serial with these players: the desk is free, the serial is
--- the next one, the players are as many as the variant has, and apart, and nobody needs a partner yet
+-- the next one, the players are as many as the variant has, and apart, and nobody needs a partner
 pub record CanStart (lobby : LobbyState) (desk serial : ℕ) (terms : Terms) (seats : Seats) : Type 0 where
   pub is_desk : IsDesk desk
   pub is_free : slice_get lobby.games (desk - 1) ≡ Some None

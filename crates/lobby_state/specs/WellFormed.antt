@@ -12,6 +12,9 @@ use Rattle.lobby_state.specs.declared.place.Place.{Place}
 use Rattle.lobby_state.specs.Desks.{IsDesk, desks}
 use Rattle.lobby_state.specs.Lobby.{LobbyState, most_members}
 use Rattle.lobby_state.specs.Match.{needs_partners}
+use Rattle.partner_link.specs.declared.pairs.PartnerLink.{PartnerLink}
+use Rattle.partner_link.specs.declared.pairs.PartnerRequest.{PartnerRequest}
+use Rattle.partner_link.specs.Partners.{PartnerLists}
 use Rattle.seek_match.specs.declared.seek.Seek.{Seek}
 use Rattle.seek_match.specs.Seeks.{AreSeeks, is_by, most_seeks}
 
@@ -19,7 +22,7 @@ use Rattle.seek_match.specs.Seeks.{AreSeeks, is_by, most_seeks}
 abbrev pub sessions_of : List Member → List ℕ
 sessions_of members = map (λ member. member.session) members
 
--- the challenge is by one member to another, and to a game that two can play, since nobody has a partner yet
+-- the challenge is by one member to another, and to a game that two can play, since no other can be started yet
 pub record IsBetweenMembers (sessions : List ℕ) (challenge : Challenge) : Type 0 where
   pub from : Contains sessions challenge.from
   pub to : Contains sessions challenge.to
@@ -36,6 +39,21 @@ pub record AreSeeksOf (sessions : List ℕ) (seeks : List Seek) : Type 0 where
   pub numbers : AreSeeks seeks
   pub members : All (IsByMember sessions) seeks
   pub few : (session : ℕ) → count_by (is_by session None) seeks ≤ most_seeks
+
+-- the request is by a member to a member
+pub record IsAskedByMember (sessions : List ℕ) (request : PartnerRequest) : Type 0 where
+  pub from : Contains sessions request.from
+  pub to : Contains sessions request.to
+
+-- the two who are partners are members
+pub record IsLinkOfMembers (sessions : List ℕ) (link : PartnerLink) : Type 0 where
+  pub first : Contains sessions link.first
+  pub second : Contains sessions link.second
+
+-- each request and each link is of members alone
+pub record ArePartnersOf (sessions : List ℕ) (partners : PartnerLists) : Type 0 where
+  pub requests : All (IsAskedByMember sessions) partners.requests
+  pub links : All (IsLinkOfMembers sessions) partners.links
 
 -- the place is a seat of this session's, at a desk in use under that serial
 pub record IsSeatOf (games : List (Option Game)) (session : ℕ) (place : Place) : Type 0 where
@@ -57,9 +75,9 @@ IsStarted started None = Unit {0}
 IsStarted started (Some game) = (1 ≤ game.serial) × (game.serial ≤ started)
 
 -- each handle has at most one account, and there are at most 4,096; there are at most 256 members, of whom no two have
--- one session, and no two one handle; each challenge is by one member to another; the seeks are by members; there are
--- 128 desks, and each game has a serial that was given out; and each place of a member is a seat of its own in such a
--- game
+-- one session, and no two one handle; each challenge is by one member to another; the seeks are by members; the requests
+-- and links of partners are of members; there are 128 desks, and each game has a serial that was given out; and each
+-- place of a member is a seat of its own in such a game
 pub record IsWellFormed (lobby : LobbyState) : Type 0 where
   pub accounts : AreAccounts lobby.accounts
   pub hall : length lobby.members ≤ most_members
@@ -67,6 +85,7 @@ pub record IsWellFormed (lobby : LobbyState) : Type 0 where
   pub handles : AllPairs (λ one another. key_of one.name ≢ key_of another.name) lobby.members
   pub challenges : All (IsBetweenMembers (sessions_of lobby.members)) lobby.challenges
   pub seeks : AreSeeksOf (sessions_of lobby.members) lobby.seeks
+  pub partners : ArePartnersOf (sessions_of lobby.members) lobby.partners
   pub games : length lobby.games ≡ desks
   pub serials : All (IsStarted lobby.started) lobby.games
   pub places : All (HasSeats lobby.games) lobby.members

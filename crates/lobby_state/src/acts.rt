@@ -77,11 +77,20 @@ pub enum LobbyAct {
     Withdraw {
         name: Option<HandleKey>,
     },
+    /// The member asks the player with this handle to be its partner, or without one parts with its own.
+    Partner {
+        name: Option<HandleKey>,
+    },
+    /// The member says the text, of at most 800 bytes, to its partner.
+    Ptell {
+        text: Line,
+    },
     /// Asks for the member's places.
     Where,
     /// Takes the lines that wait for the member, and asks for its places.
     Fetch,
-    /// The member begins to leave: its challenges and its seeks go, and it can't be named from then on.
+    /// The member begins to leave: its challenges, its seeks, its requests and its partner go, and it can't be named
+    /// from then on.
     Going,
     /// The member is gone.
     Bye,
@@ -103,6 +112,8 @@ pub enum LobbyReply {
     Lines(Listed<Line>),
     /// So many members were told.
     Told(u16),
+    /// The other is asked, and hasn't asked before.
+    Asked,
     Places(Places),
     Waiting { lines: Listed<Line>, places: Places },
     /// The desks in use, in ascending order.
@@ -122,6 +133,7 @@ impl LobbyReply {
             LobbyReply::Number(number) => LobbyReply::Number(*number),
             LobbyReply::Lines(_) => LobbyReply::Lines(lists.lines),
             LobbyReply::Told(count) => LobbyReply::Told(*count),
+            LobbyReply::Asked => LobbyReply::Asked,
             LobbyReply::Places(places) => LobbyReply::Places(*places),
             LobbyReply::Waiting { places, .. } => LobbyReply::Waiting {
                 lines: lists.lines,

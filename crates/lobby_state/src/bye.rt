@@ -24,8 +24,8 @@ impl Predicate<Member> for OfAnother {
 }
 
 impl Register {
-    /// The session is gone, with every challenge and every seek that still names it, and is in no channel. It takes no
-    /// memory and is never refused.
+    /// The session is gone, with every challenge, every seek, every request and the link that still names it, and is in
+    /// no channel. It takes no memory and is never refused.
     pub(crate) fn bye(&mut self, session: u32) -> LobbyReply
         ensures { Takes (bye_effect self.old session) self.old self.new (Ok result) }
     {
@@ -33,6 +33,7 @@ impl Register {
         self.challenges.retain(&Without(session));
         self.seeks.keep(&ByAnother(session));
         self.channels.forget(session);
+        self.partners.forget(session);
         LobbyReply::Done
     }
 }

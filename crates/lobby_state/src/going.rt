@@ -23,8 +23,8 @@ impl Change<Member> for Leave {
 }
 
 impl Register {
-    /// The session begins to leave: its challenges and its seeks go, and it can't be named from then on. Its places are
-    /// answered. It takes no memory and is never refused.
+    /// The session begins to leave: its challenges, its seeks, its requests and its link go, and it can't be named from
+    /// then on. Its places are answered. It takes no memory and is never refused.
     pub(crate) fn going(&mut self, session: u32) -> LobbyReply
         ensures { Takes (going_effect self.old session) self.old self.new (Ok result) }
     {
@@ -32,6 +32,7 @@ impl Register {
         change_first(&mut self.members, &OfSession(session), &Leave);
         self.challenges.retain(&Without(session));
         self.seeks.keep(&ByAnother(session));
+        self.partners.forget(session);
         LobbyReply::Places(places)
     }
 }

@@ -1,4 +1,5 @@
-//! The lobby: who is registered and who is in the hall, which challenges stand, and which desks are in use for which game.
+//! The lobby: who is registered and who is in the hall, which challenges stand, who are partners, and which desks are in
+//! use for which game.
 //!
 //! The contract: what an act does, by the lobby before, the session and the act, stands in one record of its own file
 //! in `specs/`: why it is refused, what it replies, and what stands afterwards. A refusal and running out of memory
@@ -28,10 +29,12 @@ mod laws;
 mod lobby;
 mod matching;
 mod member;
+mod partner;
 mod place;
 mod places;
 mod play;
 mod post;
+mod ptell;
 mod register;
 mod registration;
 mod said;

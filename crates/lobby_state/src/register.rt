@@ -1,7 +1,7 @@
 //! What a lobby keeps, and the look-ups in it.
 ghost use Rattle.std.specs.Prelude.{◌≡◌, IfOk, option_copied};
 ghost use Rattle.lobby_state.specs.Desks.{IsDesk};
-ghost use Rattle.lobby_state.specs.Lobby.{holder_of, opening, member_of, named, places_of, waiting_of, free_slot, game_at};
+ghost use Rattle.lobby_state.specs.Lobby.{holder_of, opening, member_of, named, places_of, waiting_of, free_slot, game_at, partner_in};
 
 use crate::challenge::Challenge;
 use crate::game::{Game, no_games};
@@ -11,11 +11,13 @@ use channel_feed::Channels;
 use collections::{Listed, Reserved};
 use fics_words::{Duplicate, HandleKey, Line, NoMemory};
 use login_handles::Accounts;
+use partner_link::Partners;
 use seek_match::SeekBook;
 use std::alloc::Global;
 use std::marker::Model;
 
-/// Who is registered and who is in the hall, which challenges and seeks stand, who is in which channel, and which desks are in
+/// Who is registered and who is in the hall, which challenges and seeks stand, who is in which channel, who are partners,
+/// and which desks are in
 /// use: the acts are carried out here, one file an act. That they leave it well-formed, `Lobby` knows.
 #[derive(Debug, Drop)]
 pub(crate) struct Register {
@@ -25,6 +27,7 @@ pub(crate) struct Register {
     pub(crate) challenges: Reserved<Challenge>,
     pub(crate) seeks: SeekBook,
     pub(crate) channels: Channels,
+    pub(crate) partners: Partners,
     /// The game of each desk from 1 on, where it is in use.
     pub(crate) games: Listed<Option<Game>>,
     /// How many games were started, which is the last serial.
@@ -44,6 +47,7 @@ impl Model for Register {
       challenges = register.challenges.items;
       seeks = register.seeks;
       channels = register.channels;
+      partners = register.partners;
       games = register.games;
       started = register.started;
     } };
@@ -63,6 +67,7 @@ impl Register {
             challenges: Reserved::new(alloc),
             seeks: SeekBook::new(alloc),
             channels: Channels::new(alloc),
+            partners: Partners::new(alloc),
             games: no_games(alloc)?,
             started: 0,
         })
@@ -130,6 +135,13 @@ impl Register {
         ensures { option_copied result ≡ holder_of self.now key }
     {
         self.members.iter().find(|member| member.name.key() == key)
+    }
+
+    /// The session's partner, if it has one.
+    pub(crate) fn partner_of(&self, session: u32) -> Option<u32>
+        ensures { result ≡ partner_in self.now session }
+    {
+        self.partners.of(session)
     }
 
     /// Where the least free desk stands in the list of desks, if one is free.

@@ -34,6 +34,8 @@ impl Register {
             LobbyAct::InChannel { channel } => self.in_channel(session, *channel),
             LobbyAct::Decline { name } => self.decline(session, *name),
             LobbyAct::Withdraw { name } => self.withdraw(session, *name),
+            LobbyAct::Partner { name } => self.partner(session, *name),
+            LobbyAct::Ptell { text } => self.ptell(session, text),
             LobbyAct::Where => Ok(self.where_is(session)),
             LobbyAct::Fetch => Ok(self.fetch(session)),
             LobbyAct::Going => Ok(self.going(session)),

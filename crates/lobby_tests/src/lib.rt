@@ -10,6 +10,10 @@ mod login_steps;
 #[cfg(test)]
 mod logins;
 #[cfg(test)]
+mod partner_steps;
+#[cfg(test)]
+mod partners;
+#[cfg(test)]
 mod paths;
 #[cfg(test)]
 mod refusals;

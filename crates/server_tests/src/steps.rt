@@ -23,6 +23,8 @@ pub enum Said {
     Lines(usize),
     /// So many were told.
     Told(u16),
+    /// Another is asked.
+    Asked,
     /// So many places.
     Places(usize),
     /// So many lines and so many places.
@@ -257,6 +259,7 @@ fn of_lobby(answer: &LobbyReply) -> Said {
         LobbyReply::Number(number) => Said::Number(*number),
         LobbyReply::Lines(lines) => Said::Lines(lines.len()),
         LobbyReply::Told(count) => Said::Told(*count),
+        LobbyReply::Asked => Said::Asked,
         LobbyReply::Places(places) => Said::Places(places.rows().len()),
         LobbyReply::Waiting { lines, places } => Said::Waiting(lines.len(), places.rows().len()),
         LobbyReply::Desks(desks) => Said::Desks(desks.len()),

@@ -25,6 +25,7 @@ use Rattle.command_words.specs.Channel.{channel_from}
 use Rattle.command_words.specs.InChannel.{in_channel_from}
 use Rattle.command_words.specs.Commands.{arguments_of, asked, command_after, command_in, command_made, command_of, move_in, move_or}
 use Rattle.command_words.specs.Match.{challenge, challenge_of, two_twelve}
+use Rattle.command_words.specs.Partner.{partner_from, partner_of}
 use Rattle.command_words.specs.Play.{play_from}
 use Rattle.command_words.specs.Seek.{five_nothing, seeking}
 use Rattle.command_words.specs.Numbers.{channel_number, is_no_channel, number_of}
@@ -99,6 +100,14 @@ decline_fits : (rest : List ℕ) → FitsAnswer (decline_of rest)
 decline_fits [] = tt
 decline_fits (b ∷ rest) = decline_from_fits (handle_of (b ∷ rest))
 
+partner_from_fits : (name : Option (List ℕ)) → FitsAnswer (partner_from name)
+partner_from_fits None = tt
+partner_from_fits (Some name) = tt
+
+partner_fits : (rest : List ℕ) → FitsAnswer (partner_of rest)
+partner_fits [] = tt
+partner_fits (b ∷ rest) = partner_from_fits (handle_of (b ∷ rest))
+
 withdraw_from_fits : (name : Option (List ℕ)) → FitsAnswer (withdraw_from name)
 withdraw_from_fits None = tt
 withdraw_from_fits (Some name) = tt
@@ -169,6 +178,8 @@ arguments_fit verb.InChannel rest = in_channel_fits (channel_number rest)
 arguments_fit verb.JoinChannel rest = channel_fits true (channel_number rest)
 arguments_fit verb.LeaveChannel rest = channel_fits false (channel_number rest)
 arguments_fit verb.Match rest = challenge_of_fits (words_of rest)
+arguments_fit verb.Partner rest = partner_fits rest
+arguments_fit verb.Ptell rest = text_fits command.Ptell rest (λ short. short)
 arguments_fit verb.Play rest = play_fits (number_of 65535 rest)
 arguments_fit verb.Quit rest = alone_fits command.Quit rest tt
 arguments_fit verb.Register rest = either_fits (is_text rest) (Ok (command.Register rest)) (Err BadArguments) tt tt

@@ -114,6 +114,9 @@ command_course (command.Decline name) stamp memory =
     to_server (Lobby (lobby_act.Decline (option_map key_of name))) memory
 command_course (command.Withdraw name) stamp memory =
     to_server (Lobby (lobby_act.Withdraw (option_map key_of name))) memory
+command_course (command.Partner name) stamp memory =
+    to_server (Lobby (lobby_act.Partner (option_map key_of name))) memory
+command_course (command.Ptell text) stamp memory = to_server (Lobby (lobby_act.Ptell text)) memory
 command_course (command.Tell name text) stamp memory = to_server (Lobby (lobby_act.Tell (key_of name) text)) memory
 command_course (command.TellChannel channel text) stamp memory = to_server (Lobby (lobby_act.TellChannel channel text)) memory
 command_course (command.InChannel channel) stamp memory = to_server (Lobby (lobby_act.InChannel channel)) memory

@@ -2,7 +2,7 @@
 use Rattle.std.specs.Prelude.{◌≡◌, ℕ, ◌+◌, ◌*◌, ◌≤◌, true, false, List, ◌++◌, length, Option, IfSome}
 use Rattle.clock_ledger.specs.Span.{IsStamp}
 use Rattle.command_words.specs.declared.command.Command.{Command}
-use Rattle.command_words.specs.declared.command.Command.TheVariants.{Match, Seek, Tell, TellChannel, Shout}
+use Rattle.command_words.specs.declared.command.Command.TheVariants.{Match, Seek, Tell, TellChannel, Shout, Ptell}
 use Rattle.linked_desk.specs.Acts.{FitsDeskAct}
 use Rattle.lobby_state.specs.Acts.{AreTerms}
 use Rattle.lobby_state.specs.Desks.{IsDesk}
@@ -79,6 +79,7 @@ FitsCommand (Seek terms) = AreTerms terms
 FitsCommand (Tell name text) = length text ≤ 800
 FitsCommand (TellChannel channel text) = length text ≤ 800
 FitsCommand (Shout text) = length text ≤ 800
+FitsCommand (Ptell text) = length text ≤ 800
 FitsCommand _ = Unit {0}
 
 -- a stage has what its next act needs, an act that a desk can take, a place at a desk, a stamp; and it is one of a

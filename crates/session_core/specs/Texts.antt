@@ -5,7 +5,7 @@ use Rattle.fics_words.specs.declared.refusal.Refusal.{Refusal}
 use Rattle.fics_words.specs.Refusal.{number_of, name_of}
 use Rattle.linked_desk.specs.declared.acts.DeskReply.TheVariants.{Items}
 use Rattle.linked_desk.specs.Sight.{board_in, sight}
-use Rattle.lobby_state.specs.declared.acts.LobbyReply.TheVariants.{Done, Entered, Told, Number, Lines, Waiting}
+use Rattle.lobby_state.specs.declared.acts.LobbyReply.TheVariants.{Asked, Done, Entered, Told, Number, Lines, Waiting}
 use Rattle.lobby_state.specs.declared.place.Place.{Place}
 use Rattle.one_server.specs.declared.reply.Reply.{Reply}
 use Rattle.one_server.specs.declared.reply.Reply.TheVariants as reply
@@ -46,6 +46,10 @@ entered_line name = codes "Entered as " ++ name ++ codes "." ++ line_end
 abbrev pub done_line : List ℕ
 done_line = codes "Ok." ++ line_end
 
+-- the line of what another was asked
+abbrev pub asked_line : List ℕ
+asked_line = codes "Asked." ++ line_end
+
 -- the line of how many were told
 abbrev pub told_line : ℕ → List ℕ
 told_line count = codes "(told " ++ decimal count ++ codes ")" ++ line_end
@@ -64,11 +68,12 @@ abbrev pub list_text : List (List ℕ) → List ℕ
 list_text [] = codes "none" ++ line_end
 list_text (line ∷ lines) = lines_text (line ∷ lines)
 
--- what a reply prints: the refusal; that an act of the lobby was done; under which name the session is in; how many
--- were told; the number of a new seek; a list that was asked for; and else nothing
+-- what a reply prints: the refusal; that an act of the lobby was done; that another was asked; under which name the
+-- session is in; how many were told; the number of a new seek; a list that was asked for; and else nothing
 abbrev pub reply_text : Reply → List ℕ
 reply_text (reply.Refused cause) = refusal_line cause
 reply_text (reply.Lobby Done) = done_line
+reply_text (reply.Lobby Asked) = asked_line
 reply_text (reply.Lobby (Entered name)) = entered_line name
 reply_text (reply.Lobby (Told count)) = told_line count
 reply_text (reply.Lobby (Number number)) = number_line number

@@ -52,6 +52,10 @@ pub(crate) fn begin_command(
         Command::Withdraw(name) => to_server(Act::Lobby(LobbyAct::Withdraw {
             name: name.map(|name| name.key()),
         })),
+        Command::Partner(name) => to_server(Act::Lobby(LobbyAct::Partner {
+            name: name.map(|name| name.key()),
+        })),
+        Command::Ptell(text) => to_server(Act::Lobby(LobbyAct::Ptell { text })),
         Command::Tell(name, text) => to_server(Act::Lobby(LobbyAct::Tell {
             to: name.key(),
             text,

@@ -2,7 +2,7 @@
 ghost use Rattle.std.specs.Prelude.{◌≡◌, ◌++◌, All, OnOk, codes};
 ghost use Rattle.linked_desk.specs.Sound.{NamesWinner};
 ghost use Rattle.one_server.specs.Replies.{IsReply};
-ghost use Rattle.session_core.specs.Texts.{asks_back, done_line, entered_line, is_own_turn, item_text, items_text};
+ghost use Rattle.session_core.specs.Texts.{asked_line, asks_back, done_line, entered_line, is_own_turn, item_text, items_text};
 ghost use Rattle.session_core.specs.Texts.{line_end, lines_text, list_text, number_line};
 ghost use Rattle.session_core.specs.Texts.{news_text, prompt_of, refusal_line, reply_text, told_line, waiting_text};
 
@@ -49,6 +49,7 @@ pub(crate) fn put_reply(reply: &Reply, out: &mut Vec<u8>) -> Result<(), NoMemory
     match reply {
         Reply::Refused(cause) => put_refusal(*cause, out),
         Reply::Lobby(LobbyReply::Done) => put_done(out),
+        Reply::Lobby(LobbyReply::Asked) => put_asked(out),
         Reply::Lobby(LobbyReply::Entered(name)) => put_entered(*name, out),
         Reply::Lobby(LobbyReply::Number(number)) => put_number(*number, out),
         Reply::Lobby(LobbyReply::Lines(lines)) => put_list(lines.as_slice(), out),
@@ -62,6 +63,15 @@ pub(crate) fn put_done(out: &mut Vec<u8>) -> Result<(), NoMemory>
     ensures { OnOk result (out.new.items ≡ out.old.items ++ done_line) }
 {
     out.extend_from_slice(b"Ok.")?;
+    out.extend_from_slice(LINE_END)?;
+    Ok(())
+}
+
+/// Appends the line of what another was asked.
+fn put_asked(out: &mut Vec<u8>) -> Result<(), NoMemory>
+    ensures { OnOk result (out.new.items ≡ out.old.items ++ asked_line) }
+{
+    out.extend_from_slice(b"Asked.")?;
     out.extend_from_slice(LINE_END)?;
     Ok(())
 }

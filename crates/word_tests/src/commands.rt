@@ -99,6 +99,16 @@ wh|who
 who ann|refused 28
 s|refused 27
 matches ann|refused 26
+partner|partner
+pa|partner
+PARTN Ann|partner Ann
+partner 7|refused 28
+partner Ann Bob|refused 28
+ptell hi|ptell hi
+pt  Hello  all |ptell Hello  all
+ptell|refused 28
+p|refused 27
+p 1|refused 27
 tell Ann hi|tell Ann hi
 t  ann  hi   there |tell ann hi   there
 TE Ann ~ $1|tell Ann ~ $1
@@ -231,7 +241,7 @@ fn a_password_has_800_bytes_at_most(rt: HostRuntime) -> Result<(), Fail> {
 #[test]
 fn what_is_said_has_800_bytes_at_most(rt: HostRuntime) -> Result<(), Fail> {
     let none = Aliases::new(rt.alloc());
-    for front in ["tell Ann ", "shout "] {
+    for front in ["tell Ann ", "shout ", "ptell "] {
         let mut line = String::new(rt.alloc());
         line.push_str(front)?;
         line.push_str("ten bytes.".repeat(rt.alloc(), 80)?.as_str())?;
@@ -307,6 +317,9 @@ fn told(alloc: Global, command: &Command) -> Result<Vec<u8>, NoMemory> {
             b"-channel ",
             u16::from(*number),
         ),
+        Command::Partner(None) => of(alloc, b"partner"),
+        Command::Partner(Some(name)) => with_text(alloc, b"partner ", name.letters()),
+        Command::Ptell(text) => with_text(alloc, b"ptell ", text.bytes()),
         Command::Shout(text) => with_text(alloc, b"shout ", text.bytes()),
         Command::SetOpen(on) => with_text(alloc, b"set open ", digit(*on)),
         Command::SetShout(on) => with_text(alloc, b"set shout ", digit(*on)),

@@ -1,0 +1,117 @@
+//! Partner: a member asks another to be its partner, or parts with the one it has.
+ghost use Rattle.std.specs.Prelude.{◌≡◌, IfOk, true};
+ghost use Rattle.fics_words.specs.Effect.{Takes};
+ghost use Rattle.lobby_state.specs.Partner.{ask_effect, asked_reply, part_effect, partner_effect, partner_words};
+
+use crate::acts::LobbyReply;
+use crate::broadcast::broadcast;
+use crate::member::OfSession;
+use crate::register::Register;
+use crate::said::said_line;
+use fics_words::{Duplicate, Fail, Handle, HandleKey, Line, NoMemory, Refusal};
+use std::alloc::Global;
+
+impl Register {
+    /// With a name the session asks, and without one it parts.
+    pub(crate) fn partner(
+        &mut self,
+        session: u32,
+        name: Option<HandleKey>,
+    ) -> Result<LobbyReply, Fail>
+        ensures { Takes (partner_effect self.old session name) self.old self.new result }
+    {
+        match name {
+            Some(to) => self.ask_partner(session, to),
+            None => self.part_partner(session),
+        }
+    }
+
+    /// The session asks the named player to be its partner: they are partners where the other has asked before, and
+    /// else the request stands; and the other is told. The causes of a refusal, in order: the session isn't a member;
+    /// nobody has the handle, or that member is going; it is the session itself; one of the two has a partner; 512
+    /// lines wait for the other.
+    fn ask_partner(&mut self, session: u32, to: HandleKey) -> Result<LobbyReply, Fail>
+        ensures { Takes (ask_effect self.old session to) self.old self.new result }
+    {
+        let Some(caller) = self.member(session) else {
+            return Err(Fail::Refused(Refusal::NotIn));
+        };
+        let Some(other) = self.named(to) else {
+            return Err(Fail::Refused(Refusal::NoSuchPlayer));
+        };
+        if other.session == session {
+            return Err(Fail::Refused(Refusal::BadOpponent));
+        }
+        if self.partner_of(session).is_some() || self.partner_of(other.session).is_some() {
+            return Err(Fail::Refused(Refusal::HasPartner));
+        }
+        if other.is_full() {
+            return Err(Fail::Refused(Refusal::QueueFull));
+        }
+        let partner = other.session;
+        let name = caller.name;
+        // requests and links are made anew beside the old ones, so that want of memory for the line changes nothing
+        let mut partners = self.partners.duplicate()?;
+        let linked = partners.ask(session, partner)?;
+        let line = partner_line(self.alloc, name, linked)?;
+        broadcast(&mut self.members, &OfSession(partner), &line)?;
+        self.partners = partners;
+        Ok(asked_reply(linked))
+    }
+
+    /// The session parts with its partner, who is told, where fewer than 512 lines wait there. The causes of a refusal,
+    /// in order: the session isn't a member; it has no partner.
+    fn part_partner(&mut self, session: u32) -> Result<LobbyReply, Fail>
+        ensures { Takes (part_effect self.old session) self.old self.new result }
+    {
+        let Some(caller) = self.member(session) else {
+            return Err(Fail::Refused(Refusal::NotIn));
+        };
+        let Some(partner) = self.partner_of(session) else {
+            return Err(Fail::Refused(Refusal::NoPartner));
+        };
+        let line = said_line(self.alloc, caller.name, b" is no longer your partner.", b"")?;
+        broadcast(&mut self.members, &OfSession(partner), &line)?;
+        self.partners.part(session)?;
+        Ok(LobbyReply::Done)
+    }
+}
+
+/// What an ask is answered, where the two are partners from then on and where not.
+fn asked_reply(linked: bool) -> LobbyReply
+    ensures { result ≡ asked_reply linked }
+{
+    if linked {
+        LobbyReply::Done
+    } else {
+        LobbyReply::Asked
+    }
+}
+
+/// The line that an ask sends: who asks, or whose partner the other is from then on.
+fn partner_line(alloc: Global, name: Handle, linked: bool) -> Result<Line, NoMemory>
+    ensures { IfOk result (λ line. line ≡ partner_words linked name) }
+{
+    if linked {
+        return link_line(alloc, name);
+    }
+    said_line(alloc, name, b" offers to be your partner.", b"")
+}
+
+/// The line that tells of a new partner.
+fn link_line(alloc: Global, name: Handle) -> Result<Line, NoMemory>
+    ensures { IfOk result (λ line. line ≡ partner_words true name) }
+{
+    let text = link_text(alloc, name.letters())?;
+    Ok(Line::from_bytes(text))
+}
+
+/// The bytes of that line, for a partner with these letters.
+fn link_text(alloc: Global, letters: &[u8]) -> Result<Vec<u8>, NoMemory>
+    ensures { IfOk result (λ text. text.items ≡ partner_words true letters.now) }
+{
+    let mut text = Vec::from_slice(alloc, b"You are now the partner of ")?;
+    text.extend_from_slice(letters)?;
+    text.push(b'.')?;
+    Ok(text)
+}

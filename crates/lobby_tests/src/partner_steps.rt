@@ -1,0 +1,91 @@
+//! Steps of partners, each with its expected answer.
+
+use crate::steps::{DONE, Step, is_as_expected, number_of};
+use fics_words::{Fail, Handle, Line};
+use lobby_state::{Lobby, LobbyAct, LobbyReply};
+use std::alloc::Global;
+
+/// The number that stands for an answer of another kind than the step has.
+const STRANGE: u8 = 255;
+
+/// The number that stands for a request that was put, and that links nobody yet.
+pub const ASKED: u8 = 254;
+
+/// A step: the session that makes it, what it does, and what it has to answer; a number is that of the refusal.
+#[derive(Clone, Copy)]
+pub enum Pairing {
+    /// Asks this player.
+    Ask(u32, [u8; 3], u8),
+    /// Parts with its partner.
+    Part(u32, u8),
+    /// Says this to its partner.
+    Ptell(u32, &'static [u8], u8),
+    /// A step of another kind.
+    Other(Step),
+}
+
+/// The place of the first step that answers otherwise, if one does.
+pub fn first_failing_pairing(alloc: Global, lobby: &mut Lobby, steps: &[Pairing]) -> Option<usize> {
+    for (place, step) in steps.iter().enumerate() {
+        if !answers(alloc, lobby, step) {
+            return Some(place);
+        }
+    }
+    None
+}
+
+fn answers(alloc: Global, lobby: &mut Lobby, step: &Pairing) -> bool {
+    match step {
+        Pairing::Ask(session, name, number) => partnering(lobby, *session, name) == *number,
+        Pairing::Part(session, number) => parting(lobby, *session) == *number,
+        Pairing::Ptell(session, text, number) => {
+            confiding(alloc, lobby, *session, text) == *number
+        }
+        Pairing::Other(step) => is_as_expected(lobby, step),
+    }
+}
+
+/// Asks the player with this handle to be the session's partner.
+pub fn partnering(lobby: &mut Lobby, session: u32, letters: &[u8]) -> u8 {
+    let Some(name) = Handle::read(letters) else {
+        return STRANGE;
+    };
+    let answer = lobby.act(
+        session,
+        0,
+        &LobbyAct::Partner {
+            name: Some(name.key()),
+        },
+    );
+    with_kind(&answer)
+}
+
+fn parting(lobby: &mut Lobby, session: u32) -> u8 {
+    let answer = lobby.act(session, 0, &LobbyAct::Partner { name: None });
+    with_kind(&answer)
+}
+
+/// The number of a refusal, or that of the kind of the reply.
+fn with_kind(answer: &Result<LobbyReply, Fail>) -> u8 {
+    match answer {
+        Ok(LobbyReply::Asked) => ASKED,
+        Ok(LobbyReply::Done) => DONE,
+        Ok(_) => STRANGE,
+        Err(_) => number_of(answer),
+    }
+}
+
+fn confiding(alloc: Global, lobby: &mut Lobby, session: u32, text: &[u8]) -> u8 {
+    let Ok(Some(line)) = Line::read(alloc, text) else {
+        return STRANGE;
+    };
+    if line.bytes().len() > 800 {
+        return STRANGE;
+    }
+    let answer = lobby.act(session, 0, &LobbyAct::Ptell { text: line });
+    match &answer {
+        Ok(LobbyReply::Told(1)) => DONE,
+        Ok(_) => STRANGE,
+        Err(_) => number_of(&answer),
+    }
+}
