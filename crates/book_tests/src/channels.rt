@@ -97,7 +97,10 @@ fn first_refused(channels: &mut Channels) -> Option<(u8, Answer)> {
 #[test]
 fn twenty_channels_are_the_most(rt: HostRuntime) -> Result<(), TestFail> {
     let mut channels = Channels::new(rt.alloc());
-    assert_eq!(rt; first_refused(&mut channels), Some((20, Some(Refusal::ListFull))));
+    assert_eq!(rt;
+        first_refused(&mut channels),
+        Some((20, Some(Refusal::ListFull)))
+    );
     assert!(rt; channels.has(1, 19));
     Ok(())
 }
@@ -134,7 +137,10 @@ fn removed(names: &mut NameList, letters: &[u8]) -> Answer {
 #[test]
 fn a_hundred_names_are_the_most(rt: HostRuntime) -> Result<(), TestFail> {
     let mut names = NameList::new(rt.alloc());
-    assert_eq!(rt; first_name_refused(&mut names), Some((100, Some(Refusal::ListFull))));
+    assert_eq!(rt;
+        first_name_refused(&mut names),
+        Some((100, Some(Refusal::ListFull)))
+    );
     Ok(())
 }
 

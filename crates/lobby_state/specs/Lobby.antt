@@ -143,6 +143,7 @@ without_seeks session lobby =
 -- the lobby where this session is in no channel
 abbrev pub without_channels : ℕ → LobbyState → LobbyState
 without_channels session lobby = record lobby { channels = without_player session lobby.channels }
+
 -- the session's partner, if it has one
 abbrev pub partner_in : LobbyState → ℕ → Option ℕ
 partner_in lobby session = partner_of lobby.partners.links session
