@@ -129,7 +129,7 @@ fn in_channel(lobby: &mut Lobby, session: u32, channel: u8, first: &[u8]) -> u16
     match lobby.act(session, 0, &LobbyAct::InChannel { channel }) {
         Ok(LobbyReply::Lines(lines)) => match lines.as_slice() {
             [] => 0,
-            [line, ..] if line.bytes() == first => lines.len() as u16,
+            [line, ..] if line.bytes() == first => lines.len().min(999) as u16,
             _ => strange,
         },
         Ok(_) => strange,
