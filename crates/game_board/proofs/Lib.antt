@@ -3,9 +3,13 @@ pub mod Charged
 pub mod Grown
 pub mod LastPlayed
 pub mod Legal
+pub mod ScoreTakenBack
 pub mod Scoresheet
 pub mod Sides
 pub mod Movers
+pub mod OwnMoves
+pub mod PairHands
+pub mod Received
 pub mod Steps
 pub mod SquareTests
 pub mod TakenBack

@@ -1,15 +1,20 @@
--- The score of a board is true at its start, and stays so by a half-move.
+-- The score of a board is true at its start, and stays so by a half-move, and where half-moves are taken back.
 use Rattle.std.proofs.Common.{◌≡◌, ℕ, ◌+◌, ◌*◌, ◌≤◌, ◌<◌, inl, inr, zero, suc, Bool, true, false, ◌&&◌, if◌then◌else◌, List, [], ◌∷◌, ◌++◌, length, Option, Some, None, Result, Ok, Err, refl, sym, ap, subst, ◌∙◌, length-append, arith}
 use Rattle.std.specs.Prelude.{ℤ, pos, ◌-ℤ◌, ◌↔◌, IsTrue, IfSome, slice_get, nat_lt}
 use Rattle.std.specs.List.{sum_by}
 use Rattle.std.proofs.lemmas.Bool.Decides.{nat_tests}
-use Rattle.std.proofs.lemmas.Option.{slice_get_within}
+use Rattle.std.proofs.lemmas.Option.{slice_get_cases, slice_get_within}
 use Rattle.chess_model.specs.declared.man.Colour.{Colour}
 use Rattle.chess_model.specs.declared.man.Colour.TheVariants.{White, Black}
 use Rattle.chess_model.specs.declared.moves.Move.{Move}
 use Rattle.chess_model.specs.declared.moves.MoveWord.{MoveWord}
 use Rattle.chess_model.specs.declared.moves.Rejection.{Rejection}
 use Rattle.chess_model.specs.declared.variant.Terms.{Terms}
+use Rattle.std.proofs.lemmas.List.{map-append}
+use Rattle.chess_model.specs.MoveList.{HalfMove}
+use Rattle.chess_model.specs.Holdings.{other_board}
+use Rattle.chess_model.specs.declared.variant.Variant.TheVariants.{Bughouse}
+use Rattle.chess_model.proofs.MoreMoves.{moves_of-same, moves_of-other}
 use Rattle.chess_model.specs.Allowed.{Allowed}
 use Rattle.chess_model.specs.Position.{Position}
 use Rattle.std.specs.Option.{option_map_or, option_zip}
@@ -21,24 +26,26 @@ use Rattle.fics_words.specs.declared.refusal.Refusal.{Refusal}
 use Rattle.game_board.specs.declared.played.Played.{Played}
 use Rattle.chess_model.specs.Holdings.{same_colour}
 use Rattle.game_board.specs.Acked.{acknowledged}
-use Rattle.game_board.specs.Board.{Board, new_board, to_move, mover_after, position_of, has_moved}
+use Rattle.game_board.specs.Board.{Board, half_move, new_board, to_move, mover_after, position_of, has_moved}
 use Rattle.game_board.specs.Charges.{charges_of, is_timed, remaining_of}
 use Rattle.game_board.specs.Causes.{in_words}
 use Rattle.game_board.specs.Play.{move_refused, move_answer, next_charge, with_half_move, play_after}
 use Rattle.chess_model.specs.WordAnswer.{IsWordAnswer, word_answer}
 use Rattle.chess_model.proofs.WordsDecide.{word_answer-holds}
+use Rattle.game_board.specs.Learn.{partner_position, learnt}
+use Rattle.game_board.proofs.Received.{boards_differ}
 use Rattle.game_board.specs.Scoresheet.{DontFall, IsCharged, IsTrueScore}
-use Rattle.game_board.proofs.Grown.{IsLegal-grown}
+use Rattle.game_board.proofs.Grown.{half_moves-append}
 use Rattle.game_board.proofs.LastPlayed.{slice_get-append_end, at_or_last, AreStamps-zip}
-use Rattle.game_board.proofs.Legal.{IsLegal-empty}
+use Rattle.game_board.proofs.Legal.{IsLegal-append, IsLegal-empty}
 
 -- each item of the list stands where it stood, in a list with one item more
-stays_at : {X : Type 0} (xs : List X) (x y : X) (k : ℕ) → slice_get xs k ≡ Some y → slice_get (xs ++ x ∷ []) k ≡ Some y
+pub stays_at : {X : Type 0} (xs : List X) (x y : X) (k : ℕ) → slice_get xs k ≡ Some y → slice_get (xs ++ x ∷ []) k ≡ Some y
 stays_at [] x y k e = absurd cc
 stays_at (z ∷ zs) x y zero e = e
 stays_at (z ∷ zs) x y (suc k) e = stays_at zs x y k e
 
-same_item : {X : Type 0} (x y : X) → Some x ≡ Some y → x ≡ y
+pub same_item : {X : Type 0} (x y : X) → Some x ≡ Some y → x ≡ y
 same_item x y e = cc
 
 -- a moment that isn't before the last one may follow
@@ -83,46 +90,46 @@ no : false ≡ true → ⊥
 no e = cc
 
 -- so the charge of the next half-move is a true one
-IsCharged-if : (timed moved : Bool) (terms : Terms) (moments : List ℕ) (k begin end : ℕ) (client : Option (ℕ × ℕ)) (m : Move) → is_timed terms ≡ timed → (IsTrue moved ↔ (2 ≤ k)) →
-    slice_get moments k ≡ Some begin → slice_get moments (k + 1) ≡ Some end → AreStamps client →
-    IsCharged terms moments k (record { what = m; charge = charge_if timed moved begin end client })
-IsCharged-if true true terms moments k begin end client m t h from to stamps = record {
+IsCharged-if : (timed moved : Bool) (terms : Terms) (since moments : List ℕ) (k begin end : ℕ) (client : Option (ℕ × ℕ)) (m : Move) → is_timed terms ≡ timed → (IsTrue moved ↔ (2 ≤ k)) →
+    slice_get since k ≡ Some begin → slice_get moments (k + 1) ≡ Some end → AreStamps client →
+    IsCharged terms since moments k (record { what = m; charge = charge_if timed moved begin end client })
+IsCharged-if true true terms since moments k begin end client m t h from to stamps = record {
   stands = (λ s. (t, h.0 refl), λ s. refl);
   begins = from;
   ends = to;
   stamped = stamps;
 }
-IsCharged-if true false terms moments k begin end client m t h from to stamps = record {
+IsCharged-if true false terms since moments k begin end client m t h from to stamps = record {
   stands = (λ s. absurd (no s), λ s. absurd (no (h.1 s.1)));
   begins = tt;
   ends = tt;
   stamped = tt;
 }
-IsCharged-if false true terms moments k begin end client m t h from to stamps = record {
+IsCharged-if false true terms since moments k begin end client m t h from to stamps = record {
   stands = (λ s. absurd (no s), λ s. absurd (no (sym t ∙ s.0)));
   begins = tt;
   ends = tt;
   stamped = tt;
 }
-IsCharged-if false false terms moments k begin end client m t h from to stamps = record {
+IsCharged-if false false terms since moments k begin end client m t h from to stamps = record {
   stands = (λ s. absurd (no s), λ s. absurd (no (sym t ∙ s.0)));
   begins = tt;
   ends = tt;
   stamped = tt;
 }
 
--- a charge stays a true one where a moment follows
+-- a charge stays a true one where its two moments stand where they stood
 if_some : {X : Type 0} (P Q : X → Type 0) (o : Option X) → ((x : X) → P x → Q x) → IfSome o P → IfSome o Q
 if_some P Q None step h = tt
 if_some P Q (Some x) step h = step x h
 
-IsCharged-append : (terms : Terms) (moments : List ℕ) (next k : ℕ) (p : Played) → IsCharged terms moments k p → IsCharged terms (moments ++ next ∷ []) k p
-IsCharged-append terms moments next k p c = record {
+pub IsCharged-changed : (terms : Terms) (since since' moments moments' : List ℕ) (k : ℕ) (p : Played) →
+    ((x : ℕ) → slice_get since k ≡ Some x → slice_get since' k ≡ Some x) → ((x : ℕ) → slice_get moments (k + 1) ≡ Some x → slice_get moments' (k + 1) ≡ Some x) →
+    IsCharged terms since moments k p → IsCharged terms since' moments' k p
+IsCharged-changed terms since since' moments moments' k p from to c = record {
   stands = c.stands;
-  begins = if_some (λ (x : Charge). slice_get moments k ≡ Some x.begin) (λ (x : Charge). slice_get (moments ++ next ∷ []) k ≡ Some x.begin) p.charge
-      (λ x h. stays_at moments next x.begin k h) c.begins;
-  ends = if_some (λ (x : Charge). slice_get moments (k + 1) ≡ Some x.end) (λ (x : Charge). slice_get (moments ++ next ∷ []) (k + 1) ≡ Some x.end) p.charge
-      (λ x h. stays_at moments next x.end (k + 1) h) c.ends;
+  begins = if_some (λ (x : Charge). slice_get since k ≡ Some x.begin) (λ (x : Charge). slice_get since' k ≡ Some x.begin) p.charge (λ x h. from x.begin h) c.begins;
+  ends = if_some (λ (x : Charge). slice_get moments (k + 1) ≡ Some x.end) (λ (x : Charge). slice_get moments' (k + 1) ≡ Some x.end) p.charge (λ x h. to x.end h) c.ends;
   stamped = c.stamped;
 }
 
@@ -131,21 +138,39 @@ chosen true x y h = refl
 chosen false x y h = absurd cc
 
 -- a clock shows what its ledger sums to
-clocks-sum : (b : Board) (c : Colour) → IsTrue (is_timed b.terms) →
+pub clocks-sum : (b : Board) (c : Colour) → IsTrue (is_timed b.terms) →
     remaining_of b c
     ≡ (pos (start_of b.terms.minutes b.terms.increment + b.terms.increment * 1000 * length (charges_of c b.list)) -ℤ pos (sum_by amount (charges_of c b.list)))
 clocks-sum b c timed = chosen (is_timed b.terms) _ _ timed
+
+-- items at the same place are in order
+same_order : (moments : List ℕ) (k i j : ℕ) → slice_get moments k ≡ Some i → slice_get moments k ≡ Some j → i ≤ j
+same_order moments k i j e f = let same : i ≡ j = same_item i j (sym e ∙ f) in omega (arith, same)
+
+-- the moment of the last half-move, or of the start: the player to move isn't thinking since before it
+pub last_moment : (b : Board) (s : IsTrueScore b) → (last : ℕ) × (slice_get s.moments (length b.list) ≡ Some last) × (last ≤ b.begin)
+last_moment b s = elim (slice_get_cases s.moments (length b.list)).1 [
+  | inl at ↦ (at.0, at.2, s.not_before (length b.list) at.0 b.begin at.2 s.thinking)
+  | inr past ↦ absurd (omega (arith, past.0, s.each))
+]
 
 pub IsTrueScore-new_board : (number : ℕ) (terms : Terms) (moment : ℕ) → IsTrueScore (new_board number terms moment)
 IsTrueScore-new_board number terms moment = record {
   moments = moment ∷ [];
   each = refl;
   dont_fall = λ k i j e f. absurd (let within : k + 1 < 1 = slice_get_within (moment ∷ []) (k + 1) j f in omega (arith, within));
+  since = moment ∷ [];
+  of_each = refl;
   thinking = refl;
+  not_before = same_order (moment ∷ []);
+  not_after = λ k i j e f. absurd (let within : k + 1 < 1 = slice_get_within (moment ∷ []) (k + 1) j f in omega (arith, within));
+  played = omega arith;
+  unless_taken_back = λ h. refl;
   kept = tt;
   charged = λ k p e. absurd (let within : k < 0 = slice_get_within [] k p e in omega (arith, within));
-  played = refl;
   legal = IsLegal-empty terms.variant;
+  own = refl;
+  alone = λ h. refl;
   clocks = λ c timed. clocks-sum (new_board number terms moment) c timed;
 }
 
@@ -155,26 +180,62 @@ unfolding position_of
 IsTrueScore-with_half_move b m moment stamp s order stamped allowed =
     let charge : Option Charge = next_charge b moment stamp in
     let entry : Played = record { what = m; charge = charge } in
+    let moments : List ℕ = s.moments ++ moment ∷ [] in
+    let since : List ℕ = s.since ++ moment ∷ [] in
     let many : length (b.list ++ entry ∷ []) ≡ length b.list + 1 = length-append b.list (entry ∷ []) in
-    let more : length (s.moments ++ moment ∷ []) ≡ length s.moments + 1 = length-append s.moments (moment ∷ []) in
-    let last : slice_get (s.moments ++ moment ∷ []) (length b.list + 1) ≡ Some moment =
-    ap (slice_get (s.moments ++ moment ∷ [])) (sym s.each) ∙ slice_get-append_end s.moments moment in
-    let new : IsCharged b.terms (s.moments ++ moment ∷ []) (length b.list) entry =
-    IsCharged-if (is_timed b.terms) (has_moved (to_move b) b.list) b.terms (s.moments ++ moment ∷ []) (length b.list) b.begin moment (option_zip b.kept stamp) m refl (has_moved-mover b.list)
-    (stays_at s.moments moment b.begin (length b.list) s.thinking) last (AreStamps-zip b.kept stamp s.kept stamped) in
+    let more : length moments ≡ length s.moments + 1 = length-append s.moments (moment ∷ []) in
+    let of_more : length since ≡ length s.since + 1 = length-append s.since (moment ∷ []) in
+    let last : slice_get moments (length b.list + 1) ≡ Some moment =
+    ap (slice_get moments) (sym s.each) ∙ slice_get-append_end s.moments moment in
+    let now : slice_get since (length b.list + 1) ≡ Some moment =
+    ap (slice_get since) (sym s.of_each) ∙ slice_get-append_end s.since moment in
+    let new : IsCharged b.terms since moments (length b.list) entry =
+    IsCharged-if (is_timed b.terms) (has_moved (to_move b) b.list) b.terms since moments (length b.list) b.begin moment (option_zip b.kept stamp) m refl (has_moved-mover b.list)
+    (stays_at s.since moment b.begin (length b.list) s.thinking) last (AreStamps-zip b.kept stamp s.kept stamped) in
     record {
-      moments = s.moments ++ moment ∷ [];
+      moments = moments;
       each = omega (arith, many, more, s.each);
-      dont_fall = DontFall-append s.moments b.begin moment (length b.list) s.each s.thinking order s.dont_fall;
-      thinking = ap (slice_get (s.moments ++ moment ∷ [])) many ∙ last;
-      kept = tt;
-      charged = λ k p e. elim (at_or_last b.list entry p k e) [
-        | inl old ↦ IsCharged-append b.terms s.moments moment k p (s.charged k p old)
-        | inr here ↦ subst (λ (q : Played). IsCharged b.terms (s.moments ++ moment ∷ []) k q) here.1
-            (subst (λ (n : ℕ). IsCharged b.terms (s.moments ++ moment ∷ []) n entry) (sym here.0) new)
+      dont_fall = DontFall-append s.moments (last_moment b s).0 moment (length b.list) s.each (last_moment b s).1 (omega (arith, (last_moment b s).2, order)) s.dont_fall;
+      since = since;
+      of_each = omega (arith, many, of_more, s.of_each);
+      thinking = ap (slice_get since) many ∙ now;
+      not_before = λ k i j e f. elim (at_or_last s.moments moment i k e) [
+        | inl old ↦ elim (at_or_last s.since moment j k f) [
+          | inl before ↦ s.not_before k i j old before
+          | inr past ↦ absurd (let within : k < length s.moments = slice_get_within s.moments k i old in omega (arith, within, past.0, s.each, s.of_each))
+        ]
+        | inr here ↦ elim (at_or_last s.since moment j k f) [
+          | inl before ↦ absurd (let within : k < length s.since = slice_get_within s.since k j before in omega (arith, within, here.0, s.each, s.of_each))
+          | inr past ↦ omega (arith, here.1, past.1)
+        ]
+      ];
+      not_after = λ k i j e f. elim (at_or_last s.moments moment j (k + 1) f) [
+        | inl old ↦ elim (at_or_last s.since moment i k e) [
+          | inl before ↦ s.not_after k i j before old
+          | inr past ↦ absurd (let within : k + 1 < length s.moments = slice_get_within s.moments (k + 1) j old in omega (arith, within, past.0, s.each, s.of_each))
+        ]
+        | inr here ↦ elim (at_or_last s.since moment i k e) [
+          | inl before ↦
+              let place : k ≡ length b.list = omega (arith, here.0, s.each) in
+              let is : b.begin ≡ i = same_item b.begin i (sym s.thinking ∙ (ap (slice_get s.since) (sym place) ∙ before)) in
+              omega (arith, is, here.1, order)
+          | inr past ↦ omega (arith, here.1, past.1)
+        ]
       ];
       played = omega (arith, many, s.played);
-      legal = IsLegal-grown b.terms.variant b.number b.list entry s.legal allowed;
+      unless_taken_back = λ h.
+          let none : b.played ≡ length b.list = omega (arith, h, many) in
+          ap (λ (l : List ℕ). l ++ moment ∷ []) (s.unless_taken_back none);
+      kept = tt;
+      charged = λ k p e. elim (at_or_last b.list entry p k e) [
+        | inl old ↦ IsCharged-changed b.terms s.since since s.moments moments k p
+            (λ x h. stays_at s.since moment x k h) (λ x h. stays_at s.moments moment x (k + 1) h) (s.charged k p old)
+        | inr here ↦ subst (λ (q : Played). IsCharged b.terms since moments k q) here.1
+            (subst (λ (n : ℕ). IsCharged b.terms since moments n entry) (sym here.0) new)
+      ];
+      legal = IsLegal-append b.terms.variant b.all (half_move b.number entry) s.legal allowed;
+      own = moves_of-same b.number b.all m ∙ ap (λ (ms : List Move). ms ++ m ∷ []) s.own ∙ sym (map-append (λ (p : Played). p.what) b.list (entry ∷ []));
+      alone = λ h. ap (λ (T : List HalfMove). T ++ half_move b.number entry ∷ []) (s.alone h) ∙ sym (half_moves-append b.number b.list entry);
       clocks = λ c timed. clocks-sum (with_half_move b m moment stamp) c timed;
     }
 
@@ -205,11 +266,18 @@ IsTrueScore-kept b stamp s stamped = record {
   moments = s.moments;
   each = s.each;
   dont_fall = s.dont_fall;
+  since = s.since;
+  of_each = s.of_each;
   thinking = s.thinking;
+  not_before = s.not_before;
+  not_after = s.not_after;
+  played = s.played;
+  unless_taken_back = s.unless_taken_back;
   kept = stamped;
   charged = s.charged;
-  played = s.played;
   legal = s.legal;
+  own = s.own;
+  alone = s.alone;
   clocks = s.clocks;
 }
 
@@ -220,3 +288,24 @@ true_either false b new s t = s
 pub IsTrueScore-acknowledged : (b : Board) (c : Colour) (stamp : ℕ) → IsTrueScore b → IsStamp stamp → IsTrueScore (acknowledged b c stamp)
 IsTrueScore-acknowledged b c stamp s stamped =
     true_either (same_colour c (to_move b)) b (record b { kept = Some stamp }) s (IsTrueScore-kept b stamp s stamped)
+
+-- a half-move on the other board of a pair, where it was allowed there, changes nothing but what the board knows of it
+pub IsTrueScore-learnt : (b : Board) (m : Move) → b.terms.variant ≡ Bughouse → IsTrueScore b → Allowed (partner_position b) m → IsTrueScore (learnt b m)
+IsTrueScore-learnt b m pair s allowed = record {
+  moments = s.moments;
+  each = s.each;
+  dont_fall = s.dont_fall;
+  since = s.since;
+  of_each = s.of_each;
+  thinking = s.thinking;
+  not_before = s.not_before;
+  not_after = s.not_after;
+  played = s.played;
+  unless_taken_back = s.unless_taken_back;
+  kept = s.kept;
+  charged = s.charged;
+  legal = IsLegal-append b.terms.variant b.all (record { board = other_board b.number; what = m }) s.legal allowed;
+  own = moves_of-other (other_board b.number) b.number b.all m (boards_differ b.number) ∙ s.own;
+  alone = λ h. absurd (h pair);
+  clocks = λ c timed. clocks-sum (learnt b m) c timed;
+}

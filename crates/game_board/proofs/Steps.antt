@@ -6,14 +6,16 @@ use Rattle.std.proofs.Math.Seq.{take-append_seam}
 use Rattle.std.proofs.lemmas.List.{take-append-le, take_all}
 use Rattle.std.proofs.lemmas.Option.{slice_get_cases, slice_get_past, slice_get_within}
 use Rattle.chess_model.specs.declared.variant.Variant.{Variant}
+use Rattle.chess_model.specs.MoveList.{HalfMove}
 use Rattle.chess_model.specs.Position.{Position, position_after, Stands}
 use Rattle.variant_rules.specs.Undos.{IsUndoOf}
 use Rattle.variant_rules.specs.Showing.{shown_of}
 use Rattle.game_board.specs.declared.played.Played.{Played}
 use Rattle.game_board.specs.declared.played.Step.{Step}
-use Rattle.game_board.specs.Board.{half_moves}
-use Rattle.game_board.specs.BoardFace.{last_shown}
+use Rattle.game_board.specs.Board.{half_move, half_moves}
+use Rattle.game_board.specs.BoardFace.{before_own, last_shown}
 use Rattle.game_board.specs.Steps.{position_at, shown_at, IsStep, AreSteps}
+use Rattle.game_board.proofs.OwnMoves.{before_own-own, before_own-all}
 use Rattle.game_board.proofs.LastPlayed.{slice_get-append_end, at_or_last}
 
 -- a position that stands for a list of a variant is the position after it
@@ -87,19 +89,42 @@ AreSteps-empty v number = record {
   kept = λ k s e. absurd (let within : k < 0 = slice_get_within [] k s e in omega (arith, within));
 }
 
+-- what is shown of the last half-move where the board is the only one
+pub last_shown-alone : (v : Variant) (number : ℕ) (list : List Played) → last_shown v number (half_moves number list) list ≡ shown_at v number list (length list - 1)
+last_shown-alone v number list =
+    ap (λ (T : List HalfMove). option_map (λ p. shown_of (position_after v T number) p.what) (slice_get list (length list - 1))) (before_own-all number list)
+
 -- what is kept of the last half-move has what is shown of it
 pub last_shown-steps : (v : Variant) (number : ℕ) (list : List Played) (steps : List Step) → AreSteps v number list steps →
-    option_map (λ s. s.shown) (slice_get steps (length steps - 1)) ≡ last_shown v number list
+    option_map (λ s. s.shown) (slice_get steps (length steps - 1)) ≡ last_shown v number (half_moves number list) list
 last_shown-steps v number list steps all = elim (slice_get_cases steps (length steps - 1)).1 [
   | inl h ↦
       let s = h.0 in
       ap (option_map (λ (t : Step). t.shown)) h.2
       ∙ sym (all.kept (length steps - 1) s h.2).shown
       ∙ ap (λ n. shown_at v number list (n - 1)) all.each
+      ∙ sym (last_shown-alone v number list)
   | inr h ↦
       ap (option_map (λ (t : Step). t.shown)) h.1
       ∙ sym (ap (option_map (λ (q : Played). shown_of (position_at v number list (length list - 1)) q.what)) (slice_get_past list (length list - 1) (omega (arith, h.0, all.each))))
+      ∙ sym (last_shown-alone v number list)
 ]
+
+last_at : {X : Type 0} (xs : List X) (x : X) → slice_get (xs ++ x ∷ []) (length (xs ++ x ∷ []) - 1) ≡ Some x
+last_at xs x =
+    let place : length (xs ++ x ∷ []) - 1 ≡ length xs = omega (arith, length-append xs (x ∷ [])) in
+    ap (slice_get (xs ++ x ∷ [])) place ∙ slice_get-append_end xs x
+
+-- what is kept and what is shown of a half-move that has just been made
+pub shown-append : (v : Variant) (number : ℕ) (T : List HalfMove) (list : List Played) (steps : List Step) (p : Played) (step : Step) →
+    step.shown ≡ shown_of (position_after v T number) p.what →
+    option_map (λ s. s.shown) (slice_get (steps ++ step ∷ []) (length (steps ++ step ∷ []) - 1))
+    ≡ last_shown v number (T ++ half_move number p ∷ []) (list ++ p ∷ [])
+shown-append v number T list steps p step shown =
+    ap (option_map (λ (t : Step). t.shown)) (last_at steps step)
+    ∙ ap Some shown
+    ∙ sym (ap (option_map (λ (q : Played). shown_of (position_after v (before_own number (T ++ half_move number p ∷ [])) number) q.what)) (last_at list p)
+    ∙ ap (λ (U : List HalfMove). Some (shown_of (position_after v U number) p.what)) (before_own-own number T p.what))
 
 -- what is kept of the half-move before the position after the first k takes that position back
 pub undo_at : (v : Variant) (number : ℕ) (list : List Played) (steps : List Step) (k : ℕ) (step : Step) (past : Position) → AreSteps v number list steps →

@@ -1,7 +1,7 @@
 -- What a board keeps is kept without the last half-move.
 use Rattle.std.proofs.Common.{◌≡◌, ℕ, ◌+◌, ◌-◌, ◌<◌, ◌≤◌, zero, suc, List, [], ◌∷◌, ◌++◌, length, length-append, take, map, refl, sym, ap, subst, ◌∙◌, append_assoc, arith}
 use Rattle.std.proofs.Math.Seq.{take-append_seam}
-use Rattle.std.proofs.lemmas.List.{append-nil, map-append, length-take}
+use Rattle.std.proofs.lemmas.List.{append-nil, map-append, length-take, length-map}
 use Rattle.std.proofs.lemmas.Option.{slice_get_within}
 use Rattle.chess_model.specs.declared.man.Colour.{Colour}
 use Rattle.chess_model.specs.declared.man.Colour.TheVariants.{White, Black}
@@ -17,9 +17,10 @@ use Rattle.chess_model.proofs.StandsAfter.{Stands-next}
 use Rattle.clock_ledger.specs.declared.charges.Charge.{Charge}
 use Rattle.clock_ledger.specs.Clock.{Ledger}
 use Rattle.variant_rules.specs.Undos.{IsUndoOf}
+use Rattle.game_board.specs.declared.played.Made.{Made}
 use Rattle.game_board.specs.declared.played.Played.{Played}
 use Rattle.game_board.specs.declared.played.Step.{Step}
-use Rattle.game_board.specs.Board.{Board, half_move, half_moves, mover_after}
+use Rattle.game_board.specs.Board.{Board, half_move, half_moves, made, mover_after}
 use Rattle.game_board.specs.Charges.{charge_to, charges_of, clock_of}
 use Rattle.game_board.specs.Steps.{position_at, IsStep, AreSteps}
 use Rattle.game_board.specs.TakeBack.{without_end, without_last}
@@ -124,13 +125,39 @@ take_take (suc m) zero xs h = absurd (omega arith)
 take_take (suc m) (suc n) [] h = refl
 take_take (suc m) (suc n) (x ∷ xs) h = ap (λ l. x ∷ l) (take_take m n xs (omega arith))
 
+take_map : {X Y : Type 0} (f : X → Y) (n : ℕ) (xs : List X) → take n (map f xs) ≡ map f (take n xs)
+take_map f zero xs = refl
+take_map f (suc n) [] = refl
+take_map f (suc n) (x ∷ xs) = ap (λ l. f x ∷ l) (take_map f n xs)
+
+-- the half-moves without the last
+pub made_shorter : (all : List Made) → made (take (length all - 1) all) ≡ take (length (made all) - 1) (made all)
+made_shorter all =
+    let f : Made → HalfMove = λ h. record { board = h.board; what = h.what } in
+    sym (take_map f (length all - 1) all) ∙ ap (λ n. take (n - 1) (made all)) (sym (length-map all f))
+
+pub half_moves_shorter : (number n : ℕ) (list : List Played) → take (length (half_moves number list) - n) (half_moves number list) ≡ half_moves number (take (length list - n) list)
+half_moves_shorter number n list =
+    ap (λ k. take (k - n) (half_moves number list)) (length-map list (half_move number)) ∙ take_map (half_move number) (length list - n) list
+
+-- where the board is the only one, what is left are its own
+pub made_left : (number : ℕ) (all : List Made) (rest : List Played) (p : Played) → made all ≡ half_moves number (rest ++ p ∷ []) →
+    made (take (length all - 1) all) ≡ half_moves number rest
+made_left number all rest p alone =
+    let size : length (rest ++ p ∷ []) - 1 ≡ length rest = omega (arith, length-append rest (p ∷ [])) in
+    made_shorter all
+    ∙ ap (λ (T : List HalfMove). take (length T - 1) T) alone
+    ∙ half_moves_shorter number 1 (rest ++ p ∷ [])
+    ∙ ap (half_moves number) (ap (λ n. take n (rest ++ p ∷ [])) size ∙ take-append_seam rest (p ∷ []))
+
+take_shorter : {X : Type 0} (xs : List X) (n : ℕ) → take (length (take (length xs - n) xs) - 1) (take (length xs - n) xs) ≡ take (length xs - (n + 1)) xs
+take_shorter xs n =
+    let size : length (take (length xs - n) xs) - 1 ≡ length xs - (n + 1) = omega (arith, length-take (length xs - n) xs) in
+    ap (λ k. take k (take (length xs - n) xs)) size ∙ take_take (length xs - (n + 1)) (length xs - n) xs (omega arith)
+
 -- one half-move after another
-pub without_last-one : (b : Board) (n : ℕ) → n < length b.list → without_last (without_last b n) 1 ≡ without_last b (n + 1)
-without_last-one b n h =
-    let size : length (take (length b.list - n) b.list) - 1 ≡ length b.list - (n + 1) = omega (arith, length-take (length b.list - n) b.list) in
-    let short : take (length (take (length b.list - n) b.list) - 1) (take (length b.list - n) b.list) ≡ take (length b.list - (n + 1)) b.list =
-    ap (λ k. take k (take (length b.list - n) b.list)) size ∙ take_take (length b.list - (n + 1)) (length b.list - n) b.list (omega arith) in
-    ap (λ (l : List Played). record b { list = l }) short
+pub without_last-one : (b : Board) (n : ℕ) → without_last (without_last b n) 1 ≡ without_last b (n + 1)
+without_last-one b n = λ i. record b { list = take_shorter b.list n i; all = take_shorter b.all n i }
 
 pub some_left : (b : Board) (n : ℕ) → n < length b.list → 0 < length (without_last b n).list
 some_left b n h = omega (arith, length-take (length b.list - n) b.list)

@@ -2,10 +2,10 @@
 use Rattle.std.specs.Prelude.{ℕ, Bool, nat_lt, List, [], length, map, Option, None}
 use Rattle.chess_model.specs.declared.man.Colour.{Colour}
 use Rattle.chess_model.specs.declared.man.Colour.TheVariants.{White, Black}
-use Rattle.chess_model.specs.declared.man.Man.{Man}
 use Rattle.chess_model.specs.declared.variant.Terms.{Terms}
 use Rattle.chess_model.specs.MoveList.{HalfMove, side_from}
 use Rattle.chess_model.specs.Position.{Position, position_after}
+use Rattle.game_board.specs.declared.played.Made.{Made}
 use Rattle.game_board.specs.declared.played.Played.{Played}
 
 -- a game on one board
@@ -21,13 +21,13 @@ pub record Board : Type 0 where
   pub kept : Option ℕ
   -- how many half-moves were played on the board
   pub played : ℕ
-  -- the men that came from the partner's board, in their order
-  pub came : List Man
+  -- the half-moves of all boards of the game in their order, those of the partner's board as this one learnt of them
+  pub all : List HalfMove
 
 -- the board at its start
 abbrev pub new_board : ℕ → Terms → ℕ → Board
 new_board number terms moment =
-    record { number = number; terms = terms; list = []; begin = moment; kept = None; played = 0; came = [] }
+    record { number = number; terms = terms; list = []; begin = moment; kept = None; played = 0; all = [] }
 
 -- a half-move on the board of that number
 abbrev pub half_move : ℕ → Played → HalfMove
@@ -47,7 +47,11 @@ to_move b = mover_after b.list
 
 -- the position on the board
 unfoldable pub position_of : Board → Position
-position_of b = position_after b.terms.variant (half_moves b.number b.list) b.number
+position_of b = position_after b.terms.variant b.all b.number
+
+-- half-moves as they are kept, and what they are to the rules
+abbrev pub made : List Made → List HalfMove
+made all = map (λ h. record { board = h.board; what = h.what }) all
 
 -- how many half-moves stand before the first one of a colour
 abbrev pub half_moves_before : Colour → ℕ

@@ -7,7 +7,7 @@ use Rattle.chess_model.specs.declared.why.Why.TheVariants.{Fifty, Threefold}
 use Rattle.chess_model.specs.Claims.{is_fifty, is_threefold}
 use Rattle.fics_words.specs.declared.refusal.Refusal.{Refusal}
 use Rattle.fics_words.specs.declared.refusal.Refusal.TheVariants.{NothingToClaim}
-use Rattle.game_board.specs.Board.{Board, half_moves, position_of}
+use Rattle.game_board.specs.Board.{Board, position_of}
 
 -- whether draws are claimed in a variant
 abbrev pub has_claims : Variant → Bool
@@ -17,7 +17,7 @@ has_claims Bughouse = false
 
 -- whether the position on the board stands at least for the third time
 abbrev pub is_third_time : Board → Bool
-is_third_time b = is_threefold b.terms.variant (half_moves b.number b.list) b.number
+is_third_time b = is_threefold b.terms.variant b.all b.number
 
 -- why the game is a draw by a claim, the fifty moves first; or the refusal
 unfoldable pub claim_answer : Board → Result Why Refusal

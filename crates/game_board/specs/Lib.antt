@@ -7,6 +7,7 @@ pub mod Claim
 pub mod Face
 pub mod Flag
 pub mod Holds
+pub mod Learn
 pub mod Play
 pub mod Put
 pub mod Scoresheet

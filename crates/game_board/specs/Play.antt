@@ -42,6 +42,7 @@ next_charge b moment stamp =
 abbrev pub with_half_move : Board → Move → ℕ → Option ℕ → Board
 with_half_move b m moment stamp = record b {
   list = b.list ++ record { what = m; charge = next_charge b moment stamp } ∷ [];
+  all = b.all ++ record { board = b.number; what = m } ∷ [];
   begin = moment;
   kept = None;
   played = b.played + 1;

@@ -5,7 +5,7 @@ use Rattle.chess_model.specs.Result.{is_end}
 use Rattle.chess_model.specs.Tests.{is_allowed}
 use Rattle.variant_rules.specs.States.{state_in}
 use Rattle.game_board.specs.declared.played.Played.{Played}
-use Rattle.game_board.specs.Board.{Board, to_move, position_of, has_moved}
+use Rattle.game_board.specs.Board.{Board, half_move, to_move, position_of, has_moved}
 use Rattle.game_board.specs.Charges.{is_timed}
 use Rattle.game_board.specs.Play.{most_played}
 
@@ -25,6 +25,7 @@ takes_played b p =
 abbrev pub with_played : Board → Played → Board
 with_played b p = record b {
   list = b.list ++ p ∷ [];
+  all = b.all ++ half_move b.number p ∷ [];
   kept = None;
   played = b.played + 1;
 }

@@ -12,9 +12,12 @@ has_too_few b n = nat_eq n 0 || nat_lt (length b.list) n
 abbrev pub without_end : {X : Type 0} → List X → List X → List X
 without_end end list = take (length list - length end) list
 
--- the board without its last n half-moves and their charges
+-- the board without its last n half-moves and their charges, where it is the only one of its game
 abbrev pub without_last : Board → ℕ → Board
-without_last b n = record b { list = take (length b.list - n) b.list }
+without_last b n = record b {
+  list = take (length b.list - n) b.list;
+  all = take (length b.all - n) b.all;
+}
 
 -- the board after the last n half-moves were taken back at that moment: who is to move is thinking since then, and
 -- hasn't acknowledged it; the half-moves that were taken back still count as played

@@ -1,5 +1,5 @@
 //! The draws that a player may claim.
-ghost use Rattle.std.specs.Prelude.{◌≡◌, ℕ, ◌<◌, ◌≤◌, IsTrue, IfSome, IfNone, length};
+ghost use Rattle.std.specs.Prelude.{◌≡◌, true, ℕ, ◌<◌, ◌≤◌, IsTrue, IfSome, IfNone, length};
 ghost use Rattle.chess_model.specs.Claims.{same_position};
 ghost use Rattle.game_board.specs.Board.{position_of};
 ghost use Rattle.game_board.specs.Claim.{has_claims, is_third_time, claim_answer};
@@ -45,6 +45,7 @@ impl GameBoard {
 
     /// Whether the position stands at least for the third time: whether two earlier ones are the same.
     fn is_third_time(&self) -> bool
+        requires { has_claims self.now.terms.variant ≡ true }
         ensures { result ≡ is_third_time self.now }
     {
         let mut past = self.position().duplicate();
@@ -57,6 +58,7 @@ impl GameBoard {
     /// Goes back from the position after the first `from` half-moves to the last one before it that is the same as the
     /// present position, and gives how many half-moves led to that.
     fn last_same(&self, past: &mut Position, from: usize) -> Option<usize>
+        requires claims { has_claims self.now.terms.variant ≡ true }
         requires within { from ≤ length self.now.list }
         requires stands { past.old ≡ position_at self.now.terms.variant self.now.number self.now.list from }
         ensures found { IfSome result (λ k. (k < from) × IsTrue (same_position (position_of self.now) past.new)

@@ -9,10 +9,10 @@ ghost use Rattle.variant_rules.specs.States.{state_in};
 
 use crate::board_face::face;
 use crate::causes::answer_of;
-use crate::played::{Played, Step};
+use crate::played::{Made, Played, Step};
 use chess_model::{Colour, Face, Kind, Man, Move, MoveWord, Shown, State, Terms, Variant};
 use clock_ledger::{Charge, ClockLedger};
-use collections::{Listed, Roomy};
+use collections::Roomy;
 use fics_words::Refusal;
 use memory::NoMemory;
 use std::alloc::Global;
@@ -38,12 +38,12 @@ pub struct GameBoard {
     /// The stamp with which the client of the player to move acknowledged the board, if it did so since `begin`.
     pub(crate) kept: Option<u32>,
     pub(crate) played: u16,
-    /// The men that came from the partner's board. No call adds to them yet.
-    came: Listed<Man>,
+    /// The half-moves of this board and of the partner's, in their order.
+    pub(crate) all: Roomy<Made, 2400>,
 }
 
 impl Model for GameBoard {
-    ghost use Rattle.game_board.specs.Board.{Board};
+    ghost use Rattle.game_board.specs.Board.{Board, made};
 
     ghost Value = { Board };
 
@@ -56,7 +56,7 @@ impl Model for GameBoard {
       begin = g.begin;
       kept = g.kept;
       played = g.played;
-      came = g.came;
+      all = made g.all;
     } };
 
     ghost invariant = { HoldsBoard };
@@ -64,7 +64,7 @@ impl Model for GameBoard {
 
 impl GameBoard {
     ghost use Rattle.game_board.specs.Acked.{acknowledged};
-    ghost use Rattle.game_board.specs.Board.{new_board, to_move, position_of, has_moved, half_moves};
+    ghost use Rattle.game_board.specs.Board.{new_board, to_move, position_of, has_moved};
     ghost use Rattle.game_board.specs.BoardFace.{board_face, last_played, last_shown, last_taken};
     ghost use Rattle.game_board.specs.Charges.{clock_of, is_timed};
     ghost use Rattle.game_board.specs.Play.{captured, move_answer, next_charge, with_half_move, play_reply, play_after};
@@ -94,7 +94,7 @@ impl GameBoard {
             begin: moment,
             kept: None,
             played: 0,
-            came: Listed::new(alloc),
+            all: Roomy::new(alloc)?,
         })
     }
 
@@ -117,7 +117,7 @@ impl GameBoard {
     /// The half-moves from the start, with their charges. Each was allowed after those before it.
     pub fn list(&self) -> &[Played]
         ensures list { result.now ≡ self.now.list }
-        ensures legal { IsLegal self.now.terms.variant (half_moves self.now.number self.now.list) }
+        ensures legal { IsLegal self.now.terms.variant self.now.all }
     {
         self.list.as_slice()
     }
@@ -179,7 +179,7 @@ impl GameBoard {
 
     /// What is shown of the last half-move, if there is one.
     fn last_shown(&self) -> Option<Shown>
-        ensures { result ≡ last_shown self.now.terms.variant self.now.number self.now.list }
+        ensures { result ≡ last_shown self.now.terms.variant self.now.number self.now.all self.now.list }
     {
         let last = self.steps.as_slice().last()?;
         Some(last.shown)

@@ -6,17 +6,20 @@ ghost use Rattle.chess_model.specs.declared.moves.Move.{Move};
 ghost use Rattle.chess_model.specs.declared.moves.MoveWord.{MoveWord};
 ghost use Rattle.chess_model.specs.declared.variant.Terms.{Terms};
 ghost use Rattle.chess_model.specs.Placement.{opposite};
+ghost use Rattle.chess_model.specs.Allowed.{Allowed};
 ghost use Rattle.chess_model.specs.Answer.{IsAnswer};
 ghost use Rattle.clock_ledger.specs.Span.{IsStamp};
 ghost use Rattle.game_board.specs.Acked.{acknowledged};
 ghost use Rattle.game_board.specs.Board.{Board, new_board, to_move, mover_after, position_of};
 ghost use Rattle.game_board.specs.Charges.{charges_of};
 ghost use Rattle.game_board.specs.Play.{move_answer, next_charge, play_after, with_half_move};
+ghost use Rattle.game_board.specs.Learn.{partner_position, learnt};
 ghost use Rattle.game_board.specs.Scoresheet.{IsTrueScore};
+ghost use Rattle.game_board.specs.TakeBack.{take_back_after};
 
 use crate::game_board::GameBoard;
 use crate::played::Played;
-use chess_model::{Colour, MoveWord};
+use chess_model::{Colour, MoveWord, Variant};
 use fics_words::Refusal;
 
 /// The charges of the colours follow the list of half-moves: there are none at the start, and a half-move adds its
@@ -56,13 +59,18 @@ pub fn the_last_acknowledgement_counts()
         → (with_half_move b m moment stamp).kept ≡ None }
 {}
 
-/// The list of a board is a true score of its game from the start on, whatever words are played, at moments that don't
-/// fall, and whatever clients acknowledge it: its half-moves are legal, its charges and clocks follow from the moments at
-/// which they were made, and what it keeps of the clients' own times are stamps.
+/// The list of a board is a true score of its game from the start on, whatever words are played and whatever half-moves
+/// are taken back, at moments that don't fall, and whatever clients acknowledge it: its half-moves are legal, its charges
+/// and clocks follow from the moments at which they were made and those since which their players were thinking, and what
+/// it keeps of the clients' own times are stamps.
 pub fn scores_are_true()
     ensures start { (number : ℕ) (terms : Terms) (moment : ℕ) → IsTrueScore (new_board number terms moment) }
     ensures play { (b : Board) (c : Colour) (word : MoveWord) (moment : ℕ) (stamp : Option ℕ) → IsTrueScore b
         → b.begin ≤ moment → IfSome stamp IsStamp → IsTrueScore (play_after b moment stamp (move_answer b c word)) }
     ensures acked { (b : Board) (c : Colour) (stamp : ℕ) → IsTrueScore b → IsStamp stamp
         → IsTrueScore (acknowledged b c stamp) }
+    ensures take_back { (b : Board) (n moment : ℕ) → b.terms.variant ≢ Variant.Bughouse → IsTrueScore b
+        → b.begin ≤ moment → IsTrueScore (take_back_after b n moment) }
+    ensures learn { (b : Board) (m : Move) → b.terms.variant ≡ Variant.Bughouse → IsTrueScore b
+        → Allowed (partner_position b) m → IsTrueScore (learnt b m) }
 {}

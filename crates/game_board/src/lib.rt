@@ -12,6 +12,7 @@ mod claims;
 mod clocks;
 mod game_board;
 mod laws;
+mod learn;
 mod played;
 mod put;
 mod sameness;

@@ -10,6 +10,14 @@ pub struct Played {
     pub charge: Option<Charge>,
 }
 
+/// A half-move on one of the boards of a game.
+#[derive(Clone, Copy, Debug)]
+pub(crate) struct Made {
+    /// The number of the board, 1 or 2.
+    pub(crate) board: u8,
+    pub(crate) what: Move,
+}
+
 /// What a board keeps of a half-move beside it.
 #[derive(Clone, Copy, Debug)]
 pub(crate) struct Step {

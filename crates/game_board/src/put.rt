@@ -8,7 +8,7 @@ ghost use Rattle.game_board.specs.Put.{is_next_charged, takes_played, with_playe
 
 use crate::clocks::charge_clocks;
 use crate::game_board::{GameBoard, MOST_PLAYED};
-use crate::played::{Played, Step};
+use crate::played::{Made, Played, Step};
 use chess_model::Man;
 use memory::NoMemory;
 
@@ -63,6 +63,10 @@ impl GameBoard {
         charge_clocks(&mut self.white, &mut self.black, mover, half.charge);
         self.steps.push(Step { undo, shown });
         self.list.push(*half);
+        self.all.push(Made {
+            board: self.number,
+            what: half.what,
+        });
         self.kept = None;
         self.played += 1;
         undo.captured()

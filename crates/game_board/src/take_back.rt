@@ -31,7 +31,8 @@ impl GameBoard {
 
     /// Takes the last half-move back, with its charge.
     fn take_last_back(&mut self)
-        requires { 0 < length self.old.list }
+        requires variant { self.old.terms.variant ≢ Variant.Bughouse }
+        requires some { 0 < length self.old.list }
         ensures { self.new ≡ without_last self.old 1 }
     {
         let mover = self.to_move().opposite();
@@ -41,6 +42,7 @@ impl GameBoard {
         let Some(step) = self.steps.pop() else {
             return;
         };
+        let _made = self.all.pop();
         self.position.unmake(step.undo);
         take_charge_off(&mut self.white, &mut self.black, mover, half.charge);
     }

@@ -11,7 +11,7 @@ unfolding board_face
 returns c =
     let b = c.args.self.now in
     let many : c.len.result ≡ length b.list = c.len.ensures.value ∙ ap (λ (v : Board). length v.list) c.self.view_is in
-    let last : option_copied c.as_ref.result ≡ last_shown b.terms.variant b.number b.list =
+    let last : option_copied c.as_ref.result ≡ last_shown b.terms.variant b.number b.all b.list =
     c.as_ref.ensures.value ∙ c.last_shown-last.ensures in
     c.face.ensures.face
     ∙ ap (λ (p : Position). face_of p c.len.result (option_copied c.as_ref.result)) c.position.ensures

@@ -1,16 +1,25 @@
-use Rattle.std.proofs.Common.{◌≡◌, ◌-◌, ◌<◌, inl, inr, false, List, length, Some, get_or, sym, ap, subst, ◌∙◌, arith}
+use Rattle.std.proofs.Common.{◌≡◌, ◌≢◌, ◌-◌, ◌<◌, inl, inr, true, false, List, length, Some, get_or, sym, ap, subst, ◌∙◌, arith}
 use Rattle.std.specs.Prelude.{slice_get}
 use Rattle.std.proofs.lemmas.Bool.{cases_eq}
 use Rattle.std.proofs.lemmas.Option.{slice_get-get_or}
+use Rattle.chess_model.specs.declared.variant.Variant.{Variant}
+use Rattle.chess_model.specs.declared.variant.Variant.TheVariants.{Chess, Crazyhouse, Bughouse}
 use Rattle.chess_model.specs.Position.{Position}
 use Rattle.chess_model.specs.Claims.{same_position}
 use Rattle.variant_rules.specs.Undos.{IsUndoOf}
 use Rattle.game_board.specs.declared.played.Step.{Step}
 use Rattle.game_board.specs.Board.{Board, position_of}
+use Rattle.game_board.specs.Claim.{has_claims}
 use Rattle.game_board.specs.Steps.{position_at, AreSteps}
 use Rattle.game_board.proofs.SquareTests.{unlike}
 use Rattle.game_board.proofs.Steps.{undo_at}
 use Rattle.game_board.proofs.game_board.GameBoard.last_same.Goals as goal
+
+-- claims are of games of one board
+not_pair : (v : Variant) → has_claims v ≡ true → v ≡ Bughouse → ⊥
+not_pair Chess h e = cc
+not_pair Crazyhouse h e = cc
+not_pair Bughouse h e = cc
 
 pub unmake-requires : goal.unmake-requires
 unmake-requires c =
@@ -19,7 +28,7 @@ unmake-requires c =
     let k = c.loop-k.k in
     let step : Step = get_or c.as_slice.result.now (k - 1) c.index-as_slice-k.result in
     let all : AreSteps b.terms.variant b.number b.list i.steps =
-    subst (λ (x : Board). AreSteps x.terms.variant x.number x.list i.steps) c.self.view_is c.self.invariant.steps in
+    subst (λ (x : Board). x.terms.variant ≢ Bughouse → AreSteps x.terms.variant x.number x.list i.steps) c.self.view_is c.self.invariant.steps (not_pair b.terms.variant c.requires.claims) in
     let within : k - 1 < length c.as_slice.result.now =
     omega (arith, ap length c.as_slice.ensures.items, all.each, c.requires.within, c.loop-k.invariant.within, c.loop-k-test.true) in
     let kept : slice_get i.steps (k - 1) ≡ Some step =
@@ -35,7 +44,7 @@ returns-then-is_same_position-clause-found c =
     let k = c.loop-k.k in
     let step : Step = get_or c.as_slice.result.now (k - 1) c.index-as_slice-k.result in
     let all : AreSteps b.terms.variant b.number b.list i.steps =
-    subst (λ (x : Board). AreSteps x.terms.variant x.number x.list i.steps) c.self.view_is c.self.invariant.steps in
+    subst (λ (x : Board). x.terms.variant ≢ Bughouse → AreSteps x.terms.variant x.number x.list i.steps) c.self.view_is c.self.invariant.steps (not_pair b.terms.variant c.requires.claims) in
     let within : k - 1 < length c.as_slice.result.now =
     omega (arith, ap length c.as_slice.ensures.items, all.each, c.requires.within, c.loop-k.invariant.within, c.loop-k-test.true) in
     let kept : slice_get i.steps (k - 1) ≡ Some step =
@@ -54,7 +63,7 @@ loop-k-preserved c =
     let k = c.loop-k.k in
     let step : Step = get_or c.as_slice.result.now (k - 1) c.index-as_slice-k.result in
     let all : AreSteps b.terms.variant b.number b.list i.steps =
-    subst (λ (x : Board). AreSteps x.terms.variant x.number x.list i.steps) c.self.view_is c.self.invariant.steps in
+    subst (λ (x : Board). x.terms.variant ≢ Bughouse → AreSteps x.terms.variant x.number x.list i.steps) c.self.view_is c.self.invariant.steps (not_pair b.terms.variant c.requires.claims) in
     let within : k - 1 < length c.as_slice.result.now =
     omega (arith, ap length c.as_slice.ensures.items, all.each, c.requires.within, c.loop-k.invariant.within, c.loop-k-test.true) in
     let kept : slice_get i.steps (k - 1) ≡ Some step =
