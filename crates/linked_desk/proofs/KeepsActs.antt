@@ -9,21 +9,34 @@ use Rattle.linked_desk.specs.Acts.{FitsDeskAct, game_effect, missing_effect, at_
 use Rattle.linked_desk.specs.Desk.{GameState, DeskState, occupant_of}
 use Rattle.linked_desk.specs.Sound.{HasSoundGame, TellsWinners, AnswersSoundly}
 use Rattle.linked_desk.proofs.Keeps.{Keeps}
+use Rattle.linked_desk.proofs.KeepsAcceptOffer.{Keeps-accept_effect}
 use Rattle.linked_desk.proofs.KeepsAcked.{Keeps-acked_effect}
+use Rattle.linked_desk.proofs.KeepsDeclineOffer.{Keeps-decline_effect}
 use Rattle.linked_desk.proofs.KeepsFetch.{Keeps-fetch_effect}
 use Rattle.linked_desk.proofs.KeepsFlag.{Keeps-flag_effect}
 use Rattle.linked_desk.proofs.KeepsLeave.{Keeps-leave_effect}
+use Rattle.linked_desk.proofs.KeepsMake.{Keeps-make_effect}
 use Rattle.linked_desk.proofs.KeepsMove.{Keeps-move_effect}
+use Rattle.linked_desk.proofs.KeepsRemark.{Keeps-remark_effect}
 use Rattle.linked_desk.proofs.KeepsResign.{Keeps-resign_effect}
+use Rattle.linked_desk.proofs.KeepsShow.{Keeps-show_effect}
+use Rattle.linked_desk.proofs.KeepsWatch.{Keeps-watch_effect, Keeps-unwatch_effect}
 
 -- the table of the acts
 pub Keeps-game_effect : (desk : ℕ) (g : GameState) (session moment : ℕ) (a : DeskAct) → Keeps g (FitsDeskAct a) (needs_memory a) (game_effect desk g session moment a)
 Keeps-game_effect desk g session moment (act.Move word stamp) = Keeps-move_effect desk g session moment word stamp
 Keeps-game_effect desk g session moment (act.Acked stamp) = Keeps-acked_effect g session moment stamp
+Keeps-game_effect desk g session moment (act.Make offer) = Keeps-make_effect desk g session moment offer
+Keeps-game_effect desk g session moment act.Accept = Keeps-accept_effect desk g session moment
+Keeps-game_effect desk g session moment act.Decline = Keeps-decline_effect g session moment
 Keeps-game_effect desk g session moment act.Resign = Keeps-resign_effect desk g session moment
 Keeps-game_effect desk g session moment act.Flag = Keeps-flag_effect desk g session moment
 Keeps-game_effect desk g session moment act.Fetch = Keeps-fetch_effect g session moment
 Keeps-game_effect desk g session moment act.Leave = Keeps-leave_effect desk g session moment
+Keeps-game_effect desk g session moment act.Watch = Keeps-watch_effect desk g session moment
+Keeps-game_effect desk g session moment act.Unwatch = Keeps-unwatch_effect g session moment
+Keeps-game_effect desk g session moment act.Show = Keeps-show_effect desk g moment
+Keeps-game_effect desk g session moment (act.Remark text) = Keeps-remark_effect g session moment text
 
 -- what an act keeps of a desk: its number, who plays there, a sound game, and what it tells
 pub record KeepsDesk (d : DeskState) (fits : Type 0) (needs : Bool) (effect : Effect DeskState DeskReply) : Type 0 where
@@ -103,21 +116,10 @@ sound-desk_answer d session moment serial a s =
     let effect = desk_effect d session moment serial a in
     soundly-answered (first_cause effect.causes) effect.reply ((KeepsDesk-desk_effect d session moment serial a).tells s)
 
--- an act but a visit is answered without items
-no_items_at : (desk : ℕ) (g : GameState) (session moment : ℕ) (a : DeskAct) → a ≢ act.Fetch → items_told (game_effect desk g session moment a).reply ≡ []
-no_items_at desk g session moment act.Fetch h = absurd (h refl)
-no_items_at desk g session moment _ h = refl
-
-no_items_either : (b : Bool) (d : DeskState) (one another : Effect DeskState DeskReply) → items_told one.reply ≡ [] → items_told another.reply ≡ [] →
-    items_told (if b then one else another).reply ≡ []
-no_items_either true d one another h k = h
-no_items_either false d one another h k = k
-
-no_items_by : (d : DeskState) (game : Option GameState) (session moment serial : ℕ) (a : DeskAct) → a ≢ act.Fetch →
-    items_told (effect_by d game session moment serial a).reply ≡ []
-no_items_by d None session moment serial a h = refl
-no_items_by d (Some g) session moment serial a h =
-    no_items_either (g.serial == serial) d (at_desk d (game_effect d.number g session moment a)) (missing_effect d a) (no_items_at d.number g session moment a h) refl
-
-pub no_items_for : (d : DeskState) (session moment serial : ℕ) (a : DeskAct) → a ≢ act.Fetch → items_told (desk_effect d session moment serial a).reply ≡ []
-no_items_for d session moment serial a h = no_items_by d d.game session moment serial a h
+-- an act but a visit, and one that shows boards, is answered without items
+pub no_items_at : (desk : ℕ) (g : GameState) (session moment : ℕ) (a : DeskAct) → a ≢ act.Fetch → a ≢ act.Watch → a ≢ act.Show →
+    items_told (game_effect desk g session moment a).reply ≡ []
+no_items_at desk g session moment act.Fetch h k l = absurd (h refl)
+no_items_at desk g session moment act.Watch h k l = absurd (k refl)
+no_items_at desk g session moment act.Show h k l = absurd (l refl)
+no_items_at desk g session moment _ h k l = refl

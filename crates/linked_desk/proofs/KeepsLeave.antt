@@ -24,7 +24,7 @@ occupant-forfeited : (desk : ℕ) (g : GameState) (moment : ℕ) (seat : Option 
 occupant-forfeited desk g moment None = refl
 occupant-forfeited desk g moment (Some seat) = either_occupant (is_some g.ended) g (ended_by desk g moment (forfeit seat)) refl
 
-sound_unwatched : (g : GameState) (session moment : ℕ) → IsSound g → IsSound (unwatched g session moment)
+pub sound_unwatched : (g : GameState) (session moment : ℕ) → IsSound g → IsSound (unwatched g session moment)
 sound_unwatched g session moment s = record {
   numbers = s.numbers;
   seated = s.seated;

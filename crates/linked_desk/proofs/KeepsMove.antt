@@ -14,7 +14,7 @@ use Rattle.game_board.proofs.Scoresheet.{IsTrueScore-play_after}
 use Rattle.linked_desk.specs.Boards.{word_at, reply_at, latest, boards_after}
 use Rattle.linked_desk.specs.Desk.{GameState, seat_of, moment_at, occupant}
 use Rattle.linked_desk.specs.Hands.{hands_at}
-use Rattle.linked_desk.specs.Playing.{seat_word, captured_by, with_hands, moved_by, move_effect}
+use Rattle.linked_desk.specs.Playing.{seat_word, captured_by, with_cleared, with_hands, moved_by, move_effect}
 use Rattle.linked_desk.specs.Seats.{place_of, colour_at}
 use Rattle.linked_desk.specs.Sound.{IsSound}
 use Rattle.linked_desk.specs.Views.{views_of, with_board_item}
@@ -37,7 +37,7 @@ terms-played b moment stamp (Ok m) = refl
 terms-played b moment stamp (Err cause) = refl
 
 -- the game with the half-move played, before anybody is told
-abbrev played : GameState → ℕ → ℕ → Option ℕ → Result Move Refusal → GameState
+abbrev pub played : GameState → ℕ → ℕ → Option ℕ → Result Move Refusal → GameState
 played g moment place stamp answer =
     record g { boards = boards_after g.boards place (moment_at g moment) stamp answer; last = moment_at g moment }
 
@@ -75,22 +75,35 @@ captured_of g seat word = captured_by (reply_at (slice_get g.boards (place_of se
 IsSound-with_hands : (desk place : ℕ) (man : Option Man) (g : GameState) → IsSound g → IsSound (with_hands desk place man g)
 IsSound-with_hands desk place man g s = IsSound-with_item g (hands_at desk g place man) (names_hands_at desk g place man) s
 
+-- what is offered has no part in it
+IsSound-with_cleared : (seat : ℕ) (g : GameState) → IsSound g → IsSound (with_cleared seat g)
+IsSound-with_cleared seat g s = record {
+  numbers = s.numbers;
+  seated = s.seated;
+  terms = s.terms;
+  scores = s.scores;
+  order = s.order;
+  winners = s.winners;
+  ended = s.ended;
+}
+
 sound_moved_by : (desk : ℕ) (g : GameState) (moment : ℕ) (seat : Option ℕ) (word : MoveWord) (stamp : Option ℕ) → IfSome stamp IsStamp → IsSound g →
     IsSound (moved_by desk g moment seat word stamp)
 sound_moved_by desk g moment None word stamp stamped s = s
 sound_moved_by desk g moment (Some seat) word stamp stamped s =
-    let after : GameState = played g moment (place_of seat) stamp (seat_word g seat word) in
+    let cleared : GameState = with_cleared seat g in
+    let after : GameState = played cleared moment (place_of seat) stamp (seat_word g seat word) in
     let shown : GameState = with_board_item desk (place_of seat) after in
     let man : Option Man = captured_of g seat word in
     IsSound-finished desk (with_hands desk (place_of seat) man shown) moment (place_of seat)
     (IsSound-with_hands desk (place_of seat) man shown
-    (IsSound-with_view after (slice_get (views_of desk after) (place_of seat)) (IsSound-played g moment (place_of seat) (colour_at seat) word stamp stamped s)))
+    (IsSound-with_view after (slice_get (views_of desk after) (place_of seat)) (IsSound-played cleared moment (place_of seat) (colour_at seat) word stamp stamped (IsSound-with_cleared seat g s))))
 
 occupant-moved_by : (desk : ℕ) (g : GameState) (moment : ℕ) (seat : Option ℕ) (word : MoveWord) (stamp : Option ℕ) →
     occupant (moved_by desk g moment seat word stamp) ≡ occupant g
 occupant-moved_by desk g moment None word stamp = refl
 occupant-moved_by desk g moment (Some seat) word stamp =
-    let after : GameState = played g moment (place_of seat) stamp (seat_word g seat word) in
+    let after : GameState = played (with_cleared seat g) moment (place_of seat) stamp (seat_word g seat word) in
     let shown : GameState = with_board_item desk (place_of seat) after in
     let man : Option Man = captured_of g seat word in
     occupant-finished desk (with_hands desk (place_of seat) man shown) moment (place_of seat)

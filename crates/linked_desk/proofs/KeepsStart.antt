@@ -49,7 +49,7 @@ names_first_items desk players b =
     (All-option NamesWinner (first_hands desk b) (names_first desk b))
 
 -- and of all the boards
-names_shown : (desk : ℕ) (pairs : List Opponents) (boards : List Board) →
+pub names_shown : (desk : ℕ) (pairs : List Opponents) (boards : List Board) →
     All NamesWinner (flat_map (λ (items : List Item). items) (each_board (first_items desk) pairs boards))
 names_shown desk [] boards = All-nil NamesWinner
 names_shown desk (players ∷ pairs) [] = All-nil NamesWinner

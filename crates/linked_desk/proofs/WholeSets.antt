@@ -13,7 +13,7 @@ use Rattle.chess_model.specs.Holdings.{count_in}
 use Rattle.chess_model.specs.MoveList.{HalfMove}
 use Rattle.chess_model.specs.Position.{position_after, hand_of_side}
 use Rattle.chess_model.proofs.Censuses.{census_kept}
-use Rattle.game_board.specs.Board.{Board, half_moves, position_of}
+use Rattle.game_board.specs.Board.{Board, position_of}
 use Rattle.game_board.specs.Scoresheet.{IsTrueScore}
 use Rattle.linked_desk.specs.Desk.{GameState, DeskState}
 use Rattle.linked_desk.specs.Sound.{IsSound, HasSoundGame}
@@ -59,11 +59,11 @@ few_after Bughouse T b legal h c k = absurd (h refl)
 
 whole_board : (b : Board) → IsTrueScore b → HasWholeSets b
 unfolding position_of
-whole_board b s = whole_after b.terms.variant (half_moves b.number b.list) b.number s.legal
+whole_board b s = whole_after b.terms.variant b.all b.number s.legal
 
 printed_board : (b : Board) → IsTrueScore b → HasPrintedHands b
 unfolding position_of
-printed_board b s = few_after b.terms.variant (half_moves b.number b.list) b.number s.legal
+printed_board b s = few_after b.terms.variant b.all b.number s.legal
 
 -- what each true score has, each board of a sound game has
 at_sound : (P : Board → Type 0) → ((b : Board) → IsTrueScore b → P b) → (number : ℕ) (game : Option GameState) → IfSome game IsSound →

@@ -4,19 +4,25 @@ use Rattle.std.specs.Prelude.{ℕ, ◌==◌, true, false, Bool, if◌then◌else
 use Rattle.clock_ledger.specs.Span.{IsStamp}
 use Rattle.fics_words.specs.Effect.{Cause, Effect, answer_of, state_of}
 use Rattle.fics_words.specs.declared.refusal.Refusal.{Refusal}
-use Rattle.fics_words.specs.declared.refusal.Refusal.TheVariants.{NotPlaying, NotWatching}
+use Rattle.fics_words.specs.declared.refusal.Refusal.TheVariants.{NoSuchGame, NotPlaying, NotWatching}
 use Rattle.style12_writer.specs.declared.item.Item.{Item}
 use Rattle.linked_desk.specs.declared.acts.DeskAct.{DeskAct}
 use Rattle.linked_desk.specs.declared.acts.DeskAct.TheVariants as act
 use Rattle.linked_desk.specs.declared.acts.DeskReply.{DeskReply}
 use Rattle.linked_desk.specs.declared.acts.DeskReply.TheVariants.{Done, Items}
 use Rattle.linked_desk.specs.Acked.{acked_effect}
+use Rattle.linked_desk.specs.AcceptOffer.{accept_effect}
+use Rattle.linked_desk.specs.DeclineOffer.{decline_effect}
 use Rattle.linked_desk.specs.Desk.{GameState, DeskState}
 use Rattle.linked_desk.specs.Fetch.{fetch_effect}
 use Rattle.linked_desk.specs.Flag.{flag_effect}
 use Rattle.linked_desk.specs.Leave.{leave_effect}
+use Rattle.linked_desk.specs.Make.{make_effect}
 use Rattle.linked_desk.specs.Playing.{move_effect}
+use Rattle.linked_desk.specs.Remark.{remark_effect}
 use Rattle.linked_desk.specs.Resign.{resign_effect}
+use Rattle.linked_desk.specs.Show.{show_effect}
+use Rattle.linked_desk.specs.Watch.{unwatch_effect, watch_effect}
 
 -- the condition on the numbers of an act: a client's stamp is below 10,000,000
 abbrev pub FitsDeskAct : DeskAct → Type 0
@@ -28,16 +34,27 @@ FitsDeskAct _ = Unit {0}
 abbrev pub game_effect : ℕ → GameState → ℕ → ℕ → DeskAct → Effect GameState DeskReply
 game_effect desk g session moment (act.Move word stamp) = move_effect desk g session moment word stamp
 game_effect desk g session moment (act.Acked stamp) = acked_effect g session moment stamp
+game_effect desk g session moment (act.Make offer) = make_effect desk g session moment offer
+game_effect desk g session moment act.Accept = accept_effect desk g session moment
+game_effect desk g session moment act.Decline = decline_effect g session moment
 game_effect desk g session moment act.Resign = resign_effect desk g session moment
 game_effect desk g session moment act.Flag = flag_effect desk g session moment
 game_effect desk g session moment act.Fetch = fetch_effect g session moment
 game_effect desk g session moment act.Leave = leave_effect desk g session moment
+game_effect desk g session moment act.Watch = watch_effect desk g session moment
+game_effect desk g session moment act.Unwatch = unwatch_effect g session moment
+game_effect desk g session moment act.Show = show_effect desk g moment
+game_effect desk g session moment (act.Remark text) = remark_effect g session moment text
 
 -- why an act is refused that names a game which isn't at the desk: there a session neither plays nor watches, and
--- has left
+-- has left, and who wants to look on finds no such game
 abbrev pub missing_causes : DeskAct → List Cause
 missing_causes act.Fetch = (true, NotWatching) ∷ []
 missing_causes act.Leave = []
+missing_causes act.Watch = (true, NoSuchGame) ∷ []
+missing_causes act.Unwatch = (true, NotWatching) ∷ []
+missing_causes act.Show = (true, NoSuchGame) ∷ []
+missing_causes (act.Remark text) = (true, NoSuchGame) ∷ []
 missing_causes _ = (true, NotPlaying) ∷ []
 
 -- what such an act does: nothing
@@ -72,10 +89,17 @@ desk_answer d session moment serial a = answer_of (desk_effect d session moment 
 abbrev pub desk_after : DeskState → ℕ → ℕ → ℕ → DeskAct → DeskState
 desk_after d session moment serial a = state_of d (desk_effect d session moment serial a)
 
--- whether an act may run out of memory: a move, whose board is told, and a visit, whose items are copied
+-- whether an act may run out of memory: a move, whose board is told, a visit, whose items are copied, what is told of
+-- offers, and what shows boards or adds a viewer or an item
 abbrev pub needs_memory : DeskAct → Bool
 needs_memory (act.Move word stamp) = true
+needs_memory (act.Make offer) = true
+needs_memory act.Accept = true
+needs_memory act.Decline = true
 needs_memory act.Fetch = true
+needs_memory act.Watch = true
+needs_memory act.Show = true
+needs_memory (act.Remark text) = true
 needs_memory _ = false
 
 -- the items that a reply gives

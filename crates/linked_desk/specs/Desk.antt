@@ -5,6 +5,7 @@ use Rattle.std.specs.Option.{option_map, option_and_then, option_map_or}
 use Rattle.chess_model.specs.declared.variant.Terms.{Terms}
 use Rattle.fics_words.specs.declared.seats.Seats.{Seats}
 use Rattle.fics_words.specs.Seats.{seat_list, seat_number}
+use Rattle.offer_book.specs.Offers.{OfferBook}
 use Rattle.style12_writer.specs.declared.item.Item.{Item}
 use Rattle.game_board.specs.Board.{Board}
 use Rattle.linked_desk.specs.declared.cursor.Cursor.{Cursor}
@@ -20,9 +21,14 @@ pub record GameState : Type 0 where
   -- what the viewers are told, the oldest first
   pub feed : List Item
   pub viewers : List Cursor
+  -- how many remarks there were
+  pub remarks : ℕ
   -- the moment of the last act, in milliseconds
   pub last : ℕ
   pub ended : Option Ended
+  -- the offers that stand, and how many offers and declines each seat has made
+  pub offers : OfferBook
+  pub tally : List ℕ
 
 -- a desk
 pub record DeskState : Type 0 where

@@ -1,5 +1,5 @@
--- A move at a desk: the half-move is played, the board is told, then its hands where they have changed, and then the
--- end if the half-move brings it.
+-- A move at a desk: the half-move is played, which clears the opponent's offers and every takeback, the board is told,
+-- then its hands where they have changed, and then the end if the half-move brings it.
 use Rattle.std.specs.Prelude.{ℕ, true, ◌∷◌, Option, Some, None, Result, Ok, Err, slice_get}
 use Rattle.chess_model.specs.declared.man.Man.{Man}
 use Rattle.chess_model.specs.declared.moves.Move.{Move}
@@ -7,6 +7,7 @@ use Rattle.chess_model.specs.declared.moves.MoveWord.{MoveWord}
 use Rattle.fics_words.specs.Effect.{Effect, refused_by}
 use Rattle.fics_words.specs.declared.refusal.Refusal.{Refusal}
 use Rattle.fics_words.specs.declared.refusal.Refusal.TheVariants.{NotPlaying}
+use Rattle.offer_book.specs.Offers.{after_half_move, where_stand}
 use Rattle.linked_desk.specs.declared.acts.DeskReply.{DeskReply}
 use Rattle.linked_desk.specs.declared.acts.DeskReply.TheVariants.{Done}
 use Rattle.linked_desk.specs.Boards.{word_at, reply_at, boards_after}
@@ -54,10 +55,15 @@ held_moved desk g moment place stamp answer =
 abbrev pub moved : ℕ → GameState → ℕ → ℕ → Option ℕ → Result Move Refusal → GameState
 moved desk g moment place stamp answer = finished desk (held_moved desk g moment place stamp answer) moment place
 
+-- the game where the offers of the seat's opponent have gone, and every takeback, since the seat has moved
+abbrev pub with_cleared : ℕ → GameState → GameState
+with_cleared seat g = record g { offers = where_stand (after_half_move seat g.offers.standing) g.offers }
+
 -- the game once who has that seat, or none, has played a word, with the client's stamp if there is one
 abbrev pub moved_by : ℕ → GameState → ℕ → Option ℕ → MoveWord → Option ℕ → GameState
 moved_by desk g moment None word stamp = g
-moved_by desk g moment (Some seat) word stamp = moved desk g moment (place_of seat) stamp (seat_word g seat word)
+moved_by desk g moment (Some seat) word stamp =
+    moved desk (with_cleared seat g) moment (place_of seat) stamp (seat_word g seat word)
 
 -- plays a word at the session's board: refused where it has no seat, where the game has ended, and then as the board
 -- answers

@@ -10,11 +10,13 @@ use Rattle.style12_writer.specs.declared.item.Item.{Item}
 use Rattle.style12_writer.specs.declared.item.Item.TheVariants as item
 use Rattle.style12_writer.specs.CreatedLine.{created_text}
 use Rattle.game_board.specs.Board.{Board}
+use Rattle.offer_book.specs.Offers.{no_offers}
 use Rattle.linked_desk.specs.declared.cursor.Cursor.{Cursor}
 use Rattle.linked_desk.specs.Boards.{board_numbers, new_boards}
 use Rattle.linked_desk.specs.Desk.{GameState, DeskState, game_number}
 use Rattle.linked_desk.specs.Hands.{first_hands}
 use Rattle.linked_desk.specs.Seats.{pairs_of}
+use Rattle.linked_desk.specs.Tally.{none_told}
 use Rattle.linked_desk.specs.Views.{view_of, each_board}
 
 -- each item differs from this one
@@ -70,8 +72,11 @@ opened desk serial terms seats moment = record {
   boards = new_boards terms moment;
   feed = opening_items desk terms (pairs_of seats) (new_boards terms moment);
   viewers = map from_start (seat_list seats);
+  remarks = 0;
   last = moment;
   ended = None;
+  offers = no_offers (length (seat_list seats));
+  tally = none_told;
 }
 
 -- the desk with that game

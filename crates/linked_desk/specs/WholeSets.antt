@@ -10,7 +10,7 @@ use Rattle.chess_model.specs.Census.{men_of, one_set, captured}
 use Rattle.chess_model.specs.Holdings.{count_in}
 use Rattle.chess_model.specs.MoveList.{HalfMove}
 use Rattle.chess_model.specs.Position.{Position, hand_of_side}
-use Rattle.game_board.specs.Board.{Board, half_moves, position_of}
+use Rattle.game_board.specs.Board.{Board, position_of}
 use Rattle.style12_writer.specs.HoldingsLine.{most_of_a_kind}
 use Rattle.linked_desk.specs.Desk.{DeskState, boards_at}
 
@@ -25,7 +25,7 @@ HasMenOf Bughouse p T number = Unit {0}
 
 -- the men of a board are whole
 abbrev pub HasWholeSets : Board → Type 0
-HasWholeSets b = HasMenOf b.terms.variant (position_of b) (half_moves b.number b.list) b.number
+HasWholeSets b = HasMenOf b.terms.variant (position_of b) b.all b.number
 
 -- and a holdings line of the board has a letter for each man in hand
 abbrev pub HasPrintedHands : Board → Type 0

@@ -3,9 +3,11 @@ ghost use Rattle.std.specs.Prelude.{◌≡◌, ◌≤◌, ◌^◌, ◌∷◌, If
 ghost use Rattle.std.specs.Option.{option_copied, option_to_list};
 ghost use Rattle.clock_ledger.specs.Span.{IsStamp};
 ghost use Rattle.fics_words.specs.Effect.{first_cause, refusal_of, refused_by};
+ghost use Rattle.linked_desk.specs.Make.{claim_at};
+ghost use Rattle.linked_desk.specs.Offering.{boards_taken_back, lacks_half_moves};
 ghost use Rattle.linked_desk.specs.Boards.{boards_acked, boards_after, flag_at, latest, new_boards, numbered, reply_at, word_at};
 
-use chess_model::{Colour, Man, MoveWord, Terms, Variant};
+use chess_model::{Colour, Man, MoveWord, Terms, Variant, Why};
 use fics_words::{NoMemory, Refusal};
 use game_board::GameBoard;
 use std::alloc::Global;
@@ -125,6 +127,42 @@ impl Boards {
                 }
             }
             _ => {}
+        }
+    }
+
+    /// The draw that may be claimed at the board in that place, if there is one.
+    pub(crate) fn claim(&self, place: u8) -> Option<Why>
+        ensures { result ≡ claim_at (slice_get self.now place) }
+    {
+        let board = self.at(place)?;
+        match board.claim_draw() {
+            Ok(why) => Some(why),
+            Err(_) => None,
+        }
+    }
+
+    /// Whether the first board lacks half-moves to take `n` back.
+    pub(crate) fn lacks_half_moves(&self, n: u16) -> bool
+        ensures { result ≡ lacks_half_moves self.now n }
+    {
+        n == 0 || self.first.list().len() < usize::from(n)
+    }
+
+    /// Takes the last `n` half-moves of the first board back, unless it is one of a pair.
+    pub(crate) fn take_back(&mut self, n: u16, moment: u64)
+        requires order { latest self.old ≤ moment }
+        requires moment { moment ≤ 2 ^ 48 }
+        ensures after { self.new ≡ boards_taken_back self.old n moment }
+        ensures order { latest self.new ≤ moment }
+    {
+        match self.first.terms().variant {
+            Variant::Chess => {
+                let _ = self.first.take_back(n, moment);
+            }
+            Variant::Crazyhouse => {
+                let _ = self.first.take_back(n, moment);
+            }
+            Variant::Bughouse => {}
         }
     }
 

@@ -9,7 +9,6 @@ use crate::acts::{DeskAct, DeskReply};
 use crate::ended::Ended;
 use crate::game::Game;
 use crate::seating::opened;
-use crate::views::copied;
 use chess_model::Terms;
 use fics_words::{Fail, NoMemory, Refusal, Seats};
 use game_board::GameBoard;
@@ -107,6 +106,10 @@ impl Desk {
         match act {
             DeskAct::Fetch => Err(Fail::Refused(Refusal::NotWatching)),
             DeskAct::Leave => Ok(DeskReply::Done),
+            DeskAct::Watch => Err(Fail::Refused(Refusal::NoSuchGame)),
+            DeskAct::Unwatch => Err(Fail::Refused(Refusal::NotWatching)),
+            DeskAct::Show => Err(Fail::Refused(Refusal::NoSuchGame)),
+            DeskAct::Remark { .. } => Err(Fail::Refused(Refusal::NoSuchGame)),
             _ => Err(Fail::Refused(Refusal::NotPlaying)),
         }
     }
@@ -162,7 +165,6 @@ impl Desk {
     }
 
     /// Copies of the items that an act would answer now, at whatever moment; none where it gives none.
-    #[tactic(auto, using(crate::proofs::KeepsActs::no_items_for))]
     pub fn items_ahead(
         &self,
         alloc: Global,
@@ -173,17 +175,13 @@ impl Desk {
         ensures { IfOk result (λ items. (moment : ℕ) → items
             ≡ items_told (desk_effect self.now session moment serial act.now).reply) }
     {
-        match act {
-            DeskAct::Fetch => {}
-            _ => return Ok(ItemList::new(alloc)),
-        }
         let Some(game) = &self.game else {
             return Ok(ItemList::new(alloc));
         };
         if serial != game.serial() {
             return Ok(ItemList::new(alloc));
         }
-        copied(alloc, game.ahead(session))
+        game.items_ahead(alloc, self.number, session, act)
     }
 
     /// Makes the desk vacant once its game has ended and nobody views it any more.

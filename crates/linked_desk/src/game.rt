@@ -1,12 +1,14 @@
 //! The game at a desk.
-ghost use Rattle.std.specs.Prelude.{◌≡◌, drop};
+ghost use Rattle.std.specs.Prelude.{◌≡◌, ◌<◌, IfSome, drop};
 
 use crate::boards::Boards;
 use crate::cursor::{Cursor, OfSession};
 use crate::ended::Ended;
+use crate::tally::Tally;
 use chess_model::Terms;
 use collections::{Listed, Reserved, find};
 use fics_words::Seats;
+use offer_book::Offers;
 use std::alloc::Global;
 use std::marker::Model;
 use style12_writer::Item;
@@ -24,8 +26,11 @@ pub(crate) struct Game {
     pub(crate) boards: Boards,
     pub(crate) feed: Reserved<Item>,
     pub(crate) viewers: Listed<Cursor>,
+    pub(crate) remarks: u16,
     pub(crate) last: u64,
     pub(crate) ended: Option<Ended>,
+    pub(crate) offers: Offers,
+    pub(crate) tally: Tally,
 }
 
 impl Model for Game {
@@ -42,8 +47,11 @@ impl Model for Game {
       boards = g.boards;
       feed = g.feed.items;
       viewers = g.viewers;
+      remarks = g.remarks;
       last = g.last;
       ended = g.ended;
+      offers = g.offers;
+      tally = g.tally;
     } };
 
     ghost invariant = { HoldsGame };
@@ -82,7 +90,8 @@ impl Game {
 
     /// The seat of a session, if it plays.
     pub(crate) fn seat_of(&self, session: u32) -> Option<u8>
-        ensures { result ≡ seat_of self.now session }
+        ensures value { result ≡ seat_of self.now session }
+        ensures seated { IfSome result (λ seat. seat < self.now.offers.seats) }
     {
         self.seats.number(session)
     }

@@ -7,10 +7,12 @@
 //! since leaving takes no memory.
 #![tactic(auto)]
 
+mod accept_offer;
 mod acked;
 mod acts;
 mod boards;
 mod cursor;
+mod decline_offer;
 mod desk;
 mod ended;
 mod ends;
@@ -21,12 +23,20 @@ mod game;
 mod hands;
 mod laws;
 mod leave;
+mod make;
+mod offer_laws;
+mod offering;
 mod playing;
+mod present;
+mod remark;
 mod resign;
 mod seating;
 mod seats;
+mod show;
 mod sight;
+mod tally;
 mod views;
+mod watch;
 
 pub use acts::{DeskAct, DeskReply};
 pub use chess_model::Why;
@@ -36,6 +46,8 @@ pub use ended::Ended;
 pub use laws::{
     acts_keep_the_game, acts_keep_the_players, boards_are_known_by_their_games, men_stay_whole,
 };
+pub use offer_book::Offer;
+pub use offer_laws::half_moves_clear_offers;
 pub use seats::colour_at;
 pub use sight::viewer_of;
 pub use style12_writer::{BoardView, Item, ItemList};

@@ -13,7 +13,7 @@ use style12_writer::Item;
 
 impl Game {
     /// Plays a word of a session at its board, with its client's stamp if it has one, and tells the board and its hands
-    /// where they have changed; mate and stalemate end the game.
+    /// where they have changed. The opponent's offers and takebacks go; mate and stalemate end the game.
     pub(crate) fn play(
         &mut self,
         desk: u8,
@@ -38,6 +38,7 @@ impl Game {
         let now = self.last.max(moment);
         let place = place_of(seat);
         let captured = self.boards.play(place, colour_at(seat), word, now, stamp)?;
+        self.offers.moved(seat);
         self.last = now;
         if let Some(view) = self.view(desk, place) {
             self.feed.push(Item::Board(view));

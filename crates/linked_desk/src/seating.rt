@@ -1,6 +1,7 @@
 //! How a game begins.
-ghost use Rattle.std.specs.Prelude.{◌≡◌, ◌+◌, ◌≤◌, ◌^◌, ◌++◌, map, IfOk};
+ghost use Rattle.std.specs.Prelude.{◌≡◌, ◌+◌, ◌≤◌, ◌^◌, ◌++◌, length, map, IfOk};
 ghost use Rattle.fics_words.specs.Seats.{seat_list};
+ghost use Rattle.offer_book.specs.Offers.{no_offers};
 ghost use Rattle.linked_desk.specs.Seating.{created_item, first_items, from_start, opened, opening_items};
 ghost use Rattle.linked_desk.specs.Seats.{pairs_of};
 
@@ -8,11 +9,13 @@ use crate::boards::Boards;
 use crate::cursor::Cursor;
 use crate::game::{Game, ROOM_TO_END};
 use crate::hands::first_hands;
+use crate::tally::Tally;
 use crate::views::{game_number, view_of};
 use chess_model::Terms;
 use collections::{Listed, Reserved};
 use fics_words::{NoMemory, Opponents, Player, Seats};
 use game_board::GameBoard;
+use offer_book::Offers;
 use std::alloc::Global;
 use style12_writer::{Item, created_line};
 
@@ -42,8 +45,11 @@ pub(crate) fn opened(
         boards,
         feed,
         viewers,
+        remarks: 0,
         last: moment,
         ended: None,
+        offers: no_offers(seats),
+        tally: Tally::none(),
     })
 }
 
@@ -119,6 +125,16 @@ fn players_from_start(alloc: Global, seats: &Seats) -> Result<Listed<Cursor>, No
         viewers.push(from_start(&players.black))?;
     }
     Ok(viewers)
+}
+
+/// Nothing is offered in any of the seats.
+fn no_offers(seats: &Seats) -> Offers
+    ensures { result ≡ no_offers (length (seat_list seats.now)) }
+{
+    match &seats.second {
+        None => Offers::new(2),
+        Some(_) => Offers::new(4),
+    }
 }
 
 /// A viewer from the start of the feed.

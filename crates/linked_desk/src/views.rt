@@ -1,8 +1,10 @@
 //! What is shown of a game.
-ghost use Rattle.std.specs.Prelude.{◌≡◌, ◌≤◌, IfOk, slice_get};
+ghost use Rattle.std.specs.Prelude.{◌≡◌, ◌≤◌, ℕ, IfOk, slice_get};
+ghost use Rattle.linked_desk.specs.Acts.{game_effect, items_told};
 ghost use Rattle.linked_desk.specs.Desk.{game_number};
 ghost use Rattle.linked_desk.specs.Views.{view_of, views_of};
 
+use crate::acts::DeskAct;
 use crate::game::Game;
 use chess_model::Colour;
 use fics_words::{Duplicate, NoMemory, Opponents};
@@ -55,6 +57,30 @@ impl Game {
         };
         let board = self.boards.at(place)?;
         Some(view_of(desk, players, board))
+    }
+}
+
+impl Game {
+    /// Copies of the items that an act would answer now, at whatever moment; none where it gives none.
+    #[tactic(auto, using(crate::proofs::KeepsActs::no_items_at))]
+    pub(crate) fn items_ahead(
+        &self,
+        alloc: Global,
+        desk: u8,
+        session: u32,
+        act: &DeskAct,
+    ) -> Result<ItemList, NoMemory>
+        requires low { 1 ≤ desk }
+        requires high { desk ≤ 128 }
+        ensures { IfOk result (λ items. (moment : ℕ) → items
+            ≡ items_told (game_effect desk self.now session moment act.now).reply) }
+    {
+        match act {
+            DeskAct::Fetch => copied(alloc, self.ahead(session)),
+            DeskAct::Watch => self.present_boards(desk),
+            DeskAct::Show => self.present_items(desk),
+            _ => Ok(ItemList::new(alloc)),
+        }
     }
 }
 

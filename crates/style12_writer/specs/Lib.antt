@@ -5,4 +5,6 @@ pub mod EndLine
 pub mod GameLine
 pub mod HoldingsLine
 pub mod Line12
+pub mod OfferLines
 pub mod Spaced
+pub mod TextBoard

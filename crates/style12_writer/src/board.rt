@@ -12,7 +12,7 @@ use memory::NoMemory;
 use move_writer::letter;
 
 /// The numbers of the ranks from White's 8th down.
-const RANKS: [usize; 8] = [7, 6, 5, 4, 3, 2, 1, 0];
+pub(crate) const RANKS: [usize; 8] = [7, 6, 5, 4, 3, 2, 1, 0];
 
 /// Appends the fields of the position.
 #[tactic(auto, unfolding(crate::specs::Line12::position_fields))]
@@ -54,7 +54,7 @@ fn put_ranks(line: &mut Draft, men: &[Option<Man>; 64]) -> Result<(), NoMemory>
 }
 
 /// The letter of the colour that is to move.
-fn colour_to_move(colour: Colour) -> &'static [u8]
+pub(crate) fn colour_to_move(colour: Colour) -> &'static [u8]
     ensures text { result.now ≡ colour_to_move colour }
     ensures printable { IsTrue (list_all is_printable result.now) }
     ensures len { length result.now ≡ 1 }
@@ -83,8 +83,22 @@ fn put_rank(line: &mut Draft, men: &[Option<Man>; 64], rank: usize) -> Result<()
     ensures text { OnOk result (line.new ≡ line.old ++ 32 ∷ rank_text men.now rank) }
     ensures len { OnOk result (length line.new ≡ length line.old + 9) }
 {
-    let squares = &men[8 * rank..8 * rank + 8];
     line.text(b" ")?;
+    put_squares(line, men, rank)?;
+    Ok(())
+}
+
+/// Appends the eight squares of a rank.
+pub(crate) fn put_squares(
+    line: &mut Draft,
+    men: &[Option<Man>; 64],
+    rank: usize,
+) -> Result<(), NoMemory>
+    requires { rank < 8 }
+    ensures text { OnOk result (line.new ≡ line.old ++ rank_text men.now rank) }
+    ensures len { OnOk result (length line.new ≡ length line.old + 8) }
+{
+    let squares = &men[8 * rank..8 * rank + 8];
     for square in squares {
         line.text(&[letter_on(*square)])?;
     }

@@ -14,6 +14,8 @@ mod game_line;
 mod holdings;
 mod item;
 mod line;
+mod offer_lines;
+mod text_board;
 mod view;
 
 pub use created::created_line;
@@ -21,4 +23,8 @@ pub use end::{end_line, is_decisive};
 pub use holdings::line_b1;
 pub use item::{Item, ItemList, LineList};
 pub use line::{line12, line12_fields};
+pub use offer_lines::{
+    abort_line, adjourn_line, decline_line, draw_line, takeback_line, taken_line,
+};
+pub use text_board::board1;
 pub use view::{BoardView, Viewer};

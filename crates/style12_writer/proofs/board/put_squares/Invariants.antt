@@ -1,6 +1,6 @@
 use Rattle.std.proofs.Common.{◌≡◌, ◌+◌, ◌++◌, length, map, take}
 use Rattle.style12_writer.specs.Board.{square_letter}
-use Rattle.style12_writer.proofs.board.put_rank.Given as goal
+use Rattle.style12_writer.proofs.board.put_squares.Given as goal
 
 abbrev pub invariant-loop-square : goal.invariant-loop-square
 invariant-loop-square l =

@@ -1,0 +1,104 @@
+-- An offer at a desk. This server's own; that a claim of a draw counts as an offer of one is FIDE 9.1.2.
+use Rattle.std.specs.Prelude.{ℕ, Bool, true, not, if◌then◌else◌, [], ◌∷◌, List, Option, Some, None, Result, Ok, Err, is_some, slice_get}
+use Rattle.std.specs.List.{list_all}
+use Rattle.chess_model.specs.declared.why.Why.{Why}
+use Rattle.fics_words.specs.Effect.{Cause, Effect, first_cause}
+use Rattle.fics_words.specs.declared.player.Player.{Player}
+use Rattle.fics_words.specs.declared.refusal.Refusal.{Refusal}
+use Rattle.fics_words.specs.declared.refusal.Refusal.TheVariants.{AlreadyOffered, NotInVariant, NotRegistered, TooFewMoves}
+use Rattle.fics_words.specs.Seats.{seat_list}
+use Rattle.game_board.specs.Board.{Board}
+use Rattle.game_board.specs.Claim.{claim_answer}
+use Rattle.offer_book.specs.declared.offer.Offer.{Offer}
+use Rattle.offer_book.specs.declared.offer.Offer.TheVariants.{Draw, Abort, Adjourn, Takeback}
+use Rattle.offer_book.specs.Offers.{offering, stands}
+use Rattle.linked_desk.specs.declared.acts.DeskReply.{DeskReply}
+use Rattle.linked_desk.specs.declared.acts.DeskReply.TheVariants.{Done}
+use Rattle.linked_desk.specs.Desk.{GameState, seat_of}
+use Rattle.linked_desk.specs.Ends.{ended_by, no_seat_cause, over_cause}
+use Rattle.linked_desk.specs.Offering.{agreed, end_without_winner, lacks_half_moves, offer_item, told, told_out_cause, with_offers}
+use Rattle.linked_desk.specs.Seats.{place_of}
+
+-- two boards belong to the game
+abbrev pub is_pair : GameState → Bool
+is_pair g = is_some g.seats.second
+
+-- each player has an account
+abbrev pub all_registered : GameState → Bool
+all_registered g = list_all (λ (p : Player). p.registered) (seat_list g.seats)
+
+-- why nobody at this desk may make an offer: at a pair nothing is taken back and it isn't adjourned; as many half-moves
+-- as are to be taken back have to be there, at least one; and only players with accounts adjourn
+abbrev pub unfit_causes : GameState → Offer → List Cause
+unfit_causes g Draw = []
+unfit_causes g Abort = []
+unfit_causes g Adjourn = (is_pair g, NotInVariant) ∷ (not (all_registered g), NotRegistered) ∷ []
+unfit_causes g (Takeback n) = (is_pair g, NotInVariant) ∷ (lacks_half_moves g.boards n, TooFewMoves) ∷ []
+
+-- the causes behind an earlier refusal, if there was one
+abbrev pub behind : Option Refusal → List Cause → List Cause
+behind None causes = causes
+behind (Some cause) causes = (true, cause) ∷ []
+
+-- the draw that may be claimed at a board, if there is one
+abbrev pub granted : Result Why Refusal → Option Why
+granted (Ok cause) = Some cause
+granted (Err none) = None
+
+abbrev pub claim_at : Option Board → Option Why
+claim_at None = None
+claim_at (Some b) = granted (claim_answer b)
+
+-- the draw that an offer of this seat claims at its board, if it does
+abbrev pub claimed : List Board → ℕ → Offer → Option Why
+claimed boards seat Draw = claim_at (slice_get boards (place_of seat))
+claimed boards seat Abort = None
+claimed boards seat Adjourn = None
+claimed boards seat (Takeback n) = None
+
+-- why an offer of this seat is refused that claims no draw: the seat has it standing, or has told enough
+abbrev pub again_causes : GameState → ℕ → Offer → List Cause
+again_causes g seat offer = (stands g.offers.standing seat offer, AlreadyOffered) ∷ told_out_cause g seat ∷ []
+
+-- what such an offer does: it takes effect where every other seat has it standing, and else it stands and is told
+abbrev pub stood : ℕ → GameState → ℕ → ℕ → Offer → GameState
+stood desk g seat moment offer =
+    let effect = offering g.offers seat offer in
+    if effect.reply then agreed desk (with_offers effect.after moment g) moment seat offer
+    else told effect.after seat moment (offer_item g seat offer) g
+
+abbrev pub offer_effect : ℕ → GameState → ℕ → ℕ → Offer → Effect GameState DeskReply
+offer_effect desk g seat moment offer = record {
+  causes = again_causes g seat offer;
+  memory = true;
+  reply = Done;
+  after = stood desk g seat moment offer;
+}
+
+-- what an offer does that fits the desk: a draw that it claims ends the game
+abbrev pub claim_effect : ℕ → GameState → ℕ → ℕ → Offer → Option Why → Effect GameState DeskReply
+claim_effect desk g seat moment offer None = offer_effect desk g seat moment offer
+claim_effect desk g seat moment offer (Some cause) = record {
+  causes = [];
+  memory = true;
+  reply = Done;
+  after = ended_by desk g moment (end_without_winner seat cause);
+}
+
+-- what an offer by who has that seat, or none, does
+abbrev pub fitting_effect : ℕ → GameState → Option ℕ → ℕ → Offer → Effect GameState DeskReply
+fitting_effect desk g None moment offer = record { causes = []; memory = true; reply = Done; after = g }
+fitting_effect desk g (Some seat) moment offer = claim_effect desk g seat moment offer (claimed g.boards seat offer)
+
+-- an offer is refused where the session has no seat, where the game has ended, where it doesn't fit the desk, and then,
+-- unless it claims a draw, where the seat has it standing and where it has told enough
+abbrev pub make_effect : ℕ → GameState → ℕ → ℕ → Offer → Effect GameState DeskReply
+make_effect desk g session moment offer =
+    let effect = fitting_effect desk g (seat_of g session) moment offer in
+    record {
+      causes =
+          no_seat_cause g session ∷ over_cause g ∷ behind (first_cause (unfit_causes g offer)) effect.causes;
+      memory = true;
+      reply = Done;
+      after = effect.after;
+    }

@@ -1,0 +1,40 @@
+//! The acceptance of an offer at a desk.
+ghost use Rattle.std.specs.Prelude.{◌≤◌, ◌^◌};
+ghost use Rattle.fics_words.specs.Effect.{Takes};
+ghost use Rattle.linked_desk.specs.AcceptOffer.{accept_effect};
+
+use crate::acts::DeskReply;
+use crate::game::Game;
+use fics_words::{Duplicate, Fail, Refusal};
+
+impl Game {
+    /// Accepts for a session the earliest offer of another seat that its own lacks: it takes effect, or stands for this
+    /// seat too.
+    pub(crate) fn accept_offer(
+        &mut self,
+        desk: u8,
+        session: u32,
+        moment: u64,
+    ) -> Result<DeskReply, Fail>
+        requires low { 1 ≤ desk }
+        requires high { desk ≤ 128 }
+        requires moment { moment ≤ 2 ^ 48 }
+        ensures { Takes (accept_effect desk self.old session moment) self.old self.new result }
+    {
+        let Some(seat) = self.seat_of(session) else {
+            return Err(Fail::Refused(Refusal::NotPlaying));
+        };
+        if self.ended.is_some() {
+            return Err(Fail::Refused(Refusal::GameOver));
+        }
+        let mut offers = self.offers.duplicate()?;
+        let (offer, agreed) = offers.accept(seat)?;
+        if agreed {
+            self.agree(desk, offers, moment, seat, offer)?;
+            return Ok(DeskReply::Done);
+        }
+        self.offers = offers;
+        self.last = self.last.max(moment);
+        Ok(DeskReply::Done)
+    }
+}

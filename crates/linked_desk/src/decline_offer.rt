@@ -1,0 +1,32 @@
+//! The refusal of an offer at a desk by a player.
+ghost use Rattle.std.specs.Prelude.{◌≤◌, ◌^◌};
+ghost use Rattle.fics_words.specs.Effect.{Takes};
+ghost use Rattle.linked_desk.specs.DeclineOffer.{decline_effect};
+
+use crate::acts::DeskReply;
+use crate::game::Game;
+use fics_words::{Duplicate, Fail, Refusal};
+
+impl Game {
+    /// Declines for a session the earliest offer of another seat that its own lacks: it stands for no seat any more,
+    /// and that is told.
+    pub(crate) fn decline_offer(&mut self, session: u32, moment: u64) -> Result<DeskReply, Fail>
+        requires { moment ≤ 2 ^ 48 }
+        ensures { Takes (decline_effect self.old session moment) self.old self.new result }
+    {
+        let Some(seat) = self.seat_of(session) else {
+            return Err(Fail::Refused(Refusal::NotPlaying));
+        };
+        if self.ended.is_some() {
+            return Err(Fail::Refused(Refusal::GameOver));
+        }
+        let mut offers = self.offers.duplicate()?;
+        offers.decline(seat)?;
+        if self.tally.is_told_out(seat) {
+            return Err(Fail::Refused(Refusal::FeedFull));
+        }
+        let item = self.decline_item(seat)?;
+        self.tell(offers, seat, moment, item)?;
+        Ok(DeskReply::Done)
+    }
+}

@@ -1,0 +1,38 @@
+//! A remark on a game.
+ghost use Rattle.std.specs.Prelude.{◌≤◌, ◌^◌};
+ghost use Rattle.fics_words.specs.Effect.{Takes};
+ghost use Rattle.linked_desk.specs.Remark.{remark_effect};
+
+use crate::acts::DeskReply;
+use crate::game::{Game, ROOM_TO_END};
+use fics_words::{Fail, Line, Refusal};
+use style12_writer::Item;
+
+/// The most remarks on a game.
+const MOST_REMARKS: u16 = 1_024;
+
+impl Game {
+    /// A viewer's remark is told to all viewers. Refused with `NotWatching`, then `FeedFull`.
+    pub(crate) fn remark(
+        &mut self,
+        session: u32,
+        moment: u64,
+        text: &Line,
+    ) -> Result<DeskReply, Fail>
+        requires { moment ≤ 2 ^ 48 }
+        ensures { Takes (remark_effect self.old session moment text.now) self.old self.new result }
+    {
+        if !self.is_watching(session) {
+            return Err(Fail::Refused(Refusal::NotWatching));
+        }
+        if self.remarks >= MOST_REMARKS {
+            return Err(Fail::Refused(Refusal::FeedFull));
+        }
+        let line = text.duplicate()?;
+        self.feed.reserve(1 + ROOM_TO_END)?;
+        self.feed.push(Item::Talk(line));
+        self.remarks += 1;
+        self.last = self.last.max(moment);
+        Ok(DeskReply::Done)
+    }
+}

@@ -1,0 +1,45 @@
+//! How a session becomes a viewer of a game, and how an observer ceases to be one.
+ghost use Rattle.std.specs.Prelude.{◌≤◌, ◌^◌};
+ghost use Rattle.fics_words.specs.Effect.{Takes};
+ghost use Rattle.linked_desk.specs.Watch.{unwatch_effect, watch_effect};
+
+use crate::acts::DeskReply;
+use crate::cursor::{Cursor, OfOthers};
+use crate::game::Game;
+use fics_words::{Fail, Refusal};
+
+impl Game {
+    /// Makes the session a viewer, who is told what comes from now on, and gives it the boards as they stand. Refused
+    /// with `AlreadyWatching`.
+    pub(crate) fn watch(&mut self, desk: u8, session: u32, moment: u64) -> Result<DeskReply, Fail>
+        requires low { 1 ≤ desk }
+        requires high { desk ≤ 128 }
+        requires moment { moment ≤ 2 ^ 48 }
+        ensures { Takes (watch_effect desk self.old session moment) self.old self.new result }
+    {
+        if self.is_watching(session) {
+            return Err(Fail::Refused(Refusal::AlreadyWatching));
+        }
+        let items = self.present_boards(desk)?;
+        let seen = self.feed.len();
+        self.viewers.push(Cursor { session, seen })?;
+        self.last = self.last.max(moment);
+        Ok(DeskReply::Items { items, over: false })
+    }
+
+    /// An observer is no viewer any more. Refused with `NotWatching`, a player too. Takes no memory.
+    pub(crate) fn unwatch(&mut self, session: u32, moment: u64) -> Result<DeskReply, Fail>
+        requires { moment ≤ 2 ^ 48 }
+        ensures { Takes (unwatch_effect self.old session moment) self.old self.new result }
+    {
+        if !self.is_watching(session) {
+            return Err(Fail::Refused(Refusal::NotWatching));
+        }
+        if self.seat_of(session).is_some() {
+            return Err(Fail::Refused(Refusal::NotWatching));
+        }
+        self.viewers.retain(&OfOthers(session));
+        self.last = self.last.max(moment);
+        Ok(DeskReply::Done)
+    }
+}

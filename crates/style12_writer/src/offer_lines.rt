@@ -1,0 +1,70 @@
+//! The lines that tell of offers.
+ghost use Rattle.std.specs.Prelude.{◌≡◌, IfOk};
+ghost use Rattle.style12_writer.specs.OfferLines.{abort_text, adjourn_text, decline_text, draw_text, takeback_text, taken_text};
+
+use crate::draft::Draft;
+use fics_words::{Handle, Line};
+use memory::NoMemory;
+use std::alloc::Global;
+
+/// The line of a player who offers a draw, `H offers a draw.`.
+pub fn draw_line(alloc: Global, name: &Handle) -> Result<Line, NoMemory>
+    ensures { IfOk result (λ line. line ≡ draw_text name.now) }
+{
+    let mut line = Draft::new(alloc);
+    line.name(name)?;
+    line.text(b" offers a draw.")?;
+    Ok(line.finish())
+}
+
+/// The line of a player who offers to end the game without a result, `H offers to abort.`.
+pub fn abort_line(alloc: Global, name: &Handle) -> Result<Line, NoMemory>
+    ensures { IfOk result (λ line. line ≡ abort_text name.now) }
+{
+    let mut line = Draft::new(alloc);
+    line.name(name)?;
+    line.text(b" offers to abort.")?;
+    Ok(line.finish())
+}
+
+/// The line of a player who offers to go on another day, `H offers to adjourn.`.
+pub fn adjourn_line(alloc: Global, name: &Handle) -> Result<Line, NoMemory>
+    ensures { IfOk result (λ line. line ≡ adjourn_text name.now) }
+{
+    let mut line = Draft::new(alloc);
+    line.name(name)?;
+    line.text(b" offers to adjourn.")?;
+    Ok(line.finish())
+}
+
+/// The line of a player who offers to take `n` half-moves back, `H offers to take back N.`.
+pub fn takeback_line(alloc: Global, name: &Handle, n: u16) -> Result<Line, NoMemory>
+    ensures { IfOk result (λ line. line ≡ takeback_text name.now n) }
+{
+    let mut line = Draft::new(alloc);
+    line.name(name)?;
+    line.text(b" offers to take back ")?;
+    line.number(u64::from(n))?;
+    line.text(b".")?;
+    Ok(line.finish())
+}
+
+/// The line of a player who declines an offer, `H declines.`.
+pub fn decline_line(alloc: Global, name: &Handle) -> Result<Line, NoMemory>
+    ensures { IfOk result (λ line. line ≡ decline_text name.now) }
+{
+    let mut line = Draft::new(alloc);
+    line.name(name)?;
+    line.text(b" declines.")?;
+    Ok(line.finish())
+}
+
+/// The line that tells that `n` half-moves were taken back, `N taken back.`.
+pub fn taken_line(alloc: Global, n: u16) -> Result<Line, NoMemory>
+    ensures { IfOk result (λ line. line ≡ taken_text n) }
+{
+    let mut line = Draft::new(alloc);
+    line.number(u64::from(n))?;
+    line.text(b" taken back.")?;
+    Ok(line.finish())
+}
