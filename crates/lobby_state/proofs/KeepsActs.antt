@@ -6,7 +6,7 @@ use Rattle.fics_words.specs.declared.fail.Fail.{Fail}
 use Rattle.fics_words.specs.declared.fail.Fail.TheVariants.{Refused, Memory}
 use Rattle.fics_words.specs.declared.refusal.Refusal.{Refusal}
 use Rattle.lobby_state.specs.declared.acts.LobbyAct.{LobbyAct}
-use Rattle.lobby_state.specs.declared.acts.LobbyAct.TheVariants.{Enter, Register, Match, Unpost, Sought, Who, Where, Fetch, Going, Bye, InUse, Var, Tell, Shout, Decline, Withdraw, Post, Channel, TellChannel, InChannel, Partner, Ptell}
+use Rattle.lobby_state.specs.declared.acts.LobbyAct.TheVariants.{Enter, Register, Match, Unpost, Sought, Who, Where, Fetch, Going, Bye, InUse, Var, Tell, Shout, Decline, Withdraw, Post, Channel, TellChannel, InChannel, Partner, Ptell, List, Pending, Games, Find, FindGame}
 use Rattle.lobby_state.specs.declared.acts.LobbyReply.{LobbyReply}
 use Rattle.lobby_state.specs.Acts.{LobbyNeedsNoMemory, lobby_after, lobby_answer, lobby_effect}
 use Rattle.lobby_state.specs.Keeps.{Keeps, TellsDesks}
@@ -20,9 +20,14 @@ use Rattle.lobby_state.proofs.KeepsTellChannel.{keeps_tell_channel}
 use Rattle.lobby_state.proofs.KeepsDecline.{keeps_decline}
 use Rattle.lobby_state.proofs.KeepsEnter.{keeps_enter}
 use Rattle.lobby_state.proofs.KeepsFetch.{keeps_fetch}
+use Rattle.lobby_state.proofs.KeepsGames.{keeps_games}
+use Rattle.lobby_state.proofs.KeepsFind.{keeps_find}
+use Rattle.lobby_state.proofs.KeepsFindGame.{keeps_find_game}
 use Rattle.lobby_state.proofs.KeepsGoing.{keeps_going}
 use Rattle.lobby_state.proofs.KeepsInUse.{keeps_in_use}
 use Rattle.lobby_state.proofs.KeepsMatch.{keeps_match}
+use Rattle.lobby_state.proofs.KeepsNameList.{keeps_list}
+use Rattle.lobby_state.proofs.KeepsPending.{keeps_pending}
 use Rattle.lobby_state.proofs.KeepsPost.{keeps_post}
 use Rattle.lobby_state.proofs.KeepsRegistration.{keeps_registration}
 use Rattle.lobby_state.proofs.KeepsSought.{keeps_sought}
@@ -45,7 +50,10 @@ keeps_act lobby session (Post terms) = keeps_post lobby session terms
 keeps_act lobby session (Unpost number) = keeps_unpost lobby session number
 keeps_act lobby session Sought = keeps_sought lobby session
 keeps_act lobby session Who = keeps_who lobby session
+keeps_act lobby session Pending = keeps_pending lobby session
+keeps_act lobby session Games = keeps_games lobby session
 keeps_act lobby session (Var which on) = keeps_var lobby session which on
+keeps_act lobby session (List which name on) = keeps_list lobby session which name on
 keeps_act lobby session (Tell to text) = keeps_tell lobby session to text
 keeps_act lobby session (Shout text) = keeps_shout lobby session text
 keeps_act lobby session (Channel channel on) = keeps_channel lobby session channel on
@@ -55,6 +63,8 @@ keeps_act lobby session (Decline name) = keeps_decline lobby session name
 keeps_act lobby session (Withdraw name) = keeps_withdraw lobby session name
 keeps_act lobby session (Partner name) = keeps_partner lobby session name
 keeps_act lobby session (Ptell text) = keeps_ptell lobby session text
+keeps_act lobby session (Find name) = keeps_find lobby session name
+keeps_act lobby session (FindGame number) = keeps_find_game lobby session number
 keeps_act lobby session Where = keeps_where lobby session
 keeps_act lobby session Fetch = keeps_fetch lobby session
 keeps_act lobby session Going = keeps_going lobby session

@@ -33,5 +33,5 @@ pub keeps_play : (lobby : LobbyState) (session number : ℕ) → KeepsPlanned lo
 keeps_play lobby session number = record {
   planned = λ allowed h.
       planned_by lobby session number (member_of lobby session) (seek_of lobby.seeks number) (seeking_in lobby (seek_of lobby.seeks number)) (free_slot lobby)
-      refl refl refl refl allowed.0 allowed.1.0 allowed.1.1.0 (either_false _ _ allowed.1.1.1.1.0) h;
+      refl refl refl refl allowed.0 allowed.1.0 allowed.1.1.0 (either_false _ _ allowed.1.1.1.1.1.1.0) h;
 }

@@ -16,8 +16,12 @@ use Rattle.chess_model.specs.declared.variant.Variant.TheVariants.{Chess, Crazyh
 use Rattle.chess_model.specs.VariantWord.{word_of}
 use Rattle.fics_words.specs.Handle.{IsHandle}
 use Rattle.fics_words.specs.Line.{IsLine, IsPrintable}
+use Rattle.lobby_state.specs.declared.pending.Side.{Side}
+use Rattle.lobby_state.specs.declared.pending.Side.TheVariants.{FromOthers, ToOthers}
+use Rattle.lobby_state.specs.Games.{board_words}
 use Rattle.lobby_state.specs.Match.{challenge_words}
 use Rattle.lobby_state.specs.Partner.{partner_words}
+use Rattle.lobby_state.specs.Pending.{pending_words, side_words}
 use Rattle.lobby_state.specs.Post.{seek_words}
 use Rattle.lobby_state.specs.Said.{IsWording}
 use Rattle.lobby_state.specs.Sought.{sought_words}
@@ -157,3 +161,20 @@ IsPrinted-link_words name h =
 
 pub IsLine-from_printed : (most : ℕ) (text : List ℕ) → most ≤ 1023 → IsPrinted most text → IsLine text
 IsLine-from_printed most text few h = (omega (arith, few, h.short), h.shows)
+
+IsPrinted-side : (side : Side) → IsPrinted 5 (side_words side)
+IsPrinted-side FromOthers = IsPrinted-from_test 5 (side_words FromOthers) (omega arith) refl
+IsPrinted-side ToOthers = IsPrinted-from_test 5 (side_words ToOthers) (omega arith) refl
+
+pub IsPrinted-pending_words : (side : Side) (name : List ℕ) (terms : Terms) → IsPrinted 17 name → terms.minutes < 2 ^ 16 → terms.increment < 2 ^ 16
+    → IsPrinted 51 (pending_words side name terms)
+IsPrinted-pending_words side name terms h minutes increment =
+    let join = IsPrinted-append in
+    join 23 28 _ _ (join 22 1 _ _ (join 5 17 _ _ (IsPrinted-side side) h) IsPrinted-blank) (IsPrinted-terms_words terms minutes increment)
+
+pub IsPrinted-board_words : (number : ℕ) (white black : List ℕ) (terms : Terms) → IsPrinted 17 white → IsPrinted 17 black → number < 2 ^ 16
+    → terms.minutes < 2 ^ 16 → terms.increment < 2 ^ 16 → IsPrinted 70 (board_words number white black terms)
+IsPrinted-board_words number white black terms w b small minutes increment =
+    let join = IsPrinted-append in
+    join 42 28 _ _ (join 41 1 _ _ (join 24 17 _ _ (join 23 1 _ _ (join 6 17 _ _ (join 5 1 _ _ (IsPrinted-decimal number small) IsPrinted-blank) w)
+    IsPrinted-blank) b) IsPrinted-blank) (IsPrinted-terms_words (record terms { colour = None }) minutes increment)

@@ -4,7 +4,7 @@ use Rattle.chess_model.specs.declared.variant.Terms.{Terms}
 use Rattle.fics_words.specs.declared.refusal.Refusal.{Refusal}
 use Rattle.fics_words.specs.Effect.{Effect, answer_of, state_of}
 use Rattle.lobby_state.specs.declared.acts.LobbyAct.{LobbyAct}
-use Rattle.lobby_state.specs.declared.acts.LobbyAct.TheVariants.{Enter, Register, Match, Unpost, Sought, Who, Where, Fetch, Going, Bye, InUse, Var, Tell, Shout, Decline, Withdraw, Post, Channel, TellChannel, InChannel, Partner, Ptell}
+use Rattle.lobby_state.specs.declared.acts.LobbyAct.TheVariants.{Enter, Register, Match, Unpost, Sought, Who, Where, Fetch, Going, Bye, InUse, Var, Tell, Shout, Decline, Withdraw, Post, Channel, TellChannel, InChannel, Partner, Ptell, List, Pending, Games, Find, FindGame}
 use Rattle.lobby_state.specs.declared.acts.LobbyReply.{LobbyReply}
 use Rattle.lobby_state.specs.Bye.{bye_effect}
 use Rattle.lobby_state.specs.Channel.{channel_effect}
@@ -13,10 +13,15 @@ use Rattle.lobby_state.specs.TellChannel.{tell_channel_effect}
 use Rattle.lobby_state.specs.Decline.{decline_effect}
 use Rattle.lobby_state.specs.Enter.{enter_effect}
 use Rattle.lobby_state.specs.Fetch.{fetch_effect}
+use Rattle.lobby_state.specs.Games.{games_effect}
+use Rattle.lobby_state.specs.Find.{find_effect}
+use Rattle.lobby_state.specs.FindGame.{find_game_effect}
 use Rattle.lobby_state.specs.Going.{going_effect}
 use Rattle.lobby_state.specs.InUse.{in_use_effect}
 use Rattle.lobby_state.specs.Lobby.{LobbyState}
 use Rattle.lobby_state.specs.Match.{match_effect}
+use Rattle.lobby_state.specs.NameList.{list_effect}
+use Rattle.lobby_state.specs.Pending.{pending_effect}
 use Rattle.lobby_state.specs.Post.{post_effect}
 use Rattle.lobby_state.specs.Registration.{registration_effect}
 use Rattle.lobby_state.specs.Sought.{sought_effect}
@@ -39,7 +44,10 @@ lobby_effect lobby session (Post terms) = post_effect lobby session terms
 lobby_effect lobby session (Unpost number) = unpost_effect lobby session number
 lobby_effect lobby session Sought = sought_effect lobby session
 lobby_effect lobby session Who = who_effect lobby session
+lobby_effect lobby session Pending = pending_effect lobby session
+lobby_effect lobby session Games = games_effect lobby session
 lobby_effect lobby session (Var which on) = var_effect lobby session which on
+lobby_effect lobby session (List which name on) = list_effect lobby session which name on
 lobby_effect lobby session (Tell to text) = tell_effect lobby session to text
 lobby_effect lobby session (Shout text) = shout_effect lobby session text
 lobby_effect lobby session (Channel channel on) = channel_effect lobby session channel on
@@ -49,6 +57,8 @@ lobby_effect lobby session (Decline name) = decline_effect lobby session name
 lobby_effect lobby session (Withdraw name) = withdraw_effect lobby session name
 lobby_effect lobby session (Partner name) = partner_effect lobby session name
 lobby_effect lobby session (Ptell text) = ptell_effect lobby session text
+lobby_effect lobby session (Find name) = find_effect lobby session name
+lobby_effect lobby session (FindGame number) = find_game_effect lobby session number
 lobby_effect lobby session Where = where_effect lobby session
 lobby_effect lobby session Fetch = fetch_effect lobby session
 lobby_effect lobby session Going = going_effect lobby session

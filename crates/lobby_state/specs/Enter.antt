@@ -50,6 +50,8 @@ newcomer session name = record {
   going = false;
   places = no_places;
   wants = all_wanted;
+  censor = [];
+  noplay = [];
   waiting = [];
 }
 

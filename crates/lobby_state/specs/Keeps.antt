@@ -3,7 +3,7 @@
 use Rattle.std.specs.Prelude.{◌≡◌, ◌≢◌, ℕ, ◌-◌, ◌≤◌, All, Bool, IfSome, Option, Some, slice_get}
 use Rattle.fics_words.specs.Effect.{Effect, NoneHolds}
 use Rattle.lobby_state.specs.declared.acts.LobbyReply.{LobbyReply}
-use Rattle.lobby_state.specs.declared.acts.LobbyReply.TheVariants.{Done, Entered, NeedPassword, Lines, Places, Waiting, Desks, Told, Number, Asked}
+use Rattle.lobby_state.specs.declared.acts.LobbyReply.TheVariants.{Done, Entered, NeedPassword, Lines, Places, Waiting, Desks, Told, Number, Asked, Found}
 use Rattle.lobby_state.specs.declared.acts.Plan.{Plan}
 use Rattle.lobby_state.specs.declared.game.Game.{Game}
 use Rattle.lobby_state.specs.Desks.{IsDesk}
@@ -22,6 +22,7 @@ TellsDesks (Number number) = Unit {0}
 TellsDesks Asked = Unit {0}
 TellsDesks (Lines lines) = Unit {0}
 TellsDesks (Told count) = Unit {0}
+TellsDesks (Found place) = IsDesk place.desk
 TellsDesks (Places places) = AreAtDesks places.rows
 TellsDesks (Waiting lines places) = AreAtDesks places.rows
 TellsDesks (Desks desks) = All (λ row. IsDesk row.desk) desks

@@ -6,11 +6,14 @@ pub mod Lobby
 pub mod Enter
 pub mod Registration
 pub mod TermsText
+pub mod NameList
 pub mod Match
 pub mod Post
 pub mod Unpost
 pub mod Sought
 pub mod Who
+pub mod Pending
+pub mod Games
 pub mod Broadcast
 pub mod Said
 pub mod Shout
@@ -21,6 +24,8 @@ pub mod InChannel
 pub mod Var
 pub mod Where
 pub mod Fetch
+pub mod Find
+pub mod FindGame
 pub mod Going
 pub mod Bye
 pub mod InUse
@@ -28,6 +33,7 @@ pub mod Told
 pub mod Starting
 pub mod Accept
 pub mod Play
+pub mod KeptAway
 pub mod Decline
 pub mod Withdraw
 pub mod Partner

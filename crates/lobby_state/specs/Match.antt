@@ -12,6 +12,7 @@ use Rattle.lobby_state.specs.declared.challenge.Challenge.{Challenge}
 use Rattle.lobby_state.specs.declared.member.Member.{Member}
 use Rattle.lobby_state.specs.Change.{change_first, holds}
 use Rattle.lobby_state.specs.Lobby.{LobbyState, most_lines, is_session, is_named, has_place, member_of, named}
+use Rattle.lobby_state.specs.NameList.{avoids}
 use Rattle.lobby_state.specs.TermsText.{terms_words}
 
 -- the line that a challenge sends: who challenges, and on which terms
@@ -53,8 +54,8 @@ challenged lobby (Some caller) (Some other) to terms = record lobby {
 }
 
 -- a challenge is refused where the session isn't a member; where nobody has the handle, or that member is going; where
--- it is the session itself; where one of the two has a place; where the other doesn't want to be challenged; where the
--- game needs partners; and where 512 lines wait for the other
+-- it is the session itself; where one of the two has a place; where the other doesn't want to be challenged, or has the
+-- member on one of its lists; where the game needs partners; and where 512 lines wait for the other
 abbrev pub match_effect : LobbyState → ℕ → List ℕ → Terms → Effect LobbyState LobbyReply
 match_effect lobby session to terms = record {
   causes =
@@ -62,7 +63,7 @@ match_effect lobby session to terms = record {
       (is_none (named lobby to), NoSuchPlayer) ∷
       (holds (is_session session) (named lobby to), BadOpponent) ∷
       (holds has_place (member_of lobby session) || holds has_place (named lobby to), Playing) ∷
-      (holds is_closed (named lobby to), Refuses) ∷
+      (holds is_closed (named lobby to) || holds (avoids (member_of lobby session)) (named lobby to), Refuses) ∷
       (needs_partners terms.variant, NoPartner) ∷
       (holds is_full (named lobby to), QueueFull) ∷ [];
   memory = true;

@@ -2,12 +2,13 @@
 use Rattle.std.specs.Prelude.{ℕ, ◌+◌, false, ◌∷◌, Option, None, Some, is_none}
 use Rattle.chess_model.specs.declared.variant.Terms.{Terms}
 use Rattle.fics_words.specs.Effect.{Effect}
-use Rattle.fics_words.specs.declared.refusal.Refusal.TheVariants.{NotIn, NoSuchSeek, BadOpponent}
+use Rattle.fics_words.specs.declared.refusal.Refusal.TheVariants.{NotIn, NoSuchSeek, BadOpponent, Playing, Refuses}
 use Rattle.lobby_state.specs.declared.acts.Plan.{Plan}
 use Rattle.lobby_state.specs.declared.member.Member.{Member}
 use Rattle.lobby_state.specs.Change.{holds}
 use Rattle.lobby_state.specs.Lobby.{LobbyState, free_slot, is_session, member_of}
-use Rattle.lobby_state.specs.Starting.{start_causes, start_plan}
+use Rattle.lobby_state.specs.NameList.{avoids}
+use Rattle.lobby_state.specs.Starting.{are_playing, start_causes, start_plan}
 use Rattle.seek_match.specs.declared.seek.Seek.{Seek}
 use Rattle.seek_match.specs.Seeks.{seek_of}
 
@@ -21,8 +22,9 @@ abbrev pub terms_sought : Option Seek → Option Terms
 terms_sought None = None
 terms_sought (Some seek) = Some seek.terms
 
--- a Play is refused where the session isn't a member; where no seek has the number; where the seek is its own; and where
--- no game of the two can start, of which the seek's player is the one that offers
+-- a Play is refused where the session isn't a member; where no seek has the number; where the seek is its own; where one
+-- of the two has a place; where the seek's player has the member on one of its lists; and where no game of the two can
+-- start, of which the seek's player is the one that offers
 abbrev pub play_effect : LobbyState → ℕ → ℕ → Effect LobbyState Plan
 play_effect lobby session number =
     let accepting = member_of lobby session in
@@ -33,6 +35,8 @@ play_effect lobby session number =
           (is_none accepting, NotIn) ∷
           (is_none offering, NoSuchSeek) ∷
           (holds (is_session session) offering, BadOpponent) ∷
+          (are_playing accepting offering, Playing) ∷
+          (holds (avoids accepting) offering, Refuses) ∷
           start_causes lobby accepting offering;
       memory = false;
       reply =

@@ -47,10 +47,14 @@ start_plan accounts serial (Some accepting) (Some terms) (Some offering) (Some s
     })
 start_plan _ _ _ _ _ _ = no_plan
 
+-- one of the two has a place
+abbrev pub are_playing : Option Member → Option Member → Bool
+are_playing accepting offering = holds has_place accepting || holds has_place offering
+
 -- no game starts where one of the two has a place; and where all desks are in use, or 2^62 games were started
 abbrev pub start_causes : LobbyState → Option Member → Option Member → List Cause
 start_causes lobby accepting offering =
-    (holds has_place accepting || holds has_place offering, Playing) ∷
+    (are_playing accepting offering, Playing) ∷
     (is_none (free_slot lobby) || nat_le most_games lobby.started, NoDesk) ∷ []
 
 -- a game between two members that are there

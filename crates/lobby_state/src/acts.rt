@@ -4,6 +4,8 @@ ghost use Rattle.lobby_state.specs.Told.{lists_told};
 ghost use Rattle.lobby_state.specs.Plans.{desk_of};
 
 use crate::desk_in_use::DeskInUse;
+use crate::name_list::WhichList;
+use crate::place::Place;
 use crate::places::Places;
 use crate::told::ReplyLists;
 use crate::var::Var;
@@ -41,9 +43,19 @@ pub enum LobbyAct {
     Sought,
     /// Asks who is in the hall.
     Who,
+    /// Asks which challenges to the member and by it stand.
+    Pending,
+    /// Asks which games there are.
+    Games,
     /// The member's variable is on or off from now on.
     Var {
         which: Var,
+        on: bool,
+    },
+    /// The member puts the name on that list of its own, or takes it off where `on` is false.
+    List {
+        which: WhichList,
+        name: HandleKey,
         on: bool,
     },
     /// The member says the text, of at most 800 bytes, to the player with this handle.
@@ -85,6 +97,14 @@ pub enum LobbyAct {
     Ptell {
         text: Line,
     },
+    /// Asks where the player with this handle plays.
+    Find {
+        name: HandleKey,
+    },
+    /// Asks where the game of that number is played.
+    FindGame {
+        number: u16,
+    },
     /// Asks for the member's places.
     Where,
     /// Takes the lines that wait for the member, and asks for its places.
@@ -114,6 +134,8 @@ pub enum LobbyReply {
     Told(u16),
     /// The other is asked, and hasn't asked before.
     Asked,
+    /// The present place of a player, or the first seat of a game.
+    Found(Place),
     Places(Places),
     Waiting { lines: Listed<Line>, places: Places },
     /// The desks in use, in ascending order.
@@ -134,6 +156,7 @@ impl LobbyReply {
             LobbyReply::Lines(_) => LobbyReply::Lines(lists.lines),
             LobbyReply::Told(count) => LobbyReply::Told(*count),
             LobbyReply::Asked => LobbyReply::Asked,
+            LobbyReply::Found(place) => LobbyReply::Found(*place),
             LobbyReply::Places(places) => LobbyReply::Places(*places),
             LobbyReply::Waiting { places, .. } => LobbyReply::Waiting {
                 lines: lists.lines,

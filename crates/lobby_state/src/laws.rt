@@ -5,6 +5,7 @@ ghost use Rattle.lobby_state.specs.Acts.{lobby_effect};
 ghost use Rattle.lobby_state.specs.Enter.{guest_in, names_taken};
 ghost use Rattle.lobby_state.specs.InUse.{AreDesksInUse, desks_in_use};
 ghost use Rattle.lobby_state.specs.Keeps.{Keeps, KeepsPlan};
+ghost use Rattle.lobby_state.specs.KeptAway.{KeepAway};
 ghost use Rattle.lobby_state.specs.Lobby.{most_members};
 ghost use Rattle.lobby_state.specs.Planned.{IsPlanned};
 ghost use Rattle.lobby_state.specs.Plans.{NamesDesk, plan_of};
@@ -12,6 +13,7 @@ ghost use Rattle.lobby_state.specs.WellFormed.{IsWellFormed};
 
 use crate::acts::{LobbyAct, PairAct, Plan};
 use crate::lobby::Lobby;
+use fics_words::HandleKey;
 
 /// Every lobby is well-formed.
 pub fn lobbies_are_well_formed(lobby: &Lobby)
@@ -40,6 +42,12 @@ pub fn guests_have_the_least_name(lobby: &Lobby)
 {
     let _ = &lobby.register;
 }
+
+/// Who is on another's list doesn't reach it: a Tell of one that the other censors is refused, and nothing changes; a
+/// Match and a Play of one that the other avoids aren't done.
+pub fn lists_keep_away(lobby: &Lobby, session: u32, to: HandleKey, number: u16)
+    ensures { KeepAway lobby.now session to number }
+{}
 
 /// An InUse tells the desks that are in use with their serials, each of them once, in ascending order.
 pub fn in_use_tells_the_desks(lobby: &Lobby)

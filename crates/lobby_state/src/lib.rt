@@ -21,7 +21,10 @@ mod decline;
 mod desk_in_use;
 mod enter;
 mod fetch;
+mod find;
+mod find_game;
 mod game;
+mod games;
 mod going;
 mod in_channel;
 mod in_use;
@@ -29,7 +32,9 @@ mod laws;
 mod lobby;
 mod matching;
 mod member;
+mod name_list;
 mod partner;
+mod pending;
 mod place;
 mod places;
 mod play;
@@ -60,13 +65,15 @@ pub use challenge::Challenge;
 pub use desk_in_use::DeskInUse;
 pub use game::{DESKS, Game};
 pub use laws::{
-    acts_keep, guests_have_the_least_name, in_use_tells_the_desks, lobbies_are_well_formed,
-    plans_keep,
+    acts_keep, guests_have_the_least_name, in_use_tells_the_desks, lists_keep_away,
+    lobbies_are_well_formed, plans_keep,
 };
 pub use lobby::Lobby;
 pub use member::Member;
+pub use name_list::WhichList;
 pub use place::Place;
 pub use places::Places;
+pub use said::said_line;
 pub use told::ReplyLists;
 pub use var::Var;
 pub use wants::Wants;

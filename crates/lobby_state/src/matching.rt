@@ -15,7 +15,7 @@ use std::alloc::Global;
 impl Register {
     /// The session challenges the named player. The causes of a refusal, in order: the session isn't a member; nobody
     /// has the handle, or that member is going; it is the session itself; one of the two has a place; the other has
-    /// `open` off; the game needs partners; 512 lines wait for the other.
+    /// `open` off, or has the member on one of its lists; the game needs partners; 512 lines wait for the other.
     pub(crate) fn challenge(
         &mut self,
         session: u32,
@@ -36,7 +36,7 @@ impl Register {
         if caller.has_place() || other.has_place() {
             return Err(Fail::Refused(Refusal::Playing));
         }
-        if !other.wants.matches {
+        if !other.wants.matches || other.avoids(caller) {
             return Err(Fail::Refused(Refusal::Refuses));
         }
         if matches!(terms.variant, Variant::Bughouse) {

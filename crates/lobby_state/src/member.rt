@@ -9,6 +9,7 @@ ghost use Rattle.lobby_state.specs.Match.{is_full, with_line};
 
 use crate::places::Places;
 use crate::wants::Wants;
+use channel_feed::NameList;
 use collections::{Change, Listed, Predicate, Roomy, position};
 use fics_words::{Handle, HandleKey, Line, NoMemory};
 use std::alloc::Global;
@@ -32,6 +33,10 @@ pub struct Member {
     pub places: Places,
     /// What the member wants others to send.
     pub wants: Wants,
+    /// Those who can't tell the member anything, nor play with it.
+    pub censor: NameList,
+    /// Those who can't play with the member.
+    pub noplay: NameList,
     /// The lines that wait for the member, the oldest first.
     pub waiting: Listed<Line>,
 }
@@ -51,6 +56,8 @@ impl Member {
                 shouts: true,
                 seeks: true,
             },
+            censor: NameList::new(alloc),
+            noplay: NameList::new(alloc),
             waiting: Listed::new(alloc),
         }
     }

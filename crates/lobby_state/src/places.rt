@@ -79,7 +79,7 @@ impl Places {
     }
 
     /// Puts a place behind the others; the present one stays. Where there are 32 nothing changes.
-    pub(crate) fn add(&mut self, place: Place)
+    pub fn add(&mut self, place: Place)
         requires { IsDesk place.desk }
         ensures { self.new ≡ with_place place self.old }
     {
@@ -90,7 +90,7 @@ impl Places {
     }
 
     /// The places without those at this desk.
-    pub(crate) fn without(&self, desk: u8) -> Places
+    pub fn without(&self, desk: u8) -> Places
         ensures { result ≡ without_desk desk self.now }
     {
         let rows = self.rows();

@@ -6,12 +6,7 @@ use fics_words::{Handle, Line, NoMemory};
 use std::alloc::Global;
 
 /// The line of what a member says: its name, how it says it, and its text.
-pub(crate) fn said_line(
-    alloc: Global,
-    name: Handle,
-    wording: &[u8],
-    text: &[u8],
-) -> Result<Line, NoMemory>
+pub fn said_line(alloc: Global, name: Handle, wording: &[u8], text: &[u8]) -> Result<Line, NoMemory>
     requires wording { IsWording wording.now }
     requires text { IsText text.now }
     ensures { IfOk result (λ line. line ≡ said name wording.now text.now) }

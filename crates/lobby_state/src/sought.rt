@@ -45,7 +45,7 @@ impl Register {
     }
 
     /// The letters of the session's handle; none where it isn't a member.
-    fn letters_of(&self, session: u32) -> &[u8]
+    pub(crate) fn letters_of(&self, session: u32) -> &[u8]
         ensures letters { result.now ≡ name_in (member_of self.now session) }
         ensures short { length result.now ≤ 17 }
         ensures shows { All IsPrintable result.now }

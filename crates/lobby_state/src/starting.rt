@@ -1,7 +1,7 @@
 //! The plan of a game between a member that offers one and a member that accepts.
-ghost use Rattle.std.specs.Prelude.{◌≡◌};
+ghost use Rattle.std.specs.Prelude.{◌≡◌, Some};
 ghost use Rattle.fics_words.specs.Effect.{answer_of};
-ghost use Rattle.lobby_state.specs.Starting.{offers_white, opponents_of, player_of, starting};
+ghost use Rattle.lobby_state.specs.Starting.{are_playing, offers_white, opponents_of, player_of, starting};
 
 use crate::acts::Plan;
 use crate::member::Member;
@@ -24,7 +24,7 @@ impl Register {
     ) -> Result<Plan, Refusal>
         ensures { result ≡ answer_of (starting self.now accepting.now offering.now terms) }
     {
-        if accepting.has_place() || offering.has_place() {
+        if are_playing(accepting, offering) {
             return Err(Refusal::Playing);
         }
         let Some(slot) = self.free_slot() else {
@@ -45,6 +45,13 @@ impl Register {
             },
         })
     }
+}
+
+/// Whether one of the two has a place.
+pub(crate) fn are_playing(accepting: &Member, offering: &Member) -> bool
+    ensures { result ≡ are_playing (Some accepting.now) (Some offering.now) }
+{
+    accepting.has_place() || offering.has_place()
 }
 
 /// The two at their board.

@@ -26,7 +26,10 @@ impl Register {
             LobbyAct::Unpost { number } => self.unpost(session, *number),
             LobbyAct::Sought => self.sought(session),
             LobbyAct::Who => self.who(session),
+            LobbyAct::Pending => self.pending(session),
+            LobbyAct::Games => self.games(session),
             LobbyAct::Var { which, on } => self.set_var(session, *which, *on),
+            LobbyAct::List { which, name, on } => self.list(session, *which, *name, *on),
             LobbyAct::Tell { to, text } => self.tell(session, *to, text),
             LobbyAct::Shout { text } => self.shout(session, text),
             LobbyAct::Channel { channel, on } => self.channel(session, *channel, *on),
@@ -36,6 +39,8 @@ impl Register {
             LobbyAct::Withdraw { name } => self.withdraw(session, *name),
             LobbyAct::Partner { name } => self.partner(session, *name),
             LobbyAct::Ptell { text } => self.ptell(session, text),
+            LobbyAct::Find { name } => self.find(session, *name),
+            LobbyAct::FindGame { number } => self.find_game(session, *number),
             LobbyAct::Where => Ok(self.where_is(session)),
             LobbyAct::Fetch => Ok(self.fetch(session)),
             LobbyAct::Going => Ok(self.going(session)),
@@ -61,6 +66,14 @@ impl Register {
             }),
             LobbyAct::Who => Ok(ReplyLists {
                 lines: self.who_lines()?,
+                ..none
+            }),
+            LobbyAct::Pending => Ok(ReplyLists {
+                lines: self.pending_lines(session)?,
+                ..none
+            }),
+            LobbyAct::Games => Ok(ReplyLists {
+                lines: self.games_lines()?,
                 ..none
             }),
             LobbyAct::InChannel { channel } => Ok(ReplyLists {

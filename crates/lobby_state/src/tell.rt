@@ -11,7 +11,8 @@ use fics_words::{Fail, HandleKey, Line, Refusal};
 
 impl Register {
     /// The member says the text to the named player. The causes of a refusal, in order: the session isn't a member;
-    /// nobody has the handle, or that member is going; 512 lines wait for the other.
+    /// nobody has the handle, or that member is going; the other has the member on its censor list; 512 lines wait for
+    /// the other.
     pub(crate) fn tell(
         &mut self,
         session: u32,
@@ -27,6 +28,9 @@ impl Register {
         let Some(other) = self.named(to) else {
             return Err(Fail::Refused(Refusal::NoSuchPlayer));
         };
+        if other.censors(caller) {
+            return Err(Fail::Refused(Refusal::Refuses));
+        }
         if other.is_full() {
             return Err(Fail::Refused(Refusal::QueueFull));
         }

@@ -1,0 +1,10 @@
+use Rattle.std.proofs.Common.{sym, subst, arith}
+use Rattle.fics_words.specs.Line.{IsLine}
+use Rattle.lobby_state.proofs.Words.{IsLine-from_printed, IsPrinted, IsPrinted-pending_words}
+use Rattle.lobby_state.proofs.register.Register.pending_line.Goals as goal
+
+pub from_bytes-requires : goal.from_bytes-requires
+from_bytes-requires c =
+    let name : IsPrinted 17 c.letters_of-letters.result.now = record { short = c.letters_of-letters.ensures.short; shows = c.letters_of-letters.ensures.shows } in
+    subst IsLine (sym c.in_ok-text.ensures)
+    (IsLine-from_printed 51 _ (omega arith) (IsPrinted-pending_words c.args.side c.letters_of-letters.result.now c.args.challenge.terms name (omega arith) (omega arith)))

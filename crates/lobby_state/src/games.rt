@@ -1,0 +1,141 @@
+//! Games: a member asks which games there are.
+ghost use Rattle.std.specs.Prelude.{◌≡◌, ◌≤◌, ◌++◌, IfOk, OnOk, Some};
+ghost use Rattle.fics_words.specs.Effect.{Takes};
+ghost use Rattle.lobby_state.specs.Desks.{IsDesk};
+ghost use Rattle.lobby_state.specs.Games.{board_line, board_words, game_number, games_effect, games_lines, lines_at, second_line};
+
+use crate::acts::LobbyReply;
+use crate::game::{DESKS, Game};
+use crate::register::Register;
+use crate::terms::put_terms;
+use chess_model::Terms;
+use collections::Listed;
+use fics_words::{Fail, Line, NoMemory, Opponents, Refusal, write_number};
+use std::alloc::Global;
+
+impl Register {
+    /// The lines of all games, in the order of their numbers, one a board. It is refused where the session isn't a
+    /// member.
+    pub(crate) fn games(&self, session: u32) -> Result<LobbyReply, Fail>
+        ensures { Takes (games_effect self.now session) self.now self.now result }
+    {
+        if self.member(session).is_none() {
+            return Err(Fail::Refused(Refusal::NotIn));
+        }
+        let lines = self.games_lines()?;
+        Ok(LobbyReply::Lines(lines))
+    }
+
+    /// The list of these lines.
+    pub(crate) fn games_lines(&self) -> Result<Listed<Line>, NoMemory>
+        ensures { IfOk result (λ lines. lines ≡ games_lines self.now) }
+    {
+        let mut lines = Listed::new(self.alloc);
+        for slot in 0..DESKS {
+            let desk = slot as u8 + 1;
+            put_desk(self.alloc, &mut lines, desk, self.game(desk))?;
+        }
+        Ok(lines)
+    }
+}
+
+/// Appends the lines of the desk, where it is in use.
+fn put_desk(
+    alloc: Global,
+    lines: &mut Listed<Line>,
+    desk: u8,
+    game: Option<Game>,
+) -> Result<(), NoMemory>
+    requires { IsDesk desk }
+    ensures { OnOk result (lines.new ≡ lines.old ++ lines_at desk game) }
+{
+    match game {
+        None => Ok(()),
+        Some(game) => put_game(alloc, lines, desk, &game),
+    }
+}
+
+/// Appends the lines of the desk in use for that game.
+fn put_game(alloc: Global, lines: &mut Listed<Line>, desk: u8, game: &Game) -> Result<(), NoMemory>
+    requires { IsDesk desk }
+    ensures { OnOk result (lines.new ≡ lines.old ++ lines_at desk (Some game.now)) }
+{
+    let first = board_line(alloc, game_number(desk, 1), game.terms, game.seats.first)?;
+    lines.push(first)?;
+    put_second(
+        alloc,
+        lines,
+        game_number(desk, 2),
+        game.terms,
+        game.seats.second,
+    )
+}
+
+/// Appends the line of the second board, where there is one.
+fn put_second(
+    alloc: Global,
+    lines: &mut Listed<Line>,
+    number: u16,
+    terms: Terms,
+    second: Option<Opponents>,
+) -> Result<(), NoMemory>
+    ensures { OnOk result (lines.new ≡ lines.old ++ second_line number terms second) }
+{
+    match second {
+        None => Ok(()),
+        Some(opponents) => {
+            lines.push(board_line(alloc, number, terms, opponents)?)?;
+            Ok(())
+        }
+    }
+}
+
+/// The number of the game at that desk's first or second board.
+fn game_number(desk: u8, board: u16) -> u16
+    requires desk { IsDesk desk }
+    requires board { board ≤ 2 }
+    ensures { result ≡ game_number desk board }
+{
+    2 * (u16::from(desk) - 1) + board
+}
+
+/// The line of a board, `G W B M I V`: the game's number, who has White and who has Black, and the terms without a
+/// colour.
+fn board_line(
+    alloc: Global,
+    number: u16,
+    terms: Terms,
+    opponents: Opponents,
+) -> Result<Line, NoMemory>
+    ensures { IfOk result (λ line. line ≡ board_line number terms opponents) }
+{
+    let white = opponents.white.name.letters();
+    let black = opponents.black.name.letters();
+    let text = board_text(alloc, number, white, black, terms)?;
+    Ok(Line::from_bytes(text))
+}
+
+/// The bytes of that line, for players with these letters.
+fn board_text(
+    alloc: Global,
+    number: u16,
+    white: &[u8],
+    black: &[u8],
+    terms: Terms,
+) -> Result<Vec<u8>, NoMemory>
+    ensures { IfOk result (λ text. text.items ≡ board_words number white.now black.now terms) }
+{
+    let mut text = Vec::new(alloc);
+    write_number(&mut text, u64::from(number))?;
+    text.push(b' ')?;
+    text.extend_from_slice(white)?;
+    text.push(b' ')?;
+    text.extend_from_slice(black)?;
+    text.push(b' ')?;
+    let uncoloured = Terms {
+        colour: None,
+        ..terms
+    };
+    put_terms(alloc, uncoloured, &mut text)?;
+    Ok(text)
+}
