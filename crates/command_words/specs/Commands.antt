@@ -11,23 +11,29 @@ use Rattle.command_words.specs.declared.command.Command.{Command}
 use Rattle.command_words.specs.declared.command.Command.TheVariants as command
 use Rattle.command_words.specs.declared.verbs.Verb.{Verb}
 use Rattle.command_words.specs.declared.verbs.Verb.TheVariants as verb
-use Rattle.command_words.specs.declared.verbs.Verb.TheVariants.{Accept, Decline, Flag, InChannel, JoinChannel, LeaveChannel, Match, Play, Quit, Register, Resign, Seek, Set, Shout, Sought, Tell, Unalias, Unseek, Who, Withdraw, Partner, Ptell}
+use Rattle.command_words.specs.declared.verbs.Verb.TheVariants.{Accept, Decline, Flag, InChannel, JoinChannel, LeaveChannel, Match, Play, Quit, Register, Resign, Seek, Set, Shout, Sought, Tell, Unalias, Unseek, Who, Withdraw, Partner, Ptell, AddCensor, AddNoplay, DropCensor, DropNoplay, Games, Pending, Kibitz, Observe, Refresh, Style, Unobserve}
 use Rattle.command_words.specs.Blanks.{trimmed, first_word, rest_of}
 use Rattle.command_words.specs.Aliases.{alias_of, expanded}
 use Rattle.command_words.specs.Verbs.{verb_of}
+use Rattle.command_words.specs.Abort.{abort_of}
 use Rattle.command_words.specs.Accept.{accept_of}
 use Rattle.command_words.specs.Alias.{alias_command, unalias_command}
 use Rattle.command_words.specs.Channel.{channel_of}
 use Rattle.command_words.specs.Decline.{decline_of}
+use Rattle.command_words.specs.Draw.{draw_of}
 use Rattle.command_words.specs.Flag.{flag_of}
+use Rattle.command_words.specs.Games.{games_of}
 use Rattle.command_words.specs.InChannel.{in_channel_of}
 use Rattle.command_words.specs.Match.{match_of}
+use Rattle.command_words.specs.NameList.{censor_of, noplay_of}
+use Rattle.command_words.specs.Pending.{pending_of}
 use Rattle.command_words.specs.Play.{play_of}
 use Rattle.command_words.specs.Quit.{quit_of}
 use Rattle.command_words.specs.Register.{register_of}
 use Rattle.command_words.specs.Resign.{resign_of}
 use Rattle.command_words.specs.Seek.{seek_of}
 use Rattle.command_words.specs.Sought.{sought_of}
+use Rattle.command_words.specs.Takeback.{takeback_of}
 use Rattle.command_words.specs.Unseek.{unseek_of}
 use Rattle.command_words.specs.Who.{who_of}
 use Rattle.command_words.specs.Set.{set_of}
@@ -36,18 +42,35 @@ use Rattle.command_words.specs.Tell.{tell_of}
 use Rattle.command_words.specs.Withdraw.{withdraw_of}
 use Rattle.command_words.specs.Partner.{partner_of}
 use Rattle.command_words.specs.Ptell.{ptell_of}
+use Rattle.command_words.specs.Kibitz.{kibitz_of}
+use Rattle.command_words.specs.Observe.{observe_of, unobserve_of}
+use Rattle.command_words.specs.Refresh.{refresh_of}
+use Rattle.command_words.specs.Style.{style_of}
 
 -- what the rest of the line says, as each command reads its arguments
 abbrev pub arguments_of : Verb → List ℕ → Result Command Refusal
+arguments_of verb.Abort rest = abort_of rest
 arguments_of Accept rest = accept_of rest
+arguments_of AddCensor rest = censor_of true rest
+arguments_of AddNoplay rest = noplay_of true rest
 arguments_of verb.Alias rest = alias_command rest
 arguments_of Decline rest = decline_of rest
+arguments_of verb.Draw rest = draw_of rest
+arguments_of DropCensor rest = censor_of false rest
+arguments_of DropNoplay rest = noplay_of false rest
 arguments_of Flag rest = flag_of rest
+arguments_of Games rest = games_of rest
 arguments_of InChannel rest = in_channel_of rest
 arguments_of JoinChannel rest = channel_of true rest
+arguments_of Kibitz rest = kibitz_of rest
+arguments_of Observe rest = observe_of rest
+arguments_of Refresh rest = refresh_of rest
+arguments_of Style rest = style_of rest
+arguments_of Unobserve rest = unobserve_of rest
 arguments_of LeaveChannel rest = channel_of false rest
 arguments_of Match rest = match_of rest
 arguments_of Partner rest = partner_of rest
+arguments_of Pending rest = pending_of rest
 arguments_of Play rest = play_of rest
 arguments_of Ptell rest = ptell_of rest
 arguments_of Quit rest = quit_of rest
@@ -55,6 +78,7 @@ arguments_of Register rest = register_of rest
 arguments_of Resign rest = resign_of rest
 arguments_of Seek rest = seek_of rest
 arguments_of Sought rest = sought_of rest
+arguments_of verb.Takeback rest = takeback_of rest
 arguments_of Unalias rest = unalias_command rest
 arguments_of Unseek rest = unseek_of rest
 arguments_of Who rest = who_of rest

@@ -4,31 +4,45 @@ use Rattle.std.specs.List.{starts_with}
 use Rattle.fics_words.specs.declared.refusal.Refusal.{Refusal}
 use Rattle.fics_words.specs.declared.refusal.Refusal.TheVariants.{Unknown, AmbiguousWord}
 use Rattle.command_words.specs.declared.verbs.Verb.{Verb}
-use Rattle.command_words.specs.declared.verbs.Verb.TheVariants.{Accept, Alias, Decline, Flag, InChannel, JoinChannel, LeaveChannel, Match, Play, Quit, Register, Resign, Seek, Set, Shout, Sought, Tell, Unalias, Unseek, Who, Withdraw, Partner, Ptell}
+use Rattle.command_words.specs.declared.verbs.Verb.TheVariants.{Accept, Alias, Decline, Flag, InChannel, JoinChannel, LeaveChannel, Match, Play, Quit, Register, Resign, Seek, Set, Shout, Sought, Tell, Unalias, Unseek, Who, Withdraw, Partner, Ptell, Abort, Draw, Takeback, AddCensor, AddNoplay, DropCensor, DropNoplay, Games, Pending, Kibitz, Observe, Refresh, Style, Unobserve}
 
 -- the commands
 abbrev pub verbs : List Verb
 verbs =
+    Abort ∷
     Accept ∷
+    AddCensor ∷
+    AddNoplay ∷
     Alias ∷
     Decline ∷
+    Draw ∷
+    DropCensor ∷
+    DropNoplay ∷
     Flag ∷
+    Games ∷
     InChannel ∷
     JoinChannel ∷
+    Kibitz ∷
     LeaveChannel ∷
     Match ∷
+    Observe ∷
     Partner ∷
+    Pending ∷
     Play ∷
     Ptell ∷
     Quit ∷
+    Refresh ∷
     Register ∷
     Resign ∷
     Seek ∷
     Set ∷
     Shout ∷
     Sought ∷
+    Style ∷
+    Takeback ∷
     Tell ∷
     Unalias ∷
+    Unobserve ∷
     Unseek ∷
     Who ∷
     Withdraw ∷
@@ -36,23 +50,37 @@ verbs =
 
 -- a command's name
 abbrev pub name_of : Verb → List ℕ
+name_of Abort = codes "abort"
 name_of Accept = codes "accept"
+name_of AddCensor = codes "+censor"
+name_of AddNoplay = codes "+noplay"
 name_of Alias = codes "alias"
 name_of Decline = codes "decline"
+name_of Draw = codes "draw"
+name_of DropCensor = codes "-censor"
+name_of DropNoplay = codes "-noplay"
 name_of Flag = codes "flag"
+name_of Games = codes "games"
 name_of InChannel = codes "inchannel"
 name_of JoinChannel = codes "+channel"
+name_of Kibitz = codes "kibitz"
 name_of LeaveChannel = codes "-channel"
 name_of Match = codes "match"
+name_of Observe = codes "observe"
 name_of Partner = codes "partner"
+name_of Pending = codes "pending"
 name_of Play = codes "play"
 name_of Ptell = codes "ptell"
 name_of Quit = codes "quit"
+name_of Refresh = codes "refresh"
 name_of Register = codes "register"
 name_of Resign = codes "resign"
 name_of Seek = codes "seek"
 name_of Sought = codes "sought"
+name_of Takeback = codes "takeback"
 name_of Unalias = codes "unalias"
+name_of Style = codes "style"
+name_of Unobserve = codes "unobserve"
 name_of Unseek = codes "unseek"
 name_of Who = codes "who"
 name_of Set = codes "set"
@@ -63,7 +91,9 @@ name_of Withdraw = codes "withdraw"
 -- a command's short form; its name where it has none
 abbrev pub short_of : Verb → List ℕ
 short_of Accept = codes "a"
+short_of Kibitz = codes "k"
 short_of Match = codes "m"
+short_of Observe = codes "o"
 short_of Tell = codes "t"
 short_of verb = name_of verb
 

@@ -1,5 +1,6 @@
 //! What a line asks for.
 
+use crate::style::Style;
 use chess_model::{MoveWord, Terms};
 use fics_words::{Handle, Line};
 
@@ -22,9 +23,15 @@ pub enum Command {
     Play(u16),
     /// To be told who is in the hall.
     Who,
-    /// To accept the offer or challenge of this player, or the oldest one.
+    /// To be told which challenges to the player and by it stand.
+    Pending,
+    /// To be told which games there are.
+    Games,
+    /// To accept the challenge of this player; without one the earliest offer at the present place, or else the oldest
+    /// challenge.
     Accept(Option<Handle>),
-    /// To turn down the offer or challenge of this player, or the oldest one.
+    /// To turn down the challenge of this player; without one the earliest offer at the present place, or else the
+    /// oldest challenge.
     Decline(Option<Handle>),
     /// To take back the challenge to this player, or the oldest one.
     Withdraw(Option<Handle>),
@@ -40,6 +47,10 @@ pub enum Command {
     InChannel(u8),
     /// To join the channel, or to leave it.
     Channel { number: u8, on: bool },
+    /// To put this name on the list of those whom the player doesn't hear, or to take it off.
+    Censor { name: Handle, on: bool },
+    /// To put this name on the list of those with whom the player doesn't play, or to take it off.
+    Noplay { name: Handle, on: bool },
     /// To say this text to all who want to hear it.
     Shout(Line),
     /// To be challenged, or not to be.
@@ -48,10 +59,28 @@ pub enum Command {
     SetShout(bool),
     /// To hear of seeks, or not to.
     SetSeek(bool),
+    /// To offer a draw at the present place, or to claim one.
+    Draw,
+    /// To offer at the present place that the game ends without a result.
+    Abort,
+    /// To offer at the present place that so many half-moves are taken back, 1 to 1,200.
+    Takeback(u16),
     /// To give up the game at the present place.
     Resign,
     /// To call the flag on the opponent at the present place.
     Flag,
+    /// To be shown the board at the present place again.
+    Refresh,
+    /// To say this text to all who look on at a game.
+    Kibitz(Line),
+    /// To look on at the game of this number.
+    ObserveGame(u16),
+    /// To look on at the game that this player plays.
+    ObservePlayer(Handle),
+    /// To look on no longer at the game of this number.
+    Unobserve(u16),
+    /// To have boards printed so.
+    Style(Style),
     /// To make an account of the session's handle with this password.
     Register(Line),
     /// To make a name, 1 to 15 lower-case letters, stand for a text.

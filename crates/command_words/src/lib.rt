@@ -14,6 +14,7 @@ mod expansion;
 mod laws;
 mod numbers;
 mod reading;
+mod style;
 mod terms;
 mod verbs;
 
@@ -21,3 +22,4 @@ pub use aliases::{Alias, Aliases};
 pub use command::Command;
 pub use laws::terms_are_read_as_spelled;
 pub use reading::read_command;
+pub use style::Style;

@@ -11,8 +11,9 @@ use crate::aliases::{Alias, Aliases};
 use crate::blanks::{first_word, rest_of, trimmed};
 use crate::command::Command;
 use crate::commands::{
-    accept, alias, channel, decline, flag, in_channel, matching, partner, play, ptell, quit,
-    register, resign, seek, set, shout, sought, tell, unseek, who, withdraw,
+    abort, accept, alias, channel, decline, draw, flag, games, in_channel, kibitz, matching,
+    name_list, observe, partner, pending, play, ptell, quit, refresh, register, resign, seek, set,
+    shout, sought, style, takeback, tell, unseek, who, withdraw,
 };
 use crate::expansion::expanded;
 use crate::verbs::{Verb, verb_of};
@@ -109,15 +110,28 @@ fn read_arguments(alloc: Global, verb: Verb, rest: &[u8]) -> Result<Command, Fai
     ensures { Gives (arguments_of verb rest.now) result }
 {
     match verb {
+        Verb::Abort => Ok(abort::read(rest)?),
         Verb::Accept => Ok(accept::read(rest)?),
+        Verb::AddCensor => Ok(name_list::read_censor(true, rest)?),
+        Verb::AddNoplay => Ok(name_list::read_noplay(true, rest)?),
         Verb::Alias => alias::read(alloc, rest),
         Verb::Decline => Ok(decline::read(rest)?),
+        Verb::Draw => Ok(draw::read(rest)?),
+        Verb::DropCensor => Ok(name_list::read_censor(false, rest)?),
+        Verb::DropNoplay => Ok(name_list::read_noplay(false, rest)?),
         Verb::Flag => Ok(flag::read(rest)?),
+        Verb::Games => Ok(games::read(rest)?),
         Verb::InChannel => Ok(in_channel::read(rest)?),
         Verb::JoinChannel => Ok(channel::read(true, rest)?),
+        Verb::Kibitz => kibitz::read(alloc, rest),
+        Verb::Observe => Ok(observe::read(rest)?),
+        Verb::Refresh => Ok(refresh::read(rest)?),
+        Verb::Style => Ok(style::read(rest)?),
+        Verb::Unobserve => Ok(observe::read_unobserve(rest)?),
         Verb::LeaveChannel => Ok(channel::read(false, rest)?),
         Verb::Match => Ok(matching::read(rest)?),
         Verb::Partner => Ok(partner::read(rest)?),
+        Verb::Pending => Ok(pending::read(rest)?),
         Verb::Play => Ok(play::read(rest)?),
         Verb::Ptell => ptell::read(alloc, rest),
         Verb::Quit => Ok(quit::read(rest)?),
@@ -125,6 +139,7 @@ fn read_arguments(alloc: Global, verb: Verb, rest: &[u8]) -> Result<Command, Fai
         Verb::Resign => Ok(resign::read(rest)?),
         Verb::Seek => Ok(seek::read(rest)?),
         Verb::Sought => Ok(sought::read(rest)?),
+        Verb::Takeback => Ok(takeback::read(rest)?),
         Verb::Unalias => alias::read_unalias(alloc, rest),
         Verb::Unseek => Ok(unseek::read(rest)?),
         Verb::Who => Ok(who::read(rest)?),

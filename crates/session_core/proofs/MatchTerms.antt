@@ -2,7 +2,7 @@
 use Rattle.std.proofs.Common.{◌≡◌, ℕ, ◌≤◌, List, [], ◌∷◌, Ok, Err, Result, refl, sym, ap, subst, inl, inr, rules}
 use Rattle.std.specs.declared.option.Option.{Option}
 use Rattle.std.specs.declared.option.Option.TheVariants.{None, Some}
-use Rattle.std.specs.Prelude.{Bool, true, false, if◌then◌else◌, ◌&&◌, bytes_eq, codes, length, map, nat_le, nat_lt}
+use Rattle.std.specs.Prelude.{Bool, true, false, ◌==◌, if◌then◌else◌, ◌&&◌, bytes_eq, codes, length, map, nat_le, nat_lt}
 use Rattle.std.specs.Char.{to_ascii_lowercase}
 use Rattle.chess_model.specs.declared.moves.MoveWord.{MoveWord}
 use Rattle.chess_model.specs.declared.man.Colour.{Colour}
@@ -24,13 +24,16 @@ use Rattle.command_words.specs.Decline.{decline_from, decline_of}
 use Rattle.command_words.specs.Channel.{channel_from}
 use Rattle.command_words.specs.InChannel.{in_channel_from}
 use Rattle.command_words.specs.Commands.{arguments_of, asked, command_after, command_in, command_made, command_of, move_in, move_or}
+use Rattle.command_words.specs.NameList.{censor_from, noplay_from}
 use Rattle.command_words.specs.Match.{challenge, challenge_of, two_twelve}
+use Rattle.command_words.specs.Observe.{observe_from, observe_player, unobserve_from}
 use Rattle.command_words.specs.Partner.{partner_from, partner_of}
 use Rattle.command_words.specs.Play.{play_from}
 use Rattle.command_words.specs.Seek.{five_nothing, seeking}
 use Rattle.command_words.specs.Numbers.{channel_number, is_no_channel, number_of}
 use Rattle.command_words.specs.Set.{is_on, set_to, setting_of}
 use Rattle.command_words.specs.Tell.{tell_to, telling, telling_to}
+use Rattle.command_words.specs.Takeback.{takeback_from, takeback_of}
 use Rattle.command_words.specs.TermReading.{agreed, terms_of}
 use Rattle.command_words.specs.Unseek.{unseek_from, unseek_of}
 use Rattle.command_words.specs.TermWords.{Spells, SpellsTime, UsualTime, time_of}
@@ -72,6 +75,10 @@ seeking_fits words (Some terms) is =
     spelled_fits five_nothing s.time terms (search rules) (search rules) s.spells_time
 seeking_fits words None is = tt
 
+either_fits : (is : Bool) (a b : Result Command Refusal) → FitsAnswer a → FitsAnswer b → FitsAnswer (if is then a else b)
+either_fits true a b p q = p
+either_fits false a b p q = q
+
 unseek_from_fits : (number : Option ℕ) → FitsAnswer (unseek_from number)
 unseek_from_fits None = tt
 unseek_from_fits (Some number) = tt
@@ -79,6 +86,14 @@ unseek_from_fits (Some number) = tt
 unseek_fits : (rest : List ℕ) → FitsAnswer (unseek_of rest)
 unseek_fits [] = tt
 unseek_fits (b ∷ rest) = unseek_from_fits (number_of 65535 (b ∷ rest))
+
+takeback_from_fits : (number : Option ℕ) → FitsAnswer (takeback_from number)
+takeback_from_fits None = tt
+takeback_from_fits (Some number) = either_fits (number == 0) (Err BadArguments) (Ok (command.Takeback number)) tt tt
+
+takeback_fits : (rest : List ℕ) → FitsAnswer (takeback_of rest)
+takeback_fits [] = tt
+takeback_fits (b ∷ rest) = takeback_from_fits (number_of 1200 (b ∷ rest))
 
 play_fits : (number : Option ℕ) → FitsAnswer (play_from number)
 play_fits None = tt
@@ -120,10 +135,6 @@ alone_fits : (command : Command) (rest : List ℕ) → FitsCommand command → F
 alone_fits command [] fits = fits
 alone_fits command (b ∷ rest) fits = tt
 
-either_fits : (is : Bool) (a b : Result Command Refusal) → FitsAnswer a → FitsAnswer b → FitsAnswer (if is then a else b)
-either_fits true a b p q = p
-either_fits false a b p q = q
-
 -- a text that was read has at most 800 bytes
 text_short : (text : List ℕ) → is_text text ≡ true → length text ≤ 800
 text_short text e = at_least (length text) 800 (both_true _ _ (both_true (nat_le 1 (length text)) _ e).1).0
@@ -144,6 +155,18 @@ telling_fits (Some name) text = text_fits (command.Tell name) text (λ short. sh
 telling_to_fits : (channel : Option ℕ) (word text : List ℕ) → FitsAnswer (telling_to channel word text)
 telling_to_fits None word text = telling_fits (handle_of word) text
 telling_to_fits (Some channel) word text = text_fits (command.TellChannel channel) text (λ short. short)
+
+observe_player_fits : (handle : Option (List ℕ)) → FitsAnswer (observe_player handle)
+observe_player_fits None = tt
+observe_player_fits (Some handle) = tt
+
+observe_fits : (number : Option ℕ) (handle : Option (List ℕ)) → FitsAnswer (observe_from number handle)
+observe_fits None handle = observe_player_fits handle
+observe_fits (Some number) handle = tt
+
+unobserve_fits : (number : Option ℕ) → FitsAnswer (unobserve_from number)
+unobserve_fits None = tt
+unobserve_fits (Some number) = tt
 
 channel_fits : (on : Bool) (asked : Result ℕ Refusal) → FitsAnswer (channel_from on asked)
 channel_fits on (Ok number) = tt
@@ -168,14 +191,29 @@ setting_fits (name ∷ []) = tt
 setting_fits (name ∷ value ∷ []) = set_to_fits name (is_on value)
 setting_fits (name ∷ value ∷ more ∷ words) = tt
 
+censor_fits : (on : Bool) (name : Option (List ℕ)) → FitsAnswer (censor_from on name)
+censor_fits on None = tt
+censor_fits on (Some name) = tt
+
+noplay_fits : (on : Bool) (name : Option (List ℕ)) → FitsAnswer (noplay_from on name)
+noplay_fits on None = tt
+noplay_fits on (Some name) = tt
+
 arguments_fit : (v : Verb) (rest : List ℕ) → FitsAnswer (arguments_of v rest)
+arguments_fit verb.Abort rest = alone_fits command.Abort rest tt
 arguments_fit verb.Accept rest = accept_fits rest
 arguments_fit verb.Alias rest =
     either_fits (is_alias_name (first_word rest) && is_text (rest_of rest)) (Ok (command.Alias (first_word rest) (rest_of rest))) (Err BadArguments) tt tt
 arguments_fit verb.Decline rest = decline_fits rest
+arguments_fit verb.Draw rest = alone_fits command.Draw rest tt
 arguments_fit verb.Flag rest = alone_fits command.Flag rest tt
 arguments_fit verb.InChannel rest = in_channel_fits (channel_number rest)
 arguments_fit verb.JoinChannel rest = channel_fits true (channel_number rest)
+arguments_fit verb.Kibitz rest = text_fits command.Kibitz rest (λ short. short)
+arguments_fit verb.Observe rest = observe_fits (number_of 65535 rest) (handle_of rest)
+arguments_fit verb.Refresh rest = alone_fits command.Refresh rest tt
+arguments_fit verb.Style rest = either_fits (bytes_eq rest (codes "1")) _ _ tt (either_fits (bytes_eq rest (codes "12")) _ _ tt tt)
+arguments_fit verb.Unobserve rest = unobserve_fits (number_of 65535 rest)
 arguments_fit verb.LeaveChannel rest = channel_fits false (channel_number rest)
 arguments_fit verb.Match rest = challenge_of_fits (words_of rest)
 arguments_fit verb.Partner rest = partner_fits rest
@@ -184,10 +222,17 @@ arguments_fit verb.Play rest = play_fits (number_of 65535 rest)
 arguments_fit verb.Quit rest = alone_fits command.Quit rest tt
 arguments_fit verb.Register rest = either_fits (is_text rest) (Ok (command.Register rest)) (Err BadArguments) tt tt
 arguments_fit verb.Resign rest = alone_fits command.Resign rest tt
+arguments_fit verb.Takeback rest = takeback_fits rest
 arguments_fit verb.Unalias rest = either_fits (is_alias_name rest) (Ok (command.Unalias rest)) (Err BadArguments) tt tt
 arguments_fit verb.Seek rest = seeking_fits (words_of rest) (terms_of five_nothing (words_of rest)) refl
 arguments_fit verb.Sought rest = alone_fits command.Sought rest tt
 arguments_fit verb.Unseek rest = unseek_fits rest
+arguments_fit verb.AddCensor rest = censor_fits true (handle_of rest)
+arguments_fit verb.DropCensor rest = censor_fits false (handle_of rest)
+arguments_fit verb.AddNoplay rest = noplay_fits true (handle_of rest)
+arguments_fit verb.DropNoplay rest = noplay_fits false (handle_of rest)
+arguments_fit verb.Pending rest = alone_fits command.Pending rest tt
+arguments_fit verb.Games rest = alone_fits command.Games rest tt
 arguments_fit verb.Who rest = alone_fits command.Who rest tt
 arguments_fit verb.Set rest = setting_fits (words_of rest)
 arguments_fit verb.Shout rest = text_fits command.Shout rest (λ short. short)

@@ -6,14 +6,21 @@ use Rattle.command_words.specs.declared.command.Command.{Command}
 use Rattle.command_words.specs.declared.command.Command.TheVariants as command
 use Rattle.command_words.specs.Commands.{command_in}
 use Rattle.command_words.specs.Texts.{handle_of}
+use Rattle.fics_words.specs.Handle.{key_of}
 use Rattle.fics_words.specs.declared.refusal.Refusal.{Refusal}
 use Rattle.fics_words.specs.declared.refusal.Refusal.TheVariants as refusal
 use Rattle.line_reader.specs.declared.incoming.Incoming.{Incoming}
 use Rattle.line_reader.specs.declared.incoming.Incoming.TheVariants as incoming
 use Rattle.linked_desk.specs.declared.acts.DeskAct.{DeskAct}
 use Rattle.linked_desk.specs.declared.acts.DeskAct.TheVariants as desk_act
+use Rattle.linked_desk.specs.declared.acts.DeskReply.TheVariants as desk_reply
 use Rattle.lobby_state.specs.declared.acts.LobbyReply.TheVariants as lobby_reply
+use Rattle.lobby_state.specs.declared.acts.LobbyAct.{LobbyAct}
+use Rattle.lobby_state.specs.declared.acts.LobbyAct.TheVariants as lobby_act
 use Rattle.lobby_state.specs.declared.place.Place.{Place}
+use Rattle.offer_book.specs.declared.offer.Offer.TheVariants.{Draw, Abort, Takeback}
+use Rattle.lobby_state.specs.FindGame.{desk_of_game}
+use Rattle.one_server.specs.declared.act.Act.TheVariants as one_act
 use Rattle.one_server.specs.declared.reply.Reply.{Reply}
 use Rattle.one_server.specs.declared.reply.Reply.TheVariants as reply
 use Rattle.one_server.specs.Running.{Log}
@@ -22,12 +29,18 @@ use Rattle.session_core.specs.declared.input.Input.TheVariants.{Line, Quiet}
 use Rattle.session_core.specs.declared.standing.LinkMark.TheVariants.{Stamped}
 use Rattle.session_core.specs.declared.standing.Standing.{Standing}
 use Rattle.session_core.specs.declared.standing.Standing.TheVariants as standing
+use Rattle.session_core.specs.declared.reaction.Reaction.{Reaction}
+use Rattle.session_core.specs.declared.reaction.Reaction.TheVariants.{Accepting, Declining}
 use Rattle.session_core.specs.Course.{Course, Done, Asks, Writes, Follows}
 use Rattle.session_core.specs.Inputs.{ack_course, asked_course, asks_to_quit, input_course, is_greeting, is_quit, line_course, line_quits, past_line, quiet_course, refusing, stamp_on, text_course, text_quits}
 use Rattle.session_core.specs.Login.{admitted, entering, entering_named, is_guest, naming, password_of, proving}
-use Rattle.session_core.specs.OwnCommands.{set_alias, unset_alias}
-use Rattle.session_core.specs.Memory.{MemoryState, is_gone, is_out, present_in, told}
-use Rattle.session_core.specs.Session.{acked_at, at_present, command_course, given_up, round, says_over, to_desk, visits}
+use Rattle.session_core.specs.OwnCommands.{set_alias, unset_alias, set_style}
+use Rattle.session_core.specs.Memory.{MemoryState, is_gone, is_out, present_in, told, is_full, observed_at, remark_place, without_observed}
+use Rattle.session_core.specs.Reactions.{in_lobby, says_no_offer}
+use Rattle.session_core.specs.Session.{acked_at, answered, at_present, command_course, given_up, reacting_at, round, says_over, to_desk, to_react, to_server, visits, behind, finding, forgets, remark_of, to_observe, to_remark, unobserved, watched}
+use Rattle.session_core.specs.Texts.{refusal_line}
+use Rattle.session_core.specs.Visits.{visits_in}
+use Rattle.session_core.specs.declared.visit.Visit.{Visit}
 
 -- the session hasn't left at any end of the course
 NeverGone : Course → Type 0
@@ -50,19 +63,28 @@ same_standing memory _ = refl
 stays : (memory : MemoryState) (r : Reply) → is_gone memory ≡ false → is_gone (told memory r) ≡ false
 stays memory r here = ap is_out (same_standing memory r) ∙ here
 
-never_given_up : (place : Place) (over : Bool) (rest : Course) → NeverGone rest → NeverGone (given_up place over rest)
+never_given_up : (visit : Visit) (over : Bool) (rest : Course) → NeverGone rest → NeverGone (given_up visit over rest)
 unfolding NeverGone
-never_given_up place true rest never = λ r. never
-never_given_up place false rest never = never
+never_given_up visit true rest never = λ r. never
+never_given_up visit false rest never = never
 
-never_visits : (places : List Place) (memory : MemoryState) → is_gone memory ≡ false → NeverGone (visits places memory)
+stays_forgetting : (seat : Option ℕ) (desk : ℕ) (memory : MemoryState) → is_gone memory ≡ false → is_gone (forgets seat desk memory) ≡ false
+stays_forgetting None desk memory here = here
+stays_forgetting (Some seat) desk memory here = here
+
+stays_behind : (visit : Visit) (over : Bool) (memory : MemoryState) → is_gone memory ≡ false → is_gone (behind visit over memory) ≡ false
+stays_behind visit true memory here = stays_forgetting visit.seat visit.desk memory here
+stays_behind visit false memory here = here
+
+never_visits : (games : List Visit) (memory : MemoryState) → is_gone memory ≡ false → NeverGone (visits games memory)
 unfolding NeverGone
 never_visits [] memory here = here
-never_visits (place ∷ places) memory here = λ r. never_given_up place (says_over r) (visits places memory) (never_visits places memory here)
+never_visits (visit ∷ rest) memory here = λ r. never_given_up visit (says_over r) (visits rest (behind visit (says_over r) memory))
+    (never_visits rest (behind visit (says_over r) memory) (stays_behind visit (says_over r) memory here))
 
 never_round : (memory : MemoryState) → is_gone memory ≡ false → NeverGone (round memory)
 unfolding NeverGone
-never_round memory here = λ r. never_visits (told memory r).places.rows (told memory r) (stays memory r here)
+never_round memory here = λ r. never_visits (visits_in (told memory r)) (told memory r) (stays memory r here)
 
 never_present : (act : DeskAct) (place : Option Place) (memory : MemoryState) → is_gone memory ≡ false → NeverGone (at_present act place memory)
 unfolding NeverGone
@@ -73,12 +95,60 @@ never_desk : (act : DeskAct) (memory : MemoryState) → is_gone memory ≡ false
 unfolding NeverGone
 never_desk act memory here = λ r. never_present act (present_in (told memory r)) (told memory r) (stays memory r here)
 
+never_reacted : (reaction : Reaction) (none : Bool) (r : Reply) (memory : MemoryState) → is_gone memory ≡ false →
+    NeverGone (if none then to_server (in_lobby reaction None) memory else answered r memory)
+unfolding NeverGone
+never_reacted reaction true r memory here = λ s. never_round memory here
+never_reacted reaction false r memory here = never_round memory here
+
+never_reacting : (reaction : Reaction) (place : Option Place) (memory : MemoryState) → is_gone memory ≡ false → NeverGone (reacting_at reaction place memory)
+unfolding NeverGone
+never_reacting reaction None memory here = λ r. never_round memory here
+never_reacting reaction (Some place) memory here = λ r. never_reacted reaction (says_no_offer r) r memory here
+
+never_react : (reaction : Reaction) (name : Option (List ℕ)) (memory : MemoryState) → is_gone memory ≡ false → NeverGone (to_react reaction name memory)
+unfolding NeverGone
+never_react reaction None memory here = λ r. never_reacting reaction (present_in (told memory r)) (told memory r) (stays memory r here)
+never_react reaction (Some name) memory here = λ r. never_round memory here
+
+never_remark : (act : DeskAct) (memory : MemoryState) → is_gone memory ≡ false → NeverGone (to_remark act memory)
+unfolding NeverGone
+never_remark act memory here = λ r. never_present act (remark_place (told memory r)) (told memory r) (stays memory r here)
+
+stays_watching : (place : Place) (r : Reply) (memory : MemoryState) → is_gone memory ≡ false → is_gone (watched place r memory) ≡ false
+stays_watching place (reply.Desk (desk_reply.Items items over)) memory here = here
+stays_watching place _ memory here = here
+
+never_finding : (r : Reply) (memory : MemoryState) → is_gone memory ≡ false → NeverGone (finding r memory)
+unfolding NeverGone
+never_finding (reply.Lobby (lobby_reply.Found place)) memory here = λ s. never_round (watched place s memory) (stays_watching place s memory here)
+never_finding _ memory here = never_round memory here
+
+never_either : (t : Bool) (one other : Course) → NeverGone one → NeverGone other → NeverGone (if t then one else other)
+never_either true one other p q = p
+never_either false one other p q = q
+
+never_observe : (act : LobbyAct) (memory : MemoryState) → is_gone memory ≡ false → NeverGone (to_observe act memory)
+unfolding NeverGone
+never_observe act memory here =
+    never_either (is_full memory) (Writes (refusal_line refusal.ListFull) (round memory)) (Asks (one_act.Lobby act) (λ r. finding r memory))
+    (never_round memory here) (λ r. never_finding r memory here)
+
+never_unobserved : (place : Option Place) (memory : MemoryState) → is_gone memory ≡ false → NeverGone (unobserved place memory)
+unfolding NeverGone
+never_unobserved None memory here = never_round memory here
+never_unobserved (Some place) memory here = λ r. never_round (without_observed place.desk memory) here
+
 never_command : (asked : Command) (stamp : Option ℕ) (memory : MemoryState) → is_gone memory ≡ false → is_quit (Ok asked) ≡ false → NeverGone (command_course asked stamp memory)
 unfolding NeverGone
 never_command command.Nothing stamp memory here goes_on = never_round memory here
 never_command (command.Move word) stamp memory here goes_on = never_desk (desk_act.Move word stamp) memory here
 never_command (command.Match name terms) stamp memory here goes_on = λ r. never_round memory here
-never_command (command.Accept name) stamp memory here goes_on = λ r. never_round memory here
+never_command (command.Accept name) stamp memory here goes_on = never_react Accepting name memory here
+never_command (command.Decline name) stamp memory here goes_on = never_react Declining name memory here
+never_command command.Draw stamp memory here goes_on = never_desk (desk_act.Make Draw) memory here
+never_command command.Abort stamp memory here goes_on = never_desk (desk_act.Make Abort) memory here
+never_command (command.Takeback number) stamp memory here goes_on = never_desk (desk_act.Make (Takeback number)) memory here
 never_command (command.Seek terms) stamp memory here goes_on = λ r. never_round memory here
 never_command (command.Unseek number) stamp memory here goes_on = λ r. never_round memory here
 never_command command.Sought stamp memory here goes_on = λ r. never_round memory here
@@ -86,6 +156,12 @@ never_command (command.Play number) stamp memory here goes_on = λ r. never_roun
 never_command command.Who stamp memory here goes_on = λ r. never_round memory here
 never_command command.Resign stamp memory here goes_on = never_desk desk_act.Resign memory here
 never_command command.Flag stamp memory here goes_on = never_desk desk_act.Flag memory here
+never_command command.Refresh stamp memory here goes_on = never_desk desk_act.Show memory here
+never_command (command.Kibitz text) stamp memory here goes_on = never_remark (remark_of text memory) memory here
+never_command (command.ObserveGame number) stamp memory here goes_on = never_observe (lobby_act.FindGame number) memory here
+never_command (command.ObservePlayer name) stamp memory here goes_on = never_observe (lobby_act.Find (key_of name)) memory here
+never_command (command.Unobserve number) stamp memory here goes_on = never_unobserved (observed_at (desk_of_game number) memory) memory here
+never_command (command.Style style) stamp memory here goes_on = never_round (set_style style memory).memory here
 never_command (command.Register password) stamp memory here goes_on = λ r. never_round memory here
 never_command (command.Alias name text) stamp memory here goes_on = never_round (set_alias name text memory).memory here
 never_command (command.Unalias name) stamp memory here goes_on = never_round (unset_alias name memory).memory here
@@ -114,10 +190,6 @@ never_named : (name : Option (List ℕ)) (memory : MemoryState) → NeverGone (e
 unfolding NeverGone
 never_named None memory = refl
 never_named (Some name) memory = never_entering (Some name) None memory
-
-never_either : (t : Bool) (one other : Course) → NeverGone one → NeverGone other → NeverGone (if t then one else other)
-never_either true one other p q = p
-never_either false one other p q = q
 
 never_naming : (text : List ℕ) (memory : MemoryState) → is_gone memory ≡ false → NeverGone (naming text memory)
 unfolding NeverGone

@@ -1,8 +1,10 @@
 pub mod Memory
+pub mod Visits
 pub mod Course
 pub mod Texts
 pub mod Login
 pub mod OwnCommands
+pub mod Reactions
 pub mod Session
 pub mod Inputs
 pub mod Stages

@@ -1,30 +1,43 @@
 -- What a session remembers from one input to the next. This server's own.
-use Rattle.std.specs.Prelude.{ℕ, Bool, true, false, List, [], Option, slice_get}
+use Rattle.std.specs.Prelude.{ℕ, ◌==◌, Bool, true, false, nat_le, List, [], length, Option, None, Some, find, slice_get}
 use Rattle.command_words.specs.declared.aliases.Alias.{Alias}
+use Rattle.command_words.specs.declared.style.Style.{Style}
+use Rattle.command_words.specs.declared.style.Style.TheVariants.{Twelve}
 use Rattle.lobby_state.specs.declared.acts.LobbyReply.TheVariants.{Places, Waiting}
 use Rattle.lobby_state.specs.declared.place.Place.{Place}
-use Rattle.lobby_state.specs.Places.{PlaceList, no_places}
+use Rattle.lobby_state.specs.Places.{PlaceList, no_places, with_place, without_desk}
 use Rattle.one_server.specs.declared.reply.Reply.{Reply}
 use Rattle.one_server.specs.declared.reply.Reply.TheVariants.{Lobby}
+use Rattle.session_core.specs.declared.reader.Reader.{Reader}
 use Rattle.session_core.specs.declared.standing.LinkMark.{LinkMark}
 use Rattle.session_core.specs.declared.standing.LinkMark.TheVariants.{Fresh, Plain}
 use Rattle.session_core.specs.declared.standing.Standing.{Standing}
 use Rattle.session_core.specs.declared.standing.Standing.TheVariants.{Login, In, Gone}
 
--- where it stands, what is known of its link, its aliases, and its places, as the lobby told them last
+-- where it stands, what is known of its link, its aliases, how boards are printed, its places, as the lobby told them
+-- last, and where it looks on, in the order in which it began to
 pub record MemoryState : Type 0 where
   pub standing : Standing
   pub link : LinkMark
   pub aliases : List Alias
+  pub style : Style
   pub places : PlaceList
+  pub observed : PlaceList
 
 -- a session before its first input
 abbrev pub newcomer : MemoryState
-newcomer = record { standing = Login; link = Fresh; aliases = []; places = no_places }
+newcomer = record {
+  standing = Login;
+  link = Fresh;
+  aliases = [];
+  style = Twelve;
+  places = no_places;
+  observed = no_places;
+}
 
 -- one that a script has seated: it has entered under this name, and was told nothing yet
 abbrev pub seated : List ℕ → MemoryState
-seated name = record { standing = In name; link = Fresh; aliases = []; places = no_places }
+seated name = record newcomer { standing = In name }
 
 -- where it stands from now on
 abbrev pub stands_at : Standing → MemoryState → MemoryState
@@ -59,8 +72,36 @@ told memory _ = memory
 
 -- once it has left
 abbrev pub departed : MemoryState → MemoryState
-departed memory = record memory { standing = Gone; places = no_places }
+departed memory = record memory { standing = Gone; places = no_places; observed = no_places }
 
 -- the session's present place, if it has any
 abbrev pub present_in : MemoryState → Option Place
 present_in memory = slice_get memory.places.rows memory.places.at
+
+-- for whom the items of a game are written, where the session plays it at this seat, or looks on
+abbrev pub reader_in : MemoryState → Option ℕ → Reader
+reader_in memory seat = record { link = memory.link; style = memory.style; seat = seat }
+
+-- the session looks on at one game more
+abbrev pub with_observed : Place → MemoryState → MemoryState
+with_observed place memory = record memory { observed = with_place place memory.observed }
+
+-- and no longer at the game of this desk
+abbrev pub without_observed : ℕ → MemoryState → MemoryState
+without_observed desk memory = record memory { observed = without_desk desk memory.observed }
+
+-- where it looks on at the game of this desk, if it does
+abbrev pub observed_at : ℕ → MemoryState → Option Place
+observed_at desk memory = find (λ place. place.desk == desk) memory.observed.rows
+
+-- it looks on at 32 games
+abbrev pub is_full : MemoryState → Bool
+is_full memory = nat_le 32 (length memory.observed.rows)
+
+abbrev pub or_else : Option Place → Option Place → Option Place
+or_else None other = other
+or_else (Some place) other = Some place
+
+-- where it can say something about a game: at its present place, or else at the first game at which it looks on
+abbrev pub remark_place : MemoryState → Option Place
+remark_place memory = or_else (present_in memory) (slice_get memory.observed.rows 0)

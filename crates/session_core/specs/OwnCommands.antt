@@ -1,7 +1,8 @@
--- Commands that a session carries out by itself, with no act: those on its aliases. This server's own.
+-- Commands that a session carries out by itself, with no act: those on its aliases and on its style. This server's own.
 use Rattle.std.specs.Prelude.{ℕ, List, Result, Ok, Err}
 use Rattle.command_words.specs.Aliases.{setting, unsetting}
 use Rattle.command_words.specs.declared.aliases.Alias.{Alias}
+use Rattle.command_words.specs.declared.style.Style.{Style}
 use Rattle.fics_words.specs.Effect.{Effect, answer_of, state_of}
 use Rattle.fics_words.specs.declared.refusal.Refusal.{Refusal}
 use Rattle.session_core.specs.Memory.{MemoryState}
@@ -31,3 +32,7 @@ set_alias name text memory = aliasing (setting memory.aliases name text) memory
 -- a name stands for nothing any more
 abbrev pub unset_alias : List ℕ → MemoryState → OwnAnswer
 unset_alias name memory = aliasing (unsetting memory.aliases name) memory
+
+-- boards are printed so from now on
+abbrev pub set_style : Style → MemoryState → OwnAnswer
+set_style style memory = record { line = done_line; memory = record memory { style = style } }

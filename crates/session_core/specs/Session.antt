@@ -1,27 +1,42 @@
 -- What a session that has entered does: for a command, for its news, for an acknowledgement, and when it leaves. This
 -- server's own.
-use Rattle.std.specs.Prelude.{ℕ, Bool, true, false, List, [], ◌∷◌, Option, None, Some}
+use Rattle.std.specs.Prelude.{ℕ, Bool, true, false, if◌then◌else◌, List, [], ◌∷◌, Option, None, Some, codes}
 use Rattle.std.specs.Option.{option_map}
 use Rattle.command_words.specs.declared.command.Command.{Command}
 use Rattle.command_words.specs.declared.command.Command.TheVariants as command
-use Rattle.fics_words.specs.declared.refusal.Refusal.TheVariants.{NotPlaying}
+use Rattle.fics_words.specs.declared.refusal.Refusal.TheVariants.{ListFull, NotPlaying, NotWatching}
 use Rattle.fics_words.specs.Handle.{key_of}
 use Rattle.linked_desk.specs.declared.acts.DeskAct.{DeskAct}
 use Rattle.linked_desk.specs.declared.acts.DeskAct.TheVariants as desk_act
 use Rattle.linked_desk.specs.declared.acts.DeskReply.TheVariants.{Items}
+use Rattle.lobby_state.specs.declared.acts.LobbyAct.{LobbyAct}
 use Rattle.lobby_state.specs.declared.acts.LobbyAct.TheVariants as lobby_act
+use Rattle.lobby_state.specs.declared.acts.LobbyReply.TheVariants.{Found}
 use Rattle.lobby_state.specs.declared.acts.PairAct.TheVariants as pair_act
 use Rattle.lobby_state.specs.declared.place.Place.{Place}
+use Rattle.lobby_state.specs.declared.name_list.WhichList.{WhichList}
+use Rattle.lobby_state.specs.declared.name_list.WhichList.TheVariants.{Censor, Noplay}
 use Rattle.lobby_state.specs.declared.var.Var.{Var}
 use Rattle.lobby_state.specs.declared.var.Var.TheVariants.{Open, Shout, Seek}
+use Rattle.offer_book.specs.declared.offer.Offer.TheVariants.{Draw, Abort, Takeback}
+use Rattle.lobby_state.specs.FindGame.{desk_of_game}
+use Rattle.lobby_state.specs.Said.{said}
 use Rattle.one_server.specs.declared.act.Act.{Act}
 use Rattle.one_server.specs.declared.act.Act.TheVariants.{Lobby, Desk, Pair}
 use Rattle.one_server.specs.declared.reply.Reply.{Reply}
 use Rattle.one_server.specs.declared.reply.Reply.TheVariants as reply
+use Rattle.session_core.specs.declared.reaction.Reaction.{Reaction}
+use Rattle.session_core.specs.declared.reaction.Reaction.TheVariants.{Accepting, Declining}
 use Rattle.session_core.specs.Course.{Course, Done, Asks, Writes}
-use Rattle.session_core.specs.Memory.{MemoryState, departed, present_in, told}
-use Rattle.session_core.specs.OwnCommands.{OwnAnswer, set_alias, unset_alias}
-use Rattle.session_core.specs.Texts.{refusal_line, reply_text, news_text, waiting_text}
+use Rattle.session_core.specs.Memory.{MemoryState, departed, present_in, told, is_full, observed_at, reader_in, remark_place}
+use Rattle.session_core.specs.OwnCommands.{OwnAnswer, set_alias, unset_alias, set_style}
+use Rattle.session_core.specs.Reactions.{in_lobby, of_desk, says_no_offer}
+use Rattle.session_core.specs.Texts.{refusal_line, reply_text, news_text, waiting_text, shown_text}
+use Rattle.session_core.specs.Memory.{with_observed, without_observed}
+use Rattle.session_core.specs.Visits.{visits_in}
+use Rattle.session_core.specs.declared.standing.Standing.{Standing}
+use Rattle.session_core.specs.declared.standing.Standing.TheVariants.{In}
+use Rattle.session_core.specs.declared.visit.Visit.{Visit}
 use Rattle.sha2.specs.Sha256.{sha256}
 
 -- nothing more will come from the game
@@ -33,27 +48,43 @@ says_over _ = false
 abbrev pub at_place : Place → DeskAct → Act
 at_place place act = Desk place.desk place.serial act
 
--- a place is given up
-abbrev pub clear_at : Place → Act
-clear_at place = Pair (pair_act.Clear place.desk place.serial)
+-- an act at the game of a visit
+abbrev pub at_game : Visit → DeskAct → Act
+at_game visit act = Desk visit.desk visit.serial act
 
--- where nothing more will come, the place is given up
-abbrev pub given_up : Place → Bool → Course → Course
-given_up place true rest = Asks (clear_at place) (λ cleared. rest)
-given_up place false rest = rest
+-- a game is given up
+abbrev pub clear_at : Visit → Act
+clear_at visit = Pair (pair_act.Clear visit.desk visit.serial)
 
--- a visit at each place, in order: its news are told, and where nothing more will come it is given up
-abbrev pub visits : List Place → MemoryState → Course
+-- where nothing more will come, the game is given up
+abbrev pub given_up : Visit → Bool → Course → Course
+given_up visit true rest = Asks (clear_at visit) (λ cleared. rest)
+given_up visit false rest = rest
+
+-- what the session remembers once it has given up a game: it looks on there no longer; of its places the lobby tells
+abbrev pub forgets : Option ℕ → ℕ → MemoryState → MemoryState
+forgets None desk memory = without_observed desk memory
+forgets (Some seat) desk memory = memory
+
+-- and behind a visit, by whether nothing more will come
+abbrev pub behind : Visit → Bool → MemoryState → MemoryState
+behind visit true memory = forgets visit.seat visit.desk memory
+behind visit false memory = memory
+
+-- a visit at each game, in order: its news are told, and where nothing more will come it is given up
+abbrev pub visits : List Visit → MemoryState → Course
 visits [] memory = Done memory
-visits (place ∷ places) memory =
-    Asks (at_place place desk_act.Fetch)
-    (λ reply. Writes (news_text memory.link place reply) (given_up place (says_over reply) (visits places memory)))
+visits (visit ∷ rest) memory =
+    Asks (at_game visit desk_act.Fetch)
+    (λ reply. Writes (news_text (reader_in memory visit.seat) reply)
+    (given_up visit (says_over reply) (visits rest (behind visit (says_over reply) memory))))
 
 -- the lobby has told what waits there and which places there are, and the visits follow
 abbrev pub rounding : MemoryState → Course
-rounding memory = visits memory.places.rows memory
+rounding memory = visits (visits_in memory) memory
 
--- the round, which tells all that is new: the lines that wait in the lobby, and then the news of each place
+-- the round, which tells all that is new: the lines that wait in the lobby, and then the news of each game that the
+-- session plays or at which it looks on
 abbrev pub round : MemoryState → Course
 round memory = Asks (Lobby lobby_act.Fetch) (λ reply. Writes (waiting_text reply) (rounding (told memory reply)))
 
@@ -61,11 +92,15 @@ round memory = Asks (Lobby lobby_act.Fetch) (λ reply. Writes (waiting_text repl
 abbrev pub answered : Reply → MemoryState → Course
 answered reply memory = Writes (reply_text reply) (round memory)
 
+-- the reply to an act at a desk, as it shows a game to the player of a seat, or to who looks on, and then the round
+abbrev pub shown : Option ℕ → Reply → MemoryState → Course
+shown seat reply memory = Writes (shown_text (reader_in memory seat) reply) (round memory)
+
 -- an act at this place and its reply, and then the round; without a place the session itself answers
 abbrev pub at_present : DeskAct → Option Place → MemoryState → Course
 at_present act None memory = Writes (refusal_line NotPlaying) (round memory)
 at_present act (Some place) memory =
-    Asks (at_place place act) (λ reply. answered reply memory)
+    Asks (at_place place act) (λ reply. shown (Some place.seat) reply memory)
 
 -- the lobby has told which place is the present one, and the act is made there
 abbrev pub placing : DeskAct → MemoryState → Course
@@ -75,28 +110,97 @@ placing act memory = at_present act (present_in memory) memory
 abbrev pub to_desk : DeskAct → MemoryState → Course
 to_desk act memory = Asks (Lobby lobby_act.Where) (λ reply. placing act (told memory reply))
 
+-- a remark at the present place, or else at the first game at which the session looks on
+abbrev pub remarking : DeskAct → MemoryState → Course
+remarking act memory = at_present act (remark_place memory) memory
+
+abbrev pub to_remark : DeskAct → MemoryState → Course
+to_remark act memory = Asks (Lobby lobby_act.Where) (λ reply. remarking act (told memory reply))
+
+-- the line of a session's remark: its own name, and what it says
+abbrev pub remark_text : Standing → List ℕ → List ℕ
+remark_text (In name) text = said name (codes " kibitzes: ") text
+remark_text _ text = text
+
+abbrev pub remark_of : List ℕ → MemoryState → DeskAct
+remark_of text memory = desk_act.Remark (remark_text memory.standing text)
+
+-- what the session remembers once it has asked to look on at the game of a place: where it is shown boards, it does
+abbrev pub watched : Place → Reply → MemoryState → MemoryState
+watched place (reply.Desk (Items items is_over)) memory = with_observed place memory
+watched place _ memory = memory
+
+-- the desk has answered whether the session looks on
+abbrev pub watching : Place → Reply → MemoryState → Course
+watching place reply memory = Writes (shown_text (reader_in memory None) reply) (round (watched place reply memory))
+
+-- the lobby has answered where a game is played: there the session asks to look on
+abbrev pub finding : Reply → MemoryState → Course
+finding (reply.Lobby (Found place)) memory =
+    Asks (at_place place desk_act.Watch) (λ reply. watching place reply memory)
+finding other memory = answered other memory
+
+-- looks on at one game more, for which the lobby is asked, where there aren't 32
+abbrev pub to_observe : LobbyAct → MemoryState → Course
+to_observe act memory =
+    if is_full memory then Writes (refusal_line ListFull) (round memory)
+    else Asks (Lobby act) (λ reply. finding reply memory)
+
+-- looks on no longer at this game; where the session doesn't, it answers itself
+abbrev pub unobserved : Option Place → MemoryState → Course
+unobserved None memory = Writes (refusal_line NotWatching) (round memory)
+unobserved (Some place) memory =
+    Asks (at_place place desk_act.Unwatch) (λ reply. answered reply (without_observed place.desk memory))
+
+abbrev pub to_unobserve : ℕ → MemoryState → Course
+to_unobserve number memory = unobserved (observed_at (desk_of_game number) memory) memory
+
 -- a command that is one act
 abbrev pub to_server : Act → MemoryState → Course
 to_server act memory = Asks act (λ reply. answered reply memory)
+
+-- the desk has answered the act that accepts or declines: where no offer stands there, the lobby is asked
+abbrev pub reacted : Reaction → Reply → MemoryState → Course
+reacted reaction reply memory =
+    if says_no_offer reply then to_server (in_lobby reaction None) memory else answered reply memory
+
+-- the desk of this place is asked first, and without a place the lobby alone
+abbrev pub reacting_at : Reaction → Option Place → MemoryState → Course
+reacting_at reaction None memory = to_server (in_lobby reaction None) memory
+reacting_at reaction (Some place) memory =
+    Asks (at_place place (of_desk reaction)) (λ reply. reacted reaction reply memory)
+
+-- the lobby has told which place is the present one
+abbrev pub reacting : Reaction → MemoryState → Course
+reacting reaction memory = reacting_at reaction (present_in memory) memory
+
+-- an offer is accepted or declined: that of a player who is named in the lobby alone
+abbrev pub to_react : Reaction → Option (List ℕ) → MemoryState → Course
+to_react reaction None memory = Asks (Lobby lobby_act.Where) (λ reply. reacting reaction (told memory reply))
+to_react reaction (Some name) memory = to_server (in_lobby reaction (Some (key_of name))) memory
 
 -- a command that the session carries out by itself: its line, and then the round
 abbrev pub by_itself : OwnAnswer → Course
 by_itself answer = Writes answer.line (round answer.memory)
 
--- each place is left and given up, in order, and then the member is gone
-abbrev pub leave_places : List Place → MemoryState → Course
-leave_places [] memory = Asks (Lobby lobby_act.Bye) (λ reply. Done (departed memory))
-leave_places (place ∷ places) memory =
-    Asks (at_place place desk_act.Leave) (λ left. Asks (clear_at place) (λ cleared. leave_places places memory))
+-- each game is left and given up, in order, and then the member is gone
+abbrev pub leave_games : List Visit → MemoryState → Course
+leave_games [] memory = Asks (Lobby lobby_act.Bye) (λ reply. Done (departed memory))
+leave_games (visit ∷ rest) memory =
+    Asks (at_game visit desk_act.Leave) (λ left. Asks (clear_at visit) (λ cleared. leave_games rest memory))
 
--- the acts of leaving. Where Going is passed over, the session leaves the places that it remembers
+-- the acts of leaving: the places and then the games at which the session looks on. Where Going is passed over, the
+-- places are those that it remembers
 abbrev pub leaving : MemoryState → Course
-leaving memory =
-    Asks (Lobby lobby_act.Going) (λ reply. leave_places (told memory reply).places.rows (told memory reply))
+leaving memory = Asks (Lobby lobby_act.Going) (λ reply. leave_games (visits_in (told memory reply)) (told memory reply))
 
 -- the setting of a variable
 abbrev pub setting : Var → Bool → Act
 setting which on = Lobby (lobby_act.Var which on)
+
+-- the change of a list
+abbrev pub listing : WhichList → List ℕ → Bool → Act
+listing which key on = Lobby (lobby_act.List which key on)
 
 -- what a session does for a command; a move carries the stamp of its line, where it has one
 abbrev pub command_course : Command → Option ℕ → MemoryState → Course
@@ -109,9 +213,10 @@ command_course (command.Unseek number) stamp memory = to_server (Lobby (lobby_ac
 command_course command.Sought stamp memory = to_server (Lobby lobby_act.Sought) memory
 command_course (command.Play number) stamp memory = to_server (Pair (pair_act.Play number)) memory
 command_course command.Who stamp memory = to_server (Lobby lobby_act.Who) memory
-command_course (command.Accept name) stamp memory = to_server (Pair (pair_act.Accept (option_map key_of name))) memory
-command_course (command.Decline name) stamp memory =
-    to_server (Lobby (lobby_act.Decline (option_map key_of name))) memory
+command_course (command.Accept name) stamp memory = to_react Accepting name memory
+command_course (command.Decline name) stamp memory = to_react Declining name memory
+command_course command.Pending stamp memory = to_server (Lobby lobby_act.Pending) memory
+command_course command.Games stamp memory = to_server (Lobby lobby_act.Games) memory
 command_course (command.Withdraw name) stamp memory =
     to_server (Lobby (lobby_act.Withdraw (option_map key_of name))) memory
 command_course (command.Partner name) stamp memory =
@@ -121,12 +226,23 @@ command_course (command.Tell name text) stamp memory = to_server (Lobby (lobby_a
 command_course (command.TellChannel channel text) stamp memory = to_server (Lobby (lobby_act.TellChannel channel text)) memory
 command_course (command.InChannel channel) stamp memory = to_server (Lobby (lobby_act.InChannel channel)) memory
 command_course (command.Channel number on) stamp memory = to_server (Lobby (lobby_act.Channel number on)) memory
+command_course (command.Censor name on) stamp memory = to_server (listing Censor (key_of name) on) memory
+command_course (command.Noplay name on) stamp memory = to_server (listing Noplay (key_of name) on) memory
 command_course (command.Shout text) stamp memory = to_server (Lobby (lobby_act.Shout text)) memory
 command_course (command.SetOpen on) stamp memory = to_server (setting Open on) memory
 command_course (command.SetShout on) stamp memory = to_server (setting Shout on) memory
 command_course (command.SetSeek on) stamp memory = to_server (setting Seek on) memory
+command_course command.Draw stamp memory = to_desk (desk_act.Make Draw) memory
+command_course command.Abort stamp memory = to_desk (desk_act.Make Abort) memory
+command_course (command.Takeback number) stamp memory = to_desk (desk_act.Make (Takeback number)) memory
 command_course command.Resign stamp memory = to_desk desk_act.Resign memory
 command_course command.Flag stamp memory = to_desk desk_act.Flag memory
+command_course command.Refresh stamp memory = to_desk desk_act.Show memory
+command_course (command.Kibitz text) stamp memory = to_remark (remark_of text memory) memory
+command_course (command.ObserveGame number) stamp memory = to_observe (lobby_act.FindGame number) memory
+command_course (command.ObservePlayer name) stamp memory = to_observe (lobby_act.Find (key_of name)) memory
+command_course (command.Unobserve number) stamp memory = to_unobserve number memory
+command_course (command.Style style) stamp memory = by_itself (set_style style memory)
 command_course (command.Register password) stamp memory =
     to_server (Lobby (lobby_act.Register (sha256 password))) memory
 command_course (command.Alias name text) stamp memory = by_itself (set_alias name text memory)

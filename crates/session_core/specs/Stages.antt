@@ -1,8 +1,8 @@
 -- The stages of a session: what stands between an act and its reply, and what follows. This server's own.
-use Rattle.std.specs.Prelude.{◌≡◌, ℕ, ◌+◌, ◌*◌, ◌≤◌, true, false, List, ◌++◌, length, Option, IfSome}
+use Rattle.std.specs.Prelude.{◌≡◌, ℕ, ◌+◌, ◌*◌, ◌≤◌, true, false, List, ◌++◌, length, Option, Some, IfSome}
 use Rattle.clock_ledger.specs.Span.{IsStamp}
 use Rattle.command_words.specs.declared.command.Command.{Command}
-use Rattle.command_words.specs.declared.command.Command.TheVariants.{Match, Seek, Tell, TellChannel, Shout, Ptell}
+use Rattle.command_words.specs.declared.command.Command.TheVariants.{Kibitz, Match, Seek, Tell, TellChannel, Shout, Ptell}
 use Rattle.linked_desk.specs.Acts.{FitsDeskAct}
 use Rattle.lobby_state.specs.Acts.{AreTerms}
 use Rattle.lobby_state.specs.Desks.{IsDesk}
@@ -17,28 +17,38 @@ use Rattle.session_core.specs.declared.stage.Stage.TheVariants as stage
 use Rattle.session_core.specs.declared.leaving_stage.LeavingStage.{LeavingStage}
 use Rattle.session_core.specs.declared.leaving_stage.LeavingStage.TheVariants as leaving_stage
 use Rattle.session_core.specs.Course.{Course, Done, Asks, Writes}
-use Rattle.session_core.specs.Memory.{MemoryState, departed, has_entered, is_gone, told}
+use Rattle.session_core.specs.Memory.{MemoryState, departed, has_entered, is_gone, reader_in, told, without_observed}
 use Rattle.session_core.specs.Login.{entered_as}
-use Rattle.session_core.specs.Session.{acking, answered, clear_at, given_up, leave_places, leaving, placing, rounding, says_over, visits}
+use Rattle.session_core.specs.Session.{acking, answered, behind, clear_at, finding, given_up, leave_games, leaving, placing, reacted, reacting, remarking}
+use Rattle.session_core.specs.Session.{rounding, says_over, shown, visits, watching}
 use Rattle.session_core.specs.Texts.{news_text, waiting_text}
+use Rattle.session_core.specs.Visits.{visits_in}
 
 -- what follows the reply to the act at which the session stands
 abbrev pub continues : Stage → MemoryState → Reply → Course
 continues (stage.Entering name) memory reply = entered_as name reply memory
 continues (stage.Placing act) memory reply = placing act (told memory reply)
+continues (stage.Reacting reaction) memory reply = reacting reaction (told memory reply)
+continues (stage.Reacted reaction) memory reply = reacted reaction reply memory
 continues stage.Answering memory reply = answered reply memory
+continues (stage.Showing seat) memory reply = shown (Some seat) reply memory
+continues (stage.Remarking act) memory reply = remarking act (told memory reply)
+continues stage.Finding memory reply = finding reply memory
+continues (stage.Watching place) memory reply = watching place reply memory
+continues (stage.Unwatching desk) memory reply = answered reply (without_observed desk memory)
 continues stage.Rounding memory reply = Writes (waiting_text reply) (rounding (told memory reply))
-continues (stage.Visiting place rest) memory reply =
-    Writes (news_text memory.link place reply) (given_up place (says_over reply) (visits rest memory))
+continues (stage.Visiting visit rest) memory reply =
+    Writes (news_text (reader_in memory visit.seat) reply)
+    (given_up visit (says_over reply) (visits rest (behind visit (says_over reply) memory)))
 continues (stage.Clearing rest) memory reply = visits rest memory
 continues (stage.AwaitingPlace stamp) memory reply = acking stamp (told memory reply)
 continues stage.Acking memory reply = Done memory
 
 -- and when it leaves
 abbrev pub leaves : LeavingStage → MemoryState → Reply → Course
-leaves leaving_stage.Going memory reply = leave_places (told memory reply).places.rows (told memory reply)
-leaves (leaving_stage.Leaving place rest) memory reply = Asks (clear_at place) (λ cleared. leave_places rest memory)
-leaves (leaving_stage.Clearing rest) memory reply = leave_places rest memory
+leaves leaving_stage.Going memory reply = leave_games (visits_in (told memory reply)) (told memory reply)
+leaves (leaving_stage.Leaving visit rest) memory reply = Asks (clear_at visit) (λ cleared. leave_games rest memory)
+leaves (leaving_stage.Clearing rest) memory reply = leave_games rest memory
 leaves leaving_stage.Gone memory reply = Done (departed memory)
 
 -- the course of what comes next: an act, and what follows its reply by what the session remembers; or the end
@@ -49,17 +59,24 @@ course_of follows End memory = Done memory
 -- how many acts may still follow the reply
 abbrev pub acts_after : Stage → ℕ
 acts_after (stage.Entering name) = 0
-acts_after (stage.Placing act) = 67
-acts_after stage.Answering = 66
-acts_after stage.Rounding = 65
-acts_after (stage.Visiting place rest) = 2 * length rest + 1
+acts_after (stage.Placing act) = 131
+acts_after (stage.Reacting reaction) = 132
+acts_after (stage.Reacted reaction) = 131
+acts_after (stage.Remarking act) = 131
+acts_after stage.Finding = 131
+acts_after (stage.Watching place) = 130
+acts_after (stage.Unwatching desk) = 130
+acts_after (stage.Showing seat) = 130
+acts_after stage.Answering = 130
+acts_after stage.Rounding = 129
+acts_after (stage.Visiting visit rest) = 2 * length rest + 1
 acts_after (stage.Clearing rest) = 2 * length rest
 acts_after (stage.AwaitingPlace stamp) = 1
 acts_after stage.Acking = 0
 
 abbrev pub acts_of_leaving : LeavingStage → ℕ
-acts_of_leaving leaving_stage.Going = 65
-acts_of_leaving (leaving_stage.Leaving place rest) = 2 * length rest + 2
+acts_of_leaving leaving_stage.Going = 129
+acts_of_leaving (leaving_stage.Leaving visit rest) = 2 * length rest + 2
 acts_of_leaving (leaving_stage.Clearing rest) = 2 * length rest + 1
 acts_of_leaving leaving_stage.Gone = 0
 
@@ -78,6 +95,7 @@ FitsCommand (Match name terms) = AreTerms terms
 FitsCommand (Seek terms) = AreTerms terms
 FitsCommand (Tell name text) = length text ≤ 800
 FitsCommand (TellChannel channel text) = length text ≤ 800
+FitsCommand (Kibitz text) = length text ≤ 800
 FitsCommand (Shout text) = length text ≤ 800
 FitsCommand (Ptell text) = length text ≤ 800
 FitsCommand _ = Unit {0}
@@ -87,12 +105,14 @@ FitsCommand _ = Unit {0}
 abbrev pub IsSet : MemoryState → Stage → Type 0
 IsSet memory (stage.Entering name) = has_entered memory ≡ false
 IsSet memory (stage.Placing act) = (has_entered memory ≡ true) × FitsDeskAct act
-IsSet memory (stage.Visiting place rest) = (has_entered memory ≡ true) × IsDesk place.desk
+IsSet memory (stage.Remarking act) = (has_entered memory ≡ true) × FitsDeskAct act
+IsSet memory (stage.Watching place) = (has_entered memory ≡ true) × IsDesk place.desk
+IsSet memory (stage.Visiting visit rest) = (has_entered memory ≡ true) × IsDesk visit.desk
 IsSet memory (stage.AwaitingPlace stamp) = (has_entered memory ≡ true) × IsStamp stamp
 IsSet memory _ = has_entered memory ≡ true
 
 abbrev pub LeavesDesk : LeavingStage → Type 0
-LeavesDesk (leaving_stage.Leaving place rest) = IsDesk place.desk
+LeavesDesk (leaving_stage.Leaving visit rest) = IsDesk visit.desk
 LeavesDesk _ = Unit {0}
 
 -- the next act may be made

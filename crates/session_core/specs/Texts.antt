@@ -1,14 +1,16 @@
 -- What a session writes: the texts of replies, of what waits for it, and of the news of its games. Each line ends with
 -- line feed and carriage return, as on FICS.
-use Rattle.std.specs.Prelude.{ℕ, zero, suc, Bool, true, false, ℤ, pos, List, [], ◌∷◌, ◌++◌, Some, codes, decimal, if◌then◌else◌}
+use Rattle.std.specs.Prelude.{ℕ, zero, suc, Bool, true, false, ℤ, pos, List, [], ◌∷◌, ◌++◌, Option, codes, decimal, if◌then◌else◌}
+use Rattle.command_words.specs.declared.style.Style.{Style}
+use Rattle.command_words.specs.declared.style.Style.TheVariants.{One, Twelve}
 use Rattle.fics_words.specs.declared.refusal.Refusal.{Refusal}
 use Rattle.fics_words.specs.Refusal.{number_of, name_of}
 use Rattle.linked_desk.specs.declared.acts.DeskReply.TheVariants.{Items}
 use Rattle.linked_desk.specs.Sight.{board_in, sight}
 use Rattle.lobby_state.specs.declared.acts.LobbyReply.TheVariants.{Asked, Done, Entered, Told, Number, Lines, Waiting}
-use Rattle.lobby_state.specs.declared.place.Place.{Place}
 use Rattle.one_server.specs.declared.reply.Reply.{Reply}
 use Rattle.one_server.specs.declared.reply.Reply.TheVariants as reply
+use Rattle.session_core.specs.declared.reader.Reader.{Reader}
 use Rattle.session_core.specs.declared.standing.LinkMark.{LinkMark}
 use Rattle.session_core.specs.declared.standing.LinkMark.TheVariants.{Stamped}
 use Rattle.session_core.specs.declared.standing.Standing.{Standing}
@@ -18,6 +20,8 @@ use Rattle.style12_writer.specs.declared.item.Item.TheVariants.{Board, Hold, Tal
 use Rattle.style12_writer.specs.EndLine.{end_text}
 use Rattle.style12_writer.specs.HoldingsLine.{holdings_text}
 use Rattle.style12_writer.specs.Line12.{line12_text}
+use Rattle.style12_writer.specs.TextBoard.{board1_lines}
+use Rattle.style12_writer.specs.declared.view.BoardView.{BoardView}
 
 -- the end of a line
 abbrev pub line_end : List ℕ
@@ -80,12 +84,17 @@ reply_text (reply.Lobby (Number number)) = number_line number
 reply_text (reply.Lobby (Lines lines)) = list_text lines
 reply_text _ = []
 
--- the line of an item, for the player of a seat: a board is seen as the desk shows it to that player
-abbrev pub item_text : ℕ → Item → List ℕ
-item_text seat (Board view) = line12_text view (sight (Some seat) (board_in view.game) view.face.to_move)
-item_text seat (Hold game white black came) = holdings_text game white black came
-item_text seat (Talk line) = line
-item_text seat (End view why winner on_own) = end_text view why winner on_own
+-- a board as it is printed: in style 12 it is seen as the desk shows it to the player of that seat, or to who looks on
+abbrev pub board_text : Style → Option ℕ → BoardView → List ℕ
+board_text One seat view = lines_text (board1_lines view)
+board_text Twelve seat view = line12_text view (sight seat (board_in view.game) view.face.to_move) ++ line_end
+
+-- the lines of an item, for the player of a seat, or for who looks on
+abbrev pub item_text : Style → Option ℕ → Item → List ℕ
+item_text style seat (Board view) = board_text style seat view
+item_text style seat (Hold game white black came) = holdings_text game white black came ++ line_end
+item_text style seat (Talk line) = line ++ line_end
+item_text style seat (End view why winner on_own) = end_text view why winner on_own ++ line_end
 
 -- whether a board shows that the viewer plays and is to move: style 12's relation 1
 abbrev pub is_own_turn : ℤ → Bool
@@ -93,26 +102,31 @@ is_own_turn (pos (suc zero)) = true
 is_own_turn _ = false
 
 -- on a stamped link the client is asked to acknowledge each board that shows its own turn, by `[G]` and a zero byte
-abbrev pub asks_back : LinkMark → ℕ → Item → List ℕ
+abbrev pub asks_back : LinkMark → Option ℕ → Item → List ℕ
 asks_back Stamped seat (Board view) =
-    if is_own_turn (sight (Some seat) (board_in view.game) view.face.to_move).relation
+    if is_own_turn (sight seat (board_in view.game) view.face.to_move).relation
     then codes "[G]" ++ 0 ∷ []
     else []
 asks_back _ seat _ = []
 
--- an item as it is written: its line and its end, and what asks the client to acknowledge it
-abbrev pub item_line : LinkMark → ℕ → Item → List ℕ
-item_line link seat item = item_text seat item ++ line_end ++ asks_back link seat item
+-- an item as it is written: its lines, and what asks the client to acknowledge it
+abbrev pub item_line : Reader → Item → List ℕ
+item_line reader item = item_text reader.style reader.seat item ++ asks_back reader.link reader.seat item
 
 -- the lines of items
-abbrev pub items_text : LinkMark → ℕ → List Item → List ℕ
-items_text link seat [] = []
-items_text link seat (item ∷ items) = item_line link seat item ++ items_text link seat items
+abbrev pub items_text : Reader → List Item → List ℕ
+items_text reader [] = []
+items_text reader (item ∷ items) = item_line reader item ++ items_text reader items
 
--- the news of the game at a place
-abbrev pub news_text : LinkMark → Place → Reply → List ℕ
-news_text link place (reply.Desk (Items items is_over)) = items_text link place.seat items
-news_text link place _ = []
+-- the news of a game
+abbrev pub news_text : Reader → Reply → List ℕ
+news_text reader (reply.Desk (Items items is_over)) = items_text reader items
+news_text reader _ = []
+
+-- what a reply of a desk prints: the items that it shows, or what any other reply prints
+abbrev pub shown_text : Reader → Reply → List ℕ
+shown_text reader (reply.Desk (Items items is_over)) = items_text reader items
+shown_text reader other = reply_text other
 
 -- the lines that waited
 abbrev pub waiting_text : Reply → List ℕ

@@ -3,18 +3,20 @@ ghost use Rattle.std.specs.Prelude.{◌≡◌, IfOk, true};
 ghost use Rattle.one_server.specs.Acts.{FitsAct};
 ghost use Rattle.linked_desk.specs.Acts.{FitsDeskAct};
 ghost use Rattle.session_core.specs.Memory.{MemoryState, has_entered};
-ghost use Rattle.session_core.specs.Session.{command_course, setting, to_desk, to_server};
+ghost use Rattle.session_core.specs.Session.{command_course, setting, to_desk, to_react, to_server, listing};
 ghost use Rattle.session_core.specs.Stages.{FitsCommand, FitsStamp, IsPrepared, Settles, first_course};
 
 use crate::first::First;
 use crate::next::Next;
-use crate::own_commands::{set_alias, unset_alias};
+use crate::own_commands::{set_alias, set_style, unset_alias};
+use crate::reaction::{Reaction, in_lobby};
 use crate::session_memory::Memory;
 use crate::stage::{Stage, ask_round};
+use crate::watching::{observe, remark, unobserve};
 use command_words::Command;
-use fics_words::NoMemory;
-use linked_desk::DeskAct;
-use lobby_state::{LobbyAct, PairAct, Var};
+use fics_words::{Handle, HandleKey, NoMemory};
+use linked_desk::{DeskAct, Offer};
+use lobby_state::{LobbyAct, PairAct, Var, WhichList};
 use login_handles::digest_of;
 use one_server::Act;
 
@@ -45,10 +47,10 @@ pub(crate) fn begin_command(
         Command::Sought => to_server(Act::Lobby(LobbyAct::Sought)),
         Command::Play(number) => to_server(Act::Pair(PairAct::Play(number))),
         Command::Who => to_server(Act::Lobby(LobbyAct::Who)),
-        Command::Accept(name) => to_server(Act::Pair(PairAct::Accept(name.map(|name| name.key())))),
-        Command::Decline(name) => to_server(Act::Lobby(LobbyAct::Decline {
-            name: name.map(|name| name.key()),
-        })),
+        Command::Accept(name) => to_react(Reaction::Accepting, name),
+        Command::Decline(name) => to_react(Reaction::Declining, name),
+        Command::Pending => to_server(Act::Lobby(LobbyAct::Pending)),
+        Command::Games => to_server(Act::Lobby(LobbyAct::Games)),
         Command::Withdraw(name) => to_server(Act::Lobby(LobbyAct::Withdraw {
             name: name.map(|name| name.key()),
         })),
@@ -69,23 +71,45 @@ pub(crate) fn begin_command(
             channel: number,
             on,
         })),
+        Command::Censor { name, on } => to_server(list(WhichList::Censor, name.key(), on)),
+        Command::Noplay { name, on } => to_server(list(WhichList::Noplay, name.key(), on)),
         Command::Shout(text) => to_server(Act::Lobby(LobbyAct::Shout { text })),
         Command::SetOpen(on) => to_server(set(Var::Open, on)),
         Command::SetShout(on) => to_server(set(Var::Shout, on)),
         Command::SetSeek(on) => to_server(set(Var::Seek, on)),
+        Command::Draw => to_desk(DeskAct::Make { offer: Offer::Draw }),
+        Command::Abort => to_desk(DeskAct::Make {
+            offer: Offer::Abort,
+        }),
+        Command::Takeback(number) => to_desk(DeskAct::Make {
+            offer: Offer::Takeback(number),
+        }),
         Command::Resign => to_desk(DeskAct::Resign),
         Command::Flag => to_desk(DeskAct::Flag),
+        Command::Refresh => to_desk(DeskAct::Show),
+        Command::Kibitz(text) => return remark(memory, &text, out),
+        Command::ObserveGame(number) => {
+            return observe(memory, LobbyAct::FindGame { number }, out);
+        },
+        Command::ObservePlayer(name) => {
+            return observe(memory, LobbyAct::Find { name: name.key() }, out);
+        },
+        Command::Unobserve(number) => return unobserve(memory, number, out),
+        Command::Style(style) => {
+            set_style(memory, style, out)?;
+            return Ok(First::Going(ask_round()));
+        },
         Command::Register(password) => {
             let digest = digest_of(password.bytes());
             to_server(Act::Lobby(LobbyAct::Register { digest }))
         },
         Command::Alias { name, text } => {
             set_alias(memory, &name, &text, out)?;
-            First::Going(ask_round())
+            return Ok(First::Going(ask_round()));
         },
         Command::Unalias(name) => {
             unset_alias(memory, &name, out)?;
-            First::Going(ask_round())
+            return Ok(First::Going(ask_round()));
         },
         Command::Quit => First::Leaving,
     };
@@ -97,6 +121,13 @@ fn set(which: Var, on: bool) -> Act
     ensures { result ≡ setting which on }
 {
     Act::Lobby(LobbyAct::Var { which, on })
+}
+
+/// The change of a list.
+fn list(which: WhichList, name: HandleKey, on: bool) -> Act
+    ensures { result ≡ listing which name on }
+{
+    Act::Lobby(LobbyAct::List { which, name, on })
 }
 
 /// An act whose reply is printed.
@@ -115,4 +146,19 @@ fn to_desk(act: DeskAct) -> First
     ensures ready { (memory : MemoryState) → has_entered memory ≡ true → IsPrepared memory result }
 {
     First::Going(Next::Ask(Act::Lobby(LobbyAct::Where), Stage::Placing(act)))
+}
+
+/// An offer is accepted or declined: that of a player who is named in the lobby alone; else the lobby is asked for the
+/// present place.
+fn to_react(reaction: Reaction, name: Option<Handle>) -> First
+    ensures goes { (memory : MemoryState) → first_course result memory ≡ to_react reaction name memory }
+    ensures ready { (memory : MemoryState) → has_entered memory ≡ true → IsPrepared memory result }
+{
+    match name {
+        None => First::Going(Next::Ask(Act::Lobby(LobbyAct::Where), Stage::Reacting(reaction))),
+        Some(name) => First::Going(Next::Ask(
+            in_lobby(reaction, Some(name.key())),
+            Stage::Answering,
+        )),
+    }
 }

@@ -1,16 +1,17 @@
 //! The stages of leaving.
 ghost use Rattle.std.specs.Prelude.{◌≡◌, ◌≤◌, ◌*◌, ◌+◌, length};
 ghost use Rattle.session_core.specs.Memory.{MemoryState};
-ghost use Rattle.session_core.specs.Session.{leave_places};
+ghost use Rattle.session_core.specs.Session.{leave_games};
 ghost use Rattle.session_core.specs.Stages.{HasGone, IsReady, LeavesDesk, acts_left, acts_of_leaving};
 ghost use Rattle.session_core.specs.Stages.{course_of, leaves};
 
 use crate::next::Next;
 use crate::rest::Rest;
 use crate::session_memory::Memory;
-use crate::stage::{at_place, clear_at};
+use crate::stage::{at_game, clear_at};
+use crate::visit::Visit;
 use linked_desk::DeskAct;
-use lobby_state::{LobbyAct, Place};
+use lobby_state::LobbyAct;
 use one_server::{Act, Reply};
 
 /// What stands between an act of leaving and its reply.
@@ -18,9 +19,9 @@ use one_server::{Act, Reply};
 pub(crate) enum LeavingStage {
     /// The member begins to leave.
     Going,
-    /// A place is left, and these places come next.
-    Leaving(Place, Rest),
-    /// A place is given up, and these places come next.
+    /// A game is left, and these games come next.
+    Leaving(Visit, Rest),
+    /// A game is given up, and these games come next.
     Clearing(Rest),
     /// The member is gone.
     Gone,
@@ -38,10 +39,10 @@ impl LeavingStage {
         match self {
             LeavingStage::Going => {
                 memory.note(reply);
-                leave_next(memory.places())
+                leave_next(memory.visits())
             }
-            LeavingStage::Leaving(place, rest) => {
-                Next::Ask(clear_at(&place), LeavingStage::Clearing(rest))
+            LeavingStage::Leaving(visit, rest) => {
+                Next::Ask(clear_at(&visit), LeavingStage::Clearing(rest))
             }
             LeavingStage::Clearing(rest) => leave_next(rest),
             LeavingStage::Gone => {
@@ -59,19 +60,19 @@ pub(crate) fn ask_going() -> Next<LeavingStage>
     Next::Ask(Act::Lobby(LobbyAct::Going), LeavingStage::Going)
 }
 
-/// The act that leaves the first of these places; behind the last one the member is gone.
+/// The act that leaves the first of these games; behind the last one the member is gone.
 fn leave_next(rest: Rest) -> Next<LeavingStage>
-    ensures goes { (memory : MemoryState) → course_of leaves result memory ≡ leave_places rest memory }
+    ensures goes { (memory : MemoryState) → course_of leaves result memory ≡ leave_games rest memory }
     ensures ready { IsReady LeavesDesk result }
     ensures fewer { acts_left acts_of_leaving result ≤ 2 * length rest + 1 }
     ensures gone { (memory : MemoryState) → HasGone result memory }
 {
     match rest.pop() {
         None => Next::Ask(Act::Lobby(LobbyAct::Bye), LeavingStage::Gone),
-        Some((place, rest)) => {
+        Some((visit, rest)) => {
             Next::Ask(
-                at_place(&place, DeskAct::Leave),
-                LeavingStage::Leaving(place, rest),
+                at_game(&visit, DeskAct::Leave),
+                LeavingStage::Leaving(visit, rest),
             )
         }
     }

@@ -19,6 +19,9 @@ mod leaving_stage;
 mod login;
 mod next;
 mod own_commands;
+mod places_left;
+mod reaction;
+mod reader;
 mod rest;
 mod session;
 mod session_memory;
@@ -26,6 +29,8 @@ mod stage;
 mod standing;
 mod taking;
 mod texts;
+mod visit;
+mod watching;
 
 pub use framing::Framing;
 pub use input::{Input, Wrote};

@@ -1,9 +1,10 @@
 //! Commands that a session carries out by itself, with no act.
 ghost use Rattle.std.specs.Prelude.{◌≡◌, ◌++◌, OnOk};
-ghost use Rattle.session_core.specs.OwnCommands.{own_line, set_alias, unset_alias};
+ghost use Rattle.session_core.specs.OwnCommands.{own_line, set_alias, set_style, unset_alias};
 
 use crate::session_memory::Memory;
 use crate::texts::{put_done, put_refusal};
+use command_words::Style;
 use fics_words::{Fail, Line, NoMemory, Refusal};
 
 /// Makes a name stand for a text, and tells whether that was done.
@@ -36,6 +37,20 @@ pub(crate) fn unset_alias(
     ensures stands { memory.new.standing ≡ memory.old.standing }
 {
     put_own(memory.unset_alias(name.bytes()), out)
+}
+
+/// Has boards printed so, and tells that this was done.
+pub(crate) fn set_style(
+    memory: &mut Memory,
+    style: Style,
+    out: &mut Vec<u8>,
+) -> Result<(), NoMemory>
+    ensures memory { OnOk result (memory.new ≡ (set_style style memory.old).memory) }
+    ensures line { OnOk result (out.new.items ≡ out.old.items ++ (set_style style memory.old).line) }
+    ensures stands { memory.new.standing ≡ memory.old.standing }
+{
+    memory.print_in(style);
+    put_done(out)
 }
 
 /// Appends the line of what was done, or refused.

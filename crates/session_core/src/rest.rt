@@ -1,53 +1,57 @@
-//! The places that a session has still to go to.
+//! The games to which a session has still to go.
 ghost use Rattle.std.specs.Prelude.{◌≡◌, ◌≤◌, ◌∷◌, [], IfSome, MatchOption, length};
 ghost use Rattle.lobby_state.specs.Desks.{IsDesk};
+ghost use Rattle.session_core.specs.Visits.{all_visits};
 
-use lobby_state::{Place, Places};
+use crate::places_left::PlacesLeft;
+use crate::visit::{Visit, looking, playing};
+use lobby_state::Places;
 use std::marker::Model;
 
-/// Places that come next, each at a desk from 1 to 128. Contracts see their list.
+/// Games that come next, each at a desk from 1 to 128: those that the session plays, and then those at which it looks
+/// on. Contracts see their list.
 #[derive(Debug, Drop)]
 pub(crate) struct Rest {
-    places: Places,
-    /// How many of the places were taken.
-    taken: usize,
+    places: PlacesLeft,
+    observed: PlacesLeft,
 }
 
 impl Model for Rest {
-    ghost use Rattle.std.specs.Prelude.{◌≤◌, List, drop, length};
-    ghost use Rattle.lobby_state.specs.declared.place.Place.{Place};
+    ghost use Rattle.std.specs.Prelude.{List};
+    ghost use Rattle.session_core.specs.declared.visit.Visit.{Visit};
+    ghost use Rattle.session_core.specs.Visits.{all_visits};
 
-    ghost Value = { List Place };
+    ghost Value = { List Visit };
 
-    ghost view = { λ rest. drop rest.taken rest.places.rows };
-
-    ghost invariant = { λ rest. rest.taken ≤ length rest.places.rows };
+    ghost view = { λ rest. all_visits rest.places rest.observed };
 }
 
 impl Rest {
-    /// All of these places.
-    pub(crate) fn all(places: Places) -> Rest
-        ensures places { result ≡ places.rows }
-        ensures most { length places.rows ≤ 32 }
+    /// The games of all of these places, and all at which the session looks on.
+    pub(crate) fn all(places: Places, observed: Places) -> Rest
+        ensures visits { result ≡ all_visits places.rows observed.rows }
+        ensures most { length (all_visits places.rows observed.rows) ≤ 64 }
     {
-        let _rows = places.rows();
-        Rest { places, taken: 0 }
+        Rest {
+            places: PlacesLeft::all(places),
+            observed: PlacesLeft::all(observed),
+        }
     }
 
-    /// The first place and the places behind it; none where there is no place left.
-    pub(crate) fn pop(self) -> Option<(Place, Rest)>
+    /// The first game and the games behind it; none where there is no game left.
+    pub(crate) fn pop(self) -> Option<(Visit, Rest)>
         ensures first { MatchOption result (self ≡ []) (λ next. self ≡ next.0 ∷ next.1) }
         ensures desk { IfSome result (λ next. IsDesk next.0.desk) }
     {
-        let rows = self.places.rows();
-        if self.taken >= rows.len() {
-            return None;
+        let Rest { places, observed } = self;
+        let mut places = places;
+        let mut observed = observed;
+        if let Some(place) = places.pop() {
+            return Some((playing(&place), Rest { places, observed }));
         }
-        let place = rows[self.taken];
-        let rest = Rest {
-            places: self.places,
-            taken: self.taken + 1,
-        };
-        Some((place, rest))
+        if let Some(place) = observed.pop() {
+            return Some((looking(&place), Rest { places, observed }));
+        }
+        None
     }
 }

@@ -1,28 +1,35 @@
 //! What a session remembers from one input to the next.
-ghost use Rattle.std.specs.Prelude.{◌≡◌, ◌≤◌, IfSome, length};
+ghost use Rattle.std.specs.Prelude.{◌≡◌, ◌≤◌, IfSome, length, slice_get};
 ghost use Rattle.command_words.specs.Aliases.{setting, unsetting};
 ghost use Rattle.fics_words.specs.Effect.{Takes, answer_of, state_of};
 ghost use Rattle.lobby_state.specs.Desks.{IsDesk};
-ghost use Rattle.session_core.specs.Memory.{departed, is_gone, newcomer, past_first, present_in, seated};
-ghost use Rattle.session_core.specs.Memory.{stands_at, told};
+ghost use Rattle.session_core.specs.Memory.{departed, is_full, is_gone, newcomer, observed_at, past_first, present_in};
+ghost use Rattle.session_core.specs.Memory.{reader_in, remark_place, seated, stands_at, told, with_observed, without_observed};
+ghost use Rattle.session_core.specs.Visits.{visits_in};
 
+use crate::reader::Reader;
 use crate::rest::Rest;
 use crate::standing::{LinkMark, Standing};
-use command_words::Aliases;
+use command_words::{Aliases, Style};
 use fics_words::{Fail, Handle, Refusal};
 use lobby_state::{LobbyReply, Place, Places};
 use one_server::Reply;
 use std::alloc::Global;
 use std::marker::Model;
 
-/// What a session remembers: where it stands, what its link is, its aliases, and its places as the lobby told them
-/// last.
+/// The most games at which a session looks on.
+const MOST_OBSERVED: usize = 32;
+
+/// What a session remembers: where it stands, what its link is, its aliases, how boards are printed, its places as the
+/// lobby told them last, and where it looks on, in the order in which it began to.
 #[derive(Debug, Drop)]
 pub(crate) struct Memory {
     standing: Standing,
     link: LinkMark,
     aliases: Aliases,
+    style: Style,
     places: Places,
+    observed: Places,
 }
 
 impl Model for Memory {
@@ -34,7 +41,9 @@ impl Model for Memory {
       standing = memory.standing;
       link = memory.link;
       aliases = memory.aliases;
+      style = memory.style;
       places = memory.places;
+      observed = memory.observed;
     } };
 }
 
@@ -47,7 +56,9 @@ impl Memory {
             standing: Standing::Login,
             link: LinkMark::Fresh,
             aliases: Aliases::new(alloc),
+            style: Style::Twelve,
             places: Places::none(),
+            observed: Places::none(),
         }
     }
 
@@ -59,7 +70,9 @@ impl Memory {
             standing: Standing::In(name),
             link: LinkMark::Fresh,
             aliases: Aliases::new(alloc),
+            style: Style::Twelve,
             places: Places::none(),
+            observed: Places::none(),
         }
     }
 
@@ -153,6 +166,7 @@ impl Memory {
     {
         self.standing = Standing::Gone;
         self.places = Places::none();
+        self.observed = Places::none();
     }
 
     /// The present place, if there is any place.
@@ -163,11 +177,83 @@ impl Memory {
         self.places.present()
     }
 
-    /// The places, all of which are still to be visited.
-    pub(crate) fn places(&self) -> Rest
-        ensures places { result ≡ self.now.places.rows }
-        ensures most { length self.now.places.rows ≤ 32 }
+    /// The games that the session plays and at which it looks on, all of which are still to be visited.
+    pub(crate) fn visits(&self) -> Rest
+        ensures visits { result ≡ visits_in self.now }
+        ensures most { length (visits_in self.now) ≤ 64 }
     {
-        Rest::all(self.places)
+        Rest::all(self.places, self.observed)
+    }
+
+    /// For whom the items of a game are written that the session plays at this seat, or at which it looks on.
+    pub(crate) fn reader(&self, seat: Option<u8>) -> Reader
+        ensures { result ≡ reader_in self.now seat }
+    {
+        Reader {
+            link: self.link,
+            style: self.style,
+            seat,
+        }
+    }
+
+    /// Boards are printed so from now on.
+    pub(crate) fn print_in(&mut self, style: Style)
+        ensures { self.new ≡ record self.old { style = style } }
+    {
+        self.style = style;
+    }
+
+    /// Whether the session looks on at 32 games.
+    pub(crate) fn is_full(&self) -> bool
+        ensures { result ≡ is_full self.now }
+    {
+        self.observed.rows().len() >= MOST_OBSERVED
+    }
+
+    /// Looks on at the game of this place too.
+    pub(crate) fn observe(&mut self, place: Place)
+        requires { IsDesk place.desk }
+        ensures { self.new ≡ with_observed place self.old }
+    {
+        self.observed.add(place);
+    }
+
+    /// Looks on no longer at the game of this desk.
+    pub(crate) fn unobserve(&mut self, desk: u8)
+        ensures { self.new ≡ without_observed desk self.old }
+    {
+        self.observed = self.observed.without(desk);
+    }
+
+    /// Where the session looks on at the game of this desk, if it does.
+    pub(crate) fn observed_at(&self, desk: u32) -> Option<Place>
+        ensures place { result ≡ observed_at desk self.now }
+        ensures desk { IfSome result (λ place. IsDesk place.desk) }
+    {
+        self.observed
+            .rows()
+            .iter()
+            .copied()
+            .find(|place| u32::from(place.desk) == desk)
+    }
+
+    /// The first game at which the session looks on, if there is one.
+    fn first_observed(&self) -> Option<Place>
+        ensures place { result ≡ slice_get self.now.observed.rows 0 }
+        ensures desk { IfSome result (λ place. IsDesk place.desk) }
+    {
+        self.observed.rows().get(0).copied()
+    }
+
+    /// Where the session can say something about a game: at its present place, or else at the first game at which it
+    /// looks on.
+    pub(crate) fn remark_place(&self) -> Option<Place>
+        ensures place { result ≡ remark_place self.now }
+        ensures desk { IfSome result (λ place. IsDesk place.desk) }
+    {
+        match self.present() {
+            Some(place) => Some(place),
+            None => self.first_observed(),
+        }
     }
 }

@@ -1,22 +1,25 @@
 //! The stages of a session: all that it decides between an act and its reply.
-ghost use Rattle.std.specs.Prelude.{◌≡◌, ◌≤◌, ◌*◌, ◌+◌, ◌||◌, true, IfOk, length};
+ghost use Rattle.std.specs.Prelude.{◌≡◌, ◌≤◌, ◌*◌, ◌+◌, ◌||◌, true, IfOk, Some, length};
 ghost use Rattle.clock_ledger.specs.Span.{IsStamp};
 ghost use Rattle.linked_desk.specs.Acts.{FitsDeskAct};
 ghost use Rattle.lobby_state.specs.Desks.{IsDesk};
 ghost use Rattle.one_server.specs.Replies.{IsReply};
 ghost use Rattle.session_core.specs.Course.{Writes};
 ghost use Rattle.session_core.specs.Going.{is_entered};
-ghost use Rattle.session_core.specs.Memory.{MemoryState, has_entered, told};
-ghost use Rattle.session_core.specs.Session.{acking, answered, at_place, clear_at, given_up};
-ghost use Rattle.session_core.specs.Session.{placing, rounding, says_over, visits};
+ghost use Rattle.session_core.specs.Memory.{MemoryState, has_entered, told, reader_in, without_observed};
+ghost use Rattle.session_core.specs.Session.{acking, answered, at_place, clear_at, given_up, at_game, behind, forgets};
+ghost use Rattle.session_core.specs.Session.{placing, reacted, reacting, rounding, says_over, visits, remarking, shown};
 ghost use Rattle.session_core.specs.Stages.{IsSet, IsReady, Settles, acts_after, acts_left, continues, course_of};
 ghost use Rattle.session_core.specs.Texts.{news_text, waiting_text};
 
 use crate::login::entered;
 use crate::next::Next;
+use crate::reaction::{Reaction, in_lobby, of_desk, says_no_offer};
 use crate::rest::Rest;
 use crate::session_memory::Memory;
-use crate::texts::{put_news, put_refusal, put_reply, put_waiting};
+use crate::texts::{put_news, put_refusal, put_reply, put_shown, put_waiting};
+use crate::visit::Visit;
+use crate::watching::{found, watched};
 use fics_words::{Handle, NoMemory, Refusal};
 use linked_desk::{DeskAct, DeskReply};
 use lobby_state::{LobbyAct, PairAct, Place};
@@ -29,13 +32,27 @@ pub(crate) enum Stage {
     Entering(Option<Handle>),
     /// The lobby is asked for the present place, for this act there.
     Placing(DeskAct),
+    /// The lobby is asked for the present place, to answer the earliest offer there.
+    Reacting(Reaction),
+    /// A desk is asked to answer an offer, and the lobby comes next where none stands there.
+    Reacted(Reaction),
     /// An act is made whose reply is printed before the round.
     Answering,
+    /// And one at a desk, which may show the game to the player of this seat.
+    Showing(u8),
+    /// The lobby is asked for the present place, for this act there, or else where the session looks on.
+    Remarking(DeskAct),
+    /// The lobby is asked where a game is played, for the session to look on.
+    Finding,
+    /// The session has asked to look on at the game of this place.
+    Watching(Place),
+    /// The session looks on no longer at the game of this desk.
+    Unwatching(u8),
     /// The lobby is asked for what is new.
     Rounding,
-    /// A place is asked for its news, and these places come next.
-    Visiting(Place, Rest),
-    /// A place is given up, and these places come next.
+    /// A game is asked for its news, and these games come next.
+    Visiting(Visit, Rest),
+    /// A game is given up, and these games come next.
     Clearing(Rest),
     /// The lobby is asked for the present place, for an acknowledgement with this stamp.
     AwaitingPlace(u32),
@@ -62,10 +79,17 @@ impl Stage {
         match self {
             Stage::Entering(name) => entered(name, memory, reply, out),
             Stage::Placing(act) => placed(act, memory, reply, out),
+            Stage::Reacting(reaction) => Ok(reacting(reaction, memory, reply)),
+            Stage::Reacted(reaction) => reacted(reaction, memory, reply, out),
             Stage::Answering => answered(memory, reply, out),
             Stage::Rounding => rounded(memory, reply, out),
-            Stage::Visiting(place, rest) => visited(&place, rest, memory, reply, out),
-            Stage::Clearing(rest) => Ok(visit(rest)),
+            Stage::Showing(seat) => shown(seat, memory, reply, out),
+            Stage::Remarking(act) => remarked(act, memory, reply, out),
+            Stage::Finding => found(memory, reply, out),
+            Stage::Watching(place) => watched(place, memory, reply, out),
+            Stage::Unwatching(desk) => unwatched(desk, memory, reply, out),
+            Stage::Visiting(visit, rest) => visited(&visit, rest, memory, reply, out),
+            Stage::Clearing(rest) => Ok(visit_next(rest)),
             Stage::AwaitingPlace(stamp) => Ok(acking(stamp, memory, reply)),
             Stage::Acking => Ok(Next::End),
         }
@@ -84,7 +108,7 @@ fn placed(
     ensures settles { IfOk result (λ next. Settles (placing act (told memory.old reply.now))
         (course_of continues next memory.new) out.old.items out.new.items) }
     ensures ready { IfOk result (IsReady (IsSet memory.new)) }
-    ensures fewer { IfOk result (λ next. acts_left acts_after next ≤ 67) }
+    ensures fewer { IfOk result (λ next. acts_left acts_after next ≤ 131) }
     ensures stands { memory.new.standing ≡ memory.old.standing }
 {
     memory.note(reply);
@@ -92,61 +116,166 @@ fn placed(
         put_refusal(Refusal::NotPlaying, out)?;
         return Ok(ask_round());
     };
-    Ok(Next::Ask(at_place(&place, act), Stage::Answering))
+    Ok(Next::Ask(at_place(&place, act), Stage::Showing(place.seat)))
+}
+
+/// The lobby has told the places: the act is made at the present one, or else at the first game at which the session
+/// looks on; without either the session itself answers.
+fn remarked(
+    act: DeskAct,
+    memory: &mut Memory,
+    reply: &Reply,
+    out: &mut Vec<u8>,
+) -> Result<Next<Stage>, NoMemory>
+    requires inside { has_entered memory.old ≡ true }
+    requires act { FitsDeskAct act }
+    ensures settles { IfOk result (λ next. Settles (remarking act (told memory.old reply.now))
+        (course_of continues next memory.new) out.old.items out.new.items) }
+    ensures ready { IfOk result (IsReady (IsSet memory.new)) }
+    ensures fewer { IfOk result (λ next. acts_left acts_after next ≤ 131) }
+    ensures stands { memory.new.standing ≡ memory.old.standing }
+{
+    memory.note(reply);
+    let Some(place) = memory.remark_place() else {
+        put_refusal(Refusal::NotPlaying, out)?;
+        return Ok(ask_round());
+    };
+    Ok(Next::Ask(at_place(&place, act), Stage::Showing(place.seat)))
+}
+
+/// An act was made at a desk: its reply is printed for the player of this seat, and the round comes.
+fn shown(
+    seat: u8,
+    memory: &mut Memory,
+    reply: &Reply,
+    out: &mut Vec<u8>,
+) -> Result<Next<Stage>, NoMemory>
+    requires inside { has_entered memory.old ≡ true }
+    requires fits { IsReply reply.now }
+    ensures settles { IfOk result (λ next. Settles (shown (Some seat) reply.now memory.old)
+        (course_of continues next memory.new) out.old.items out.new.items) }
+    ensures ready { IfOk result (IsReady (IsSet memory.new)) }
+    ensures fewer { IfOk result (λ next. acts_left acts_after next ≤ 130) }
+    ensures stands { memory.new.standing ≡ memory.old.standing }
+{
+    put_shown(&memory.reader(Some(seat)), reply, out)?;
+    Ok(ask_round())
+}
+
+/// The session looks on no longer at the game of this desk: the reply is printed, and the round comes.
+fn unwatched(
+    desk: u8,
+    memory: &mut Memory,
+    reply: &Reply,
+    out: &mut Vec<u8>,
+) -> Result<Next<Stage>, NoMemory>
+    requires inside { has_entered memory.old ≡ true }
+    ensures settles { IfOk result (λ next. Settles (answered reply.now (without_observed desk memory.old))
+        (course_of continues next memory.new) out.old.items out.new.items) }
+    ensures ready { IfOk result (IsReady (IsSet memory.new)) }
+    ensures fewer { IfOk result (λ next. acts_left acts_after next ≤ 130) }
+    ensures stands { memory.new.standing ≡ memory.old.standing }
+{
+    memory.unobserve(desk);
+    answered(memory, reply, out)
+}
+
+/// The lobby has told the places: the desk of the present one is asked first, and without a place the lobby alone.
+fn reacting(reaction: Reaction, memory: &mut Memory, reply: &Reply) -> Next<Stage>
+    requires inside { has_entered memory.old ≡ true }
+    ensures goes { course_of continues result memory.new ≡ reacting reaction (told memory.old reply.now) }
+    ensures ready { IsReady (IsSet memory.new) result }
+    ensures fewer { acts_left acts_after result ≤ 132 }
+    ensures stands { memory.new.standing ≡ memory.old.standing }
+{
+    memory.note(reply);
+    match memory.present() {
+        Some(place) => Next::Ask(
+            at_place(&place, of_desk(reaction)),
+            Stage::Reacted(reaction),
+        ),
+        None => Next::Ask(in_lobby(reaction, None), Stage::Answering),
+    }
+}
+
+/// The desk has answered: where no offer stands there, the lobby is asked; else the reply is printed, and the round
+/// comes.
+fn reacted(
+    reaction: Reaction,
+    memory: &mut Memory,
+    reply: &Reply,
+    out: &mut Vec<u8>,
+) -> Result<Next<Stage>, NoMemory>
+    requires inside { has_entered memory.old ≡ true }
+    ensures settles { IfOk result (λ next. Settles (reacted reaction reply.now memory.old)
+        (course_of continues next memory.new) out.old.items out.new.items) }
+    ensures ready { IfOk result (IsReady (IsSet memory.new)) }
+    ensures fewer { IfOk result (λ next. acts_left acts_after next ≤ 131) }
+    ensures stands { memory.new.standing ≡ memory.old.standing }
+{
+    if says_no_offer(reply) {
+        return Ok(Next::Ask(in_lobby(reaction, None), Stage::Answering));
+    }
+    answered(memory, reply, out)
 }
 
 /// The act of a command was made: its reply is printed, and the round comes.
-fn answered(memory: &mut Memory, reply: &Reply, out: &mut Vec<u8>) -> Result<Next<Stage>, NoMemory>
+pub(crate) fn answered(
+    memory: &mut Memory,
+    reply: &Reply,
+    out: &mut Vec<u8>,
+) -> Result<Next<Stage>, NoMemory>
     requires inside { has_entered memory.old ≡ true }
     ensures settles { IfOk result (λ next. Settles (answered reply.now memory.old)
         (course_of continues next memory.new) out.old.items out.new.items) }
     ensures ready { IfOk result (IsReady (IsSet memory.new)) }
-    ensures fewer { IfOk result (λ next. acts_left acts_after next ≤ 66) }
+    ensures fewer { IfOk result (λ next. acts_left acts_after next ≤ 130) }
     ensures stands { memory.new.standing ≡ memory.old.standing }
 {
     put_reply(reply, out)?;
     Ok(ask_round())
 }
 
-/// The lobby has told what waits there, and the places: these are visited.
+/// The lobby has told what waits there, and the places: the games are visited.
 fn rounded(memory: &mut Memory, reply: &Reply, out: &mut Vec<u8>) -> Result<Next<Stage>, NoMemory>
     requires inside { has_entered memory.old ≡ true }
     ensures settles { IfOk result
         (λ next. Settles (Writes (waiting_text reply.now) (rounding (told memory.old reply.now)))
         (course_of continues next memory.new) out.old.items out.new.items) }
     ensures ready { IfOk result (IsReady (IsSet memory.new)) }
-    ensures fewer { IfOk result (λ next. acts_left acts_after next ≤ 65) }
+    ensures fewer { IfOk result (λ next. acts_left acts_after next ≤ 129) }
     ensures stands { memory.new.standing ≡ memory.old.standing }
 {
     memory.note(reply);
     put_waiting(reply, out)?;
-    Ok(visit(memory.places()))
+    Ok(visit_next(memory.visits()))
 }
 
-/// A place has told its news: where nothing more will come it is given up.
+/// A game has told its news: where nothing more will come it is given up, and the session looks on there no longer.
 fn visited(
-    place: &Place,
+    visit: &Visit,
     rest: Rest,
     memory: &mut Memory,
     reply: &Reply,
     out: &mut Vec<u8>,
 ) -> Result<Next<Stage>, NoMemory>
     requires inside { has_entered memory.old ≡ true }
-    requires desk { IsDesk place.now.desk }
+    requires desk { IsDesk visit.now.desk }
     requires fits { IsReply reply.now }
     ensures settles { IfOk result (λ next. Settles
-        (Writes (news_text memory.old.link place.now reply.now)
-        (given_up place.now (says_over reply.now) (visits rest memory.old)))
+        (Writes (news_text (reader_in memory.old visit.now.seat) reply.now)
+        (given_up visit.now (says_over reply.now) (visits rest (behind visit.now (says_over reply.now) memory.old))))
         (course_of continues next memory.new) out.old.items out.new.items) }
     ensures ready { IfOk result (IsReady (IsSet memory.new)) }
     ensures fewer { IfOk result (λ next. acts_left acts_after next ≤ 2 * length rest + 1) }
     ensures stands { memory.new.standing ≡ memory.old.standing }
 {
-    put_news(memory.link(), place, reply, out)?;
+    put_news(&memory.reader(visit.seat), reply, out)?;
     if says_over(reply) {
-        return Ok(Next::Ask(clear_at(place), Stage::Clearing(rest)));
+        forget(memory, visit);
+        return Ok(Next::Ask(clear_at(visit), Stage::Clearing(rest)));
     }
-    Ok(visit(rest))
+    Ok(visit_next(rest))
 }
 
 /// The lobby has told the places: the acknowledgement is made at the present one, if there is any.
@@ -179,17 +308,28 @@ pub(crate) fn ask_place(stamp: u32) -> Next<Stage>
     Next::Ask(Act::Lobby(LobbyAct::Where), Stage::AwaitingPlace(stamp))
 }
 
-/// The visit of the first of these places, or the end.
-fn visit(rest: Rest) -> Next<Stage>
+/// Of a game that is given up the session remembers nothing: it looks on there no longer; of its places the lobby tells.
+fn forget(memory: &mut Memory, visit: &Visit)
+    ensures after { memory.new ≡ forgets visit.now.seat visit.now.desk memory.old }
+    ensures stands { memory.new.standing ≡ memory.old.standing }
+{
+    match visit.seat {
+        Some(_) => {}
+        None => memory.unobserve(visit.desk),
+    }
+}
+
+/// The visit of the first of these games, or the end.
+fn visit_next(rest: Rest) -> Next<Stage>
     ensures goes { (memory : MemoryState) → course_of continues result memory ≡ visits rest memory }
     ensures ready { (memory : MemoryState) → has_entered memory ≡ true → IsReady (IsSet memory) result }
     ensures fewer { acts_left acts_after result ≤ 2 * length rest }
 {
     match rest.pop() {
         None => Next::End,
-        Some((place, rest)) => Next::Ask(
-            at_place(&place, DeskAct::Fetch),
-            Stage::Visiting(place, rest),
+        Some((visit, rest)) => Next::Ask(
+            at_game(&visit, DeskAct::Fetch),
+            Stage::Visiting(visit, rest),
         ),
     }
 }
@@ -205,13 +345,24 @@ pub(crate) fn at_place(place: &Place, act: DeskAct) -> Act
     }
 }
 
-/// The act that gives up a place.
-pub(crate) fn clear_at(place: &Place) -> Act
-    ensures { result ≡ clear_at place.now }
+/// An act at the game of a visit.
+pub(crate) fn at_game(visit: &Visit, act: DeskAct) -> Act
+    ensures { result ≡ at_game visit.now act }
+{
+    Act::Desk {
+        desk: visit.desk,
+        serial: visit.serial,
+        act,
+    }
+}
+
+/// The act that gives up a game.
+pub(crate) fn clear_at(visit: &Visit) -> Act
+    ensures { result ≡ clear_at visit.now }
 {
     Act::Pair(PairAct::Clear {
-        desk: place.desk,
-        serial: place.serial,
+        desk: visit.desk,
+        serial: visit.serial,
     })
 }
 

@@ -2,16 +2,18 @@
 ghost use Rattle.std.specs.Prelude.{◌≡◌, ◌++◌, All, OnOk, codes};
 ghost use Rattle.linked_desk.specs.Sound.{NamesWinner};
 ghost use Rattle.one_server.specs.Replies.{IsReply};
-ghost use Rattle.session_core.specs.Texts.{asked_line, asks_back, done_line, entered_line, is_own_turn, item_text, items_text};
-ghost use Rattle.session_core.specs.Texts.{line_end, lines_text, list_text, number_line};
-ghost use Rattle.session_core.specs.Texts.{news_text, prompt_of, refusal_line, reply_text, told_line, waiting_text};
+ghost use Rattle.session_core.specs.Texts.{asked_line, asks_back, board_text, done_line, entered_line, is_own_turn};
+ghost use Rattle.session_core.specs.Texts.{item_text, items_text, line_end, lines_text, list_text, news_text, number_line};
+ghost use Rattle.session_core.specs.Texts.{prompt_of, refusal_line, reply_text, shown_text, told_line, waiting_text};
 
+use crate::reader::Reader;
 use crate::standing::{LinkMark, Standing};
+use command_words::Style;
 use fics_words::{Handle, Line, NoMemory, Refusal, write_number};
 use linked_desk::{DeskReply, viewer_of};
-use lobby_state::{LobbyReply, Place};
+use lobby_state::LobbyReply;
 use one_server::Reply;
-use style12_writer::{Item, end_line, line_b1, line12};
+use style12_writer::{BoardView, Item, board1, end_line, line_b1, line12};
 
 /// The end of a line.
 pub(crate) const LINE_END: &[u8] = b"\n\r";
@@ -138,21 +140,25 @@ pub(crate) fn put_waiting(reply: &Reply, out: &mut Vec<u8>) -> Result<(), NoMemo
     }
 }
 
-/// Appends the news of the game at a place.
-pub(crate) fn put_news(
-    link: LinkMark,
-    place: &Place,
-    reply: &Reply,
-    out: &mut Vec<u8>,
-) -> Result<(), NoMemory>
+/// Appends the news of a game.
+pub(crate) fn put_news(reader: &Reader, reply: &Reply, out: &mut Vec<u8>) -> Result<(), NoMemory>
     requires { IsReply reply.now }
-    ensures { OnOk result (out.new.items ≡ out.old.items ++ news_text link place.now reply.now) }
+    ensures { OnOk result (out.new.items ≡ out.old.items ++ news_text reader.now reply.now) }
 {
     match reply {
-        Reply::Desk(DeskReply::Items { items, .. }) => {
-            put_items(link, place.seat, items.as_slice(), out)
-        }
+        Reply::Desk(DeskReply::Items { items, .. }) => put_items(reader, items.as_slice(), out),
         _ => Ok(()),
+    }
+}
+
+/// Appends what a reply of a desk prints.
+pub(crate) fn put_shown(reader: &Reader, reply: &Reply, out: &mut Vec<u8>) -> Result<(), NoMemory>
+    requires { IsReply reply.now }
+    ensures { OnOk result (out.new.items ≡ out.old.items ++ shown_text reader.now reply.now) }
+{
+    match reply {
+        Reply::Desk(DeskReply::Items { items, .. }) => put_items(reader, items.as_slice(), out),
+        _ => put_reply(reply, out),
     }
 }
 
@@ -166,29 +172,26 @@ fn put_lines(lines: &[Line], out: &mut Vec<u8>) -> Result<(), NoMemory>
     Ok(())
 }
 
-/// Appends the lines of items for the player of a seat.
-fn put_items(link: LinkMark, seat: u8, items: &[Item], out: &mut Vec<u8>) -> Result<(), NoMemory>
+/// Appends the lines of items.
+fn put_items(reader: &Reader, items: &[Item], out: &mut Vec<u8>) -> Result<(), NoMemory>
     requires { All NamesWinner items.now }
-    ensures { OnOk result (out.new.items ≡ out.old.items ++ items_text link seat items.now) }
+    ensures { OnOk result (out.new.items ≡ out.old.items ++ items_text reader.now items.now) }
 {
     for item in items {
-        put_item(seat, item, out)?;
-        ask_back(link, seat, item, out)?;
+        put_item(reader.style, reader.seat, item, out)?;
+        ask_back(reader.link, reader.seat, item, out)?;
     }
     Ok(())
 }
 
-/// Appends the line of an item for the player of a seat, and its end.
-fn put_item(seat: u8, item: &Item, out: &mut Vec<u8>) -> Result<(), NoMemory>
+/// Appends the lines of an item for the player of a seat, or for who looks on.
+fn put_item(style: Style, seat: Option<u8>, item: &Item, out: &mut Vec<u8>) -> Result<(), NoMemory>
     requires { NamesWinner item.now }
-    ensures { OnOk result (out.new.items ≡ out.old.items ++ item_text seat item.now ++ line_end) }
+    ensures { OnOk result (out.new.items ≡ out.old.items ++ item_text style seat item.now) }
 {
     let alloc = *out.allocator();
     match item {
-        Item::Board(view) => {
-            let line = line12(alloc, view, viewer_of(Some(seat), view))?;
-            put_line(&line, out)
-        }
+        Item::Board(view) => put_board(style, seat, view, out),
         Item::Hold {
             game,
             white,
@@ -211,8 +214,35 @@ fn put_item(seat: u8, item: &Item, out: &mut Vec<u8>) -> Result<(), NoMemory>
     }
 }
 
+/// Appends a board in its style.
+fn put_board(
+    style: Style,
+    seat: Option<u8>,
+    view: &BoardView,
+    out: &mut Vec<u8>,
+) -> Result<(), NoMemory>
+    ensures { OnOk result (out.new.items ≡ out.old.items ++ board_text style seat view.now) }
+{
+    let alloc = *out.allocator();
+    match style {
+        Style::One => {
+            let lines = board1(alloc, view)?;
+            put_lines(lines.as_slice(), out)
+        }
+        Style::Twelve => {
+            let line = line12(alloc, view, viewer_of(seat, view))?;
+            put_line(&line, out)
+        }
+    }
+}
+
 /// Appends what asks a client that stamps its lines to acknowledge a board on which it is to move.
-fn ask_back(link: LinkMark, seat: u8, item: &Item, out: &mut Vec<u8>) -> Result<(), NoMemory>
+fn ask_back(
+    link: LinkMark,
+    seat: Option<u8>,
+    item: &Item,
+    out: &mut Vec<u8>,
+) -> Result<(), NoMemory>
     ensures { OnOk result (out.new.items ≡ out.old.items ++ asks_back link seat item.now) }
 {
     let LinkMark::Stamped = link else {
@@ -221,7 +251,7 @@ fn ask_back(link: LinkMark, seat: u8, item: &Item, out: &mut Vec<u8>) -> Result<
     let Item::Board(view) = item else {
         return Ok(());
     };
-    if is_own_turn(viewer_of(Some(seat), view).relation) {
+    if is_own_turn(viewer_of(seat, view).relation) {
         out.extend_from_slice(b"[G]\0")?;
     }
     Ok(())

@@ -1,0 +1,8 @@
+/// How boards are printed.
+#[derive(Clone, Copy, Debug, PartialEq, Eq)]
+pub enum Style {
+    /// The ranks on eight lines, and a line of text: style 1 of FICS in short.
+    One,
+    /// A line that clients read: style 12 of FICS.
+    Twelve,
+}

@@ -1,0 +1,51 @@
+//! Places, from the first to the last.
+ghost use Rattle.std.specs.Prelude.{◌≡◌, ◌≤◌, ◌∷◌, [], IfSome, IsNone, MatchOption, length};
+ghost use Rattle.lobby_state.specs.Desks.{IsDesk};
+
+use lobby_state::{Place, Places};
+use std::marker::Model;
+
+/// Places that are still to come, each at a desk from 1 to 128. Contracts see their list.
+#[derive(Debug, Drop)]
+pub(crate) struct PlacesLeft {
+    places: Places,
+    /// How many of the places were taken.
+    taken: usize,
+}
+
+impl Model for PlacesLeft {
+    ghost use Rattle.std.specs.Prelude.{◌≤◌, List, drop, length};
+    ghost use Rattle.lobby_state.specs.declared.place.Place.{Place};
+
+    ghost Value = { List Place };
+
+    ghost view = { λ left. drop left.taken left.places.rows };
+
+    ghost invariant = { λ left. left.taken ≤ length left.places.rows };
+}
+
+impl PlacesLeft {
+    /// All of these places.
+    pub(crate) fn all(places: Places) -> PlacesLeft
+        ensures places { result ≡ places.rows }
+        ensures most { length places.rows ≤ 32 }
+    {
+        let _rows = places.rows();
+        PlacesLeft { places, taken: 0 }
+    }
+
+    /// Takes the first place; none where there is no place left.
+    pub(crate) fn pop(&mut self) -> Option<Place>
+        ensures first { MatchOption result (self.old ≡ []) (λ place. self.old ≡ place ∷ self.new) }
+        ensures same { IsNone result → self.new ≡ self.old }
+        ensures desk { IfSome result (λ place. IsDesk place.desk) }
+    {
+        let rows = self.places.rows();
+        if self.taken >= rows.len() {
+            return None;
+        }
+        let place = rows[self.taken];
+        self.taken += 1;
+        Some(place)
+    }
+}

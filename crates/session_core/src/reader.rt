@@ -1,0 +1,15 @@
+//! For whom the items of a game are written.
+
+use crate::standing::LinkMark;
+use command_words::Style;
+
+/// For whom the items of a game are written.
+#[derive(Clone, Copy, Debug)]
+pub(crate) struct Reader {
+    /// What is known of the session's link.
+    pub(crate) link: LinkMark,
+    /// How boards are printed.
+    pub(crate) style: Style,
+    /// The session's seat; None where it looks on.
+    pub(crate) seat: Option<u8>,
+}
