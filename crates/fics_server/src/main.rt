@@ -6,6 +6,8 @@ use edge_traits::{MemKeeper, OpenGate};
 use job_words::{Job, JobFail, read_job};
 use line_answers::{End, status};
 use real_edges::{StdSink, StdSource, TcpDoor, WallClock};
+use run_call::run;
+use serve_core::serve;
 use std::alloc::{AllocError, Global};
 use std::io::ErrorKind;
 use std::net::{Net, TcpListener, TcpStream};
@@ -14,7 +16,6 @@ use std::sync::Wait;
 use std::thread::Threads;
 use std::time::Clock;
 use std::{env, io};
-use top_calls::{run, serve};
 
 fn main(rt: HostRuntime) -> ExitCode {
     let Ok(words) = words_of(&rt) else {

@@ -148,3 +148,7 @@ Names words job = TextsName (map string_bytes words) job
 abbrev pub OnUsage : JobFail → Type 0 → Type 0
 OnUsage fail.Usage P = P
 OnUsage fail.Memory P = Unit {0}
+
+-- the words ask to serve players who connect
+abbrev pub AsksToServe : List (String Global) → Type 0
+AsksToServe words = (port : ℕ) × (bind : String Global) × (count : Option ℕ) × Names words (Serve port bind count)

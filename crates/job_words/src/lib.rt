@@ -9,7 +9,9 @@ mod job;
 mod numbers;
 mod options;
 mod reading;
+mod usage;
 
 pub use job::{Job, JobFail};
 pub use options::ServeOption;
 pub use reading::read_job;
+pub use usage::tell_usage;

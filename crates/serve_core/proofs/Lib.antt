@@ -5,3 +5,4 @@ pub mod Keeping
 pub mod Settling
 pub mod Ending
 pub mod Writing
+pub mod ServeEnds

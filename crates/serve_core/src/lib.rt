@@ -12,10 +12,12 @@ mod end;
 mod hosting;
 mod place;
 mod round;
+mod serve_call;
 mod serving;
 mod settle;
 mod turn;
 mod worker;
 
 pub use end::ServeEnd;
+pub use serve_call::serve;
 pub use serving::serve_lobby;

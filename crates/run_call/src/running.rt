@@ -5,23 +5,19 @@ ghost use Rattle.std.specs.Io.KnownBytes.{Appends, Keeps};
 ghost use Rattle.edge_traits.specs.Faults.{Rose};
 ghost use Rattle.line_answers.specs.Ends.{OnReadFault, OnWriteFault};
 ghost use Rattle.line_answers.specs.Lines.{lines_of};
-ghost use Rattle.top_calls.specs.RunEnds.{AreGood, CommandEnds, WritesPart};
-ghost use Rattle.top_calls.specs.Words.{Does, IsCommand, Names, UsageEnds, usage_line};
+ghost use Rattle.run_call.specs.RunEnds.{AreGood, CommandEnds, WritesPart};
+ghost use Rattle.job_words.specs.Usage.{usage_line};
+ghost use Rattle.run_call.specs.Words.{Does, IsCommand, Names};
 ghost use Rattle.line_answers.specs.declared.end.End.{End};
-ghost use Rattle.top_calls.specs.declared.command.Command.{Command};
+ghost use Rattle.run_call.specs.declared.command.Command.{Command};
 
 use crate::command::{Command, read_command};
 use board_command::board;
 use edge_traits::{Keeper, Sink, Source};
-use job_words::JobFail;
-use line_answers::{End, send, status};
+use job_words::{JobFail, tell_usage};
+use line_answers::{End, status};
 use replay_command::replay;
 use std::alloc::Global;
-
-const USAGE: &[u8] = b"usage: ficsd board, replay, demo N, check --store PATH, serve --port P\n";
-
-/// The status that tells that the words name no command.
-const USAGE_STATUS: u8 = 1;
 
 /// Runs the command that the words name, and gives the status with which the program ends: 0 where the input was
 /// read to its end, 1 where the words name no command, 2 at a fault of reading, 3 at a fault of writing, 6 for want
@@ -79,16 +75,5 @@ fn run_command<S: Source, K: Sink>(
     match command {
         Command::Board => board(alloc, source, sink),
         Command::Replay => replay(alloc, source, sink),
-    }
-}
-
-/// Writes how the program is called, and gives the status with which it ends.
-pub(crate) fn tell_usage<K: Sink>(sink: &mut K) -> u8
-    ensures ends { UsageEnds (K.written sink.old) (K.written sink.new) result }
-    ensures cause { result ≡ 3 → Rose (K.faults sink.old) (K.faults sink.new) }
-{
-    match send(USAGE, sink) {
-        Ok(()) => USAGE_STATUS,
-        Err(end) => status(end),
     }
 }

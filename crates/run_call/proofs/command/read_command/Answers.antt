@@ -1,5 +1,5 @@
-use Rattle.top_calls.proofs.RunEnds.{on_fail}
-use Rattle.top_calls.proofs.command.read_command.Goals as goal
+use Rattle.run_call.proofs.RunEnds.{on_fail}
+use Rattle.run_call.proofs.command.read_command.Goals as goal
 
 pub returns-clause-usage : goal.returns-clause-usage
 returns-clause-usage c = on_fail c.in-Err.fail c.args.words.now c.in-Err.ensures.usage

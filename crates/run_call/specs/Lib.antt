@@ -1,4 +1,3 @@
 -- What the contracts of this crate cite.
 pub mod RunEnds
 pub mod Words
-pub mod ServeEnds

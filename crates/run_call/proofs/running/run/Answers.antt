@@ -1,7 +1,7 @@
 use Rattle.std.proofs.Common.{[], ◌∷◌, sym, subst}
 use Rattle.std.specs.Prelude.{Contains}
-use Rattle.top_calls.proofs.RunEnds.{complete_at, memory_at_once, status-listed}
-use Rattle.top_calls.proofs.top_call.run.Goals as goal
+use Rattle.run_call.proofs.RunEnds.{complete_at, memory_at_once, status-listed}
+use Rattle.run_call.proofs.running.run.Goals as goal
 
 pub returns-in-Ok-clause-complete : goal.returns-in-Ok-clause-complete
 returns-in-Ok-clause-complete g c = λ command names no_read no_write.

@@ -1,7 +1,7 @@
 use Rattle.std.proofs.Common.{[], ◌∷◌, sym, subst}
 use Rattle.std.specs.Prelude.{Contains}
-use Rattle.top_calls.proofs.ServeEnds.{is_complete, is_listed, usage_front, usage_listed}
-use Rattle.top_calls.proofs.serve_call.serve.Goals as goal
+use Rattle.serve_core.proofs.ServeEnds.{is_complete, is_listed, usage_front, usage_listed}
+use Rattle.serve_core.proofs.serve_call.serve.Goals as goal
 
 pub returns-in-Ok-clause-complete : goal.returns-in-Ok-clause-complete
 returns-in-Ok-clause-complete g c = λ asks no_door no_sink.

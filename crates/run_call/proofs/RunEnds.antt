@@ -12,12 +12,12 @@ use Rattle.job_words.specs.declared.job.Job.{Job}
 use Rattle.job_words.specs.declared.job.Job.TheVariants as job
 use Rattle.job_words.specs.declared.job.JobFail.{JobFail}
 use Rattle.job_words.specs.declared.job.JobFail.TheVariants as fails
-use Rattle.top_calls.specs.RunEnds.{AreGood, CommandEnds, WritesPart}
-use Rattle.top_calls.specs.Words.{Does, IsCommand, Names}
+use Rattle.run_call.specs.RunEnds.{AreGood, CommandEnds, WritesPart}
+use Rattle.run_call.specs.Words.{Does, IsCommand, Names}
 use Rattle.line_answers.specs.declared.end.End.{End}
 use Rattle.line_answers.specs.declared.end.End.TheVariants.{Done, ReadFault, WriteFault, Memory, BadLine, Spent}
-use Rattle.top_calls.specs.declared.command.Command.{Command}
-use Rattle.top_calls.specs.declared.command.Command.TheVariants.{Board, Replay}
+use Rattle.run_call.specs.declared.command.Command.{Command}
+use Rattle.run_call.specs.declared.command.Command.TheVariants.{Board, Replay}
 use Rattle.board_command.proofs.BoardEnds.{AnswersPart-none}
 use Rattle.board_command.proofs.Completeness.{is_complete}
 use Rattle.replay_command.proofs.ReplayEnds.{ReplayEnds-none, is_complete-replayed}

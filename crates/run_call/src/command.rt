@@ -2,7 +2,7 @@
 
 ghost use Rattle.std.specs.Prelude.{IfOk, IfErr};
 ghost use Rattle.job_words.specs.Jobs.{OnUsage};
-ghost use Rattle.top_calls.specs.Words.{IsCommand, Names};
+ghost use Rattle.run_call.specs.Words.{IsCommand, Names};
 
 use job_words::{Job, JobFail, read_job};
 use std::alloc::Global;

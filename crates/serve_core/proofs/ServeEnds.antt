@@ -6,12 +6,12 @@ use Rattle.std.specs.Io.KnownBytes.{Appends}
 use Rattle.std.proofs.Math.Seq.{take-length}
 use Rattle.edge_traits.specs.Sink.{AppendsFront}
 use Rattle.job_words.specs.Jobs as jobs
-use Rattle.job_words.specs.Jobs.{OnUsage}
+use Rattle.job_words.specs.Jobs.{AsksToServe, OnUsage}
 use Rattle.job_words.specs.declared.job.Job.{Job}
 use Rattle.job_words.specs.declared.job.Job.TheVariants as TheJob
 use Rattle.job_words.specs.declared.job.JobFail.{JobFail}
 use Rattle.job_words.specs.declared.job.JobFail.TheVariants as TheFail
-use Rattle.top_calls.specs.Words.{AsksToServe, UsageEnds, usage_line}
+use Rattle.job_words.specs.Usage.{UsageEnds, usage_line}
 use Rattle.serve_core.specs.declared.end.ServeEnd.{ServeEnd}
 use Rattle.serve_core.specs.declared.end.ServeEnd.TheVariants.{Done, DoorFault, WriteFault, Memory, Spent}
 use Rattle.serve_core.specs.Serving.{IsWhole, status_of}

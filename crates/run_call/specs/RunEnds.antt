@@ -4,10 +4,10 @@ use Rattle.std.specs.declared.alloc.Global.{Global}
 use Rattle.board_command.specs.BoardEnds.{BoardEnds}
 use Rattle.replay_command.specs.ReplayEnds.{AreEvening, ReplayEnds}
 use Rattle.board_command.specs.Transcript.{bad_in}
-use Rattle.top_calls.specs.Words.{IsCommand, Names, UsagePart}
+use Rattle.run_call.specs.Words.{IsCommand, Names, UsagePart}
 use Rattle.line_answers.specs.declared.end.End.{End}
-use Rattle.top_calls.specs.declared.command.Command.{Command}
-use Rattle.top_calls.specs.declared.command.Command.TheVariants.{Board, Replay}
+use Rattle.run_call.specs.declared.command.Command.{Command}
+use Rattle.run_call.specs.declared.command.Command.TheVariants.{Board, Replay}
 
 -- how a command ends
 abbrev pub CommandEnds : Option (List ℕ) → Option (List ℕ) → Option (List ℕ) → Option (List ℕ) → End → Command → Type 0
