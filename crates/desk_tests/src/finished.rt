@@ -1,11 +1,14 @@
 //! Games that the position on the board ends.
 
 use crate::shown::ends_with_end;
-use crate::table::{ANN, BEN, Does, Given, SERIAL, Step, desk_with_game, first_failing, outcome};
+use crate::table::{
+    ANN, BEN, Does, Given, SERIAL, Step, desk_with_game, first_failing, is_given, outcome,
+};
 use chess_model::Colour;
 use fics_words::{NoMemory, Refusal};
 use linked_desk::{Desk, Ended, Why};
 use std::alloc::Global;
+use std::process::Abort;
 use std::test::Fail;
 
 /// The shortest mate, known as the fool's.
@@ -21,22 +24,27 @@ const STALEMATE: &[&str] = &[
 fn first_refused(desk: &mut Desk, half_moves: &[&'static str]) -> Option<usize> {
     for (place, half_move) in half_moves.iter().enumerate() {
         let session = if place % 2 == 0 { ANN } else { BEN };
-        let step = [Step(0, session, Does::Move(half_move), Given::Done)];
-        if first_failing(desk, SERIAL, &step).is_some() {
+        let step = Step(0, session, Does::Move(half_move), Given::Done);
+        if !is_given(desk, SERIAL, &step) {
             return Some(place);
         }
     }
     None
 }
 
-/// An end at the first board.
-fn ended(why: Why, winner: Option<Colour>) -> Option<Ended> {
-    Some(Ended {
-        why,
-        board: 1,
-        winner,
-    })
-}
+/// White is mated at the first board.
+const LOST: Option<Ended> = Some(Ended {
+    why: Why::Mate,
+    board: 1,
+    winner: Some(Colour::Black),
+});
+
+/// The first board is a stalemate.
+const DRAWN: Option<Ended> = Some(Ended {
+    why: Why::Stalemate,
+    board: 1,
+    winner: None,
+});
 
 /// A stage of a game that the position on the board ends.
 #[derive(Clone, Copy)]
@@ -62,20 +70,26 @@ fn has_ended(
     ends_with_end(alloc, desk, BEN, line)
 }
 
-fn is_over(desk: &mut Desk) -> bool {
-    let over = Given::Refused(Refusal::GameOver);
-    let steps = [
-        Step(0, ANN, Does::Move("a2a3"), over),
-        Step(0, BEN, Does::Move("a7a6"), over),
-    ];
-    first_failing(desk, SERIAL, &steps).is_none()
-}
+const OVER: &[Step] = &[
+    Step(
+        0,
+        ANN,
+        Does::Move("a2a3"),
+        Given::Refused(Refusal::GameOver),
+    ),
+    Step(
+        0,
+        BEN,
+        Does::Move("a7a6"),
+        Given::Refused(Refusal::GameOver),
+    ),
+];
 
 fn holds(alloc: Global, desk: &mut Desk, stage: Stage) -> Result<bool, NoMemory> {
     match stage {
         Stage::Plays(half_moves) => Ok(first_refused(desk, half_moves).is_none()),
         Stage::Ends(end, line) => has_ended(alloc, desk, end, line),
-        Stage::IsOver => Ok(is_over(desk)),
+        Stage::IsOver => Ok(first_failing(desk, SERIAL, OVER).is_none()),
     }
 }
 
@@ -93,28 +107,42 @@ fn first_wrong(
     Ok(None)
 }
 
+/// The same at a new game.
+fn first_wrong_anew(
+    rt: &impl Abort,
+    alloc: Global,
+    stages: &[Stage],
+) -> Result<Option<usize>, NoMemory> {
+    let mut desk = desk_with_game(rt, alloc, 0, 0);
+    first_wrong(alloc, &mut desk, stages)
+}
+
+const MATE_ENDS_THE_GAME_STAGES: &[Stage] = &[
+    Stage::Plays(FOOLS_MATE),
+    Stage::Ends(LOST, "{Game 1 (Ann vs. Ben) Ann checkmated} 0-1"),
+    Stage::IsOver,
+];
+
 #[test]
 fn mate_ends_the_game(rt: HostRuntime) -> Result<(), Fail> {
-    let mut desk = desk_with_game(&rt, rt.alloc(), 0, 0);
-    let lost = ended(Why::Mate, Some(Colour::Black));
-    let stages = [
-        Stage::Plays(FOOLS_MATE),
-        Stage::Ends(lost, "{Game 1 (Ann vs. Ben) Ann checkmated} 0-1"),
-        Stage::IsOver,
-    ];
-    assert_eq!(rt; first_wrong(rt.alloc(), &mut desk, &stages)?, None);
+    assert_eq!(rt;
+        first_wrong_anew(&rt, rt.alloc(), MATE_ENDS_THE_GAME_STAGES)?,
+        None
+    );
     Ok(())
 }
 
+const STALEMATE_ENDS_THE_GAME_STAGES: &[Stage] = &[
+    Stage::Plays(STALEMATE),
+    Stage::Ends(DRAWN, "{Game 1 (Ann vs. Ben) drawn by stalemate} 1/2-1/2"),
+    Stage::IsOver,
+];
+
 #[test]
 fn stalemate_ends_the_game(rt: HostRuntime) -> Result<(), Fail> {
-    let mut desk = desk_with_game(&rt, rt.alloc(), 0, 0);
-    let drawn = ended(Why::Stalemate, None);
-    let stages = [
-        Stage::Plays(STALEMATE),
-        Stage::Ends(drawn, "{Game 1 (Ann vs. Ben) drawn by stalemate} 1/2-1/2"),
-        Stage::IsOver,
-    ];
-    assert_eq!(rt; first_wrong(rt.alloc(), &mut desk, &stages)?, None);
+    assert_eq!(rt;
+        first_wrong_anew(&rt, rt.alloc(), STALEMATE_ENDS_THE_GAME_STAGES)?,
+        None
+    );
     Ok(())
 }

@@ -7,6 +7,8 @@ mod finished;
 #[cfg(test)]
 mod hands;
 #[cfg(test)]
+mod offers;
+#[cfg(test)]
 mod played;
 #[cfg(test)]
 mod refused;
@@ -16,3 +18,5 @@ mod shown;
 mod stamped;
 #[cfg(test)]
 mod table;
+#[cfg(test)]
+mod watching;

@@ -1,89 +1,173 @@
 //! A refusal of each kind, by a table.
 
-use crate::table::{ANN, BEN, Does, Given, SERIAL, STRANGER, Step, desk_with_game, first_failing};
+use crate::table::{
+    ANN, BEN, Does, Given, SERIAL, STRANGER, Step, desk_with_game, first_failing,
+    first_failing_anew,
+};
 use fics_words::Refusal;
 use linked_desk::Desk;
+use std::alloc::Global;
+use std::process::Abort;
 
-/// A step at moment 0 that is refused.
-fn refused(session: u32, does: Does, cause: Refusal) -> Step {
-    Step(0, session, does, Given::Refused(cause))
-}
+const AT_ANOTHER_GAME: &[Step] = &[
+    Step(
+        0,
+        ANN,
+        Does::Move("e2e4"),
+        Given::Refused(Refusal::NotPlaying),
+    ),
+    Step(
+        0,
+        ANN,
+        Does::Acked(1_000),
+        Given::Refused(Refusal::NotPlaying),
+    ),
+    Step(0, ANN, Does::Resign, Given::Refused(Refusal::NotPlaying)),
+    Step(0, ANN, Does::Fetch, Given::Refused(Refusal::NotWatching)),
+];
 
-/// A move at moment 0 that is made.
-fn made(session: u32, text: &'static str) -> Step {
-    Step(0, session, Does::Move(text), Given::Done)
+const AT_THE_GAME: &[Step] = &[
+    Step(
+        0,
+        STRANGER,
+        Does::Move("e2e4"),
+        Given::Refused(Refusal::NotPlaying),
+    ),
+    Step(
+        0,
+        STRANGER,
+        Does::Acked(1_000),
+        Given::Refused(Refusal::NotPlaying),
+    ),
+    Step(
+        0,
+        BEN,
+        Does::Move("e7e5"),
+        Given::Refused(Refusal::NotYourTurn),
+    ),
+    Step(
+        0,
+        ANN,
+        Does::Move("e2e5"),
+        Given::Refused(Refusal::CannotReach),
+    ),
+    Step(0, ANN, Does::Move("e3e4"), Given::Refused(Refusal::NoPiece)),
+    Step(
+        0,
+        ANN,
+        Does::Move("e1g1"),
+        Given::Refused(Refusal::CastleForbidden),
+    ),
+    Step(
+        0,
+        STRANGER,
+        Does::Resign,
+        Given::Refused(Refusal::NotPlaying),
+    ),
+    Step(0, STRANGER, Does::Flag, Given::Refused(Refusal::NotPlaying)),
+    Step(0, ANN, Does::Flag, Given::Refused(Refusal::NotFallen)),
+    Step(
+        0,
+        STRANGER,
+        Does::Fetch,
+        Given::Refused(Refusal::NotWatching),
+    ),
+    // nothing of it has changed the game
+    Step(0, ANN, Does::Move("e2e4"), Given::Done),
+];
+
+/// Whether a new game of a minute refuses all this, at first under another serial.
+fn refuses_all(rt: &impl Abort, alloc: Global) -> bool {
+    let mut desk = desk_with_game(rt, alloc, 1, 0);
+    first_failing(&mut desk, SERIAL + 1, AT_ANOTHER_GAME).is_none()
+        && first_failing(&mut desk, SERIAL, AT_THE_GAME).is_none()
 }
 
 #[test]
 fn refusals_of_a_running_game(rt: HostRuntime) {
-    let mut desk = desk_with_game(&rt, rt.alloc(), 1, 0);
-    let at_another_game = [
-        refused(ANN, Does::Move("e2e4"), Refusal::NotPlaying),
-        refused(ANN, Does::Acked(1_000), Refusal::NotPlaying),
-        refused(ANN, Does::Resign, Refusal::NotPlaying),
-        refused(ANN, Does::Fetch, Refusal::NotWatching),
-    ];
-    assert_eq!(rt;
-        first_failing(&mut desk, SERIAL + 1, &at_another_game),
-        None
-    );
-    let at_the_game = [
-        refused(STRANGER, Does::Move("e2e4"), Refusal::NotPlaying),
-        refused(STRANGER, Does::Acked(1_000), Refusal::NotPlaying),
-        refused(BEN, Does::Move("e7e5"), Refusal::NotYourTurn),
-        refused(ANN, Does::Move("e2e5"), Refusal::CannotReach),
-        refused(ANN, Does::Move("e3e4"), Refusal::NoPiece),
-        refused(ANN, Does::Move("e1g1"), Refusal::CastleForbidden),
-        refused(STRANGER, Does::Resign, Refusal::NotPlaying),
-        refused(STRANGER, Does::Flag, Refusal::NotPlaying),
-        refused(ANN, Does::Flag, Refusal::NotFallen),
-        refused(STRANGER, Does::Fetch, Refusal::NotWatching),
-        // nothing of it has changed the game
-        made(ANN, "e2e4"),
-    ];
-    assert_eq!(rt; first_failing(&mut desk, SERIAL, &at_the_game), None);
+    assert!(rt; refuses_all(&rt, rt.alloc()));
 }
+
+const A_PINNED_KNIGHT_STEPS: &[Step] = &[
+    Step(0, ANN, Does::Move("e2e4"), Given::Done),
+    Step(0, BEN, Does::Move("e7e5"), Given::Done),
+    Step(0, ANN, Does::Move("b1c3"), Given::Done),
+    Step(0, BEN, Does::Move("f8b4"), Given::Done),
+    Step(0, ANN, Does::Move("d2d3"), Given::Done),
+    Step(0, BEN, Does::Move("a7a6"), Given::Done),
+    Step(
+        0,
+        ANN,
+        Does::Move("c3d5"),
+        Given::Refused(Refusal::LeavesKing),
+    ),
+];
 
 /// A pinned man, in the order of the moves that pin it.
 #[test]
 fn a_pinned_knight(rt: HostRuntime) {
-    let mut desk = desk_with_game(&rt, rt.alloc(), 0, 0);
-    let steps = [
-        made(ANN, "e2e4"),
-        made(BEN, "e7e5"),
-        made(ANN, "b1c3"),
-        made(BEN, "f8b4"),
-        made(ANN, "d2d3"),
-        made(BEN, "a7a6"),
-        refused(ANN, Does::Move("c3d5"), Refusal::LeavesKing),
-    ];
-    assert_eq!(rt; first_failing(&mut desk, SERIAL, &steps), None);
+    assert_eq!(rt;
+        first_failing_anew(&rt, rt.alloc(), 0, A_PINNED_KNIGHT_STEPS),
+        None
+    );
 }
+
+const REFUSALS_AFTER_THE_END_STEPS: &[Step] = &[
+    Step(0, BEN, Does::Resign, Given::Done),
+    Step(
+        0,
+        ANN,
+        Does::Move("e2e4"),
+        Given::Refused(Refusal::GameOver),
+    ),
+    Step(0, ANN, Does::Resign, Given::Refused(Refusal::GameOver)),
+    Step(0, ANN, Does::Flag, Given::Refused(Refusal::GameOver)),
+    Step(0, ANN, Does::Acked(1_000), Given::Done),
+    Step(
+        0,
+        STRANGER,
+        Does::Acked(1_000),
+        Given::Refused(Refusal::NotPlaying),
+    ),
+];
 
 #[test]
 fn refusals_after_the_end(rt: HostRuntime) {
-    let mut desk = desk_with_game(&rt, rt.alloc(), 1, 0);
-    let steps = [
-        Step(0, BEN, Does::Resign, Given::Done),
-        refused(ANN, Does::Move("e2e4"), Refusal::GameOver),
-        refused(ANN, Does::Resign, Refusal::GameOver),
-        refused(ANN, Does::Flag, Refusal::GameOver),
-        Step(0, ANN, Does::Acked(1_000), Given::Done),
-        refused(STRANGER, Does::Acked(1_000), Refusal::NotPlaying),
-    ];
-    assert_eq!(rt; first_failing(&mut desk, SERIAL, &steps), None);
+    assert_eq!(rt;
+        first_failing_anew(&rt, rt.alloc(), 1, REFUSALS_AFTER_THE_END_STEPS),
+        None
+    );
 }
+
+/// The place of the first step at a vacant desk that is given something else, if one is.
+fn first_failing_at_vacant(steps: &[Step]) -> Option<usize> {
+    let mut desk = Desk::vacant(128);
+    first_failing(&mut desk, SERIAL, steps)
+}
+
+const REFUSALS_OF_A_VACANT_DESK_STEPS: &[Step] = &[
+    Step(
+        0,
+        ANN,
+        Does::Move("e2e4"),
+        Given::Refused(Refusal::NotPlaying),
+    ),
+    Step(
+        0,
+        ANN,
+        Does::Acked(1_000),
+        Given::Refused(Refusal::NotPlaying),
+    ),
+    Step(0, ANN, Does::Resign, Given::Refused(Refusal::NotPlaying)),
+    Step(0, ANN, Does::Flag, Given::Refused(Refusal::NotPlaying)),
+    Step(0, ANN, Does::Fetch, Given::Refused(Refusal::NotWatching)),
+    Step(0, ANN, Does::Leave, Given::Done),
+];
 
 #[test]
 fn refusals_of_a_vacant_desk(rt: HostRuntime) {
-    let mut desk = Desk::vacant(128);
-    let steps = [
-        refused(ANN, Does::Move("e2e4"), Refusal::NotPlaying),
-        refused(ANN, Does::Acked(1_000), Refusal::NotPlaying),
-        refused(ANN, Does::Resign, Refusal::NotPlaying),
-        refused(ANN, Does::Flag, Refusal::NotPlaying),
-        refused(ANN, Does::Fetch, Refusal::NotWatching),
-        Step(0, ANN, Does::Leave, Given::Done),
-    ];
-    assert_eq!(rt; first_failing(&mut desk, SERIAL, &steps), None);
+    assert_eq!(rt;
+        first_failing_at_vacant(REFUSALS_OF_A_VACANT_DESK_STEPS),
+        None
+    );
 }

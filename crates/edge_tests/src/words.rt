@@ -3,29 +3,45 @@
 use fics_words::{
     Account, Duplicate, Fail, Handle, Line, NoMemory, Player, Refusal, read_number, write_number,
 };
+use std::alloc::Global;
 use std::test::Fail as TestFail;
+
+const HANDLES: &[&str] = &["Ann", "abc", "GuestABCD", "abcdefghijklmnopq", "ZZZ"];
+
+const NO_HANDLES: &[&str] = &[
+    "",
+    "An",
+    "abcdefghijklmnopqr",
+    "Ann1",
+    "An n",
+    " Ann",
+    "Ann\n",
+    "J_R",
+    "@nn",
+    "[nn",
+    "`nn",
+    "{nn",
+];
+
+/// Whether these letters are read as a handle of theirs.
+fn is_handle(letters: &[u8]) -> bool {
+    match Handle::read(letters) {
+        Some(handle) => handle.letters() == letters,
+        None => false,
+    }
+}
+
+fn is_none(letters: &[u8]) -> bool {
+    Handle::read(letters).is_none()
+}
 
 #[test]
 fn reads_handles(rt: HostRuntime) {
-    for good in ["Ann", "abc", "GuestABCD", "abcdefghijklmnopq", "ZZZ"] {
-        let read = Handle::read(good.as_bytes()).expect(&rt, "a handle");
-        assert_eq!(rt; read.letters(), good.as_bytes(), "{good}");
+    for good in HANDLES {
+        assert!(rt; is_handle(good.as_bytes()), "{good}");
     }
-    for bad in [
-        "",
-        "An",
-        "abcdefghijklmnopqr",
-        "Ann1",
-        "An n",
-        " Ann",
-        "Ann\n",
-        "J_R",
-        "@nn",
-        "[nn",
-        "`nn",
-        "{nn",
-    ] {
-        assert!(rt; Handle::read(bad.as_bytes()).is_none(), "{bad}");
+    for bad in NO_HANDLES {
+        assert!(rt; is_none(bad.as_bytes()), "{bad}");
     }
 }
 
@@ -41,64 +57,67 @@ fn compares_handles_by_key(rt: HostRuntime) {
     assert!(rt; first == first);
 }
 
+const LINES: &[&[u8]] = &[b"", b" ~", b"tell 1 hello"];
+
+const NO_LINES: &[&[u8]] = &[b"a\x7f", b"\x1f", b"a\n", b"\xe9", b"a\x00"];
+
+/// Whether these bytes are read as a line of theirs, whose copy is the same.
+fn is_line(alloc: Global, bytes: &[u8]) -> Result<bool, TestFail> {
+    let Some(line) = Line::read(alloc, bytes)? else {
+        return Ok(false);
+    };
+    Ok(line.bytes() == bytes && line.duplicate()? == line)
+}
+
+fn is_no_line(alloc: Global, bytes: &[u8]) -> Result<bool, TestFail> {
+    Ok(Line::read(alloc, bytes)?.is_none())
+}
+
 #[test]
 fn reads_lines(rt: HostRuntime) -> Result<(), TestFail> {
     let long = [b'x'; 1_024];
-    let goods = [
-        b"".as_slice(),
-        b" ~".as_slice(),
-        b"tell 1 hello".as_slice(),
-        &long[..1_023],
-    ];
-    for good in goods {
-        let line = Line::read(rt.alloc(), good)?.ok_or("a line")?;
-        assert_eq!(rt; line.bytes(), good);
-        let second = line.duplicate()?;
-        assert!(rt; second == line);
+    assert!(rt; is_line(rt.alloc(), &long[..1_023])?);
+    assert!(rt; is_no_line(rt.alloc(), &long)?);
+    for good in LINES {
+        assert!(rt; is_line(rt.alloc(), good)?);
     }
-    let bads = [
-        long.as_slice(),
-        b"a\x7f".as_slice(),
-        b"\x1f".as_slice(),
-        b"a\n".as_slice(),
-        b"\xe9".as_slice(),
-        b"a\x00".as_slice(),
-    ];
-    for bad in bads {
-        assert!(rt; Line::read(rt.alloc(), bad)?.is_none());
+    for bad in NO_LINES {
+        assert!(rt; is_no_line(rt.alloc(), bad)?);
     }
     let made = Line::from_bytes(Vec::new(rt.alloc()));
     assert!(rt; made.bytes().is_empty());
     Ok(())
 }
 
+/// Texts, the most that they may say, and the number.
+const NUMBERS: &[(&[u8], u64, Option<u64>)] = &[
+    (b"0", 0, Some(0)),
+    (b"7", 9, Some(7)),
+    (b"65535", 65_535, Some(65_535)),
+    (b"18446744073709551615", u64::MAX, Some(u64::MAX)),
+    (b"", 9, None),
+    (b"00", 9, None),
+    (b"07", 9, None),
+    (b"+7", 9, None),
+    (b"-0", 9, None),
+    (b"7 ", 9, None),
+    (b"10", 9, None),
+    (b"0x1", 9, None),
+    (b"18446744073709551616", u64::MAX, None),
+    (b"99999999999999999999999", u64::MAX, None),
+    (b"\xff1", 9, None),
+];
+
+/// The number of a text. It ensures nothing, so that nothing above it is proved over what is read.
+fn number(text: &[u8], most: u64) -> Option<u64> {
+    read_number(text, most)
+}
+
 #[test]
 fn reads_numbers(rt: HostRuntime) {
-    let goods = [
-        ("0", 0, 0),
-        ("7", 9, 7),
-        ("65535", 65_535, 65_535),
-        ("18446744073709551615", u64::MAX, u64::MAX),
-    ];
-    for (text, most, value) in goods {
-        assert_eq!(rt; read_number(text.as_bytes(), most), Some(value), "{text}");
+    for (place, (text, most, value)) in NUMBERS.iter().enumerate() {
+        assert!(rt; number(text, *most) == *value, "row {place}");
     }
-    let bads = [
-        ("", 9),
-        ("00", 9),
-        ("07", 9),
-        ("+7", 9),
-        ("-0", 9),
-        ("7 ", 9),
-        ("10", 9),
-        ("0x1", 9),
-        ("18446744073709551616", u64::MAX),
-        ("99999999999999999999999", u64::MAX),
-    ];
-    for (text, most) in bads {
-        assert_eq!(rt; read_number(text.as_bytes(), most), None, "{text}");
-    }
-    assert_eq!(rt; read_number(b"\xff1", 9), None);
 }
 
 #[test]
@@ -115,24 +134,28 @@ fn writes_numbers(rt: HostRuntime) -> Result<(), TestFail> {
     Ok(())
 }
 
+const REFUSALS: &[(Refusal, u8, &str)] = &[
+    (Refusal::Ambiguous, 1, "Ambiguous"),
+    (Refusal::LeavesKing, 2, "LeavesKing"),
+    (Refusal::NoPiece, 8, "NoPiece"),
+    (Refusal::CannotReach, 9, "CannotReach"),
+    (Refusal::TooManyMoves, 12, "TooManyMoves"),
+    (Refusal::NotPlaying, 20, "NotPlaying"),
+    (Refusal::BadArguments, 28, "BadArguments"),
+    (Refusal::NotInChannel, 39, "NotInChannel"),
+    (Refusal::OnList, 51, "OnList"),
+    (Refusal::BadByte, 56, "BadByte"),
+];
+
+fn is_named(refusal: Refusal, number: u8, name: &str) -> bool {
+    refusal.number() == number && refusal.name() == name
+}
+
 #[test]
 fn names_refusals(rt: HostRuntime) {
-    let rows = [
-        (Refusal::Ambiguous, 1, "Ambiguous"),
-        (Refusal::LeavesKing, 2, "LeavesKing"),
-        (Refusal::NoPiece, 8, "NoPiece"),
-        (Refusal::CannotReach, 9, "CannotReach"),
-        (Refusal::TooManyMoves, 12, "TooManyMoves"),
-        (Refusal::NotPlaying, 20, "NotPlaying"),
-        (Refusal::BadArguments, 28, "BadArguments"),
-        (Refusal::NotInChannel, 39, "NotInChannel"),
-        (Refusal::OnList, 51, "OnList"),
-        (Refusal::BadByte, 56, "BadByte"),
-    ];
-    for (refusal, number, name) in rows {
-        assert_eq!(rt; refusal.number(), number);
-        assert_eq!(rt; refusal.name(), name);
-        assert!(rt; Fail::from(refusal) == Fail::Refused(refusal));
+    for (refusal, number, name) in REFUSALS {
+        assert!(rt; is_named(*refusal, *number, name), "{name}");
+        assert!(rt; Fail::from(*refusal) == Fail::Refused(*refusal), "{name}");
     }
     assert!(rt; Fail::from(NoMemory) == Fail::Memory);
 }

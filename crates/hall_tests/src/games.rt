@@ -13,7 +13,7 @@ use turn_chain::OpenGate;
 
 /// A game that is resigned. Both players then clear the desk: the first gives up its place and the second one frees the
 /// desk, and a Clear after that changes nothing.
-const GAME: [Step; 20] = [
+const GAME: &[Step] = &[
     Step(0, 1, Does::Enter(*b"Ann"), Said::Entered),
     Step(0, 2, Does::Enter(*b"Ben"), Said::Entered),
     Step(0, 1, Does::Match(*b"Ben"), Said::Done),
@@ -39,7 +39,7 @@ const GAME: [Step; 20] = [
 /// After a resignation both players fetch what is left of the game, so that nobody looks on any more, and then both
 /// clear the desk: the first Clear frees it for everybody, the second finds nothing to clear, and neither player has a
 /// place.
-const CLEARED_TWICE: [Step; 12] = [
+const CLEARED_TWICE: &[Step] = &[
     Step(0, 1, Does::Enter(*b"Ann"), Said::Entered),
     Step(0, 2, Does::Enter(*b"Ben"), Said::Entered),
     Step(0, 1, Does::Match(*b"Ben"), Said::Done),
@@ -101,14 +101,14 @@ fn over_one_server(alloc: Global, steps: &[Step]) -> Result<Option<usize>, Failu
 
 #[test]
 fn games_over_the_server_of_one_thread(rt: HostRuntime) -> Result<(), Fail> {
-    assert_eq!(rt; over_one_server(rt.alloc(), &GAME)?, None);
-    assert_eq!(rt; over_one_server(rt.alloc(), &CLEARED_TWICE)?, None);
+    assert_eq!(rt; over_one_server(rt.alloc(), GAME)?, None);
+    assert_eq!(rt; over_one_server(rt.alloc(), CLEARED_TWICE)?, None);
     Ok(())
 }
 
 #[test]
 fn the_same_games_at_the_hall(rt: HostRuntime) -> Result<(), Fail> {
-    assert_eq!(rt; over_hall(&rt, rt.alloc(), &GAME)?, None);
-    assert_eq!(rt; over_hall(&rt, rt.alloc(), &CLEARED_TWICE)?, None);
+    assert_eq!(rt; over_hall(&rt, rt.alloc(), GAME)?, None);
+    assert_eq!(rt; over_hall(&rt, rt.alloc(), CLEARED_TWICE)?, None);
     Ok(())
 }

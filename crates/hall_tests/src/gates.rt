@@ -12,7 +12,7 @@ use std::test::Fail;
 use turn_chain::{Gate, OpenGate};
 
 /// What a try came to.
-#[derive(Clone, Copy, Debug, PartialEq, Eq)]
+#[derive(Clone, Copy, PartialEq, Eq)]
 enum Came {
     Busy(u8),
     Done(Said),
@@ -66,7 +66,7 @@ fn tried<R: Wait>(
 
 /// Four players sit down at two desks. Then Ann moves at desk 1, and Cat makes her tries while that desk is out. Both
 /// games go on where they stand after that.
-const STEPS: [Step; 13] = [
+const STEPS: &[Step] = &[
     Step(0, 1, Does::Enter(*b"Ann"), Said::Entered),
     Step(0, 2, Does::Enter(*b"Ben"), Said::Entered),
     Step(0, 3, Does::Enter(*b"Cat"), Said::Entered),
@@ -99,8 +99,16 @@ fn visited<R: Wait>(
     let mut ann = hall.seat(one, &gate, rt);
     let mut ben = hall.seat(two, &open, rt);
     let mut dan = hall.seat(four, &open, rt);
-    let differing = with_cat(alloc, &mut ann, &mut ben, &gate, &mut dan, steps)?;
-    Ok((gate.came.get(), differing))
+    let differing = with_cat(alloc, &mut ann, &mut ben, &gate, &mut dan, steps);
+    both(gate.came.get(), differing)
+}
+
+/// Both, where the second is one.
+fn both(
+    came: [Option<Came>; 3],
+    differing: Result<Option<usize>, Failure>,
+) -> Result<([Option<Came>; 3], Option<usize>), Failure> {
+    Ok((came, differing?))
 }
 
 /// A gate at which Cat makes her tries from this seat.
@@ -146,13 +154,13 @@ fn by_cat<R: Wait>(gate: &Visit<'_, R>, moment: u32, does: Does) -> Result<Said,
 
 #[test]
 fn a_gate_inside_the_hall(rt: HostRuntime) -> Result<(), Fail> {
-    let (came, differing) = visited(&rt, rt.alloc(), &STEPS)?;
+    let (came, differing) = visited(&rt, rt.alloc(), STEPS)?;
     assert_eq!(rt; differing, None);
     let expected = [
         Some(Came::Busy(1)),
         Some(Came::Done(Said::Done)),
         Some(Came::Done(Said::Places(1))),
     ];
-    assert_eq!(rt; came, expected);
+    assert!(rt; came == expected);
     Ok(())
 }

@@ -2,7 +2,7 @@
 //! thread: the sessions write the same bytes.
 
 use crate::games::server;
-use crate::talks::{Comes, input_of};
+use crate::talks::{Comes, answered};
 use fics_words::Fail as Failure;
 use hall_core::Hall;
 use lobby_state::Lobby;
@@ -14,10 +14,10 @@ use std::test::Fail;
 use turn_chain::OpenGate;
 
 /// The moment in milliseconds, the session, and what comes from its player.
-#[derive(Clone, Copy, Debug)]
+#[derive(Clone, Copy)]
 struct Came(u32, u32, Comes);
 
-const EVENING: [Came; 18] = [
+const EVENING: &[Came] = &[
     Came(100, 1, Comes::Line(b"Ann")),
     Came(200, 2, Comes::Line(b"Ben")),
     Came(300, 1, Comes::Line(b"match Ben 2 12 white")),
@@ -46,12 +46,8 @@ fn hear<R: Runner>(
     came: Came,
     out: &mut Vec<u8>,
 ) -> Result<(), Failure> {
-    let input = input_of(alloc, came.2)?;
-    let wrote = session.take(seat, u64::from(came.0), input)?;
-    for byte in wrote.bytes.as_slice() {
-        out.push(*byte)?;
-    }
-    Ok(())
+    let bytes = answered(alloc, seat, session, came.0, came.2)?;
+    Ok(out.extend_from_slice(bytes.as_slice())?)
 }
 
 /// What both sessions write at a hall, in the order in which it is written.
@@ -104,8 +100,8 @@ fn over_one_server(alloc: Global, evening: &[Came]) -> Result<Vec<u8>, Failure> 
 /// The last things written are the refusal of Ann's resignation, since the game is over, and two goodbyes.
 #[test]
 fn two_sessions_write_the_same(rt: HostRuntime) -> Result<(), Fail> {
-    let threads = at_the_hall(&rt, rt.alloc(), &EVENING)?;
-    let alone = over_one_server(rt.alloc(), &EVENING)?;
+    let threads = at_the_hall(&rt, rt.alloc(), EVENING)?;
+    let alone = over_one_server(rt.alloc(), EVENING)?;
     assert!(rt; threads.as_slice() == alone.as_slice());
     assert!(rt; alone.len() > 1000);
     assert!(rt;

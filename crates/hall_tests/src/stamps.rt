@@ -2,7 +2,7 @@
 //! answer each line with the same bytes. The board lines are those of style 12, written out by hand.
 
 use crate::games::server;
-use crate::talks::{Comes, input_of};
+use crate::talks::{Comes, answered};
 use fics_words::Fail as Failure;
 use hall_core::Hall;
 use lobby_state::Lobby;
@@ -14,7 +14,7 @@ use std::test::Fail;
 use turn_chain::OpenGate;
 
 /// A row: the session, the moment in milliseconds, what comes, and what the session has to answer.
-#[derive(Clone, Copy, Debug)]
+#[derive(Clone, Copy)]
 struct Row(u32, u32, Comes, &'static [u8]);
 
 /// Ben's answer when the game starts: the challenge, and then the start as Black sees it.
@@ -39,7 +39,7 @@ const SECOND_ANN: &[u8] =
 const THIRD_ANN: &[u8] =
     b"<12> rnbqkbnr pppp-ppp -------- ----p--- ---PP--- -------- PPP--PPP RNBQKBNR B 3 1 1 1 1 0 1 Ann Ben -1 2 12 39 39 130 120 2 P/d2-d4 (0:01) d4 0\n\rfics% ";
 
-const ROWS: [Row; 12] = [
+const ROWS: &[Row] = &[
     Row(1, 0, Comes::Stamped(b"TIMESTAMP|openseal|Linux|", 0), b""),
     Row(
         1,
@@ -71,9 +71,8 @@ fn is_answered<R: Runner>(
     session: &mut Session,
     row: Row,
 ) -> Result<bool, Failure> {
-    let input = input_of(alloc, row.2)?;
-    let wrote = session.take(seat, u64::from(row.1), input)?;
-    Ok(wrote.bytes.as_slice() == row.3)
+    let bytes = answered(alloc, seat, session, row.1, row.2)?;
+    Ok(bytes.as_slice() == row.3)
 }
 
 /// The place of the first row that is answered otherwise at a hall with an empty lobby, if one is.
@@ -129,7 +128,7 @@ fn over_one_server(alloc: Global, rows: &[Row]) -> Result<Option<usize>, Failure
 
 #[test]
 fn a_stamped_game_is_answered_alike(rt: HostRuntime) -> Result<(), Fail> {
-    assert_eq!(rt; over_hall(&rt, rt.alloc(), &ROWS)?, None);
-    assert_eq!(rt; over_one_server(rt.alloc(), &ROWS)?, None);
+    assert_eq!(rt; over_hall(&rt, rt.alloc(), ROWS)?, None);
+    assert_eq!(rt; over_one_server(rt.alloc(), ROWS)?, None);
     Ok(())
 }

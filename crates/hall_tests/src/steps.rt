@@ -13,7 +13,7 @@ use one_server::{Act, PairReply, Reply, Runner};
 use std::alloc::Global;
 
 /// What a reply says, in short.
-#[derive(Clone, Copy, Debug, PartialEq, Eq)]
+#[derive(Clone, Copy, PartialEq, Eq)]
 pub enum Said {
     Refused(u8),
     Done,
@@ -27,6 +27,7 @@ pub enum Said {
     Told(u16),
     /// Another is asked.
     Asked,
+    Found,
     /// So many desks.
     Desks(usize),
     /// So many places.
@@ -42,7 +43,7 @@ pub enum Said {
 }
 
 /// What a session does. Desk acts and Clears are for a game.
-#[derive(Clone, Copy, Debug)]
+#[derive(Clone, Copy)]
 pub enum Does {
     Enter([u8; 3]),
     /// Challenges this player to a game of chess of 2 minutes and 12 seconds with White.
@@ -60,7 +61,7 @@ pub enum Does {
 }
 
 /// A game: the first one that starts is at desk 1 under serial 1, the second at desk 2 under serial 2.
-#[derive(Clone, Copy, Debug, PartialEq, Eq)]
+#[derive(Clone, Copy)]
 pub enum Game {
     First,
     Second,
@@ -95,7 +96,7 @@ impl Game {
 }
 
 /// A step: the moment in milliseconds, the session, what it does, and what it has to be replied.
-#[derive(Clone, Copy, Debug)]
+#[derive(Clone, Copy)]
 pub struct Step(pub u32, pub u32, pub Does, pub Said);
 
 /// What a session is replied.
@@ -217,6 +218,7 @@ fn of_lobby(answer: &LobbyReply) -> Said {
         LobbyReply::Lines(lines) => Said::Lines(lines.len()),
         LobbyReply::Told(count) => Said::Told(*count),
         LobbyReply::Asked => Said::Asked,
+        LobbyReply::Found(_) => Said::Found,
         LobbyReply::Places(places) => Said::Places(places.rows().len()),
         LobbyReply::Waiting { lines, places } => Said::Waiting(lines.len(), places.rows().len()),
         LobbyReply::Desks(desks) => Said::Desks(desks.len()),

@@ -5,14 +5,15 @@ ghost use Rattle.session_core.specs.Inputs.{FitsInput};
 
 use fics_words::{Fail, Line, Refusal};
 use line_reader::Incoming;
-use session_core::Input;
+use one_server::Runner;
+use session_core::{Input, Session};
 use std::alloc::Global;
 
 /// The most of a client's stamp, and one more.
 const STAMP_CYCLE: u32 = 10_000_000;
 
 /// What comes from a player.
-#[derive(Clone, Copy, Debug)]
+#[derive(Clone, Copy)]
 pub enum Comes {
     Line(&'static [u8]),
     /// A line with the client's stamp.
@@ -20,6 +21,31 @@ pub enum Comes {
     /// The client has shown the board at this stamp.
     Ack(u32),
     Quiet,
+}
+
+/// What a session writes at its seat for an input. It ensures nothing, so that nothing above it is proved over what a
+/// session does.
+pub fn answered<R: Runner>(
+    alloc: Global,
+    seat: &mut R,
+    session: &mut Session,
+    moment: u32,
+    comes: Comes,
+) -> Result<Vec<u8>, Fail> {
+    let input = input_of(alloc, comes)?;
+    taken(seat, session, moment, input)
+}
+
+fn taken<R: Runner>(
+    seat: &mut R,
+    session: &mut Session,
+    moment: u32,
+    input: Input,
+) -> Result<Vec<u8>, Fail>
+    requires { FitsInput input }
+{
+    let wrote = session.take(seat, u64::from(moment), input)?;
+    Ok(wrote.bytes)
 }
 
 /// The input of what comes.

@@ -42,7 +42,7 @@ struct Made {
 }
 
 /// Four players sit down at two desks.
-const SEATING: [Step; 8] = [
+const SEATING: &[Step] = &[
     Step(0, 1, Does::Enter(*b"Ann"), Said::Entered),
     Step(0, 2, Does::Enter(*b"Ben"), Said::Entered),
     Step(0, 3, Does::Enter(*b"Cat"), Said::Entered),
@@ -161,10 +161,23 @@ fn in_four<R: Threads + Wait + Sync>(
         counting(&count),
         counting(&count),
     );
-    let mut ann = seated_as(1, hall.seat(one, &a, rt), &a);
-    let mut ben = seated_as(2, hall.seat(two, &b, rt), &b);
-    let mut cat = seated_as(3, hall.seat(three, &c, rt), &c);
-    let mut dan = seated_as(4, hall.seat(four, &d, rt), &d);
+    let ann = seated_as(1, hall.seat(one, &a, rt), &a);
+    let ben = seated_as(2, hall.seat(two, &b, rt), &b);
+    let cat = seated_as(3, hall.seat(three, &c, rt), &c);
+    let dan = seated_as(4, hall.seat(four, &d, rt), &d);
+    sit_down_and_work(rt, alloc, ann, ben, cat, dan, seating)
+}
+
+/// Four players sit down, and then work.
+fn sit_down_and_work<R: Threads + Wait + Sync>(
+    rt: &R,
+    alloc: Global,
+    mut ann: Player<'_, R>,
+    mut ben: Player<'_, R>,
+    mut cat: Player<'_, R>,
+    mut dan: Player<'_, R>,
+    seating: &[Step],
+) -> Result<[Vec<Made>; 4], Failure> {
     sit_down(alloc, &mut ann, &mut ben, &mut cat, &mut dan, seating)?;
     all_work(rt, alloc, ann, ben, cat, dan)
 }
@@ -300,7 +313,7 @@ fn is_answered(
 
 #[test]
 fn four_threads_are_answered_as_one_would_be(rt: HostRuntime) -> Result<(), Fail> {
-    let made = in_four(&rt, rt.alloc(), &SEATING)?;
-    assert_eq!(rt; answered_alike(rt.alloc(), &SEATING, &made)?, 4 * ACTS);
+    let made = in_four(&rt, rt.alloc(), SEATING)?;
+    assert_eq!(rt; answered_alike(rt.alloc(), SEATING, &made)?, 4 * ACTS);
     Ok(())
 }

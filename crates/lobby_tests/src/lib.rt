@@ -6,9 +6,15 @@
 #![tactic(auto)]
 
 #[cfg(test)]
+mod finding;
+#[cfg(test)]
+mod list_steps;
+#[cfg(test)]
 mod login_steps;
 #[cfg(test)]
 mod logins;
+#[cfg(test)]
+mod name_lists;
 #[cfg(test)]
 mod partner_steps;
 #[cfg(test)]

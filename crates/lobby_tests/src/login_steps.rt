@@ -1,8 +1,9 @@
 //! Steps of logins and accounts, each with its expected answer.
 
-use crate::steps::DONE;
-use fics_words::{Account, Digest, Fail, Handle};
+use crate::steps::{DONE, acted, hall, number_if_done};
+use fics_words::{Account, Digest, Fail, Handle, NoMemory};
 use lobby_state::{Lobby, LobbyAct, LobbyReply};
+use std::alloc::Global;
 
 /// The number that stands when out of memory, or for an answer of another kind than the step has.
 const STRANGE: u8 = 255;
@@ -38,6 +39,12 @@ pub fn first_failing_login(lobby: &mut Lobby, steps: &[Login]) -> Option<usize> 
     None
 }
 
+/// The same at a new lobby.
+pub fn first_failing_login_anew(alloc: Global, steps: &[Login]) -> Result<Option<usize>, NoMemory> {
+    let mut lobby = hall(alloc)?;
+    Ok(first_failing_login(&mut lobby, steps))
+}
+
 fn is_as_expected(lobby: &mut Lobby, step: &Login) -> bool {
     match step {
         Login::Guest(session, met) => is_met(lobby, *session, None, None, *met),
@@ -49,7 +56,7 @@ fn is_as_expected(lobby: &mut Lobby, step: &Login) -> bool {
             registering(lobby, *session, *password) == *number
         }
         Login::Load(letters, password, number) => loading(lobby, letters, *password) == *number,
-        Login::Bye(session) => lobby.act(*session, 0, &LobbyAct::Bye).is_ok(),
+        Login::Bye(session) => acted(lobby, *session, &LobbyAct::Bye).is_ok(),
     }
 }
 
@@ -64,12 +71,17 @@ fn is_met(
         Some(letters) => Handle::read(letters),
         None => None,
     };
-    let answer = lobby.act(session, 0, &LobbyAct::Enter { name, digest });
-    match answer {
-        Ok(reply) => is_welcome(&reply, met),
-        Err(Fail::Refused(cause)) =>
-            matches!(met, Met::Refused(number) if number == cause.number()),
-        Err(Fail::Memory) => false,
+    is_met_so(
+        &acted(lobby, session, &LobbyAct::Enter { name, digest }),
+        met,
+    )
+}
+
+fn is_met_so(answer: &Result<LobbyReply, Fail>, met: Met) -> bool {
+    match (answer, met) {
+        (Ok(reply), _) => is_welcome(reply, met),
+        (Err(Fail::Refused(cause)), Met::Refused(number)) => number == cause.number(),
+        _ => false,
     }
 }
 
@@ -83,12 +95,7 @@ fn is_welcome(reply: &LobbyReply, met: Met) -> bool {
 
 fn registering(lobby: &mut Lobby, session: u32, password: u8) -> u8 {
     let digest = [password; 32];
-    match lobby.act(session, 0, &LobbyAct::Register { digest }) {
-        Ok(LobbyReply::Done) => DONE,
-        Ok(_) => STRANGE,
-        Err(Fail::Refused(cause)) => cause.number(),
-        Err(Fail::Memory) => STRANGE,
-    }
+    number_if_done(&acted(lobby, session, &LobbyAct::Register { digest }))
 }
 
 /// Loads an account, and says the number of the refusal.
@@ -97,9 +104,14 @@ fn loading(lobby: &mut Lobby, letters: &[u8], password: u8) -> u8 {
         return STRANGE;
     };
     let digest = [password; 32];
-    match lobby.add_account(Account { name, digest }) {
+    match loaded(lobby, Account { name, digest }) {
         Ok(()) => DONE,
         Err(Fail::Refused(cause)) => cause.number(),
         Err(Fail::Memory) => STRANGE,
     }
+}
+
+/// Loads an account. It ensures nothing.
+fn loaded(lobby: &mut Lobby, account: Account) -> Result<(), Fail> {
+    lobby.add_account(account)
 }

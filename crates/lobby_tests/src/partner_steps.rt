@@ -1,7 +1,8 @@
 //! Steps of partners, each with its expected answer.
 
-use crate::steps::{DONE, Step, is_as_expected, number_of};
-use fics_words::{Fail, Handle, Line};
+use crate::steps::{DONE, Step, acted, hall, is_as_expected, number_of};
+use crate::talk_steps::{number_if_told_one, said};
+use fics_words::{Fail, Handle, NoMemory};
 use lobby_state::{Lobby, LobbyAct, LobbyReply};
 use std::alloc::Global;
 
@@ -34,6 +35,15 @@ pub fn first_failing_pairing(alloc: Global, lobby: &mut Lobby, steps: &[Pairing]
     None
 }
 
+/// The same at a new lobby.
+pub fn first_failing_pairing_anew(
+    alloc: Global,
+    steps: &[Pairing],
+) -> Result<Option<usize>, NoMemory> {
+    let mut lobby = hall(alloc)?;
+    Ok(first_failing_pairing(alloc, &mut lobby, steps))
+}
+
 fn answers(alloc: Global, lobby: &mut Lobby, step: &Pairing) -> bool {
     match step {
         Pairing::Ask(session, name, number) => partnering(lobby, *session, name) == *number,
@@ -50,19 +60,14 @@ pub fn partnering(lobby: &mut Lobby, session: u32, letters: &[u8]) -> u8 {
     let Some(name) = Handle::read(letters) else {
         return STRANGE;
     };
-    let answer = lobby.act(
-        session,
-        0,
-        &LobbyAct::Partner {
-            name: Some(name.key()),
-        },
-    );
-    with_kind(&answer)
+    let act = LobbyAct::Partner {
+        name: Some(name.key()),
+    };
+    with_kind(&acted(lobby, session, &act))
 }
 
 fn parting(lobby: &mut Lobby, session: u32) -> u8 {
-    let answer = lobby.act(session, 0, &LobbyAct::Partner { name: None });
-    with_kind(&answer)
+    with_kind(&acted(lobby, session, &LobbyAct::Partner { name: None }))
 }
 
 /// The number of a refusal, or that of the kind of the reply.
@@ -76,16 +81,8 @@ fn with_kind(answer: &Result<LobbyReply, Fail>) -> u8 {
 }
 
 fn confiding(alloc: Global, lobby: &mut Lobby, session: u32, text: &[u8]) -> u8 {
-    let Ok(Some(line)) = Line::read(alloc, text) else {
+    let Some(text) = said(alloc, text) else {
         return STRANGE;
     };
-    if line.bytes().len() > 800 {
-        return STRANGE;
-    }
-    let answer = lobby.act(session, 0, &LobbyAct::Ptell { text: line });
-    match &answer {
-        Ok(LobbyReply::Told(1)) => DONE,
-        Ok(_) => STRANGE,
-        Err(_) => number_of(&answer),
-    }
+    number_if_told_one(&acted(lobby, session, &LobbyAct::Ptell { text }))
 }

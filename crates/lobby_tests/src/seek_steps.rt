@@ -1,9 +1,10 @@
 //! Steps of seeks, each with its expected answer.
 
-use crate::steps::{DONE, Step, is_as_expected, number_of};
+use crate::steps::{DONE, Step, acted, hall, is_as_expected, lists_ahead, number_of};
 use chess_model::{Colour, Terms, Variant};
-use fics_words::{Fail, Line, Refusal};
+use fics_words::{Fail, Line, NoMemory, Refusal};
 use lobby_state::{Lobby, LobbyAct, LobbyReply, PairAct, Plan, Var};
+use std::alloc::Global;
 
 /// Chess of 5 minutes, in which the seeker asks for White.
 pub const WHITE: Terms = Terms {
@@ -12,6 +13,13 @@ pub const WHITE: Terms = Terms {
     variant: Variant::Chess,
     colour: Some(Colour::White),
 };
+
+/// A list that a session asks for.
+#[derive(Clone, Copy)]
+enum Listing {
+    Sought,
+    Who,
+}
 
 /// A step: the session that makes it, what it does, and what it has to answer; where a number may be that of a refusal
 /// it stands last, and 0 for none.
@@ -46,6 +54,15 @@ pub fn first_failing_seek(lobby: &mut Lobby, steps: &[Seeking]) -> Option<usize>
     None
 }
 
+/// The same at a new lobby.
+pub fn first_failing_seek_anew(
+    alloc: Global,
+    steps: &[Seeking],
+) -> Result<Option<usize>, NoMemory> {
+    let mut lobby = hall(alloc)?;
+    Ok(first_failing_seek(&mut lobby, steps))
+}
+
 fn answers(lobby: &mut Lobby, step: &Seeking) -> bool {
     match step {
         Seeking::Post(session, terms, number, refusal) => {
@@ -54,8 +71,8 @@ fn answers(lobby: &mut Lobby, step: &Seeking) -> bool {
         Seeking::Unpost(session, number, refusal) => {
             unposting(lobby, *session, *number) == *refusal
         }
-        Seeking::Sought(session, rows) => tells(lobby, *session, &LobbyAct::Sought, rows),
-        Seeking::Who(session, rows) => tells(lobby, *session, &LobbyAct::Who, rows),
+        Seeking::Sought(session, rows) => tells(lobby, *session, Listing::Sought, rows),
+        Seeking::Who(session, rows) => tells(lobby, *session, Listing::Who, rows),
         Seeking::Outside(session) => is_outside(lobby, *session),
         Seeking::Ask(session, number, refusal) => playing(lobby, *session, *number) == *refusal,
         Seeking::Play(session, number, desk, serial, white) => {
@@ -71,31 +88,40 @@ pub fn posts(lobby: &mut Lobby, session: u32, terms: Terms, number: u16, refusal
     if terms.minutes > 600 || terms.increment > 600 {
         return false;
     }
-    match lobby.act(session, 0, &LobbyAct::Post { terms }) {
-        Ok(LobbyReply::Number(got)) => refusal == DONE && got == number,
-        Err(Fail::Refused(cause)) => cause.number() == refusal,
-        _ => false,
+    is_posted(
+        &acted(lobby, session, &LobbyAct::Post { terms }),
+        number,
+        refusal,
+    )
+}
+
+/// Whether the answer is this number, or this refusal.
+fn is_posted(answer: &Result<LobbyReply, Fail>, number: u16, refusal: u8) -> bool {
+    match answer {
+        Ok(LobbyReply::Number(got)) => refusal == DONE && *got == number,
+        Ok(_) => false,
+        Err(_) => number_of(answer) == refusal,
     }
 }
 
 fn unposting(lobby: &mut Lobby, session: u32, number: Option<u16>) -> u8 {
-    let answer = lobby.act(session, 0, &LobbyAct::Unpost { number });
-    number_of(&answer)
+    number_of(&acted(lobby, session, &LobbyAct::Unpost { number }))
 }
 
 fn turns_deaf(lobby: &mut Lobby, session: u32) -> bool {
-    let which = Var::Seek;
-    lobby
-        .act(session, 0, &LobbyAct::Var { which, on: false })
-        .is_ok()
+    let act = LobbyAct::Var {
+        which: Var::Seek,
+        on: false,
+    };
+    acted(lobby, session, &act).is_ok()
 }
 
 /// Asks for a list, and says whether it is these lines, and those of which a copy was made before.
-fn tells(lobby: &mut Lobby, session: u32, act: &LobbyAct, rows: &[&[u8]]) -> bool {
-    let Ok(ahead) = lobby.lists_ahead(session, act) else {
+fn tells(lobby: &mut Lobby, session: u32, listing: Listing, rows: &[&[u8]]) -> bool {
+    let Ok(ahead) = lists_ahead(lobby, session, &act_of(listing)) else {
         return false;
     };
-    match made(lobby, session, act) {
+    match made(lobby, session, listing) {
         Ok(LobbyReply::Lines(lines)) => lines == ahead.lines && are_rows(lines.as_slice(), rows),
         _ => false,
     }
@@ -113,17 +139,24 @@ fn are_rows(lines: &[Line], rows: &[&[u8]]) -> bool {
     true
 }
 
+fn act_of(listing: Listing) -> LobbyAct {
+    match listing {
+        Listing::Sought => LobbyAct::Sought,
+        Listing::Who => LobbyAct::Who,
+    }
+}
+
 /// Makes an act that asks for a list.
-fn made(lobby: &mut Lobby, session: u32, act: &LobbyAct) -> Result<LobbyReply, Fail> {
-    match act {
-        LobbyAct::Sought => lobby.act(session, 0, &LobbyAct::Sought),
-        _ => lobby.act(session, 0, &LobbyAct::Who),
+fn made(lobby: &mut Lobby, session: u32, listing: Listing) -> Result<LobbyReply, Fail> {
+    match listing {
+        Listing::Sought => acted(lobby, session, &LobbyAct::Sought),
+        Listing::Who => acted(lobby, session, &LobbyAct::Who),
     }
 }
 
 fn is_outside(lobby: &mut Lobby, session: u32) -> bool {
-    let first = made(lobby, session, &LobbyAct::Sought);
-    let second = made(lobby, session, &LobbyAct::Who);
+    let first = made(lobby, session, Listing::Sought);
+    let second = made(lobby, session, Listing::Who);
     number_of(&first) == 54 && number_of(&second) == 54
 }
 

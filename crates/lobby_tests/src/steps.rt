@@ -1,8 +1,10 @@
 //! Steps of a lobby, each with its expected answer.
 
+ghost use Rattle.lobby_state.specs.Acts.{FitsLobby};
+
 use chess_model::{Colour, Terms, Variant};
-use fics_words::{Fail, Handle, HandleKey, NoMemory, Refusal};
-use lobby_state::{DeskInUse, Lobby, LobbyAct, LobbyReply, PairAct, Places, Plan};
+use fics_words::{Fail, Handle, HandleKey, Line, NoMemory, Refusal};
+use lobby_state::{DeskInUse, Lobby, LobbyAct, LobbyReply, PairAct, Places, Plan, ReplyLists};
 use std::alloc::Global;
 
 /// Chess of 2 minutes and 12 seconds, without a named colour.
@@ -70,6 +72,12 @@ pub fn first_failing(lobby: &mut Lobby, steps: &[Step]) -> Option<usize> {
     None
 }
 
+/// The same at a new lobby. A test that has no lobby of its own is proved in a tenth of the time.
+pub fn first_failing_anew(alloc: Global, steps: &[Step]) -> Result<Option<usize>, NoMemory> {
+    let mut lobby = hall(alloc)?;
+    Ok(first_failing(&mut lobby, steps))
+}
+
 /// Whether the step answers as it has to.
 pub fn is_as_expected(lobby: &mut Lobby, step: &Step) -> bool {
     match step {
@@ -89,9 +97,16 @@ pub fn is_as_expected(lobby: &mut Lobby, step: &Step) -> bool {
         Step::Seated(session, count, desk, seat) => sits(lobby, *session, *count, *desk, *seat),
         Step::InUse(desk, expected) => is_in_use(lobby, *desk) == *expected,
         Step::Desks(rows) => tells_desks(lobby, rows),
-        Step::Going(session) => lobby.act(*session, 0, &LobbyAct::Going).is_ok(),
-        Step::Bye(session) => lobby.act(*session, 0, &LobbyAct::Bye).is_ok(),
+        Step::Going(session) => acted(lobby, *session, &LobbyAct::Going).is_ok(),
+        Step::Bye(session) => acted(lobby, *session, &LobbyAct::Bye).is_ok(),
     }
+}
+
+/// Makes an act. It ensures nothing, so that nothing above it is proved over what an act does.
+pub fn acted(lobby: &mut Lobby, session: u32, act: &LobbyAct) -> Result<LobbyReply, Fail>
+    requires { FitsLobby act.now }
+{
+    lobby.act(session, 0, act)
 }
 
 /// A lobby at its opening.
@@ -118,20 +133,19 @@ pub fn entering(lobby: &mut Lobby, session: u32, letters: &[u8]) -> u8 {
     let Some(name) = Handle::read(letters) else {
         return STRANGE;
     };
-    let answer = lobby.act(
-        session,
-        0,
-        &LobbyAct::Enter {
-            name: Some(name),
-            digest: None,
-        },
-    );
-    if let Ok(reply) = &answer {
-        if !is_entered(reply, letters) {
-            return STRANGE;
-        }
+    let act = LobbyAct::Enter {
+        name: Some(name),
+        digest: None,
+    };
+    number_if_entered(&acted(lobby, session, &act), letters)
+}
+
+/// The number of an answer that is an entrance under this handle, or a refusal.
+fn number_if_entered(answer: &Result<LobbyReply, Fail>, letters: &[u8]) -> u8 {
+    match answer {
+        Ok(reply) if !is_entered(reply, letters) => STRANGE,
+        _ => number_of(answer),
     }
-    number_of(&answer)
 }
 
 fn is_entered(reply: &LobbyReply, letters: &[u8]) -> bool {
@@ -156,13 +170,16 @@ pub fn challenging(lobby: &mut Lobby, session: u32, to: &[u8], terms: Terms) -> 
     if terms.minutes > 600 || terms.increment > 600 {
         return STRANGE;
     }
-    let answer = lobby.act(session, 0, &LobbyAct::Match { to, terms });
-    if let Ok(reply) = &answer {
-        if !matches!(reply, LobbyReply::Done) {
-            return STRANGE;
-        }
+    number_if_done(&acted(lobby, session, &LobbyAct::Match { to, terms }))
+}
+
+/// The number of an answer that is Done, or a refusal.
+pub fn number_if_done(answer: &Result<LobbyReply, Fail>) -> u8 {
+    match answer {
+        Ok(LobbyReply::Done) => DONE,
+        Ok(_) => STRANGE,
+        Err(_) => number_of(answer),
     }
-    number_of(&answer)
 }
 
 fn planned(lobby: &Lobby, session: u32, act: &PairAct) -> Result<Plan, Refusal> {
@@ -219,28 +236,38 @@ fn clears(lobby: &mut Lobby, session: u32, desk: u8, serial: u64, cleared: bool)
     carried_out(lobby, session, &PairAct::Clear { desk, serial }, cleared).is_some()
 }
 
+/// The copy of the lists of an answer that is made before the act.
+pub fn lists_ahead(lobby: &Lobby, session: u32, act: &LobbyAct) -> Result<ReplyLists, NoMemory> {
+    lobby.lists_ahead(session, act)
+}
+
 /// Takes the lines that wait, and says whether they are so many, and those of which a copy was made before.
 fn fetches(lobby: &mut Lobby, session: u32, count: usize) -> bool {
-    let Ok(ahead) = lobby.lists_ahead(session, &LobbyAct::Fetch) else {
+    let Ok(ahead) = lists_ahead(lobby, session, &LobbyAct::Fetch) else {
         return false;
     };
-    match lobby.act(session, 0, &LobbyAct::Fetch) {
+    match acted(lobby, session, &LobbyAct::Fetch) {
         Ok(LobbyReply::Waiting { lines, .. }) => {
-            lines == ahead.lines && lines.len() == count && lobby.waiting(session).is_empty()
+            lines == ahead.lines && lines.len() == count && lines_of(lobby, session).is_empty()
         }
         _ => false,
     }
 }
 
+/// The lines that wait for a session.
+fn lines_of(lobby: &Lobby, session: u32) -> &[Line] {
+    lobby.waiting(session)
+}
+
 fn has_line(lobby: &Lobby, session: u32, place: usize, text: &[u8]) -> bool {
-    match lobby.waiting(session).get(place) {
+    match lines_of(lobby, session).get(place) {
         Some(line) => line.bytes() == text,
         None => false,
     }
 }
 
 fn sits(lobby: &mut Lobby, session: u32, count: usize, desk: u8, seat: u8) -> bool {
-    match lobby.act(session, 0, &LobbyAct::Where) {
+    match acted(lobby, session, &LobbyAct::Where) {
         Ok(reply) => tells_seat(&reply, count, desk, seat),
         Err(_) => false,
     }
@@ -272,10 +299,10 @@ fn is_in_use(lobby: &Lobby, desk: u8) -> bool {
 
 /// Asks for the desks in use, and says whether they are these, and those of which a copy was made before.
 fn tells_desks(lobby: &mut Lobby, rows: &[(u8, u64)]) -> bool {
-    let Ok(ahead) = lobby.lists_ahead(0, &LobbyAct::InUse) else {
+    let Ok(ahead) = lists_ahead(lobby, 0, &LobbyAct::InUse) else {
         return false;
     };
-    match lobby.act(0, 0, &LobbyAct::InUse) {
+    match acted(lobby, 0, &LobbyAct::InUse) {
         Ok(LobbyReply::Desks(desks)) => desks == ahead.desks && are_rows(desks.as_slice(), rows),
         _ => false,
     }

@@ -1,9 +1,16 @@
 //! Steps of what members say to others and want others to send, each with its expected answer.
 
-use crate::steps::{DONE, STRANGE, Step, is_as_expected, key_of, number_of};
-use fics_words::{Fail, HandleKey, Line};
+ghost use Rattle.std.specs.Prelude.{◌≤◌, IfSome, length};
+
+use crate::steps::{
+    DONE, STRANGE, Step, acted, hall, is_as_expected, key_of, number_if_done, number_of,
+};
+use fics_words::{Fail, HandleKey, Line, NoMemory};
 use lobby_state::{Lobby, LobbyAct, LobbyReply, Var};
 use std::alloc::Global;
+
+/// What stands for an answer of another kind than the step has.
+const NOBODY: u16 = 1000 + STRANGE as u16;
 
 /// A step: the session that makes it, what it does, and what it has to answer; a number is that of the refusal.
 #[derive(Clone, Copy)]
@@ -33,7 +40,13 @@ pub fn first_failing_talk(alloc: Global, lobby: &mut Lobby, steps: &[Talk]) -> O
     None
 }
 
-fn answers(alloc: Global, lobby: &mut Lobby, step: &Talk) -> bool {
+/// The same at a new lobby.
+pub fn first_failing_talk_anew(alloc: Global, steps: &[Talk]) -> Result<Option<usize>, NoMemory> {
+    let mut lobby = hall(alloc)?;
+    Ok(first_failing_talk(alloc, &mut lobby, steps))
+}
+
+pub fn answers(alloc: Global, lobby: &mut Lobby, step: &Talk) -> bool {
     match step {
         Talk::Tell(session, to, text, number) => {
             telling(alloc, lobby, *session, to, text) == *number
@@ -60,45 +73,50 @@ pub fn telling(alloc: Global, lobby: &mut Lobby, session: u32, to: &[u8], text: 
     let Some(to) = key_of(to) else {
         return STRANGE;
     };
-    let Ok(Some(text)) = Line::read(alloc, text) else {
+    let Some(text) = said(alloc, text) else {
         return STRANGE;
     };
-    if text.bytes().len() > 800 {
-        return STRANGE;
+    number_if_told_one(&acted(lobby, session, &LobbyAct::Tell { to, text }))
+}
+
+/// What is said, of 800 bytes at most.
+pub fn said(alloc: Global, text: &[u8]) -> Option<Line>
+    ensures { IfSome result (λ line. length line ≤ 800) }
+{
+    match Line::read(alloc, text) {
+        Ok(Some(line)) if line.bytes().len() <= 800 => Some(line),
+        _ => None,
     }
-    let answer = lobby.act(session, 0, &LobbyAct::Tell { to, text });
-    if let Ok(reply) = &answer {
-        if !matches!(reply, LobbyReply::Told(1)) {
-            return STRANGE;
-        }
+}
+
+/// The number of an answer that one was told, or of a refusal.
+pub fn number_if_told_one(answer: &Result<LobbyReply, Fail>) -> u8 {
+    match answer {
+        Ok(LobbyReply::Told(1)) => DONE,
+        Ok(_) => STRANGE,
+        Err(_) => number_of(answer),
     }
-    number_of(&answer)
+}
+
+/// How many were told, or a refusal's number and 1,000.
+fn told(answer: &Result<LobbyReply, Fail>) -> u16 {
+    match answer {
+        Ok(LobbyReply::Told(count)) => *count,
+        Ok(_) => NOBODY,
+        Err(_) => 1000 + u16::from(number_of(answer)),
+    }
 }
 
 fn shouting(alloc: Global, lobby: &mut Lobby, session: u32, text: &[u8]) -> u16 {
-    let strange = 1000 + u16::from(STRANGE);
-    let Ok(Some(text)) = Line::read(alloc, text) else {
-        return strange;
-    };
-    if text.bytes().len() > 800 {
-        return strange;
-    }
-    match lobby.act(session, 0, &LobbyAct::Shout { text }) {
-        Ok(LobbyReply::Told(count)) => count,
-        Ok(_) => strange,
-        Err(Fail::Refused(refusal)) => 1000 + u16::from(refusal.number()),
-        Err(Fail::Memory) => strange,
+    match said(alloc, text) {
+        Some(text) => told(&acted(lobby, session, &LobbyAct::Shout { text })),
+        None => NOBODY,
     }
 }
 
 /// Joins the channel, or leaves it.
 pub fn joining(lobby: &mut Lobby, session: u32, channel: u8, on: bool) -> u8 {
-    match lobby.act(session, 0, &LobbyAct::Channel { channel, on }) {
-        Ok(LobbyReply::Done) => DONE,
-        Ok(_) => STRANGE,
-        Err(Fail::Refused(refusal)) => refusal.number(),
-        Err(Fail::Memory) => STRANGE,
-    }
+    number_if_done(&acted(lobby, session, &LobbyAct::Channel { channel, on }))
 }
 
 fn telling_channel(
@@ -108,43 +126,40 @@ fn telling_channel(
     channel: u8,
     text: &[u8],
 ) -> u16 {
-    let strange = 1000 + u16::from(STRANGE);
-    let Ok(Some(text)) = Line::read(alloc, text) else {
-        return strange;
-    };
-    if text.bytes().len() > 800 {
-        return strange;
-    }
-    match lobby.act(session, 0, &LobbyAct::TellChannel { channel, text }) {
-        Ok(LobbyReply::Told(count)) => count,
-        Ok(_) => strange,
-        Err(Fail::Refused(refusal)) => 1000 + u16::from(refusal.number()),
-        Err(Fail::Memory) => strange,
+    match said(alloc, text) {
+        Some(text) => told(&acted(lobby, session, &LobbyAct::TellChannel { channel, text })),
+        None => NOBODY,
     }
 }
 
 /// How many are in the channel, where the first has this handle.
 fn in_channel(lobby: &mut Lobby, session: u32, channel: u8, first: &[u8]) -> u16 {
-    let strange = 1000 + u16::from(STRANGE);
-    match lobby.act(session, 0, &LobbyAct::InChannel { channel }) {
-        Ok(LobbyReply::Lines(lines)) => match lines.as_slice() {
-            [] => 0,
-            [line, ..] if line.bytes() == first => lines.len().min(999) as u16,
-            _ => strange,
-        },
-        Ok(_) => strange,
-        Err(Fail::Refused(refusal)) => 1000 + u16::from(refusal.number()),
-        Err(Fail::Memory) => strange,
+    listed(
+        &acted(lobby, session, &LobbyAct::InChannel { channel }),
+        first,
+    )
+}
+
+/// How many lines are answered, where the first is this one, or a refusal's number and 1,000.
+fn listed(answer: &Result<LobbyReply, Fail>, first: &[u8]) -> u16 {
+    match answer {
+        Ok(LobbyReply::Lines(lines)) => count_from(lines.as_slice(), first),
+        Ok(_) => NOBODY,
+        Err(_) => 1000 + u16::from(number_of(answer)),
+    }
+}
+
+/// How many lines these are, where the first is this one.
+fn count_from(lines: &[Line], first: &[u8]) -> u16 {
+    match lines.first() {
+        None => 0,
+        Some(line) if line.bytes() == first => lines.len().min(999) as u16,
+        Some(_) => NOBODY,
     }
 }
 
 fn setting(lobby: &mut Lobby, session: u32, which: Var, on: bool) -> u8 {
-    match lobby.act(session, 0, &LobbyAct::Var { which, on }) {
-        Ok(LobbyReply::Done) => DONE,
-        Ok(_) => STRANGE,
-        Err(Fail::Refused(refusal)) => refusal.number(),
-        Err(Fail::Memory) => STRANGE,
-    }
+    number_if_done(&acted(lobby, session, &LobbyAct::Var { which, on }))
 }
 
 /// The key of a handle, if there is one.
@@ -157,20 +172,10 @@ fn key_in(name: Option<[u8; 3]>) -> Option<HandleKey> {
 
 fn declining(lobby: &mut Lobby, session: u32, name: Option<[u8; 3]>) -> u8 {
     let name = key_in(name);
-    match lobby.act(session, 0, &LobbyAct::Decline { name }) {
-        Ok(LobbyReply::Done) => DONE,
-        Ok(_) => STRANGE,
-        Err(Fail::Refused(refusal)) => refusal.number(),
-        Err(Fail::Memory) => STRANGE,
-    }
+    number_if_done(&acted(lobby, session, &LobbyAct::Decline { name }))
 }
 
 fn withdrawing(lobby: &mut Lobby, session: u32, name: Option<[u8; 3]>) -> u8 {
     let name = key_in(name);
-    match lobby.act(session, 0, &LobbyAct::Withdraw { name }) {
-        Ok(LobbyReply::Done) => DONE,
-        Ok(_) => STRANGE,
-        Err(Fail::Refused(refusal)) => refusal.number(),
-        Err(Fail::Memory) => STRANGE,
-    }
+    number_if_done(&acted(lobby, session, &LobbyAct::Withdraw { name }))
 }

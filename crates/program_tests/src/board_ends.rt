@@ -6,7 +6,7 @@ use std::alloc::Global;
 use std::test::Fail;
 
 /// Words, and the lines that the text ends with which is written for them.
-const ENDS: [(&str, &[&str]); 7] = [
+const ENDS: &[(&str, &[&str])] = &[
     (
         "f3 e5 g4 Qh4",
         &[

@@ -1,6 +1,6 @@
 //! `run` over the fakes: the command `board`, and words that name no command.
 
-use crate::running::{Case, board, expect, outcome};
+use crate::running::{Case, Row, at_least_one, board, expect, first_wrong, outcome};
 use std::alloc::Global;
 use std::test::Fail;
 
@@ -8,17 +8,33 @@ use std::test::Fail;
 const FIRST_MOVE: &str =
     "<12> rnbqkbnr pppppppp -------- -------- ----P--- -------- PPPP-PPP RNBQKBNR B 4 1 1 1 1 0 1 White Black 0 0 0 39 39 0 0 1 P/e2-e4 (0:00) e4 0\n\r";
 
+const FIRST_MOVES: &[Row] = &[
+    Row(&["board"], b"e2e4\n", 4_096, &[], &[], 0, &[FIRST_MOVE]),
+    Row(&["board"], b"e2-e4\n", 4_096, &[], &[], 0, &[FIRST_MOVE]),
+    Row(&["board"], b"e2e4", 4_096, &[], &[], 0, &[FIRST_MOVE]),
+    Row(
+        &["board"],
+        b"\r\n\ne2e4\r\n\n",
+        4_096,
+        &[],
+        &[],
+        0,
+        &[FIRST_MOVE],
+    ),
+    Row(
+        &["board"],
+        b"e\r2\x00e4\n",
+        4_096,
+        &[],
+        &[],
+        0,
+        &[FIRST_MOVE],
+    ),
+];
+
 #[test]
 fn answers_the_first_move(rt: HostRuntime) -> Result<(), Fail> {
-    for input in [
-        "e2e4\n",
-        "e2-e4\n",
-        "e2e4",
-        "\r\n\ne2e4\r\n\n",
-        "e\r2\x00e4\n",
-    ] {
-        expect(&rt, rt.alloc(), &board(input.as_bytes()), 0, FIRST_MOVE)?;
-    }
+    assert_eq!(rt; first_wrong(rt.alloc(), FIRST_MOVES)?, None);
     Ok(())
 }
 
@@ -27,37 +43,53 @@ fn writes_nothing_for_no_input(rt: HostRuntime) -> Result<(), Fail> {
     expect(&rt, rt.alloc(), &board(b""), 0, "")
 }
 
+/// How a run of three words ends, and what it writes, where they are read in pieces of so many bytes.
+fn in_pieces(alloc: Global, bytes: usize) -> Result<(u8, Vec<u8>), Fail> {
+    let cut = at_least_one(bytes);
+    let case = Case {
+        words: &["board"],
+        input: b"e2e5\ne2e4\ne7e5\n",
+        cut,
+        reads: &[],
+        writes: &[],
+    };
+    outcome(alloc, &case)
+}
+
 #[test]
 fn answers_however_the_input_is_cut(rt: HostRuntime) -> Result<(), Fail> {
-    let (status, whole) = outcome(rt.alloc(), &board(b"e2e5\ne2e4\ne7e5\n"))?;
+    let (status, whole) = in_pieces(rt.alloc(), 4_096)?;
     assert_eq!(rt; status, 0);
     for cut in [1, 2, 3, 7] {
-        let case = Case {
-            words: &["board"],
-            input: b"e2e5\ne2e4\ne7e5\n",
-            cut,
-            reads: &[],
-            writes: &[],
-        };
-        let (again, written) = outcome(rt.alloc(), &case)?;
-        assert_eq!(rt; again, 0);
-        assert_eq!(rt; written.as_slice(), whole.as_slice());
+        let (again, written) = in_pieces(rt.alloc(), cut)?;
+        assert!(rt;
+            again == 0 && written.as_slice() == whole.as_slice(),
+            "{cut}"
+        );
     }
     Ok(())
 }
 
+const OUT_OF_REACH: &[Row] = &[Row(
+    &["board"],
+    b"e2e5\ne2e4\n",
+    4_096,
+    &[],
+    &[],
+    0,
+    &["refused 9 CannotReach\n\r", FIRST_MOVE],
+)];
+
 #[test]
 fn refuses_a_square_out_of_reach(rt: HostRuntime) -> Result<(), Fail> {
-    let text = format!(in rt.alloc(); "refused 9 CannotReach\n\r{FIRST_MOVE}")?;
-    expect(&rt, rt.alloc(), &board(b"e2e5\ne2e4\n"), 0, text.as_str())
+    assert_eq!(rt; first_wrong(rt.alloc(), OUT_OF_REACH)?, None);
+    Ok(())
 }
 
 #[test]
 fn refuses_to_move_a_pinned_knight(rt: HostRuntime) -> Result<(), Fail> {
-    let (status, written) = outcome(
-        rt.alloc(),
-        &board(b"e2e4\ne7e5\nb1c3\nf8b4\nd2d3\na7a6\nc3d5\n"),
-    )?;
+    let words = b"e2e4\ne7e5\nb1c3\nf8b4\nd2d3\na7a6\nc3d5\n";
+    let (status, written) = outcome(rt.alloc(), &board(words))?;
     assert_eq!(rt; status, 0);
     assert!(rt;
         written
@@ -67,19 +99,49 @@ fn refuses_to_move_a_pinned_knight(rt: HostRuntime) -> Result<(), Fail> {
     Ok(())
 }
 
+const BAD_LINES: &[Row] = &[
+    Row(
+        &["board"],
+        b"e2e4\nhello\ne7e5\n",
+        4_096,
+        &[],
+        &[],
+        7,
+        &[FIRST_MOVE, "bad line 2\n\r"],
+    ),
+    Row(
+        &["board"],
+        b"e2e4\nhello",
+        4_096,
+        &[],
+        &[],
+        7,
+        &[FIRST_MOVE, "bad line 2\n\r"],
+    ),
+    Row(
+        &["board"],
+        b"\n\ne2e4 \n",
+        4_096,
+        &[],
+        &[],
+        7,
+        &["bad line 3\n\r"],
+    ),
+    Row(
+        &["board"],
+        b"e2e9\n",
+        4_096,
+        &[],
+        &[],
+        7,
+        &["bad line 1\n\r"],
+    ),
+];
+
 #[test]
 fn stops_at_the_first_bad_line(rt: HostRuntime) -> Result<(), Fail> {
-    let text = format!(in rt.alloc(); "{FIRST_MOVE}bad line 2\n\r")?;
-    expect(
-        &rt,
-        rt.alloc(),
-        &board(b"e2e4\nhello\ne7e5\n"),
-        7,
-        text.as_str(),
-    )?;
-    expect(&rt, rt.alloc(), &board(b"e2e4\nhello"), 7, text.as_str())?;
-    expect(&rt, rt.alloc(), &board(b"\n\ne2e4 \n"), 7, "bad line 3\n\r")?;
-    expect(&rt, rt.alloc(), &board(b"e2e9\n"), 7, "bad line 1\n\r")
+    assert_eq!(rt; first_wrong(rt.alloc(), BAD_LINES)?, None);
+    Ok(())
 }
 
 /// Words of all forms: named men, castling, a drop in chess, marks.
@@ -110,77 +172,78 @@ fn answers_words_of_all_forms(rt: HostRuntime) -> Result<(), Fail> {
     expect(&rt, rt.alloc(), &board(input.as_bytes()), 0, text.as_str())
 }
 
+const USAGE: &str = "usage: ficsd board, replay, demo N, check --store PATH, serve --port P\n";
+
+const CALLS: &[Row] = &[
+    Row(&[], b"e2e4\n", 1, &[], &[], 1, &[USAGE]),
+    Row(&["demo"], b"e2e4\n", 1, &[], &[], 1, &[USAGE]),
+    Row(&["Board"], b"e2e4\n", 1, &[], &[], 1, &[USAGE]),
+    Row(&["board", "board"], b"e2e4\n", 1, &[], &[], 1, &[USAGE]),
+    Row(&["--help"], b"e2e4\n", 1, &[], &[], 1, &[USAGE]),
+    Row(
+        &["serve", "--port", "5000"],
+        b"e2e4\n",
+        1,
+        &[],
+        &[],
+        1,
+        &[USAGE],
+    ),
+    Row(
+        &["serve", "--port", "5000", "--store", "x"],
+        b"e2e4\n",
+        1,
+        &[],
+        &[],
+        1,
+        &[USAGE],
+    ),
+    Row(&["demo", "7"], b"e2e4\n", 1, &[], &[], 1, &[USAGE]),
+    Row(
+        &["check", "--store", "x"],
+        b"e2e4\n",
+        1,
+        &[],
+        &[],
+        1,
+        &[USAGE],
+    ),
+];
+
 #[test]
 fn tells_how_it_is_called(rt: HostRuntime) -> Result<(), Fail> {
-    let usage = "usage: ficsd board, replay, demo N, check --store PATH, serve --port P\n";
-    for words in [
-        [].as_slice(),
-        &["demo"],
-        &["Board"],
-        &["board", "board"],
-        &["--help"],
-        &["serve", "--port", "5000"],
-        &["serve", "--port", "5000", "--store", "x"],
-        &["demo", "7"],
-        &["check", "--store", "x"],
-    ] {
-        let case = Case {
-            words,
-            input: b"e2e4\n",
-            cut: 1,
-            reads: &[],
-            writes: &[],
-        };
-        expect(&rt, rt.alloc(), &case, 1, usage)?;
-    }
+    assert_eq!(rt; first_wrong(rt.alloc(), CALLS)?, None);
     Ok(())
 }
 
+const FAULTS: &[Row] = &[
+    Row(&["board"], b"e2e4\n", 5, &[0], &[], 2, &[]),
+    Row(&["board"], b"e2e4\ne7e5\n", 7, &[1], &[], 2, &[FIRST_MOVE]),
+    Row(&["board"], b"e2e4\ne7e5\n", 5, &[], &[1], 3, &[FIRST_MOVE]),
+    Row(&["demo"], b"", 1, &[], &[0], 3, &[]),
+];
+
 #[test]
 fn tells_faults_of_reading_and_writing(rt: HostRuntime) -> Result<(), Fail> {
-    let first = Case {
-        words: &["board"],
-        input: b"e2e4\n",
-        cut: 5,
-        reads: &[0],
-        writes: &[],
-    };
-    expect(&rt, rt.alloc(), &first, 2, "")?;
-    let second = Case {
-        words: &["board"],
-        input: b"e2e4\ne7e5\n",
-        cut: 7,
-        reads: &[1],
-        writes: &[],
-    };
-    expect(&rt, rt.alloc(), &second, 2, FIRST_MOVE)?;
-    let writing = Case {
-        words: &["board"],
-        input: b"e2e4\ne7e5\n",
-        cut: 5,
-        reads: &[],
-        writes: &[1],
-    };
-    expect(&rt, rt.alloc(), &writing, 3, FIRST_MOVE)?;
-    let usage = Case {
-        words: &["demo"],
-        input: b"",
-        cut: 1,
-        reads: &[],
-        writes: &[0],
-    };
-    expect(&rt, rt.alloc(), &usage, 3, "")
+    assert_eq!(rt; first_wrong(rt.alloc(), FAULTS)?, None);
+    Ok(())
+}
+
+/// A first move, and a line of so many bytes before the next one.
+fn with_long_line(alloc: Global, length: usize) -> Result<Vec<u8>, Fail> {
+    let mut input = Vec::from_slice(alloc, b"e2e4\n")?;
+    for _ in 0..length {
+        input.push(b'e')?;
+    }
+    input.extend_from_slice(b"\ne7e5\n")?;
+    Ok(input)
 }
 
 #[test]
 fn long_lines_are_no_words(rt: HostRuntime) -> Result<(), Fail> {
+    let text = format!(in rt.alloc(); "{FIRST_MOVE}bad line 2\n\r")?;
     for length in [1_023, 1_024, 1_025, 100_000] {
-        let mut input = Vec::from_slice(rt.alloc(), b"e2e4\n")?;
-        for _ in 0..length {
-            input.push(b'e')?;
-        }
-        input.extend_from_slice(b"\ne7e5\n")?;
-        let text = format!(in rt.alloc(); "{FIRST_MOVE}bad line 2\n\r")?;
+        let input = with_long_line(rt.alloc(), length)?;
         expect(&rt, rt.alloc(), &board(input.as_slice()), 7, text.as_str())?;
     }
     Ok(())

@@ -16,13 +16,21 @@ mod replay_ends;
 #[cfg(test)]
 mod replay_houses;
 #[cfg(test)]
+mod replay_lists;
+#[cfg(test)]
 mod replay_logins;
+#[cfg(test)]
+mod replay_offers;
+#[cfg(test)]
+mod replay_refusals;
 #[cfg(test)]
 mod replay_seeks;
 #[cfg(test)]
 mod replay_stamps;
 #[cfg(test)]
 mod replay_talk;
+#[cfg(test)]
+mod replay_watching;
 #[cfg(test)]
 mod replays;
 #[cfg(test)]

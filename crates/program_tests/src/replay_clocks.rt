@@ -304,7 +304,7 @@ seat Ann Ben 600 600 chess
 ";
 
 /// Games: what they show, the status with which the run ends, and the script with what is written.
-const CLOCKS: [(&str, u8, &str); 8] = [
+const CLOCKS: &[(&str, u8, &str)] = &[
     ("a flag that wins", 0, FLAG_WINS),
     ("a flag on a player who is not to move", 0, FLAG_ON_WHITE),
     ("both clocks have fallen, by White", 0, FLAG_DRAWS),
@@ -318,7 +318,7 @@ const CLOCKS: [(&str, u8, &str); 8] = [
 #[test]
 fn replays_clocks(rt: HostRuntime) -> Result<(), Fail> {
     for (name, status, rows) in CLOCKS {
-        expect_rows(&rt, rt.alloc(), name, status, rows)?;
+        expect_rows(&rt, rt.alloc(), name, *status, rows)?;
     }
     Ok(())
 }

@@ -1,7 +1,8 @@
 //! `replay` over the fakes: where a script is outside the grammar, and the statuses of a run.
 
 use crate::replays::{NEWS, RESIGNED, expect_text, replay, script_of, text_within};
-use crate::running::{Case, expect};
+use crate::running::{Case, Row, at_least_one, first_wrong};
+use std::alloc::Global;
 use std::test::Fail;
 
 /// What stands before a bad line: four lines, one of them empty. Then it is White's turn.
@@ -129,15 +130,28 @@ fn inner(row: &str) -> Result<&str, Fail> {
     Ok(text)
 }
 
+/// What is written for `OPENING` and a bad line behind it.
+fn opening_and_bad_line(alloc: Global) -> Result<String, Fail> {
+    let opening = script_of(alloc, OPENING)?;
+    let before = text_within(alloc, OPENING, opening.len())?;
+    Ok(format!(in alloc; "{before}bad line 5\n")?)
+}
+
+/// `OPENING`, and this behind it.
+fn opening_and(alloc: Global, line: &str, rest: &str) -> Result<String, Fail> {
+    let mut script = script_of(alloc, OPENING)?;
+    script.push_str(line)?;
+    script.push_str(rest)?;
+    Ok(script)
+}
+
 #[test]
 fn stops_at_a_bad_line(rt: HostRuntime) -> Result<(), Fail> {
-    let opening = script_of(rt.alloc(), OPENING)?;
-    let before = text_within(rt.alloc(), OPENING, opening.len())?;
-    let text = format!(in rt.alloc(); "{before}bad line 5\n")?;
+    let text = opening_and_bad_line(rt.alloc())?;
     for row in BAD.lines() {
         let line = inner(row)?;
         for rest in ["", "\n9000 1 > g1f3\n"] {
-            let script = format!(in rt.alloc(); "{opening}{line}{rest}")?;
+            let script = opening_and(rt.alloc(), line, rest)?;
             let case = replay(script.as_bytes());
             expect_text(&rt, rt.alloc(), line, &case, 7, text.as_str())?;
         }
@@ -145,48 +159,74 @@ fn stops_at_a_bad_line(rt: HostRuntime) -> Result<(), Fail> {
     Ok(())
 }
 
+/// This line between what comes before it and a script.
+fn first_line(alloc: Global, before: &str, line: &str) -> Result<String, Fail> {
+    let mut script = String::from_str(alloc, before)?;
+    script.push_str(line)?;
+    script.push_str("\nseat Ann Ben 2 12 chess\n3000 1 > e2e4\n")?;
+    Ok(script)
+}
+
 #[test]
 fn stops_at_a_bad_first_line(rt: HostRuntime) -> Result<(), Fail> {
     for row in BAD_FIRST.lines() {
         let line = inner(row)?;
-        for (before, text) in [("", "bad line 1\n"), ("\n\r\n", "bad line 3\n")] {
-            let script = format!(in rt.alloc();
-                "{before}{line}\nseat Ann Ben 2 12 chess\n3000 1 > e2e4\n"
-            )?;
-            expect_text(&rt, rt.alloc(), line, &replay(script.as_bytes()), 7, text)?;
-        }
+        let script = first_line(rt.alloc(), "", line)?;
+        expect_text(
+            &rt,
+            rt.alloc(),
+            line,
+            &replay(script.as_bytes()),
+            7,
+            "bad line 1\n",
+        )?;
+        let script = first_line(rt.alloc(), "\n\r\n", line)?;
+        expect_text(
+            &rt,
+            rt.alloc(),
+            line,
+            &replay(script.as_bytes()),
+            7,
+            "bad line 3\n",
+        )?;
     }
     Ok(())
 }
 
+/// A word of so many letters.
+fn long_word(alloc: Global, length: usize) -> Result<String, Fail> {
+    let mut word = String::new(alloc);
+    word.push_str("5000 1 > ")?;
+    for _ in 0..length {
+        word.push_str("e")?;
+    }
+    Ok(word)
+}
+
 #[test]
 fn long_lines_are_outside_a_script(rt: HostRuntime) -> Result<(), Fail> {
-    let opening = script_of(rt.alloc(), OPENING)?;
-    let before = text_within(rt.alloc(), OPENING, opening.len())?;
-    let text = format!(in rt.alloc(); "{before}bad line 5\n")?;
+    let text = opening_and_bad_line(rt.alloc())?;
     for length in [1_015, 1_016, 100_000] {
-        let mut script = String::new(rt.alloc());
-        script.push_str(opening.as_str())?;
-        script.push_str("5000 1 > ")?;
-        for _ in 0..length {
-            script.push_str("e")?;
-        }
-        script.push_str("\n9000 1 > g1f3\n")?;
+        let line = long_word(rt.alloc(), length)?;
+        let script = opening_and(rt.alloc(), line.as_str(), "\n9000 1 > g1f3\n")?;
         let case = replay(script.as_bytes());
         expect_text(&rt, rt.alloc(), "a long line", &case, 7, text.as_str())?;
     }
     Ok(())
 }
 
+/// Scripts without events.
+const EMPTY: &[&str] = &[
+    "",
+    "\n",
+    "\n\r\n\x00\n",
+    "seat Ann Ben 2 12 chess",
+    "\n\nseat Ann Ben 0 0 chess\n\n",
+];
+
 #[test]
 fn writes_nothing_without_events(rt: HostRuntime) -> Result<(), Fail> {
-    for script in [
-        "",
-        "\n",
-        "\n\r\n\x00\n",
-        "seat Ann Ben 2 12 chess",
-        "\n\nseat Ann Ben 0 0 chess\n\n",
-    ] {
+    for script in EMPTY {
         expect_text(&rt, rt.alloc(), script, &replay(script.as_bytes()), 0, "")?;
     }
     Ok(())
@@ -200,19 +240,25 @@ fn drops_carriage_returns_and_zeros(rt: HostRuntime) -> Result<(), Fail> {
     expect_text(&rt, rt.alloc(), "marks", &replay(script), 0, text.as_str())
 }
 
+/// A script that is read in pieces, of which these reads and writes fail.
+fn in_pieces<'a>(script: &'a str, bytes: usize, reads: &'a [u64], writes: &'a [u64]) -> Case<'a> {
+    let cut = at_least_one(bytes);
+    Case {
+        words: &["replay"],
+        input: script.as_bytes(),
+        cut,
+        reads,
+        writes,
+    }
+}
+
 #[test]
 fn replays_however_the_script_is_cut(rt: HostRuntime) -> Result<(), Fail> {
     for rows in [RESIGNED, NEWS] {
         let script = script_of(rt.alloc(), rows)?;
         let text = text_within(rt.alloc(), rows, script.len())?;
         for cut in [1, 2, 3, 7] {
-            let case = Case {
-                words: &["replay"],
-                input: script.as_bytes(),
-                cut,
-                reads: &[],
-                writes: &[],
-            };
+            let case = in_pieces(script.as_str(), cut, &[], &[]);
             expect_text(&rt, rt.alloc(), "in pieces", &case, 0, text.as_str())?;
         }
     }
@@ -224,13 +270,8 @@ fn replays_however_the_script_is_cut(rt: HostRuntime) -> Result<(), Fail> {
 fn tells_a_fault_of_reading_a_script(rt: HostRuntime) -> Result<(), Fail> {
     let script = script_of(rt.alloc(), RESIGNED)?;
     for read in 0..13 {
-        let case = Case {
-            words: &["replay"],
-            input: script.as_bytes(),
-            cut: 7,
-            reads: &[read],
-            writes: &[],
-        };
+        let reads = [read];
+        let case = in_pieces(script.as_str(), 7, &reads, &[]);
         let text = text_within(rt.alloc(), RESIGNED, 7 * read as usize)?;
         expect_text(&rt, rt.alloc(), "a read", &case, 2, text.as_str())?;
     }
@@ -243,51 +284,38 @@ fn tells_a_fault_of_reading_a_script(rt: HostRuntime) -> Result<(), Fail> {
 fn tells_a_fault_of_writing_a_transcript(rt: HostRuntime) -> Result<(), Fail> {
     let script = script_of(rt.alloc(), RESIGNED)?;
     for write in 0..4 {
-        let case = Case {
-            words: &["replay"],
-            input: script.as_bytes(),
-            cut: 7,
-            reads: &[],
-            writes: &[write],
-        };
+        let writes = [write];
+        let case = in_pieces(script.as_str(), 7, &[], &writes);
         let text = text_within(rt.alloc(), RESIGNED, 24 + 14 * write as usize)?;
         expect_text(&rt, rt.alloc(), "a write", &case, 3, text.as_str())?;
     }
     Ok(())
 }
 
+const FAULT_AT_A_BAD_LINE: &[Row] = &[Row(&["replay"], b"\nhello\n", 3, &[], &[0], 3, &[])];
+
 #[test]
 fn tells_a_fault_of_writing_a_bad_line(rt: HostRuntime) -> Result<(), Fail> {
-    let case = Case {
-        words: &["replay"],
-        input: b"\nhello\n",
-        cut: 3,
-        reads: &[],
-        writes: &[0],
-    };
-    expect(&rt, rt.alloc(), &case, 3, "")
+    assert_eq!(rt; first_wrong(rt.alloc(), FAULT_AT_A_BAD_LINE)?, None);
+    Ok(())
 }
+
+const USAGE: &str = "usage: ficsd board, replay, demo N, check --store PATH, serve --port P\n";
+
+const GAME: &[u8] = b"seat Ann Ben 2 12 chess\n3000 1 > e2e4\n";
+
+const CALLS: &[Row] = &[
+    Row(&["replay", "replay"], GAME, 1, &[], &[], 1, &[USAGE]),
+    Row(&["replay", ""], GAME, 1, &[], &[], 1, &[USAGE]),
+    Row(&["board", "replay"], GAME, 1, &[], &[], 1, &[USAGE]),
+    Row(&["replay", "board"], GAME, 1, &[], &[], 1, &[USAGE]),
+    Row(&["Replay"], GAME, 1, &[], &[], 1, &[USAGE]),
+    Row(&["replay "], GAME, 1, &[], &[], 1, &[USAGE]),
+    Row(&["--replay"], GAME, 1, &[], &[], 1, &[USAGE]),
+];
 
 #[test]
 fn replay_takes_no_words(rt: HostRuntime) -> Result<(), Fail> {
-    let usage = "usage: ficsd board, replay, demo N, check --store PATH, serve --port P\n";
-    for words in [
-        ["replay", "replay"].as_slice(),
-        &["replay", ""],
-        &["board", "replay"],
-        &["replay", "board"],
-        &["Replay"],
-        &["replay "],
-        &["--replay"],
-    ] {
-        let case = Case {
-            words,
-            input: b"seat Ann Ben 2 12 chess\n3000 1 > e2e4\n",
-            cut: 1,
-            reads: &[],
-            writes: &[],
-        };
-        expect(&rt, rt.alloc(), &case, 1, usage)?;
-    }
+    assert_eq!(rt; first_wrong(rt.alloc(), CALLS)?, None);
     Ok(())
 }

@@ -114,7 +114,7 @@ seat Ann Ben 2 0 crazyhouse
 ";
 
 /// Games: what they show, and the script with what is written.
-const HOUSES: [(&str, &str); 2] = [
+const HOUSES: &[(&str, &str)] = &[
     ("drops and words for them", DROPS),
     ("a promoted man", PROMOTED),
 ];

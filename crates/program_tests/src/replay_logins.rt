@@ -246,7 +246,7 @@ const GONE: &str = "\
 ";
 
 /// Lines that may not come after `GONE`.
-const BAD: [&str; 11] = [
+const BAD: &[&str] = &[
     "0 1 ?",
     "0 1 +",
     "0 1 -",
@@ -260,16 +260,19 @@ const BAD: [&str; 11] = [
     "seat Ann Ben 2 12 chess",
 ];
 
+/// What scripts show, and the scripts with what is written.
+const SESSIONS: &[(&str, &str)] = &[
+    ("logins", LOGINS),
+    ("passwords with blanks", BLANKS),
+    ("guests", GUESTS),
+    ("a match", MATCHED),
+    ("a link that ends", CUT),
+    ("stamps", STAMPED),
+];
+
 #[test]
 fn replays_sessions(rt: HostRuntime) -> Result<(), Fail> {
-    for (name, rows) in [
-        ("logins", LOGINS),
-        ("passwords with blanks", BLANKS),
-        ("guests", GUESTS),
-        ("a match", MATCHED),
-        ("a link that ends", CUT),
-        ("stamps", STAMPED),
-    ] {
+    for (name, rows) in SESSIONS {
         expect_rows(&rt, rt.alloc(), name, 0, rows)?;
     }
     Ok(())

@@ -122,12 +122,15 @@ seat Ann Ben 2 12 chess
   1|fics%\x20\
 ";
 
+/// What scripts show, and the scripts with what is written.
+const STAMPED: &[(&str, &str)] = &[
+    ("eight half-moves", EIGHT),
+    ("less by the client", LESS_BY_THE_CLIENT),
+];
+
 #[test]
 fn replays_stamped_games(rt: HostRuntime) -> Result<(), Fail> {
-    for (name, rows) in [
-        ("eight half-moves", EIGHT),
-        ("less by the client", LESS_BY_THE_CLIENT),
-    ] {
+    for (name, rows) in STAMPED {
         expect_rows(&rt, rt.alloc(), name, 0, rows)?;
     }
     Ok(())

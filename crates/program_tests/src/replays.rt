@@ -392,7 +392,7 @@ const LAST_OF_1200: &str = "\
 ";
 
 /// Games: what they show, the status with which the run ends, and the script with what is written.
-const GAMES: [(&str, u8, &str); 9] = [
+const GAMES: &[(&str, u8, &str)] = &[
     ("resigned with clocks", 0, RESIGNED),
     ("resigned before a move", 0, RESIGNED_AT_ONCE),
     ("quiets and empty texts", 0, NEWS),
@@ -445,6 +445,16 @@ pub(crate) fn text_within(alloc: Global, rows: &str, bytes: usize) -> Result<Str
     Ok(text)
 }
 
+/// The first line that is written otherwise than in the text, if one is.
+fn first_otherwise<'a>(written: &'a str, text: &str) -> Option<&'a str> {
+    for (line, expected) in written.lines().zip(text.lines()) {
+        if line != expected {
+            return Some(line);
+        }
+    }
+    None
+}
+
 /// Runs the case, and compares all that is written, line by line, and the status.
 pub(crate) fn expect_text(
     rt: &impl Abort,
@@ -456,10 +466,8 @@ pub(crate) fn expect_text(
 ) -> Result<(), Fail> {
     let (ended, written) = outcome(alloc, case)?;
     let written = str::from_utf8(written.as_slice())?;
-    for (line, expected) in written.lines().zip(text.lines()) {
-        assert_eq!(rt; line, expected, "{name}");
-    }
-    assert_eq!(rt; written, text, "{name}");
+    assert_eq!(rt; first_otherwise(written, text), None, "{name}");
+    assert!(rt; written == text, "{name}: {written}");
     assert_eq!(rt; ended, status, "{name}");
     Ok(())
 }
@@ -497,7 +505,7 @@ pub(crate) fn expect_rows(
 #[test]
 fn replays_games(rt: HostRuntime) -> Result<(), Fail> {
     for (name, status, rows) in GAMES {
-        expect_rows(&rt, rt.alloc(), name, status, rows)?;
+        expect_rows(&rt, rt.alloc(), name, *status, rows)?;
     }
     Ok(())
 }

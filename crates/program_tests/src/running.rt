@@ -3,10 +3,10 @@
 ghost use Rattle.std.specs.Prelude.{◌≤◌};
 
 use edge_traits::{MemKeeper, MemSink, MemSource};
+use run_call::run;
 use std::alloc::Global;
 use std::process::Abort;
 use std::test::Fail;
-use top_calls::run;
 
 /// A program's run: the words, what it reads, and which reads and writes fail.
 #[derive(Drop)]
@@ -56,4 +56,64 @@ pub(crate) fn expect(
     assert!(rt; ended == status, "status {ended}");
     assert!(rt; written.as_slice() == text.as_bytes());
     Ok(())
+}
+
+/// The number, and 1 in place of 0.
+pub(crate) fn at_least_one(bytes: usize) -> usize
+    ensures { 1 ≤ result }
+{
+    if bytes < 1 {
+        return 1;
+    }
+    bytes
+}
+
+/// A row of a table: the words, what is read, in pieces of how many bytes, which reads and writes fail; the status, and
+/// the texts that are written one after the other.
+pub(crate) struct Row(
+    pub(crate) &'static [&'static str],
+    pub(crate) &'static [u8],
+    pub(crate) usize,
+    pub(crate) &'static [u64],
+    pub(crate) &'static [u64],
+    pub(crate) u8,
+    pub(crate) &'static [&'static str],
+);
+
+/// The place of the first row that ends otherwise or is answered by another text, if one is.
+pub(crate) fn first_wrong(alloc: Global, rows: &[Row]) -> Result<Option<usize>, Fail> {
+    for (place, row) in rows.iter().enumerate() {
+        if !is_as_said(alloc, row)? {
+            return Ok(Some(place));
+        }
+    }
+    Ok(None)
+}
+
+fn is_as_said(alloc: Global, row: &Row) -> Result<bool, Fail> {
+    let cut = row.2;
+    if cut < 1 {
+        return Ok(false);
+    }
+    let case = Case {
+        words: row.0,
+        input: row.1,
+        cut,
+        reads: row.3,
+        writes: row.4,
+    };
+    let (status, written) = outcome(alloc, &case)?;
+    Ok(status == row.5 && are(written.as_slice(), row.6))
+}
+
+/// Whether these bytes are the texts one after the other.
+fn are(bytes: &[u8], texts: &[&str]) -> bool {
+    let mut rest = bytes;
+    for text in texts {
+        match rest.strip_prefix(text.as_bytes()) {
+            Some(more) => rest = more,
+            None => return false,
+        }
+    }
+    rest.is_empty()
 }

@@ -1,203 +1,188 @@
 //! Games with clocks on one board, with figures by hand.
 
-use crate::chess_words::word_of;
-use chess_model::{Colour, Terms, Variant};
+use crate::playing::{flag, new_board, play, play_next, remaining, terms};
+use chess_model::{Colour, Variant};
 use fics_words::Refusal;
 use game_board::GameBoard;
-use std::process::Abort;
+use std::alloc::Global;
 use std::test::Fail;
 
-fn chess(minutes: u16, increment: u16) -> Terms {
-    Terms {
-        minutes,
-        increment,
-        variant: Variant::Chess,
-        colour: None,
+/// What comes to a board, or what it has to show.
+enum Step {
+    /// A word of the colour to move at a moment, which is played.
+    Plays(u64, &'static str),
+    /// A word of a colour at a moment, which is refused for that cause.
+    Refused(Colour, u64, &'static str, Refusal),
+    /// The clocks of White and Black, and the time that the last half-move took.
+    Shows(i64, i64, u64),
+    /// A colour calls the flag at a moment, and is answered so.
+    Flag(Colour, u64, Result<Option<Colour>, Refusal>),
+    /// So many half-moves stand.
+    Stand(usize),
+}
+
+use Step::{Flag, Plays, Refused, Shows, Stand};
+
+const WHITE: Colour = Colour::White;
+
+const BLACK: Colour = Colour::Black;
+
+const NOT_FALLEN: Result<Option<Colour>, Refusal> = Err(Refusal::NotFallen);
+
+/// Whether the board takes or shows a step as it has to.
+fn holds(board: &mut GameBoard, step: &Step) -> bool {
+    match step {
+        Plays(moment, text) => play_next(board, *moment, text, None) == Ok(()),
+        Refused(colour, moment, text, cause) => {
+            play(board, *colour, *moment, text, None) == Err(*cause)
+        }
+        Shows(white, black, taken) => shows(board, *white, *black, *taken),
+        Flag(caller, moment, answer) => flag(board, *caller, *moment) == *answer,
+        Stand(many) => board.list().len() == *many,
     }
 }
 
-/// Plays a word of a colour, and gives the refusal if there is one.
-fn play_for(
-    rt: &impl Abort,
-    board: &mut GameBoard,
-    colour: Colour,
-    moment: u64,
-    text: &str,
-) -> Option<Refusal> {
-    let word = word_of(text.as_bytes()).expect(rt, "a word");
-    assert!(rt;
-        board.begin() <= moment && moment <= 1 << 40,
-        "moments don't fall"
-    );
-    match board.play(colour, &word, moment, None) {
-        Ok(_) => None,
-        Err(refusal) => Some(refusal),
+fn shows(board: &GameBoard, white: i64, black: i64, taken: u64) -> bool {
+    remaining(board, WHITE) == white
+        && remaining(board, BLACK) == black
+        && board.last_taken() == taken
+}
+
+/// The place of the first step of a game of chess with these minutes and this increment that isn't as it has to be, if
+/// one isn't.
+fn first_wrong(
+    alloc: Global,
+    minutes: u16,
+    increment: u16,
+    steps: &[Step],
+) -> Result<Option<usize>, Fail> {
+    let mut board = new_board(alloc, terms(minutes, increment, Variant::Chess))?;
+    Ok(first_wrong_at(&mut board, steps))
+}
+
+fn first_wrong_at(board: &mut GameBoard, steps: &[Step]) -> Option<usize> {
+    for (place, step) in steps.iter().enumerate() {
+        if !holds(board, step) {
+            return Some(place);
+        }
     }
+    None
 }
 
-/// Plays words of the colours in turn, each at its moment, and expects no refusal.
-fn play_all(rt: &impl Abort, board: &mut GameBoard, moves: &[(u64, &str)]) {
-    for (moment, text) in moves {
-        let colour = board.to_move();
-        assert_eq!(rt; play_for(rt, board, colour, *moment, text), None, "{text}");
-    }
-}
-
-fn flag(
-    rt: &impl Abort,
-    board: &GameBoard,
-    caller: Colour,
-    moment: u64,
-) -> Result<Option<Colour>, Refusal> {
-    assert!(rt;
-        board.begin() <= moment && moment <= 1 << 40,
-        "moments don't fall"
-    );
-    board.flag(caller, moment)
-}
-
-fn remaining(board: &GameBoard, colour: Colour) -> i64 {
-    board.ledger(colour).remaining()
-}
+const THOUGHT: &[Step] = &[
+    Plays(3_000, "e2e4"),
+    Plays(5_000, "e7e5"),
+    Shows(120_000, 120_000, 0),
+    Plays(9_000, "g1f3"),
+    Shows(128_000, 120_000, 4_000),
+    Plays(9_500, "b8c6"),
+    Shows(128_000, 131_500, 500),
+    Stand(4),
+];
 
 /// 120,000 at the start, 4 s of thought and 12 s of increment leave 128,000; the first half-moves cost and earn
 /// nothing.
 #[test]
 fn thought_and_increment(rt: HostRuntime) -> Result<(), Fail> {
-    let mut board = GameBoard::start(rt.alloc(), 1, chess(2, 12), 0)?;
-    play_all(&rt, &mut board, &[(3_000, "e2e4"), (5_000, "e7e5")]);
-    assert_eq!(rt; remaining(&board, Colour::White), 120_000);
-    assert_eq!(rt; remaining(&board, Colour::Black), 120_000);
-    assert_eq!(rt; board.last_taken(), 0);
-    play_all(&rt, &mut board, &[(9_000, "g1f3")]);
-    assert_eq!(rt; remaining(&board, Colour::White), 128_000);
-    assert_eq!(rt; remaining(&board, Colour::Black), 120_000);
-    assert_eq!(rt; board.last_taken(), 4_000);
-    play_all(&rt, &mut board, &[(9_500, "b8c6")]);
-    assert_eq!(rt; remaining(&board, Colour::Black), 131_500);
-    assert_eq!(rt; board.last_taken(), 500);
-    assert_eq!(rt; board.list().len(), 4);
+    assert_eq!(rt; first_wrong(rt.alloc(), 2, 12, THOUGHT)?, None);
     Ok(())
 }
+
+const BELOW: &[Step] = &[
+    Shows(10_000, 10_000, 0),
+    Plays(0, "e2e4"),
+    Plays(0, "e7e5"),
+    Plays(20_000, "g1f3"),
+    Shows(-5_000, 10_000, 20_000),
+];
 
 /// 0 minutes with an increment start at 10,000, and a clock may go below 0.
 #[test]
 fn a_clock_below_nothing(rt: HostRuntime) -> Result<(), Fail> {
-    let mut board = GameBoard::start(rt.alloc(), 1, chess(0, 5), 0)?;
-    assert_eq!(rt; remaining(&board, Colour::White), 10_000);
-    play_all(
-        &rt,
-        &mut board,
-        &[(0, "e2e4"), (0, "e7e5"), (20_000, "g1f3")],
-    );
-    assert_eq!(rt; remaining(&board, Colour::White), -5_000);
-    assert_eq!(rt; remaining(&board, Colour::Black), 10_000);
+    assert_eq!(rt; first_wrong(rt.alloc(), 0, 5, BELOW)?, None);
     Ok(())
 }
 
+const UNTIMED: &[Step] = &[
+    Plays(1_000, "e2e4"),
+    Plays(2_000, "e7e5"),
+    Plays(9_000, "g1f3"),
+    Shows(0, 0, 0),
+    Flag(WHITE, 90_000_000, NOT_FALLEN),
+];
+
 #[test]
 fn no_clocks_without_terms(rt: HostRuntime) -> Result<(), Fail> {
-    let mut board = GameBoard::start(rt.alloc(), 1, chess(0, 0), 0)?;
-    play_all(
-        &rt,
-        &mut board,
-        &[(1_000, "e2e4"), (2_000, "e7e5"), (9_000, "g1f3")],
-    );
-    assert_eq!(rt; remaining(&board, Colour::White), 0);
-    assert_eq!(rt; board.last_taken(), 0);
-    assert_eq!(rt;
-        flag(&rt, &board, Colour::White, 90_000_000),
-        Err(Refusal::NotFallen)
-    );
+    assert_eq!(rt; first_wrong(rt.alloc(), 0, 0, UNTIMED)?, None);
     Ok(())
 }
+
+const REFUSALS: &[Step] = &[
+    Plays(0, "e2e4"),
+    Plays(0, "e7e5"),
+    Refused(BLACK, 1_000, "b8c6", Refusal::NotYourTurn),
+    Refused(WHITE, 2_000, "e4e6", Refusal::CannotReach),
+    Refused(WHITE, 3_000, "e3e4", Refusal::NoPiece),
+    Shows(120_000, 120_000, 0),
+    Plays(10_000, "g1f3"),
+    Shows(110_000, 120_000, 10_000),
+];
 
 /// A refused word changes nothing: the clock goes on from the half-move before.
 #[test]
 fn refusals_charge_nothing(rt: HostRuntime) -> Result<(), Fail> {
-    let mut board = GameBoard::start(rt.alloc(), 1, chess(2, 0), 0)?;
-    play_all(&rt, &mut board, &[(0, "e2e4"), (0, "e7e5")]);
-    let white = Colour::White;
-    assert_eq!(rt;
-        play_for(&rt, &mut board, Colour::Black, 1_000, "b8c6"),
-        Some(Refusal::NotYourTurn)
-    );
-    assert_eq!(rt;
-        play_for(&rt, &mut board, white, 2_000, "e4e6"),
-        Some(Refusal::CannotReach)
-    );
-    assert_eq!(rt;
-        play_for(&rt, &mut board, white, 3_000, "e3e4"),
-        Some(Refusal::NoPiece)
-    );
-    assert_eq!(rt; remaining(&board, white), 120_000);
-    play_all(&rt, &mut board, &[(10_000, "g1f3")]);
-    assert_eq!(rt; remaining(&board, white), 110_000);
+    assert_eq!(rt; first_wrong(rt.alloc(), 2, 0, REFUSALS)?, None);
     Ok(())
 }
+
+const FLAGS: &[Step] = &[
+    // nothing runs yet
+    Flag(BLACK, 600_000, NOT_FALLEN),
+    Plays(0, "e2e4"),
+    Plays(0, "e7e5"),
+    Flag(BLACK, 59_999, NOT_FALLEN),
+    Flag(BLACK, 60_000, Ok(Some(BLACK))),
+    Flag(WHITE, 60_000, NOT_FALLEN),
+    Plays(70_000, "g1f3"),
+    Shows(-10_000, 60_000, 70_000),
+    Flag(BLACK, 70_000, Ok(Some(BLACK))),
+    Flag(WHITE, 129_999, NOT_FALLEN),
+    // both have fallen
+    Flag(WHITE, 130_000, Ok(None)),
+    Flag(BLACK, 130_000, Ok(None)),
+];
 
 /// White has a minute and thinks from moment 0 on; the opponent's flag is asked for, and not the own one.
 #[test]
 fn flags_of_one_minute(rt: HostRuntime) -> Result<(), Fail> {
-    let mut board = GameBoard::start(rt.alloc(), 1, chess(1, 0), 0)?;
-    assert_eq!(rt;
-        flag(&rt, &board, Colour::Black, 600_000),
-        Err(Refusal::NotFallen),
-        "nothing runs yet"
-    );
-    play_all(&rt, &mut board, &[(0, "e2e4"), (0, "e7e5")]);
-    assert_eq!(rt;
-        flag(&rt, &board, Colour::Black, 59_999),
-        Err(Refusal::NotFallen)
-    );
-    assert_eq!(rt;
-        flag(&rt, &board, Colour::Black, 60_000),
-        Ok(Some(Colour::Black))
-    );
-    assert_eq!(rt;
-        flag(&rt, &board, Colour::White, 60_000),
-        Err(Refusal::NotFallen)
-    );
-    play_all(&rt, &mut board, &[(70_000, "g1f3")]);
-    assert_eq!(rt; remaining(&board, Colour::White), -10_000);
-    assert_eq!(rt;
-        flag(&rt, &board, Colour::Black, 70_000),
-        Ok(Some(Colour::Black))
-    );
-    assert_eq!(rt;
-        flag(&rt, &board, Colour::White, 129_999),
-        Err(Refusal::NotFallen)
-    );
-    assert_eq!(rt;
-        flag(&rt, &board, Colour::White, 130_000),
-        Ok(None),
-        "both have fallen"
-    );
-    assert_eq!(rt;
-        flag(&rt, &board, Colour::Black, 130_000),
-        Ok(None),
-        "both have fallen"
-    );
+    assert_eq!(rt; first_wrong(rt.alloc(), 1, 0, FLAGS)?, None);
     Ok(())
 }
 
-/// A game in which White takes all of Black's men. A king alone can't win by the flag.
+/// A game in which White takes all of Black's men.
+const TAKEN: &str =
+    "e2e3 a7a6 f1a6 h7h5 d1h5 g8h6 a6b7 g7g6 b7a8 d7d5 h5h6 c8h3 g1h3 f7f6 h6h8 e8d7 a8d5 d8c8 h8f8 c8b7 d5b7 f6f5 f8b8 d7e6 b8c7 f5f4 h3f4 e6f6 c7e7 f6f5 f4g6 f5g4";
+
+/// The first word of a game at moment 0 that isn't played, or before which White's flag has fallen, if there is one.
+fn first_fallen<'a>(board: &mut GameBoard, words: &'a str) -> Option<&'a str> {
+    for text in words.split_whitespace() {
+        if flag(board, BLACK, 0) != NOT_FALLEN || play_next(board, 0, text, None) != Ok(()) {
+            return Some(text);
+        }
+    }
+    None
+}
+
+const AT_LAST: &[Step] = &[
+    Flag(BLACK, 59_999, NOT_FALLEN),
+    Flag(BLACK, 60_000, Ok(None)),
+];
+
+/// A king alone can't win by the flag.
 #[test]
 fn a_king_alone_draws(rt: HostRuntime) -> Result<(), Fail> {
-    let words =
-        "e2e3 a7a6 f1a6 h7h5 d1h5 g8h6 a6b7 g7g6 b7a8 d7d5 h5h6 c8h3 g1h3 f7f6 h6h8 e8d7 a8d5 d8c8 h8f8 c8b7 d5b7 f6f5 f8b8 d7e6 b8c7 f5f4 h3f4 e6f6 c7e7 f6f5 f4g6 f5g4";
-    let mut board = GameBoard::start(rt.alloc(), 1, chess(1, 0), 0)?;
-    for text in words.split_whitespace() {
-        assert_eq!(rt;
-            flag(&rt, &board, Colour::Black, 0),
-            Err(Refusal::NotFallen)
-        );
-        play_all(&rt, &mut board, &[(0, text)]);
-    }
-    assert_eq!(rt;
-        flag(&rt, &board, Colour::Black, 59_999),
-        Err(Refusal::NotFallen)
-    );
-    assert_eq!(rt; flag(&rt, &board, Colour::Black, 60_000), Ok(None));
+    let mut board = new_board(rt.alloc(), terms(1, 0, Variant::Chess))?;
+    assert!(rt; first_fallen(&mut board, TAKEN).is_none());
+    assert_eq!(rt; first_wrong_at(&mut board, AT_LAST), None);
     Ok(())
 }

@@ -1,6 +1,6 @@
 //! Half-moves that are put on a board with the charges that they have.
 
-use crate::playing::{board_after, terms};
+use crate::playing::{board_after, new_board, remaining, terms};
 use chess_model::{Colour, Kind, Man, Move, Square, Terms, Variant};
 use clock_ledger::Charge;
 use game_board::{GameBoard, Played};
@@ -8,22 +8,20 @@ use std::alloc::Global;
 use std::process::Abort;
 use std::test::Fail;
 
-/// Puts a half-move on a board that takes it. Its charge has no stamps of a client.
-fn put(rt: &impl Abort, board: &mut GameBoard, half: &Played) -> Result<Option<Man>, Fail> {
-    assert!(rt; board.takes(half), "a half-move that is taken");
-    match half.charge {
-        None => Ok(board.put(*half)?),
-        Some(charge) => {
-            assert!(rt;
-                charge.begin <= charge.end && charge.end <= 1 << 40 && charge.client.is_none(),
-                "a charge"
-            );
-            Ok(board.put(*half)?)
+/// Puts a half-move on a board that takes it, and says what was captured. Its charge has no stamps of a client.
+fn put(board: &mut GameBoard, half: &Played) -> Result<Option<Man>, Fail> {
+    if !board.takes(half) {
+        return Err("a half-move that isn't taken".into());
+    }
+    if let Some(charge) = &half.charge {
+        if charge.begin > charge.end || charge.end > 1 << 40 || charge.client.is_some() {
+            return Err("no charge".into());
         }
     }
+    Ok(board.put(*half)?)
 }
 
-const GAMES: [(u16, Variant, &str); 5] = [
+const GAMES: &[(u16, Variant, &str)] = &[
     (2, Variant::Chess, "e2e4 d7d5 e4d5 d8d5 b1c3"),
     (0, Variant::Chess, "e2e4 d7d5 e4d5 d8d5 b1c3"),
     (2, Variant::Chess, "e2e4 a7a6 e4e5 d7d5 e5d6 c7d6"),
@@ -32,36 +30,46 @@ const GAMES: [(u16, Variant, &str); 5] = [
 ];
 
 /// A list that is put on a new board, half-move by half-move.
-fn put_again(
-    rt: &impl Abort,
-    alloc: Global,
-    terms: Terms,
-    list: &[Played],
-) -> Result<GameBoard, Fail> {
-    let mut again = GameBoard::start(alloc, 1, terms, 0)?;
+fn put_again(alloc: Global, terms: Terms, list: &[Played]) -> Result<GameBoard, Fail> {
+    let mut again = new_board(alloc, terms)?;
     for half in list {
-        put(rt, &mut again, half)?;
+        put(&mut again, half)?;
     }
     Ok(again)
 }
 
-/// Whether two boards are the same game.
+/// Whether two boards are the same game, the clocks aside.
 fn are_alike(one: &GameBoard, two: &GameBoard) -> bool {
-    one.face() == two.face()
-        && one.list() == two.list()
-        && one.played() == two.played()
-        && one.ledger(Colour::White).remaining() == two.ledger(Colour::White).remaining()
-        && one.ledger(Colour::Black).remaining() == two.ledger(Colour::Black).remaining()
+    one.face() == two.face() && one.list() == two.list() && one.played() == two.played()
+}
+
+fn have_same_clocks(one: &GameBoard, two: &GameBoard) -> bool {
+    remaining(one, Colour::White) == remaining(two, Colour::White)
+        && remaining(one, Colour::Black) == remaining(two, Colour::Black)
+}
+
+/// Whether the list of a game that is put on a new board, begun at 0, makes it the same game.
+fn is_put_again(rt: &impl Abort, alloc: Global, game: &(u16, Variant, &str)) -> Result<bool, Fail> {
+    let terms = terms(game.0, 0, game.1);
+    let board = board_after(rt, alloc, terms, game.2)?;
+    let again = put_again(alloc, terms, list_of(&board))?;
+    Ok(is_same_game(&board, &again))
+}
+
+/// The half-moves that stand.
+fn list_of(board: &GameBoard) -> &[Played] {
+    board.list()
+}
+
+/// Whether the second board is the same game, with its clock at the start.
+fn is_same_game(board: &GameBoard, again: &GameBoard) -> bool {
+    are_alike(board, again) && have_same_clocks(board, again) && again.begin() == 0
 }
 
 #[test]
 fn a_list_is_put_again(rt: HostRuntime) -> Result<(), Fail> {
-    for (minutes, variant, words) in GAMES {
-        let terms = terms(minutes, 0, variant);
-        let board = board_after(&rt, rt.alloc(), terms, words)?;
-        let again = put_again(&rt, rt.alloc(), terms, board.list())?;
-        assert!(rt; are_alike(&board, &again), "{words}");
-        assert_eq!(rt; again.begin(), 0);
+    for (place, game) in GAMES.iter().enumerate() {
+        assert!(rt; is_put_again(&rt, rt.alloc(), game)?, "game {place}");
     }
     Ok(())
 }
@@ -84,7 +92,7 @@ fn half(from: u8, to: u8, is_charged: bool) -> Option<Played> {
 }
 
 /// Minutes, the half-moves before, the next one with a charge or without, and whether the board takes it.
-const NEXT: [(u16, &str, (u8, u8, bool), bool); 12] = [
+const NEXT: &[(u16, &str, (u8, u8, bool), bool)] = &[
     // the first half-move of each colour has no charge
     (2, "", (12, 28, false), true),
     (2, "", (12, 28, true), false),
@@ -103,12 +111,29 @@ const NEXT: [(u16, &str, (u8, u8, bool), bool); 12] = [
     (0, "f2f3 e7e5 g2g4 d8h4", (12, 20, false), false),
 ];
 
+/// Whether the board after a row's half-moves takes the row's next one.
+fn is_taken(
+    rt: &impl Abort,
+    alloc: Global,
+    row: &(u16, &str, (u8, u8, bool), bool),
+) -> Result<bool, Fail> {
+    let (from, to, is_charged) = row.2;
+    let board = board_after(rt, alloc, terms(row.0, 0, Variant::Chess), row.1)?;
+    Ok(takes(&board, half(from, to, is_charged)))
+}
+
+/// Whether a board takes a half-move, if it is one.
+fn takes(board: &GameBoard, next: Option<Played>) -> bool {
+    match next {
+        Some(half) => board.takes(&half),
+        None => false,
+    }
+}
+
 #[test]
 fn takes_what_follows(rt: HostRuntime) -> Result<(), Fail> {
-    for (minutes, words, (from, to, is_charged), taken) in NEXT {
-        let board = board_after(&rt, rt.alloc(), terms(minutes, 0, Variant::Chess), words)?;
-        let next = half(from, to, is_charged).ok_or("squares")?;
-        assert_eq!(rt; board.takes(&next), taken, "{words} {from} {to}");
+    for (place, row) in NEXT.iter().enumerate() {
+        assert!(rt; is_taken(&rt, rt.alloc(), row)? == row.3, "row {place}");
     }
     Ok(())
 }
@@ -117,12 +142,21 @@ fn takes_what_follows(rt: HostRuntime) -> Result<(), Fail> {
 #[test]
 fn puts_a_capture(rt: HostRuntime) -> Result<(), Fail> {
     let mut board = board_after(&rt, rt.alloc(), terms(0, 0, Variant::Chess), "e2e4 d7d5")?;
-    let next = half(28, 35, false).ok_or("squares")?;
-    let pawn = Man {
-        colour: Colour::Black,
-        kind: Kind::Pawn,
-        promoted: false,
-    };
-    assert_eq!(rt; put(&rt, &mut board, &next)?, Some(pawn));
+    assert!(rt; put_uncharged(&mut board, 28, 35)? == PAWN);
     Ok(())
+}
+
+/// A pawn of Black's.
+const PAWN: Option<Man> = Some(Man {
+    colour: Colour::Black,
+    kind: Kind::Pawn,
+    promoted: false,
+});
+
+/// Puts a move between two squares without a charge.
+fn put_uncharged(board: &mut GameBoard, from: u8, to: u8) -> Result<Option<Man>, Fail> {
+    match half(from, to, false) {
+        Some(next) => put(board, &next),
+        None => Err("squares".into()),
+    }
 }

@@ -1,14 +1,15 @@
 //! Half-moves that are taken back.
 
-use crate::playing::{board_after, play_on, terms};
+use crate::playing::{STRANGE, board_after, play_on, remaining, terms};
 use chess_model::{Colour, Variant};
 use fics_words::Refusal;
 use game_board::GameBoard;
+use std::alloc::Global;
 use std::process::Abort;
 use std::test::Fail;
 
 /// A variant, the half-moves that stay, those that are taken back, and how many these are.
-const GAMES: [(Variant, &str, &str, u16); 8] = [
+const GAMES: &[(Variant, &str, &str, u16)] = &[
     (Variant::Chess, "", "e2e4", 1),
     (Variant::Chess, "e2e4 d7d5", "e4d5 d8d5 b1c3", 3),
     // en passant
@@ -43,37 +44,77 @@ const GAMES: [(Variant, &str, &str, u16); 8] = [
     ),
 ];
 
-/// Whether two boards show the same position, half-moves and hands.
+/// Whether two boards show the same position and half-moves.
 fn are_alike(one: &GameBoard, two: &GameBoard) -> bool {
-    one.face() == two.face()
-        && one.list() == two.list()
-        && one.position().hand(Colour::White) == two.position().hand(Colour::White)
+    one.face() == two.face() && one.list() == two.list()
+}
+
+/// Whether the same men are in hand.
+fn have_same_hands(one: &GameBoard, two: &GameBoard) -> bool {
+    one.position().hand(Colour::White) == two.position().hand(Colour::White)
         && one.position().hand(Colour::Black) == two.position().hand(Colour::Black)
 }
 
 /// Whether their clocks show the same.
 fn have_same_clocks(one: &GameBoard, two: &GameBoard) -> bool {
-    one.ledger(Colour::White).remaining() == two.ledger(Colour::White).remaining()
-        && one.ledger(Colour::Black).remaining() == two.ledger(Colour::Black).remaining()
+    remaining(one, Colour::White) == remaining(two, Colour::White)
+        && remaining(one, Colour::Black) == remaining(two, Colour::Black)
 }
 
 /// Takes so many half-moves back a minute after the start.
-fn take_back(rt: &impl Abort, board: &mut GameBoard, many: u16) -> Result<(), Refusal> {
-    assert!(rt; board.terms().variant != Variant::Bughouse, "no pair");
-    assert!(rt; board.begin() <= 60_000, "an early moment");
+fn take_back(board: &mut GameBoard, many: u16) -> Result<(), Refusal> {
+    if board.terms().variant == Variant::Bughouse || board.begin() > 60_000 {
+        return Err(STRANGE);
+    }
     board.take_back(many, 60_000)
+}
+
+/// Whether so many half-moves stand, so many were played, and the clock runs from that moment.
+fn stands(board: &GameBoard, many: usize, played: u16, begin: u64) -> bool {
+    board.list().len() == many && board.played() == played && board.begin() == begin
+}
+
+/// Plays half-moves and takes so many back, and says whether they were.
+fn plays_and_takes_back(rt: &impl Abort, board: &mut GameBoard, words: &str, many: u16) -> bool {
+    play_on(rt, board, words);
+    take_back(board, many) == Ok(())
+}
+
+/// Whether a board is what another is, but that its clock runs from a minute after the start.
+fn is_same_game(board: &GameBoard, before: &GameBoard) -> bool {
+    are_alike(board, before)
+        && have_same_hands(board, before)
+        && have_same_clocks(board, before)
+        && board.begin() == 60_000
+}
+
+/// Whether the board `again` is what `before` is once it has taken back what goes.
+fn is_restored(
+    rt: &impl Abort,
+    again: &mut GameBoard,
+    before: &GameBoard,
+    words: &str,
+    many: u16,
+) -> bool {
+    plays_and_takes_back(rt, again, words, many) && is_same_game(again, before)
+}
+
+/// Whether a board that takes back what goes is what it was before it.
+fn is_as_it_was(
+    rt: &impl Abort,
+    alloc: Global,
+    game: &(Variant, &str, &str, u16),
+) -> Result<bool, Fail> {
+    let terms = terms(2, 12, game.0);
+    let before = board_after(rt, alloc, terms, game.1)?;
+    let mut again = board_after(rt, alloc, terms, game.1)?;
+    Ok(is_restored(rt, &mut again, &before, game.2, game.3))
 }
 
 #[test]
 fn all_is_as_it_was(rt: HostRuntime) -> Result<(), Fail> {
-    for (variant, stays, goes, many) in GAMES {
-        let before = board_after(&rt, rt.alloc(), terms(2, 12, variant), stays)?;
-        let mut board = board_after(&rt, rt.alloc(), terms(2, 12, variant), stays)?;
-        play_on(&rt, &mut board, goes);
-        assert_eq!(rt; take_back(&rt, &mut board, many), Ok(()));
-        assert!(rt; are_alike(&board, &before), "{stays} {goes}");
-        assert!(rt; have_same_clocks(&board, &before), "{stays} {goes}");
-        assert_eq!(rt; board.begin(), 60_000);
+    for (place, game) in GAMES.iter().enumerate() {
+        assert!(rt; is_as_it_was(&rt, rt.alloc(), game)?, "game {place}");
     }
     Ok(())
 }
@@ -83,12 +124,24 @@ fn all_is_as_it_was(rt: HostRuntime) -> Result<(), Fail> {
 fn all_count(rt: HostRuntime) -> Result<(), Fail> {
     let terms = terms(0, 0, Variant::Chess);
     let mut board = board_after(&rt, rt.alloc(), terms, "e2e4 e7e5 g1f3")?;
-    assert_eq!(rt; take_back(&rt, &mut board, 2), Ok(()));
-    assert_eq!(rt; board.played(), 3);
+    assert!(rt; take_back(&mut board, 2) == Ok(()));
+    assert!(rt; stands(&board, 1, 3, 60_000));
     play_on(&rt, &mut board, "c7c5");
-    assert_eq!(rt; board.played(), 4);
-    assert_eq!(rt; board.list().len(), 2);
+    assert!(rt; stands(&board, 2, 4, 61_000));
     Ok(())
+}
+
+/// Numbers of half-moves of which there are too few.
+const TOO_MANY: &[u16] = &[0, 6, 7, 1_200, 65_535];
+
+/// Whether each of these numbers is refused.
+fn are_refused(board: &mut GameBoard, numbers: &[u16]) -> bool {
+    for many in numbers {
+        if take_back(board, *many) != Err(Refusal::TooFewMoves) {
+            return false;
+        }
+    }
+    true
 }
 
 /// Five half-moves stand, and these numbers are refused.
@@ -96,11 +149,9 @@ fn all_count(rt: HostRuntime) -> Result<(), Fail> {
 fn too_few(rt: HostRuntime) -> Result<(), Fail> {
     let words = "e2e4 e7e5 g1f3 b8c6 f1b5";
     let mut board = board_after(&rt, rt.alloc(), terms(2, 12, Variant::Chess), words)?;
-    for many in [0, 6, 7, 1_200, 65_535] {
-        assert_eq!(rt; take_back(&rt, &mut board, many), Err(Refusal::TooFewMoves));
-    }
-    assert_eq!(rt; board.list().len(), 5);
-    assert_eq!(rt; take_back(&rt, &mut board, 5), Ok(()));
-    assert_eq!(rt; board.list().len(), 0);
+    assert!(rt; are_refused(&mut board, TOO_MANY));
+    assert!(rt; stands(&board, 5, 5, 5_000));
+    assert!(rt; take_back(&mut board, 5) == Ok(()));
+    assert!(rt; stands(&board, 0, 5, 60_000));
     Ok(())
 }

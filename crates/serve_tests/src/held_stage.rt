@@ -19,7 +19,7 @@ const STRIDE: u64 = 1_024;
 const MOST_WAITS: u64 = 1 << 40;
 
 /// When the line that comes next is said.
-#[derive(Clone, Copy, Debug, PartialEq, Eq)]
+#[derive(Clone, Copy, PartialEq, Eq)]
 enum Then {
     /// Once this one is answered.
     Answered,
@@ -30,11 +30,11 @@ enum Then {
 }
 
 /// A line: the session that says it, what it says, and when the next one is said.
-#[derive(Clone, Copy, Debug)]
+#[derive(Clone, Copy)]
 struct Cue(u32, &'static [u8], Then);
 
 /// Two games begin, White moves in the first one and is held, Black gives that game up, and White moves in the second.
-const CUES: [Cue; 11] = [
+const CUES: &[Cue] = &[
     Cue(1, b"Ann\n", Then::Answered),
     Cue(2, b"Ben\n", Then::Answered),
     Cue(3, b"Cat\n", Then::Answered),
@@ -55,7 +55,7 @@ const HELD: u64 = 8;
 pub const ALL: u64 = 11;
 
 /// What was seen of the lines while the worker was held, and afterwards.
-#[derive(Clone, Copy, Debug, PartialEq, Eq)]
+#[derive(Clone, Copy, PartialEq, Eq)]
 pub struct Seen {
     /// Whether the last line was answered while the worker was held.
     pub moved: bool,

@@ -4,11 +4,11 @@ ghost use Rattle.std.specs.Prelude.{None};
 
 use crate::held_stage::{ALL, Player, Seen, Stage};
 use edge_traits::{Came, Doorway, MemKeeper, MemSink, StillClock};
+use serve_core::serve;
 use std::alloc::{AllocError, Global};
 use std::sync::Wait;
 use std::test::Fail;
 use std::thread::Threads;
-use top_calls::serve;
 
 /// A door that gives four links, watches what they say, and is then closed. It gives no Quiet, so the steward makes no
 /// act before it is closed.
@@ -53,7 +53,7 @@ impl<'a> Doorway for Watching<'a> {
 
 /// What each of the four is written last. Black at desk 1 sees White's move before the end. White there sees the end
 /// too, or leaves before it; the players at desk 2 see the move and the start.
-const LAST: [&[u8]; 4] = [
+const LAST: &[&[u8]] = &[
     b"fics% ",
     b" 1 P/e2-e4 (0:00) e4 1\n\r{Game 1 (Ann vs. Ben) Ben resigns} 1-0\n\rfics% ",
     b" 1 P/d2-d4 (0:00) d4 0\n\rfics% ",
@@ -93,6 +93,26 @@ fn held<'a, T: Threads + Wait + Sync>(
     Ok((status, door))
 }
 
+/// What was seen while the worker was held, and afterwards.
+const SEEN: Option<Seen> = Some(Seen {
+    moved: true,
+    held: ALL - 2,
+    whole: ALL,
+});
+
+/// Whether each of the four was written this last.
+fn are_heard(heard: &[Option<Vec<u8>>; 4], last: &[&[u8]]) -> bool {
+    for (bytes, end) in heard.iter().zip(last) {
+        let Some(bytes) = bytes else {
+            return false;
+        };
+        if !bytes.as_slice().ends_with(end) {
+            return false;
+        }
+    }
+    last.len() == heard.len()
+}
+
 /// While a worker is held in White's move at desk 1, the move at desk 2 is answered, and neither White's move nor
 /// Black's giving up at desk 1 is; once the gate is open, both are.
 #[test]
@@ -100,17 +120,7 @@ fn a_desk_is_waited_for_by_itself(rt: HostRuntime) -> Result<(), Fail> {
     let stage = Stage::new();
     let (status, door) = held(&rt, rt.alloc(), &stage)?;
     assert_eq!(rt; status, 0);
-    let seen = Seen {
-        moved: true,
-        held: ALL - 2,
-        whole: ALL,
-    };
-    assert_eq!(rt; door.seen, Some(seen));
-    for (heard, last) in door.heard.iter().zip(LAST) {
-        let heard = heard
-            .as_ref()
-            .map_or(b"".as_slice(), |bytes| bytes.as_slice());
-        assert!(rt; heard.ends_with(last));
-    }
+    assert!(rt; door.seen == SEEN);
+    assert!(rt; are_heard(&door.heard, LAST));
     Ok(())
 }

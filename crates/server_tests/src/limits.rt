@@ -1,102 +1,179 @@
 //! Refusals that come where a list is at its end: half-moves, desks, and men in hand.
 
 use crate::refusals::name_of;
-use crate::steps::{Does, Said, Step, first_failing, server};
+use crate::steps::{Does, Said, Step, first_failing, is_as_expected, server};
 use chess_model::Variant;
+use fics_words::NoMemory;
+use one_server::OneServer;
+use std::alloc::Global;
 use std::test::Fail;
 
 /// Ann and Ben at desk 1.
-fn seated(variant: Variant) -> [Step; 4] {
-    [
-        Step(0, 1, Does::Enter(*b"Ann"), Said::Entered),
-        Step(0, 2, Does::Enter(*b"Ben"), Said::Entered),
-        Step(0, 1, Does::Match(*b"Ben", variant), Said::Done),
-        Step(0, 2, Does::Accept(None), Said::Started),
-    ]
+const SEATED_AT_CHESS: &[Step] = &[
+    Step(0, 1, Does::Enter(*b"Ann"), Said::Entered),
+    Step(0, 2, Does::Enter(*b"Ben"), Said::Entered),
+    Step(0, 1, Does::Match(*b"Ben", Variant::Chess), Said::Done),
+    Step(0, 2, Does::Accept(None), Said::Started),
+];
+
+const SEATED_AT_CRAZYHOUSE: &[Step] = &[
+    Step(0, 1, Does::Enter(*b"Ann"), Said::Entered),
+    Step(0, 2, Does::Enter(*b"Ben"), Said::Entered),
+    Step(0, 1, Does::Match(*b"Ben", Variant::Crazyhouse), Said::Done),
+    Step(0, 2, Does::Accept(None), Said::Started),
+];
+
+/// A part of a test at one server.
+pub enum Part {
+    Steps(&'static [Step]),
+    /// These steps so many times.
+    Times(u32, &'static [Step]),
+    /// 256 sessions enter, each under a name of its own.
+    AllEnter,
+    /// 128 pairs of them sit down.
+    AllSitDown,
 }
+
+/// The place of the first part at a new server in which a step is replied otherwise, if there is one.
+pub fn first_failing_part(alloc: Global, parts: &[Part]) -> Result<Option<usize>, NoMemory> {
+    let mut server = server(alloc)?;
+    Ok(first_wrong(&mut server, parts))
+}
+
+fn first_wrong(server: &mut OneServer, parts: &[Part]) -> Option<usize> {
+    for (place, part) in parts.iter().enumerate() {
+        if !holds(server, part) {
+            return Some(place);
+        }
+    }
+    None
+}
+
+fn holds(server: &mut OneServer, part: &Part) -> bool {
+    match part {
+        Part::Steps(steps) => first_failing(server, steps).is_none(),
+        Part::Times(times, steps) => first_failing_time(server, *times, steps).is_none(),
+        Part::AllEnter => first_outside(server).is_none(),
+        Part::AllSitDown => first_unseated(server).is_none(),
+    }
+}
+
+/// The first of so many times at which steps are replied otherwise, if there is one.
+fn first_failing_time(server: &mut OneServer, times: u32, steps: &[Step]) -> Option<u32> {
+    for time in 0..times {
+        if first_failing(server, steps).is_some() {
+            return Some(time);
+        }
+    }
+    None
+}
+
+/// The first of 256 sessions that doesn't enter under its name, if one doesn't.
+fn first_outside(server: &mut OneServer) -> Option<u32> {
+    for number in 0..256u32 {
+        let step = Step(0, number, Does::Enter(name_of(number)), Said::Entered);
+        if !is_as_expected(server, &step) {
+            return Some(number);
+        }
+    }
+    None
+}
+
+/// Whether a session challenges the next one, and a game starts.
+fn starts(server: &mut OneServer, one: u32) -> bool {
+    let challenge = Does::Match(name_of(one.wrapping_add(1)), Variant::Chess);
+    is_as_expected(server, &Step(0, one, challenge, Said::Done))
+        && is_as_expected(
+            server,
+            &Step(0, one.wrapping_add(1), Does::Accept(None), Said::Started),
+        )
+}
+
+/// The first of 128 pairs of sessions that starts no game, if one doesn't.
+fn first_unseated(server: &mut OneServer) -> Option<u32> {
+    for pair in 0..128u32 {
+        if !starts(server, 2 * pair) {
+            return Some(pair);
+        }
+    }
+    None
+}
+
+const AFTER_1200_HALF_MOVES_ROUND: &[Step] = &[
+    Step(0, 1, Does::Move(1, 6, 21), Said::Done),
+    Step(0, 2, Does::Move(1, 62, 45), Said::Done),
+    Step(0, 1, Does::Move(1, 21, 6), Said::Done),
+    Step(0, 2, Does::Move(1, 45, 62), Said::Done),
+];
+
+const AFTER_1200_HALF_MOVES_MORE: &[Step] = &[
+    Step(0, 2, Does::Move(1, 62, 45), Said::Refused(11)),
+    Step(0, 1, Does::Move(1, 6, 21), Said::Refused(12)),
+    Step(0, 1, Does::Move(1, 28, 36), Said::Refused(12)),
+    Step(0, 1, Does::Resign(1), Said::Done),
+];
+
+const ENDS_AFTER_1200: &[Part] = &[
+    Part::Steps(SEATED_AT_CHESS),
+    Part::Times(300, AFTER_1200_HALF_MOVES_ROUND),
+    Part::Steps(AFTER_1200_HALF_MOVES_MORE),
+];
 
 /// Knights go out and home again for 1,200 half-moves.
 #[test]
 fn after_1200_half_moves(rt: HostRuntime) -> Result<(), Fail> {
-    let mut server = server(rt.alloc())?;
-    assert_eq!(rt; first_failing(&mut server, &seated(Variant::Chess)), None);
-    let round = [
-        Step(0, 1, Does::Move(1, 6, 21), Said::Done),
-        Step(0, 2, Does::Move(1, 62, 45), Said::Done),
-        Step(0, 1, Does::Move(1, 21, 6), Said::Done),
-        Step(0, 2, Does::Move(1, 45, 62), Said::Done),
-    ];
-    for _round in 0..300 {
-        assert_eq!(rt; first_failing(&mut server, &round), None);
-    }
-    let more = [
-        Step(0, 2, Does::Move(1, 62, 45), Said::Refused(11)),
-        Step(0, 1, Does::Move(1, 6, 21), Said::Refused(12)),
-        Step(0, 1, Does::Move(1, 28, 36), Said::Refused(12)),
-        Step(0, 1, Does::Resign(1), Said::Done),
-    ];
-    assert_eq!(rt; first_failing(&mut server, &more), None);
+    assert_eq!(rt; first_failing_part(rt.alloc(), ENDS_AFTER_1200)?, None);
     Ok(())
 }
+
+const WITHOUT_A_FREE_DESK_STEPS: &[Step] = &[
+    Step(0, 0, Does::Going, Said::Places(1)),
+    Step(0, 0, Does::Leave(1), Said::Done),
+    Step(0, 0, Does::Bye, Said::Done),
+    Step(0, 1, Does::Going, Said::Places(1)),
+    Step(0, 1, Does::Leave(1), Said::Done),
+    Step(0, 1, Does::Bye, Said::Done),
+    Step(0, 300, Does::Enter(*b"Ann"), Said::Entered),
+    Step(0, 301, Does::Enter(*b"Ben"), Said::Entered),
+    Step(0, 300, Does::Match(*b"Ben", Variant::Chess), Said::Done),
+    Step(0, 301, Does::Accept(None), Said::Refused(35)),
+    Step(0, 300, Does::Clear(1), Said::Cleared),
+    Step(0, 301, Does::Accept(None), Said::Started),
+];
+
+const FREES_A_DESK: &[Part] = &[
+    Part::AllEnter,
+    Part::AllSitDown,
+    Part::Steps(WITHOUT_A_FREE_DESK_STEPS),
+];
 
 /// All desks are in use, the first one by two who left the hall without a Clear.
 #[test]
 fn without_a_free_desk(rt: HostRuntime) -> Result<(), Fail> {
-    let mut server = server(rt.alloc())?;
-    for number in 0..256u32 {
-        let steps = [Step(0, number, Does::Enter(name_of(number)), Said::Entered)];
-        assert_eq!(rt; first_failing(&mut server, &steps), None);
-    }
-    for pair in 0..128u32 {
-        let one = 2 * pair;
-        let steps = [
-            Step(
-                0,
-                one,
-                Does::Match(name_of(one + 1), Variant::Chess),
-                Said::Done,
-            ),
-            Step(0, one + 1, Does::Accept(None), Said::Started),
-        ];
-        assert_eq!(rt; first_failing(&mut server, &steps), None);
-    }
-    let steps = [
-        Step(0, 0, Does::Going, Said::Places(1)),
-        Step(0, 0, Does::Leave(1), Said::Done),
-        Step(0, 0, Does::Bye, Said::Done),
-        Step(0, 1, Does::Going, Said::Places(1)),
-        Step(0, 1, Does::Leave(1), Said::Done),
-        Step(0, 1, Does::Bye, Said::Done),
-        Step(0, 300, Does::Enter(*b"Ann"), Said::Entered),
-        Step(0, 301, Does::Enter(*b"Ben"), Said::Entered),
-        Step(0, 300, Does::Match(*b"Ben", Variant::Chess), Said::Done),
-        Step(0, 301, Does::Accept(None), Said::Refused(35)),
-        Step(0, 300, Does::Clear(1), Said::Cleared),
-        Step(0, 301, Does::Accept(None), Said::Started),
-    ];
-    assert_eq!(rt; first_failing(&mut server, &steps), None);
+    assert_eq!(rt; first_failing_part(rt.alloc(), FREES_A_DESK)?, None);
     Ok(())
 }
+
+const OF_DROPS_STEPS: &[Step] = &[
+    Step(0, 1, Does::Drop(1, 28), Said::Refused(5)),
+    Step(0, 1, Does::Move(1, 12, 28), Said::Done),
+    Step(0, 2, Does::Move(1, 51, 35), Said::Done),
+    Step(0, 1, Does::Move(1, 28, 35), Said::Done),
+    Step(0, 2, Does::Move(1, 57, 42), Said::Done),
+    Step(0, 1, Does::Drop(1, 57), Said::Refused(7)),
+    Step(0, 1, Does::Drop(1, 35), Said::Refused(6)),
+    Step(0, 1, Does::Drop(1, 28), Said::Done),
+    Step(0, 2, Does::Drop(1, 36), Said::Refused(5)),
+];
+
+const REFUSES_DROPS: &[Part] = &[
+    Part::Steps(SEATED_AT_CRAZYHOUSE),
+    Part::Steps(OF_DROPS_STEPS),
+];
 
 /// A pawn in hand, and where it may not be dropped: b8 is empty, d5 isn't.
 #[test]
 fn of_drops(rt: HostRuntime) -> Result<(), Fail> {
-    let mut server = server(rt.alloc())?;
-    assert_eq!(rt;
-        first_failing(&mut server, &seated(Variant::Crazyhouse)),
-        None
-    );
-    let steps = [
-        Step(0, 1, Does::Drop(1, 28), Said::Refused(5)),
-        Step(0, 1, Does::Move(1, 12, 28), Said::Done),
-        Step(0, 2, Does::Move(1, 51, 35), Said::Done),
-        Step(0, 1, Does::Move(1, 28, 35), Said::Done),
-        Step(0, 2, Does::Move(1, 57, 42), Said::Done),
-        Step(0, 1, Does::Drop(1, 57), Said::Refused(7)),
-        Step(0, 1, Does::Drop(1, 35), Said::Refused(6)),
-        Step(0, 1, Does::Drop(1, 28), Said::Done),
-        Step(0, 2, Does::Drop(1, 36), Said::Refused(5)),
-    ];
-    assert_eq!(rt; first_failing(&mut server, &steps), None);
+    assert_eq!(rt; first_failing_part(rt.alloc(), REFUSES_DROPS)?, None);
     Ok(())
 }

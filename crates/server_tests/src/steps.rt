@@ -1,6 +1,7 @@
 //! Steps of a server, each with its expected reply.
 
 ghost use Rattle.linked_desk.specs.Acts.{FitsDeskAct};
+ghost use Rattle.one_server.specs.Acts.{FitsAct};
 
 use chess_model::{Colour, Kind, MoveWord, Square, Terms, Variant};
 use fics_words::{Fail, Handle, NoMemory, Refusal};
@@ -10,7 +11,7 @@ use one_server::{Act, OneServer, PairReply, Reply};
 use std::alloc::Global;
 
 /// What a reply says, in short.
-#[derive(Clone, Copy, Debug, PartialEq, Eq)]
+#[derive(Clone, Copy, PartialEq, Eq)]
 pub enum Said {
     Refused(u8),
     Done,
@@ -25,6 +26,7 @@ pub enum Said {
     Told(u16),
     /// Another is asked.
     Asked,
+    Found,
     /// So many places.
     Places(usize),
     /// So many lines and so many places.
@@ -40,7 +42,7 @@ pub enum Said {
 }
 
 /// What a session does. Desk acts and Clears are for desk 1.
-#[derive(Clone, Copy, Debug)]
+#[derive(Clone, Copy)]
 pub enum Does {
     Enter([u8; 3]),
     Guest,
@@ -72,7 +74,7 @@ pub enum Does {
 }
 
 /// A step: the moment in milliseconds, the session, what it does, and what it has to be replied.
-#[derive(Clone, Copy, Debug)]
+#[derive(Clone, Copy)]
 pub struct Step(pub u32, pub u32, pub Does, pub Said);
 
 /// A server with an empty lobby.
@@ -91,12 +93,33 @@ pub fn first_failing(server: &mut OneServer, steps: &[Step]) -> Option<usize> {
     None
 }
 
+/// The same at a new server. A test that has no server of its own is proved in a fraction of the time.
+pub fn first_failing_anew(alloc: Global, steps: &[Step]) -> Result<Option<usize>, NoMemory> {
+    let mut server = server(alloc)?;
+    Ok(first_failing(&mut server, steps))
+}
+
+/// How many acts are made by these steps at a new server, if each is replied as it has to be.
+pub fn made_anew(alloc: Global, steps: &[Step]) -> Result<Option<usize>, NoMemory> {
+    let mut server = server(alloc)?;
+    Ok(made_without(first_failing(&mut server, steps), &server))
+}
+
+/// How many acts were made, where no step failed.
+fn made_without(failing: Option<usize>, server: &OneServer) -> Option<usize> {
+    match failing {
+        None => Some(made(server)),
+        Some(_) => None,
+    }
+}
+
 /// How many acts were made.
 pub fn made(server: &OneServer) -> usize {
     server.history().len()
 }
 
-fn is_as_expected(server: &mut OneServer, step: &Step) -> bool {
+/// Whether a step is replied as it has to be.
+pub fn is_as_expected(server: &mut OneServer, step: &Step) -> bool {
     match replied(server, step.1, step.0, step.2) {
         Ok(said) => said == step.3,
         Err(_) => false,
@@ -112,13 +135,28 @@ fn replied(server: &mut OneServer, session: u32, moment: u32, does: Does) -> Res
         Does::Match(to, variant) => challenging(server, session, &to, variant),
         Does::Accept(name) => accepting(server, session, moment, name),
         Does::Clear(serial) => clearing(server, session, serial),
-        Does::Where => visiting(server, session, LobbyAct::Where),
-        Does::Lines => visiting(server, session, LobbyAct::Fetch),
-        Does::Going => visiting(server, session, LobbyAct::Going),
-        Does::Bye => visiting(server, session, LobbyAct::Bye),
-        Does::InUse => visiting(server, session, LobbyAct::InUse),
+        _ => visiting(server, session, moment, does),
+    }
+}
+
+fn visiting(server: &mut OneServer, session: u32, moment: u32, does: Does) -> Result<Said, Fail> {
+    match does {
+        Does::Where => ran(server, session, 0, Act::Lobby(LobbyAct::Where)),
+        Does::Lines => ran(server, session, 0, Act::Lobby(LobbyAct::Fetch)),
+        Does::Going => ran(server, session, 0, Act::Lobby(LobbyAct::Going)),
+        Does::Bye => ran(server, session, 0, Act::Lobby(LobbyAct::Bye)),
+        Does::InUse => ran(server, session, 0, Act::Lobby(LobbyAct::InUse)),
         _ => at_desk(server, session, moment, does),
     }
+}
+
+/// Makes an act, and says what it is replied. It ensures nothing, so that nothing above it is proved over what an act
+/// does.
+fn ran(server: &mut OneServer, session: u32, moment: u32, act: Act) -> Result<Said, Fail>
+    requires { FitsAct act }
+{
+    let reply = server.run(session, u64::from(moment), act)?;
+    Ok(in_short(&reply))
 }
 
 fn at_desk(server: &mut OneServer, session: u32, moment: u32, does: Does) -> Result<Said, Fail> {
@@ -162,14 +200,22 @@ fn entering(
         Some(number) => Some([number; 32]),
         None => None,
     };
-    let reply = server.run(session, 0, Act::Lobby(LobbyAct::Enter { name, digest }))?;
-    Ok(in_short(&reply))
+    ran(
+        server,
+        session,
+        0,
+        Act::Lobby(LobbyAct::Enter { name, digest }),
+    )
 }
 
 fn registering(server: &mut OneServer, session: u32, password: u8) -> Result<Said, Fail> {
     let digest = [password; 32];
-    let reply = server.run(session, 0, Act::Lobby(LobbyAct::Register { digest }))?;
-    Ok(in_short(&reply))
+    ran(
+        server,
+        session,
+        0,
+        Act::Lobby(LobbyAct::Register { digest }),
+    )
 }
 
 fn challenging(
@@ -185,21 +231,12 @@ fn challenging(
         variant,
         colour: Some(Colour::White),
     };
-    let reply = server.run(session, 0, Act::Lobby(LobbyAct::Match { to, terms }))?;
-    Ok(in_short(&reply))
-}
-
-fn visiting(server: &mut OneServer, session: u32, act: LobbyAct) -> Result<Said, Fail> {
-    let plain = match act {
-        LobbyAct::Where => Act::Lobby(LobbyAct::Where),
-        LobbyAct::Fetch => Act::Lobby(LobbyAct::Fetch),
-        LobbyAct::Going => Act::Lobby(LobbyAct::Going),
-        LobbyAct::Bye => Act::Lobby(LobbyAct::Bye),
-        LobbyAct::InUse => Act::Lobby(LobbyAct::InUse),
-        _ => return Err(Fail::Memory),
-    };
-    let reply = server.run(session, 0, plain)?;
-    Ok(in_short(&reply))
+    ran(
+        server,
+        session,
+        0,
+        Act::Lobby(LobbyAct::Match { to, terms }),
+    )
 }
 
 fn accepting(
@@ -212,13 +249,16 @@ fn accepting(
         Some(name) => Some(handle(&name)?.key()),
         None => None,
     };
-    let reply = server.run(session, u64::from(moment), Act::Pair(PairAct::Accept(key)))?;
-    Ok(in_short(&reply))
+    ran(server, session, moment, Act::Pair(PairAct::Accept(key)))
 }
 
 fn clearing(server: &mut OneServer, session: u32, serial: u64) -> Result<Said, Fail> {
-    let reply = server.run(session, 0, Act::Pair(PairAct::Clear { desk: 1, serial }))?;
-    Ok(in_short(&reply))
+    ran(
+        server,
+        session,
+        0,
+        Act::Pair(PairAct::Clear { desk: 1, serial }),
+    )
 }
 
 fn playing(
@@ -230,16 +270,12 @@ fn playing(
 ) -> Result<Said, Fail>
     requires { FitsDeskAct act }
 {
-    let reply = server.run(
-        session,
-        u64::from(moment),
-        Act::Desk {
-            desk: 1,
-            serial,
-            act,
-        },
-    )?;
-    Ok(in_short(&reply))
+    let act = Act::Desk {
+        desk: 1,
+        serial,
+        act,
+    };
+    ran(server, session, moment, act)
 }
 
 fn in_short(reply: &Reply) -> Said {
@@ -260,6 +296,7 @@ fn of_lobby(answer: &LobbyReply) -> Said {
         LobbyReply::Lines(lines) => Said::Lines(lines.len()),
         LobbyReply::Told(count) => Said::Told(*count),
         LobbyReply::Asked => Said::Asked,
+        LobbyReply::Found(_) => Said::Found,
         LobbyReply::Places(places) => Said::Places(places.rows().len()),
         LobbyReply::Waiting { lines, places } => Said::Waiting(lines.len(), places.rows().len()),
         LobbyReply::Desks(desks) => Said::Desks(desks.len()),

@@ -1,49 +1,38 @@
 //! A server with two seated players, and the acts that its sessions make there.
 
+ghost use Rattle.one_server.specs.Acts.{FitsAct};
+
 use crate::short::ShortSeat;
-use crate::talks::{Comes, input_of};
+use crate::talks::{Comes, answered, input_of, server};
 use chess_model::{Colour, Terms, Variant};
 use fics_words::{Fail, Handle, Refusal};
+use histories::Entry;
 use linked_desk::DeskAct;
 use lobby_state::{LobbyAct, PairAct};
-use one_server::{Act, OneServer};
+use one_server::{Act, OneServer, Reply, Timed};
 use session_core::{Input, Session};
 use std::alloc::Global;
 
-/// What an entry of the history asks for, in short.
-#[derive(Clone, Copy, Debug, PartialEq, Eq)]
+/// What an entry of the history asks for, in short. An act that no test names is another one.
+#[derive(Clone, Copy, PartialEq, Eq)]
 pub enum Asked {
-    Enter,
-    Register,
-    InUse,
-    Match,
-    Post,
-    Unpost,
-    Sought,
-    Who,
-    Var,
-    Tell,
-    Shout,
-    Channel,
-    TellChannel,
-    InChannel,
-    Decline,
-    Withdraw,
-    Partner,
-    Ptell,
     Where,
     Lines,
     Going,
     Bye,
     Accept,
-    Play,
+    Decline,
     Clear,
     Move,
     Acked,
+    Offer,
+    AcceptOffer,
+    DeclineOffer,
     Resign,
     Flag,
     News,
     Leave,
+    Other,
 }
 
 /// Ann, session 1, has White against Ben, session 2.
@@ -55,16 +44,20 @@ pub fn seat(server: &mut OneServer) -> Result<(), Fail> {
     challenge(server, ben)
 }
 
-fn enter(server: &mut OneServer, session: u32, name: Handle) -> Result<(), Fail> {
-    let _reply = server.run(
-        session,
-        0,
-        Act::Lobby(LobbyAct::Enter {
-            name: Some(name),
-            digest: None,
-        }),
-    )?;
+/// Makes an act at moment 0. It ensures nothing, so that nothing above it is proved over what an act does.
+fn ran(server: &mut OneServer, session: u32, act: Act) -> Result<(), Fail>
+    requires { FitsAct act }
+{
+    let _reply = server.run(session, 0, act)?;
     Ok(())
+}
+
+fn enter(server: &mut OneServer, session: u32, name: Handle) -> Result<(), Fail> {
+    let act = LobbyAct::Enter {
+        name: Some(name),
+        digest: None,
+    };
+    ran(server, session, Act::Lobby(act))
 }
 
 fn challenge(server: &mut OneServer, ben: Handle) -> Result<(), Fail> {
@@ -75,20 +68,19 @@ fn challenge(server: &mut OneServer, ben: Handle) -> Result<(), Fail> {
         colour: Some(Colour::White),
     };
     let to = ben.key();
-    let _done = server.run(1, 0, Act::Lobby(LobbyAct::Match { to, terms }))?;
-    let _started = server.run(2, 0, Act::Pair(PairAct::Accept(None)))?;
-    Ok(())
+    ran(server, 1, Act::Lobby(LobbyAct::Match { to, terms }))?;
+    ran(server, 2, Act::Pair(PairAct::Accept(None)))
 }
 
 /// A step: the session, the moment in milliseconds, what comes from its player, and the acts that this has to make.
-#[derive(Clone, Copy, Debug)]
+#[derive(Clone, Copy)]
 pub struct Step<'a>(pub u32, pub u32, pub Comes, pub &'a [Asked]);
 
 /// The place of the first step that makes other acts, if one does. Each is taken by a session that has entered and was
 /// told nothing yet.
-pub fn first_failing(alloc: Global, server: &mut OneServer, steps: &[Step<'_>]) -> Option<usize> {
+fn first_failing(alloc: Global, server: &mut OneServer, steps: &[Step<'_>]) -> Option<usize> {
     for (place, step) in steps.iter().enumerate() {
-        let start = server.history().len();
+        let start = made(server);
         if takes(alloc, server, step.0, step.1, step.2).is_err() {
             return Some(place);
         }
@@ -97,6 +89,21 @@ pub fn first_failing(alloc: Global, server: &mut OneServer, steps: &[Step<'_>]) 
         }
     }
     None
+}
+
+/// The same at a new server with both players seated.
+pub fn first_failing_anew(alloc: Global, steps: &[Step<'_>]) -> Result<Option<usize>, Fail> {
+    let mut server = server(alloc)?;
+    first_failing_once_seated(alloc, &mut server, steps)
+}
+
+fn first_failing_once_seated(
+    alloc: Global,
+    server: &mut OneServer,
+    steps: &[Step<'_>],
+) -> Result<Option<usize>, Fail> {
+    seat(server)?;
+    Ok(first_failing(alloc, server, steps))
 }
 
 /// What a session writes for what comes from its player.
@@ -109,9 +116,7 @@ pub fn takes(
 ) -> Result<Vec<u8>, Fail> {
     let mut entered = Session::seated(alloc, handle(b"Ann")?);
     let input = input_of(alloc, comes)?;
-    let mut seat = server.seat(session);
-    let wrote = entered.take(&mut seat, u64::from(moment), input)?;
-    Ok(wrote.bytes)
+    answered(server, session, &mut entered, moment, input)
 }
 
 /// The session leaves at this moment.
@@ -136,7 +141,7 @@ pub fn leaves_short(
     before: u32,
 ) -> Result<bool, Fail> {
     let mut entered = Session::seated(alloc, handle(b"Ann")?);
-    let _news = entered.take(&mut server.seat(session), u64::from(moment), Input::Quiet)?;
+    let _news = answered(server, session, &mut entered, moment, Input::Quiet)?;
     let mut seat = ShortSeat::new(server, session, before);
     Ok(entered.leave(&mut seat, u64::from(moment)).is_err())
 }
@@ -148,6 +153,16 @@ fn handle(name: &[u8; 3]) -> Result<Handle, Fail> {
     }
 }
 
+/// How many acts were made.
+pub fn made(server: &OneServer) -> usize {
+    server.history().len()
+}
+
+/// The acts that were made.
+fn history(server: &OneServer) -> &[Entry<Timed, Reply>] {
+    server.history()
+}
+
 /// The place of the first entry from `start` on that isn't the session's at this moment with this act, if one is, or
 /// where there are more or fewer entries the length of the history.
 pub fn first_differing(
@@ -157,14 +172,10 @@ pub fn first_differing(
     moment: u32,
     acts: &[Asked],
 ) -> Option<usize> {
-    let history = server.history();
+    let history = history(server);
     for (place, entry) in history.iter().enumerate() {
-        if place >= start {
-            let expected = acts.get(place - start);
-            let same = entry.session == session && entry.act.moment == u64::from(moment);
-            if !same || expected != Some(&in_short(&entry.act.act)) {
-                return Some(place);
-            }
+        if place >= start && !is_entry(entry, session, moment, acts.get(place - start)) {
+            return Some(place);
         }
     }
     if history.len() >= start && history.len() - start == acts.len() {
@@ -174,40 +185,41 @@ pub fn first_differing(
     }
 }
 
+/// Whether an entry is the session's at this moment with this act.
+fn is_entry(
+    entry: &Entry<Timed, Reply>,
+    session: u32,
+    moment: u32,
+    expected: Option<&Asked>,
+) -> bool {
+    match expected {
+        Some(asked) => {
+            entry.session == session
+                && entry.act.moment == u64::from(moment)
+                && in_short(&entry.act.act) == *asked
+        }
+        None => false,
+    }
+}
+
 fn in_short(act: &Act) -> Asked {
     match act {
         Act::Lobby(act) => in_lobby(act),
         Act::Desk { act, .. } => at_desk(act),
-        Act::Pair(PairAct::Accept(_)) => Asked::Accept,
-        Act::Pair(PairAct::Play(_)) => Asked::Play,
         Act::Pair(PairAct::Clear { .. }) => Asked::Clear,
+        Act::Pair(PairAct::Accept(_)) => Asked::Accept,
+        Act::Pair(_) => Asked::Other,
     }
 }
 
 fn in_lobby(act: &LobbyAct) -> Asked {
     match act {
-        LobbyAct::Enter { .. } => Asked::Enter,
-        LobbyAct::Register { .. } => Asked::Register,
-        LobbyAct::InUse => Asked::InUse,
-        LobbyAct::Match { .. } => Asked::Match,
-        LobbyAct::Post { .. } => Asked::Post,
-        LobbyAct::Unpost { .. } => Asked::Unpost,
-        LobbyAct::Sought => Asked::Sought,
-        LobbyAct::Who => Asked::Who,
-        LobbyAct::Var { .. } => Asked::Var,
-        LobbyAct::Tell { .. } => Asked::Tell,
-        LobbyAct::Shout { .. } => Asked::Shout,
-        LobbyAct::Channel { .. } => Asked::Channel,
-        LobbyAct::TellChannel { .. } => Asked::TellChannel,
-        LobbyAct::InChannel { .. } => Asked::InChannel,
-        LobbyAct::Decline { .. } => Asked::Decline,
-        LobbyAct::Withdraw { .. } => Asked::Withdraw,
-        LobbyAct::Partner { .. } => Asked::Partner,
-        LobbyAct::Ptell { .. } => Asked::Ptell,
         LobbyAct::Where => Asked::Where,
         LobbyAct::Fetch => Asked::Lines,
         LobbyAct::Going => Asked::Going,
         LobbyAct::Bye => Asked::Bye,
+        LobbyAct::Decline { .. } => Asked::Decline,
+        _ => Asked::Other,
     }
 }
 
@@ -215,9 +227,19 @@ fn at_desk(act: &DeskAct) -> Asked {
     match act {
         DeskAct::Move { .. } => Asked::Move,
         DeskAct::Acked { .. } => Asked::Acked,
+        DeskAct::Make { .. } => Asked::Offer,
+        DeskAct::Accept => Asked::AcceptOffer,
+        DeskAct::Decline => Asked::DeclineOffer,
+        DeskAct::Fetch => Asked::News,
+        _ => at_an_end(act),
+    }
+}
+
+fn at_an_end(act: &DeskAct) -> Asked {
+    match act {
         DeskAct::Resign => Asked::Resign,
         DeskAct::Flag => Asked::Flag,
-        DeskAct::Fetch => Asked::News,
         DeskAct::Leave => Asked::Leave,
+        _ => Asked::Other,
     }
 }

@@ -16,6 +16,8 @@ mod links;
 #[cfg(test)]
 mod logins;
 #[cfg(test)]
+mod offers;
+#[cfg(test)]
 mod short;
 #[cfg(test)]
 mod stamps;

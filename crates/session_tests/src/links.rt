@@ -25,63 +25,70 @@ const LONG: &[u8] =
 const LETTERS: [u8; 1_023] = [b'x'; 1_023];
 
 /// What a link gives: a piece of bytes, or a pause.
-#[derive(Clone, Copy, Debug)]
 enum Gives {
     Piece(&'static [u8]),
     Pause,
 }
 
 /// A link: what it gives, the calls that fail, how it ends, and what is written to it.
-#[derive(Clone, Copy, Debug)]
-struct Row<'a>(&'a [Gives], &'a [u64], LinkEnd, &'static [u8]);
+struct Row(&'static [Gives], &'static [u64], LinkEnd, &'static [u8]);
+
+const QUITS: &[Gives] = &[
+    Gives::Piece(b"gue"),
+    Gives::Piece(b"st\n"),
+    Gives::Pause,
+    Gives::Piece(b"quit\nflag\n"),
+];
+
+const RESTS: &[Gives] = &[Gives::Piece(b"guest\nfl"), Gives::Piece(b"ag")];
+
+const SPEAKS_LONG: &[Gives] = &[
+    Gives::Piece(b"guest\n"),
+    Gives::Piece(&LETTERS),
+    Gives::Piece(b"\n"),
+    Gives::Piece(&LETTERS),
+    Gives::Piece(b"x"),
+    Gives::Piece(b"\nfl\xFF\xFD\x01ag\n"),
+];
+
+const ROWS: &[Row] = &[
+    Row(&[], &[0], LinkEnd::WriteFault, b""),
+    Row(&[], &[1], LinkEnd::ReadFault, OPENING),
+    Row(&[], &[], LinkEnd::End, OPENING),
+    Row(QUITS, &[], LinkEnd::Quit, GUEST),
+    Row(RESTS, &[], LinkEnd::End, REST),
+    Row(RESTS, &[4], LinkEnd::ReadFault, CUT),
+    Row(RESTS, &[5], LinkEnd::WriteFault, CUT),
+    Row(SPEAKS_LONG, &[], LinkEnd::End, LONG),
+];
 
 #[test]
 fn links_end_as_they_have_to(rt: HostRuntime) -> Result<(), Fail> {
-    let quit = [
-        Gives::Piece(b"gue"),
-        Gives::Piece(b"st\n"),
-        Gives::Pause,
-        Gives::Piece(b"quit\nflag\n"),
-    ];
-    let rest = [Gives::Piece(b"guest\nfl"), Gives::Piece(b"ag")];
-    let long = [
-        Gives::Piece(b"guest\n"),
-        Gives::Piece(&LETTERS),
-        Gives::Piece(b"\n"),
-        Gives::Piece(&LETTERS),
-        Gives::Piece(b"x"),
-        Gives::Piece(b"\nfl\xFF\xFD\x01ag\n"),
-    ];
-    let rows = [
-        Row(&[], &[0], LinkEnd::WriteFault, b""),
-        Row(&[], &[1], LinkEnd::ReadFault, OPENING),
-        Row(&[], &[], LinkEnd::End, OPENING),
-        Row(&quit, &[], LinkEnd::Quit, GUEST),
-        Row(&rest, &[], LinkEnd::End, REST),
-        Row(&rest, &[4], LinkEnd::ReadFault, CUT),
-        Row(&rest, &[5], LinkEnd::WriteFault, CUT),
-        Row(&long, &[], LinkEnd::End, LONG),
-    ];
-    assert_eq!(rt; first_failing(rt.alloc(), &rows), None);
+    assert_eq!(rt; first_failing(rt.alloc(), ROWS), None);
     Ok(())
+}
+
+const FOUR_INPUTS: &[Gives] = &[
+    Gives::Piece(b"guest\n\n"),
+    Gives::Pause,
+    Gives::Piece(b"flag\n"),
+];
+
+/// How a link ends that gives this, and how often its clock is asked.
+fn asking(alloc: Global, steps: &[Gives]) -> Result<(LinkEnd, u64), Failure> {
+    let mut link = link_of(alloc, steps, &[])?;
+    let clock = CountingClock {
+        calls: Cell::new(0),
+    };
+    let mut server = server(alloc)?;
+    let end = serve_link(alloc, &mut server.seat(1), &mut link, &clock);
+    Ok((end, clock.calls.get()))
 }
 
 /// Once for each of the four inputs, and once when it leaves.
 #[test]
 fn the_clock_is_asked_for_each_input(rt: HostRuntime) -> Result<(), Fail> {
-    let steps = [
-        Gives::Piece(b"guest\n\n"),
-        Gives::Pause,
-        Gives::Piece(b"flag\n"),
-    ];
-    let mut link = link_of(rt.alloc(), &steps, &[])?;
-    let clock = CountingClock {
-        calls: Cell::new(0),
-    };
-    let mut server = server(rt.alloc())?;
-    let end = serve_link(rt.alloc(), &mut server.seat(1), &mut link, &clock);
-    assert_eq!(rt; end, LinkEnd::End);
-    assert_eq!(rt; clock.calls.get(), 5);
+    assert!(rt; asking(rt.alloc(), FOUR_INPUTS)? == (LinkEnd::End, 5));
     Ok(())
 }
 
@@ -104,7 +111,7 @@ impl Clock for CountingClock {
 }
 
 /// The place of the first row that ends otherwise, if one does.
-fn first_failing(alloc: Global, rows: &[Row<'_>]) -> Option<usize> {
+fn first_failing(alloc: Global, rows: &[Row]) -> Option<usize> {
     for (place, row) in rows.iter().enumerate() {
         match serves(alloc, row) {
             Ok(true) => {}
@@ -114,7 +121,7 @@ fn first_failing(alloc: Global, rows: &[Row<'_>]) -> Option<usize> {
     None
 }
 
-fn serves(alloc: Global, row: &Row<'_>) -> Result<bool, Failure> {
+fn serves(alloc: Global, row: &Row) -> Result<bool, Failure> {
     let mut link = link_of(alloc, row.0, row.1)?;
     let clock = StillClock::new(5);
     let mut server = server(alloc)?;

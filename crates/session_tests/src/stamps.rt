@@ -26,60 +26,68 @@ const SECOND_ANN: &[u8] =
 const THIRD_ANN: &[u8] =
     b"<12> rnbqkbnr pppp-ppp -------- ----p--- ---PP--- -------- PPP--PPP RNBQKBNR B 3 1 1 1 1 0 1 Ann Ben -1 2 12 39 39 130 120 2 P/d2-d4 (0:01) d4 0\n\rfics% ";
 
+const A_GAME_OVER_A_STAMPED_LINK_ROWS: &[Row] = &[
+    Row(1, 0, Comes::Stamped(b"TIMESTAMP|openseal|Linux|", 0), b""),
+    Row(
+        1,
+        0,
+        Comes::Stamped(b"Ann", 10),
+        b"Entered as Ann.\n\rfics% ",
+    ),
+    Row(2, 0, Comes::Line(b"Ben"), b"Entered as Ben.\n\rfics% "),
+    Row(
+        1,
+        0,
+        Comes::Stamped(b"match Ben 2 12 white", 20),
+        b"Ok.\n\rfics% ",
+    ),
+    Row(2, 1_000, Comes::Line(b"accept"), START_BEN),
+    Row(1, 2_000, Comes::Quiet, START_ANN),
+    Row(1, 2_000, Comes::Ack(900), b""),
+    Row(1, 3_000, Comes::Stamped(b"e2e4", 1_000), FIRST_ANN),
+    Row(2, 6_000, Comes::Line(b"e7e5"), SECOND_BEN),
+    Row(1, 7_000, Comes::Quiet, SECOND_ANN),
+    Row(1, 7_000, Comes::Ack(3_000), b""),
+    Row(1, 9_000, Comes::Stamped(b"d2d4", 4_500), THIRD_ANN),
+];
+
 #[test]
 fn a_game_over_a_stamped_link(rt: HostRuntime) -> Result<(), Fail> {
-    let rows = [
-        Row(1, 0, Comes::Stamped(b"TIMESTAMP|openseal|Linux|", 0), b""),
-        Row(
-            1,
-            0,
-            Comes::Stamped(b"Ann", 10),
-            b"Entered as Ann.\n\rfics% ",
-        ),
-        Row(2, 0, Comes::Line(b"Ben"), b"Entered as Ben.\n\rfics% "),
-        Row(
-            1,
-            0,
-            Comes::Stamped(b"match Ben 2 12 white", 20),
-            b"Ok.\n\rfics% ",
-        ),
-        Row(2, 1_000, Comes::Line(b"accept"), START_BEN),
-        Row(1, 2_000, Comes::Quiet, START_ANN),
-        Row(1, 2_000, Comes::Ack(900), b""),
-        Row(1, 3_000, Comes::Stamped(b"e2e4", 1_000), FIRST_ANN),
-        Row(2, 6_000, Comes::Line(b"e7e5"), SECOND_BEN),
-        Row(1, 7_000, Comes::Quiet, SECOND_ANN),
-        Row(1, 7_000, Comes::Ack(3_000), b""),
-        Row(1, 9_000, Comes::Stamped(b"d2d4", 4_500), THIRD_ANN),
-    ];
-    assert_eq!(rt; first_failing(rt.alloc(), &rows)?, None);
+    assert_eq!(rt;
+        first_failing(rt.alloc(), A_GAME_OVER_A_STAMPED_LINK_ROWS)?,
+        None
+    );
     Ok(())
 }
+
+const A_LATE_GREETING_IS_A_NAME_ROWS: &[Row] = &[
+    Row(1, 0, Comes::Ack(1), b""),
+    Row(
+        1,
+        0,
+        Comes::Stamped(b"TIMESTAMP|a|", 2),
+        b"refused 22 BadHandle\n\rlogin: ",
+    ),
+    Row(
+        2,
+        0,
+        Comes::Line(b"TIMESTAMP|a|"),
+        b"refused 22 BadHandle\n\rlogin: ",
+    ),
+    Row(
+        2,
+        0,
+        Comes::Stamped(b"Ben", 3),
+        b"Entered as Ben.\n\rfics% ",
+    ),
+];
 
 /// A greeting behind another line is a line as any other.
 #[test]
 fn a_late_greeting_is_a_name(rt: HostRuntime) -> Result<(), Fail> {
-    let rows = [
-        Row(1, 0, Comes::Ack(1), b""),
-        Row(
-            1,
-            0,
-            Comes::Stamped(b"TIMESTAMP|a|", 2),
-            b"refused 22 BadHandle\n\rlogin: ",
-        ),
-        Row(
-            2,
-            0,
-            Comes::Line(b"TIMESTAMP|a|"),
-            b"refused 22 BadHandle\n\rlogin: ",
-        ),
-        Row(
-            2,
-            0,
-            Comes::Stamped(b"Ben", 3),
-            b"Entered as Ben.\n\rfics% ",
-        ),
-    ];
-    assert_eq!(rt; first_failing(rt.alloc(), &rows)?, None);
+    assert_eq!(rt;
+        first_failing(rt.alloc(), A_LATE_GREETING_IS_A_NAME_ROWS)?,
+        None
+    );
     Ok(())
 }

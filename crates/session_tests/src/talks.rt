@@ -13,7 +13,7 @@ use std::alloc::Global;
 const STAMP_CYCLE: u32 = 10_000_000;
 
 /// What comes to a session.
-#[derive(Clone, Copy, Debug)]
+#[derive(Clone, Copy)]
 pub enum Comes {
     Line(&'static [u8]),
     /// A line with the client's stamp.
@@ -25,7 +25,7 @@ pub enum Comes {
 }
 
 /// A row: the session, 1 or 2, the moment in milliseconds, what comes, and what the session has to answer.
-#[derive(Clone, Copy, Debug)]
+#[derive(Clone, Copy)]
 pub struct Row(pub u32, pub u32, pub Comes, pub &'static [u8]);
 
 /// The place of the first row that two new sessions of a new server answer otherwise, if there is one.
@@ -54,7 +54,20 @@ fn answer(
     row: &Row,
 ) -> Result<Vec<u8>, Fail> {
     let input = input_of(alloc, row.2)?;
-    let wrote = session.take(&mut server.seat(row.0), u64::from(row.1), input)?;
+    answered(server, row.0, session, row.1, input)
+}
+
+/// What a session answers to an input. It ensures nothing, so that nothing above it is proved over what a session does.
+pub fn answered(
+    server: &mut OneServer,
+    number: u32,
+    session: &mut Session,
+    moment: u32,
+    input: Input,
+) -> Result<Vec<u8>, Fail>
+    requires { FitsInput input }
+{
+    let wrote = session.take(&mut server.seat(number), u64::from(moment), input)?;
     Ok(wrote.bytes)
 }
 

@@ -2,6 +2,7 @@
 
 use crate::games::{line_of, played, untimed};
 use chess_model::Variant;
+use std::alloc::Global;
 use std::test::Fail;
 use style12_writer::{BoardView, Viewer};
 
@@ -11,7 +12,7 @@ const OBSERVER: Viewer = Viewer {
 };
 
 /// Chess games between White and Black, and the line of their last position as an observer sees it.
-const CHESS: [(&str, &str); 14] = [
+const CHESS: &[(&str, &str)] = &[
     (
         "",
         "<12> rnbqkbnr pppppppp -------- -------- -------- -------- PPPPPPPP RNBQKBNR W -1 1 1 1 1 0 1 White Black 0 0 0 39 39 0 0 1 none (0:00) none 0",
@@ -76,111 +77,175 @@ const CHESS: [(&str, &str); 14] = [
     ),
 ];
 
-#[test]
-fn shows_chess(rt: HostRuntime) -> Result<(), Fail> {
-    for (words, text) in CHESS {
-        let game = played(Variant::Chess, words).ok_or("a move that isn't allowed")?;
-        let view = untimed(game.face(), "White", "Black").ok_or("names")?;
-        let line = line_of(rt.alloc(), &view, OBSERVER)?;
-        assert_eq!(rt; line.bytes(), text.as_bytes());
-    }
-    Ok(())
-}
+/// What clocks show: minutes, increment, the remaining times of White and Black, and the time taken, in milliseconds.
+#[derive(Clone, Copy)]
+struct Times(u16, u16, [i64; 2], u64);
 
-#[test]
-fn shows_a_drop(rt: HostRuntime) -> Result<(), Fail> {
-    let game = played(Variant::Crazyhouse, "e2e4 d7d5 e4d5 b8c6 P@e4").ok_or("a game")?;
-    let view = untimed(game.face(), "White", "Black").ok_or("names")?;
-    let line = line_of(rt.alloc(), &view, OBSERVER)?;
-    // White has a ninth pawn on the board
-    let text =
-        "<12> r-bqkbnr ppp-pppp --n----- ---P---- ----P--- -------- PPPP-PPP RNBQKBNR B -1 1 1 1 1 0 1 White Black 0 0 0 40 38 0 0 3 P/@@-e4 (0:00) P@e4 0";
-    assert_eq!(rt; line.bytes(), text.as_bytes());
-    Ok(())
-}
+const UNTIMED: Times = Times(0, 0, [0, 0], 0);
 
-fn timed(
-    view: BoardView,
-    minutes: u16,
-    increment: u16,
-    remaining: [i64; 2],
-    taken: u64,
-) -> BoardView {
+/// A game's variant and words, its players, its clocks, who looks at it, and the line.
+#[derive(Clone, Copy)]
+struct Row(
+    Variant,
+    &'static str,
+    [&'static str; 2],
+    Times,
+    Viewer,
+    &'static str,
+);
+
+fn timed(view: BoardView, times: Times) -> BoardView {
+    let remaining = times.2;
     BoardView {
-        minutes,
-        increment,
+        minutes: times.0,
+        increment: times.1,
         remaining,
-        taken,
+        taken: times.3,
         ..view
     }
 }
 
+/// What is shown of these half-moves.
+fn view_of(
+    variant: Variant,
+    words: &str,
+    players: [&str; 2],
+    times: Times,
+) -> Result<BoardView, Fail> {
+    let game = played(variant, words).ok_or("a move that isn't allowed")?;
+    let view = untimed(game.face(), players[0], players[1]).ok_or("names")?;
+    Ok(timed(view, times))
+}
+
+fn is_shown(alloc: Global, row: &Row) -> Result<bool, Fail> {
+    let view = view_of(row.0, row.1, row.2, row.3)?;
+    Ok(line_of(alloc, &view, row.4)?.bytes() == row.5.as_bytes())
+}
+
+/// The place of the first row that is shown otherwise, if one is.
+fn first_wrong(alloc: Global, rows: &[Row]) -> Result<Option<usize>, Fail> {
+    for (place, row) in rows.iter().enumerate() {
+        if !is_shown(alloc, row)? {
+            return Ok(Some(place));
+        }
+    }
+    Ok(None)
+}
+
+const PLAYERS: [&str; 2] = ["White", "Black"];
+
 #[test]
-fn shows_marks(rt: HostRuntime) -> Result<(), Fail> {
-    let knights = played(Variant::Chess, "d2d4 d7d5 g1f3 g8f6 b1d2").ok_or("a game")?;
-    let view = untimed(knights.face(), "White", "Black").ok_or("names")?;
-    let line = line_of(rt.alloc(), &view, OBSERVER)?;
-    let text =
-        "<12> rnbqkb-r ppp-pppp -----n-- ---p---- ---P---- -----N-- PPPNPPPP R-BQKB-R B -1 1 1 1 1 3 1 White Black 0 0 0 39 39 0 0 3 N/b1-d2 (0:00) Nbd2 0";
-    assert_eq!(rt; line.bytes(), text.as_bytes());
-    let mate = played(Variant::Chess, "f2f3 e7e5 g2g4 d8h4").ok_or("a game")?;
-    let view = untimed(mate.face(), "White", "Black").ok_or("names")?;
-    let line = line_of(rt.alloc(), &view, OBSERVER)?;
-    let text =
-        "<12> rnb-kbnr pppp-ppp -------- ----p--- ------Pq -----P-- PPPPP--P RNBQKBNR W -1 1 1 1 1 1 1 White Black 0 0 0 39 39 0 0 3 Q/d8-h4 (0:00) Qh4# 0";
-    assert_eq!(rt; line.bytes(), text.as_bytes());
+fn shows_chess(rt: HostRuntime) -> Result<(), Fail> {
+    for (words, text) in CHESS {
+        let row = Row(Variant::Chess, words, PLAYERS, UNTIMED, OBSERVER, text);
+        assert!(rt; is_shown(rt.alloc(), &row)?, "{words}");
+    }
     Ok(())
 }
+
+/// White has a ninth pawn on the board.
+const DROP: &[Row] = &[Row(
+    Variant::Crazyhouse,
+    "e2e4 d7d5 e4d5 b8c6 P@e4",
+    PLAYERS,
+    UNTIMED,
+    OBSERVER,
+    "<12> r-bqkbnr ppp-pppp --n----- ---P---- ----P--- -------- PPPP-PPP RNBQKBNR B -1 1 1 1 1 0 1 White Black 0 0 0 40 38 0 0 3 P/@@-e4 (0:00) P@e4 0",
+)];
+
+#[test]
+fn shows_a_drop(rt: HostRuntime) -> Result<(), Fail> {
+    assert_eq!(rt; first_wrong(rt.alloc(), DROP)?, None);
+    Ok(())
+}
+
+const MARKS: &[Row] = &[
+    Row(
+        Variant::Chess,
+        "d2d4 d7d5 g1f3 g8f6 b1d2",
+        PLAYERS,
+        UNTIMED,
+        OBSERVER,
+        "<12> rnbqkb-r ppp-pppp -----n-- ---p---- ---P---- -----N-- PPPNPPPP R-BQKB-R B -1 1 1 1 1 3 1 White Black 0 0 0 39 39 0 0 3 N/b1-d2 (0:00) Nbd2 0",
+    ),
+    Row(
+        Variant::Chess,
+        "f2f3 e7e5 g2g4 d8h4",
+        PLAYERS,
+        UNTIMED,
+        OBSERVER,
+        "<12> rnb-kbnr pppp-ppp -------- ----p--- ------Pq -----P-- PPPPP--P RNBQKBNR W -1 1 1 1 1 1 1 White Black 0 0 0 39 39 0 0 3 Q/d8-h4 (0:00) Qh4# 0",
+    ),
+];
+
+#[test]
+fn shows_marks(rt: HostRuntime) -> Result<(), Fail> {
+    assert_eq!(rt; first_wrong(rt.alloc(), MARKS)?, None);
+    Ok(())
+}
+
+/// Viewers who play: to move or not, with the board as White or as Black sees it.
+const WHITE_WAITS: Viewer = Viewer {
+    relation: -1,
+    flip: false,
+};
+
+const BLACK_WAITS: Viewer = Viewer {
+    relation: -1,
+    flip: true,
+};
+
+const BLACK_IS_TO_MOVE: Viewer = Viewer {
+    relation: 1,
+    flip: true,
+};
+
+const VIEWERS: &[Row] = &[
+    Row(
+        Variant::Chess,
+        "",
+        ["Alice", "Bob"],
+        Times(5, 0, [300_000, 300_000], 0),
+        BLACK_WAITS,
+        "<12> rnbqkbnr pppppppp -------- -------- -------- -------- PPPPPPPP RNBQKBNR W -1 1 1 1 1 0 1 Alice Bob -1 5 0 39 39 300 300 1 none (0:00) none 1",
+    ),
+    Row(
+        Variant::Bughouse,
+        "e2e4 d7d5 e4d5",
+        ["Ann", "Ben"],
+        Times(2, 0, [119_000, 120_000], 1_000),
+        WHITE_WAITS,
+        "<12> rnbqkbnr ppp-pppp -------- ---P---- -------- -------- PPPP-PPP RNBQKBNR B -1 1 1 1 1 0 1 Ann Ben -1 2 0 39 38 119 120 2 P/e4-d5 (0:01) exd5 0",
+    ),
+];
 
 #[test]
 fn shows_viewers(rt: HostRuntime) -> Result<(), Fail> {
-    let start = played(Variant::Chess, "").ok_or("a game")?;
-    let view = untimed(start.face(), "Alice", "Bob").ok_or("names")?;
-    let view = timed(view, 5, 0, [300_000, 300_000], 0);
-    let bob = Viewer {
-        relation: -1,
-        flip: true,
-    };
-    let line = line_of(rt.alloc(), &view, bob)?;
-    let text =
-        "<12> rnbqkbnr pppppppp -------- -------- -------- -------- PPPPPPPP RNBQKBNR W -1 1 1 1 1 0 1 Alice Bob -1 5 0 39 39 300 300 1 none (0:00) none 1";
-    assert_eq!(rt; line.bytes(), text.as_bytes());
-
-    let takes = played(Variant::Bughouse, "e2e4 d7d5 e4d5").ok_or("a game")?;
-    let view = untimed(takes.face(), "Ann", "Ben").ok_or("names")?;
-    let view = timed(view, 2, 0, [119_000, 120_000], 1_000);
-    let ann = Viewer {
-        relation: -1,
-        flip: false,
-    };
-    let line = line_of(rt.alloc(), &view, ann)?;
-    let text =
-        "<12> rnbqkbnr ppp-pppp -------- ---P---- -------- -------- PPPP-PPP RNBQKBNR B -1 1 1 1 1 0 1 Ann Ben -1 2 0 39 38 119 120 2 P/e4-d5 (0:01) exd5 0";
-    assert_eq!(rt; line.bytes(), text.as_bytes());
+    assert_eq!(rt; first_wrong(rt.alloc(), VIEWERS)?, None);
     Ok(())
 }
 
+const CLOCKS: &[Row] = &[
+    Row(
+        Variant::Chess,
+        "e2e4 e7e5 g1f3",
+        ["Ann", "Ben"],
+        Times(2, 12, [128_000, 120_000], 4_000),
+        BLACK_IS_TO_MOVE,
+        "<12> rnbqkbnr pppp-ppp -------- ----p--- ----P--- -----N-- PPPP-PPP RNBQKB-R B -1 1 1 1 1 1 1 Ann Ben 1 2 12 39 39 128 120 2 N/g1-f3 (0:04) Nf3 1",
+    ),
+    Row(
+        Variant::Chess,
+        "e2e4 e7e5 g1f3",
+        ["Ann", "Ben"],
+        Times(2, 12, [128_000, 120_000], 4_000),
+        WHITE_WAITS,
+        "<12> rnbqkbnr pppp-ppp -------- ----p--- ----P--- -----N-- PPPP-PPP RNBQKB-R B -1 1 1 1 1 1 1 Ann Ben -1 2 12 39 39 128 120 2 N/g1-f3 (0:04) Nf3 0",
+    ),
+];
+
 #[test]
 fn shows_clocks(rt: HostRuntime) -> Result<(), Fail> {
-    let knight = played(Variant::Chess, "e2e4 e7e5 g1f3").ok_or("a game")?;
-    let view = untimed(knight.face(), "Ann", "Ben").ok_or("names")?;
-    let view = timed(view, 2, 12, [128_000, 120_000], 4_000);
-    let ben = Viewer {
-        relation: 1,
-        flip: true,
-    };
-    let line = line_of(rt.alloc(), &view, ben)?;
-    let text =
-        "<12> rnbqkbnr pppp-ppp -------- ----p--- ----P--- -----N-- PPPP-PPP RNBQKB-R B -1 1 1 1 1 1 1 Ann Ben 1 2 12 39 39 128 120 2 N/g1-f3 (0:04) Nf3 1";
-    assert_eq!(rt; line.bytes(), text.as_bytes());
-
-    let ann = Viewer {
-        relation: -1,
-        flip: false,
-    };
-    let line = line_of(rt.alloc(), &view, ann)?;
-    let text =
-        "<12> rnbqkbnr pppp-ppp -------- ----p--- ----P--- -----N-- PPPP-PPP RNBQKB-R B -1 1 1 1 1 1 1 Ann Ben -1 2 12 39 39 128 120 2 N/g1-f3 (0:04) Nf3 0";
-    assert_eq!(rt; line.bytes(), text.as_bytes());
+    assert_eq!(rt; first_wrong(rt.alloc(), CLOCKS)?, None);
     Ok(())
 }

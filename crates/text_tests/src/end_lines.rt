@@ -11,7 +11,7 @@ const WHITE: Option<Colour> = Some(Colour::White);
 
 const BLACK: Option<Colour> = Some(Colour::Black);
 
-const OWN: [(Why, Option<Colour>, &str); 15] = [
+const OWN: &[(Why, Option<Colour>, &str)] = &[
     (
         Why::Mate,
         WHITE,
@@ -81,7 +81,7 @@ const OWN: [(Why, Option<Colour>, &str); 15] = [
     (Why::Adjourned, None, "{Game 1 (Alice vs. Bob) adjourned} *"),
 ];
 
-const OTHER: [(Why, Option<Colour>, &str); 6] = [
+const OTHER: &[(Why, Option<Colour>, &str)] = &[
     (
         Why::Mate,
         WHITE,
@@ -128,13 +128,27 @@ fn ended(
     Ok(end_line(alloc, board, why, winner, own)?)
 }
 
+/// Whether an end is told by that line.
+fn is_told(
+    alloc: Global,
+    board: &BoardView,
+    why: Why,
+    winner: Option<Colour>,
+    own: bool,
+    text: &str,
+) -> Result<bool, Fail> {
+    Ok(ended(alloc, board, why, winner, own)?.bytes() == text.as_bytes())
+}
+
 #[test]
 fn tells_why(rt: HostRuntime) -> Result<(), Fail> {
     let game = played(Variant::Chess, "").ok_or("a game")?;
     let board = untimed(game.face(), "Alice", "Bob").ok_or("names")?;
     for (why, winner, text) in OWN {
-        let line = ended(rt.alloc(), &board, why, winner, true)?;
-        assert_eq!(rt; line.bytes(), text.as_bytes());
+        assert!(rt;
+            is_told(rt.alloc(), &board, *why, *winner, true, text)?,
+            "{text}"
+        );
     }
     Ok(())
 }
@@ -145,8 +159,10 @@ fn tells_the_partners(rt: HostRuntime) -> Result<(), Fail> {
     let mut board = untimed(game.face(), "Cat", "Dan").ok_or("names")?;
     board.game = 2;
     for (why, winner, text) in OTHER {
-        let line = ended(rt.alloc(), &board, why, winner, false)?;
-        assert_eq!(rt; line.bytes(), text.as_bytes());
+        assert!(rt;
+            is_told(rt.alloc(), &board, *why, *winner, false, text)?,
+            "{text}"
+        );
     }
     Ok(())
 }
@@ -156,9 +172,8 @@ fn tells_the_longest(rt: HostRuntime) -> Result<(), Fail> {
     let game = played(Variant::Chess, "").ok_or("a game")?;
     let mut board = untimed(game.face(), "Abcdefghijklmnopq", "Qponmlkjihgfedcba").ok_or("names")?;
     board.game = 65_535;
-    let line = ended(rt.alloc(), &board, Why::Left, BLACK, true)?;
     let text =
         "{Game 65535 (Abcdefghijklmnopq vs. Qponmlkjihgfedcba) Abcdefghijklmnopq forfeits by disconnection} 0-1";
-    assert_eq!(rt; line.bytes(), text.as_bytes());
+    assert!(rt; is_told(rt.alloc(), &board, Why::Left, BLACK, true, text)?);
     Ok(())
 }

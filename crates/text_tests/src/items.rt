@@ -4,20 +4,18 @@ use crate::games::{played, untimed};
 use chess_model::{Kind, Variant, Why};
 use fics_words::{Duplicate, Line};
 use holdings_drops::Holdings;
+use std::alloc::Global;
 use std::test::Fail;
-use style12_writer::{Item, ItemList, LineList};
+use style12_writer::{BoardView, Item, ItemList, LineList};
 
-#[test]
-fn copies_items(rt: HostRuntime) -> Result<(), Fail> {
-    let game = played(Variant::Chess, "e2e4").ok_or("a game")?;
-    let view = untimed(game.face(), "Ann", "Ben").ok_or("names")?;
-    let talk = Line::read(rt.alloc(), b"Ann kibitzes: hello")?.ok_or("a line")?;
-    let white = Holdings::empty().with_one_more(Kind::Rook);
-    let mut items = ItemList::new(rt.alloc());
+/// A board, White's rook in hand, a line of talk, and an end by agreement.
+fn four_items(alloc: Global, view: BoardView) -> Result<ItemList, Fail> {
+    let talk = Line::read(alloc, TALK)?.ok_or("a line")?;
+    let mut items = ItemList::new(alloc);
     items.push(Item::Board(view))?;
     items.push(Item::Hold {
         game: 7,
-        white,
+        white: rook(),
         black: Holdings::empty(),
         came: Some(Kind::Rook),
     })?;
@@ -28,38 +26,70 @@ fn copies_items(rt: HostRuntime) -> Result<(), Fail> {
         winner: None,
         own: true,
     })?;
-    let copies = items.duplicate()?;
-    assert_eq!(rt; copies.len(), 4);
-    match copies.as_slice() {
-        [
-            Item::Board(board),
-            Item::Hold {
-                game,
-                white: held,
-                black,
-                came,
-            },
-            Item::Talk(line),
-            Item::End {
-                view: end,
-                why,
-                winner,
-                own,
-            },
-        ] => {
-            assert_eq!(rt; *board, view);
-            assert_eq!(rt; *game, 7);
-            assert_eq!(rt; *held, white);
-            assert_eq!(rt; *black, Holdings::empty());
-            assert_eq!(rt; *came, Some(Kind::Rook));
-            assert_eq!(rt; line.bytes(), b"Ann kibitzes: hello".as_slice());
-            assert_eq!(rt; *end, view);
-            assert_eq!(rt; *why, Why::Agreed);
-            assert_eq!(rt; *winner, None);
-            assert!(rt; *own);
-        }
-        _ => return Err("other items".into()),
+    Ok(items)
+}
+
+const TALK: &[u8] = b"Ann kibitzes: hello";
+
+fn rook() -> Holdings {
+    Holdings::empty().with_one_more(Kind::Rook)
+}
+
+fn is_board(item: &Item, expected: &BoardView) -> bool {
+    match item {
+        Item::Board(view) => view == expected,
+        _ => false,
     }
+}
+
+fn is_hold(item: &Item) -> bool {
+    match item {
+        Item::Hold {
+            game,
+            white,
+            black,
+            came,
+        } => {
+            *game == 7
+                && *white == rook()
+                && *black == Holdings::empty()
+                && *came == Some(Kind::Rook)
+        }
+        _ => false,
+    }
+}
+
+fn is_talk(item: &Item) -> bool {
+    match item {
+        Item::Talk(line) => line.bytes() == TALK,
+        _ => false,
+    }
+}
+
+fn is_end(item: &Item, expected: &BoardView) -> bool {
+    match item {
+        Item::End {
+            view,
+            why,
+            winner,
+            own,
+        } => view == expected && *why == Why::Agreed && winner.is_none() && *own,
+        _ => false,
+    }
+}
+
+#[test]
+fn copies_items(rt: HostRuntime) -> Result<(), Fail> {
+    let game = played(Variant::Chess, "e2e4").ok_or("a game")?;
+    let view = untimed(game.face(), "Ann", "Ben").ok_or("names")?;
+    let copies = four_items(rt.alloc(), view)?.duplicate()?;
+    let [board, hold, talk, end] = copies.as_slice() else {
+        return Err("four items".into());
+    };
+    assert!(rt; is_board(board, &view));
+    assert!(rt; is_hold(hold));
+    assert!(rt; is_talk(talk));
+    assert!(rt; is_end(end, &view));
     Ok(())
 }
 

@@ -2,11 +2,12 @@
 
 use crate::games::{line_of, played, untimed};
 use chess_model::Variant;
+use std::alloc::Global;
 use std::test::Fail;
-use style12_writer::Viewer;
+use style12_writer::{BoardView, Viewer};
 
 /// White's and Black's remaining time and the time taken, in milliseconds, and what the line has from White's time on.
-const TIMES: [([i64; 2], u64, &str); 10] = [
+const TIMES: &[([i64; 2], u64, &str)] = &[
     ([0, 0], 0, "0 0 1 none (0:00) none 0"),
     ([999, 1_000], 999, "0 1 1 none (0:00) none 0"),
     ([1_999, 59_999], 1_000, "1 59 1 none (0:01) none 0"),
@@ -31,25 +32,53 @@ const TIMES: [([i64; 2], u64, &str); 10] = [
     ),
 ];
 
+/// What the line has before the times.
+const BEFORE: &str =
+    "<12> rnbqkbnr pppppppp -------- -------- -------- -------- PPPPPPPP RNBQKBNR W -1 1 1 1 1 0 1 Ann Ben 0 0 0 39 39 ";
+
+const OBSERVER: Viewer = Viewer {
+    relation: 0,
+    flip: false,
+};
+
+/// Whether a board is shown by the line of these two pieces.
+fn is_shown(
+    alloc: Global,
+    view: &BoardView,
+    viewer: Viewer,
+    before: &str,
+    end: &str,
+) -> Result<bool, Fail> {
+    let line = line_of(alloc, view, viewer)?;
+    Ok(line.bytes().strip_prefix(before.as_bytes()) == Some(end.as_bytes()))
+}
+
 #[test]
 fn shows_times(rt: HostRuntime) -> Result<(), Fail> {
     let start = played(Variant::Chess, "").ok_or("a game")?;
     let mut view = untimed(start.face(), "Ann", "Ben").ok_or("names")?;
-    let before =
-        "<12> rnbqkbnr pppppppp -------- -------- -------- -------- PPPPPPPP RNBQKBNR W -1 1 1 1 1 0 1 Ann Ben 0 0 0 39 39 ";
-    let observer = Viewer {
-        relation: 0,
-        flip: false,
-    };
     for (remaining, taken, end) in TIMES {
-        view.remaining = remaining;
-        view.taken = taken;
-        let line = line_of(rt.alloc(), &view, observer)?;
-        let text = format!(in rt.alloc(); "{before}{end}")?;
-        assert_eq!(rt; line.bytes(), text.as_bytes());
+        view.remaining = *remaining;
+        view.taken = *taken;
+        assert!(rt;
+            is_shown(rt.alloc(), &view, OBSERVER, BEFORE, end)?,
+            "{end}"
+        );
     }
     Ok(())
 }
+
+/// The greatest and the least relation, and the line.
+const GREATEST: &[(i8, &str)] = &[
+    (
+        127,
+        "<12> rnbqkbnr pppppppp -------- -------- -------- -------- PPPPPPPP RNBQKBNR W -1 1 1 1 1 65535 65535 Abcdefghijklmnopq Xyz 127 65535 65535 39 39 0 0 65535 none (0:00) none 1",
+    ),
+    (
+        -128,
+        "<12> rnbqkbnr pppppppp -------- -------- -------- -------- PPPPPPPP RNBQKBNR W -1 1 1 1 1 65535 65535 Abcdefghijklmnopq Xyz -128 65535 65535 39 39 0 0 65535 none (0:00) none 1",
+    ),
+];
 
 #[test]
 fn shows_the_greatest_numbers(rt: HostRuntime) -> Result<(), Fail> {
@@ -60,22 +89,15 @@ fn shows_the_greatest_numbers(rt: HostRuntime) -> Result<(), Fail> {
     view.increment = 65_535;
     view.face.quiet = 65_535;
     view.face.number = 65_535;
-    for (relation, text) in [
-        (
-            127,
-            "<12> rnbqkbnr pppppppp -------- -------- -------- -------- PPPPPPPP RNBQKBNR W -1 1 1 1 1 65535 65535 Abcdefghijklmnopq Xyz 127 65535 65535 39 39 0 0 65535 none (0:00) none 1",
-        ),
-        (
-            -128,
-            "<12> rnbqkbnr pppppppp -------- -------- -------- -------- PPPPPPPP RNBQKBNR W -1 1 1 1 1 65535 65535 Abcdefghijklmnopq Xyz -128 65535 65535 39 39 0 0 65535 none (0:00) none 1",
-        ),
-    ] {
+    for (relation, text) in GREATEST {
         let viewer = Viewer {
-            relation,
+            relation: *relation,
             flip: true,
         };
-        let line = line_of(rt.alloc(), &view, viewer)?;
-        assert_eq!(rt; line.bytes(), text.as_bytes());
+        assert!(rt;
+            is_shown(rt.alloc(), &view, viewer, "", text)?,
+            "{relation}"
+        );
     }
     Ok(())
 }

@@ -1,8 +1,9 @@
 //! Aliases: what they make of lines, and how they are kept.
 
-use crate::commands::{read, read_rows};
+use crate::commands::{is_read_as, read_rows, tens};
 use command_words::Aliases;
 use fics_words::{Fail as Failed, Refusal};
+use std::alloc::Global;
 use std::test::Fail;
 
 /// The aliases of a player: a name and a text in each row.
@@ -53,31 +54,49 @@ flag now|refused 28
 blank|quit
 abcdefghijklmno|resign";
 
+/// Makes a name stand for a text. It ensures nothing, so that nothing above it is proved over what that does.
+fn set(aliases: &mut Aliases, name: &[u8], text: &[u8]) -> Result<(), Failed> {
+    aliases.set(name, text)
+}
+
+/// The first of these rows, each a name and a text, that isn't answered so, if one isn't.
+fn first_otherwise<'a>(
+    aliases: &mut Aliases,
+    rows: &'a str,
+    answer: Result<(), Failed>,
+) -> Option<&'a str> {
+    for row in rows.lines() {
+        let Some((name, text)) = row.split_once('|') else {
+            return Some(row);
+        };
+        if set(aliases, name.as_bytes(), text.as_bytes()) != answer {
+            return Some(row);
+        }
+    }
+    None
+}
+
 #[test]
 fn aliases_are_expanded_once(rt: HostRuntime) -> Result<(), Fail> {
     let mut aliases = Aliases::new(rt.alloc());
-    for row in ALIASES.lines() {
-        let (name, text) = row.split_once('|').ok_or("a name and a text")?;
-        let set = aliases.set(name.as_bytes(), text.as_bytes());
-        assert_eq!(rt; set, Ok(()), "{name}");
-    }
+    assert!(rt; first_otherwise(&mut aliases, ALIASES, Ok(())).is_none());
     read_rows(&rt, rt.alloc(), EXPANDED, &aliases)
 }
 
 #[test]
 fn a_line_after_its_alias_has_1023_bytes_at_most(rt: HostRuntime) -> Result<(), Fail> {
     let mut aliases = Aliases::new(rt.alloc());
-    assert_eq!(rt; aliases.set(b"l", b"register $@$@"), Ok(()));
-    let mut line = String::new(rt.alloc());
-    line.push_str("l sevenxx")?;
-    line.push_str("ten bytes.".repeat(rt.alloc(), 50)?.as_str())?;
+    assert!(rt; set(&mut aliases, b"l", b"register $@$@") == Ok(()));
     // 9 bytes and twice 507: the line isn't too long, but no password is so long
-    let told = read(rt.alloc(), line.as_str(), &aliases)?;
-    assert_eq!(rt; told.as_slice(), b"refused 28".as_slice());
-    line.push('x')?;
-    let told = read(rt.alloc(), line.as_str(), &aliases)?;
-    assert_eq!(rt; told.as_slice(), b"refused 29".as_slice());
+    assert!(rt; are_read_as(rt.alloc(), &aliases, "l sevenxx", b"refused 28")?);
+    assert!(rt; are_read_as(rt.alloc(), &aliases, "l sevenxxx", b"refused 29")?);
     Ok(())
+}
+
+/// Whether 500 bytes behind this front are read as that.
+fn are_read_as(alloc: Global, aliases: &Aliases, front: &str, wanted: &[u8]) -> Result<bool, Fail> {
+    let line = tens(alloc, front, 50)?;
+    is_read_as(alloc, aliases, line.as_str(), wanted)
 }
 
 /// Names and texts that make no alias.
@@ -90,29 +109,46 @@ a b|flag
 go|
 go|a\tb";
 
+/// The most aliases that a player has: 26 names of a letter, and six of two.
+const THIRTY_TWO: &str = "\
+a|quit\nb|quit\nc|quit\nd|quit\ne|quit\nf|quit\ng|quit\nh|quit\ni|quit\nj|quit\nk|quit\nl|quit\nm|quit
+n|quit\no|quit\np|quit\nq|quit\nr|quit\ns|quit\nt|quit\nu|quit\nv|quit\nw|quit\nx|quit\ny|quit\nz|quit
+xa|quit\nxb|quit\nxc|quit\nxd|quit\nxe|quit\nxf|quit";
+
+/// Makes a name stand for nothing.
+fn unset(aliases: &mut Aliases, name: &[u8]) -> Result<(), Refusal> {
+    aliases.unset(name)
+}
+
+/// Whether a name stands for this text.
+fn stands_for(aliases: &Aliases, name: &[u8], text: &[u8]) -> bool {
+    match aliases.get(name) {
+        Some(alias) => alias.text.bytes() == text,
+        None => false,
+    }
+}
+
+fn is_none(aliases: &Aliases, name: &[u8]) -> bool {
+    aliases.get(name).is_none()
+}
+
+/// Whether a full list takes no other name, but takes a name that it has, or one in place of another.
+fn is_full(aliases: &mut Aliases) -> bool {
+    set(aliases, b"more", b"quit") == Err(Failed::Refused(Refusal::ListFull))
+        && set(aliases, b"xf", b"flag") == Ok(())
+        && unset(aliases, b"more") == Err(Refusal::NotOnList)
+        && unset(aliases, b"a") == Ok(())
+        && set(aliases, b"more", b"quit") == Ok(())
+}
+
 #[test]
 fn a_player_has_32_aliases_at_most(rt: HostRuntime) -> Result<(), Fail> {
     let mut aliases = Aliases::new(rt.alloc());
-    for row in REFUSED.lines() {
-        let (name, text) = row.split_once('|').ok_or("a name and a text")?;
-        let set = aliases.set(name.as_bytes(), text.as_bytes());
-        assert_eq!(rt; set, Err(Failed::Refused(Refusal::BadArguments)), "{row}");
-    }
-    for letter in b'a'..=b'z' {
-        assert_eq!(rt; aliases.set(&[letter], b"quit"), Ok(()));
-    }
-    for letter in b'a'..=b'f' {
-        assert_eq!(rt; aliases.set(&[b'x', letter], b"quit"), Ok(()));
-    }
-    let full = Err(Failed::Refused(Refusal::ListFull));
-    assert_eq!(rt; aliases.set(b"more", b"quit"), full);
-    // one that is there is replaced
-    assert_eq!(rt; aliases.set(b"xf", b"flag"), Ok(()));
-    assert_eq!(rt; aliases.unset(b"more"), Err(Refusal::NotOnList));
-    assert_eq!(rt; aliases.unset(b"a"), Ok(()));
-    assert_eq!(rt; aliases.set(b"more", b"quit"), Ok(()));
-    let text = aliases.get(b"xf").ok_or("an alias")?.text.bytes();
-    assert_eq!(rt; text, b"flag".as_slice());
-    assert!(rt; aliases.get(b"XF").is_none());
+    let bad = Err(Failed::Refused(Refusal::BadArguments));
+    assert!(rt; first_otherwise(&mut aliases, REFUSED, bad).is_none());
+    assert!(rt; first_otherwise(&mut aliases, THIRTY_TWO, Ok(())).is_none());
+    assert!(rt; is_full(&mut aliases));
+    assert!(rt; stands_for(&aliases, b"xf", b"flag"));
+    assert!(rt; is_none(&aliases, b"XF"));
     Ok(())
 }

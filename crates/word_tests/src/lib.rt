@@ -9,6 +9,12 @@ mod commands;
 #[cfg(test)]
 mod links;
 #[cfg(test)]
+mod lists;
+#[cfg(test)]
 mod logins;
 #[cfg(test)]
+mod offers;
+#[cfg(test)]
 mod spellings;
+#[cfg(test)]
+mod watching;

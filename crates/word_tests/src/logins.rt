@@ -2,6 +2,7 @@
 
 use fics_words::{Digest, Fail as Refused, Handle, HandleKey, Refusal};
 use login_handles::{Accounts, Check, digest_of, guest_name};
+use std::alloc::Global;
 use std::process::Abort;
 use std::test::Fail;
 
@@ -31,65 +32,108 @@ fn is_written(digest: &Digest, text: &[u8]) -> bool {
 fn digests_are_those_of_the_standard(rt: HostRuntime) -> Result<(), Fail> {
     let abc = b"ba7816bf8f01cfea414140de5dae2223b00361a396177a9cb410ff61f20015ad";
     let none = b"e3b0c44298fc1c149afbf4c8996fb92427ae41e4649b934ca495991b7852b855";
-    assert!(rt; is_written(&digest_of(b"abc"), abc));
-    assert!(rt; is_written(&digest_of(b""), none));
-    assert!(rt; !is_written(&digest_of(b"abd"), abc));
+    assert!(rt; is_written(&digest(b"abc"), abc));
+    assert!(rt; is_written(&digest(b""), none));
+    assert!(rt; !is_written(&digest(b"abd"), abc));
     Ok(())
 }
+
+/// What a login under a name with a password is met by. It ensures nothing, so that nothing above it is proved over
+/// what is checked.
+fn check(accounts: &Accounts, name: HandleKey, digest: Option<Digest>) -> Check {
+    accounts.check(name, digest)
+}
+
+/// A name, a password if there is one, and what a login with them is met by.
+struct Row(&'static [u8], Option<&'static [u8]>, Check);
+
+/// The first row that is met otherwise, if one is.
+fn first_wrong(rt: &impl Abort, accounts: &Accounts, rows: &[Row]) -> Option<usize> {
+    for (place, row) in rows.iter().enumerate() {
+        let digest = match row.1 {
+            Some(password) => Some(digest(password)),
+            None => None,
+        };
+        if check(accounts, key(rt, row.0), digest) != row.2 {
+            return Some(place);
+        }
+    }
+    None
+}
+
+/// The digest of a password.
+fn digest(password: &[u8]) -> Digest {
+    digest_of(password)
+}
+
+fn add(
+    rt: &impl Abort,
+    accounts: &mut Accounts,
+    name: &[u8],
+    password: &[u8],
+) -> Result<(), Refused> {
+    let name = Handle::read(name).expect(rt, "a handle");
+    accounts.add(name, digest(password))
+}
+
+/// Whether there is one account, of this name.
+fn is_alone(accounts: &Accounts, name: &[u8]) -> bool {
+    match accounts.rows() {
+        [account] => account.name.letters() == name,
+        _ => false,
+    }
+}
+
+const BEFORE: &[Row] = &[
+    Row(b"ann", None, Check::Free),
+    Row(b"ann", Some(b"abc"), Check::Free),
+];
+
+const AFTER: &[Row] = &[
+    Row(b"ANN", None, Check::NeedPassword),
+    Row(b"ann", Some(b"abd"), Check::Wrong),
+    Row(b"aNn", Some(b"abc"), Check::Right),
+    Row(b"anna", None, Check::Free),
+];
 
 #[test]
 fn an_account_guards_its_handle(rt: HostRuntime) -> Result<(), Fail> {
     let mut accounts = Accounts::new(rt.alloc());
-    let ann = Handle::read(b"Ann").expect(&rt, "a handle");
-    assert_eq!(rt; accounts.check(key(&rt, b"ann"), None), Check::Free);
-    assert_eq!(rt;
-        accounts.check(key(&rt, b"ann"), Some(digest_of(b"abc"))),
-        Check::Free
-    );
-    assert_eq!(rt; accounts.add(ann, digest_of(b"abc")), Ok(()));
-    assert_eq!(rt; accounts.check(key(&rt, b"ANN"), None), Check::NeedPassword);
-    assert_eq!(rt;
-        accounts.check(key(&rt, b"ann"), Some(digest_of(b"abd"))),
-        Check::Wrong
-    );
-    assert_eq!(rt;
-        accounts.check(key(&rt, b"aNn"), Some(digest_of(b"abc"))),
-        Check::Right
-    );
-    assert_eq!(rt; accounts.check(key(&rt, b"anna"), None), Check::Free);
-    let twice = accounts.add(
-        Handle::read(b"aNN").expect(&rt, "a handle"),
-        digest_of(b"x y "),
-    );
-    assert_eq!(rt; twice, Err(Refused::Refused(Refusal::AlreadyRegistered)));
-    assert_eq!(rt; accounts.rows().len(), 1);
-    assert_eq!(rt; accounts.rows()[0].name.letters(), b"Ann".as_slice());
+    assert_eq!(rt; first_wrong(&rt, &accounts, BEFORE), None);
+    assert!(rt; add(&rt, &mut accounts, b"Ann", b"abc") == Ok(()));
+    assert_eq!(rt; first_wrong(&rt, &accounts, AFTER), None);
+    let twice = add(&rt, &mut accounts, b"aNN", b"x y ");
+    assert!(rt; twice == Err(Refused::Refused(Refusal::AlreadyRegistered)));
+    assert!(rt; is_alone(&accounts, b"Ann"));
     Ok(())
+}
+
+/// Names that are taken, and the name of the next guest. In the fourth row the first guest has left, and its name is
+/// free again.
+const GUESTS: &[(&[&[u8]], &[u8])] = &[
+    (&[], b"GuestAAAA"),
+    (&[b"Ann", b"GuestAAAA"], b"GuestAAAB"),
+    (&[b"guestaaab", b"GuestAAAA"], b"GuestAAAC"),
+    (&[b"guestaaab", b"GUESTAAAC"], b"GuestAAAA"),
+    (&[b"GUESTAAAC", b"GuestAAAA"], b"GuestAAAB"),
+];
+
+/// Whether the next guest gets this name.
+fn is_next(alloc: Global, rt: &impl Abort, taken: &[&[u8]], name: &[u8]) -> Result<bool, Fail> {
+    let mut keys = Vec::new(alloc);
+    for letters in taken {
+        keys.push(key(rt, letters))?;
+    }
+    if keys.len() > 2 {
+        return Ok(false);
+    }
+    Ok(guest_name(keys.as_slice()).letters() == name)
 }
 
 #[test]
 fn a_guest_has_the_least_free_name(rt: HostRuntime) -> Result<(), Fail> {
-    let first = key(&rt, b"GuestAAAA");
-    let second = key(&rt, b"guestaaab");
-    let third = key(&rt, b"GUESTAAAC");
-    let other = key(&rt, b"Ann");
-    assert_eq!(rt; guest_name(&[]).letters(), b"GuestAAAA".as_slice());
-    assert_eq!(rt;
-        guest_name(&[other, first]).letters(),
-        b"GuestAAAB".as_slice()
-    );
-    assert_eq!(rt;
-        guest_name(&[second, first]).letters(),
-        b"GuestAAAC".as_slice()
-    );
-    // the first guest has left: its name is free again
-    assert_eq!(rt;
-        guest_name(&[second, third]).letters(),
-        b"GuestAAAA".as_slice()
-    );
-    assert_eq!(rt;
-        guest_name(&[third, first]).letters(),
-        b"GuestAAAB".as_slice()
-    );
+    for (place, (taken, name)) in GUESTS.iter().enumerate() {
+        assert!(rt; is_next(rt.alloc(), &rt, taken, name)?, "row {place}");
+    }
     Ok(())
 }
