@@ -124,7 +124,7 @@ struct Served {
 }
 
 /// Serves the door of a row to its end.
-fn served<T: Threads + Wait + Sync>(rt: &T, alloc: Global, row: &Row) -> Result<Served, Fail> {
+fn serve_row<T: Threads + Wait + Sync>(rt: &T, alloc: Global, row: &Row) -> Result<Served, Fail> {
     let mut door = MemDoor::new(
         two_guests(alloc, row.link)?,
         Vec::from_slice(alloc, row.door)?,
@@ -154,7 +154,7 @@ fn is_as_said(served: &Served, row: &Row) -> bool {
 #[test]
 fn links_come_back_served(rt: HostRuntime) -> Result<(), Fail> {
     for (place, row) in ROWS.iter().enumerate() {
-        let served = served(&rt, rt.alloc(), row)?;
+        let served = serve_row(&rt, rt.alloc(), row)?;
         assert!(rt; is_as_said(&served, row), "row {place}");
     }
     Ok(())
