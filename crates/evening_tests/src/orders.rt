@@ -117,7 +117,7 @@ fn number(draws: &mut Draws) -> Option<u64> {
     if draws.below(3) == 0 {
         return None;
     }
-    Some(1 + draws.below(20))
+    Some(draws.below(20).saturating_add(1))
 }
 
 fn either_list(draws: &mut Draws) -> Names {
