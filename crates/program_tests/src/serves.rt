@@ -28,7 +28,8 @@ struct Row {
     status: u8,
     text: &'static [u8],
     desks: Option<usize>,
-    last: [Option<&'static [u8]>; 2],
+    first: Option<&'static [u8]>,
+    second: Option<&'static [u8]>,
 }
 
 const ROWS: &[Row] = &[
@@ -39,7 +40,8 @@ const ROWS: &[Row] = &[
         status: 0,
         text: b"ready\nclosed\n",
         desks: Some(128),
-        last: [Some(FAREWELL), Some(FAREWELL)],
+        first: Some(FAREWELL),
+        second: Some(FAREWELL),
     },
     Row {
         words: &["board"],
@@ -48,7 +50,8 @@ const ROWS: &[Row] = &[
         status: 1,
         text: USAGE,
         desks: None,
-        last: [None, None],
+        first: None,
+        second: None,
     },
     Row {
         words: &["serve"],
@@ -57,7 +60,8 @@ const ROWS: &[Row] = &[
         status: 1,
         text: USAGE,
         desks: None,
-        last: [None, None],
+        first: None,
+        second: None,
     },
     Row {
         words: &SERVE,
@@ -66,7 +70,8 @@ const ROWS: &[Row] = &[
         status: 8,
         text: b"ready\nclosed\n",
         desks: Some(128),
-        last: [Some(FAREWELL), None],
+        first: Some(FAREWELL),
+        second: None,
     },
     Row {
         words: &SERVE,
@@ -75,7 +80,8 @@ const ROWS: &[Row] = &[
         status: 3,
         text: b"",
         desks: Some(128),
-        last: [None, None],
+        first: None,
+        second: None,
     },
     Row {
         words: &SERVE,
@@ -84,7 +90,8 @@ const ROWS: &[Row] = &[
         status: 3,
         text: b"ready\n",
         desks: Some(128),
-        last: [Some(FAREWELL), Some(FAREWELL)],
+        first: Some(FAREWELL),
+        second: Some(FAREWELL),
     },
 ];
 
@@ -169,8 +176,8 @@ fn is_as_said(served: &Served, row: &Row) -> bool {
     served.status == row.status
         && served.sink.written() == row.text
         && served.desks == row.desks
-        && is_sent(&served.door, 1, row.last[0])
-        && is_sent(&served.door, 2, row.last[1])
+        && is_sent(&served.door, 1, row.first)
+        && is_sent(&served.door, 2, row.second)
 }
 
 #[test]

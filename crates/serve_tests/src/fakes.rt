@@ -61,7 +61,8 @@ struct Row {
     link: &'static [u64],
     end: ServeEnd,
     text: &'static [u8],
-    last: [Option<&'static [u8]>; 2],
+    first: Option<&'static [u8]>,
+    second: Option<&'static [u8]>,
 }
 
 const ROWS: &[Row] = &[
@@ -71,7 +72,8 @@ const ROWS: &[Row] = &[
         link: &[],
         end: ServeEnd::Done,
         text: b"ready\nclosed\n",
-        last: [Some(FAREWELL), Some(FAREWELL)],
+        first: Some(FAREWELL),
+        second: Some(FAREWELL),
     },
     Row {
         door: &[0],
@@ -79,7 +81,8 @@ const ROWS: &[Row] = &[
         link: &[],
         end: ServeEnd::DoorFault,
         text: b"ready\nclosed\n",
-        last: [None, None],
+        first: None,
+        second: None,
     },
     Row {
         door: &[1],
@@ -87,7 +90,8 @@ const ROWS: &[Row] = &[
         link: &[],
         end: ServeEnd::DoorFault,
         text: b"ready\nclosed\n",
-        last: [Some(FAREWELL), None],
+        first: Some(FAREWELL),
+        second: None,
     },
     Row {
         door: &[],
@@ -95,7 +99,8 @@ const ROWS: &[Row] = &[
         link: &[],
         end: ServeEnd::WriteFault,
         text: b"",
-        last: [None, None],
+        first: None,
+        second: None,
     },
     Row {
         door: &[],
@@ -103,7 +108,8 @@ const ROWS: &[Row] = &[
         link: &[],
         end: ServeEnd::WriteFault,
         text: b"ready\n",
-        last: [Some(FAREWELL), Some(FAREWELL)],
+        first: Some(FAREWELL),
+        second: Some(FAREWELL),
     },
     Row {
         door: &[],
@@ -111,7 +117,8 @@ const ROWS: &[Row] = &[
         link: &[0],
         end: ServeEnd::Done,
         text: b"ready\nclosed\n",
-        last: [Some(b""), Some(FAREWELL)],
+        first: Some(b""),
+        second: Some(FAREWELL),
     },
 ];
 
@@ -147,8 +154,8 @@ fn is_sent(door: &MemDoor, number: u64, last: Option<&[u8]>) -> bool {
 fn is_as_said(served: &Served, row: &Row) -> bool {
     served.end == row.end
         && served.sink.written() == row.text
-        && is_sent(&served.door, 1, row.last[0])
-        && is_sent(&served.door, 2, row.last[1])
+        && is_sent(&served.door, 1, row.first)
+        && is_sent(&served.door, 2, row.second)
 }
 
 #[test]
