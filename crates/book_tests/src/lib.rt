@@ -1,8 +1,11 @@
-//! Tests of the lists that players keep of one another: partners, offers at a desk, channels, names and waiting lines.
+//! Tests of the lists that players keep of one another: partners, offers at a desk, channels,
+//! names and waiting lines, and of the feed of a game.
 #![tactic(auto)]
 
 #[cfg(test)]
 mod channels;
+#[cfg(test)]
+mod feeds;
 #[cfg(test)]
 mod offers;
 #[cfg(test)]

@@ -5,9 +5,15 @@
 #[cfg(test)]
 mod finished;
 #[cfg(test)]
+mod four;
+#[cfg(test)]
 mod hands;
 #[cfg(test)]
 mod offers;
+#[cfg(test)]
+mod pair_ends;
+#[cfg(test)]
+mod pair_hands;
 #[cfg(test)]
 mod played;
 #[cfg(test)]

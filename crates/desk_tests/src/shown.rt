@@ -50,32 +50,61 @@ pub fn ends_with_end(
     session: u32,
     text: &str,
 ) -> Result<bool, NoMemory> {
-    let Some(
-        Item::End {
-            view,
-            why,
-            winner,
-            own,
-        },
-    ) = desk.ahead(session).last()
+    let items = desk.ahead(session);
+    match items.last() {
+        Some(item) => is_end(alloc, item, text.as_bytes()),
+        None => Ok(false),
+    }
+}
+
+/// Whether an item is an end, with a winner exactly where somebody won, and is told by that line.
+fn is_end(alloc: Global, item: &Item, text: &[u8]) -> Result<bool, NoMemory> {
+    let Item::End {
+        view,
+        why,
+        winner,
+        own,
+    } = item
     else {
         return Ok(false);
     };
     if winner.is_some() != is_decisive(*why) {
         return Ok(false);
     }
-    Ok(end_line(alloc, view, *why, *winner, *own)?.bytes() == text.as_bytes())
+    Ok(end_line(alloc, view, *why, *winner, *own)?.bytes() == text)
 }
 
 /// The place of the first item that a session hasn't been given and that isn't told by its row, if one isn't. A row is
-/// the holdings line as it is written, or `board`, `talk` or `end`.
+/// the holdings line or the line of an end as it is written, or `board`, `board` with the number of its game, `talk` or
+/// `end`.
 pub fn first_told_otherwise(
     alloc: Global,
     desk: &Desk,
     session: u32,
     rows: &[&str],
 ) -> Result<Option<usize>, NoMemory> {
+    first_otherwise(alloc, desk.ahead(session), rows)
+}
+
+/// The same of the last items alone, as many as there are rows.
+pub fn last_told_otherwise(
+    alloc: Global,
+    desk: &Desk,
+    session: u32,
+    rows: &[&str],
+) -> Result<Option<usize>, NoMemory> {
     let items = desk.ahead(session);
+    if items.len() < rows.len() {
+        return Ok(Some(items.len()));
+    }
+    first_otherwise(alloc, &items[items.len() - rows.len()..], rows)
+}
+
+fn first_otherwise(
+    alloc: Global,
+    items: &[Item],
+    rows: &[&str],
+) -> Result<Option<usize>, NoMemory> {
     for (place, item) in items.iter().enumerate() {
         let Some(row) = rows.get(place) else {
             return Ok(Some(place));
@@ -94,14 +123,23 @@ pub fn first_told_otherwise(
 fn is_told(alloc: Global, item: &Item, row: &str) -> Result<bool, NoMemory> {
     let row = row.as_bytes();
     match item {
-        Item::Board(_) => Ok(row == b"board".as_slice()),
+        Item::Board(view) => Ok(row == b"board".as_slice() || row == board_row(view.game)),
         Item::Talk(_) => Ok(row == b"talk".as_slice()),
-        Item::End { .. } => Ok(row == b"end".as_slice()),
+        Item::End { .. } => Ok(row == b"end".as_slice() || is_end(alloc, item, row)?),
         Item::Hold {
             game,
             white,
             black,
             came,
         } => Ok(line_b1(alloc, *game, white, black, *came)?.bytes() == row),
+    }
+}
+
+/// The row of a board with the number of its game.
+fn board_row(game: u16) -> &'static [u8] {
+    match game {
+        1 => b"board 1",
+        2 => b"board 2",
+        _ => b"",
     }
 }

@@ -1,5 +1,5 @@
 //! A desk with two players, and steps at it, each with what it has to be given.
-ghost use Rattle.std.specs.Prelude.{◌≡◌, ◌≢◌, IfSome, length};
+ghost use Rattle.std.specs.Prelude.{◌≡◌, IfSome, length};
 ghost use Rattle.clock_ledger.specs.Span.{IsStamp};
 ghost use Rattle.linked_desk.specs.Acts.{FitsDeskAct};
 ghost use Rattle.linked_desk.specs.Boards.{board_numbers};
@@ -51,7 +51,7 @@ pub enum Given {
 #[derive(Clone, Copy)]
 pub struct Step(pub u32, pub u32, pub Does, pub Given);
 
-fn player(rt: &impl Abort, session: u32, name: &str) -> Player {
+pub fn player(rt: &impl Abort, session: u32, name: &str) -> Player {
     Player {
         session,
         name: Handle::read(name.as_bytes()).expect(rt, "a handle"),
@@ -71,7 +71,6 @@ pub fn desk_with_house(rt: &impl Abort, alloc: Global) -> Desk {
 
 fn desk_with(rt: &impl Abort, alloc: Global, minutes: u16, increment: u16, variant: Variant) -> Desk
     requires pairs { length (board_numbers variant) ≡ 1 }
-    requires one_board { variant ≢ Variant.Bughouse }
 {
     let mut desk = Desk::vacant(1);
     let white = player(rt, ANN, "Ann");

@@ -249,6 +249,11 @@ allowed_unless : (refused : Option Refusal) (p : Position) (word : MoveWord) (m 
 allowed_unless None p word m e = allowed_in p word (word_answer p word) m (word_answer-holds p word) e
 allowed_unless (Some cause) p word m e = absurd cc
 
+-- so a word that is played stands for an allowed half-move
+pub allowed_by_answer : (b : Board) (c : Colour) (word : MoveWord) (m : Move) → move_answer b c word ≡ Ok m → Allowed (position_of b) m
+unfolding move_answer
+allowed_by_answer b c word m e = allowed_unless (move_refused b c) (position_of b) word m e
+
 played_true : (b : Board) (moment : ℕ) (stamp : Option ℕ) (answer : Result Move Refusal) → IsTrueScore b → b.begin ≤ moment → IfSome stamp IsStamp → ((m : Move) → answer ≡ Ok m → Allowed (position_of b) m) →
     IsTrueScore (play_after b moment stamp answer)
 played_true b moment stamp (Ok m) s order stamped allowed = IsTrueScore-with_half_move b m moment stamp s order stamped (allowed m refl)
@@ -256,9 +261,8 @@ played_true b moment stamp (Err cause) s order stamped allowed = s
 
 pub IsTrueScore-play_after : (b : Board) (c : Colour) (word : MoveWord) (moment : ℕ) (stamp : Option ℕ) → IsTrueScore b → b.begin ≤ moment → IfSome stamp IsStamp →
     IsTrueScore (play_after b moment stamp (move_answer b c word))
-unfolding move_answer
 IsTrueScore-play_after b c word moment stamp s order stamped =
-    played_true b moment stamp (move_answer b c word) s order stamped (λ m e. allowed_unless (move_refused b c) (position_of b) word m e)
+    played_true b moment stamp (move_answer b c word) s order stamped (λ m e. allowed_by_answer b c word m e)
 
 -- an acknowledgement changes nothing of the score but what is kept
 IsTrueScore-kept : (b : Board) (stamp : ℕ) → IsTrueScore b → IsStamp stamp → IsTrueScore (record b { kept = Some stamp })

@@ -1,4 +1,4 @@
-ghost use Rattle.std.specs.Prelude.{◌≡◌, Option, ◌<◌, ◌≤◌, ◌^◌, IfOk, OnOk, OnErr, IfSome, option_and_then};
+ghost use Rattle.std.specs.Prelude.{◌≡◌, ◌≢◌, Option, ◌<◌, ◌≤◌, ◌^◌, IfOk, OnOk, OnErr, IfSome, length, option_and_then};
 ghost use Rattle.clock_ledger.specs.declared.charges.Charge.{Charge};
 ghost use Rattle.clock_ledger.specs.Charges.{IsChargeable};
 ghost use Rattle.clock_ledger.specs.Span.{IsStamp};
@@ -64,7 +64,7 @@ impl Model for GameBoard {
 
 impl GameBoard {
     ghost use Rattle.game_board.specs.Acked.{acknowledged};
-    ghost use Rattle.game_board.specs.Board.{new_board, to_move, position_of, has_moved};
+    ghost use Rattle.game_board.specs.Board.{half_moves, new_board, to_move, position_of, has_moved};
     ghost use Rattle.game_board.specs.BoardFace.{board_face, last_played, last_shown, last_taken};
     ghost use Rattle.game_board.specs.Charges.{clock_of, is_timed};
     ghost use Rattle.game_board.specs.Play.{captured, move_answer, next_charge, with_half_move, play_reply, play_after};
@@ -114,10 +114,13 @@ impl GameBoard {
         self.terms
     }
 
-    /// The half-moves from the start, with their charges. Each was allowed after those before it.
+    /// The half-moves from the start, with their charges. Each was allowed after those before it, of both boards of a
+    /// pair; but in bughouse there are no others.
     pub fn list(&self) -> &[Played]
         ensures list { result.now ≡ self.now.list }
         ensures legal { IsLegal self.now.terms.variant self.now.all }
+        ensures alone { self.now.terms.variant ≢ Variant.Bughouse → self.now.all
+            ≡ half_moves self.now.number self.now.list }
     {
         self.list.as_slice()
     }
@@ -244,12 +247,14 @@ impl GameBoard {
         })
     }
 
-    /// The half-move that a word of a colour stands for now, or the refusal.
+    /// The half-move that a word of a colour stands for now. Refuses with `NotYourTurn`, then `TooManyMoves` at 1,200
+    /// half-moves, then as the rules answer the word.
     #[tactic(auto, unfolding(crate::specs::Play::move_answer))]
-    fn resolve(&self, colour: Colour, word: &MoveWord) -> Result<Move, Refusal>
+    pub fn resolve(&self, colour: Colour, word: &MoveWord) -> Result<Move, Refusal>
         ensures answer { result ≡ move_answer self.now colour word.now }
         ensures allowed { IfOk result (Allowed (position_of self.now)) }
         ensures room { OnOk result (self.now.played < 1200) }
+        ensures short { OnOk result (length self.now.list < 1200) }
     {
         if !self.is_to_move(colour) {
             return Err(Refusal::NotYourTurn);
@@ -260,8 +265,9 @@ impl GameBoard {
         answer_of(self.position(), word)
     }
 
-    /// Makes an allowed half-move.
-    fn make(&mut self, what: &Move, moment: u64, stamp: Option<u32>) -> Option<Man>
+    /// Makes an allowed half-move at `moment`, with the client's stamp if there is one, as `play` does with the one that
+    /// its word stands for, and gives the man that it captures.
+    pub fn make(&mut self, what: &Move, moment: u64, stamp: Option<u32>) -> Option<Man>
         requires allowed { Allowed (position_of self.old) what.now }
         requires room { self.old.played < 1200 }
         requires order { self.old.begin ≤ moment }

@@ -1,5 +1,5 @@
 //! What the definitions mean for players, as calls that do nothing: what each ensures is the law.
-ghost use Rattle.std.specs.Prelude.{◌≡◌, ◌≢◌, ℕ, ◌<◌, ◌≤◌, ◌++◌, ◌∷◌, [], ◌↔◌, Ok, Err, Option, None, Some, IfSome};
+ghost use Rattle.std.specs.Prelude.{◌≡◌, ◌≢◌, ℕ, ◌<◌, ◌≤◌, ◌++◌, ◌∷◌, [], ◌↔◌, List, Ok, Err, Option, None, Some, IfSome};
 ghost use Rattle.std.specs.Option.{option_to_list};
 ghost use Rattle.chess_model.specs.declared.man.Colour.{Colour};
 ghost use Rattle.chess_model.specs.declared.moves.Move.{Move};
@@ -8,9 +8,11 @@ ghost use Rattle.chess_model.specs.declared.variant.Terms.{Terms};
 ghost use Rattle.chess_model.specs.Placement.{opposite};
 ghost use Rattle.chess_model.specs.Allowed.{Allowed};
 ghost use Rattle.chess_model.specs.Answer.{IsAnswer};
+ghost use Rattle.chess_model.specs.MoveList.{HalfMove};
 ghost use Rattle.clock_ledger.specs.Span.{IsStamp};
 ghost use Rattle.game_board.specs.Acked.{acknowledged};
 ghost use Rattle.game_board.specs.Board.{Board, new_board, to_move, mover_after, position_of};
+ghost use Rattle.game_board.specs.BoardFace.{before_own};
 ghost use Rattle.game_board.specs.Charges.{charges_of};
 ghost use Rattle.game_board.specs.Play.{move_answer, next_charge, play_after, with_half_move};
 ghost use Rattle.game_board.specs.Learn.{partner_position, learnt};
@@ -73,4 +75,13 @@ pub fn scores_are_true()
         → b.begin ≤ moment → IsTrueScore (take_back_after b n moment) }
     ensures learn { (b : Board) (m : Move) → b.terms.variant ≡ Variant.Bughouse → IsTrueScore b
         → Allowed (partner_position b) m → IsTrueScore (learnt b m) }
+{}
+
+/// What a board shows as its last half-move is its own last one, read in the position before it: what was made on the
+/// partner's board since then changes nothing of that.
+pub fn the_last_own_half_move_is_shown()
+    ensures own { (number : ℕ) (before : List HalfMove) (m : Move)
+        → before_own number (before ++ record { board = number; what = m } ∷ []) ≡ before }
+    ensures other { (number other : ℕ) (before : List HalfMove) (m : Move) → other ≢ number
+        → before_own number (before ++ record { board = other; what = m } ∷ []) ≡ before_own number before }
 {}

@@ -41,7 +41,7 @@ fn give(position: &mut Position, man: Option<Man>)
 }
 
 /// The kind as which a captured man is handed over: a promoted one is a pawn again.
-fn handed_over_as(man: Man) -> Kind
+pub fn handed_over_as(man: Man) -> Kind
     ensures { result ≡ handed_kind man }
 {
     if man.promoted { Kind::Pawn } else { man.kind }

@@ -3,7 +3,8 @@
 //! A `GameBoard` is seen as its list of half-moves, each with its charge, and the moment from which the player to
 //! move is thinking. It keeps a position and two clocks, so that no call grows with the game. The contract: `play`
 //! takes exactly the words that the rules of chess give a half-move, charges the thinking time to the clock of
-//! whoever moved, and changes nothing where it refuses; `flag` answers by the clocks with the running time counted.
+//! whoever moved, and changes nothing where it refuses; `flag` answers by the clocks with the running time counted; and
+//! `learn` hands over what is captured on the partner's board of a pair.
 #![tactic(auto)]
 
 mod board_face;
@@ -23,6 +24,7 @@ pub use clock_ledger::{Charge, ClockLedger};
 pub use game_board::{GameBoard, MOST_PLAYED};
 pub use laws::{
     charges_follow_the_list, play_takes_exactly_the_answers, scores_are_true,
-    the_last_acknowledgement_counts,
+    the_last_acknowledgement_counts, the_last_own_half_move_is_shown,
 };
+pub use learn::handed_over_as;
 pub use played::Played;

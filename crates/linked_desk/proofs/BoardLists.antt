@@ -1,10 +1,11 @@
 -- What a change of one board leaves of the boards.
-use Rattle.std.proofs.Common.{◌≡◌, ℕ, ◌≤◌, zero, suc, max, List, [], ◌∷◌, map, length, All, Option, Some, None, refl, ap, sym, subst, ◌∙◌, arith}
+use Rattle.std.proofs.Common.{◌≡◌, ◌≢◌, ℕ, ◌≤◌, zero, suc, max, List, [], ◌∷◌, map, length, All, Option, Some, None, refl, ap, sym, subst, ◌∙◌, arith}
 use Rattle.std.specs.Prelude.{slice_get}
 use Rattle.std.specs.Option.{option_map}
 use Rattle.std.proofs.lemmas.List.Elements.{All-cons, All-drop}
 use Rattle.game_board.specs.Board.{Board}
 use Rattle.linked_desk.specs.Boards.{latest, set_board, changed_at}
+use Rattle.linked_desk.specs.Sound.{AreSame}
 
 -- a board that stands in a place has what each board has
 pub All-at : {X : Type 0} (P : X → Type 0) (xs : List X) (k : ℕ) (x : X) → All P xs → slice_get xs k ≡ Some x → P x
@@ -38,14 +39,14 @@ latest-changed_at (b ∷ boards) (suc k) moment change early h =
     ap latest (changed_at-cons b boards k change) in
     omega arith
 
--- the boards have the numbers that they had
-pub numbers-changed_at : (boards : List Board) (k : ℕ) (change : Board → Board) → ((b : Board) → (change b).number ≡ b.number) →
-    map (λ (b : Board). b.number) (changed_at boards k change) ≡ map (λ (b : Board). b.number) boards
-numbers-changed_at [] k change same = refl
-numbers-changed_at (b ∷ boards) zero change same = ap (λ n. n ∷ map (λ (c : Board). c.number) boards) (same b)
-numbers-changed_at (b ∷ boards) (suc k) change same =
-    ap (map (λ (c : Board). c.number)) (changed_at-cons b boards k change)
-    ∙ ap (λ ns. b.number ∷ ns) (numbers-changed_at boards k change same)
+-- the boards have what the change keeps of each, as their numbers
+pub map-changed_at : {X : Type 0} (of : Board → X) (boards : List Board) (k : ℕ) (change : Board → Board) → ((b : Board) → of (change b) ≡ of b) →
+    map of (changed_at boards k change) ≡ map of boards
+map-changed_at of [] k change same = refl
+map-changed_at of (b ∷ boards) zero change same = ap (λ x. x ∷ map of boards) (same b)
+map-changed_at of (b ∷ boards) (suc k) change same =
+    ap (map of) (changed_at-cons b boards k change)
+    ∙ ap (λ xs. of b ∷ xs) (map-changed_at of boards k change same)
 
 -- and what each board had, where the change keeps it
 pub All-changed_at : (P : Board → Type 0) (boards : List Board) (k : ℕ) (change : Board → Board) →
@@ -64,3 +65,26 @@ length-changed_at (b ∷ boards) zero change = refl
 length-changed_at (b ∷ boards) (suc k) change =
     ap length (changed_at-cons b boards k change)
     ∙ ap suc (length-changed_at boards k change)
+
+-- the boards in the other places stand as they stood
+pub else-changed_at : (boards : List Board) (k j : ℕ) (change : Board → Board) → j ≢ k → slice_get (changed_at boards k change) j ≡ slice_get boards j
+else-changed_at [] k j change differ = refl
+else-changed_at (b ∷ boards) zero zero change differ = absurd (differ refl)
+else-changed_at (b ∷ boards) zero (suc j) change differ = refl
+else-changed_at (b ∷ boards) (suc k) zero change differ = ap (λ (bs : List Board). slice_get bs 0) (changed_at-cons b boards k change)
+else-changed_at (b ∷ boards) (suc k) (suc j) change differ =
+    ap (λ (bs : List Board). slice_get bs (suc j)) (changed_at-cons b boards k change)
+    ∙ else-changed_at boards k j change (λ e. differ (ap suc e))
+
+-- and all of them where the change changes nothing
+pub nothing-changed_at : (boards : List Board) (k : ℕ) → changed_at boards k (λ b. b) ≡ boards
+nothing-changed_at [] k = refl
+nothing-changed_at (b ∷ boards) zero = refl
+nothing-changed_at (b ∷ boards) (suc k) = changed_at-cons b boards k (λ c. c) ∙ ap (λ (bs : List Board). b ∷ bs) (nothing-changed_at boards k)
+
+-- two items of a list whose items are the same
+pub AreSame-at : {X : Type 0} (xs : List X) (i j : ℕ) (x y : X) → AreSame xs → slice_get xs i ≡ Some x → slice_get xs j ≡ Some y → x ≡ y
+AreSame-at [] i j x y same e f = absurd cc
+AreSame-at (z ∷ zs) i j x y same e f =
+    let all : All (λ w. w ≡ z) (z ∷ zs) = All-cons (λ w. w ≡ z) z zs refl same in
+    All-at (λ w. w ≡ z) (z ∷ zs) i x all e ∙ sym (All-at (λ w. w ≡ z) (z ∷ zs) j y all f)

@@ -1,11 +1,10 @@
 -- A half-move clears offers, whatever it brings.
 use Rattle.std.proofs.Common.{◌≡◌, ℕ, Option, Some, None, Result, refl, sym, subst, ◌∙◌}
-use Rattle.std.specs.Prelude.{slice_get, List}
+use Rattle.std.specs.Prelude.{slice_get}
 use Rattle.chess_model.specs.declared.man.Man.{Man}
 use Rattle.chess_model.specs.declared.moves.Move.{Move}
 use Rattle.chess_model.specs.declared.moves.MoveWord.{MoveWord}
 use Rattle.fics_words.specs.declared.refusal.Refusal.{Refusal}
-use Rattle.offer_book.specs.declared.offer.Standing.{Standing}
 use Rattle.offer_book.specs.Laws.{ClearsForTheMove}
 use Rattle.offer_book.specs.Offers.{OfferBook, after_half_move}
 use Rattle.offer_book.proofs.Meaning.{clears_for_the_move}
@@ -15,7 +14,7 @@ use Rattle.linked_desk.specs.declared.ended.Ended.{Ended}
 use Rattle.linked_desk.specs.Boards.{reply_at}
 use Rattle.linked_desk.specs.Desk.{GameState}
 use Rattle.linked_desk.specs.Finish.{end_at, with_end}
-use Rattle.linked_desk.specs.Hands.{hands_at}
+use Rattle.linked_desk.specs.Hands.{hands_at, partner_hands_at}
 use Rattle.linked_desk.specs.OfferLaws.{IsCleared}
 use Rattle.linked_desk.specs.Playing.{captured_by, held_moved, moved, moved_by, seat_word, shown_moved, with_cleared, with_hands}
 use Rattle.linked_desk.specs.Seats.{place_of}
@@ -41,7 +40,9 @@ same_moved desk g moment place stamp answer =
     let shown : GameState = shown_moved desk g moment place stamp answer in
     let held : GameState = held_moved desk g moment place stamp answer in
     let man : Option Man = captured_by (reply_at (slice_get g.boards place) answer) in
+    let own : GameState = with_hands desk place man shown in
     same_with_end desk held moment (end_at held place)
+    ∙ same_with_item own (partner_hands_at desk own place man)
     ∙ same_with_item shown (hands_at desk shown place man)
     ∙ same_with_view after (slice_get (views_of desk after) place)
 

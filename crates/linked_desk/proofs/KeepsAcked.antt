@@ -1,5 +1,5 @@
 -- What an acknowledgement at a desk keeps.
-use Rattle.std.proofs.Common.{◌≡◌, ℕ, ◌*◌, ◌≤◌, Bool, true, false, if◌then◌else◌, List, Option, Some, None, refl, sym, ap, ◌∙◌, arith}
+use Rattle.std.proofs.Common.{◌≡◌, ℕ, ◌*◌, ◌≤◌, Bool, true, false, if◌then◌else◌, List, Option, Some, None, refl, sym, ap, subst, ◌∙◌, arith}
 use Rattle.std.specs.Prelude.{is_some}
 use Rattle.chess_model.specs.declared.man.Colour.{Colour}
 use Rattle.chess_model.specs.Holdings.{same_colour}
@@ -12,8 +12,8 @@ use Rattle.linked_desk.specs.Acked.{acked_by, acked_effect}
 use Rattle.linked_desk.specs.Boards.{latest, boards_acked}
 use Rattle.linked_desk.specs.Desk.{GameState, seat_of, moment_at}
 use Rattle.linked_desk.specs.Seats.{place_of, colour_at}
-use Rattle.linked_desk.specs.Sound.{IsSound}
-use Rattle.linked_desk.proofs.BoardLists.{latest-changed_at, numbers-changed_at, All-changed_at, length-changed_at}
+use Rattle.linked_desk.specs.Sound.{AreSame, IsSound}
+use Rattle.linked_desk.proofs.BoardLists.{latest-changed_at, map-changed_at, All-changed_at, length-changed_at}
 use Rattle.linked_desk.proofs.Keeps.{Keeps}
 
 -- what a board and the board with a stamp kept have alike, the acknowledged board has
@@ -35,6 +35,7 @@ IsSound-same g moment s = record {
   seated = s.seated;
   terms = s.terms;
   scores = s.scores;
+  together = s.together;
   order = omega (arith, s.order);
   winners = s.winners;
   ended = s.ended;
@@ -46,11 +47,13 @@ IsSound-acked g moment place colour stamp stamped s =
     let after : Board → Board = λ b. acknowledged b colour stamp in
     let early : latest g.boards ≤ moment_at g moment = omega (arith, s.order) in
     record {
-      numbers = numbers-changed_at g.boards place after (λ b. same_acknowledged (λ c. c.number) b colour stamp refl) ∙ s.numbers;
+      numbers = map-changed_at (λ (c : Board). c.number) g.boards place after (λ b. same_acknowledged (λ c. c.number) b colour stamp refl) ∙ s.numbers;
       seated = s.seated ∙ ap (λ n. 2 * n) (sym (length-changed_at g.boards place after));
       terms = All-changed_at (λ (b : Board). b.terms ≡ g.terms) g.boards place after
           (λ b there same. same_acknowledged (λ c. c.terms) b colour stamp refl ∙ same) s.terms;
       scores = All-changed_at IsTrueScore g.boards place after (λ b there score. IsTrueScore-acknowledged b colour stamp score stamped) s.scores;
+      together = subst AreSame
+          (sym (map-changed_at (λ (c : Board). c.all) g.boards place after (λ b. same_acknowledged (λ c. c.all) b colour stamp refl))) s.together;
       order = latest-changed_at g.boards place (moment_at g moment) after
           (λ b h. let same : (acknowledged b colour stamp).begin ≡ b.begin = same_acknowledged (λ c. c.begin) b colour stamp refl in omega arith) early;
       winners = s.winners;

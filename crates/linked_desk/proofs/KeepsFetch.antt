@@ -2,8 +2,9 @@
 use Rattle.std.proofs.Common.{ℕ, true, List, Option, Some, None, All, refl, arith}
 use Rattle.std.proofs.lemmas.List.Elements.{All-nil, All-drop}
 use Rattle.style12_writer.specs.declared.item.Item.{Item}
-use Rattle.linked_desk.specs.declared.cursor.Cursor.{Cursor}
-use Rattle.linked_desk.specs.Desk.{GameState, past, cursor_of}
+use Rattle.observer_feed.specs.declared.cursor.Cursor.{Cursor}
+use Rattle.observer_feed.specs.Feed.{cursor_of, past}
+use Rattle.linked_desk.specs.Desk.{GameState}
 use Rattle.linked_desk.specs.Fetch.{fetch_effect}
 use Rattle.linked_desk.specs.Sound.{NamesWinner}
 use Rattle.linked_desk.proofs.Keeps.{Keeps}
@@ -20,10 +21,11 @@ Keeps-fetch_effect g session moment = record {
     seated = s.seated;
     terms = s.terms;
     scores = s.scores;
+    together = s.together;
     order = omega (arith, s.order);
     winners = s.winners;
     ended = s.ended;
   };
-  tells = λ s. names_past g.feed (cursor_of g session) s.winners;
+  tells = λ s. names_past g.feed (cursor_of g.viewers session) s.winners;
   memory = refl;
 }

@@ -30,6 +30,7 @@ sound_unwatched g session moment s = record {
   seated = s.seated;
   terms = s.terms;
   scores = s.scores;
+  together = s.together;
   order = omega (arith, s.order);
   winners = s.winners;
   ended = s.ended;

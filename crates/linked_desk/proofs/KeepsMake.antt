@@ -1,10 +1,9 @@
 -- What an offer at a desk keeps.
-use Rattle.std.proofs.Common.{◌≡◌, ℕ, Bool, true, false, not, List, Option, Some, None, Result, Ok, Err, IfSome, refl}
+use Rattle.std.proofs.Common.{◌≡◌, ℕ, Bool, true, false, not, List, Option, Some, None, Ok, Err, IfSome, refl}
 use Rattle.std.specs.Prelude.{slice_get, if◌then◌else◌}
 use Rattle.chess_model.specs.Claims.{is_fifty}
 use Rattle.chess_model.specs.declared.why.Why.{Why}
 use Rattle.chess_model.specs.declared.why.Why.TheVariants as why
-use Rattle.fics_words.specs.declared.refusal.Refusal.{Refusal}
 use Rattle.fics_words.specs.declared.refusal.Refusal.TheVariants.{NothingToClaim}
 use Rattle.game_board.specs.Board.{Board, position_of}
 use Rattle.game_board.specs.Claim.{claim_answer, has_claims, is_third_time}

@@ -1,15 +1,18 @@
 -- What is kept where the offers at a desk change, and where one takes effect.
-use Rattle.std.proofs.Common.{◌≡◌, ℕ, ◌*◌, ◌≤◌, ◌∷◌, [], Bool, true, false, List, Option, Some, None, IfSome, refl, sym, ap, ◌∙◌, arith}
+use Rattle.std.proofs.Common.{◌≡◌, ℕ, ◌*◌, ◌≤◌, ◌∷◌, [], Bool, true, false, List, map, All, Option, Some, None, IfSome, refl, sym, ap, subst, ◌∙◌, arith}
 use Rattle.std.specs.Prelude.{slice_get, if◌then◌else◌}
 use Rattle.std.specs.Option.{option_map, option_and_then}
+use Rattle.std.proofs.lemmas.List.Elements.{All-nil, All-head}
+use Rattle.chess_model.specs.declared.variant.Terms.{Terms}
 use Rattle.chess_model.specs.declared.variant.Variant.{Variant}
 use Rattle.chess_model.specs.declared.variant.Variant.TheVariants.{Chess, Crazyhouse, Bughouse}
 use Rattle.chess_model.specs.declared.why.Why.TheVariants as why
+use Rattle.chess_model.specs.MoveList.{HalfMove}
 use Rattle.fics_words.specs.declared.player.Player.{Player}
 use Rattle.fics_words.specs.Seats.{seat_list}
 use Rattle.game_board.specs.Board.{Board}
 use Rattle.game_board.specs.Scoresheet.{IsTrueScore}
-use Rattle.game_board.specs.TakeBack.{has_too_few, taken_back, take_back_after}
+use Rattle.game_board.specs.TakeBack.{has_too_few, taken_back}
 use Rattle.game_board.proofs.ScoreTakenBack.{IsTrueScore-take_back_after}
 use Rattle.offer_book.specs.declared.offer.Offer.{Offer}
 use Rattle.offer_book.specs.declared.offer.Offer.TheVariants.{Draw, Abort, Adjourn, Takeback}
@@ -17,16 +20,17 @@ use Rattle.offer_book.specs.Offers.{OfferBook}
 use Rattle.style12_writer.specs.OfferLines.{decline_text, taken_text}
 use Rattle.style12_writer.specs.declared.item.Item.{Item}
 use Rattle.style12_writer.specs.declared.item.Item.TheVariants as item
-use Rattle.linked_desk.specs.Boards.{latest}
+use Rattle.linked_desk.specs.Boards.{board_numbers, latest}
 use Rattle.linked_desk.specs.Desk.{GameState, moment_at, occupant}
 use Rattle.linked_desk.specs.Hands.{first_hands}
-use Rattle.linked_desk.specs.Offering.{agreed, back_by, boards_taken_back, decline_item, end_without_winner, hands_shown, offer_item, offer_text, told, with_offers, with_taken}
+use Rattle.linked_desk.specs.Offering.{agreed, back_by, boards_taken_back, decline_item, end_without_winner, offer_item, offer_text, told, with_offers, with_taken}
 use Rattle.linked_desk.specs.Offering as offering
-use Rattle.linked_desk.specs.Sound.{IsSound, NamesWinner}
+use Rattle.linked_desk.specs.Sound.{AreSame, IsSound, NamesWinner}
 use Rattle.linked_desk.specs.Tally.{counted}
 use Rattle.linked_desk.specs.Views.{views_of, with_board_item, with_items}
-use Rattle.linked_desk.proofs.BoardLists.{begin-latest, latest-changed_at, numbers-changed_at, All-changed_at, length-changed_at}
+use Rattle.linked_desk.proofs.BoardLists.{begin-latest, latest-changed_at, map-changed_at, All-changed_at, length-changed_at}
 use Rattle.linked_desk.proofs.Holding.{names_first}
+use Rattle.linked_desk.proofs.Pairs.{numbers_of_two, never_three}
 use Rattle.linked_desk.proofs.Keeps.{IsSound-ended_by, IsSound-with_view, IsSound-with_item, occupant-with_view, occupant-with_item}
 
 -- the game with other offers and counts, since a later moment
@@ -37,6 +41,7 @@ IsSound-offers g offers tally moment s = record {
   seated = s.seated;
   terms = s.terms;
   scores = s.scores;
+  together = s.together;
   order = omega (arith, s.order);
   winners = s.winners;
   ended = s.ended;
@@ -94,18 +99,32 @@ score_back Chess b n moment is h score = IsTrueScore-take_back_after b n moment 
 score_back Crazyhouse b n moment is h score = IsTrueScore-take_back_after b n moment (λ e. crazyhouse_is_single (sym is ∙ e)) score h
 score_back Bughouse b n moment is h score = score
 
+-- of one board there is one list, and the boards of a pair stay as they are
+back_by-pair : (v : Variant) (b : Board) (n moment : ℕ) → v ≡ Bughouse → back_by v b n moment ≡ b
+back_by-pair v b n moment e = ap (λ (w : Variant). back_by w b n moment) e
+
+together_back : (terms : Terms) (boards : List Board) (n moment : ℕ) → map (λ (b : Board). b.number) boards ≡ board_numbers terms.variant → All (λ (b : Board). b.terms ≡ terms) boards →
+    AreSame (map (λ (b : Board). b.all) boards) → AreSame (map (λ (b : Board). b.all) (boards_taken_back boards n moment))
+together_back terms [] n moment numbers same_terms same = tt
+together_back terms (b ∷ []) n moment numbers same_terms same = All-nil (λ (T : List HalfMove). T ≡ (back_by b.terms.variant b n moment).all)
+together_back terms (b ∷ c ∷ []) n moment numbers same_terms same =
+    let pair : b.terms.variant ≡ Bughouse = ap (λ (t : Terms). t.variant) (All-head (λ (x : Board). x.terms ≡ terms) b (c ∷ []) same_terms) ∙ (numbers_of_two terms.variant b c numbers).0 in
+    subst (λ (x : Board). AreSame (x.all ∷ c.all ∷ [])) (sym (back_by-pair b.terms.variant b n moment pair)) same
+together_back terms (b ∷ c ∷ d ∷ more) n moment numbers same_terms same = absurd (never_three terms.variant b c d more numbers)
+
 IsSound-with_taken : (g : GameState) (moment n : ℕ) → IsSound g → IsSound (with_taken g moment n)
 IsSound-with_taken g moment n s =
     let after : Board → Board = λ b. back_by b.terms.variant b n (moment_at g moment) in
     let early : latest g.boards ≤ moment_at g moment = omega (arith, s.order) in
     record {
-      numbers = numbers-changed_at g.boards 0 after (λ b. alike_back (λ c. c.number) b.terms.variant b n (moment_at g moment) refl) ∙ s.numbers;
+      numbers = map-changed_at (λ (c : Board). c.number) g.boards 0 after (λ b. alike_back (λ c. c.number) b.terms.variant b n (moment_at g moment) refl) ∙ s.numbers;
       seated = s.seated ∙ ap (λ n. 2 * n) (sym (length-changed_at g.boards 0 after));
       terms = All-changed_at (λ (b : Board). b.terms ≡ g.terms) g.boards 0 after
           (λ b there same. alike_back (λ c. c.terms) b.terms.variant b n (moment_at g moment) refl ∙ same) s.terms;
       scores = All-changed_at IsTrueScore g.boards 0 after
           (λ b there score. score_back b.terms.variant b n (moment_at g moment) refl
           (let before : b.begin ≤ latest g.boards = begin-latest g.boards 0 b there in omega (arith, before, early)) score) s.scores;
+      together = together_back g.terms g.boards n (moment_at g moment) s.numbers s.terms s.together;
       order = latest-changed_at g.boards 0 (moment_at g moment) after (λ b. begin_back b.terms.variant b n (moment_at g moment)) early;
       winners = s.winners;
       ended = s.ended;

@@ -15,6 +15,7 @@ Keeps-remark_effect g session moment text = record {
     seated = s.seated;
     terms = s.terms;
     scores = s.scores;
+    together = s.together;
     order = omega (arith, s.order);
     winners = All-push NamesWinner g.feed (Talk text) s.winners tt;
     ended = s.ended;

@@ -14,6 +14,7 @@ Keeps-show_effect desk g moment = record {
     seated = s.seated;
     terms = s.terms;
     scores = s.scores;
+    together = s.together;
     order = omega (arith, s.order);
     winners = s.winners;
     ended = s.ended;

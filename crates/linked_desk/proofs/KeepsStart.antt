@@ -6,6 +6,7 @@ use Rattle.chess_model.specs.declared.variant.Terms.{Terms}
 use Rattle.fics_words.specs.declared.seats.Opponents.{Opponents}
 use Rattle.fics_words.specs.declared.seats.Seats.{Seats}
 use Rattle.style12_writer.specs.declared.item.Item.{Item}
+use Rattle.chess_model.specs.MoveList.{HalfMove}
 use Rattle.game_board.specs.Board.{Board, new_board}
 use Rattle.game_board.specs.Scoresheet.{IsTrueScore}
 use Rattle.game_board.proofs.Scoresheet.{IsTrueScore-new_board}
@@ -13,7 +14,7 @@ use Rattle.linked_desk.specs.Boards.{board_numbers, new_boards, latest}
 use Rattle.linked_desk.specs.Hands.{first_hands}
 use Rattle.linked_desk.specs.Seating.{HasPairsFor, created_item, board_item, first_items, opening_items, opened}
 use Rattle.linked_desk.specs.Seats.{pairs_of}
-use Rattle.linked_desk.specs.Sound.{NamesWinner, IsSound}
+use Rattle.linked_desk.specs.Sound.{AreSame, NamesWinner, IsSound}
 use Rattle.linked_desk.specs.Views.{each_board}
 use Rattle.linked_desk.proofs.Holding.{names_first}
 use Rattle.linked_desk.proofs.Keeps.{All-each_board}
@@ -25,6 +26,16 @@ boards_from numbers terms moment = map (λ number. new_board number terms moment
 numbers_from : (numbers : List ℕ) (terms : Terms) (moment : ℕ) → map (λ (b : Board). b.number) (boards_from numbers terms moment) ≡ numbers
 numbers_from [] terms moment = refl
 numbers_from (n ∷ ns) terms moment = ap (λ ms. n ∷ ms) (numbers_from ns terms moment)
+
+-- none of them has a half-move
+nothing_from : (numbers : List ℕ) (terms : Terms) (moment : ℕ) → All (λ (T : List HalfMove). T ≡ []) (map (λ (b : Board). b.all) (boards_from numbers terms moment))
+nothing_from [] terms moment = All-nil (λ (T : List HalfMove). T ≡ [])
+nothing_from (n ∷ ns) terms moment =
+    All-cons (λ (T : List HalfMove). T ≡ []) [] (map (λ (b : Board). b.all) (boards_from ns terms moment)) refl (nothing_from ns terms moment)
+
+together_from : (numbers : List ℕ) (terms : Terms) (moment : ℕ) → AreSame (map (λ (b : Board). b.all) (boards_from numbers terms moment))
+together_from [] terms moment = tt
+together_from (n ∷ ns) terms moment = nothing_from ns terms moment
 
 latest_from : (numbers : List ℕ) (terms : Terms) (moment : ℕ) → latest (boards_from numbers terms moment) ≤ moment
 latest_from [] terms moment = omega arith
@@ -69,6 +80,7 @@ IsSound-opened desk serial terms seats moment pairs = record {
   seated = pairs ∙ ap (λ n. 2 * n) (sym (length_from (board_numbers terms.variant) terms moment));
   terms = All-from (λ (b : Board). b.terms ≡ terms) (board_numbers terms.variant) terms moment (λ n. refl);
   scores = All-from IsTrueScore (board_numbers terms.variant) terms moment (λ n. IsTrueScore-new_board n terms moment);
+  together = together_from (board_numbers terms.variant) terms moment;
   order = latest_from (board_numbers terms.variant) terms moment;
   winners = names_opening desk terms (pairs_of seats) (new_boards terms moment);
   ended = tt;

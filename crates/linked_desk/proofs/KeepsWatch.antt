@@ -16,6 +16,7 @@ Keeps-watch_effect desk g session moment = record {
     seated = s.seated;
     terms = s.terms;
     scores = s.scores;
+    together = s.together;
     order = omega (arith, s.order);
     winners = s.winners;
     ended = s.ended;

@@ -18,5 +18,7 @@ pub mod KeepsResign
 pub mod KeepsShow
 pub mod KeepsStart
 pub mod KeepsWatch
+pub mod Linking
+pub mod Pairs
 pub mod SeatNumbers
 pub mod WholeSets

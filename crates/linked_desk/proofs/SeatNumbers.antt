@@ -1,10 +1,9 @@
 -- The number of a seat is that of one of the seats.
-use Rattle.std.proofs.Common.{◌≡◌, ℕ, ◌<◌, zero, suc, Bool, true, false, cond, ltb, List, [], ◌∷◌, length, Option, Some, None, IfSome, refl, sym, subst, arith}
-use Rattle.std.specs.List.{position, position_or_len}
+use Rattle.std.proofs.Common.{◌≡◌, ℕ, ◌<◌, Bool, true, false, cond, List, length, Some, None, IfSome, refl}
+use Rattle.std.specs.List.{position_or_len}
 use Rattle.std.proofs.lemmas.Bool.{ltb-true}
 use Rattle.fics_words.specs.declared.player.Player.{Player}
-use Rattle.fics_words.specs.declared.seats.Seats.{Seats}
-use Rattle.fics_words.specs.Seats.{plays_as, seat_list, seat_number}
+use Rattle.fics_words.specs.Seats.{plays_as, seat_number}
 
 below : (b : Bool) (k n : ℕ) → (b ≡ true → k < n) → IfSome (cond b (Some k) None) (λ i. i < n)
 below true k n h = h refl

@@ -1,5 +1,5 @@
 -- The boards of a game: one, or two in bughouse.
-use Rattle.std.specs.Prelude.{ℕ, zero, suc, max, List, [], ◌∷◌, map, Option, Some, None, Result, Err, slice_get, slice_set}
+use Rattle.std.specs.Prelude.{ℕ, ◌-◌, zero, suc, max, List, [], ◌∷◌, map, Option, Some, None, Result, Ok, Err, slice_get, slice_set}
 use Rattle.std.specs.Option.{option_map}
 use Rattle.chess_model.specs.declared.man.Colour.{Colour}
 use Rattle.chess_model.specs.declared.man.Man.{Man}
@@ -13,6 +13,7 @@ use Rattle.fics_words.specs.declared.refusal.Refusal.TheVariants.{NotPlaying}
 use Rattle.game_board.specs.Acked.{acknowledged}
 use Rattle.game_board.specs.Board.{Board, new_board}
 use Rattle.game_board.specs.Flag.{flag_answer}
+use Rattle.game_board.specs.Learn.{learnt}
 use Rattle.game_board.specs.Play.{move_answer, play_after, play_reply}
 
 -- the numbers of the boards on which a variant is played
@@ -59,9 +60,21 @@ set_board boards place (Some b) = slice_set boards place b
 abbrev pub changed_at : List Board → ℕ → (Board → Board) → List Board
 changed_at boards place change = set_board boards place (option_map change (slice_get boards place))
 
--- the boards after a word at the one in that place
+-- the place of the other board of a pair
+abbrev pub other_place : ℕ → ℕ
+other_place place = 1 - place
+
+-- a board once it has learnt what a word at its partner's board was answered: of the half-move, if it was one
+abbrev pub told_answer : Board → Result Move Refusal → Board
+told_answer b (Ok m) = learnt b m
+told_answer b (Err cause) = b
+
+-- the boards after a word at the one in that place: this board has the half-move, and the other one, if there is one,
+-- learns of it in the same step, so that a man who is captured comes into a hand there
 abbrev pub boards_after : List Board → ℕ → ℕ → Option ℕ → Result Move Refusal → List Board
-boards_after boards place moment stamp answer = changed_at boards place (λ b. play_after b moment stamp answer)
+boards_after boards place moment stamp answer =
+    changed_at (changed_at boards place (λ b. play_after b moment stamp answer)) (other_place place)
+    (λ b. told_answer b answer)
 
 -- the boards once a client of that colour has acknowledged the one in that place
 abbrev pub boards_acked : List Board → ℕ → Colour → ℕ → List Board

@@ -1,6 +1,5 @@
 -- What contracts see of a desk: it is vacant, or a game is played at it.
-use Rattle.std.specs.Prelude.{ℕ, ◌+◌, ◌-◌, ◌*◌, ◌==◌, Bool, max, List, [], drop, length, is_some, Option, Some, None}
-use Rattle.std.specs.List.{find}
+use Rattle.std.specs.Prelude.{ℕ, ◌+◌, ◌-◌, ◌*◌, Bool, max, List, [], length, Option}
 use Rattle.std.specs.Option.{option_map, option_and_then, option_map_or}
 use Rattle.chess_model.specs.declared.variant.Terms.{Terms}
 use Rattle.fics_words.specs.declared.seats.Seats.{Seats}
@@ -8,7 +7,8 @@ use Rattle.fics_words.specs.Seats.{seat_list, seat_number}
 use Rattle.offer_book.specs.Offers.{OfferBook}
 use Rattle.style12_writer.specs.declared.item.Item.{Item}
 use Rattle.game_board.specs.Board.{Board}
-use Rattle.linked_desk.specs.declared.cursor.Cursor.{Cursor}
+use Rattle.observer_feed.specs.declared.cursor.Cursor.{Cursor}
+use Rattle.observer_feed.specs.Feed.{ahead, is_viewer}
 use Rattle.linked_desk.specs.declared.ended.Ended.{Ended}
 
 -- a game at a desk
@@ -43,22 +43,13 @@ game_number desk board = 2 * (desk - 1) + board
 abbrev pub seat_of : GameState → ℕ → Option ℕ
 seat_of g session = seat_number session (seat_list g.seats)
 
--- the cursor of a session
-abbrev pub cursor_of : GameState → ℕ → Option Cursor
-cursor_of g session = find (λ c. c.session == session) g.viewers
-
 -- whether a session is a viewer of the game
 abbrev pub is_watching : GameState → ℕ → Bool
-is_watching g session = is_some (cursor_of g session)
-
--- the items past a cursor
-abbrev pub past : List Item → Option Cursor → List Item
-past feed None = []
-past feed (Some c) = drop c.seen feed
+is_watching g session = is_viewer g.viewers session
 
 -- the items that a session hasn't been given yet
 abbrev pub ahead_of : GameState → ℕ → List Item
-ahead_of g session = past g.feed (cursor_of g session)
+ahead_of g session = ahead g.feed g.viewers session
 
 -- an act's moment counts as no earlier than that of the last act
 abbrev pub moment_at : GameState → ℕ → ℕ

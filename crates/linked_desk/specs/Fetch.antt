@@ -2,11 +2,11 @@
 use Rattle.std.specs.Prelude.{ℕ, true, not, is_some, if◌then◌else◌, List, [], ◌∷◌, length, map}
 use Rattle.fics_words.specs.Effect.{Effect}
 use Rattle.fics_words.specs.declared.refusal.Refusal.TheVariants.{NotWatching}
+use Rattle.observer_feed.specs.declared.cursor.Cursor.{Cursor}
+use Rattle.observer_feed.specs.Feed.{caught_up, without}
 use Rattle.linked_desk.specs.declared.acts.DeskReply.{DeskReply}
 use Rattle.linked_desk.specs.declared.acts.DeskReply.TheVariants.{Items}
-use Rattle.linked_desk.specs.declared.cursor.Cursor.{Cursor}
 use Rattle.linked_desk.specs.Desk.{GameState, is_watching, ahead_of, moment_at}
-use Rattle.linked_desk.specs.Cursors.{caught_up, without}
 
 -- the viewers afterwards: the session has all items, and after the end it is no viewer any more
 abbrev pub viewers_after : GameState → ℕ → List Cursor

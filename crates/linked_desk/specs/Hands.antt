@@ -1,5 +1,7 @@
--- The men in hand at a board, and when viewers are told of them (FICS help pages `crazyhouse` and `bughouse`). In which
--- order they are told beside the boards is this server's own.
+-- The men in hand at a board, and when viewers are told of them (FICS help pages `crazyhouse` and `bughouse`): where a
+-- half-move changes them. A drop changes the hands of its own board. A capture changes those of its own board in
+-- crazyhouse, and those of the partner's board in bughouse. In which order they are told beside the boards is this
+-- server's own.
 use Rattle.std.specs.Prelude.{◌≡◌, ℕ, ◌||◌, Bool, true, false, is_some, if◌then◌else◌, [], ◌∷◌, ◌++◌, map, Option, Some, None, slice_get, option_map, option_and_then, refl}
 use Rattle.chess_model.specs.declared.man.Colour.TheVariants.{White, Black}
 use Rattle.chess_model.specs.declared.man.Kind.{Kind}
@@ -17,6 +19,7 @@ use Rattle.game_board.specs.Board.{Board, position_of}
 use Rattle.game_board.specs.BoardFace.{last_played}
 use Rattle.style12_writer.specs.declared.item.Item.{Item}
 use Rattle.style12_writer.specs.declared.item.Item.TheVariants as item
+use Rattle.linked_desk.specs.Boards.{other_place}
 use Rattle.linked_desk.specs.Desk.{GameState, game_number}
 
 -- both hands at a board as it stands, and the kind of the man that has just come into one of them, if one has
@@ -57,6 +60,17 @@ hands_told desk b man =
 -- and of the board in that place
 abbrev pub hands_at : ℕ → GameState → ℕ → Option Man → Option Item
 hands_at desk g place man = option_and_then (λ b. hands_told desk b man) (slice_get g.boards place)
+
+-- what is told of the hands of a board after a half-move on its partner's board that captured this man, if it did: the
+-- man has come into a hand, so both hands as they stand now, and as which kind it came
+abbrev pub partner_told : ℕ → Board → Option Man → Option Item
+partner_told desk b None = None
+partner_told desk b (Some man) = Some (hold_item desk b (Some (handed_kind man)))
+
+-- and of the other board than the one in that place, if there is one
+abbrev pub partner_hands_at : ℕ → GameState → ℕ → Option Man → Option Item
+partner_hands_at desk g place man =
+    option_and_then (λ b. partner_told desk b man) (slice_get g.boards (other_place place))
 
 -- a knight is captured, a man is dropped, and neither: in chess, crazyhouse and bughouse
 example_changes : map (λ v. changes_hands v false (Some (record { colour = White; kind = Knight; promoted = false })))

@@ -3,10 +3,10 @@ use Rattle.std.specs.Prelude.{ℕ, false, is_some, if◌then◌else◌, [], Opti
 use Rattle.chess_model.specs.declared.why.Why.TheVariants.{Left}
 use Rattle.chess_model.specs.Placement.{opposite}
 use Rattle.fics_words.specs.Effect.{Effect}
+use Rattle.observer_feed.specs.Feed.{without}
 use Rattle.linked_desk.specs.declared.acts.DeskReply.{DeskReply}
 use Rattle.linked_desk.specs.declared.acts.DeskReply.TheVariants.{Done}
 use Rattle.linked_desk.specs.declared.ended.Ended.{Ended}
-use Rattle.linked_desk.specs.Cursors.{without}
 use Rattle.linked_desk.specs.Desk.{GameState, moment_at, seat_of}
 use Rattle.linked_desk.specs.Ends.{ended_by}
 use Rattle.linked_desk.specs.Seats.{board_of, colour_at}

@@ -2,7 +2,6 @@ pub mod AcceptOffer
 pub mod Acked
 pub mod Acts
 pub mod Boards
-pub mod Cursors
 pub mod DeclineOffer
 pub mod Desk
 pub mod Ends
@@ -12,6 +11,7 @@ pub mod Flag
 pub mod Hands
 pub mod Holds
 pub mod Leave
+pub mod Linked
 pub mod Make
 pub mod OfferLaws
 pub mod Offering

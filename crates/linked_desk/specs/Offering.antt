@@ -1,5 +1,5 @@
 -- The offers of players at a desk: what is told of them, and what an offer does that every seat has made.
-use Rattle.std.specs.Prelude.{ℕ, Bool, true, ◌∷◌, [], List, Option, Some, None, slice_get}
+use Rattle.std.specs.Prelude.{ℕ, Bool, true, ◌∷◌, [], List, Option, None, slice_get}
 use Rattle.std.specs.Option.{option_map, option_and_then}
 use Rattle.chess_model.specs.declared.variant.Variant.{Variant}
 use Rattle.chess_model.specs.declared.variant.Variant.TheVariants.{Chess, Crazyhouse, Bughouse}

@@ -1,5 +1,6 @@
--- A move at a desk: the half-move is played, which clears the opponent's offers and every takeback, the board is told,
--- then its hands where they have changed, and then the end if the half-move brings it.
+-- A move at a desk: the half-move is played, which clears the opponent's offers and every takeback, and the other board
+-- of a pair learns of it; the board is told, then its hands where they have changed, then those of the other board where
+-- a captured man has come into one of them, and then the end if the half-move brings it.
 use Rattle.std.specs.Prelude.{ℕ, true, ◌∷◌, Option, Some, None, Result, Ok, Err, slice_get}
 use Rattle.chess_model.specs.declared.man.Man.{Man}
 use Rattle.chess_model.specs.declared.moves.Move.{Move}
@@ -14,7 +15,7 @@ use Rattle.linked_desk.specs.Boards.{word_at, reply_at, boards_after}
 use Rattle.linked_desk.specs.Desk.{GameState, moment_at, seat_of}
 use Rattle.linked_desk.specs.Ends.{no_seat_cause, over_cause}
 use Rattle.linked_desk.specs.Finish.{finished}
-use Rattle.linked_desk.specs.Hands.{hands_at}
+use Rattle.linked_desk.specs.Hands.{hands_at, partner_hands_at}
 use Rattle.linked_desk.specs.Seats.{place_of, colour_at}
 use Rattle.linked_desk.specs.Views.{with_board_item, with_item}
 
@@ -45,11 +46,16 @@ captured_by (Err cause) = None
 abbrev pub with_hands : ℕ → ℕ → Option Man → GameState → GameState
 with_hands desk place man g = with_item g (hands_at desk g place man)
 
--- and the board's hands told, where the half-move has changed them
+-- and with what is told of the hands at the other board of a pair
+abbrev pub with_partner_hands : ℕ → ℕ → Option Man → GameState → GameState
+with_partner_hands desk place man g = with_item g (partner_hands_at desk g place man)
+
+-- and the hands told that the half-move has changed, those of the own board first
 abbrev pub held_moved : ℕ → GameState → ℕ → ℕ → Option ℕ → Result Move Refusal → GameState
 held_moved desk g moment place stamp answer =
-    with_hands desk place (captured_by (reply_at (slice_get g.boards place) answer))
-    (shown_moved desk g moment place stamp answer)
+    let man = captured_by (reply_at (slice_get g.boards place) answer) in
+    with_partner_hands desk place man
+    (with_hands desk place man (shown_moved desk g moment place stamp answer))
 
 -- and ended, where the half-move mates or leaves the other player no move
 abbrev pub moved : ℕ → GameState → ℕ → ℕ → Option ℕ → Result Move Refusal → GameState

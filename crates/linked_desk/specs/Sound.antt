@@ -1,5 +1,5 @@
 -- What holds of the game at a desk in every state.
-use Rattle.std.specs.Prelude.{◌≡◌, ◌*◌, ◌≤◌, ◌↔◌, IsSome, IsTrue, IfSome, All, length, map, Option, Result, Ok, Err}
+use Rattle.std.specs.Prelude.{◌≡◌, ◌*◌, ◌≤◌, ◌↔◌, IsSome, IsTrue, IfSome, All, List, [], ◌∷◌, length, map, Option, Result, Ok, Err}
 use Rattle.chess_model.specs.declared.man.Colour.{Colour}
 use Rattle.chess_model.specs.declared.why.Why.{Why}
 use Rattle.fics_words.specs.Seats.{seat_list}
@@ -23,6 +23,11 @@ abbrev pub NamesWinner : Item → Type 0
 NamesWinner (End view why winner own) = Names why winner
 NamesWinner _ = Unit {0}
 
+-- all items are the same
+abbrev pub AreSame : {T : Type 0} → List T → Type 0
+AreSame [] = Unit {0}
+AreSame (x ∷ xs) = All (λ y. y ≡ x) xs
+
 pub record IsSound (g : GameState) : Type 0 where
   -- there are as many boards as the variant wants, with their numbers, and two players sit at each
   pub numbers : map (λ (b : Board). b.number) g.boards ≡ board_numbers g.terms.variant
@@ -30,6 +35,8 @@ pub record IsSound (g : GameState) : Type 0 where
   -- each board is played by the terms of the game, and its list is a true score
   pub terms : All (λ (b : Board). b.terms ≡ g.terms) g.boards
   pub scores : All IsTrueScore g.boards
+  -- the boards of a pair have one list of the half-moves of both, by which men come from one board to the other
+  pub together : AreSame (map (λ (b : Board). b.all) g.boards)
   -- nobody is thinking from a moment that is later than the last act
   pub order : latest g.boards ≤ g.last
   -- each end in the feed names its winner

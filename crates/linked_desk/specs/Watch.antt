@@ -4,7 +4,7 @@ use Rattle.fics_words.specs.Effect.{Effect}
 use Rattle.fics_words.specs.declared.refusal.Refusal.TheVariants.{AlreadyWatching, NotWatching}
 use Rattle.linked_desk.specs.declared.acts.DeskReply.{DeskReply}
 use Rattle.linked_desk.specs.declared.acts.DeskReply.TheVariants.{Done, Items}
-use Rattle.linked_desk.specs.declared.cursor.Cursor.{Cursor}
+use Rattle.observer_feed.specs.declared.cursor.Cursor.{Cursor}
 use Rattle.linked_desk.specs.Desk.{GameState, is_watching, moment_at, seat_of}
 use Rattle.linked_desk.specs.Leave.{unwatched}
 use Rattle.linked_desk.specs.Present.{present_boards}

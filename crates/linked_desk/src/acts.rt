@@ -10,7 +10,7 @@ use offer_book::Offer;
 use style12_writer::ItemList;
 
 /// What a session does at a desk.
-#[derive(Debug, Drop)]
+#[derive(Drop)]
 pub enum DeskAct {
     /// Plays a word at the session's board. `stamp` is the client's own time, below `STAMP_CYCLE`, where its link is
     /// stamped. Refused with `NotPlaying`, `GameOver`, `NotYourTurn`, `TooManyMoves`, then as the rules answer the word.
@@ -52,7 +52,7 @@ pub enum DeskAct {
 }
 
 /// What a desk answers.
-#[derive(Debug, Drop)]
+#[derive(Drop)]
 pub enum DeskReply {
     Done,
     /// To a Fetch the items past the session's cursor, and `over` where the game has ended; to a Watch and a Show what

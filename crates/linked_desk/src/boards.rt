@@ -5,15 +5,17 @@ ghost use Rattle.clock_ledger.specs.Span.{IsStamp};
 ghost use Rattle.fics_words.specs.Effect.{first_cause, refusal_of, refused_by};
 ghost use Rattle.linked_desk.specs.Make.{claim_at};
 ghost use Rattle.linked_desk.specs.Offering.{boards_taken_back, lacks_half_moves};
-ghost use Rattle.linked_desk.specs.Boards.{boards_acked, boards_after, flag_at, latest, new_boards, numbered, reply_at, word_at};
+ghost use Rattle.linked_desk.specs.Boards.{boards_acked, boards_after, flag_at, latest, new_boards, numbered, other_place, reply_at, word_at};
 
+use crate::linked::play_linked;
 use chess_model::{Colour, Man, MoveWord, Terms, Variant, Why};
 use fics_words::{NoMemory, Refusal};
 use game_board::GameBoard;
 use std::alloc::Global;
 use std::marker::Model;
 
-/// The boards of a game: one, or two in bughouse. Contracts see them as their list.
+/// The boards of a game: one, or two in bughouse, of which each has learnt what was played on the other. Contracts see
+/// them as their list.
 #[derive(Drop)]
 pub(crate) struct Boards {
     first: GameBoard,
@@ -21,13 +23,16 @@ pub(crate) struct Boards {
 }
 
 impl Model for Boards {
-    ghost use Rattle.std.specs.Prelude.{◌∷◌, List};
+    ghost use Rattle.std.specs.Prelude.{◌∷◌, IfSome, List};
     ghost use Rattle.std.specs.Option.{option_to_list};
     ghost use Rattle.game_board.specs.Board.{Board};
+    ghost use Rattle.linked_desk.specs.Linked.{AreLinked};
 
     ghost Value = { List Board };
 
     ghost view = { λ b. b.first ∷ option_to_list b.second };
+
+    ghost invariant = { λ b. IfSome b.second (AreLinked b.first) };
 }
 
 impl Boards {
@@ -76,7 +81,7 @@ impl Boards {
     }
 
     /// Plays a word of a colour at the board in that place, with the stamp of its client if it has one, and gives the
-    /// man that the half-move captures.
+    /// man that the half-move captures. The other board of a pair learns of it. Takes no memory.
     pub(crate) fn play(
         &mut self,
         place: u8,
@@ -99,14 +104,18 @@ impl Boards {
     {
         match place {
             0 => {
-                let captured = self.first.play(colour, word, moment, stamp)?;
+                let Some(second) = &mut self.second else {
+                    let captured = self.first.play(colour, word, moment, stamp)?;
+                    return Ok(captured);
+                };
+                let captured = play_linked(&mut self.first, second, colour, word, moment, stamp)?;
                 Ok(captured)
             }
             1 => {
-                let Some(board) = &mut self.second else {
+                let Some(second) = &mut self.second else {
                     return Err(Refusal::NotPlaying);
                 };
-                let captured = board.play(colour, word, moment, stamp)?;
+                let captured = play_linked(second, &mut self.first, colour, word, moment, stamp)?;
                 Ok(captured)
             }
             _ => Err(Refusal::NotPlaying),
@@ -186,4 +195,11 @@ impl Boards {
             _ => Err(Refusal::NotPlaying),
         }
     }
+}
+
+/// The place of the other board of a pair.
+pub(crate) fn other_place(place: u8) -> u8
+    ensures { result ≡ other_place place }
+{
+    if place == 0 { 1 } else { 0 }
 }

@@ -1,7 +1,6 @@
 //! The desk.
-ghost use Rattle.std.specs.Prelude.{◌≡◌, ◌≢◌, ◌≤◌, ◌^◌, ℕ, None, IfOk, IsSome, OnOk, OnErr};
+ghost use Rattle.std.specs.Prelude.{◌≡◌, ◌≤◌, ◌^◌, ℕ, None, IfOk, IsSome, OnOk, OnErr};
 ghost use Rattle.std.specs.Option.{option_copied};
-ghost use Rattle.chess_model.specs.declared.variant.Variant.TheVariants.{Bughouse};
 ghost use Rattle.fics_words.specs.Effect.{Takes};
 ghost use Rattle.linked_desk.specs.Boards.{numbered};
 
@@ -52,8 +51,8 @@ impl Desk {
     }
 
     /// Begins a game at the vacant desk, with its clocks at `moment`, in milliseconds. The players are its viewers
-    /// from the start of the feed. There is a second pair exactly for bughouse, and bughouse itself isn't played yet:
-    /// the men that one board captures don't come to the other. Running out of memory leaves the desk vacant.
+    /// from the start of the feed. There is a second pair exactly for bughouse, which is played on two boards at the
+    /// desk: the men that one captures come to the other. Running out of memory leaves the desk vacant.
     pub fn start(
         &mut self,
         alloc: Global,
@@ -66,7 +65,6 @@ impl Desk {
         requires sessions { AllDiffer (sessions_of seats.now) }
         requires names { AllDiffer (names_of seats.now) }
         requires pairs { HasPairsFor terms seats.now }
-        requires one_board { terms.variant ≢ Bughouse }
         requires moment { moment ≤ 2 ^ 48 }
         ensures ok { OnOk result (self.new ≡ started self.old serial terms seats.now moment) }
         ensures err { OnErr result (self.new ≡ self.old) }
@@ -129,7 +127,7 @@ impl Desk {
         ensures { result ≡ viewer_count self.now }
     {
         match &self.game {
-            Some(game) => game.viewers().len(),
+            Some(game) => game.viewers(),
             None => 0,
         }
     }

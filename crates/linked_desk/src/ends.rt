@@ -23,14 +23,14 @@ impl Game {
         self.ended = Some(end);
         let (first, second) = self.boards.both();
         self.feed
-            .push(end_item(desk, &end, &self.seats.first, first));
+            .add(end_item(desk, &end, &self.seats.first, first));
         let Some(players) = &self.seats.second else {
             return;
         };
         let Some(board) = second else {
             return;
         };
-        self.feed.push(end_item(desk, &end, players, board));
+        self.feed.add(end_item(desk, &end, players, board));
     }
 }
 

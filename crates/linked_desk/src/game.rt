@@ -1,13 +1,12 @@
 //! The game at a desk.
-ghost use Rattle.std.specs.Prelude.{◌≡◌, ◌<◌, IfSome, drop};
+ghost use Rattle.std.specs.Prelude.{◌≡◌, ◌<◌, IfSome, length};
 
 use crate::boards::Boards;
-use crate::cursor::{Cursor, OfSession};
 use crate::ended::Ended;
 use crate::tally::Tally;
 use chess_model::Terms;
-use collections::{Listed, Reserved, find};
 use fics_words::Seats;
+use observer_feed::Feed;
 use offer_book::Offers;
 use std::alloc::Global;
 use std::marker::Model;
@@ -24,8 +23,7 @@ pub(crate) struct Game {
     pub(crate) terms: Terms,
     pub(crate) seats: Seats,
     pub(crate) boards: Boards,
-    pub(crate) feed: Reserved<Item>,
-    pub(crate) viewers: Listed<Cursor>,
+    pub(crate) feed: Feed<Item>,
     pub(crate) remarks: u16,
     pub(crate) last: u64,
     pub(crate) ended: Option<Ended>,
@@ -46,7 +44,7 @@ impl Model for Game {
       seats = g.seats;
       boards = g.boards;
       feed = g.feed.items;
-      viewers = g.viewers;
+      viewers = g.feed.viewers;
       remarks = g.remarks;
       last = g.last;
       ended = g.ended;
@@ -81,11 +79,11 @@ impl Game {
         self.ended
     }
 
-    /// The viewers, each with its place in the feed.
-    pub(crate) fn viewers(&self) -> &[Cursor]
-        ensures { result.now ≡ self.now.viewers }
+    /// How many viewers the game has.
+    pub(crate) fn viewers(&self) -> usize
+        ensures { result ≡ length self.now.viewers }
     {
-        self.viewers.as_slice()
+        self.feed.viewers()
     }
 
     /// The seat of a session, if it plays.
@@ -100,27 +98,13 @@ impl Game {
     pub(crate) fn is_watching(&self, session: u32) -> bool
         ensures { result ≡ is_watching self.now session }
     {
-        find(self.viewers.as_slice(), &OfSession(session)).is_some()
+        self.feed.has(session)
     }
 
     /// The items past the cursor of a session, none where it is no viewer.
     pub(crate) fn ahead(&self, session: u32) -> &[Item]
         ensures { result.now ≡ ahead_of self.now session }
     {
-        match find(self.viewers.as_slice(), &OfSession(session)) {
-            Some(cursor) => past(self.feed.as_slice(), cursor.seen),
-            None => &[],
-        }
-    }
-}
-
-/// The items from a place on.
-fn past(feed: &[Item], seen: usize) -> &[Item]
-    ensures { result.now ≡ drop seen feed.now }
-{
-    if seen < feed.len() {
-        &feed[seen..]
-    } else {
-        &[]
+        self.feed.ahead(session)
     }
 }

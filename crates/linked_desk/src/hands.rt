@@ -1,14 +1,14 @@
 //! What viewers are told of the men in hand.
 ghost use Rattle.std.specs.Prelude.{◌≡◌, ◌≤◌};
-ghost use Rattle.chess_model.specs.Holdings.{handed_kind};
 ghost use Rattle.chess_model.specs.Tests.{has_drops};
 ghost use Rattle.game_board.specs.BoardFace.{last_played};
-ghost use Rattle.linked_desk.specs.Hands.{changes_hands, ends_with_drop, first_hands, hands_at, hands_told, hold_item, is_drop};
+ghost use Rattle.linked_desk.specs.Hands.{changes_hands, ends_with_drop, first_hands, hands_at, hands_told, hold_item, is_drop, partner_hands_at};
 
+use crate::boards::other_place;
 use crate::game::Game;
 use crate::views::game_number;
 use chess_model::{Colour, Kind, Man, Move, Variant};
-use game_board::{GameBoard, Played};
+use game_board::{GameBoard, Played, handed_over_as};
 use style12_writer::Item;
 
 impl Game {
@@ -20,6 +20,23 @@ impl Game {
     {
         let board = self.boards.at(place)?;
         hands_told(desk, board, captured)
+    }
+
+    /// What is told of the hands at the other board of a pair, where a half-move at the board in that place captured
+    /// this man.
+    pub(crate) fn partner_hands_at(
+        &self,
+        desk: u8,
+        place: u8,
+        captured: Option<Man>,
+    ) -> Option<Item>
+        requires low { 1 ≤ desk }
+        requires high { desk ≤ 128 }
+        ensures { result ≡ partner_hands_at desk self.now place captured }
+    {
+        let board = self.boards.at(other_place(place))?;
+        let man = captured?;
+        Some(hold_item(desk, board, Some(handed_over_as(man))))
     }
 }
 
@@ -108,11 +125,4 @@ fn is_drop(what: &Move) -> bool
         Move::Castle { .. } => false,
         Move::Drop { .. } => true,
     }
-}
-
-/// The kind as which a captured man is handed over: a promoted one is a pawn again.
-fn handed_over_as(man: Man) -> Kind
-    ensures { result ≡ handed_kind man }
-{
-    if man.promoted { Kind::Pawn } else { man.kind }
 }

@@ -23,8 +23,8 @@ pub fn acts_keep_the_players()
 {}
 
 /// The game at a desk is sound from its start on, whatever acts are made: it has the boards and seats that its variant
-/// wants, the list of each board is a true score, and each end that viewers are told names a winner exactly where
-/// somebody won.
+/// wants, the list of each board is a true score, the boards of a pair have one list of the half-moves of both, and
+/// each end that viewers are told names a winner exactly where somebody won.
 pub fn acts_keep_the_game()
     ensures started { (d : DeskState) (serial : ℕ) (terms : Terms) (seats : Seats) (moment : ℕ)
         → HasPairsFor terms seats →
@@ -41,9 +41,10 @@ pub fn boards_are_known_by_their_games()
 {}
 
 /// No man of a game at a desk is made or lost: in chess the men of a colour and kind on the board, and those captured,
-/// are those of one set, and in crazyhouse the men of a kind on the board and in both hands are those of two. So no
-/// hand has more men of a kind than a holdings line has letters for.
+/// are those of one set; in crazyhouse the men of a kind on the board and in both hands are those of two; and in
+/// bughouse those of a colour and kind on both boards and in the two hands of that colour are those of two. So no hand
+/// has more men of a kind than a holdings line has letters for.
 pub fn men_stay_whole()
-    ensures sets { (d : DeskState) → HasSoundGame d → AllAt HasWholeSets d }
+    ensures sets { (d : DeskState) → HasSoundGame d → HasWholeSets d }
     ensures hands { (d : DeskState) → HasSoundGame d → AllAt HasPrintedHands d }
 {}

@@ -5,7 +5,6 @@ ghost use Rattle.linked_desk.specs.Desk.{seat_of};
 ghost use Rattle.linked_desk.specs.Leave.{forfeit, forfeited, leave_effect};
 
 use crate::acts::DeskReply;
-use crate::cursor::OfOthers;
 use crate::ended::Ended;
 use crate::game::Game;
 use crate::seats::{board_of, colour_at};
@@ -20,7 +19,7 @@ impl Game {
         ensures { Takes (leave_effect desk self.old session moment) self.old self.new (Ok result) }
     {
         self.forfeit(desk, session, moment);
-        self.viewers.retain(&OfOthers(session));
+        self.feed.forget(session);
         self.last = self.last.max(moment);
         DeskReply::Done
     }

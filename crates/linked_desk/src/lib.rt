@@ -1,7 +1,7 @@
 //! A desk: the game that is played at it, its players, and the viewers who are told of it.
 //!
 //! A desk is vacant, or it has a game with a serial, its seats and boards (two seats and one board, or four and two),
-//! and a feed of items with a cursor for each viewer. The contract: `act` carries out one row of a table
+//! and a feed of items in which each viewer has a place. The contract: `act` carries out one row of a table
 //! (`specs/Acts.antt`), which says by the old desk, the session, the moment, the serial and the act alone why the act
 //! is refused, what it replies and what stands afterwards. A refusal changes nothing, and a player can always leave,
 //! since leaving takes no memory.
@@ -11,7 +11,6 @@ mod accept_offer;
 mod acked;
 mod acts;
 mod boards;
-mod cursor;
 mod decline_offer;
 mod desk;
 mod ended;
@@ -23,6 +22,7 @@ mod game;
 mod hands;
 mod laws;
 mod leave;
+mod linked;
 mod make;
 mod offer_laws;
 mod offering;
@@ -40,12 +40,12 @@ mod watch;
 
 pub use acts::{DeskAct, DeskReply};
 pub use chess_model::Why;
-pub use cursor::Cursor;
 pub use desk::Desk;
 pub use ended::Ended;
 pub use laws::{
     acts_keep_the_game, acts_keep_the_players, boards_are_known_by_their_games, men_stay_whole,
 };
+pub use observer_feed::Cursor;
 pub use offer_book::Offer;
 pub use offer_laws::half_moves_clear_offers;
 pub use seats::colour_at;

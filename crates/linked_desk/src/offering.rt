@@ -59,7 +59,7 @@ impl Game {
         self.tally.count(seat);
         self.last = self.last.max(moment);
         if let Some(item) = item {
-            self.feed.push(item);
+            self.feed.add(item);
         }
         Ok(())
     }
@@ -120,12 +120,12 @@ impl Game {
         self.offers = offers;
         self.boards.take_back(n, now);
         self.last = now;
-        self.feed.push(Item::Talk(line));
+        self.feed.add(Item::Talk(line));
         if let Some(view) = self.view(desk, 0) {
-            self.feed.push(Item::Board(view));
+            self.feed.add(Item::Board(view));
         }
         if let Some(hold) = self.hands_now(desk) {
-            self.feed.push(hold);
+            self.feed.add(hold);
         }
         Ok(())
     }

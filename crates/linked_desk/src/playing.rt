@@ -12,8 +12,10 @@ use fics_words::{Fail, Refusal};
 use style12_writer::Item;
 
 impl Game {
-    /// Plays a word of a session at its board, with its client's stamp if it has one, and tells the board and its hands
-    /// where they have changed. The opponent's offers and takebacks go; mate and stalemate end the game.
+    /// Plays a word of a session at its board, with its client's stamp if it has one, and tells the board, its hands
+    /// where they have changed, and those of the partner's board where a captured man has come there. The opponent's
+    /// offers and takebacks go; mate and stalemate end the game. All room is taken first, so that want of memory
+    /// changes neither board.
     pub(crate) fn play(
         &mut self,
         desk: u8,
@@ -34,17 +36,20 @@ impl Game {
         if self.ended.is_some() {
             return Err(Fail::Refused(Refusal::GameOver));
         }
-        self.feed.reserve(2 + ROOM_TO_END)?;
+        self.feed.reserve(3 + ROOM_TO_END)?;
         let now = self.last.max(moment);
         let place = place_of(seat);
         let captured = self.boards.play(place, colour_at(seat), word, now, stamp)?;
         self.offers.moved(seat);
         self.last = now;
         if let Some(view) = self.view(desk, place) {
-            self.feed.push(Item::Board(view));
+            self.feed.add(Item::Board(view));
         }
         if let Some(hold) = self.hands_at(desk, place, captured) {
-            self.feed.push(hold);
+            self.feed.add(hold);
+        }
+        if let Some(hold) = self.partner_hands_at(desk, place, captured) {
+            self.feed.add(hold);
         }
         self.finish(desk, moment, place);
         Ok(DeskReply::Done)

@@ -30,7 +30,7 @@ impl Game {
         }
         let line = text.duplicate()?;
         self.feed.reserve(1 + ROOM_TO_END)?;
-        self.feed.push(Item::Talk(line));
+        self.feed.add(Item::Talk(line));
         self.remarks += 1;
         self.last = self.last.max(moment);
         Ok(DeskReply::Done)

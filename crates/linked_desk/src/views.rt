@@ -7,10 +7,10 @@ ghost use Rattle.linked_desk.specs.Views.{view_of, views_of};
 use crate::acts::DeskAct;
 use crate::game::Game;
 use chess_model::Colour;
-use fics_words::{Duplicate, NoMemory, Opponents};
+use fics_words::{NoMemory, Opponents};
 use game_board::GameBoard;
 use std::alloc::Global;
-use style12_writer::{BoardView, Item, ItemList};
+use style12_writer::{BoardView, ItemList};
 
 /// The number under which a board at a desk is shown.
 pub(crate) fn game_number(desk: u8, board: u8) -> u16
@@ -76,21 +76,10 @@ impl Game {
             ≡ items_told (game_effect desk self.now session moment act.now).reply) }
     {
         match act {
-            DeskAct::Fetch => copied(alloc, self.ahead(session)),
+            DeskAct::Fetch => self.feed.copies_ahead(session),
             DeskAct::Watch => self.present_boards(desk),
             DeskAct::Show => self.present_items(desk),
             _ => Ok(ItemList::new(alloc)),
         }
     }
-}
-
-/// Copies of items.
-pub(crate) fn copied(alloc: Global, items: &[Item]) -> Result<ItemList, NoMemory>
-    ensures { IfOk result (λ list. list ≡ items.now) }
-{
-    let mut list = ItemList::new(alloc);
-    for item in items {
-        list.push(item.duplicate()?)?;
-    }
-    Ok(list)
 }

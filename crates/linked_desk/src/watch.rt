@@ -4,9 +4,9 @@ ghost use Rattle.fics_words.specs.Effect.{Takes};
 ghost use Rattle.linked_desk.specs.Watch.{unwatch_effect, watch_effect};
 
 use crate::acts::DeskReply;
-use crate::cursor::{Cursor, OfOthers};
 use crate::game::Game;
 use fics_words::{Fail, Refusal};
+use observer_feed::Told;
 
 impl Game {
     /// Makes the session a viewer, who is told what comes from now on, and gives it the boards as they stand. Refused
@@ -21,8 +21,7 @@ impl Game {
             return Err(Fail::Refused(Refusal::AlreadyWatching));
         }
         let items = self.present_boards(desk)?;
-        let seen = self.feed.len();
-        self.viewers.push(Cursor { session, seen })?;
+        self.feed.begin(session, Told::FromNow)?;
         self.last = self.last.max(moment);
         Ok(DeskReply::Items { items, over: false })
     }
@@ -38,7 +37,7 @@ impl Game {
         if self.seat_of(session).is_some() {
             return Err(Fail::Refused(Refusal::NotWatching));
         }
-        self.viewers.retain(&OfOthers(session));
+        self.feed.forget(session);
         self.last = self.last.max(moment);
         Ok(DeskReply::Done)
     }

@@ -35,7 +35,7 @@ use Rattle.one_server.specs.declared.act.Timed.{Timed}
 use Rattle.one_server.specs.declared.part.Part.TheVariants.{Lobby as TheLobby, Desk as ADesk}
 use Rattle.one_server.specs.declared.reply.Reply.{Reply}
 use Rattle.one_server.specs.declared.reply.Reply.TheVariants.{Refused, Pair as PairReplied}
-use Rattle.one_server.specs.StartingProof.{all_differ, pairs_for, not_bughouse}
+use Rattle.one_server.specs.StartingProof.{all_differ, pairs_for}
 use Rattle.one_server.specs.Acts.{planned_desk, lobby_reply, desk_reply}
 use Rattle.one_server.specs.Desks.{listing, game_of}
 use Rattle.one_server.specs.House.{house, no_parts, pair_reply, pair_lobby, pair_desk}
@@ -180,8 +180,7 @@ carried_by lobby (Start own serial terms seats) number desk o listed planned =
       vacant = vacant_by desk (sym planned.is_free ∙ ap (λ n. slice_get lobby.games (n - 1)) same ∙ listed.listed);
       sessions = all_differ (λ p. p.session) (seat_list seats) planned.apart.sessions;
       names = all_differ (λ p. key_of p.name) (seat_list seats) planned.apart.handles;
-      pairs = pairs_for terms.variant seats.first seats.second planned.boards planned.for_two;
-      one_board = not_bughouse terms.variant planned.for_two;
+      pairs = pairs_for terms.variant seats.first seats.second planned.boards;
     }
 carried_by lobby (Clear session own serial) number desk o listed planned = tt
 

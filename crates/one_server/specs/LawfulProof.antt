@@ -99,7 +99,7 @@ stays_planned xs lobby (Start own serial terms seats) number desk moment w e o d
     subst (λ (n : ℕ). IsWhole (set (set xs 0 (TheLobby (plan_lobby lobby plan desk))) n (ADesk (plan_desk plan desk moment)))) same
     (whole_both xs lobby (plan_lobby lobby plan desk) own desk (plan_desk plan desk moment) w e (subst (λ (n : ℕ). slice_get xs n ≡ Some (ADesk desk)) (sym same) d)
     (IsWellFormed-committed lobby plan true p (formed_is xs lobby w e)) refl refl
-    (IsSound-opened desk.number serial terms seats moment (pairs_for terms.variant seats.first seats.second p.boards p.for_two)))
+    (IsSound-opened desk.number serial terms seats moment (pairs_for terms.variant seats.first seats.second p.boards)))
 stays_planned xs lobby (Clear session own serial) number desk moment w e o d p =
     let same : own ≡ number = cc in
     let there = subst (λ (n : ℕ). slice_get xs n ≡ Some (ADesk desk)) (sym same) d in

@@ -4,6 +4,7 @@ use Rattle.game_board.specs.Scoresheet.{IsTrueScore}
 use Rattle.histories.specs.History.{state, Legal}
 use Rattle.linked_desk.specs.Desk.{GameState, DeskState}
 use Rattle.linked_desk.specs.Sound.{NamesWinner}
+use Rattle.linked_desk.specs.WholeSets.{HasWholeSets}
 use Rattle.lobby_state.specs.Lobby.{LobbyState}
 use Rattle.lobby_state.specs.WellFormed.{HasSeats}
 use Rattle.one_server.specs.declared.part.Part.{Part}
@@ -39,6 +40,13 @@ abbrev pub KeepsTrueScores : List Part → Type 0
 KeepsTrueScores parts =
     (number : ℕ) (desk : DeskState) (game : GameState) → slice_get parts number ≡ Some (ADesk desk)
     → desk.game ≡ Some game → All IsTrueScore game.boards
+
+-- no man of the game at a desk is made or lost: in chess the men of a colour and kind on the board, and those captured,
+-- are those of one set; in crazyhouse the men of a kind on the board and in both hands, and in bughouse those of a colour
+-- and kind on both boards and in that colour's two hands, are those of two
+abbrev pub KeepsMen : List Part → Type 0
+KeepsMen parts =
+    (number : ℕ) (desk : DeskState) → slice_get parts number ≡ Some (ADesk desk) → HasWholeSets desk
 
 -- each end in the feed of a desk's game names a winner exactly where somebody won
 abbrev pub NamesItsWinners : List Part → Type 0

@@ -1,7 +1,6 @@
 -- What a plan does to its lobby and to its desk, and what is replied. This server's own.
-use Rattle.std.specs.Prelude.{◌≡◌, ◌≢◌, ℕ, None, true, cond, ◌&&◌}
+use Rattle.std.specs.Prelude.{◌≡◌, ℕ, None, true, cond, ◌&&◌}
 use Rattle.chess_model.specs.declared.variant.Terms.{Terms}
-use Rattle.chess_model.specs.declared.variant.Variant.TheVariants.{Bughouse}
 use Rattle.fics_words.specs.declared.seats.Seats.{Seats}
 use Rattle.lobby_state.specs.declared.acts.Plan.{Plan}
 use Rattle.lobby_state.specs.declared.acts.Plan.TheVariants.{Start, Clear}
@@ -31,14 +30,12 @@ abbrev pub plan_desk : Plan → DeskState → ℕ → DeskState
 plan_desk (Start number serial terms seats) desk moment = started desk serial terms seats moment
 plan_desk (Clear session number serial) desk moment = cond (has_ended desk serial && is_left desk) (emptied desk) desk
 
--- a game can start at this desk: it is vacant, no two of the players are one, and there are as many as its variant has;
--- nobody has a partner yet
+-- a game can start at this desk: it is vacant, no two of the players are one, and there are as many as its variant has
 pub record CanStartAt (desk : DeskState) (terms : Terms) (seats : Seats) : Type 0 where
   pub vacant : desk.game ≡ None
   pub sessions : AllDiffer (sessions_of seats)
   pub names : AllDiffer (names_of seats)
   pub pairs : HasPairsFor terms seats
-  pub one_board : terms.variant ≢ Bughouse
 
 -- the plan can be carried out at this desk
 abbrev pub CanCarry : Plan → DeskState → Type 0

@@ -1,5 +1,5 @@
--- What a plan of a game asks of its desk: players who are apart, as many as the variant has, and nobody with a partner.
-use Rattle.std.proofs.Common.{◌≡◌, ◌≢◌, ℕ, ◌<◌, ◌*◌, suc, false, List, [], ◌∷◌, length, map, slice_index_or, refl, arith, Option, None, Some}
+-- What a plan of a game asks of its desk: players who are apart, and as many as the variant has.
+use Rattle.std.proofs.Common.{◌≡◌, ◌≢◌, ℕ, ◌<◌, ◌*◌, suc, List, [], ◌∷◌, length, map, slice_index_or, refl, arith, Option, None, Some}
 use Rattle.std.specs.List.{AllPairs}
 use Rattle.chess_model.specs.declared.variant.Variant.{Variant}
 use Rattle.chess_model.specs.declared.variant.Variant.TheVariants.{Chess, Crazyhouse, Bughouse}
@@ -7,7 +7,6 @@ use Rattle.fics_words.specs.declared.seats.Opponents.{Opponents}
 use Rattle.fics_words.specs.Seats.{seat_list}
 use Rattle.linked_desk.specs.Boards.{board_numbers}
 use Rattle.linked_desk.specs.Seating.{AllDiffer, NoneIs}
-use Rattle.lobby_state.specs.Match.{needs_partners}
 use Rattle.lobby_state.specs.Planned.{FitsVariant}
 
 none_is : {X Y : Type 0} (f : X → Y) (x : X) (xs : List X) → ((j : ℕ) (d : X) → j < length xs → f x ≢ f (slice_index_or xs j d)) → NoneIs (f x) (map f xs)
@@ -23,16 +22,11 @@ all_differ f (x ∷ xs) h = (
 )
 
 -- two players sit at each board of the variant
-pub pairs_for : (variant : Variant) (first : Opponents) (second : Option Opponents) → FitsVariant variant (record { first = first; second = second }) → needs_partners variant ≡ false
+pub pairs_for : (variant : Variant) (first : Opponents) (second : Option Opponents) → FitsVariant variant (record { first = first; second = second })
     → length (seat_list (record { first = first; second = second })) ≡ 2 * length (board_numbers variant)
-pairs_for Chess first None fits two = refl
-pairs_for Chess first (Some more) fits two = cc
-pairs_for Crazyhouse first None fits two = refl
-pairs_for Crazyhouse first (Some more) fits two = cc
-pairs_for Bughouse first second fits two = cc
-
--- and where nobody needs a partner the game isn't bughouse
-pub not_bughouse : (variant : Variant) → needs_partners variant ≡ false → variant ≢ Bughouse
-not_bughouse Chess two = λ e. cc
-not_bughouse Crazyhouse two = λ e. cc
-not_bughouse Bughouse two = cc
+pairs_for Chess first None fits = refl
+pairs_for Chess first (Some more) fits = cc
+pairs_for Crazyhouse first None fits = refl
+pairs_for Crazyhouse first (Some more) fits = cc
+pairs_for Bughouse first None fits = cc
+pairs_for Bughouse first (Some more) fits = refl

@@ -4,7 +4,7 @@ use linked_desk::DeskAct;
 use lobby_state::{LobbyAct, PairAct};
 
 /// An act, by the parts that it needs.
-#[derive(Debug, Drop)]
+#[derive(Drop)]
 pub enum Act {
     /// Needs the lobby alone.
     Lobby(LobbyAct),
@@ -15,7 +15,7 @@ pub enum Act {
 }
 
 /// An act at its moment, in milliseconds.
-#[derive(Debug, Drop)]
+#[derive(Drop)]
 pub struct Timed {
     pub moment: u64,
     pub act: Act,

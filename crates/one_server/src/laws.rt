@@ -3,7 +3,7 @@ ghost use Rattle.histories.specs.Laws.{LeavesOthers, RepliesLocally, ChangesLoca
 ghost use Rattle.lobby_state.specs.Lobby.{LobbyState, opening};
 ghost use Rattle.one_server.specs.House.{house};
 ghost use Rattle.lobby_state.specs.WellFormed.{IsWellFormed};
-ghost use Rattle.one_server.specs.Laws.{HoldsInEachState, KeepsTrueScores, LendsFirst, LendsSecond};
+ghost use Rattle.one_server.specs.Laws.{HoldsInEachState, KeepsMen, KeepsTrueScores, LendsFirst, LendsSecond};
 ghost use Rattle.one_server.specs.Laws.{ListsItsDesks, NamesItsWinners, RepliesWell, SeatsItsMembers};
 ghost use Rattle.one_server.specs.Whole.{IsOpening, IsWhole, opened};
 
@@ -38,6 +38,12 @@ pub fn every_state_agrees()
 /// charges stand where and for what they should, and each clock is its ledger's sum.
 pub fn every_board_keeps_a_true_score()
     ensures { HoldsInEachState KeepsTrueScores }
+{}
+
+/// In every state the men of each game are whole: no half-move has made or lost one, by the boards and hands of one board
+/// or of a pair.
+pub fn every_game_keeps_its_men()
+    ensures { HoldsInEachState KeepsMen }
 {}
 
 /// In every state each end that the viewers of a desk are told names a winner exactly where somebody won, so its line

@@ -24,7 +24,7 @@ pub use act::{Act, Timed};
 pub use house::House;
 pub use laws::{
     acts_keep_to_their_parts, every_board_keeps_a_true_score, every_end_names_its_winner,
-    every_reply_can_be_told, every_state_agrees, parts_are_lent,
+    every_game_keeps_its_men, every_reply_can_be_told, every_state_agrees, parts_are_lent,
 };
 pub use lent::{alone, first_part, second_part, together};
 pub use part::Part;

@@ -5,7 +5,7 @@ use linked_desk::DeskReply;
 use lobby_state::LobbyReply;
 
 /// A reply, by the part of the server that gives it.
-#[derive(Debug, Drop)]
+#[derive(Drop)]
 pub enum Reply {
     /// Nothing was done, for this cause.
     Refused(Refusal),
@@ -18,7 +18,7 @@ pub enum Reply {
 }
 
 /// What the lobby and a desk answer together.
-#[derive(Clone, Copy, Debug, PartialEq, Eq)]
+#[derive(Clone, Copy, PartialEq, Eq)]
 pub enum PairReply {
     /// A game has started.
     Started,

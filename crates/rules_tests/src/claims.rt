@@ -66,6 +66,16 @@ const ROWS: &[Row] = &[
     // 99 half-moves, and 100
     Row(Variant::Chess, "", KNIGHTS, 24, "g1f3 g8f6 f3g1", THIRD),
     Row(Variant::Chess, "", KNIGHTS, 25, "", FIFTY),
+    // the same in positions that never stood before
+    Row(Variant::Chess, "", KNIGHTS, 24, "b1c3 b8c6 a1b1", NOTHING),
+    Row(
+        Variant::Chess,
+        "",
+        KNIGHTS,
+        24,
+        "b1c3 b8c6 a1b1 a8b8",
+        FIFTY,
+    ),
     Row(Variant::Chess, "e2e4", KNIGHTS_OF_BLACK, 25, "", FIFTY),
     // claims are of chess alone
     Row(Variant::Crazyhouse, "", KNIGHTS, 25, "", NOTHING),

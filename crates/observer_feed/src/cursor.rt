@@ -1,13 +1,35 @@
-//! A viewer of a game, and how it is found.
-ghost use Rattle.std.specs.Prelude.{◌==◌, not};
+//! A viewer of a feed, and how it is found and moved.
+ghost use Rattle.std.specs.Prelude.{◌≡◌, ◌==◌, not};
+ghost use Rattle.observer_feed.specs.Feed.{first_place};
 
 use collections::{Change, Predicate};
 
-/// A viewer of a game: its session, and how many items of the feed it has been given.
+/// A viewer of a feed: its session, and how many items of the feed it has been given.
 #[derive(Clone, Copy, Debug, PartialEq, Eq)]
 pub struct Cursor {
     pub session: u32,
     pub seen: usize,
+}
+
+/// Which items a new viewer is given.
+#[derive(Clone, Copy, Debug, PartialEq, Eq)]
+pub enum Told {
+    /// All that the feed has, and all that comes.
+    FromStart,
+    /// What comes from now on.
+    FromNow,
+}
+
+impl Told {
+    /// The place in a feed of so many items at which a viewer begins.
+    pub(crate) fn first_place(self, count: usize) -> usize
+        ensures { result ≡ first_place self count }
+    {
+        match self {
+            Told::FromStart => 0,
+            Told::FromNow => count,
+        }
+    }
 }
 
 /// The cursor of a session.
@@ -42,7 +64,7 @@ pub(crate) struct CatchUp {
 }
 
 impl Change<Cursor> for CatchUp {
-    ghost use Rattle.linked_desk.specs.Cursors.{caught_up};
+    ghost use Rattle.observer_feed.specs.Feed.{caught_up};
 
     ghost changed = { λ change cursor. caught_up change.session change.seen cursor };
 

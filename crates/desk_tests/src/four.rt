@@ -1,0 +1,73 @@
+//! A desk with four players at two boards.
+ghost use Rattle.std.specs.Prelude.{◌≡◌, ◌≢◌, length};
+ghost use Rattle.fics_words.specs.Handle.{key_of};
+ghost use Rattle.fics_words.specs.Seats.{seat_list};
+ghost use Rattle.linked_desk.specs.Seating.{AllDiffer, names_of, sessions_of};
+
+use crate::table::{ANN, BEN, SERIAL, player};
+use chess_model::{Terms, Variant};
+use fics_words::{Opponents, Player, Seats};
+use linked_desk::Desk;
+use std::alloc::Global;
+use std::process::Abort;
+
+/// The session that plays White of the second board, Ben's partner.
+pub const CAT: u32 = 3;
+
+/// The session that plays Black of the second board, Ann's partner.
+pub const DAN: u32 = 4;
+
+/// All four, in the order of their seats.
+pub const FOUR: &[u32] = &[ANN, BEN, CAT, DAN];
+
+/// Desk 1 with an untimed game of bughouse that began at moment 0: Ann and Ben have White and Black of the first board,
+/// Cat and Dan those of the second.
+pub fn desk_with_pair(rt: &impl Abort, alloc: Global) -> Desk {
+    let mut desk = Desk::vacant(1);
+    let terms = Terms {
+        minutes: 0,
+        increment: 0,
+        variant: Variant::Bughouse,
+        colour: None,
+    };
+    let seats = four_seats(rt);
+    let started = desk.start(alloc, SERIAL, terms, &seats, 0);
+    assert!(rt; started.is_ok(), "there is memory");
+    desk
+}
+
+fn four_seats(rt: &impl Abort) -> Seats
+    ensures sessions { AllDiffer (sessions_of result) }
+    ensures names { AllDiffer (names_of result) }
+    ensures four { length (seat_list result) ≡ 4 }
+{
+    let ann = player(rt, ANN, "Ann");
+    let ben = player(rt, BEN, "Ben");
+    let cat = player(rt, CAT, "Cat");
+    let dan = player(rt, DAN, "Dan");
+    differ(rt, &ann, &ben);
+    differ(rt, &ann, &cat);
+    differ(rt, &ann, &dan);
+    differ(rt, &ben, &cat);
+    differ(rt, &ben, &dan);
+    differ(rt, &cat, &dan);
+    Seats {
+        first: Opponents {
+            white: ann,
+            black: ben,
+        },
+        second: Some(Opponents {
+            white: cat,
+            black: dan,
+        }),
+    }
+}
+
+/// The two players have two sessions and two names.
+fn differ(rt: &impl Abort, one: &Player, another: &Player)
+    ensures session { one.now.session ≢ another.now.session }
+    ensures name { key_of one.now.name ≢ key_of another.now.name }
+{
+    assert!(rt; one.session != another.session, "two sessions");
+    assert!(rt; one.name.key() != another.name.key(), "two names");
+}
