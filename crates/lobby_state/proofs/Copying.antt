@@ -4,7 +4,7 @@ use Rattle.login_handles.specs.declared.check.Check.{Check}
 use Rattle.login_handles.specs.declared.check.Check.TheVariants.{NeedPassword as MissesPassword}
 use Rattle.lobby_state.specs.declared.acts.LobbyAct.{LobbyAct}
 use Rattle.lobby_state.specs.declared.acts.LobbyAct.TheVariants.{Enter, Sought, Who, Fetch, InUse, InChannel, Partner, Pending, Games, Find, FindGame}
-use Rattle.lobby_state.specs.declared.place.Place.{Place}
+use Rattle.simul_control.specs.declared.place.Place.{Place}
 use Rattle.lobby_state.specs.Acts.{lobby_effect}
 use Rattle.lobby_state.specs.Enter.{entrant_of, welcome}
 use Rattle.lobby_state.specs.Find.{found, present_of}

@@ -1,5 +1,5 @@
 -- Who is on another's list doesn't reach it.
-use Rattle.std.proofs.Common.{◌≡◌, ℕ, Bool, true, false, cond, List, [], ◌∷◌, Option, None, Some, is_none, Result, Ok, Err, refl, sym, ap, ◌∙◌}
+use Rattle.std.proofs.Common.{◌≡◌, ℕ, Bool, true, false, cond, List, [], ◌∷◌, Option, None, Some, is_none, Ok, refl, sym, ap, ◌∙◌}
 use Rattle.std.specs.Prelude.{◌||◌}
 use Rattle.fics_words.specs.Effect.{Cause, answered, first_cause, unless}
 use Rattle.fics_words.specs.declared.refusal.Refusal.{Refusal}

@@ -6,7 +6,7 @@ use Rattle.fics_words.specs.declared.fail.Fail.{Fail}
 use Rattle.fics_words.specs.declared.fail.Fail.TheVariants.{Refused, Memory}
 use Rattle.fics_words.specs.declared.refusal.Refusal.{Refusal}
 use Rattle.lobby_state.specs.declared.acts.LobbyAct.{LobbyAct}
-use Rattle.lobby_state.specs.declared.acts.LobbyAct.TheVariants.{Enter, Register, Match, Unpost, Sought, Who, Where, Fetch, Going, Bye, InUse, Var, Tell, Shout, Decline, Withdraw, Post, Channel, TellChannel, InChannel, Partner, Ptell, List, Pending, Games, Find, FindGame}
+use Rattle.lobby_state.specs.declared.acts.LobbyAct.TheVariants.{Enter, Register, Match, Unpost, Sought, Who, Where, Fetch, Going, Bye, InUse, Var, Tell, Shout, Decline, Withdraw, Post, Channel, TellChannel, InChannel, Partner, Ptell, List, Pending, Games, Find, FindGame, SimOpen, SimNext, SimPrev, GoBoard}
 use Rattle.lobby_state.specs.declared.acts.LobbyReply.{LobbyReply}
 use Rattle.lobby_state.specs.Acts.{LobbyNeedsNoMemory, lobby_after, lobby_answer, lobby_effect}
 use Rattle.lobby_state.specs.Keeps.{Keeps, TellsDesks}
@@ -23,6 +23,7 @@ use Rattle.lobby_state.proofs.KeepsFetch.{keeps_fetch}
 use Rattle.lobby_state.proofs.KeepsGames.{keeps_games}
 use Rattle.lobby_state.proofs.KeepsFind.{keeps_find}
 use Rattle.lobby_state.proofs.KeepsFindGame.{keeps_find_game}
+use Rattle.lobby_state.proofs.KeepsGoBoard.{keeps_go_board}
 use Rattle.lobby_state.proofs.KeepsGoing.{keeps_going}
 use Rattle.lobby_state.proofs.KeepsInUse.{keeps_in_use}
 use Rattle.lobby_state.proofs.KeepsMatch.{keeps_match}
@@ -30,6 +31,9 @@ use Rattle.lobby_state.proofs.KeepsNameList.{keeps_list}
 use Rattle.lobby_state.proofs.KeepsPending.{keeps_pending}
 use Rattle.lobby_state.proofs.KeepsPost.{keeps_post}
 use Rattle.lobby_state.proofs.KeepsRegistration.{keeps_registration}
+use Rattle.lobby_state.proofs.KeepsSimNext.{keeps_sim_next}
+use Rattle.lobby_state.proofs.KeepsSimOpen.{keeps_sim_open}
+use Rattle.lobby_state.proofs.KeepsSimPrev.{keeps_sim_prev}
 use Rattle.lobby_state.proofs.KeepsSought.{keeps_sought}
 use Rattle.lobby_state.proofs.KeepsUnpost.{keeps_unpost}
 use Rattle.lobby_state.proofs.KeepsWhere.{keeps_where}
@@ -63,6 +67,10 @@ keeps_act lobby session (Decline name) = keeps_decline lobby session name
 keeps_act lobby session (Withdraw name) = keeps_withdraw lobby session name
 keeps_act lobby session (Partner name) = keeps_partner lobby session name
 keeps_act lobby session (Ptell text) = keeps_ptell lobby session text
+keeps_act lobby session SimOpen = keeps_sim_open lobby session
+keeps_act lobby session SimNext = keeps_sim_next lobby session
+keeps_act lobby session SimPrev = keeps_sim_prev lobby session
+keeps_act lobby session (GoBoard name) = keeps_go_board lobby session name
 keeps_act lobby session (Find name) = keeps_find lobby session name
 keeps_act lobby session (FindGame number) = keeps_find_game lobby session number
 keeps_act lobby session Where = keeps_where lobby session

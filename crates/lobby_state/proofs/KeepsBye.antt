@@ -36,7 +36,6 @@ parted lobby session h =
             from = Contains-filter stays (sessions_of lobby.members) c.from (ap not parts.0) b.from;
             to = Contains-filter stays (sessions_of lobby.members) c.to (ap not parts.1) b.to;
             differ = b.differ;
-            for_two = b.for_two;
           }) lobby.challenges h.challenges);
       seeks = subst (λ (ss : List ℕ). AreSeeksOf ss (filter (λ seek. not (is_by session None seek)) lobby.seeks)) (sym sessions)
           (AreSeeksOf-without (sessions_of lobby.members) session lobby.seeks h.seeks);

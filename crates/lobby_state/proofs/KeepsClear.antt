@@ -8,7 +8,7 @@ use Rattle.std.proofs.lemmas.Option.{slice_get_within}
 use Rattle.fics_words.specs.Handle.{key_of}
 use Rattle.lobby_state.specs.declared.acts.Plan.TheVariants.{Clear}
 use Rattle.lobby_state.specs.declared.game.Game.{Game}
-use Rattle.lobby_state.specs.declared.place.Place.{Place}
+use Rattle.simul_control.specs.declared.place.Place.{Place}
 use Rattle.lobby_state.specs.Clear.{clear_effect, off_desk, freed, cleared}
 use Rattle.lobby_state.specs.Keeps.{KeepsPlan, KeepsPlanned}
 use Rattle.lobby_state.specs.Desks.{IsDesk}

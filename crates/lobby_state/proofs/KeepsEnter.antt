@@ -50,7 +50,6 @@ with_one_more lobby session name few alone free h = record {
         from = Contains-append_left (sessions_of lobby.members) (session ∷ []) c.from b.from;
         to = Contains-append_left (sessions_of lobby.members) (session ∷ []) c.to b.to;
         differ = b.differ;
-        for_two = b.for_two;
       }) lobby.challenges h.challenges);
   seeks =
       let more = map-append (λ (m : Member). m.session) lobby.members (newcomer session name ∷ []) in

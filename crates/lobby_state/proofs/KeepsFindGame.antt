@@ -1,7 +1,7 @@
 -- What a FindGame keeps and tells.
 use Rattle.std.proofs.Common.{◌≡◌, ℕ, Bool, true, false, cond, Option, None, Some, IfSome, refl, arith}
 use Rattle.lobby_state.specs.declared.game.Game.{Game}
-use Rattle.lobby_state.specs.declared.place.Place.{Place}
+use Rattle.simul_control.specs.declared.place.Place.{Place}
 use Rattle.lobby_state.specs.Desks.{IsDesk}
 use Rattle.lobby_state.specs.FindGame.{desk_of_game, find_game_effect, first_at, first_seat, hall_desk, has_board, is_in_hall, seat_at}
 use Rattle.lobby_state.specs.Keeps.{Keeps}

@@ -6,7 +6,7 @@ use Rattle.chess_model.specs.declared.variant.Terms.{Terms}
 use Rattle.lobby_state.specs.declared.member.Member.{Member}
 use Rattle.lobby_state.specs.Keeps.{Keeps}
 use Rattle.lobby_state.specs.Lobby.{LobbyState, is_session, member_of}
-use Rattle.lobby_state.specs.Match.{needs_partners}
+use Rattle.lobby_state.specs.Pairing.{needs_partners}
 use Rattle.lobby_state.specs.Post.{hears_seeks, post_effect, posted, seek_words}
 use Rattle.lobby_state.specs.WellFormed.{IsWellFormed, sessions_of}
 use Rattle.lobby_state.proofs.Broadcasting.{IsWellFormed-broadcast}

@@ -1,5 +1,5 @@
 -- What carrying out a Start keeps.
-use Rattle.std.proofs.Common.{◌≡◌, ℕ, ◌+◌, ◌-◌, ◌<◌, Bool, true, false, not, cond, ltb, List, [], ◌∷◌, ◌++◌, Option, None, Some, length, map, filter, slice_get, refl, sym, ap, subst, ◌∙◌, arith}
+use Rattle.std.proofs.Common.{◌≡◌, ℕ, ◌+◌, ◌-◌, ◌<◌, Bool, true, false, not, cond, List, [], ◌∷◌, ◌++◌, Option, None, Some, length, map, filter, slice_get, refl, sym, ap, subst, ◌∙◌, arith}
 use Rattle.std.specs.Prelude.{All}
 use Rattle.std.proofs.Math.ListN.{set}
 use Rattle.std.proofs.lemmas.Bool.{eqb-true}
@@ -7,20 +7,22 @@ use Rattle.std.proofs.lemmas.List.{length-set}
 use Rattle.std.proofs.lemmas.List.Elements.{All-set, All-push, All-filter, All-weaker}
 use Rattle.std.proofs.lemmas.Option.{slice_get_within}
 use Rattle.chess_model.specs.declared.variant.Terms.{Terms}
+use Rattle.fics_words.specs.Effect.{unless}
 use Rattle.fics_words.specs.Handle.{key_of}
 use Rattle.fics_words.specs.Seats.{plays_as, seat_list, seat_number}
 use Rattle.fics_words.specs.declared.player.Player.{Player}
+use Rattle.fics_words.specs.declared.refusal.Refusal.TheVariants.{SimulFull}
 use Rattle.fics_words.specs.declared.seats.Seats.{Seats}
 use Rattle.lobby_state.specs.declared.acts.Plan.TheVariants.{Start}
 use Rattle.lobby_state.specs.declared.game.Game.{Game}
 use Rattle.lobby_state.specs.declared.member.Member.{Member}
-use Rattle.lobby_state.specs.declared.place.Place.{Place}
+use Rattle.simul_control.specs.declared.place.Place.{Place}
 use Rattle.lobby_state.specs.Keeps.{KeepsPlan}
 use Rattle.lobby_state.specs.Desks.{IsDesk}
 use Rattle.lobby_state.specs.Lobby.{LobbyState}
-use Rattle.lobby_state.specs.Places.{PlaceList}
+use Rattle.lobby_state.specs.Places.{PlaceList, is_full}
 use Rattle.lobby_state.specs.Planned.{CanStart}
-use Rattle.lobby_state.specs.Start.{concerns_seated, in_seat, is_by_seated, seated}
+use Rattle.lobby_state.specs.Start.{in_seat, is_by_seated, is_settled, seated}
 use Rattle.lobby_state.specs.WellFormed.{IsWellFormed, IsBetweenMembers, IsSeatOf, IsStarted, HasSeats, sessions_of}
 use Rattle.lobby_state.proofs.First.{position-within, find-found}
 use Rattle.lobby_state.proofs.Lists.{map-map_same, All-map_each, find-passes, get-set_same, get-set_other, get_inside}
@@ -58,9 +60,9 @@ IsSeatOf-started games slot game session place free h = record {
 }
 
 rows_by_test : (P : Place → Type 0) (b : Bool) (places : PlaceList) (place : Place) → P place → All P places.rows
-    → All P (cond b (record { at = places.at; rows = places.rows ++ place ∷ [] }) places).rows
-rows_by_test P true places place new h = All-push P places.rows place h new
-rows_by_test P false places place new h = h
+    → All P (unless (cond b (Some SimulFull) None) places (record places { rows = places.rows ++ place ∷ [] })).rows
+rows_by_test P true places place new h = h
+rows_by_test P false places place new h = All-push P places.rows place h new
 
 HasSeats-in_seat : (games : List (Option Game)) (desk serial : ℕ) (terms : Terms) (seats : Seats) (member : Member) (number : Option ℕ)
     → IsDesk desk → slice_get games (desk - 1) ≡ Some (Some (record { serial = serial; terms = terms; seats = seats }))
@@ -68,7 +70,7 @@ HasSeats-in_seat : (games : List (Option Game)) (desk serial : ℕ) (terms : Ter
 HasSeats-in_seat games desk serial terms seats member None is_desk in_use e h = h
 HasSeats-in_seat games desk serial terms seats member (Some number) is_desk in_use e h =
     let sits = Sits-seat_number member.session seats number e in
-    rows_by_test (IsSeatOf games member.session) (ltb (length member.places.rows) 32) member.places (record { desk = desk; serial = serial; seat = number })
+    rows_by_test (IsSeatOf games member.session) (is_full member.places) member.places (record { desk = desk; serial = serial; seat = number })
     (record {
       desk = is_desk;
       game = record { serial = serial; terms = terms; seats = seats };
@@ -103,15 +105,15 @@ formed_seated lobby desk serial terms seats can h =
     subst (λ (n : ℕ). All (IsStarted n) lobby.games) (sym can.is_next) (All-weaker (IsStarted lobby.started) (IsStarted (lobby.started + 1)) (IsStarted-later lobby.started) lobby.games h.serials) in
     let others : LobbyState = record lobby {
       members = map sit lobby.members;
-      challenges = filter (λ c. not (concerns_seated seats c)) lobby.challenges;
+      challenges = filter (λ c. not (is_settled lobby.members seats c)) lobby.challenges;
       games = games;
       started = serial;
     } in
     seeks_gone others (λ seek. not (is_by_seated seats seek))
-    (kept lobby (map sit lobby.members) (filter (λ c. not (concerns_seated seats c)) lobby.challenges) games serial
+    (kept lobby (map sit lobby.members) (filter (λ c. not (is_settled lobby.members seats c)) lobby.challenges) games serial
     (map-map_same (λ m. m.session) sit (λ m. in_seat_session desk serial (seat_number m.session (seat_list seats)) m) lobby.members)
     (map-map_same (λ m. key_of m.name) sit (λ m. ap key_of (in_seat_name desk serial (seat_number m.session (seat_list seats)) m)) lobby.members)
-    (All-filter (λ c. not (concerns_seated seats c)) (IsBetweenMembers (sessions_of lobby.members)) lobby.challenges h.challenges)
+    (All-filter (λ c. not (is_settled lobby.members seats c)) (IsBetweenMembers (sessions_of lobby.members)) lobby.challenges h.challenges)
     (length-set lobby.games (desk - 1) (Some game) ∙ h.games)
     (All-set (IsStarted serial) lobby.games (desk - 1) (Some game) (omega (arith, can.is_next), omega arith) rising)
     (All-map_each (HasSeats lobby.games) (HasSeats games) sit

@@ -1,4 +1,3 @@
-pub mod Field
 pub mod First
 pub mod Words
 pub mod Lists
@@ -31,6 +30,11 @@ pub mod KeepsWhere
 pub mod KeepsFetch
 pub mod KeepsFind
 pub mod KeepsFindGame
+pub mod OwnPlaces
+pub mod KeepsSimOpen
+pub mod KeepsSimNext
+pub mod KeepsSimPrev
+pub mod KeepsGoBoard
 pub mod KeepsGoing
 pub mod KeepsBye
 pub mod RowsInUse

@@ -1,6 +1,6 @@
 -- The change of a list of the session's member, among the members.
-use Rattle.std.proofs.Common.{◌≡◌, ℕ, Bool, true, false, List, [], Option, None, Some, Result, Ok, Err, slice_get, refl, sym, ap, ◌∙◌}
-use Rattle.std.specs.List.{find, position}
+use Rattle.std.proofs.Common.{◌≡◌, ℕ, Bool, true, false, List, Option, None, Some, Result, Ok, Err, slice_get, refl, sym, ap, ◌∙◌}
+use Rattle.std.specs.List.{position}
 use Rattle.std.proofs.Math.ListN.{set}
 use Rattle.fics_words.specs.Effect.{Takes, first_cause}
 use Rattle.fics_words.specs.declared.fail.Fail.{Fail}

@@ -40,6 +40,20 @@ All-change_first P p f step (x ∷ xs) h =
     let tail = All-tail P x xs h in
     All-by_test P (p x) x (f x) xs (change_first p f xs) head (step x head) tail (All-change_first P p f step xs tail)
 
+by_test-passing : {X : Type 0} (P : X → Type 0) (b : Bool) (x y : X) (xs ys : List X) → P x → (b ≡ true → P y) → All P xs → All P ys
+    → All P (cond b (y ∷ xs) (x ∷ ys))
+by_test-passing P true x y xs ys hx hy hxs hys = All-cons P y xs (hy refl) hxs
+by_test-passing P false x y xs ys hx hy hxs hys = All-cons P x ys hx hys
+
+-- a change of the first item that passes needs to keep what each item has for such items alone
+pub All-change_first_passing : {X : Type 0} (P : X → Type 0) (p : X → Bool) (f : X → X) → ((x : X) → p x ≡ true → P x → P (f x)) → (xs : List X)
+    → All P xs → All P (change_first p f xs)
+All-change_first_passing P p f step [] h = All-nil P
+All-change_first_passing P p f step (x ∷ xs) h =
+    let head = All-head P x xs h in
+    let tail = All-tail P x xs h in
+    by_test-passing P (p x) x (f x) xs (change_first p f xs) head (λ passes. step x passes head) tail (All-change_first_passing P p f step xs tail)
+
 pub filter-step : {X : Type 0} (Q : X → Type 0) (b : Bool) (x : X) (xs : List X) → (b ≡ true → Q x) → All Q xs → All Q (cond b (x ∷ xs) xs)
 filter-step Q true x xs head tail = All-cons Q x xs (head refl) tail
 filter-step Q false x xs head tail = tail

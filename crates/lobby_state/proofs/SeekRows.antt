@@ -9,7 +9,7 @@ use Rattle.chess_model.specs.declared.variant.Terms.{Terms}
 use Rattle.seek_match.specs.declared.seek.Seek.{Seek}
 use Rattle.seek_match.specs.Seeks.{is_by, next_number, posting}
 use Rattle.seek_match.proofs.Rising.{RiseAbove-filter, RiseAbove-insert, first_gap-above, first_gap-within}
-use Rattle.lobby_state.specs.Match.{needs_partners}
+use Rattle.lobby_state.specs.Pairing.{needs_partners}
 use Rattle.lobby_state.specs.WellFormed.{AreSeeksOf, IsByMember}
 use Rattle.lobby_state.proofs.Lists.{All-filter_passing, Contains-filter}
 

@@ -140,7 +140,7 @@ IsWellFormed-opening = record {
   handles = λ i j d before inside. absurd (omega arith);
   challenges = All-nil (IsBetweenMembers []);
   seeks = record { numbers = tt; members = All-nil (IsByMember []); few = λ session. omega arith };
-  partners = record { requests = All-nil (IsAskedByMember []); links = All-nil (IsLinkOfMembers []) };
+  partners = record { requests = All-nil (IsAskedByMember []); links = All-nil (IsLinkOfMembers []); apart = tt };
   games = refl;
   serials = All-replicate (IsStarted 0) 128 None tt;
   places = All-nil (HasSeats opening.games);

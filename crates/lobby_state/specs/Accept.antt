@@ -1,13 +1,15 @@
 -- Accept: a challenge is accepted, and the plan of its game is told. This server's own.
-use Rattle.std.specs.Prelude.{ℕ, ◌+◌, ◌==◌, false, ◌&&◌, List, ◌∷◌, Option, None, Some, is_none}
+use Rattle.std.specs.Prelude.{ℕ, ◌==◌, false, ◌&&◌, List, ◌∷◌, Option, None, Some, is_none}
 use Rattle.std.specs.List.{find}
 use Rattle.chess_model.specs.declared.variant.Terms.{Terms}
 use Rattle.fics_words.specs.Effect.{Effect}
-use Rattle.fics_words.specs.declared.refusal.Refusal.TheVariants.{NotIn, NoChallenge}
+use Rattle.fics_words.specs.declared.refusal.Refusal.TheVariants.{NotIn, NoChallenge, BadOpponent, NotInVariant, NoPartner}
 use Rattle.lobby_state.specs.declared.acts.Plan.{Plan}
 use Rattle.lobby_state.specs.declared.challenge.Challenge.{Challenge}
 use Rattle.lobby_state.specs.declared.member.Member.{Member}
+use Rattle.lobby_state.specs.Change.{holds}
 use Rattle.lobby_state.specs.Lobby.{LobbyState, member_of, named, free_slot}
+use Rattle.lobby_state.specs.Pairing.{are_partners, is_simul_of_four, lack_partner, pairing_of}
 use Rattle.lobby_state.specs.Starting.{start_causes, start_plan}
 
 -- the challenge by this player to the session, if there are both
@@ -31,20 +33,24 @@ abbrev pub terms_in : Option Challenge → Option Terms
 terms_in None = None
 terms_in (Some offer) = Some offer.terms
 
--- an acceptance is refused where the session isn't a member; where there is no such challenge; and where no game of the
--- two can start
+-- an acceptance is refused where the session isn't a member; where there is no such challenge; in bughouse where the two
+-- are partners by now, where one of them gives a simul, and where one has no partner; and where no game of theirs can
+-- start. The partners who play are those of the moment of the acceptance
 abbrev pub accept_effect : LobbyState → ℕ → Option (List ℕ) → Effect LobbyState Plan
 accept_effect lobby session name =
     let accepting = member_of lobby session in
     let offer = offer_of lobby session name in
     let offering = offering_in lobby offer in
+    let pairing = pairing_of offering accepting (terms_in offer) in
     record {
       causes =
           (is_none accepting, NotIn) ∷
           (is_none offering, NoChallenge) ∷
-          start_causes lobby accepting offering;
+          (holds (are_partners lobby) pairing, BadOpponent) ∷
+          (holds is_simul_of_four pairing, NotInVariant) ∷
+          (holds (lack_partner lobby) pairing, NoPartner) ∷
+          start_causes lobby pairing;
       memory = false;
-      reply =
-          start_plan lobby.accounts (lobby.started + 1) accepting (terms_in offer) offering (free_slot lobby);
+      reply = start_plan lobby pairing (free_slot lobby);
       after = lobby;
     }

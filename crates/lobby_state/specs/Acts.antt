@@ -4,7 +4,7 @@ use Rattle.chess_model.specs.declared.variant.Terms.{Terms}
 use Rattle.fics_words.specs.declared.refusal.Refusal.{Refusal}
 use Rattle.fics_words.specs.Effect.{Effect, answer_of, state_of}
 use Rattle.lobby_state.specs.declared.acts.LobbyAct.{LobbyAct}
-use Rattle.lobby_state.specs.declared.acts.LobbyAct.TheVariants.{Enter, Register, Match, Unpost, Sought, Who, Where, Fetch, Going, Bye, InUse, Var, Tell, Shout, Decline, Withdraw, Post, Channel, TellChannel, InChannel, Partner, Ptell, List, Pending, Games, Find, FindGame}
+use Rattle.lobby_state.specs.declared.acts.LobbyAct.TheVariants.{Enter, Register, Match, Unpost, Sought, Who, Where, Fetch, Going, Bye, InUse, Var, Tell, Shout, Decline, Withdraw, Post, Channel, TellChannel, InChannel, Partner, Ptell, List, Pending, Games, Find, FindGame, SimOpen, SimNext, SimPrev, GoBoard}
 use Rattle.lobby_state.specs.declared.acts.LobbyReply.{LobbyReply}
 use Rattle.lobby_state.specs.Bye.{bye_effect}
 use Rattle.lobby_state.specs.Channel.{channel_effect}
@@ -16,6 +16,7 @@ use Rattle.lobby_state.specs.Fetch.{fetch_effect}
 use Rattle.lobby_state.specs.Games.{games_effect}
 use Rattle.lobby_state.specs.Find.{find_effect}
 use Rattle.lobby_state.specs.FindGame.{find_game_effect}
+use Rattle.lobby_state.specs.GoBoard.{go_board_effect}
 use Rattle.lobby_state.specs.Going.{going_effect}
 use Rattle.lobby_state.specs.InUse.{in_use_effect}
 use Rattle.lobby_state.specs.Lobby.{LobbyState}
@@ -24,6 +25,9 @@ use Rattle.lobby_state.specs.NameList.{list_effect}
 use Rattle.lobby_state.specs.Pending.{pending_effect}
 use Rattle.lobby_state.specs.Post.{post_effect}
 use Rattle.lobby_state.specs.Registration.{registration_effect}
+use Rattle.lobby_state.specs.SimNext.{sim_next_effect}
+use Rattle.lobby_state.specs.SimOpen.{sim_open_effect}
+use Rattle.lobby_state.specs.SimPrev.{sim_prev_effect}
 use Rattle.lobby_state.specs.Sought.{sought_effect}
 use Rattle.lobby_state.specs.Unpost.{unpost_effect}
 use Rattle.lobby_state.specs.Where.{where_effect}
@@ -57,6 +61,10 @@ lobby_effect lobby session (Decline name) = decline_effect lobby session name
 lobby_effect lobby session (Withdraw name) = withdraw_effect lobby session name
 lobby_effect lobby session (Partner name) = partner_effect lobby session name
 lobby_effect lobby session (Ptell text) = ptell_effect lobby session text
+lobby_effect lobby session SimOpen = sim_open_effect lobby session
+lobby_effect lobby session SimNext = sim_next_effect lobby session
+lobby_effect lobby session SimPrev = sim_prev_effect lobby session
+lobby_effect lobby session (GoBoard name) = go_board_effect lobby session name
 lobby_effect lobby session (Find name) = find_effect lobby session name
 lobby_effect lobby session (FindGame number) = find_game_effect lobby session number
 lobby_effect lobby session Where = where_effect lobby session

@@ -5,7 +5,7 @@ use Rattle.fics_words.specs.declared.refusal.Refusal.TheVariants.{NotIn, NoSuchP
 use Rattle.lobby_state.specs.declared.acts.LobbyReply.{LobbyReply}
 use Rattle.lobby_state.specs.declared.acts.LobbyReply.TheVariants.{Done, Found}
 use Rattle.lobby_state.specs.declared.member.Member.{Member}
-use Rattle.lobby_state.specs.declared.place.Place.{Place}
+use Rattle.simul_control.specs.declared.place.Place.{Place}
 use Rattle.lobby_state.specs.Lobby.{LobbyState, member_of, named, places_in}
 
 -- the present place of a member, if it has any place; nobody has none

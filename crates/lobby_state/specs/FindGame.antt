@@ -5,11 +5,11 @@ use Rattle.fics_words.specs.Effect.{Effect}
 use Rattle.fics_words.specs.declared.refusal.Refusal.TheVariants.{NotIn, NoSuchGame}
 use Rattle.lobby_state.specs.declared.acts.LobbyReply.{LobbyReply}
 use Rattle.lobby_state.specs.declared.game.Game.{Game}
-use Rattle.lobby_state.specs.declared.place.Place.{Place}
+use Rattle.simul_control.specs.declared.place.Place.{Place}
 use Rattle.lobby_state.specs.Desks.{desks}
 use Rattle.lobby_state.specs.Find.{found}
 use Rattle.lobby_state.specs.Lobby.{LobbyState, game_at, member_of}
-use Rattle.lobby_state.specs.Match.{needs_partners}
+use Rattle.lobby_state.specs.Pairing.{needs_partners}
 
 -- the desk of the game of this number: the boards of desk d have the numbers 2 d - 1 and 2 d
 abbrev pub desk_of_game : ℕ → ℕ

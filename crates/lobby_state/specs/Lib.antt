@@ -1,12 +1,12 @@
 pub mod Change
 pub mod Desks
 pub mod Places
-pub mod PlaceFields
 pub mod Lobby
 pub mod Enter
 pub mod Registration
 pub mod TermsText
 pub mod NameList
+pub mod Pairing
 pub mod Match
 pub mod Post
 pub mod Unpost
@@ -26,6 +26,11 @@ pub mod Where
 pub mod Fetch
 pub mod Find
 pub mod FindGame
+pub mod OwnPlaces
+pub mod SimOpen
+pub mod SimNext
+pub mod SimPrev
+pub mod GoBoard
 pub mod Going
 pub mod Bye
 pub mod InUse

@@ -83,6 +83,14 @@ is_registered accounts member = has_account accounts member.name
 abbrev pub has_place : Member → Bool
 has_place member = not (length member.places.rows == 0)
 
+-- the member gives a simul
+abbrev pub gives : Member → Bool
+gives member = member.places.giving
+
+-- the member is busy: it has a place and gives no simul, so that it can begin no game
+abbrev pub is_busy : Member → Bool
+is_busy member = has_place member && not (gives member)
+
 -- the member of the session, if it has entered
 abbrev pub member_of : LobbyState → ℕ → Option Member
 member_of lobby session = find (is_session session) lobby.members

@@ -1,28 +1,22 @@
 -- Match: a member challenges another to a game. This server's own.
-use Rattle.std.specs.Prelude.{ℕ, ◌==◌, Bool, true, false, not, ◌&&◌, ◌||◌, nat_le, List, [], ◌∷◌, ◌++◌, length, Option, None, Some, is_none, codes}
+use Rattle.std.specs.Prelude.{ℕ, ◌==◌, Bool, true, not, ◌&&◌, ◌||◌, nat_le, List, [], ◌∷◌, ◌++◌, length, Option, None, Some, is_none, codes}
 use Rattle.std.specs.List.{filter}
 use Rattle.chess_model.specs.declared.variant.Terms.{Terms}
-use Rattle.chess_model.specs.declared.variant.Variant.{Variant}
-use Rattle.chess_model.specs.declared.variant.Variant.TheVariants.{Bughouse}
 use Rattle.fics_words.specs.Effect.{Effect}
-use Rattle.fics_words.specs.declared.refusal.Refusal.TheVariants.{NotIn, NoSuchPlayer, BadOpponent, Playing, Refuses, NoPartner, QueueFull}
+use Rattle.fics_words.specs.declared.refusal.Refusal.TheVariants.{NotIn, NoSuchPlayer, BadOpponent, Playing, Refuses, NotInVariant, NoPartner, QueueFull}
 use Rattle.lobby_state.specs.declared.acts.LobbyReply.{LobbyReply}
 use Rattle.lobby_state.specs.declared.acts.LobbyReply.TheVariants.{Done}
 use Rattle.lobby_state.specs.declared.challenge.Challenge.{Challenge}
 use Rattle.lobby_state.specs.declared.member.Member.{Member}
 use Rattle.lobby_state.specs.Change.{change_first, holds}
-use Rattle.lobby_state.specs.Lobby.{LobbyState, most_lines, is_session, is_named, has_place, member_of, named}
+use Rattle.lobby_state.specs.Lobby.{LobbyState, most_lines, is_session, is_named, is_busy, member_of, named}
 use Rattle.lobby_state.specs.NameList.{avoids}
+use Rattle.lobby_state.specs.Pairing.{are_partners, is_simul_of_four, lack_partner, pairing_of}
 use Rattle.lobby_state.specs.TermsText.{terms_words}
 
 -- the line that a challenge sends: who challenges, and on which terms
 abbrev pub challenge_words : List ℕ → Terms → List ℕ
 challenge_words name terms = codes "Challenge: " ++ name ++ codes " " ++ terms_words terms
-
--- bughouse is played by pairs of partners, and no game of it can be started yet
-abbrev pub needs_partners : Variant → Bool
-needs_partners Bughouse = true
-needs_partners _ = false
 
 -- the member doesn't want to be challenged
 abbrev pub is_closed : Member → Bool
@@ -54,19 +48,23 @@ challenged lobby (Some caller) (Some other) to terms = record lobby {
 }
 
 -- a challenge is refused where the session isn't a member; where nobody has the handle, or that member is going; where
--- it is the session itself; where one of the two has a place; where the other doesn't want to be challenged, or has the
--- member on one of its lists; where the game needs partners; and where 512 lines wait for the other
+-- it is the session itself, or in bughouse its partner; where one of the two has a place and gives no simul, whatever
+-- their partners do; where the other doesn't want to be challenged, or has the member on one of its lists; in bughouse
+-- where one of the two gives a simul, and where one of them has no partner; and where 512 lines wait for the other
 abbrev pub match_effect : LobbyState → ℕ → List ℕ → Terms → Effect LobbyState LobbyReply
-match_effect lobby session to terms = record {
-  causes =
-      (is_none (member_of lobby session), NotIn) ∷
-      (is_none (named lobby to), NoSuchPlayer) ∷
-      (holds (is_session session) (named lobby to), BadOpponent) ∷
-      (holds has_place (member_of lobby session) || holds has_place (named lobby to), Playing) ∷
-      (holds is_closed (named lobby to) || holds (avoids (member_of lobby session)) (named lobby to), Refuses) ∷
-      (needs_partners terms.variant, NoPartner) ∷
-      (holds is_full (named lobby to), QueueFull) ∷ [];
-  memory = true;
-  reply = Done;
-  after = challenged lobby (member_of lobby session) (named lobby to) to terms;
-}
+match_effect lobby session to terms =
+    let pairing = pairing_of (member_of lobby session) (named lobby to) (Some terms) in
+    record {
+      causes =
+          (is_none (member_of lobby session), NotIn) ∷
+          (is_none (named lobby to), NoSuchPlayer) ∷
+          (holds (is_session session) (named lobby to) || holds (are_partners lobby) pairing, BadOpponent) ∷
+          (holds is_busy (member_of lobby session) || holds is_busy (named lobby to), Playing) ∷
+          (holds is_closed (named lobby to) || holds (avoids (member_of lobby session)) (named lobby to), Refuses) ∷
+          (holds is_simul_of_four pairing, NotInVariant) ∷
+          (holds (lack_partner lobby) pairing, NoPartner) ∷
+          (holds is_full (named lobby to), QueueFull) ∷ [];
+      memory = true;
+      reply = Done;
+      after = challenged lobby (member_of lobby session) (named lobby to) to terms;
+    }

@@ -1,17 +1,19 @@
 -- What a plan that a lobby gave promises. This server's own.
-use Rattle.std.specs.Prelude.{◌≡◌, ◌≢◌, ℕ, ◌+◌, ◌-◌, IsNone, IsSome, None, Some, false, slice_get}
+use Rattle.std.specs.Prelude.{◌≡◌, ◌≢◌, ℕ, ◌+◌, ◌-◌, All, Contains, IsNone, IsSome, None, Option, Some, slice_get}
 use Rattle.std.specs.List.{AllPairs}
 use Rattle.chess_model.specs.declared.variant.Terms.{Terms}
 use Rattle.chess_model.specs.declared.variant.Variant.{Variant}
 use Rattle.chess_model.specs.declared.variant.Variant.TheVariants.{Bughouse}
 use Rattle.fics_words.specs.Handle.{key_of}
+use Rattle.fics_words.specs.declared.player.Player.{Player}
+use Rattle.fics_words.specs.declared.seats.Opponents.{Opponents}
 use Rattle.fics_words.specs.declared.seats.Seats.{Seats}
 use Rattle.fics_words.specs.Seats.{seat_list}
 use Rattle.lobby_state.specs.declared.acts.Plan.{Plan}
 use Rattle.lobby_state.specs.declared.acts.Plan.TheVariants.{Start, Clear}
 use Rattle.lobby_state.specs.Desks.{IsDesk}
-use Rattle.lobby_state.specs.Lobby.{LobbyState}
-use Rattle.lobby_state.specs.Match.{needs_partners}
+use Rattle.lobby_state.specs.Lobby.{LobbyState, partner_in}
+use Rattle.lobby_state.specs.WellFormed.{sessions_of}
 
 -- no two of the players are one, by their sessions or by their handles
 pub record AreApart (seats : Seats) : Type 0 where
@@ -23,15 +25,30 @@ abbrev pub FitsVariant : Variant → Seats → Type 0
 FitsVariant Bughouse seats = IsSome seats.second
 FitsVariant _ seats = IsNone seats.second
 
+-- the player is a member
+abbrev pub IsMember : LobbyState → Player → Type 0
+IsMember lobby player = Contains (sessions_of lobby.members) player.session
+
+-- the one has the other as its partner
+abbrev pub HasPartner : LobbyState → Player → Player → Type 0
+HasPartner lobby one another = partner_in lobby one.session ≡ Some another.session
+
+-- where there is a second board, White of the first has Black of the second as its partner, and Black of the first White
+-- of the second
+abbrev pub SitCrosswise : LobbyState → Opponents → Option Opponents → Type 0
+SitCrosswise lobby first None = Unit {0}
+SitCrosswise lobby first (Some second) = HasPartner lobby first.white second.black × HasPartner lobby first.black second.white
+
 -- a game on these terms can start at this desk under this serial with these players: the desk is free, the serial is
--- the next one, the players are as many as the variant has, and apart, and nobody needs a partner
+-- the next one, the players are members, as many as the variant has, and apart, and partners have opposite colours
 pub record CanStart (lobby : LobbyState) (desk serial : ℕ) (terms : Terms) (seats : Seats) : Type 0 where
   pub is_desk : IsDesk desk
   pub is_free : slice_get lobby.games (desk - 1) ≡ Some None
   pub is_next : serial ≡ lobby.started + 1
+  pub members : All (IsMember lobby) (seat_list seats)
   pub apart : AreApart seats
   pub boards : FitsVariant terms.variant seats
-  pub for_two : needs_partners terms.variant ≡ false
+  pub partners : SitCrosswise lobby seats.first seats.second
 
 -- the plan can be carried out in this lobby
 abbrev pub IsPlanned : LobbyState → Plan → Type 0

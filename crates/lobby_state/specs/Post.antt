@@ -1,5 +1,5 @@
 -- Post: a member offers a game to whoever takes it. This server's own.
-use Rattle.std.specs.Prelude.{ℕ, Bool, true, not, ◌&&◌, List, ◌∷◌, ◌++◌, Option, None, Some, is_none, codes, decimal}
+use Rattle.std.specs.Prelude.{ℕ, Bool, true, not, ◌&&◌, ◌||◌, List, ◌∷◌, ◌++◌, Option, None, Some, is_none, codes, decimal}
 use Rattle.chess_model.specs.declared.variant.Terms.{Terms}
 use Rattle.fics_words.specs.Effect.{Effect}
 use Rattle.fics_words.specs.declared.refusal.Refusal.TheVariants.{NotIn, NotInVariant, Playing}
@@ -8,8 +8,8 @@ use Rattle.lobby_state.specs.declared.acts.LobbyReply.TheVariants.{Number}
 use Rattle.lobby_state.specs.declared.member.Member.{Member}
 use Rattle.lobby_state.specs.Broadcast.{broadcast}
 use Rattle.lobby_state.specs.Change.{holds}
-use Rattle.lobby_state.specs.Lobby.{LobbyState, has_place, is_session, member_of}
-use Rattle.lobby_state.specs.Match.{needs_partners}
+use Rattle.lobby_state.specs.Lobby.{LobbyState, gives, has_place, is_session, member_of}
+use Rattle.lobby_state.specs.Pairing.{needs_partners}
 use Rattle.lobby_state.specs.TermsText.{terms_words}
 use Rattle.seek_match.specs.Seeks.{next_number, posting}
 
@@ -31,14 +31,18 @@ posted lobby session (Some caller) terms = record lobby {
   seeks = (posting lobby.seeks session terms).after;
 }
 
+-- the member is taken: it has a place, or gives a simul
+abbrev pub is_taken : Member → Bool
+is_taken member = has_place member || gives member
+
 -- a Post is refused where the session isn't a member; where the game isn't one of two players; where the member has a
--- place; and where it has three seeks. The seek gets the least number that no seek has
+-- place or gives a simul; and where it has three seeks. The seek gets the least number that no seek has
 abbrev pub post_effect : LobbyState → ℕ → Terms → Effect LobbyState LobbyReply
 post_effect lobby session terms = record {
   causes =
       (is_none (member_of lobby session), NotIn) ∷
       (needs_partners terms.variant, NotInVariant) ∷
-      (holds has_place (member_of lobby session), Playing) ∷
+      (holds is_taken (member_of lobby session), Playing) ∷
       (posting lobby.seeks session terms).causes;
   memory = true;
   reply = Number (next_number lobby.seeks);

@@ -8,13 +8,13 @@ use Rattle.login_handles.specs.Accounts.{AreAccounts}
 use Rattle.lobby_state.specs.declared.challenge.Challenge.{Challenge}
 use Rattle.lobby_state.specs.declared.game.Game.{Game}
 use Rattle.lobby_state.specs.declared.member.Member.{Member}
-use Rattle.lobby_state.specs.declared.place.Place.{Place}
+use Rattle.simul_control.specs.declared.place.Place.{Place}
 use Rattle.lobby_state.specs.Desks.{IsDesk, desks}
 use Rattle.lobby_state.specs.Lobby.{LobbyState, most_members}
-use Rattle.lobby_state.specs.Match.{needs_partners}
+use Rattle.lobby_state.specs.Pairing.{needs_partners}
 use Rattle.partner_link.specs.declared.pairs.PartnerLink.{PartnerLink}
 use Rattle.partner_link.specs.declared.pairs.PartnerRequest.{PartnerRequest}
-use Rattle.partner_link.specs.Partners.{PartnerLists}
+use Rattle.partner_link.specs.Partners.{AreLinks, PartnerLists}
 use Rattle.seek_match.specs.declared.seek.Seek.{Seek}
 use Rattle.seek_match.specs.Seeks.{AreSeeks, is_by, most_seeks}
 
@@ -22,12 +22,11 @@ use Rattle.seek_match.specs.Seeks.{AreSeeks, is_by, most_seeks}
 abbrev pub sessions_of : List Member → List ℕ
 sessions_of members = map (λ member. member.session) members
 
--- the challenge is by one member to another, and to a game that two can play, since no other can be started yet
+-- the challenge is by one member to another
 pub record IsBetweenMembers (sessions : List ℕ) (challenge : Challenge) : Type 0 where
   pub from : Contains sessions challenge.from
   pub to : Contains sessions challenge.to
   pub differ : challenge.from ≢ challenge.to
-  pub for_two : needs_partners challenge.terms.variant ≡ false
 
 -- the seek is by a member, and of a game that two can play
 pub record IsByMember (sessions : List ℕ) (seek : Seek) : Type 0 where
@@ -50,10 +49,11 @@ pub record IsLinkOfMembers (sessions : List ℕ) (link : PartnerLink) : Type 0 w
   pub first : Contains sessions link.first
   pub second : Contains sessions link.second
 
--- each request and each link is of members alone
+-- each request and each link is of members alone; nobody is linked to itself, and nobody is in two links
 pub record ArePartnersOf (sessions : List ℕ) (partners : PartnerLists) : Type 0 where
   pub requests : All (IsAskedByMember sessions) partners.requests
   pub links : All (IsLinkOfMembers sessions) partners.links
+  pub apart : AreLinks partners.links
 
 -- the place is a seat of this session's, at a desk in use under that serial
 pub record IsSeatOf (games : List (Option Game)) (session : ℕ) (place : Place) : Type 0 where
@@ -76,7 +76,7 @@ IsStarted started (Some game) = (1 ≤ game.serial) × (game.serial ≤ started)
 
 -- each handle has at most one account, and there are at most 4,096; there are at most 256 members, of whom no two have
 -- one session, and no two one handle; each challenge is by one member to another; the seeks are by members; the requests
--- and links of partners are of members; there are 128 desks, and each game has a serial that was given out; and each
+-- and links of partners are of members, and nobody has two partners; there are 128 desks, and each game has a serial that was given out; and each
 -- place of a member is a seat of its own in such a game
 pub record IsWellFormed (lobby : LobbyState) : Type 0 where
   pub accounts : AreAccounts lobby.accounts

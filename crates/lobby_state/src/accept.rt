@@ -6,12 +6,15 @@ ghost use Rattle.lobby_state.specs.Accept.{accept_effect, offer_of};
 
 use crate::acts::Plan;
 use crate::challenge::{Challenge, first_between};
+use crate::pairing::is_simul_of_four;
 use crate::register::Register;
 use fics_words::{HandleKey, Refusal};
 
 impl Register {
     /// What an acceptance is to do. The causes of a refusal, in order: the session isn't a member; there is no such
-    /// challenge; one of the two has a place; all desks are in use, or 2^62 games were started.
+    /// challenge; in bughouse the two are partners by now, one of them gives a simul, or one has no partner; one of those
+    /// who would be seated has a place and gives no simul; one of them has 32 places; all desks are in use, or 2^62 games
+    /// were started.
     pub(crate) fn accept_plan(&self, session: u32, name: Option<HandleKey>) -> Result<Plan, Refusal>
         ensures { result ≡ answer_of (accept_effect self.now session name) }
     {
@@ -24,6 +27,15 @@ impl Register {
         let Some(offering) = self.member(offer.from) else {
             return Err(Refusal::NoChallenge);
         };
+        if self.are_partners(offering, accepting, offer.terms) {
+            return Err(Refusal::BadOpponent);
+        }
+        if is_simul_of_four(offering, accepting, offer.terms) {
+            return Err(Refusal::NotInVariant);
+        }
+        if self.lack_partner(offering, accepting, offer.terms) {
+            return Err(Refusal::NoPartner);
+        }
         self.start_plan(accepting, offering, offer.terms)
     }
 

@@ -5,16 +5,15 @@ ghost use Rattle.lobby_state.specs.Plans.{desk_of};
 
 use crate::desk_in_use::DeskInUse;
 use crate::name_list::WhichList;
-use crate::place::Place;
-use crate::places::Places;
 use crate::told::ReplyLists;
 use crate::var::Var;
 use chess_model::Terms;
 use collections::Listed;
 use fics_words::{Digest, Handle, HandleKey, Line, Seats};
+use simul_control::{Place, Places};
 
 /// An act that needs the lobby alone.
-#[derive(Debug, Drop, PartialEq, Eq)]
+#[derive(Drop)]
 pub enum LobbyAct {
     /// The session comes in, under this handle or else as a guest. Where the handle has an account, the digest of its
     /// password is asked for; where it has none, a digest that is given means nothing.
@@ -97,6 +96,16 @@ pub enum LobbyAct {
     Ptell {
         text: Line,
     },
+    /// The member begins to give a simul, or ends it.
+    SimOpen,
+    /// The giver goes to the next of its places, and from the last one to the first.
+    SimNext,
+    /// The giver goes to the previous of its places, and from the first one to the last.
+    SimPrev,
+    /// The giver goes to its place against the player with this handle.
+    GoBoard {
+        name: HandleKey,
+    },
     /// Asks where the player with this handle plays.
     Find {
         name: HandleKey,
@@ -119,7 +128,7 @@ pub enum LobbyAct {
 }
 
 /// What a lobby act is answered.
-#[derive(Debug, Drop, PartialEq, Eq)]
+#[derive(Drop, PartialEq, Eq)]
 pub enum LobbyReply {
     Done,
     /// The session is in, under this handle.
@@ -168,7 +177,7 @@ impl LobbyReply {
 }
 
 /// An act that needs the lobby and a desk.
-#[derive(Debug, Drop, PartialEq, Eq)]
+#[derive(Drop)]
 pub enum PairAct {
     /// Accepts the challenge of the player with this handle, or without one the oldest challenge.
     Accept(Option<HandleKey>),
@@ -179,7 +188,7 @@ pub enum PairAct {
 }
 
 /// What a pair act is to do, as the lobby alone decides it. Desks are 1 to 128.
-#[derive(Clone, Copy, Debug, PartialEq, Eq)]
+#[derive(Clone, Copy, PartialEq, Eq)]
 pub enum Plan {
     /// A game starts.
     Start {

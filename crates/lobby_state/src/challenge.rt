@@ -3,11 +3,12 @@ ghost use Rattle.std.specs.Prelude.{◌≡◌, ◌<◌, ◌==◌, ◌&&◌, not,
 ghost use Rattle.std.specs.List.{find};
 ghost use Rattle.lobby_state.specs.Lobby.{concerns};
 ghost use Rattle.lobby_state.specs.Match.{is_same_pair, with_challenge};
-ghost use Rattle.lobby_state.specs.Start.{concerns_board, concerns_seated};
+ghost use Rattle.lobby_state.specs.Start.{concerns_bound, is_between, is_bound, is_giver, is_settled};
 
+use crate::member::{Member, OfSession};
 use chess_model::Terms;
-use collections::{Predicate, Reserved};
-use fics_words::{Opponents, Seats};
+use collections::{Predicate, Reserved, find};
+use fics_words::Seats;
 
 /// A challenge that stands: by which session, to which, and to which game.
 #[derive(Clone, Copy, Debug, PartialEq, Eq)]
@@ -23,26 +24,6 @@ impl Challenge {
         ensures { result ≡ concerns session self.now }
     {
         self.from == session || self.to == session
-    }
-
-    /// Whether the challenge is by or to a player of this board.
-    fn concerns_board(&self, opponents: &Opponents) -> bool
-        ensures { result ≡ concerns_board self.now opponents.now }
-    {
-        self.concerns(opponents.white.session) || self.concerns(opponents.black.session)
-    }
-
-    /// Whether the challenge is by or to a player of the game.
-    fn concerns_seated(&self, seats: &Seats) -> bool
-        ensures { result ≡ concerns_seated seats.now self.now }
-    {
-        if self.concerns_board(&seats.first) {
-            return true;
-        }
-        match &seats.second {
-            None => false,
-            Some(second) => self.concerns_board(second),
-        }
     }
 }
 
@@ -70,15 +51,50 @@ impl Predicate<Challenge> for Without {
     }
 }
 
-/// A challenge that isn't by nor to a player of the game.
+/// A challenge that stays as the game of these seats starts.
 #[derive(Clone, Copy)]
-pub(crate) struct WithoutSeated(pub(crate) Seats);
+pub(crate) struct Stays<'a> {
+    pub(crate) members: &'a [Member],
+    pub(crate) seats: Seats,
+}
 
-impl Predicate<Challenge> for WithoutSeated {
-    ghost passes = { λ test challenge. not (concerns_seated test.0 challenge) };
+impl<'a> Predicate<Challenge> for Stays<'a> {
+    ghost passes = { λ test challenge. not (is_settled test.members.now test.seats challenge) };
 
     fn passes(&self, challenge: &Challenge) -> bool {
-        !challenge.concerns_seated(&self.0)
+        !(is_between(&self.seats, challenge)
+            || concerns_bound(self.members, &self.seats, challenge))
+    }
+}
+
+/// Whether the challenge is between two players of the game.
+fn is_between(seats: &Seats, challenge: &Challenge) -> bool
+    ensures { result ≡ is_between seats.now challenge.now }
+{
+    seats.number(challenge.from).is_some() && seats.number(challenge.to).is_some()
+}
+
+/// Whether the challenge is by or to a player of the game that gives no simul.
+fn concerns_bound(members: &[Member], seats: &Seats, challenge: &Challenge) -> bool
+    ensures { result ≡ concerns_bound members.now seats.now challenge.now }
+{
+    is_bound(members, seats, challenge.from) || is_bound(members, seats, challenge.to)
+}
+
+/// Whether the session is a player of the game that gives no simul.
+fn is_bound(members: &[Member], seats: &Seats, session: u32) -> bool
+    ensures { result ≡ is_bound members.now seats.now session }
+{
+    seats.number(session).is_some() && !is_giver(members, session)
+}
+
+/// Whether the session is one of these members, and gives a simul.
+fn is_giver(members: &[Member], session: u32) -> bool
+    ensures { result ≡ is_giver members.now session }
+{
+    match find(members, &OfSession(session)) {
+        None => false,
+        Some(member) => member.gives(),
     }
 }
 

@@ -6,10 +6,10 @@ ghost use Rattle.lobby_state.specs.FindGame.{board_seat, find_game_effect, first
 ghost use Rattle.lobby_state.specs.Lobby.{game_at};
 
 use crate::acts::LobbyReply;
-use crate::place::Place;
 use crate::register::Register;
 use chess_model::Variant;
 use fics_words::{Fail, Refusal};
+use simul_control::Place;
 
 impl Register {
     /// The first seat of the game of that number. The causes of a refusal, in order: the session isn't a member; no

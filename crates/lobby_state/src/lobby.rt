@@ -11,15 +11,15 @@ ghost use Rattle.lobby_state.specs.Registration.{loading_effect};
 
 use crate::acts::{LobbyAct, LobbyReply, PairAct, Plan};
 use crate::game::Game;
-use crate::places::Places;
 use crate::register::Register;
 use crate::told::ReplyLists;
 use fics_words::{Account, Fail, Line, NoMemory, Refusal};
+use simul_control::Places;
 use std::alloc::Global;
 use std::marker::Model;
 
 /// Who is registered and who is in the hall, which challenges stand, and which desks are in use. Every lobby is well-formed.
-#[derive(Debug, Drop)]
+#[derive(Drop)]
 pub struct Lobby {
     pub(crate) register: Register,
 }

@@ -6,16 +6,18 @@ ghost use Rattle.lobby_state.specs.Match.{challenge_words, match_effect};
 use crate::acts::LobbyReply;
 use crate::challenge::{Challenge, put_challenge};
 use crate::member::add_line;
+use crate::pairing::is_simul_of_four;
 use crate::register::Register;
 use crate::terms::put_terms;
-use chess_model::{Terms, Variant};
+use chess_model::Terms;
 use fics_words::{Fail, Handle, HandleKey, Line, NoMemory, Refusal};
 use std::alloc::Global;
 
 impl Register {
     /// The session challenges the named player. The causes of a refusal, in order: the session isn't a member; nobody
-    /// has the handle, or that member is going; it is the session itself; one of the two has a place; the other has
-    /// `open` off, or has the member on one of its lists; the game needs partners; 512 lines wait for the other.
+    /// has the handle, or that member is going; it is the session itself, or in bughouse its partner; one of the two has
+    /// a place and gives no simul; the other has `open` off, or has the member on one of its lists; in bughouse one of
+    /// the two gives a simul, or one has no partner; 512 lines wait for the other.
     pub(crate) fn challenge(
         &mut self,
         session: u32,
@@ -30,16 +32,19 @@ impl Register {
         let Some(other) = self.named(to) else {
             return Err(Fail::Refused(Refusal::NoSuchPlayer));
         };
-        if other.session == session {
+        if other.session == session || self.are_partners(caller, other, terms) {
             return Err(Fail::Refused(Refusal::BadOpponent));
         }
-        if caller.has_place() || other.has_place() {
+        if caller.is_busy() || other.is_busy() {
             return Err(Fail::Refused(Refusal::Playing));
         }
         if !other.wants.matches || other.avoids(caller) {
             return Err(Fail::Refused(Refusal::Refuses));
         }
-        if matches!(terms.variant, Variant::Bughouse) {
+        if is_simul_of_four(caller, other, terms) {
+            return Err(Fail::Refused(Refusal::NotInVariant));
+        }
+        if self.lack_partner(caller, other, terms) {
             return Err(Fail::Refused(Refusal::NoPartner));
         }
         if other.is_full() {

@@ -4,14 +4,15 @@ ghost use Rattle.std.specs.List.{find};
 ghost use Rattle.lobby_state.specs.Change.{change_first};
 ghost use Rattle.lobby_state.specs.Enter.{newcomer};
 ghost use Rattle.lobby_state.specs.Fetch.{emptied};
-ghost use Rattle.lobby_state.specs.Lobby.{is_session, is_named, has_place, lines_in};
+ghost use Rattle.lobby_state.specs.Lobby.{is_session, is_named, gives, has_place, is_busy, lines_in};
 ghost use Rattle.lobby_state.specs.Match.{is_full, with_line};
+ghost use Rattle.lobby_state.specs.Pairing.{is_crowded};
 
-use crate::places::Places;
 use crate::wants::Wants;
 use channel_feed::NameList;
 use collections::{Change, Listed, Predicate, Roomy, position};
 use fics_words::{Handle, HandleKey, Line, NoMemory};
+use simul_control::Places;
 use std::alloc::Global;
 
 /// The most members that the hall holds.
@@ -24,7 +25,7 @@ const MOST_LINES: usize = 512;
 pub(crate) type Members = Roomy<Member, MOST_MEMBERS>;
 
 /// Somebody who is in the hall.
-#[derive(Debug, Drop)]
+#[derive(Drop)]
 pub struct Member {
     pub session: u32,
     pub name: Handle,
@@ -67,6 +68,27 @@ impl Member {
         ensures { result ≡ has_place self.now }
     {
         !self.places.rows().is_empty()
+    }
+
+    /// Whether the member gives a simul.
+    pub(crate) fn gives(&self) -> bool
+        ensures { result ≡ gives self.now }
+    {
+        self.places.giving()
+    }
+
+    /// Whether the member has a place and gives no simul, so that it can begin no game.
+    pub(crate) fn is_busy(&self) -> bool
+        ensures { result ≡ is_busy self.now }
+    {
+        self.has_place() && !self.gives()
+    }
+
+    /// Whether the member has 32 places, so that it can't be seated at one more board.
+    pub(crate) fn is_crowded(&self) -> bool
+        ensures { result ≡ is_crowded self.now }
+    {
+        self.places.is_full()
     }
 
     /// Whether no more lines can wait for the member.

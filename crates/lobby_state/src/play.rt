@@ -5,13 +5,12 @@ ghost use Rattle.lobby_state.specs.Play.{play_effect};
 
 use crate::acts::Plan;
 use crate::register::Register;
-use crate::starting::are_playing;
 use fics_words::Refusal;
 
 impl Register {
     /// What the taking of a seek is to do. The causes of a refusal, in order: the session isn't a member; no seek has
-    /// the number; it is the session's own; one of the two has a place; the seek's player has the member on one of its
-    /// lists; and then those of a game of the two.
+    /// the number; it is the session's own; one of the two has a place and gives no simul; the seek's player has the
+    /// member on one of its lists; and then those of a game of the two.
     pub(crate) fn play_plan(&self, session: u32, number: u16) -> Result<Plan, Refusal>
         ensures { result ≡ answer_of (play_effect self.now session number) }
     {
@@ -27,7 +26,7 @@ impl Register {
         if offering.session == session {
             return Err(Refusal::BadOpponent);
         }
-        if are_playing(accepting, offering) {
+        if self.are_playing(offering, accepting, seek.terms) {
             return Err(Refusal::Playing);
         }
         if offering.avoids(accepting) {

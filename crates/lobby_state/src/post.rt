@@ -27,7 +27,8 @@ impl Predicate<Member> for HearsSeeks {
 
 impl Register {
     /// The session offers a game on these terms, and all others who want to hear of seeks are told. The causes of a
-    /// refusal, in order: the session isn't a member; the game is bughouse; the member has a place; it has three seeks.
+    /// refusal, in order: the session isn't a member; the game is bughouse; the member has a place, or gives a simul;
+    /// it has three seeks.
     pub(crate) fn post(&mut self, session: u32, terms: Terms) -> Result<LobbyReply, Fail>
         requires { length self.old.seeks < 65535 }
         ensures { Takes (post_effect self.old session terms) self.old self.new result }
@@ -38,7 +39,7 @@ impl Register {
         if matches!(terms.variant, Variant::Bughouse) {
             return Err(Fail::Refused(Refusal::NotInVariant));
         }
-        if caller.has_place() {
+        if caller.has_place() || caller.gives() {
             return Err(Fail::Refused(Refusal::Playing));
         }
         let name = caller.name;

@@ -6,20 +6,20 @@ ghost use Rattle.lobby_state.specs.Lobby.{holder_of, opening, member_of, named, 
 use crate::challenge::Challenge;
 use crate::game::{Game, no_games};
 use crate::member::{Member, Members};
-use crate::places::Places;
 use channel_feed::Channels;
 use collections::{Listed, Reserved};
 use fics_words::{Duplicate, HandleKey, Line, NoMemory};
 use login_handles::Accounts;
 use partner_link::Partners;
 use seek_match::SeekBook;
+use simul_control::Places;
 use std::alloc::Global;
 use std::marker::Model;
 
 /// Who is registered and who is in the hall, which challenges and seeks stand, who is in which channel, who are partners,
 /// and which desks are in
 /// use: the acts are carried out here, one file an act. That they leave it well-formed, `Lobby` knows.
-#[derive(Debug, Drop)]
+#[derive(Drop)]
 pub(crate) struct Register {
     pub(crate) alloc: Global,
     pub(crate) accounts: Accounts,

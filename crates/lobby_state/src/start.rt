@@ -2,18 +2,18 @@
 ghost use Rattle.std.specs.Prelude.{◌≡◌, filter, map, not};
 ghost use Rattle.fics_words.specs.Seats.{seat_list, seat_number};
 ghost use Rattle.lobby_state.specs.Desks.{IsDesk};
-ghost use Rattle.lobby_state.specs.Start.{concerns_seated, in_seat, is_by_seated, seated};
+ghost use Rattle.lobby_state.specs.Start.{in_seat, is_by_seated, is_settled, seated};
 
-use crate::challenge::{Challenge, WithoutSeated};
+use crate::challenge::{Challenge, Stays};
 use crate::game::Game;
 use crate::member::{Member, Members};
-use crate::place::Place;
 use crate::register::Register;
 use crate::seeks::ByUnseated;
 use chess_model::Terms;
 use collections::{Change, Reserved};
 use fics_words::Seats;
 use seek_match::SeekBook;
+use simul_control::Place;
 use std::marker::Model;
 
 /// The start of a game at a desk of the hall: its players have their places.
@@ -41,7 +41,8 @@ impl Change<Member> for Sit {
 
     fn change(&self, member: &mut Member) {
         if let Some(seat) = self.seats.number(member.session) {
-            member.places.add(Place {
+            // a plan seats nobody who has 32 places
+            let _room = member.places.add(Place {
                 desk: self.desk,
                 serial: self.serial,
                 seat,
@@ -51,14 +52,14 @@ impl Change<Member> for Sit {
 }
 
 impl Register {
-    /// The game starts: the desk is in use, the players have their places, and their challenges and their seeks go. It
-    /// takes no memory.
+    /// The game starts: the desk is in use, the players have their places, and their challenges go, but for a giver's
+    /// with others, and their seeks. It takes no memory.
     pub(crate) fn start(&mut self, desk: u8, serial: u64, terms: Terms, seats: &Seats)
         requires { IsDesk desk }
         ensures { self.new ≡ seated self.old desk serial terms seats.now }
     {
+        drop_challenges(&mut self.challenges, &self.members, seats);
         sit_down(&mut self.members, desk, serial, seats);
-        drop_challenges(&mut self.challenges, seats);
         drop_seeks(&mut self.seeks, seats);
         let game = Game {
             serial,
@@ -85,13 +86,16 @@ fn sit_down(members: &mut Members, desk: u8, serial: u64, seats: &Seats)
     members.change_each(&sit);
 }
 
-/// The challenges of the players go.
-fn drop_challenges(challenges: &mut Reserved<Challenge>, seats: &Seats)
+/// The challenges of the players go, but for a giver's with others.
+fn drop_challenges(challenges: &mut Reserved<Challenge>, members: &[Member], seats: &Seats)
     ensures { challenges.new.items
-        ≡ filter (λ challenge. not (concerns_seated seats.now challenge)) challenges.old.items }
+        ≡ filter (λ challenge. not (is_settled members.now seats.now challenge)) challenges.old.items }
 {
-    let without = WithoutSeated(*seats);
-    challenges.retain(&without);
+    let stays = Stays {
+        members,
+        seats: *seats,
+    };
+    challenges.retain(&stays);
 }
 
 /// The seeks of the players go.

@@ -1,12 +1,14 @@
 //! The plan of a game between a member that offers one and a member that accepts.
-ghost use Rattle.std.specs.Prelude.{◌≡◌, Some};
+ghost use Rattle.std.specs.Prelude.{◌≡◌};
 ghost use Rattle.fics_words.specs.Effect.{answer_of};
-ghost use Rattle.lobby_state.specs.Starting.{are_playing, offers_white, opponents_of, player_of, starting};
+ghost use Rattle.lobby_state.specs.Lobby.{gives};
+ghost use Rattle.lobby_state.specs.Pairing.{beside, paired};
+ghost use Rattle.lobby_state.specs.Starting.{has_white, offers_white, opponents_of, player_of, seats_of, second_board, starting};
 
 use crate::acts::Plan;
 use crate::member::Member;
 use crate::register::Register;
-use chess_model::{Colour, Terms};
+use chess_model::{Colour, Terms, Variant};
 use fics_words::{Opponents, Player, Refusal, Seats};
 use login_handles::Accounts;
 
@@ -14,18 +16,21 @@ use login_handles::Accounts;
 const MOST_GAMES: u64 = 1 << 62;
 
 impl Register {
-    /// The plan of a game of the two on these terms. The causes of a refusal, in order: one of the two has a place; all
-    /// desks are in use, or 2^62 games were started.
+    /// The plan of a game of the two on these terms. The causes of a refusal, in order: one of those who would be seated
+    /// has a place and gives no simul; one of them has 32 places; all desks are in use, or 2^62 games were started.
     pub(crate) fn start_plan(
         &self,
         accepting: &Member,
         offering: &Member,
         terms: Terms,
     ) -> Result<Plan, Refusal>
-        ensures { result ≡ answer_of (starting self.now accepting.now offering.now terms) }
+        ensures { result ≡ answer_of (starting self.now (paired offering.now accepting.now terms)) }
     {
-        if are_playing(accepting, offering) {
+        if self.are_playing(offering, accepting, terms) {
             return Err(Refusal::Playing);
+        }
+        if self.are_crowded(offering, accepting, terms) {
+            return Err(Refusal::SimulFull);
         }
         let Some(slot) = self.free_slot() else {
             return Err(Refusal::NoDesk);
@@ -34,50 +39,79 @@ impl Register {
             return Err(Refusal::NoDesk);
         }
         let serial = self.started + 1;
-        let offers_white = offers_white(terms.colour, serial);
         Ok(Plan::Start {
             desk: slot as u8 + 1,
             serial,
             terms,
-            seats: Seats {
-                first: opponents_of(&self.accounts, offers_white, offering, accepting),
-                second: None,
-            },
+            seats: self.seats(serial, offering, accepting, terms),
         })
+    }
+
+    /// Who sits where: the two at the first board, and in bughouse their partners at the second, each with the colour
+    /// that its partner doesn't have.
+    fn seats(&self, serial: u64, offering: &Member, accepting: &Member, terms: Terms) -> Seats
+        ensures { result ≡ seats_of self.now serial (paired offering.now accepting.now terms) }
+    {
+        let white = has_white(offering, accepting, terms.colour, serial);
+        Seats {
+            first: opponents_of(&self.accounts, white, offering, accepting),
+            second: self.second_board(white, terms.variant, accepting, offering),
+        }
+    }
+
+    /// Those who sit beside these two: at the second board, where both are there.
+    fn second_board(
+        &self,
+        white: bool,
+        variant: Variant,
+        one: &Member,
+        another: &Member,
+    ) -> Option<Opponents>
+        ensures { result ≡ second_board self.now.accounts white (beside self.now variant one.now)
+            (beside self.now variant another.now) }
+    {
+        let Some(beside_one) = self.beside(variant, one) else {
+            return None;
+        };
+        let Some(beside_another) = self.beside(variant, another) else {
+            return None;
+        };
+        Some(opponents_of(&self.accounts, white, beside_one, beside_another))
     }
 }
 
-/// Whether one of the two has a place.
-pub(crate) fn are_playing(accepting: &Member, offering: &Member) -> bool
-    ensures { result ≡ are_playing (Some accepting.now) (Some offering.now) }
+/// Two at their board: the first of them has White, or the second.
+fn opponents_of(accounts: &Accounts, white: bool, one: &Member, another: &Member) -> Opponents
+    ensures { result ≡ opponents_of accounts.now white one.now another.now }
 {
-    accepting.has_place() || offering.has_place()
-}
-
-/// The two at their board.
-fn opponents_of(
-    accounts: &Accounts,
-    offers_white: bool,
-    offering: &Member,
-    accepting: &Member,
-) -> Opponents
-    ensures { result ≡ opponents_of accounts.now offers_white offering.now accepting.now }
-{
-    if offers_white {
+    if white {
         Opponents {
-            white: player_of(accounts, offering),
-            black: player_of(accounts, accepting),
+            white: player_of(accounts, one),
+            black: player_of(accounts, another),
         }
     } else {
         Opponents {
-            white: player_of(accounts, accepting),
-            black: player_of(accounts, offering),
+            white: player_of(accounts, another),
+            black: player_of(accounts, one),
         }
     }
 }
 
-/// Whether the offering player has White: where it asked for White, and where it asked for no colour and the serial is
-/// odd.
+/// Whether the offering player has White: where exactly one of the two gives a simul the giver has it, and else it is
+/// as the offer says.
+fn has_white(offering: &Member, accepting: &Member, colour: Option<Colour>, serial: u64) -> bool
+    ensures { result ≡ has_white (gives offering.now) (gives accepting.now) colour serial }
+{
+    match (offering.gives(), accepting.gives()) {
+        (true, false) => true,
+        (false, true) => false,
+        (true, true) => offers_white(colour, serial),
+        (false, false) => offers_white(colour, serial),
+    }
+}
+
+/// Whether the offering player has White by its offer: where it asked for White, and where it asked for no colour and
+/// the serial is odd.
 fn offers_white(colour: Option<Colour>, serial: u64) -> bool
     ensures { result ≡ offers_white colour serial }
 {

@@ -6,6 +6,8 @@
 #![tactic(auto)]
 
 #[cfg(test)]
+mod bughouse;
+#[cfg(test)]
 mod finding;
 #[cfg(test)]
 mod list_steps;
@@ -27,6 +29,10 @@ mod refusals;
 mod seek_steps;
 #[cfg(test)]
 mod seeks;
+#[cfg(test)]
+mod simul_steps;
+#[cfg(test)]
+mod simuls;
 #[cfg(test)]
 mod steps;
 #[cfg(test)]

@@ -173,7 +173,14 @@ fn taking(lobby: &Lobby, session: u32, number: u16) -> Result<Plan, Refusal> {
 }
 
 /// Takes a seek, and says whether this game starts.
-fn plays(lobby: &mut Lobby, session: u32, number: u16, desk: u8, serial: u64, white: u32) -> bool {
+pub fn plays(
+    lobby: &mut Lobby,
+    session: u32,
+    number: u16,
+    desk: u8,
+    serial: u64,
+    white: u32,
+) -> bool {
     let Ok(plan) = lobby.plan(session, &PairAct::Play(number)) else {
         return false;
     };

@@ -1,9 +1,9 @@
--- How the places of a member lie in their field.
+-- How the places of a player lie in their field.
 use Rattle.std.specs.Prelude.{◌≡◌, ◌-◌, ◌≤◌, List, ◌++◌, length, take, replicate}
 use Rattle.std.proofs.Common.{sym}
-use Rattle.lobby_state.specs.declared.place.Place.{Place}
-use Rattle.lobby_state.specs.declared.places.Places.TheInside.{Inside}
-use Rattle.lobby_state.specs.Places.{AreAtDesks, PlaceList}
+use Rattle.simul_control.specs.declared.place.Place.{Place}
+use Rattle.simul_control.specs.declared.places.Places.TheInside.{Inside}
+use Rattle.simul_control.specs.Places.{AreAtDesks, PlaceList}
 
 -- what stands behind the places
 abbrev pub nowhere : Place
@@ -15,7 +15,7 @@ field_of rows = rows ++ replicate (32 - length rows) nowhere
 
 -- the places are the first `count` rows
 abbrev pub places_in : Inside → PlaceList
-places_in p = record { at = p.at; rows = take p.count p.rows }
+places_in p = record { giving = p.giving; at = p.at; rows = take p.count p.rows }
 
 -- behind the first `count` rows there is nothing; the present place is one of these, if there are any; and each is at a
 -- desk of the hall
@@ -28,9 +28,10 @@ pub record HoldsPlaces (p : Inside) : Type 0 where
 
 -- the fields that some places have
 abbrev pub fields_of : PlaceList → Inside
-fields_of places = record { at = places.at; count = length places.rows; rows = field_of places.rows }
+fields_of places =
+    record { giving = places.giving; at = places.at; count = length places.rows; rows = field_of places.rows }
 
 -- the fields are told by the places that they hold
 pub fields_of-places_in : (p : Inside) → HoldsPlaces p → fields_of (places_in p) ≡ p
 fields_of-places_in p h =
-    λ i. record { at = p.at; count = sym h.counted i; rows = sym h.blank i }
+    λ i. record { giving = p.giving; at = p.at; count = sym h.counted i; rows = sym h.blank i }

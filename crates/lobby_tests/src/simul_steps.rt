@@ -1,0 +1,104 @@
+//! Steps of simuls, each with its expected answer.
+
+use crate::partner_steps::partnering;
+use crate::seek_steps::{playing, plays, posts};
+use crate::steps::{STRANGE, Step, acted, hall, is_as_expected, key_of, number_if_done};
+use chess_model::Terms;
+use fics_words::{Fail, NoMemory};
+use lobby_state::{Lobby, LobbyAct, LobbyReply};
+use std::alloc::Global;
+
+/// A step: the session that makes it, what it does, and what it has to answer; a number is that of the refusal.
+#[derive(Clone, Copy)]
+pub enum Giving {
+    /// Begins a simul, or ends it.
+    Open(u32, u8),
+    /// Goes to its next place.
+    Next(u32, u8),
+    /// Goes to its previous place.
+    Previous(u32, u8),
+    /// Goes to its place against this player.
+    Board(u32, [u8; 3], u8),
+    /// Whether its places tell that it gives a simul.
+    Gives(u32, bool),
+    /// Posts a seek, which gets this number.
+    Post(u32, Terms, u16, u8),
+    /// Asks for the plan of taking this seek, and doesn't carry it out.
+    AskSeek(u32, u16, u8),
+    /// Takes this seek: the desk, the serial and White's session.
+    Play(u32, u16, u8, u64, u32),
+    /// Asks this player to be its partner.
+    Pair(u32, [u8; 3], u8),
+    /// A step of another kind.
+    Other(Step),
+}
+
+/// The place of the first step that answers otherwise, if one does.
+pub fn first_failing_simul(lobby: &mut Lobby, steps: &[Giving]) -> Option<usize> {
+    for (place, step) in steps.iter().enumerate() {
+        if !answers(lobby, step) {
+            return Some(place);
+        }
+    }
+    None
+}
+
+/// The same at a new lobby.
+pub fn first_failing_simul_anew(
+    alloc: Global,
+    steps: &[Giving],
+) -> Result<Option<usize>, NoMemory> {
+    let mut lobby = hall(alloc)?;
+    Ok(first_failing_simul(&mut lobby, steps))
+}
+
+fn answers(lobby: &mut Lobby, step: &Giving) -> bool {
+    match step {
+        Giving::Open(session, number) => moving(lobby, *session, &LobbyAct::SimOpen) == *number,
+        Giving::Next(session, number) => moving(lobby, *session, &LobbyAct::SimNext) == *number,
+        Giving::Previous(session, number) => {
+            moving(lobby, *session, &LobbyAct::SimPrev) == *number
+        }
+        Giving::Board(session, name, number) => going(lobby, *session, name) == *number,
+        Giving::Gives(session, expected) => {
+            tells_giving(&acted(lobby, *session, &LobbyAct::Where), *expected)
+        }
+        Giving::Post(session, terms, number, refusal) => {
+            posts(lobby, *session, *terms, *number, *refusal)
+        }
+        Giving::AskSeek(session, number, refusal) => {
+            playing(lobby, *session, *number) == *refusal
+        }
+        Giving::Play(session, number, desk, serial, white) => {
+            plays(lobby, *session, *number, *desk, *serial, *white)
+        }
+        Giving::Pair(session, name, number) => partnering(lobby, *session, name) == *number,
+        Giving::Other(step) => is_as_expected(lobby, step),
+    }
+}
+
+/// An act that names nobody: the number of its refusal.
+fn moving(lobby: &mut Lobby, session: u32, act: &LobbyAct) -> u8 {
+    match act {
+        LobbyAct::SimOpen => number_if_done(&acted(lobby, session, &LobbyAct::SimOpen)),
+        LobbyAct::SimNext => number_if_done(&acted(lobby, session, &LobbyAct::SimNext)),
+        LobbyAct::SimPrev => number_if_done(&acted(lobby, session, &LobbyAct::SimPrev)),
+        _ => STRANGE,
+    }
+}
+
+/// Goes to the place against the player with this handle.
+fn going(lobby: &mut Lobby, session: u32, letters: &[u8]) -> u8 {
+    match key_of(letters) {
+        Some(name) => number_if_done(&acted(lobby, session, &LobbyAct::GoBoard { name })),
+        None => STRANGE,
+    }
+}
+
+/// Whether the places that the answer tells are those of one who gives a simul, or of one who gives none.
+fn tells_giving(answer: &Result<LobbyReply, Fail>, expected: bool) -> bool {
+    match answer {
+        Ok(LobbyReply::Places(places)) => places.giving() == expected,
+        _ => false,
+    }
+}

@@ -1,0 +1,4 @@
+pub mod Desks
+pub mod Places
+pub mod PlaceFields
+pub mod Laws

@@ -1,0 +1,239 @@
+//! The places of a player, in a field of fixed room.
+ghost use Rattle.std.specs.Prelude.{◌≡◌, ◌-◌, ◌<◌, ◌≤◌, IfSome, count_by, filter, length, slice_get};
+ghost use Rattle.std.specs.List.{position};
+ghost use Rattle.simul_control.specs.Desks.{IsDesk};
+ghost use Rattle.simul_control.specs.Places.{AreAtDesks, is_at, is_elsewhere, most_at_switch, turned_from};
+
+use crate::place::Place;
+use crate::way::Way;
+use fics_words::Refusal;
+use std::marker::Model;
+
+/// The most places that a player has.
+const MOST: usize = 32;
+
+/// What stands behind the places in their field.
+const NOWHERE: Place = Place {
+    desk: 0,
+    serial: 0,
+    seat: 0,
+};
+
+/// The places of a player in the order in which they came, which of them is the present one, and whether the player
+/// gives a simul. Contracts see whether it gives, the present place's number, and the list of the places.
+#[derive(Clone, Copy, Debug, PartialEq, Eq)]
+pub struct Places {
+    giving: bool,
+    at: usize,
+    count: usize,
+    rows: [Place; 32],
+}
+
+impl Model for Places {
+    ghost use Rattle.simul_control.specs.Places.{PlaceList};
+
+    ghost Value = { PlaceList };
+
+    ghost use Rattle.simul_control.specs.PlaceFields.{places_in, HoldsPlaces, fields_of, fields_of-places_in};
+
+    ghost view = { places_in };
+
+    ghost invariant = { HoldsPlaces };
+
+    ghost inverse = { fields_of };
+
+    ghost inverse_ok = { fields_of-places_in };
+}
+
+impl Places {
+    ghost use Rattle.fics_words.specs.Effect.{state_of};
+    ghost use Rattle.simul_control.specs.Places.{Makes, adding, gives_nowhere, going, is_full, no_places, switching};
+    ghost use Rattle.simul_control.specs.Places.{turning, with_place, without_desk};
+
+    /// No places, of a player that gives no simul.
+    pub fn none() -> Places
+        ensures { result ≡ no_places }
+    {
+        Places {
+            giving: false,
+            at: 0,
+            count: 0,
+            rows: [NOWHERE; 32],
+        }
+    }
+
+    /// The places, in the order in which they came.
+    pub fn rows(&self) -> &[Place]
+        ensures rows { result.now ≡ self.now.rows }
+        ensures most { length self.now.rows ≤ MOST }
+        ensures present { self.now.at ≤ length self.now.rows - 1 }
+        ensures at_desks { AreAtDesks self.now.rows }
+    {
+        &self.rows[..self.count]
+    }
+
+    /// The number of the present place among the places, from 0; 0 too where there is none.
+    pub fn at(&self) -> usize
+        ensures { result ≡ self.now.at }
+    {
+        self.at
+    }
+
+    /// The present place, if there is any place.
+    pub fn present(&self) -> Option<Place>
+        ensures present { result ≡ slice_get self.now.rows self.now.at }
+        ensures at_desk { IfSome result (λ place. IsDesk place.desk) }
+    {
+        self.rows().get(self.at).copied()
+    }
+
+    /// Whether the player gives a simul.
+    pub fn giving(&self) -> bool
+        ensures { result ≡ self.now.giving }
+    {
+        self.giving
+    }
+
+    /// Whether there are 32 places, so that none can be added.
+    pub fn is_full(&self) -> bool
+        ensures { result ≡ is_full self.now }
+    {
+        self.count >= MOST
+    }
+
+    /// Whether there is no board of a simul to turn to: the player gives none, or has no place.
+    pub fn gives_nowhere(&self) -> bool
+        ensures { result ≡ gives_nowhere self.now }
+    {
+        !self.giving || self.count == 0
+    }
+
+    /// Puts a place behind the others; the present one stays. Refuses with `SimulFull` where there are 32.
+    pub fn add(&mut self, place: Place) -> Result<(), Refusal>
+        requires { IsDesk place.desk }
+        ensures makes { Makes (adding place self.old) self.old self.new result }
+        ensures after { self.new ≡ with_place place self.old }
+    {
+        if self.count >= MOST {
+            return Err(Refusal::SimulFull);
+        }
+        self.rows[self.count] = place;
+        self.count += 1;
+        Ok(())
+    }
+
+    /// The places without those at this desk. The present one stays, or becomes the first where it would be behind the
+    /// last.
+    pub fn without(&self, desk: u8) -> Places
+        ensures { result ≡ without_desk desk self.now }
+    {
+        let rows = self.rows();
+        let mut kept = elsewhere(self.giving, rows, desk);
+        let before = count_elsewhere(&rows[..self.at], desk);
+        if before < kept.count {
+            kept.at = before;
+        }
+        kept
+    }
+
+    /// Makes the first place at this desk the present one. Refuses with `NotPlaying` where no place is there.
+    pub fn go(&mut self, desk: u8) -> Result<(), Refusal>
+        ensures makes { Makes (going desk self.old) self.old self.new result }
+        ensures after { self.new ≡ state_of self.old (going desk self.old) }
+    {
+        let Some(at) = first_at(self.rows(), desk) else {
+            return Err(Refusal::NotPlaying);
+        };
+        self.at = at;
+        Ok(())
+    }
+
+    /// Turns to the next or the previous place, in a circle. Refuses with `NotGiving` where the player gives no simul,
+    /// or has no place.
+    pub fn turn(&mut self, way: Way) -> Result<(), Refusal>
+        ensures { Makes (turning way self.old) self.old self.new result }
+    {
+        if self.gives_nowhere() {
+            return Err(Refusal::NotGiving);
+        }
+        self.at = turned_from(way, self.count, self.at);
+        Ok(())
+    }
+
+    /// Begins to give a simul, or ends it. Refuses with `Playing` where there is a place as it would begin, or where
+    /// there are two or more as it would end.
+    pub fn switch(&mut self) -> Result<(), Refusal>
+        ensures { Makes (switching self.old) self.old self.new result }
+    {
+        if self.count > most_at_switch(self.giving) {
+            return Err(Refusal::Playing);
+        }
+        self.giving = !self.giving;
+        Ok(())
+    }
+}
+
+/// The places among `rows` that aren't at the desk, of a player that gives or not; the first of them is the present
+/// one.
+fn elsewhere(giving: bool, rows: &[Place], desk: u8) -> Places
+    requires most { length rows.now ≤ MOST }
+    requires at_desks { AreAtDesks rows.now }
+    ensures { result ≡ record { giving = giving; at = 0; rows = filter (is_elsewhere desk) rows.now } }
+{
+    let mut kept = Places::none();
+    kept.giving = giving;
+    for place in rows {
+        if place.desk != desk {
+            // no more than there were, so that there is room
+            let _room = kept.add(*place);
+        }
+    }
+    kept
+}
+
+/// How many places among `rows` aren't at the desk.
+fn count_elsewhere(rows: &[Place], desk: u8) -> usize
+    ensures { result ≡ count_by (is_elsewhere desk) rows.now }
+{
+    rows.iter().filter(|place| place.desk != desk).count()
+}
+
+/// The number of the first place among `rows` that is at the desk, from 0.
+fn first_at(rows: &[Place], desk: u8) -> Option<usize>
+    ensures first { result ≡ position (is_at desk) rows.now }
+    ensures within { IfSome result (λ at. at < length rows.now) }
+{
+    rows.iter().position(|place| place.desk == desk)
+}
+
+/// How many places a player may have as it begins a simul, and as it ends one.
+fn most_at_switch(giving: bool) -> usize
+    ensures { result ≡ most_at_switch giving }
+{
+    if giving {
+        return 1;
+    }
+    0
+}
+
+/// The number of the next or the previous place in a circle of so many.
+fn turned_from(way: Way, count: usize, at: usize) -> usize
+    requires { at < count }
+    ensures turned { result ≡ turned_from way count at }
+    ensures within { result < count }
+{
+    match way {
+        Way::Next => {
+            if at + 1 < count {
+                return at + 1;
+            }
+            0
+        }
+        Way::Previous => {
+            if at == 0 {
+                return count - 1;
+            }
+            at - 1
+        }
+    }
+}

@@ -1,0 +1,8 @@
+/// Which way a giver turns in the circle of its places.
+#[derive(Clone, Copy, Debug, PartialEq, Eq)]
+pub enum Way {
+    /// To the place that came next, and from the last one to the first.
+    Next,
+    /// To the place that came before, and from the first one to the last.
+    Previous,
+}
