@@ -11,7 +11,7 @@ use Rattle.command_words.specs.declared.command.Command.{Command}
 use Rattle.command_words.specs.declared.command.Command.TheVariants as command
 use Rattle.command_words.specs.declared.verbs.Verb.{Verb}
 use Rattle.command_words.specs.declared.verbs.Verb.TheVariants as verb
-use Rattle.command_words.specs.declared.verbs.Verb.TheVariants.{Accept, Decline, Flag, InChannel, JoinChannel, LeaveChannel, Match, Play, Quit, Register, Resign, Seek, Set, Shout, Sought, Tell, Unalias, Unseek, Who, Withdraw, Partner, Ptell, AddCensor, AddNoplay, DropCensor, DropNoplay, Games, Pending, Kibitz, Observe, Refresh, Style, Unobserve}
+use Rattle.command_words.specs.declared.verbs.Verb.TheVariants.{Accept, Decline, Flag, InChannel, JoinChannel, LeaveChannel, Match, Play, Quit, Register, Resign, Seek, Set, Shout, Sought, Tell, Unalias, Unseek, Who, Withdraw, Partner, Ptell, AddCensor, AddNoplay, DropCensor, DropNoplay, Games, Pending, Kibitz, Observe, Refresh, Style, Unobserve, GoBoard, SimNext, SimOpen, SimPrev}
 use Rattle.command_words.specs.Blanks.{trimmed, first_word, rest_of}
 use Rattle.command_words.specs.Aliases.{alias_of, expanded}
 use Rattle.command_words.specs.Verbs.{verb_of}
@@ -23,6 +23,7 @@ use Rattle.command_words.specs.Decline.{decline_of}
 use Rattle.command_words.specs.Draw.{draw_of}
 use Rattle.command_words.specs.Flag.{flag_of}
 use Rattle.command_words.specs.Games.{games_of}
+use Rattle.command_words.specs.GoBoard.{go_board_of}
 use Rattle.command_words.specs.InChannel.{in_channel_of}
 use Rattle.command_words.specs.Match.{match_of}
 use Rattle.command_words.specs.NameList.{censor_of, noplay_of}
@@ -32,6 +33,9 @@ use Rattle.command_words.specs.Quit.{quit_of}
 use Rattle.command_words.specs.Register.{register_of}
 use Rattle.command_words.specs.Resign.{resign_of}
 use Rattle.command_words.specs.Seek.{seek_of}
+use Rattle.command_words.specs.SimNext.{sim_next_of}
+use Rattle.command_words.specs.SimOpen.{sim_open_of}
+use Rattle.command_words.specs.SimPrev.{sim_prev_of}
 use Rattle.command_words.specs.Sought.{sought_of}
 use Rattle.command_words.specs.Takeback.{takeback_of}
 use Rattle.command_words.specs.Unseek.{unseek_of}
@@ -60,6 +64,7 @@ arguments_of DropCensor rest = censor_of false rest
 arguments_of DropNoplay rest = noplay_of false rest
 arguments_of Flag rest = flag_of rest
 arguments_of Games rest = games_of rest
+arguments_of GoBoard rest = go_board_of rest
 arguments_of InChannel rest = in_channel_of rest
 arguments_of JoinChannel rest = channel_of true rest
 arguments_of Kibitz rest = kibitz_of rest
@@ -77,6 +82,9 @@ arguments_of Quit rest = quit_of rest
 arguments_of Register rest = register_of rest
 arguments_of Resign rest = resign_of rest
 arguments_of Seek rest = seek_of rest
+arguments_of SimNext rest = sim_next_of rest
+arguments_of SimOpen rest = sim_open_of rest
+arguments_of SimPrev rest = sim_prev_of rest
 arguments_of Sought rest = sought_of rest
 arguments_of verb.Takeback rest = takeback_of rest
 arguments_of Unalias rest = unalias_command rest

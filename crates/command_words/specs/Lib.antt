@@ -9,6 +9,7 @@ pub mod Decline
 pub mod Draw
 pub mod Flag
 pub mod Games
+pub mod GoBoard
 pub mod InChannel
 pub mod Kibitz
 pub mod Match
@@ -24,6 +25,9 @@ pub mod Refresh
 pub mod Register
 pub mod Resign
 pub mod Seek
+pub mod SimNext
+pub mod SimOpen
+pub mod SimPrev
 pub mod Sought
 pub mod Set
 pub mod Shout

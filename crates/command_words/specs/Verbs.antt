@@ -4,7 +4,7 @@ use Rattle.std.specs.List.{starts_with}
 use Rattle.fics_words.specs.declared.refusal.Refusal.{Refusal}
 use Rattle.fics_words.specs.declared.refusal.Refusal.TheVariants.{Unknown, AmbiguousWord}
 use Rattle.command_words.specs.declared.verbs.Verb.{Verb}
-use Rattle.command_words.specs.declared.verbs.Verb.TheVariants.{Accept, Alias, Decline, Flag, InChannel, JoinChannel, LeaveChannel, Match, Play, Quit, Register, Resign, Seek, Set, Shout, Sought, Tell, Unalias, Unseek, Who, Withdraw, Partner, Ptell, Abort, Draw, Takeback, AddCensor, AddNoplay, DropCensor, DropNoplay, Games, Pending, Kibitz, Observe, Refresh, Style, Unobserve}
+use Rattle.command_words.specs.declared.verbs.Verb.TheVariants.{Accept, Alias, Decline, Flag, InChannel, JoinChannel, LeaveChannel, Match, Play, Quit, Register, Resign, Seek, Set, Shout, Sought, Tell, Unalias, Unseek, Who, Withdraw, Partner, Ptell, Abort, Draw, Takeback, AddCensor, AddNoplay, DropCensor, DropNoplay, Games, Pending, Kibitz, Observe, Refresh, Style, Unobserve, GoBoard, SimNext, SimOpen, SimPrev}
 
 -- the commands
 abbrev pub verbs : List Verb
@@ -20,6 +20,7 @@ verbs =
     DropNoplay ∷
     Flag ∷
     Games ∷
+    GoBoard ∷
     InChannel ∷
     JoinChannel ∷
     Kibitz ∷
@@ -37,6 +38,9 @@ verbs =
     Seek ∷
     Set ∷
     Shout ∷
+    SimNext ∷
+    SimOpen ∷
+    SimPrev ∷
     Sought ∷
     Style ∷
     Takeback ∷
@@ -61,6 +65,7 @@ name_of DropCensor = codes "-censor"
 name_of DropNoplay = codes "-noplay"
 name_of Flag = codes "flag"
 name_of Games = codes "games"
+name_of GoBoard = codes "goboard"
 name_of InChannel = codes "inchannel"
 name_of JoinChannel = codes "+channel"
 name_of Kibitz = codes "kibitz"
@@ -85,6 +90,9 @@ name_of Unseek = codes "unseek"
 name_of Who = codes "who"
 name_of Set = codes "set"
 name_of Shout = codes "shout"
+name_of SimNext = codes "simnext"
+name_of SimOpen = codes "simopen"
+name_of SimPrev = codes "simprev"
 name_of Tell = codes "tell"
 name_of Withdraw = codes "withdraw"
 
@@ -142,3 +150,10 @@ example_seek_or_sought = refl
 
 example_partner_play_or_ptell : verb_of (codes "p") ≡ Err AmbiguousWord
 example_partner_play_or_ptell = refl
+
+-- `g` begins `games` and `goboard`
+example_games_or_goboard : verb_of (codes "g") ≡ Err AmbiguousWord
+example_games_or_goboard = refl
+
+example_one_of_a_simul : verb_of (codes "simo") ≡ Ok SimOpen
+example_one_of_a_simul = refl

@@ -17,7 +17,7 @@ const MOST: usize = 32;
 const MOST_LETTERS: usize = 15;
 
 /// A name, 1 to 15 lower-case letters, and the text, 1 to 800 bytes, for which it stands.
-#[derive(Debug, Drop)]
+#[derive(Drop)]
 pub struct Alias {
     pub name: Line,
     pub text: Line,
@@ -33,7 +33,7 @@ impl Duplicate for Alias {
 }
 
 /// The aliases of a player, in the order in which their names came. Contracts see the list of them.
-#[derive(Debug, Drop)]
+#[derive(Drop)]
 pub struct Aliases {
     rows: Listed<Alias>,
     alloc: Global,

@@ -5,7 +5,7 @@ use chess_model::{MoveWord, Terms};
 use fics_words::{Handle, Line};
 
 /// What a line asks for, once it is read.
-#[derive(Debug, Drop)]
+#[derive(Drop)]
 pub enum Command {
     /// Nothing but the news: the line is empty, before or after its alias.
     Nothing,
@@ -79,6 +79,14 @@ pub enum Command {
     ObservePlayer(Handle),
     /// To look on no longer at the game of this number.
     Unobserve(u16),
+    /// To give a simul, or none any more.
+    SimOpen,
+    /// To go to the next place of the simul that the player gives.
+    SimNext,
+    /// To go to the previous place.
+    SimPrev,
+    /// To go to the place against this player.
+    GoBoard(Handle),
     /// To have boards printed so.
     Style(Style),
     /// To make an account of the session's handle with this password.

@@ -11,9 +11,10 @@ use crate::aliases::{Alias, Aliases};
 use crate::blanks::{first_word, rest_of, trimmed};
 use crate::command::Command;
 use crate::commands::{
-    abort, accept, alias, channel, decline, draw, flag, games, in_channel, kibitz, matching,
-    name_list, observe, partner, pending, play, ptell, quit, refresh, register, resign, seek, set,
-    shout, sought, style, takeback, tell, unseek, who, withdraw,
+    abort, accept, alias, channel, decline, draw, flag, games, go_board, in_channel, kibitz,
+    matching, name_list, observe, partner, pending, play, ptell, quit, refresh, register, resign,
+    seek, set, shout, sim_next, sim_open, sim_prev, sought, style, takeback, tell, unseek, who,
+    withdraw,
 };
 use crate::expansion::expanded;
 use crate::verbs::{Verb, verb_of};
@@ -121,6 +122,7 @@ fn read_arguments(alloc: Global, verb: Verb, rest: &[u8]) -> Result<Command, Fai
         Verb::DropNoplay => Ok(name_list::read_noplay(false, rest)?),
         Verb::Flag => Ok(flag::read(rest)?),
         Verb::Games => Ok(games::read(rest)?),
+        Verb::GoBoard => Ok(go_board::read(rest)?),
         Verb::InChannel => Ok(in_channel::read(rest)?),
         Verb::JoinChannel => Ok(channel::read(true, rest)?),
         Verb::Kibitz => kibitz::read(alloc, rest),
@@ -138,6 +140,9 @@ fn read_arguments(alloc: Global, verb: Verb, rest: &[u8]) -> Result<Command, Fai
         Verb::Register => register::read(alloc, rest),
         Verb::Resign => Ok(resign::read(rest)?),
         Verb::Seek => Ok(seek::read(rest)?),
+        Verb::SimNext => Ok(sim_next::read(rest)?),
+        Verb::SimOpen => Ok(sim_open::read(rest)?),
+        Verb::SimPrev => Ok(sim_prev::read(rest)?),
         Verb::Sought => Ok(sought::read(rest)?),
         Verb::Takeback => Ok(takeback::read(rest)?),
         Verb::Unalias => alias::read_unalias(alloc, rest),

@@ -6,7 +6,7 @@ ghost use Rattle.command_words.specs.Verbs.{name_of, short_of, is_called, begins
 use fics_words::Refusal;
 
 /// A command, without its arguments.
-#[derive(Clone, Copy, Debug, PartialEq, Eq)]
+#[derive(Clone, Copy, PartialEq, Eq)]
 pub enum Verb {
     Abort,
     Accept,
@@ -19,6 +19,7 @@ pub enum Verb {
     DropNoplay,
     Flag,
     Games,
+    GoBoard,
     InChannel,
     JoinChannel,
     Kibitz,
@@ -36,6 +37,9 @@ pub enum Verb {
     Seek,
     Set,
     Shout,
+    SimNext,
+    SimOpen,
+    SimPrev,
     Sought,
     Style,
     Takeback,
@@ -48,7 +52,7 @@ pub enum Verb {
 }
 
 /// The commands.
-pub const VERBS: [Verb; 37] = [
+pub const VERBS: [Verb; 41] = [
     Verb::Abort,
     Verb::Accept,
     Verb::AddCensor,
@@ -60,6 +64,7 @@ pub const VERBS: [Verb; 37] = [
     Verb::DropNoplay,
     Verb::Flag,
     Verb::Games,
+    Verb::GoBoard,
     Verb::InChannel,
     Verb::JoinChannel,
     Verb::Kibitz,
@@ -77,6 +82,9 @@ pub const VERBS: [Verb; 37] = [
     Verb::Seek,
     Verb::Set,
     Verb::Shout,
+    Verb::SimNext,
+    Verb::SimOpen,
+    Verb::SimPrev,
     Verb::Sought,
     Verb::Style,
     Verb::Takeback,
@@ -170,6 +178,7 @@ fn name_of(verb: Verb) -> &'static [u8]
         Verb::DropNoplay => b"-noplay",
         Verb::Flag => b"flag",
         Verb::Games => b"games",
+        Verb::GoBoard => b"goboard",
         Verb::InChannel => b"inchannel",
         Verb::JoinChannel => b"+channel",
         Verb::Kibitz => b"kibitz",
@@ -194,6 +203,9 @@ fn name_of(verb: Verb) -> &'static [u8]
         Verb::Who => b"who",
         Verb::Set => b"set",
         Verb::Shout => b"shout",
+        Verb::SimNext => b"simnext",
+        Verb::SimOpen => b"simopen",
+        Verb::SimPrev => b"simprev",
         Verb::Tell => b"tell",
         Verb::Withdraw => b"withdraw",
     }

@@ -22,9 +22,13 @@ mod replay_logins;
 #[cfg(test)]
 mod replay_offers;
 #[cfg(test)]
+mod replay_pairs;
+#[cfg(test)]
 mod replay_refusals;
 #[cfg(test)]
 mod replay_seeks;
+#[cfg(test)]
+mod replay_simuls;
 #[cfg(test)]
 mod replay_stamps;
 #[cfg(test)]

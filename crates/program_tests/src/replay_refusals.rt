@@ -35,8 +35,17 @@ const ALONE: &str = "\
 0 1 > -channel 3
   1|refused 39 NotInChannel
   1|fics%\x20
+0 1 > observe 5
+  1|refused 46 NoSuchGame
+  1|fics%\x20
+0 1 > draw
+  1|refused 20 NotPlaying
+  1|fics%\x20
 0 1 > accept
   1|refused 34 NoChallenge
+  1|fics%\x20
+0 1 > simnext
+  1|refused 42 NotGiving
   1|fics%\x20
 0 1 > unalias x
   1|refused 52 NotOnList

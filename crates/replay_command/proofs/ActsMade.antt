@@ -33,3 +33,17 @@ two_names (one ∷ []) white black count first second = absurd (omega (arith, co
 two_names (one ∷ two ∷ []) white black count first second =
     ap (λ (n : List ℕ). n ∷ two ∷ []) (sym first) ∙ ap (λ (n : List ℕ). white ∷ n ∷ []) (sym second)
 two_names (one ∷ two ∷ three ∷ more) white black count first second = absurd (omega (arith, count))
+
+-- a list of four names
+pub four_names : (names : List (List ℕ)) (one two three four : List ℕ) → length names ≡ 4 → one ≡ get_or names 0 one → two ≡ get_or names 1 two
+    → three ≡ get_or names 2 three → four ≡ get_or names 3 four → names ≡ one ∷ two ∷ three ∷ four ∷ []
+four_names [] one two three four count first second third fourth = absurd (omega (arith, count))
+four_names (a ∷ []) one two three four count first second third fourth = absurd (omega (arith, count))
+four_names (a ∷ b ∷ []) one two three four count first second third fourth = absurd (omega (arith, count))
+four_names (a ∷ b ∷ c ∷ []) one two three four count first second third fourth = absurd (omega (arith, count))
+four_names (a ∷ b ∷ c ∷ d ∷ []) one two three four count first second third fourth =
+    ap (λ (n : List ℕ). n ∷ b ∷ c ∷ d ∷ []) (sym first)
+    ∙ ap (λ (n : List ℕ). one ∷ n ∷ c ∷ d ∷ []) (sym second)
+    ∙ ap (λ (n : List ℕ). one ∷ two ∷ n ∷ d ∷ []) (sym third)
+    ∙ ap (λ (n : List ℕ). one ∷ two ∷ three ∷ n ∷ []) (sym fourth)
+four_names (a ∷ b ∷ c ∷ d ∷ e ∷ more) one two three four count first second third fourth = absurd (omega (arith, count))

@@ -15,12 +15,12 @@ use Rattle.replay_core.specs.declared.seat_line.SeatLine.{SeatLine}
 use Rattle.replay_core.specs.Order.{Arrival, MayCome, left_of}
 use Rattle.replay_core.specs.Attendance.{IsAfter}
 use Rattle.replay_core.specs.SeatLine.{IsSeatLine, players_of, seat_text}
-use Rattle.session_core.specs.Memory.{MemoryState, newcomer, seated}
-use Rattle.replay_command.specs.Evening.{EveningState, Does, HasDone, HasMade, AfterLeaving, AreMemories, IsClosed, IsNext, IsNoNext, IsOrdered, KeepsOrder, LeaveInOrder, MayFollow, Reached, Row, Seats, Comes, arrivals_of, history_of, is_written, last_moment, left_by, line_of, opening_parts, parts_after, quit_of, remembered, seated_by, seating_acts, seats}
+use Rattle.session_core.specs.Memory.{MemoryState, newcomer}
+use Rattle.replay_command.specs.Evening.{EveningState, Does, HasDone, HasMade, AfterLeaving, AreMemories, IsClosed, IsNext, IsNoNext, IsOrdered, KeepsOrder, LeaveInOrder, MayFollow, Reached, Row, Seats, Comes, arrivals_of, history_of, is_written, last_moment, left_by, line_of, opening_parts, parts_after, quit_of, remembered, seated_by, seated_from, seating_acts}
 use Rattle.replay_command.specs.EveningLinesProof.{no_snoc, none_has, one_line_more}
 use Rattle.replay_command.specs.EveningsProof.{came-append, seated-push}
 use Rattle.replay_command.specs.FollowingProof.{legal_back}
-use Rattle.replay_command.proofs.Memories.{one_memory, two_memories, new_memories}
+use Rattle.replay_command.proofs.Memories.{one_memory, seated_memories, new_memories}
 
 -- before its first line
 pub reached_none : (evening : EveningState) → evening.server ≡ record { opening = opening_parts; log = [] } → evening.order ≡ None → evening.moment ≡ 0
@@ -71,14 +71,14 @@ keeps_none progress order e after rows h =
 
 -- behind the first line no seat line comes, and neither does a line of a session that may not come
 no_next_row : (progress : Attendance) (rows : List Row) (line : List ℕ) → IsAfter progress (seated_by rows) (arrivals_of rows) → IsNoNext progress line
-    → (rows ≡ [] → (seat : SeatLine) → IsSeatLine seat → players_of seat.terms.variant ≡ 2 → line ≢ seat_text seat)
+    → (rows ≡ [] → (seat : SeatLine) → IsSeatLine seat → line ≢ seat_text seat)
     → (row : Row) → line ≡ line_of row → MayFollow rows row → ⊥
-no_next_row progress rows line after no_next no_seat (Seats seat made) e h = no_seat h.first seat h.spelled h.two e
+no_next_row progress rows line after no_next no_seat (Seats seat made) e h = no_seat h.first seat h.spelled e
 no_next_row progress rows line after no_next no_seat (Comes next made bytes memory) e h = no_next (seated_by rows) (arrivals_of rows) after next h.spelled e h.order
 
 -- a line that is none of a session that may come next, and no seat line that comes first
 pub no_coming : (old : EveningState) (progress : Attendance) (line : List ℕ) → KeepsOrder progress old.order → 0 < length line → IsNoNext progress line
-    → (old.order ≡ None → (seat : SeatLine) → IsSeatLine seat → players_of seat.terms.variant ≡ 2 → line ≢ seat_text seat) → IsOutsideAt Reached old line
+    → (old.order ≡ None → (seat : SeatLine) → IsSeatLine seat → line ≢ seat_text seat) → IsOutsideAt Reached old line
 no_coming old progress line keeps some no_next no_seat lines due at =
     none_has lines old due at line (written_line line some)
     (no_next_row progress at.rows line (keeps at.rows at.ordered) no_next (λ none. no_seat (none_kept old.order at.rows at.ordered none)))
@@ -103,12 +103,12 @@ legal_more rows entries new e legal =
     legal_back opening_parts (history_of rows) entries (subst (λ (s : ServerState). Legal house s.opening s.log) e legal)
 
 -- the seat line is taken
-pub seats_taken : (old new : EveningState) (seat : SeatLine) (white black : List ℕ) (progress : Attendance) → old.order ≡ None → 0 < length (seat_text seat) → IsLine (seat_text seat)
-    → IsSeatLine seat → players_of seat.terms.variant ≡ 2 → seat.names ≡ white ∷ black ∷ []
+pub seats_taken : (old new : EveningState) (seat : SeatLine) (progress : Attendance) → old.order ≡ None → 0 < length (seat_text seat) → IsLine (seat_text seat)
+    → IsSeatLine seat
     → new.server.opening ≡ old.server.opening → HasMade (seating_acts seat.names seat.terms) old.server.log new.server.log → Legal house new.server.opening new.server.log
-    → new.order ≡ Some progress → IsAfter progress seats [] → new.moment ≡ old.moment
-    → new.memories ≡ slice_set (slice_set old.memories 0 (seated white)) 1 (seated black) → Takes Reached old (seat_text seat) new []
-seats_taken old new seat white black progress first some short spelled two names opening made legal order after moment memories lines due at =
+    → new.order ≡ Some progress → IsAfter progress (players_of seat.terms.variant) [] → new.moment ≡ old.moment
+    → new.memories ≡ seated_from 0 seat.names old.memories → Takes Reached old (seat_text seat) new []
+seats_taken old new seat progress first some short spelled opening made legal order after moment memories lines due at =
     let entries = made.entries in
     let row : Row = Seats seat entries in
     let none : at.rows ≡ [] = no_rows old.order at.rows at.ordered first in
@@ -117,14 +117,14 @@ seats_taken old new seat white black progress first some short spelled two names
     let last : old.moment ≡ 0 = at.last ∙ ap (λ (rows : List Row). last_moment (arrivals_of rows)) none in
     let new_ones : AreMemories old.memories (λ session. newcomer) = subst (λ (rows : List Row). AreMemories old.memories (remembered rows)) none at.memories in
     one_line_more lines old new due at (seat_text seat) row (written_line (seat_text seat) some) refl
-    (record { first = none; spelled = spelled; short = short; two = two; acts = made.acts_are; legal = own })
+    (record { first = none; spelled = spelled; short = short; acts = made.acts_are; legal = own })
     server
     (subst (λ (o : Option Attendance). IsOrdered o (at.rows ++ row ∷ [])) (sym order)
     (no_snoc at.rows row, subst (λ (rows : List Row). IsAfter progress (seated_by (rows ++ row ∷ [])) (arrivals_of (rows ++ row ∷ []))) (sym none) after))
     (moment ∙ last ∙ subst (λ (rows : List Row). 0 ≡ last_moment (arrivals_of (rows ++ row ∷ []))) (sym none) refl)
     (subst (λ (m : List MemoryState). AreMemories m (remembered (at.rows ++ row ∷ []))) (sym memories)
-    (subst (λ (rows : List Row). AreMemories (slice_set (slice_set old.memories 0 (seated white)) 1 (seated black)) (remembered (rows ++ row ∷ []))) (sym none)
-    (two_memories old.memories seat entries white black names new_ones)))
+    (subst (λ (rows : List Row). AreMemories (seated_from 0 seat.names old.memories) (remembered (rows ++ row ∷ []))) (sym none)
+    (seated_memories old.memories seat entries new_ones)))
 
 -- and is then answered
 pub seats_answered : (old new : EveningState) (line out : List ℕ) (seat : SeatLine) → line ≡ seat_text seat → Takes Reached old (seat_text seat) new [] → AfterAnswering Reached old line out new out true

@@ -1,4 +1,4 @@
--- What the sessions of an evening remember: all are new, two are seated, and one line more.
+-- What the sessions of an evening remember: all are new, the first are seated, and one line more.
 use Rattle.std.proofs.Common.{◌≡◌, ◌≢◌, ℕ, zero, suc, ◌+◌, ◌-◌, ◌<◌, ◌==◌, ◌≤◌, Bool, true, false, cond, List, [], ◌∷◌, ◌++◌, length, Some, get_or, replicate, slice_get, slice_set, refl, sym, ap, subst, ◌∙◌, arith}
 use Rattle.std.specs.Option.{option_map_or}
 use Rattle.std.proofs.lemmas.Bool.{eqb-true, eqb-false}
@@ -8,7 +8,7 @@ use Rattle.one_server.specs.Running.{Log}
 use Rattle.replay_core.specs.declared.script.ScriptLine.{ScriptLine}
 use Rattle.session_core.specs.Memory.{MemoryState, newcomer, seated}
 use Rattle.replay_core.specs.declared.seat_line.SeatLine.{SeatLine}
-use Rattle.replay_command.specs.Evening.{AreMemories, Row, Seats, Comes, remembered}
+use Rattle.replay_command.specs.Evening.{AreMemories, Row, Seats, Comes, remembered, seated_from}
 use Rattle.replay_command.specs.EveningsProof.{remembered-push}
 
 -- all sessions are new
@@ -56,32 +56,57 @@ one_memory memories rows next made bytes kept low h =
           ∙ sym (remembered-push rows row session));
     }
 
--- two sessions are seated, and the others are as they were
-seated_place : (memories : List MemoryState) (white black : List ℕ) (place : ℕ) → length memories ≡ 64 → ((p : ℕ) → p < 64 → get_or memories p newcomer ≡ newcomer) → place < 64
-    → get_or (slice_set (slice_set memories 0 (seated white)) 1 (seated black)) place newcomer ≡ option_map_or seated (slice_get (white ∷ black ∷ []) place) newcomer
-seated_place memories white black zero count new low =
-    get_or-set_other (slice_set memories 0 (seated white)) 1 0 (seated black) newcomer (λ e. omega (arith, e))
-    ∙ get_or-set_same memories 0 (seated white) newcomer (omega (arith, count))
-seated_place memories white black (suc zero) count new low =
-    get_or-set_same (slice_set memories 0 (seated white)) 1 (seated black) newcomer (omega (arith, count, length-set memories 0 (seated white)))
-seated_place memories white black (suc (suc n)) count new low =
-    get_or-set_other (slice_set memories 0 (seated white)) 1 (suc (suc n)) (seated black) newcomer (λ e. omega (arith, e))
-    ∙ get_or-set_other memories 0 (suc (suc n)) (seated white) newcomer (λ e. omega (arith, e))
-    ∙ new (suc (suc n)) low
+-- ---- the first sessions are seated
 
-pub two_memories : (memories : List MemoryState) (seat : SeatLine) (made : Log) (white black : List ℕ) → seat.names ≡ white ∷ black ∷ [] → AreMemories memories (λ session. newcomer)
-    → AreMemories (slice_set (slice_set memories 0 (seated white)) 1 (seated black)) (remembered (Seats seat made ∷ []))
-two_memories memories seat made white black names h =
-    let set = slice_set (slice_set memories 0 (seated white)) 1 (seated black) in
-    let count : length set ≡ 64 = length-set (slice_set memories 0 (seated white)) 1 (seated black) ∙ length-set memories 0 (seated white) ∙ h.count in
-    let new : (p : ℕ) → p < 64 → get_or memories p newcomer ≡ newcomer = λ p low.
-    let back : p + 1 - 1 ≡ p = omega arith in
-    get_or_from_slice_get memories p newcomer newcomer (ap (slice_get memories) (sym back) ∙ h.each (p + 1) (omega arith) (omega (arith, low))) in
+length-seated_from : (place : ℕ) (names : List (List ℕ)) (memories : List MemoryState) → length (seated_from place names memories) ≡ length memories
+length-seated_from place [] memories = refl
+length-seated_from place (name ∷ names) memories =
+    length-seated_from (place + 1) names (slice_set memories place (seated name)) ∙ length-set memories place (seated name)
+
+-- those before them are as they were
+before_seated : (place : ℕ) (names : List (List ℕ)) (memories : List MemoryState) (p : ℕ) → p < place
+    → get_or (seated_from place names memories) p newcomer ≡ get_or memories p newcomer
+before_seated place [] memories p low = refl
+before_seated place (name ∷ names) memories p low =
+    before_seated (place + 1) names (slice_set memories place (seated name)) p (omega (arith, low))
+    ∙ get_or-set_other memories place p (seated name) newcomer (λ e. omega (arith, e, low))
+
+-- each name has its session, and those behind them are as they were
+among_seated : (place : ℕ) (names : List (List ℕ)) (memories : List MemoryState) (p : ℕ) → place + p < length memories
+    → get_or (seated_from place names memories) (place + p) newcomer ≡ option_map_or seated (slice_get names p) (get_or memories (place + p) newcomer)
+among_seated place [] memories p inside = refl
+among_seated place (name ∷ names) memories zero inside =
+    let here : place + 0 ≡ place = omega arith in
+    let within : place < length memories = omega (arith, inside) in
+    ap (λ (k : ℕ). get_or (seated_from (place + 1) names (slice_set memories place (seated name))) k newcomer) here
+    ∙ before_seated (place + 1) names (slice_set memories place (seated name)) place (omega arith)
+    ∙ get_or-set_same memories place (seated name) newcomer within
+among_seated place (name ∷ names) memories (suc p) inside =
+    let set = slice_set memories place (seated name) in
+    let next : place + suc p ≡ place + 1 + p = omega arith in
+    let within : place + 1 + p < length set = omega (arith, inside, length-set memories place (seated name)) in
+    let other : get_or set (place + 1 + p) newcomer ≡ get_or memories (place + 1 + p) newcomer =
+    get_or-set_other memories place (place + 1 + p) (seated name) newcomer (λ e. omega (arith, e)) in
+    ap (λ (k : ℕ). get_or (seated_from (place + 1) names set) k newcomer) next
+    ∙ among_seated (place + 1) names set p within
+    ∙ ap (option_map_or seated (slice_get names p)) (other ∙ ap (λ (k : ℕ). get_or memories k newcomer) (sym next))
+
+-- the first sessions are seated, and the others are new
+pub seated_memories : (memories : List MemoryState) (seat : SeatLine) (made : Log) → AreMemories memories (λ session. newcomer)
+    → AreMemories (seated_from 0 seat.names memories) (remembered (Seats seat made ∷ []))
+seated_memories memories seat made h =
+    let set = seated_from 0 seat.names memories in
+    let count : length set ≡ 64 = length-seated_from 0 seat.names memories ∙ h.count in
     record {
       count = count;
       each = λ session first last.
-          slice_get-get_or set (session - 1) newcomer (omega (arith, count, first, last))
+          let place = session - 1 in
+          let whole : 0 + place ≡ place = omega arith in
+          let new : get_or memories (0 + place) newcomer ≡ newcomer =
+          ap (λ (k : ℕ). get_or memories k newcomer) whole ∙ get_or_from_slice_get memories place newcomer newcomer (h.each session first last) in
+          slice_get-get_or set place newcomer (omega (arith, count, first, last))
           ∙ ap Some
-          (seated_place memories white black (session - 1) h.count new (omega (arith, first, last))
-          ∙ ap (λ (l : List (List ℕ)). option_map_or seated (slice_get l (session - 1)) newcomer) (sym names));
+          (ap (λ (k : ℕ). get_or set k newcomer) (sym whole)
+          ∙ among_seated 0 seat.names memories place (omega (arith, h.count, first, last))
+          ∙ ap (option_map_or seated (slice_get seat.names place)) new);
     }

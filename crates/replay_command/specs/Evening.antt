@@ -1,6 +1,6 @@
 -- An evening: the lines of a script, each with what it made of the server and what it wrote. This server's own.
-use Rattle.std.specs.Prelude.{◌≡◌, ◌≢◌, ℕ, ◌-◌, ◌==◌, ◌≤◌, Bool, true, false, if◌then◌else◌}
-use Rattle.std.specs.Prelude.{List, [], ◌∷◌, ◌++◌, map, filter, fold, length, Option, None, Some, slice_get}
+use Rattle.std.specs.Prelude.{◌≡◌, ◌≢◌, ℕ, ◌+◌, ◌-◌, ◌==◌, ◌≤◌, Bool, true, false, if◌then◌else◌}
+use Rattle.std.specs.Prelude.{List, [], ◌∷◌, ◌++◌, map, filter, fold, length, Option, None, Some, slice_get, slice_set}
 use Rattle.std.specs.List.{range_with_len}
 use Rattle.std.specs.Option.{option_map_or}
 use Rattle.chess_model.specs.declared.variant.Terms.{Terms}
@@ -117,14 +117,10 @@ arrivals_of (Seats seat made ∷ rows) = arrivals_of rows
 arrivals_of (Comes line made bytes memory ∷ rows) =
     record { line = line; quit = quit_of line.event memory } ∷ arrivals_of rows
 
--- how many sessions a seat line seats
-abbrev pub seats : ℕ
-seats = 2
-
--- how many sessions are seated from the start: those of the seat line, which can only come first
+-- how many sessions are seated from the start: one for each player of the seat line, which can only come first
 abbrev pub seated_by : List Row → ℕ
 seated_by [] = 0
-seated_by (Seats seat made ∷ rows) = seats
+seated_by (Seats seat made ∷ rows) = players_of seat.terms.variant
 seated_by (Comes line made bytes memory ∷ rows) = 0
 
 -- what a session remembers after one row more: the seat line has its sessions enter under its names, and a session's
@@ -149,20 +145,39 @@ parts_after rows = state house opening_parts (history_of rows)
 abbrev pub asked_of : Entry Timed Reply → ℕ × Timed
 asked_of e = (e.session, e.act)
 
--- the acts that seat two players, all at moment 0: both enter, the first challenges the second, who accepts, and
--- both take what waits for them
+-- the acts that seat players, all at moment 0: a session enters under a name
+abbrev pub entering : ℕ → List ℕ → ℕ × Timed
+entering session name = (session, timed 0 (Lobby (lobby_act.Enter (Some name) None)))
+
+-- it asks the player of that name to be its partner
+abbrev pub asking : ℕ → List ℕ → ℕ × Timed
+asking session name = (session, timed 0 (Lobby (lobby_act.Partner (Some (key_of name)))))
+
+-- the first session challenges the player of that name
+abbrev pub challenging : List ℕ → Terms → ℕ × Timed
+challenging name terms = (1, timed 0 (Lobby (lobby_act.Match (key_of name) terms)))
+
+-- the second accepts
+abbrev pub accepting : ℕ × Timed
+accepting = (2, timed 0 (Pair (pair_act.Accept None)))
+
+-- a session takes what waits for it
+abbrev pub fetching : ℕ → ℕ × Timed
+fetching session = (session, timed 0 (Lobby lobby_act.Fetch))
+
+-- the acts of a seat line: all enter in the order of their names; where they are four the first and the fourth become
+-- partners, and the second and the third; the first challenges the second, who accepts; and all take what waits for them
 abbrev pub seating_acts : List (List ℕ) → Terms → List (ℕ × Timed)
-seating_acts [] terms = []
-seating_acts (one ∷ []) terms = []
 seating_acts (one ∷ two ∷ []) terms =
-    (1, timed 0 (Lobby (lobby_act.Enter (Some one) None)))
-    ∷ (2, timed 0 (Lobby (lobby_act.Enter (Some two) None)))
-    ∷ (1, timed 0 (Lobby (lobby_act.Match (key_of two) terms)))
-    ∷ (2, timed 0 (Pair (pair_act.Accept None)))
-    ∷ (1, timed 0 (Lobby lobby_act.Fetch))
-    ∷ (2, timed 0 (Lobby lobby_act.Fetch))
-    ∷ []
-seating_acts (one ∷ two ∷ three ∷ more) terms = []
+    entering 1 one ∷ entering 2 two
+    ∷ challenging two terms ∷ accepting
+    ∷ fetching 1 ∷ fetching 2 ∷ []
+seating_acts (one ∷ two ∷ three ∷ four ∷ []) terms =
+    entering 1 one ∷ entering 2 two ∷ entering 3 three ∷ entering 4 four
+    ∷ asking 1 four ∷ asking 4 one ∷ asking 2 three ∷ asking 3 two
+    ∷ challenging two terms ∷ accepting
+    ∷ fetching 1 ∷ fetching 2 ∷ fetching 3 ∷ fetching 4 ∷ []
+seating_acts _ terms = []
 
 -- entries of these acts were made, and are all that is new
 pub record HasMade (acts : List (ℕ × Timed)) (before after : Log) : Type 0 where
@@ -170,12 +185,11 @@ pub record HasMade (acts : List (ℕ × Timed)) (before after : Log) : Type 0 wh
   pub more : after ≡ before ++ entries
   pub acts_are : map asked_of entries ≡ acts
 
--- the seat line comes first, is for two players, and makes the acts that seat them
+-- the seat line comes first, and makes the acts that seat its players
 pub record IsSeating (before : List Row) (seat : SeatLine) (made : Log) : Type 0 where
   pub first : before ≡ []
   pub spelled : IsSeatLine seat
   pub short : IsLine (seat_text seat)
-  pub two : players_of seat.terms.variant ≡ 2
   pub acts : map asked_of made ≡ seating_acts seat.names seat.terms
   pub legal : Legal house opening_parts made
 
@@ -270,6 +284,11 @@ pub record Reached (lines : List (List ℕ)) (evening : EveningState) (due : Lis
 abbrev pub IsClosed : EveningState → EveningState → Type 0
 IsClosed old new =
     (lines : List (List ℕ)) (due : List ℕ) (at : Reached lines old due) → HasClosed at.rows old.server new.server
+
+-- the memories once these names are seated, in the order of the sessions behind so many
+abbrev pub seated_from : ℕ → List (List ℕ) → List MemoryState → List MemoryState
+seated_from place [] memories = memories
+seated_from place (name ∷ names) memories = seated_from (place + 1) names (slice_set memories place (seated name))
 
 -- ---- one line of a session
 

@@ -1,16 +1,13 @@
 //! An evening: what the lines of a script make of one server.
 
 ghost use Rattle.std.specs.Prelude.{◌≡◌, ◌≢◌, ◌≤◌, ◌<◌, ◌^◌, [], IfOk, IfNone, IfSome, OnOk, length, replicate};
-ghost use Rattle.replay_core.specs.SeatLine.{IsSeatLine, players_of, seat_text};
-ghost use Rattle.replay_core.specs.declared.seat_line.SeatLine.{SeatLine};
 ghost use Rattle.session_core.specs.Memory.{newcomer};
-ghost use Rattle.replay_command.specs.Evening.{AfterLeaving, IsNext, IsNoNext};
+ghost use Rattle.replay_command.specs.Evening.{AfterLeaving, IsNext, IsNoNext, seated_from};
 
 use crate::answering::{answer_event, leave_server};
-use crate::seating::seat;
-use chess_model::Variant;
+use crate::seating::{players, seat};
 use collections::Listed;
-use fics_words::{Line, NoMemory};
+use fics_words::{Handle, Line, NoMemory};
 use line_answers::LineHandler;
 use lobby_state::Lobby;
 use one_server::OneServer;
@@ -18,9 +15,6 @@ use replay_core::{Attendance, ScriptLine, SeatLine, read_script, read_seat};
 use session_core::Session;
 use std::alloc::Global;
 use std::marker::Model;
-
-/// How many sessions a seat line seats.
-const SEATS: u32 = 2;
 
 /// The most sessions that a script may have.
 const SESSIONS: u32 = 64;
@@ -60,7 +54,7 @@ impl Evening {
     ghost use Rattle.std.specs.Prelude.{◌≡◌, ◌≢◌, ◌<◌, [], None, Some, IfOk, OnOk, length};
     ghost use Rattle.fics_words.specs.Line.{IsLine};
     ghost use Rattle.line_answers.specs.Handling.{AfterAnswering, Takes};
-    ghost use Rattle.replay_core.specs.SeatLine.{IsSeatLine, players_of, seat_text};
+    ghost use Rattle.replay_core.specs.SeatLine.{IsSeatLine, seat_text};
     ghost use Rattle.replay_core.specs.declared.seat_line.SeatLine.{SeatLine};
     ghost use Rattle.replay_command.specs.Evening.{KeepsOrder, Reached};
 
@@ -78,8 +72,7 @@ impl Evening {
         })
     }
 
-    /// Takes the first line: the seat line of two players, whom it seats, or a session's line; false where it is
-    /// neither.
+    /// Takes the first line: a seat line, whose players it seats, or a session's line; false where it is neither.
     fn take_first(&mut self, line: &Line, out: &mut Vec<u8>) -> Result<bool, NoMemory>
         requires first { self.old.order ≡ None }
         requires some { 0 < length line.now }
@@ -87,7 +80,7 @@ impl Evening {
         ensures { IfOk result
             (λ good. AfterAnswering Reached self.old line.now out.old.items self.new out.new.items good) }
     {
-        let Some(seats) = read_two_seats(self.alloc, line)? else {
+        let Some(seats) = read_seat(self.alloc, line)? else {
             return self.take_event(Attendance::new(0), line, out);
         };
         self.take_seats(&seats)?;
@@ -98,17 +91,15 @@ impl Evening {
     fn take_seats(&mut self, seats: &SeatLine) -> Result<(), NoMemory>
         requires first { self.old.order ≡ None }
         requires spelled { IsSeatLine seats.now }
-        requires two { players_of seats.now.terms.variant ≡ 2 }
         requires some { 0 < length (seat_text seats.now) }
         requires short { IsLine (seat_text seats.now) }
         ensures { OnOk result (Takes Reached self.old (seat_text seats.now) self.new []) }
     {
         seat(&mut self.server, seats)?;
         let _history = self.server.history();
-        self.order = Some(Attendance::new(SEATS));
+        self.order = Some(Attendance::new(players(seats.terms.variant)));
         let names = seats.names.as_slice();
-        *self.sessions.item_mut(0) = Session::seated(self.alloc, names[0]);
-        *self.sessions.item_mut(1) = Session::seated(self.alloc, names[1]);
+        seat_sessions(self.alloc, &mut self.sessions, names);
         Ok(())
     }
 
@@ -122,8 +113,7 @@ impl Evening {
         requires order { KeepsOrder order self.old.order }
         requires some { 0 < length line.now }
         requires line { IsLine line.now }
-        requires no_seat { self.old.order ≡ None → (seat : SeatLine) → IsSeatLine seat
-            → players_of seat.terms.variant ≡ 2 → line.now ≢ seat_text seat }
+        requires no_seat { self.old.order ≡ None → (seat : SeatLine) → IsSeatLine seat → line.now ≢ seat_text seat }
         ensures { IfOk result
             (λ good. AfterAnswering Reached self.old line.now out.old.items self.new out.new.items good) }
     {
@@ -224,20 +214,12 @@ fn close_sessions(
     Ok(())
 }
 
-/// Reads the seat line of two players: a game of chess or crazyhouse.
-fn read_two_seats(alloc: Global, line: &Line) -> Result<Option<SeatLine>, NoMemory>
-    ensures spelled { IfOk result (λ read. IfSome read (λ seat. line.now ≡ seat_text seat)) }
-    ensures in_range { IfOk result (λ read. IfSome read IsSeatLine) }
-    ensures two { IfOk result (λ read. IfSome read (λ seat. players_of seat.terms.variant ≡ 2)) }
-    ensures none { IfOk result (λ read. IfNone read
-        ((seat : SeatLine) → IsSeatLine seat → players_of seat.terms.variant ≡ 2 → line.now ≢ seat_text seat)) }
+/// Seats the first sessions under these names, one after another.
+fn seat_sessions(alloc: Global, sessions: &mut Listed<Session>, names: &[Handle])
+    requires { length names.now ≤ length sessions.old }
+    ensures { sessions.new ≡ seated_from 0 names.now sessions.old }
 {
-    let Some(seat) = read_seat(alloc, line)? else {
-        return Ok(None);
-    };
-    match seat.terms.variant {
-        Variant::Chess => Ok(Some(seat)),
-        Variant::Crazyhouse => Ok(Some(seat)),
-        Variant::Bughouse => Ok(None),
+    for (place, name) in names.iter().enumerate() {
+        *sessions.item_mut(place) = Session::seated(alloc, *name);
     }
 }

@@ -22,6 +22,7 @@ use Rattle.command_words.specs.Aliases.{alias_of, expanded, is_alias_name}
 use Rattle.command_words.specs.Blanks.{Words, first_word, rest_of, trimmed, words_of}
 use Rattle.command_words.specs.Decline.{decline_from, decline_of}
 use Rattle.command_words.specs.Channel.{channel_from}
+use Rattle.command_words.specs.GoBoard.{go_board_from}
 use Rattle.command_words.specs.InChannel.{in_channel_from}
 use Rattle.command_words.specs.Commands.{arguments_of, asked, command_after, command_in, command_made, command_of, move_in, move_or}
 use Rattle.command_words.specs.NameList.{censor_from, noplay_from}
@@ -199,6 +200,10 @@ noplay_fits : (on : Bool) (name : Option (List ℕ)) → FitsAnswer (noplay_from
 noplay_fits on None = tt
 noplay_fits on (Some name) = tt
 
+go_board_fits : (name : Option (List ℕ)) → FitsAnswer (go_board_from name)
+go_board_fits None = tt
+go_board_fits (Some name) = tt
+
 arguments_fit : (v : Verb) (rest : List ℕ) → FitsAnswer (arguments_of v rest)
 arguments_fit verb.Abort rest = alone_fits command.Abort rest tt
 arguments_fit verb.Accept rest = accept_fits rest
@@ -225,6 +230,10 @@ arguments_fit verb.Resign rest = alone_fits command.Resign rest tt
 arguments_fit verb.Takeback rest = takeback_fits rest
 arguments_fit verb.Unalias rest = either_fits (is_alias_name rest) (Ok (command.Unalias rest)) (Err BadArguments) tt tt
 arguments_fit verb.Seek rest = seeking_fits (words_of rest) (terms_of five_nothing (words_of rest)) refl
+arguments_fit verb.SimOpen rest = alone_fits command.SimOpen rest tt
+arguments_fit verb.SimNext rest = alone_fits command.SimNext rest tt
+arguments_fit verb.SimPrev rest = alone_fits command.SimPrev rest tt
+arguments_fit verb.GoBoard rest = go_board_fits (handle_of rest)
 arguments_fit verb.Sought rest = alone_fits command.Sought rest tt
 arguments_fit verb.Unseek rest = unseek_fits rest
 arguments_fit verb.AddCensor rest = censor_fits true (handle_of rest)

@@ -2,6 +2,7 @@
 use Rattle.std.proofs.Common.{◌≡◌, ℕ, Bool, true, false, if◌then◌else◌, List, [], ◌∷◌, refl, sym, ap, ◌∙◌, Ok, Err, Result}
 use Rattle.std.specs.declared.option.Option.{Option}
 use Rattle.std.specs.declared.option.Option.TheVariants.{None, Some}
+use Rattle.chess_model.specs.declared.moves.MoveWord.{MoveWord}
 use Rattle.command_words.specs.declared.command.Command.{Command}
 use Rattle.command_words.specs.declared.command.Command.TheVariants as command
 use Rattle.command_words.specs.Commands.{command_in}
@@ -17,7 +18,7 @@ use Rattle.linked_desk.specs.declared.acts.DeskReply.TheVariants as desk_reply
 use Rattle.lobby_state.specs.declared.acts.LobbyReply.TheVariants as lobby_reply
 use Rattle.lobby_state.specs.declared.acts.LobbyAct.{LobbyAct}
 use Rattle.lobby_state.specs.declared.acts.LobbyAct.TheVariants as lobby_act
-use Rattle.lobby_state.specs.declared.place.Place.{Place}
+use Rattle.simul_control.specs.declared.place.Place.{Place}
 use Rattle.offer_book.specs.declared.offer.Offer.TheVariants.{Draw, Abort, Takeback}
 use Rattle.lobby_state.specs.FindGame.{desk_of_game}
 use Rattle.one_server.specs.declared.act.Act.TheVariants as one_act
@@ -37,7 +38,7 @@ use Rattle.session_core.specs.Login.{admitted, entering, entering_named, is_gues
 use Rattle.session_core.specs.OwnCommands.{set_alias, unset_alias, set_style}
 use Rattle.session_core.specs.Memory.{MemoryState, is_gone, is_out, present_in, told, is_full, observed_at, remark_place, without_observed}
 use Rattle.session_core.specs.Reactions.{in_lobby, says_no_offer}
-use Rattle.session_core.specs.Session.{acked_at, answered, at_present, command_course, given_up, reacting_at, round, says_over, to_desk, to_react, to_server, visits, behind, finding, forgets, remark_of, to_observe, to_remark, unobserved, watched}
+use Rattle.session_core.specs.Session.{acked_at, answered, at_present, command_course, given_up, moved, moving_at, reacting_at, round, says_over, to_desk, to_move, to_react, to_server, turns, visits, behind, finding, forgets, remark_of, to_observe, to_remark, unobserved, watched}
 use Rattle.session_core.specs.Texts.{refusal_line}
 use Rattle.session_core.specs.Visits.{visits_in}
 use Rattle.session_core.specs.declared.visit.Visit.{Visit}
@@ -95,6 +96,25 @@ never_desk : (act : DeskAct) (memory : MemoryState) → is_gone memory ≡ false
 unfolding NeverGone
 never_desk act memory here = λ r. never_present act (present_in (told memory r)) (told memory r) (stays memory r here)
 
+never_either : (t : Bool) (one other : Course) → NeverGone one → NeverGone other → NeverGone (if t then one else other)
+never_either true one other p q = p
+never_either false one other p q = q
+
+never_moved : (seat : ℕ) (r : Reply) (memory : MemoryState) → is_gone memory ≡ false → NeverGone (moved seat r memory)
+unfolding NeverGone
+never_moved seat r memory here =
+    never_either (turns r memory) (Asks (one_act.Lobby lobby_act.SimNext) (λ turned. round memory)) (round memory)
+    (λ turned. never_round memory here) (never_round memory here)
+
+never_moving : (word : MoveWord) (stamp : Option ℕ) (place : Option Place) (memory : MemoryState) → is_gone memory ≡ false → NeverGone (moving_at word stamp place memory)
+unfolding NeverGone
+never_moving word stamp None memory here = never_round memory here
+never_moving word stamp (Some place) memory here = λ r. never_moved place.seat r memory here
+
+never_move : (word : MoveWord) (stamp : Option ℕ) (memory : MemoryState) → is_gone memory ≡ false → NeverGone (to_move word stamp memory)
+unfolding NeverGone
+never_move word stamp memory here = λ r. never_moving word stamp (present_in (told memory r)) (told memory r) (stays memory r here)
+
 never_reacted : (reaction : Reaction) (none : Bool) (r : Reply) (memory : MemoryState) → is_gone memory ≡ false →
     NeverGone (if none then to_server (in_lobby reaction None) memory else answered r memory)
 unfolding NeverGone
@@ -124,10 +144,6 @@ unfolding NeverGone
 never_finding (reply.Lobby (lobby_reply.Found place)) memory here = λ s. never_round (watched place s memory) (stays_watching place s memory here)
 never_finding _ memory here = never_round memory here
 
-never_either : (t : Bool) (one other : Course) → NeverGone one → NeverGone other → NeverGone (if t then one else other)
-never_either true one other p q = p
-never_either false one other p q = q
-
 never_observe : (act : LobbyAct) (memory : MemoryState) → is_gone memory ≡ false → NeverGone (to_observe act memory)
 unfolding NeverGone
 never_observe act memory here =
@@ -142,18 +158,12 @@ never_unobserved (Some place) memory here = λ r. never_round (without_observed 
 never_command : (asked : Command) (stamp : Option ℕ) (memory : MemoryState) → is_gone memory ≡ false → is_quit (Ok asked) ≡ false → NeverGone (command_course asked stamp memory)
 unfolding NeverGone
 never_command command.Nothing stamp memory here goes_on = never_round memory here
-never_command (command.Move word) stamp memory here goes_on = never_desk (desk_act.Move word stamp) memory here
-never_command (command.Match name terms) stamp memory here goes_on = λ r. never_round memory here
+never_command (command.Move word) stamp memory here goes_on = never_move word stamp memory here
 never_command (command.Accept name) stamp memory here goes_on = never_react Accepting name memory here
 never_command (command.Decline name) stamp memory here goes_on = never_react Declining name memory here
 never_command command.Draw stamp memory here goes_on = never_desk (desk_act.Make Draw) memory here
 never_command command.Abort stamp memory here goes_on = never_desk (desk_act.Make Abort) memory here
 never_command (command.Takeback number) stamp memory here goes_on = never_desk (desk_act.Make (Takeback number)) memory here
-never_command (command.Seek terms) stamp memory here goes_on = λ r. never_round memory here
-never_command (command.Unseek number) stamp memory here goes_on = λ r. never_round memory here
-never_command command.Sought stamp memory here goes_on = λ r. never_round memory here
-never_command (command.Play number) stamp memory here goes_on = λ r. never_round memory here
-never_command command.Who stamp memory here goes_on = λ r. never_round memory here
 never_command command.Resign stamp memory here goes_on = never_desk desk_act.Resign memory here
 never_command command.Flag stamp memory here goes_on = never_desk desk_act.Flag memory here
 never_command command.Refresh stamp memory here goes_on = never_desk desk_act.Show memory here
@@ -162,7 +172,6 @@ never_command (command.ObserveGame number) stamp memory here goes_on = never_obs
 never_command (command.ObservePlayer name) stamp memory here goes_on = never_observe (lobby_act.Find (key_of name)) memory here
 never_command (command.Unobserve number) stamp memory here goes_on = never_unobserved (observed_at (desk_of_game number) memory) memory here
 never_command (command.Style style) stamp memory here goes_on = never_round (set_style style memory).memory here
-never_command (command.Register password) stamp memory here goes_on = λ r. never_round memory here
 never_command (command.Alias name text) stamp memory here goes_on = never_round (set_alias name text memory).memory here
 never_command (command.Unalias name) stamp memory here goes_on = never_round (unset_alias name memory).memory here
 never_command command.Quit stamp memory here goes_on = absurd (let bad : true ≡ false = goes_on in cc)

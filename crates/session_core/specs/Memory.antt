@@ -4,7 +4,7 @@ use Rattle.command_words.specs.declared.aliases.Alias.{Alias}
 use Rattle.command_words.specs.declared.style.Style.{Style}
 use Rattle.command_words.specs.declared.style.Style.TheVariants.{Twelve}
 use Rattle.lobby_state.specs.declared.acts.LobbyReply.TheVariants.{Places, Waiting}
-use Rattle.lobby_state.specs.declared.place.Place.{Place}
+use Rattle.simul_control.specs.declared.place.Place.{Place}
 use Rattle.lobby_state.specs.Places.{PlaceList, no_places, with_place, without_desk}
 use Rattle.one_server.specs.declared.reply.Reply.{Reply}
 use Rattle.one_server.specs.declared.reply.Reply.TheVariants.{Lobby}
@@ -77,6 +77,10 @@ departed memory = record memory { standing = Gone; places = no_places; observed 
 -- the session's present place, if it has any
 abbrev pub present_in : MemoryState → Option Place
 present_in memory = slice_get memory.places.rows memory.places.at
+
+-- the session gives a simul, as the lobby told it last
+abbrev pub is_giving : MemoryState → Bool
+is_giving memory = memory.places.giving
 
 -- for whom the items of a game are written, where the session plays it at this seat, or looks on
 abbrev pub reader_in : MemoryState → Option ℕ → Reader

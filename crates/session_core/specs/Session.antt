@@ -1,19 +1,21 @@
 -- What a session that has entered does: for a command, for its news, for an acknowledgement, and when it leaves. This
 -- server's own.
-use Rattle.std.specs.Prelude.{ℕ, Bool, true, false, if◌then◌else◌, List, [], ◌∷◌, Option, None, Some, codes}
+use Rattle.std.specs.Prelude.{ℕ, Bool, true, false, ◌&&◌, if◌then◌else◌, List, [], ◌∷◌, Option, None, Some, codes}
 use Rattle.std.specs.Option.{option_map}
+use Rattle.chess_model.specs.declared.moves.MoveWord.{MoveWord}
 use Rattle.command_words.specs.declared.command.Command.{Command}
 use Rattle.command_words.specs.declared.command.Command.TheVariants as command
 use Rattle.fics_words.specs.declared.refusal.Refusal.TheVariants.{ListFull, NotPlaying, NotWatching}
 use Rattle.fics_words.specs.Handle.{key_of}
 use Rattle.linked_desk.specs.declared.acts.DeskAct.{DeskAct}
 use Rattle.linked_desk.specs.declared.acts.DeskAct.TheVariants as desk_act
+use Rattle.linked_desk.specs.declared.acts.DeskReply.TheVariants as desk_reply
 use Rattle.linked_desk.specs.declared.acts.DeskReply.TheVariants.{Items}
 use Rattle.lobby_state.specs.declared.acts.LobbyAct.{LobbyAct}
 use Rattle.lobby_state.specs.declared.acts.LobbyAct.TheVariants as lobby_act
 use Rattle.lobby_state.specs.declared.acts.LobbyReply.TheVariants.{Found}
 use Rattle.lobby_state.specs.declared.acts.PairAct.TheVariants as pair_act
-use Rattle.lobby_state.specs.declared.place.Place.{Place}
+use Rattle.simul_control.specs.declared.place.Place.{Place}
 use Rattle.lobby_state.specs.declared.name_list.WhichList.{WhichList}
 use Rattle.lobby_state.specs.declared.name_list.WhichList.TheVariants.{Censor, Noplay}
 use Rattle.lobby_state.specs.declared.var.Var.{Var}
@@ -28,7 +30,7 @@ use Rattle.one_server.specs.declared.reply.Reply.TheVariants as reply
 use Rattle.session_core.specs.declared.reaction.Reaction.{Reaction}
 use Rattle.session_core.specs.declared.reaction.Reaction.TheVariants.{Accepting, Declining}
 use Rattle.session_core.specs.Course.{Course, Done, Asks, Writes}
-use Rattle.session_core.specs.Memory.{MemoryState, departed, present_in, told, is_full, observed_at, reader_in, remark_place}
+use Rattle.session_core.specs.Memory.{MemoryState, departed, present_in, told, is_full, is_giving, observed_at, reader_in, remark_place}
 use Rattle.session_core.specs.OwnCommands.{OwnAnswer, set_alias, unset_alias, set_style}
 use Rattle.session_core.specs.Reactions.{in_lobby, of_desk, says_no_offer}
 use Rattle.session_core.specs.Texts.{refusal_line, reply_text, news_text, waiting_text, shown_text}
@@ -109,6 +111,36 @@ placing act memory = at_present act (present_in memory) memory
 -- a command to the present place, which the lobby knows
 abbrev pub to_desk : DeskAct → MemoryState → Course
 to_desk act memory = Asks (Lobby lobby_act.Where) (λ reply. placing act (told memory reply))
+
+-- the desk has accepted a half-move
+abbrev pub is_accepted : Reply → Bool
+is_accepted (reply.Desk desk_reply.Done) = true
+is_accepted _ = false
+
+-- behind an accepted half-move who gives a simul goes to its next place
+abbrev pub turns : Reply → MemoryState → Bool
+turns reply memory = is_accepted reply && is_giving memory
+
+-- the reply to a half-move, and then the round; where the next place comes before it, what the lobby answers to that
+-- isn't printed
+abbrev pub moved : ℕ → Reply → MemoryState → Course
+moved seat reply memory =
+    Writes (shown_text (reader_in memory (Some seat)) reply)
+    (if turns reply memory then Asks (Lobby lobby_act.SimNext) (λ turned. round memory) else round memory)
+
+-- a half-move at this place, where there is one; else the session itself answers
+abbrev pub moving_at : MoveWord → Option ℕ → Option Place → MemoryState → Course
+moving_at word stamp None memory = Writes (refusal_line NotPlaying) (round memory)
+moving_at word stamp (Some place) memory =
+    Asks (at_place place (desk_act.Move word stamp)) (λ reply. moved place.seat reply memory)
+
+-- the lobby has told which place is the present one, and the half-move is made there
+abbrev pub moving : MoveWord → Option ℕ → MemoryState → Course
+moving word stamp memory = moving_at word stamp (present_in memory) memory
+
+-- a half-move at the present place, which the lobby knows; it carries the stamp of its line, where that has one
+abbrev pub to_move : MoveWord → Option ℕ → MemoryState → Course
+to_move word stamp memory = Asks (Lobby lobby_act.Where) (λ reply. moving word stamp (told memory reply))
 
 -- a remark at the present place, or else at the first game at which the session looks on
 abbrev pub remarking : DeskAct → MemoryState → Course
@@ -205,7 +237,7 @@ listing which key on = Lobby (lobby_act.List which key on)
 -- what a session does for a command; a move carries the stamp of its line, where it has one
 abbrev pub command_course : Command → Option ℕ → MemoryState → Course
 command_course command.Nothing stamp memory = round memory
-command_course (command.Move word) stamp memory = to_desk (desk_act.Move word stamp) memory
+command_course (command.Move word) stamp memory = to_move word stamp memory
 command_course (command.Match name terms) stamp memory =
     to_server (Lobby (lobby_act.Match (key_of name) terms)) memory
 command_course (command.Seek terms) stamp memory = to_server (Lobby (lobby_act.Post terms)) memory
@@ -242,6 +274,10 @@ command_course (command.Kibitz text) stamp memory = to_remark (remark_of text me
 command_course (command.ObserveGame number) stamp memory = to_observe (lobby_act.FindGame number) memory
 command_course (command.ObservePlayer name) stamp memory = to_observe (lobby_act.Find (key_of name)) memory
 command_course (command.Unobserve number) stamp memory = to_unobserve number memory
+command_course command.SimOpen stamp memory = to_server (Lobby lobby_act.SimOpen) memory
+command_course command.SimNext stamp memory = to_server (Lobby lobby_act.SimNext) memory
+command_course command.SimPrev stamp memory = to_server (Lobby lobby_act.SimPrev) memory
+command_course (command.GoBoard name) stamp memory = to_server (Lobby (lobby_act.GoBoard (key_of name))) memory
 command_course (command.Style style) stamp memory = by_itself (set_style style memory)
 command_course (command.Register password) stamp memory =
     to_server (Lobby (lobby_act.Register (sha256 password))) memory

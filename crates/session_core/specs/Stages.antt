@@ -20,7 +20,7 @@ use Rattle.session_core.specs.Course.{Course, Done, Asks, Writes}
 use Rattle.session_core.specs.Memory.{MemoryState, departed, has_entered, is_gone, reader_in, told, without_observed}
 use Rattle.session_core.specs.Login.{entered_as}
 use Rattle.session_core.specs.Session.{acking, answered, behind, clear_at, finding, given_up, leave_games, leaving, placing, reacted, reacting, remarking}
-use Rattle.session_core.specs.Session.{rounding, says_over, shown, visits, watching}
+use Rattle.session_core.specs.Session.{moved, moving, round, rounding, says_over, shown, visits, watching}
 use Rattle.session_core.specs.Texts.{news_text, waiting_text}
 use Rattle.session_core.specs.Visits.{visits_in}
 
@@ -28,6 +28,9 @@ use Rattle.session_core.specs.Visits.{visits_in}
 abbrev pub continues : Stage → MemoryState → Reply → Course
 continues (stage.Entering name) memory reply = entered_as name reply memory
 continues (stage.Placing act) memory reply = placing act (told memory reply)
+continues (stage.Moving word stamp) memory reply = moving word stamp (told memory reply)
+continues (stage.Moved seat) memory reply = moved seat reply memory
+continues stage.Turning memory reply = round memory
 continues (stage.Reacting reaction) memory reply = reacting reaction (told memory reply)
 continues (stage.Reacted reaction) memory reply = reacted reaction reply memory
 continues stage.Answering memory reply = answered reply memory
@@ -60,6 +63,9 @@ course_of follows End memory = Done memory
 abbrev pub acts_after : Stage → ℕ
 acts_after (stage.Entering name) = 0
 acts_after (stage.Placing act) = 131
+acts_after (stage.Moving word stamp) = 132
+acts_after (stage.Moved seat) = 131
+acts_after stage.Turning = 130
 acts_after (stage.Reacting reaction) = 132
 acts_after (stage.Reacted reaction) = 131
 acts_after (stage.Remarking act) = 131
@@ -105,6 +111,7 @@ FitsCommand _ = Unit {0}
 abbrev pub IsSet : MemoryState → Stage → Type 0
 IsSet memory (stage.Entering name) = has_entered memory ≡ false
 IsSet memory (stage.Placing act) = (has_entered memory ≡ true) × FitsDeskAct act
+IsSet memory (stage.Moving word stamp) = (has_entered memory ≡ true) × FitsStamp stamp
 IsSet memory (stage.Remarking act) = (has_entered memory ≡ true) × FitsDeskAct act
 IsSet memory (stage.Watching place) = (has_entered memory ≡ true) × IsDesk place.desk
 IsSet memory (stage.Visiting visit rest) = (has_entered memory ≡ true) × IsDesk visit.desk

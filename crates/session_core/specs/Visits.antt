@@ -1,6 +1,6 @@
 -- The games to which a session goes: those that it plays, and then those at which it looks on. This server's own.
 use Rattle.std.specs.Prelude.{List, ◌++◌, map, None, Some}
-use Rattle.lobby_state.specs.declared.place.Place.{Place}
+use Rattle.simul_control.specs.declared.place.Place.{Place}
 use Rattle.session_core.specs.declared.visit.Visit.{Visit}
 use Rattle.session_core.specs.Memory.{MemoryState}
 

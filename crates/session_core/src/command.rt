@@ -7,6 +7,7 @@ ghost use Rattle.session_core.specs.Session.{command_course, setting, to_desk, t
 ghost use Rattle.session_core.specs.Stages.{FitsCommand, FitsStamp, IsPrepared, Settles, first_course};
 
 use crate::first::First;
+use crate::moves::to_move;
 use crate::next::Next;
 use crate::own_commands::{set_alias, set_style, unset_alias};
 use crate::reaction::{Reaction, in_lobby};
@@ -37,7 +38,7 @@ pub(crate) fn begin_command(
 {
     let first = match command {
         Command::Nothing => First::Going(ask_round()),
-        Command::Move(word) => to_desk(DeskAct::Move { word, stamp }),
+        Command::Move(word) => to_move(word, stamp),
         Command::Match(name, terms) => to_server(Act::Lobby(LobbyAct::Match {
             to: name.key(),
             terms,
@@ -95,6 +96,10 @@ pub(crate) fn begin_command(
             return observe(memory, LobbyAct::Find { name: name.key() }, out);
         },
         Command::Unobserve(number) => return unobserve(memory, number, out),
+        Command::SimOpen => to_server(Act::Lobby(LobbyAct::SimOpen)),
+        Command::SimNext => to_server(Act::Lobby(LobbyAct::SimNext)),
+        Command::SimPrev => to_server(Act::Lobby(LobbyAct::SimPrev)),
+        Command::GoBoard(name) => to_server(Act::Lobby(LobbyAct::GoBoard { name: name.key() })),
         Command::Style(style) => {
             set_style(memory, style, out)?;
             return Ok(First::Going(ask_round()));

@@ -4,7 +4,7 @@ use crate::next::Next;
 use crate::stage::Stage;
 
 /// What comes first: the session leaves, since it was asked to quit; or it goes on.
-#[derive(Debug, Drop)]
+#[derive(Drop)]
 pub(crate) enum First {
     Leaving,
     Going(Next<Stage>),

@@ -12,7 +12,7 @@ use line_reader::Incoming;
 use std::alloc::Global;
 
 /// How a text stands in an answer.
-#[derive(Clone, Copy, Debug)]
+#[derive(Clone, Copy)]
 pub enum Framing {
     /// As it is: what isn't answered writes nothing.
     Bare,

@@ -3,7 +3,7 @@
 use line_reader::Incoming;
 
 /// What comes from a session's player.
-#[derive(Debug, Drop)]
+#[derive(Drop)]
 pub enum Input {
     /// A line came.
     Line(Incoming),
@@ -12,7 +12,7 @@ pub enum Input {
 }
 
 /// What a session answers to an input.
-#[derive(Debug, Drop)]
+#[derive(Drop)]
 pub struct Wrote {
     /// The bytes for the player.
     pub bytes: Vec<u8>,

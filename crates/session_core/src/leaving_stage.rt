@@ -15,7 +15,7 @@ use lobby_state::LobbyAct;
 use one_server::{Act, Reply};
 
 /// What stands between an act of leaving and its reply.
-#[derive(Debug, Drop)]
+#[derive(Drop)]
 pub(crate) enum LeavingStage {
     /// The member begins to leave.
     Going,

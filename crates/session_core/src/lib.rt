@@ -17,6 +17,7 @@ mod laws;
 mod leaving;
 mod leaving_stage;
 mod login;
+mod moves;
 mod next;
 mod own_commands;
 mod places_left;

@@ -6,7 +6,7 @@ use lobby_state::{Place, Places};
 use std::marker::Model;
 
 /// Places that are still to come, each at a desk from 1 to 128. Contracts see their list.
-#[derive(Debug, Drop)]
+#[derive(Drop)]
 pub(crate) struct PlacesLeft {
     places: Places,
     /// How many of the places were taken.
@@ -15,7 +15,7 @@ pub(crate) struct PlacesLeft {
 
 impl Model for PlacesLeft {
     ghost use Rattle.std.specs.Prelude.{◌≤◌, List, drop, length};
-    ghost use Rattle.lobby_state.specs.declared.place.Place.{Place};
+    ghost use Rattle.simul_control.specs.declared.place.Place.{Place};
 
     ghost Value = { List Place };
 

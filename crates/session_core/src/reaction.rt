@@ -10,7 +10,7 @@ use lobby_state::{LobbyAct, PairAct};
 use one_server::{Act, Reply};
 
 /// An offer is accepted or declined.
-#[derive(Clone, Copy, Debug)]
+#[derive(Clone, Copy)]
 pub(crate) enum Reaction {
     Accepting,
     Declining,

@@ -4,7 +4,7 @@ use crate::standing::LinkMark;
 use command_words::Style;
 
 /// For whom the items of a game are written.
-#[derive(Clone, Copy, Debug)]
+#[derive(Clone, Copy)]
 pub(crate) struct Reader {
     /// What is known of the session's link.
     pub(crate) link: LinkMark,

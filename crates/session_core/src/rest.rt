@@ -10,7 +10,7 @@ use std::marker::Model;
 
 /// Games that come next, each at a desk from 1 to 128: those that the session plays, and then those at which it looks
 /// on. Contracts see their list.
-#[derive(Debug, Drop)]
+#[derive(Drop)]
 pub(crate) struct Rest {
     places: PlacesLeft,
     observed: PlacesLeft,

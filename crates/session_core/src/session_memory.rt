@@ -3,7 +3,8 @@ ghost use Rattle.std.specs.Prelude.{◌≡◌, ◌≤◌, IfSome, length, slice_
 ghost use Rattle.command_words.specs.Aliases.{setting, unsetting};
 ghost use Rattle.fics_words.specs.Effect.{Takes, answer_of, state_of};
 ghost use Rattle.lobby_state.specs.Desks.{IsDesk};
-ghost use Rattle.session_core.specs.Memory.{departed, is_full, is_gone, newcomer, observed_at, past_first, present_in};
+ghost use Rattle.session_core.specs.Memory.{departed, is_full, is_giving, is_gone, newcomer, observed_at};
+ghost use Rattle.session_core.specs.Memory.{past_first, present_in};
 ghost use Rattle.session_core.specs.Memory.{reader_in, remark_place, seated, stands_at, told, with_observed, without_observed};
 ghost use Rattle.session_core.specs.Visits.{visits_in};
 
@@ -22,7 +23,7 @@ const MOST_OBSERVED: usize = 32;
 
 /// What a session remembers: where it stands, what its link is, its aliases, how boards are printed, its places as the
 /// lobby told them last, and where it looks on, in the order in which it began to.
-#[derive(Debug, Drop)]
+#[derive(Drop)]
 pub(crate) struct Memory {
     standing: Standing,
     link: LinkMark,
@@ -177,6 +178,13 @@ impl Memory {
         self.places.present()
     }
 
+    /// Whether the session gives a simul, as the lobby told it last.
+    pub(crate) fn is_giving(&self) -> bool
+        ensures { result ≡ is_giving self.now }
+    {
+        self.places.giving()
+    }
+
     /// The games that the session plays and at which it looks on, all of which are still to be visited.
     pub(crate) fn visits(&self) -> Rest
         ensures visits { result ≡ visits_in self.now }
@@ -215,7 +223,8 @@ impl Memory {
         requires { IsDesk place.desk }
         ensures { self.new ≡ with_observed place self.old }
     {
-        self.observed.add(place);
+        // the course asks first whether there is room
+        let _room = self.observed.add(place);
     }
 
     /// Looks on no longer at the game of this desk.

@@ -13,6 +13,7 @@ ghost use Rattle.session_core.specs.Stages.{IsSet, IsReady, Settles, acts_after,
 ghost use Rattle.session_core.specs.Texts.{news_text, waiting_text};
 
 use crate::login::entered;
+use crate::moves::{moved, moving};
 use crate::next::Next;
 use crate::reaction::{Reaction, in_lobby, of_desk, says_no_offer};
 use crate::rest::Rest;
@@ -20,18 +21,25 @@ use crate::session_memory::Memory;
 use crate::texts::{put_news, put_refusal, put_reply, put_shown, put_waiting};
 use crate::visit::Visit;
 use crate::watching::{found, watched};
+use chess_model::MoveWord;
 use fics_words::{Handle, NoMemory, Refusal};
 use linked_desk::{DeskAct, DeskReply};
 use lobby_state::{LobbyAct, PairAct, Place};
 use one_server::{Act, Reply};
 
 /// What stands between an act that an input makes and its reply.
-#[derive(Debug, Drop)]
+#[derive(Drop)]
 pub(crate) enum Stage {
     /// The session has asked to enter under this name, or as a guest.
     Entering(Option<Handle>),
     /// The lobby is asked for the present place, for this act there.
     Placing(DeskAct),
+    /// The lobby is asked for the present place, for this half-move there; the word carries the stamp of its line.
+    Moving { word: MoveWord, stamp: Option<u32> },
+    /// The player of this seat has made a half-move.
+    Moved(u8),
+    /// Who gives a simul goes to its next place.
+    Turning,
     /// The lobby is asked for the present place, to answer the earliest offer there.
     Reacting(Reaction),
     /// A desk is asked to answer an offer, and the lobby comes next where none stands there.
@@ -79,6 +87,9 @@ impl Stage {
         match self {
             Stage::Entering(name) => entered(name, memory, reply, out),
             Stage::Placing(act) => placed(act, memory, reply, out),
+            Stage::Moving { word, stamp } => moving(word, stamp, memory, reply, out),
+            Stage::Moved(seat) => moved(seat, memory, reply, out),
+            Stage::Turning => Ok(ask_round()),
             Stage::Reacting(reaction) => Ok(reacting(reaction, memory, reply)),
             Stage::Reacted(reaction) => reacted(reaction, memory, reply, out),
             Stage::Answering => answered(memory, reply, out),

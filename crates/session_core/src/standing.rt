@@ -3,7 +3,7 @@
 use fics_words::Handle;
 
 /// Where a session stands between its opening and its end.
-#[derive(Clone, Copy, Debug)]
+#[derive(Clone, Copy)]
 pub enum Standing {
     /// It is asked for a name.
     Login,
@@ -16,7 +16,7 @@ pub enum Standing {
 }
 
 /// What is known of a session's link.
-#[derive(Clone, Copy, Debug)]
+#[derive(Clone, Copy)]
 pub enum LinkMark {
     /// No line has come yet.
     Fresh,

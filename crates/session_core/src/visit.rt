@@ -5,7 +5,7 @@ ghost use Rattle.session_core.specs.Visits.{looking, playing};
 use lobby_state::Place;
 
 /// A game that a session plays or looks on at.
-#[derive(Clone, Copy, Debug)]
+#[derive(Clone, Copy)]
 pub(crate) struct Visit {
     /// The desk, 1 to 128.
     pub(crate) desk: u8,

@@ -22,6 +22,10 @@ pub enum Asked {
     Bye,
     Accept,
     Decline,
+    SimOpen,
+    SimNext,
+    SimPrev,
+    GoBoard,
     Clear,
     Move,
     Acked,
@@ -45,14 +49,14 @@ pub fn seat(server: &mut OneServer) -> Result<(), Fail> {
 }
 
 /// Makes an act at moment 0. It ensures nothing, so that nothing above it is proved over what an act does.
-fn ran(server: &mut OneServer, session: u32, act: Act) -> Result<(), Fail>
+pub fn ran(server: &mut OneServer, session: u32, act: Act) -> Result<(), Fail>
     requires { FitsAct act }
 {
     let _reply = server.run(session, 0, act)?;
     Ok(())
 }
 
-fn enter(server: &mut OneServer, session: u32, name: Handle) -> Result<(), Fail> {
+pub fn enter(server: &mut OneServer, session: u32, name: Handle) -> Result<(), Fail> {
     let act = LobbyAct::Enter {
         name: Some(name),
         digest: None,
@@ -72,13 +76,26 @@ fn challenge(server: &mut OneServer, ben: Handle) -> Result<(), Fail> {
     ran(server, 2, Act::Pair(PairAct::Accept(None)))
 }
 
+/// A session challenges the player of this name to an untimed game, and the player's session accepts.
+pub fn start(server: &mut OneServer, from: u32, other: u32, name: Handle) -> Result<(), Fail> {
+    let terms = Terms {
+        minutes: 0,
+        increment: 0,
+        variant: Variant::Chess,
+        colour: None,
+    };
+    let to = name.key();
+    ran(server, from, Act::Lobby(LobbyAct::Match { to, terms }))?;
+    ran(server, other, Act::Pair(PairAct::Accept(None)))
+}
+
 /// A step: the session, the moment in milliseconds, what comes from its player, and the acts that this has to make.
 #[derive(Clone, Copy)]
 pub struct Step<'a>(pub u32, pub u32, pub Comes, pub &'a [Asked]);
 
 /// The place of the first step that makes other acts, if one does. Each is taken by a session that has entered and was
 /// told nothing yet.
-fn first_failing(alloc: Global, server: &mut OneServer, steps: &[Step<'_>]) -> Option<usize> {
+pub fn first_failing(alloc: Global, server: &mut OneServer, steps: &[Step<'_>]) -> Option<usize> {
     for (place, step) in steps.iter().enumerate() {
         let start = made(server);
         if takes(alloc, server, step.0, step.1, step.2).is_err() {
@@ -146,7 +163,7 @@ pub fn leaves_short(
     Ok(entered.leave(&mut seat, u64::from(moment)).is_err())
 }
 
-fn handle(name: &[u8; 3]) -> Result<Handle, Fail> {
+pub fn handle(name: &[u8; 3]) -> Result<Handle, Fail> {
     match Handle::read(name) {
         Some(handle) => Ok(handle),
         None => Err(Fail::Refused(Refusal::BadHandle)),
@@ -219,6 +236,16 @@ fn in_lobby(act: &LobbyAct) -> Asked {
         LobbyAct::Going => Asked::Going,
         LobbyAct::Bye => Asked::Bye,
         LobbyAct::Decline { .. } => Asked::Decline,
+        _ => of_a_simul(act),
+    }
+}
+
+fn of_a_simul(act: &LobbyAct) -> Asked {
+    match act {
+        LobbyAct::SimOpen => Asked::SimOpen,
+        LobbyAct::SimNext => Asked::SimNext,
+        LobbyAct::SimPrev => Asked::SimPrev,
+        LobbyAct::GoBoard { .. } => Asked::GoBoard,
         _ => Asked::Other,
     }
 }

@@ -20,6 +20,10 @@ mod offers;
 #[cfg(test)]
 mod short;
 #[cfg(test)]
+mod simuls;
+#[cfg(test)]
 mod stamps;
 #[cfg(test)]
 mod talks;
+#[cfg(test)]
+mod watching;

@@ -378,6 +378,17 @@ fn told_of_watching(alloc: Global, command: &Command) -> Result<Vec<u8>, NoMemor
         Command::Unobserve(number) => with_number(alloc, b"unobserve ", *number),
         Command::Style(Style::One) => of(alloc, b"style 1"),
         Command::Style(Style::Twelve) => of(alloc, b"style 12"),
+        _ => told_of_simuls(alloc, command),
+    }
+}
+
+/// The text of a command of who gives a simul, or of a strange one.
+fn told_of_simuls(alloc: Global, command: &Command) -> Result<Vec<u8>, NoMemory> {
+    match command {
+        Command::SimOpen => of(alloc, b"simopen"),
+        Command::SimNext => of(alloc, b"simnext"),
+        Command::SimPrev => of(alloc, b"simprev"),
+        Command::GoBoard(name) => with_text(alloc, b"goboard ", name.letters()),
         _ => of(alloc, b"strange"),
     }
 }

@@ -33,7 +33,9 @@ pending|pending
 PE|pending
 pending Bob|refused 28
 games|games
-g|games
+ga|games
+GAM|games
+g|refused 27
 games 1|refused 28
 gamess|refused 26";
 

@@ -1,0 +1,15 @@
+//! `simprev`: goes to the previous game of the simul that the player gives.
+
+ghost use Rattle.std.specs.Prelude.{◌≡◌};
+ghost use Rattle.command_words.specs.SimPrev.{sim_prev_of};
+
+use crate::arguments::alone;
+use crate::command::Command;
+use fics_words::Refusal;
+
+/// Reads the arguments, of which there are none; refuses with `BadArguments` where there is one.
+pub(crate) fn read(rest: &[u8]) -> Result<Command, Refusal>
+    ensures { result ≡ sim_prev_of rest.now }
+{
+    alone(Command::SimPrev, rest)
+}

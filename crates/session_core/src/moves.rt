@@ -1,0 +1,93 @@
+//! How a session makes a half-move, and how who gives a simul then goes to its next place.
+ghost use Rattle.std.specs.Prelude.{◌≡◌, ◌≤◌, IfOk, true};
+ghost use Rattle.one_server.specs.Replies.{IsReply};
+ghost use Rattle.session_core.specs.Memory.{MemoryState, has_entered, told};
+ghost use Rattle.session_core.specs.Session.{is_accepted, moved, moving, to_move, turns};
+ghost use Rattle.session_core.specs.Stages.{FitsStamp, IsPrepared, IsReady, IsSet, Settles, acts_after, acts_left};
+ghost use Rattle.session_core.specs.Stages.{continues, course_of, first_course};
+
+use crate::first::First;
+use crate::next::Next;
+use crate::session_memory::Memory;
+use crate::stage::{Stage, ask_round, at_place};
+use crate::texts::{put_refusal, put_shown};
+use chess_model::MoveWord;
+use fics_words::{NoMemory, Refusal};
+use linked_desk::{DeskAct, DeskReply};
+use lobby_state::LobbyAct;
+use one_server::{Act, Reply};
+
+/// A half-move at the present place, for which the lobby is asked. `stamp` is the client's own, below 10,000,000, where
+/// the line has one.
+pub(crate) fn to_move(word: MoveWord, stamp: Option<u32>) -> First
+    requires { FitsStamp stamp }
+    ensures goes { (memory : MemoryState) → first_course result memory ≡ to_move word stamp memory }
+    ensures ready { (memory : MemoryState) → has_entered memory ≡ true → IsPrepared memory result }
+{
+    First::Going(Next::Ask(Act::Lobby(LobbyAct::Where), Stage::Moving { word, stamp }))
+}
+
+/// The lobby has told the places: the half-move is made at the present one; without a place the session itself answers.
+pub(crate) fn moving(
+    word: MoveWord,
+    stamp: Option<u32>,
+    memory: &mut Memory,
+    reply: &Reply,
+    out: &mut Vec<u8>,
+) -> Result<Next<Stage>, NoMemory>
+    requires inside { has_entered memory.old ≡ true }
+    requires stamp { FitsStamp stamp }
+    ensures settles { IfOk result (λ next. Settles (moving word stamp (told memory.old reply.now))
+        (course_of continues next memory.new) out.old.items out.new.items) }
+    ensures ready { IfOk result (IsReady (IsSet memory.new)) }
+    ensures fewer { IfOk result (λ next. acts_left acts_after next ≤ 132) }
+    ensures stands { memory.new.standing ≡ memory.old.standing }
+{
+    memory.note(reply);
+    let Some(place) = memory.present() else {
+        put_refusal(Refusal::NotPlaying, out)?;
+        return Ok(ask_round());
+    };
+    let act = at_place(&place, DeskAct::Move { word, stamp });
+    Ok(Next::Ask(act, Stage::Moved(place.seat)))
+}
+
+/// The desk has answered the half-move of the player of this seat: the reply is printed, and the round comes; behind an
+/// accepted half-move of who gives a simul the next place comes first.
+pub(crate) fn moved(
+    seat: u8,
+    memory: &mut Memory,
+    reply: &Reply,
+    out: &mut Vec<u8>,
+) -> Result<Next<Stage>, NoMemory>
+    requires inside { has_entered memory.old ≡ true }
+    requires fits { IsReply reply.now }
+    ensures settles { IfOk result (λ next. Settles (moved seat reply.now memory.old)
+        (course_of continues next memory.new) out.old.items out.new.items) }
+    ensures ready { IfOk result (IsReady (IsSet memory.new)) }
+    ensures fewer { IfOk result (λ next. acts_left acts_after next ≤ 131) }
+    ensures stands { memory.new.standing ≡ memory.old.standing }
+{
+    put_shown(&memory.reader(Some(seat)), reply, out)?;
+    if turns(memory, reply) {
+        return Ok(Next::Ask(Act::Lobby(LobbyAct::SimNext), Stage::Turning));
+    }
+    Ok(ask_round())
+}
+
+/// Whether the session goes to its next place: it gives a simul, and the desk has accepted its half-move.
+fn turns(memory: &Memory, reply: &Reply) -> bool
+    ensures { result ≡ turns reply.now memory.now }
+{
+    is_accepted(reply) && memory.is_giving()
+}
+
+/// Whether the desk has accepted a half-move.
+fn is_accepted(reply: &Reply) -> bool
+    ensures { result ≡ is_accepted reply.now }
+{
+    match reply {
+        Reply::Desk(DeskReply::Done) => true,
+        _ => false,
+    }
+}
