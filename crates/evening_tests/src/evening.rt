@@ -3,11 +3,7 @@
 ghost use Rattle.std.specs.Prelude.{IfOk};
 ghost use Rattle.session_core.specs.Inputs.{FitsInput};
 
-use crate::draws::Draws;
-use crate::model::Model;
-use crate::names::name_of;
-use crate::orders::{GUESTS, drawn, typed};
-use crate::rules::answered;
+use evening_model::{Draws, GUESTS, Model, answered, drawn, name_of, typed};
 use fics_words::Line;
 use line_reader::Incoming;
 use lobby_state::Lobby;

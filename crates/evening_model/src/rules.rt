@@ -3,14 +3,14 @@
 use crate::model::{Challenge, Listing, MOST_CHANNELS, MOST_SEEKS, Model, Seek};
 use crate::names::name_of;
 use crate::orders::{GUESTS, Names, Order, Wish, terms_of};
+use memory::NoMemory;
 use std::alloc::Global;
-use std::test::Fail;
 
 /// The lines of an answer.
 pub type Lines = Vec<String>;
 
 /// Carries out what the guest typed.
-pub fn answered(model: &mut Model, guest: usize, order: Order) -> Result<Lines, Fail> {
+pub fn answered(model: &mut Model, guest: usize, order: Order) -> Result<Lines, NoMemory> {
     match order {
         Order::Nothing => Ok(Vec::new(model.alloc)),
         Order::Seek(terms) => seek(model, guest, terms),
@@ -41,13 +41,13 @@ pub fn answered(model: &mut Model, guest: usize, order: Order) -> Result<Lines, 
 }
 
 /// An answer of one line.
-fn said(alloc: Global, line: &str) -> Result<Lines, Fail> {
+fn said(alloc: Global, line: &str) -> Result<Lines, NoMemory> {
     let mut lines = Vec::new(alloc);
     lines.push(String::from_str(alloc, line)?)?;
     Ok(lines)
 }
 
-fn seek(model: &mut Model, guest: usize, terms: usize) -> Result<Lines, Fail> {
+fn seek(model: &mut Model, guest: usize, terms: usize) -> Result<Lines, NoMemory> {
     if model.count_seeks(guest) >= MOST_SEEKS {
         return said(model.alloc, "refused 31 SeekFull");
     }
@@ -83,14 +83,14 @@ fn seek(model: &mut Model, guest: usize, terms: usize) -> Result<Lines, Fail> {
     said(model.alloc, line.as_str())
 }
 
-fn unseek(model: &mut Model, guest: usize, number: Option<u64>) -> Result<Lines, Fail> {
+fn unseek(model: &mut Model, guest: usize, number: Option<u64>) -> Result<Lines, NoMemory> {
     if model.drop_seeks(guest, number)? {
         return said(model.alloc, "Ok.");
     }
     said(model.alloc, "refused 30 NoSuchSeek")
 }
 
-fn sought(model: &Model) -> Result<Lines, Fail> {
+fn sought(model: &Model) -> Result<Lines, NoMemory> {
     let mut lines = Vec::new(model.alloc);
     for seek in &model.seeks {
         let name = name_of(model.alloc, seek.by)?;
@@ -101,7 +101,7 @@ fn sought(model: &Model) -> Result<Lines, Fail> {
     or_none(model.alloc, lines)
 }
 
-fn or_none(alloc: Global, lines: Lines) -> Result<Lines, Fail> {
+fn or_none(alloc: Global, lines: Lines) -> Result<Lines, NoMemory> {
     if lines.is_empty() {
         return said(alloc, "none");
     }
@@ -109,7 +109,7 @@ fn or_none(alloc: Global, lines: Lines) -> Result<Lines, Fail> {
 }
 
 /// The names of all guests, in the order of the alphabet.
-fn who(alloc: Global) -> Result<Lines, Fail> {
+fn who(alloc: Global) -> Result<Lines, NoMemory> {
     let mut lines = Vec::new(alloc);
     for guest in 0..GUESTS {
         lines.push(name_of(alloc, guest)?)?;
@@ -117,7 +117,7 @@ fn who(alloc: Global) -> Result<Lines, Fail> {
     Ok(lines)
 }
 
-fn tell(model: &mut Model, guest: usize, other: usize, text: u64) -> Result<Lines, Fail> {
+fn tell(model: &mut Model, guest: usize, other: usize, text: u64) -> Result<Lines, NoMemory> {
     if other >= GUESTS {
         return said(model.alloc, "refused 32 NoSuchPlayer");
     }
@@ -133,7 +133,12 @@ fn tell(model: &mut Model, guest: usize, other: usize, text: u64) -> Result<Line
     said(model.alloc, "(told 1)")
 }
 
-fn tell_channel(model: &mut Model, guest: usize, channel: u64, text: u64) -> Result<Lines, Fail> {
+fn tell_channel(
+    model: &mut Model,
+    guest: usize,
+    channel: u64,
+    text: u64,
+) -> Result<Lines, NoMemory> {
     if !model.is_in(guest, channel) {
         return said(model.alloc, "refused 39 NotInChannel");
     }
@@ -151,7 +156,7 @@ fn tell_channel(model: &mut Model, guest: usize, channel: u64, text: u64) -> Res
     said(model.alloc, line.as_str())
 }
 
-fn shout(model: &mut Model, guest: usize, text: u64) -> Result<Lines, Fail> {
+fn shout(model: &mut Model, guest: usize, text: u64) -> Result<Lines, NoMemory> {
     let mut heard = Vec::new(model.alloc);
     for other in 0..GUESTS {
         if other != guest && model.wants(other, Wish::Shout) && !model.is_full(other) {
@@ -166,7 +171,7 @@ fn shout(model: &mut Model, guest: usize, text: u64) -> Result<Lines, Fail> {
     said(model.alloc, line.as_str())
 }
 
-fn join(model: &mut Model, guest: usize, channel: u64) -> Result<Lines, Fail> {
+fn join(model: &mut Model, guest: usize, channel: u64) -> Result<Lines, NoMemory> {
     if model.is_in(guest, channel) {
         return said(model.alloc, "refused 51 OnList");
     }
@@ -177,7 +182,7 @@ fn join(model: &mut Model, guest: usize, channel: u64) -> Result<Lines, Fail> {
     said(model.alloc, "Ok.")
 }
 
-fn leave(model: &mut Model, guest: usize, channel: u64) -> Result<Lines, Fail> {
+fn leave(model: &mut Model, guest: usize, channel: u64) -> Result<Lines, NoMemory> {
     if !model.is_in(guest, channel) {
         return said(model.alloc, "refused 39 NotInChannel");
     }
@@ -185,7 +190,7 @@ fn leave(model: &mut Model, guest: usize, channel: u64) -> Result<Lines, Fail> {
     said(model.alloc, "Ok.")
 }
 
-fn in_channel(model: &Model, channel: u64) -> Result<Lines, Fail> {
+fn in_channel(model: &Model, channel: u64) -> Result<Lines, NoMemory> {
     let mut lines = Vec::new(model.alloc);
     for guest in 0..GUESTS {
         if model.is_in(guest, channel) {
@@ -200,7 +205,12 @@ fn avoids(model: &Model, other: usize, guest: usize) -> bool {
     model.lists(other, Names::Noplay, guest) || model.lists(other, Names::Censor, guest)
 }
 
-fn challenge(model: &mut Model, guest: usize, other: usize, terms: usize) -> Result<Lines, Fail> {
+fn challenge(
+    model: &mut Model,
+    guest: usize,
+    other: usize,
+    terms: usize,
+) -> Result<Lines, NoMemory> {
     if other >= GUESTS {
         return said(model.alloc, "refused 32 NoSuchPlayer");
     }
@@ -226,7 +236,7 @@ fn challenge(model: &mut Model, guest: usize, other: usize, terms: usize) -> Res
     said(model.alloc, "Ok.")
 }
 
-fn decline(model: &mut Model, guest: usize, other: Option<usize>) -> Result<Lines, Fail> {
+fn decline(model: &mut Model, guest: usize, other: Option<usize>) -> Result<Lines, NoMemory> {
     let Some(offer) = model.offer_to(guest, other) else {
         return said(model.alloc, "refused 34 NoChallenge");
     };
@@ -237,7 +247,7 @@ fn decline(model: &mut Model, guest: usize, other: Option<usize>) -> Result<Line
     said(model.alloc, "Ok.")
 }
 
-fn withdraw(model: &mut Model, guest: usize, other: Option<usize>) -> Result<Lines, Fail> {
+fn withdraw(model: &mut Model, guest: usize, other: Option<usize>) -> Result<Lines, NoMemory> {
     let Some(offer) = model.offer_by(guest, other) else {
         return said(model.alloc, "refused 34 NoChallenge");
     };
@@ -245,7 +255,7 @@ fn withdraw(model: &mut Model, guest: usize, other: Option<usize>) -> Result<Lin
     said(model.alloc, "Ok.")
 }
 
-fn pending(model: &Model, guest: usize) -> Result<Lines, Fail> {
+fn pending(model: &Model, guest: usize) -> Result<Lines, NoMemory> {
     let mut lines = Vec::new(model.alloc);
     for challenge in &model.challenges {
         if challenge.to == guest {
@@ -264,7 +274,7 @@ fn pending(model: &Model, guest: usize) -> Result<Lines, Fail> {
     or_none(model.alloc, lines)
 }
 
-fn put(model: &mut Model, guest: usize, names: Names, name: usize) -> Result<Lines, Fail> {
+fn put(model: &mut Model, guest: usize, names: Names, name: usize) -> Result<Lines, NoMemory> {
     if model.lists(guest, names, name) {
         return said(model.alloc, "refused 51 OnList");
     }
@@ -276,7 +286,7 @@ fn put(model: &mut Model, guest: usize, names: Names, name: usize) -> Result<Lin
     said(model.alloc, "Ok.")
 }
 
-fn take(model: &mut Model, guest: usize, names: Names, name: usize) -> Result<Lines, Fail> {
+fn take(model: &mut Model, guest: usize, names: Names, name: usize) -> Result<Lines, NoMemory> {
     if !model.lists(guest, names, name) {
         return said(model.alloc, "refused 52 NotOnList");
     }
@@ -284,7 +294,7 @@ fn take(model: &mut Model, guest: usize, names: Names, name: usize) -> Result<Li
     said(model.alloc, "Ok.")
 }
 
-fn ask(model: &mut Model, guest: usize, other: usize) -> Result<Lines, Fail> {
+fn ask(model: &mut Model, guest: usize, other: usize) -> Result<Lines, NoMemory> {
     if other >= GUESTS {
         return said(model.alloc, "refused 32 NoSuchPlayer");
     }
@@ -314,7 +324,7 @@ fn ask(model: &mut Model, guest: usize, other: usize) -> Result<Lines, Fail> {
     said(model.alloc, "Asked.")
 }
 
-fn part(model: &mut Model, guest: usize) -> Result<Lines, Fail> {
+fn part(model: &mut Model, guest: usize) -> Result<Lines, NoMemory> {
     let Some(partner) = model.partner_of(guest) else {
         return said(model.alloc, "refused 37 NoPartner");
     };
@@ -325,7 +335,7 @@ fn part(model: &mut Model, guest: usize) -> Result<Lines, Fail> {
     said(model.alloc, "Ok.")
 }
 
-fn ptell(model: &mut Model, guest: usize, text: u64) -> Result<Lines, Fail> {
+fn ptell(model: &mut Model, guest: usize, text: u64) -> Result<Lines, NoMemory> {
     let Some(partner) = model.partner_of(guest) else {
         return said(model.alloc, "refused 37 NoPartner");
     };

@@ -1,7 +1,7 @@
 //! The names of guests.
 
+use memory::NoMemory;
 use std::alloc::Global;
-use std::test::Fail;
 
 /// The letters of the alphabet.
 const LETTERS: [&str; 26] = [
@@ -10,7 +10,7 @@ const LETTERS: [&str; 26] = [
 ];
 
 /// The name of the guest at that place: the names are given in the order of the alphabet.
-pub fn name_of(alloc: Global, place: usize) -> Result<String, Fail> {
+pub fn name_of(alloc: Global, place: usize) -> Result<String, NoMemory> {
     let third = letter(place / 26);
     let fourth = letter(place % 26);
     Ok(format!(in alloc; "GuestAA{third}{fourth}")?)

@@ -2,8 +2,8 @@
 
 use crate::draws::Draws;
 use crate::names::name_of;
+use memory::NoMemory;
 use std::alloc::Global;
-use std::test::Fail;
 
 /// How many guests there are. The name behind the last one's is nobody's.
 pub const GUESTS: usize = 40;
@@ -137,7 +137,7 @@ fn any_wish(draws: &mut Draws) -> Wish {
 }
 
 /// The line of what is typed.
-pub fn typed(alloc: Global, order: Order) -> Result<String, Fail> {
+pub fn typed(alloc: Global, order: Order) -> Result<String, NoMemory> {
     match order {
         Order::Seek(terms) => with_word(alloc, "seek", terms_of(terms)),
         Order::Unseek(None) => with_word(alloc, "unseek", ""),
@@ -188,15 +188,15 @@ fn wish_word(wish: Wish) -> &'static str {
     }
 }
 
-fn with_word(alloc: Global, front: &str, word: &str) -> Result<String, Fail> {
+fn with_word(alloc: Global, front: &str, word: &str) -> Result<String, NoMemory> {
     Ok(format!(in alloc; "{front} {word}")?)
 }
 
-fn with_number(alloc: Global, front: &str, number: u64) -> Result<String, Fail> {
+fn with_number(alloc: Global, front: &str, number: u64) -> Result<String, NoMemory> {
     Ok(format!(in alloc; "{front} {number}")?)
 }
 
-fn with_player(alloc: Global, front: &str, player: Option<usize>) -> Result<String, Fail> {
+fn with_player(alloc: Global, front: &str, player: Option<usize>) -> Result<String, NoMemory> {
     let Some(player) = player else {
         return with_word(alloc, front, "");
     };

@@ -2,9 +2,9 @@
 //! to end. It knows no game, since nobody accepts a challenge or takes a seek.
 
 use crate::orders::{GUESTS, Names, Wish};
+use memory::NoMemory;
 use std::alloc::Global;
 use std::mem;
-use std::test::Fail;
 
 /// The most that the rules let stand: channels of a guest and seeks of a guest.
 pub const MOST_CHANNELS: usize = 20;
@@ -53,7 +53,7 @@ pub struct Model {
 }
 
 impl Model {
-    pub fn new(alloc: Global) -> Result<Model, Fail> {
+    pub fn new(alloc: Global) -> Result<Model, NoMemory> {
         let mut waiting = Vec::new(alloc);
         for _guest in 0..GUESTS {
             waiting.push(Vec::new(alloc))?;
@@ -157,7 +157,7 @@ impl Model {
     }
 
     /// A line waits for the guest, where there is room.
-    pub fn send(&mut self, guest: usize, line: String) -> Result<(), Fail> {
+    pub fn send(&mut self, guest: usize, line: String) -> Result<(), NoMemory> {
         if self.is_full(guest) || guest >= self.waiting.len() {
             return Ok(());
         }
@@ -194,7 +194,7 @@ impl Model {
     }
 
     /// The challenge by the one to the other goes.
-    pub fn drop_challenge(&mut self, from: usize, to: usize) -> Result<(), Fail> {
+    pub fn drop_challenge(&mut self, from: usize, to: usize) -> Result<(), NoMemory> {
         let mut kept = Vec::new(self.alloc);
         for challenge in &self.challenges {
             if challenge.from != from || challenge.to != to {
@@ -206,7 +206,7 @@ impl Model {
     }
 
     /// Each request that names the guest goes.
-    pub fn drop_asks(&mut self, guest: usize) -> Result<(), Fail> {
+    pub fn drop_asks(&mut self, guest: usize) -> Result<(), NoMemory> {
         let mut kept = Vec::new(self.alloc);
         for ask in &self.asks {
             if ask.0 != guest && ask.1 != guest {
@@ -218,7 +218,7 @@ impl Model {
     }
 
     /// The pair of the guest goes.
-    pub fn drop_pair(&mut self, guest: usize) -> Result<(), Fail> {
+    pub fn drop_pair(&mut self, guest: usize) -> Result<(), NoMemory> {
         let mut kept = Vec::new(self.alloc);
         for pair in &self.pairs {
             if pair.0 != guest && pair.1 != guest {
@@ -230,7 +230,7 @@ impl Model {
     }
 
     /// The guest's seek of that number goes, or all of them; the answer says whether there was one.
-    pub fn drop_seeks(&mut self, guest: usize, number: Option<u64>) -> Result<bool, Fail> {
+    pub fn drop_seeks(&mut self, guest: usize, number: Option<u64>) -> Result<bool, NoMemory> {
         let mut kept = Vec::new(self.alloc);
         for seek in &self.seeks {
             let meant = match number {
@@ -247,7 +247,7 @@ impl Model {
     }
 
     /// The guest leaves the channel.
-    pub fn drop_channel(&mut self, guest: usize, channel: u64) -> Result<(), Fail> {
+    pub fn drop_channel(&mut self, guest: usize, channel: u64) -> Result<(), NoMemory> {
         let mut kept = Vec::new(self.alloc);
         for row in &self.channels {
             if row.0 != guest || row.1 != channel {
@@ -259,7 +259,7 @@ impl Model {
     }
 
     /// The name goes off the list.
-    pub fn drop_name(&mut self, owner: usize, names: Names, name: usize) -> Result<(), Fail> {
+    pub fn drop_name(&mut self, owner: usize, names: Names, name: usize) -> Result<(), NoMemory> {
         let mut kept = Vec::new(self.alloc);
         for row in &self.listings {
             if row.owner != owner || row.names != names || row.name != name {
@@ -271,7 +271,7 @@ impl Model {
     }
 
     /// The variable of the guest is on or off.
-    pub fn set(&mut self, guest: usize, wish: Wish, on: bool) -> Result<(), Fail> {
+    pub fn set(&mut self, guest: usize, wish: Wish, on: bool) -> Result<(), NoMemory> {
         let mut kept = Vec::new(self.alloc);
         for row in &self.refused {
             if row.0 != guest || row.1 != wish {
