@@ -46,7 +46,11 @@ enum Step {
 const STEPS: &[Step] = &[
     Step::FetchesNothing(1, Answer::Refused(Refusal::NotWatching)),
     Step::Watch(1, Told::FromNow, Answer::Done),
-    Step::Watch(1, Told::FromStart, Answer::Refused(Refusal::AlreadyWatching)),
+    Step::Watch(
+        1,
+        Told::FromStart,
+        Answer::Refused(Refusal::AlreadyWatching),
+    ),
     Step::Fetch(1, 0, 0),
     Step::Add(0),
     Step::Add(1),
