@@ -75,9 +75,9 @@ IsStarted started None = Unit {0}
 IsStarted started (Some game) = (1 ≤ game.serial) × (game.serial ≤ started)
 
 -- each handle has at most one account, and there are at most 4,096; there are at most 256 members, of whom no two have
--- one session, and no two one handle; each challenge is by one member to another; the seeks are by members; the requests
--- and links of partners are of members, and nobody has two partners; there are 128 desks, and each game has a serial that was given out; and each
--- place of a member is a seat of its own in such a game
+-- one session, and no two one handle; each challenge is by one member to another; the seeks are by members; the
+-- requests and links of partners are of members, and nobody has two partners; there are 128 desks, and each game has a
+-- serial that was given out; and each place of a member is a seat of its own in such a game
 pub record IsWellFormed (lobby : LobbyState) : Type 0 where
   pub accounts : AreAccounts lobby.accounts
   pub hall : length lobby.members ≤ most_members
