@@ -22,10 +22,14 @@ pub fn read_variant(word: &[u8]) -> Option<Variant>
     ensures named { IfSome result (λ variant. word.now ≡ word_of variant) }
     ensures none { IfNone result ((variant : Variant) → word.now ≢ word_of variant) }
 {
-    match word {
-        b"chess" => Some(Variant::Chess),
-        b"crazyhouse" => Some(Variant::Crazyhouse),
-        b"bughouse" => Some(Variant::Bughouse),
-        _ => None,
+    if word == b"chess".as_slice() {
+        return Some(Variant::Chess);
     }
+    if word == b"crazyhouse".as_slice() {
+        return Some(Variant::Crazyhouse);
+    }
+    if word == b"bughouse".as_slice() {
+        return Some(Variant::Bughouse);
+    }
+    None
 }

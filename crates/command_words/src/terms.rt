@@ -68,10 +68,10 @@ fn behind_unrated(text: &[u8]) -> &[u8]
     let Some((word, rest)) = cut_word(text) else {
         return text;
     };
-    match word {
-        b"unrated" => rest,
-        _ => text,
+    if word == b"unrated".as_slice() {
+        return rest;
     }
+    text
 }
 
 /// The variant whose word stands first, and the text behind it; else chess and all the text.
@@ -111,11 +111,11 @@ fn variant_of(word: &[u8]) -> Option<Variant>
 fn colour_of(word: &[u8]) -> Option<Colour>
     ensures { result ≡ colour_of word.now }
 {
-    match word {
-        b"white" => Some(Colour::White),
-        b"w" => Some(Colour::White),
-        b"black" => Some(Colour::Black),
-        b"b" => Some(Colour::Black),
-        _ => None,
+    if word == b"white".as_slice() || word == b"w".as_slice() {
+        return Some(Colour::White);
     }
+    if word == b"black".as_slice() || word == b"b".as_slice() {
+        return Some(Colour::Black);
+    }
+    None
 }

@@ -1,11 +1,8 @@
 //! What viewers are told of the men in hand.
 
-use crate::shown::first_told_otherwise;
-use crate::table::{ANN, BEN, Does, Given, SERIAL, Step, desk_with_house, first_failing};
-use fics_words::{NoMemory, Refusal};
-use linked_desk::Desk;
-use std::alloc::Global;
-use std::process::Abort;
+use crate::shown::{Told, are_told};
+use crate::table::{ANN, BEN, Does, Given, Opening, Step};
+use fics_words::Refusal;
 use std::test::Fail;
 
 /// White captures two pawns, and a knight with a pawn that becomes a queen by it. Black captures the queen, and both
@@ -65,23 +62,14 @@ const TOLD: &[&str] = &[
     "end",
 ];
 
-/// Whether both viewers are told that.
-fn are_told(rt: &impl Abort, alloc: Global) -> Result<bool, NoMemory> {
-    let mut desk = desk_with_house(rt, alloc);
-    if first_failing(&mut desk, SERIAL, STEPS).is_some() {
-        return Ok(false);
-    }
-    both_are_told(alloc, &desk)
-}
-
-fn both_are_told(alloc: Global, desk: &Desk) -> Result<bool, NoMemory> {
-    let anns = first_told_otherwise(alloc, desk, ANN, TOLD)?;
-    let bens = first_told_otherwise(alloc, desk, BEN, TOLD)?;
-    Ok(anns.is_none() && bens.is_none())
-}
-
 #[test]
 fn hands_are_told(rt: HostRuntime) -> Result<(), Fail> {
-    assert!(rt; are_told(&rt, rt.alloc())?);
+    assert!(rt; are_told(&rt, rt.alloc(), &HANDS, &[ANN, BEN])?);
     Ok(())
 }
+
+const HANDS: Told = Told {
+    opening: Opening::House,
+    steps: STEPS,
+    rows: TOLD,
+};

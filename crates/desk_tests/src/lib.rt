@@ -21,6 +21,8 @@ mod refused;
 #[cfg(test)]
 mod shown;
 #[cfg(test)]
+mod stages;
+#[cfg(test)]
 mod stamped;
 #[cfg(test)]
 mod table;

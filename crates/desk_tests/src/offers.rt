@@ -1,8 +1,10 @@
 //! Offers at a desk: each refusal in its order, claims of a draw, and what is taken back.
 ghost use Rattle.linked_desk.specs.Acts.{FitsDeskAct};
 
-use crate::four::{CAT, DAN, desk_with_pair};
-use crate::table::{ANN, BEN, Does, Given, SERIAL, STRANGER, Step, desk_with_game, first_failing};
+use crate::four::{CAT, DAN};
+use crate::table::{
+    ANN, BEN, Does, Given, Opening, SERIAL, STRANGER, Step, acted, desk_of, first_failing,
+};
 use fics_words::{Fail, Refusal};
 use linked_desk::{Desk, DeskAct, DeskReply, Offer, Why};
 use std::alloc::Global;
@@ -16,13 +18,27 @@ enum Says {
     Decline,
 }
 
-/// A session, what it says, and the refusal, if there is one.
-#[derive(Clone, Copy)]
-struct Row(u32, Says, Option<Refusal>);
+/// What comes to a desk, or what it has to show.
+enum Stage {
+    /// A session says that, and is refused so, or isn't.
+    Row(u32, Says, Option<Refusal>),
+    /// Ann offers a draw and Ben declines it, so many times.
+    Declines(u16),
+    /// The knights are shuffled so many times.
+    Shuffles(u8),
+    /// These half-moves are made.
+    Moves(&'static [Step]),
+    /// The game is over for that reason, or still runs.
+    Over(Option<Why>),
+    /// Cat hasn't been given so many items.
+    Ahead(usize),
+}
+
+use Stage::{Ahead, Declines, Moves, Over, Row, Shuffles};
 
 /// What is refused before any half-move, in the order of the causes: a takeback of none and of too many, adjourning
 /// without accounts, an offer that stands, and answers to none.
-const ROWS: &[Row] = &[
+const ROWS: &[Stage] = &[
     Row(
         STRANGER,
         Says::Make(Offer::Takeback(0)),
@@ -58,11 +74,12 @@ const ROWS: &[Row] = &[
     Row(BEN, Says::Make(Offer::Takeback(9)), Some(Refusal::GameOver)),
     Row(ANN, Says::Accept, Some(Refusal::GameOver)),
     Row(ANN, Says::Decline, Some(Refusal::GameOver)),
+    Over(Some(Why::Aborted)),
 ];
 
 /// At a pair nothing is taken back and it isn't adjourned. A draw takes effect when the last of the four has agreed; until
 /// then each who offers it is told, and who accepts it isn't.
-const ROWS_OF_FOUR: &[Row] = &[
+const ROWS_OF_FOUR: &[Stage] = &[
     Row(
         ANN,
         Says::Make(Offer::Takeback(0)),
@@ -76,6 +93,9 @@ const ROWS_OF_FOUR: &[Row] = &[
     Row(CAT, Says::Accept, Some(Refusal::NoSuchOffer)),
     Row(DAN, Says::Accept, None),
     Row(DAN, Says::Accept, Some(Refusal::GameOver)),
+    Over(Some(Why::Agreed)),
+    // six items at the start, two offers, and the ends of both boards
+    Ahead(10),
 ];
 
 /// The four half-moves of a shuffle of the knights, after which the position stands as before.
@@ -109,7 +129,7 @@ fn act_of(says: Says) -> DeskAct
 /// The refusal of what a session says, if it is refused.
 fn refusal(desk: &mut Desk, session: u32, says: Says) -> Option<Refusal> {
     let act = act_of(says);
-    cause_of(&desk.act(session, 0, SERIAL, &act))
+    cause_of(&acted(desk, session, 0, SERIAL, &act))
 }
 
 fn cause_of(answer: &Result<DeskReply, Fail>) -> Option<Refusal> {
@@ -125,113 +145,126 @@ fn why_over(desk: &Desk) -> Option<Why> {
     Some(ended.why)
 }
 
-/// The place of the first row that is answered otherwise, if one is.
-fn first_wrong(desk: &mut Desk, rows: &[Row]) -> Option<usize> {
-    for (place, row) in rows.iter().enumerate() {
-        if refusal(desk, row.0, row.1) != row.2 {
+/// Whether the shuffle is made so many times.
+fn shuffles(desk: &mut Desk, times: u8) -> bool {
+    for _time in 0..times {
+        if first_failing(desk, SERIAL, SHUFFLE).is_some() {
+            return false;
+        }
+    }
+    true
+}
+
+/// Whether Ann offers a draw and Ben declines it so many times.
+fn declines(desk: &mut Desk, times: u16) -> bool {
+    for _time in 0..times {
+        if refusal(desk, ANN, DRAW).is_some() || refusal(desk, BEN, Says::Decline).is_some() {
+            return false;
+        }
+    }
+    true
+}
+
+fn holds(desk: &mut Desk, stage: &Stage) -> bool {
+    match stage {
+        Row(session, says, cause) => refusal(desk, *session, *says) == *cause,
+        Declines(times) => declines(desk, *times),
+        Shuffles(times) => shuffles(desk, *times),
+        Moves(steps) => first_failing(desk, SERIAL, steps).is_none(),
+        Over(why) => why_over(desk) == *why,
+        Ahead(count) => desk.ahead(CAT).len() == *count,
+    }
+}
+
+/// The place of the first stage that isn't as it has to be, if one isn't.
+fn first_wrong(desk: &mut Desk, stages: &[Stage]) -> Option<usize> {
+    for (place, stage) in stages.iter().enumerate() {
+        if !holds(desk, stage) {
             return Some(place);
         }
     }
     None
 }
 
-/// Whether four players at two boards have agreed on a draw by those rows, and have been told so many items.
-fn agree_by(rt: &impl Abort, alloc: Global, rows: &[Row], told: usize) -> bool {
-    let mut desk = desk_with_pair(rt, alloc);
-    first_wrong(&mut desk, rows).is_none() && have_agreed(&desk, told)
+/// The same at a desk with that opening.
+fn first_wrong_anew(
+    rt: &impl Abort,
+    alloc: Global,
+    opening: Opening,
+    stages: &[Stage],
+) -> Option<usize> {
+    let mut desk = desk_of(rt, alloc, opening);
+    first_wrong(&mut desk, stages)
 }
 
-fn have_agreed(desk: &Desk, told: usize) -> bool {
-    why_over(desk) == Some(Why::Agreed) && desk.ahead(CAT).len() == told
-}
-
-fn shuffles(rt: &impl Abort, desk: &mut Desk, times: u8) {
-    for _time in 0..times {
-        assert_eq!(rt; first_failing(desk, SERIAL, SHUFFLE), None);
-    }
-}
-
-#[test]
-fn refusals_of_offers(rt: HostRuntime) {
-    let mut desk = desk_with_game(&rt, rt.alloc(), 0, 0);
-    assert_eq!(rt; first_wrong(&mut desk, ROWS), None);
-    assert_eq!(rt; why_over(&desk), Some(Why::Aborted));
-}
-
-/// Six items at the start, two offers, and the ends of both boards.
-#[test]
-fn offers_of_four(rt: HostRuntime) {
-    assert!(rt; agree_by(&rt, rt.alloc(), ROWS_OF_FOUR, 10));
-}
+const DRAW: Says = Says::Make(Offer::Draw);
 
 /// A position that stands for the third time, by an offer of a draw: after one shuffle it stands for the second time.
-#[test]
-fn a_threefold_repetition(rt: HostRuntime) {
-    let mut desk = desk_with_game(&rt, rt.alloc(), 0, 0);
-    shuffles(&rt, &mut desk, 1);
-    assert_eq!(rt; refusal(&mut desk, ANN, Says::Make(Offer::Draw)), None);
-    assert_eq!(rt; why_over(&desk), None);
-    shuffles(&rt, &mut desk, 1);
-    assert_eq!(rt; refusal(&mut desk, ANN, Says::Make(Offer::Draw)), None);
-    assert_eq!(rt; why_over(&desk), Some(Why::Threefold));
-}
+const REPETITION: &[Stage] = &[
+    Shuffles(1),
+    Row(ANN, DRAW, None),
+    Over(None),
+    Shuffles(1),
+    Row(ANN, DRAW, None),
+    Over(Some(Why::Threefold)),
+];
 
 /// A hundred quiet half-moves: that is claimed before the repetition.
-#[test]
-fn fifty_moves(rt: HostRuntime) {
-    let mut desk = desk_with_game(&rt, rt.alloc(), 0, 0);
-    shuffles(&rt, &mut desk, 25);
-    assert_eq!(rt; refusal(&mut desk, BEN, Says::Make(Offer::Draw)), None);
-    assert_eq!(rt; why_over(&desk), Some(Why::Fifty));
-}
+const HUNDRED: &[Stage] = &[Shuffles(25), Row(BEN, DRAW, None), Over(Some(Why::Fifty))];
 
-/// Whether Ann's draw isn't refused, and the game is over then for that reason, or still runs.
-fn draws(desk: &mut Desk, why: Option<Why>) -> bool {
-    refusal(desk, ANN, Says::Make(Offer::Draw)).is_none() && why_over(desk) == why
-}
-
-/// Whether Ann's draw is an offer behind 99 quiet half-moves, and a claim behind 100.
-fn draws_at_the_hundredth(rt: &impl Abort, desk: &mut Desk) -> bool {
-    shuffles(rt, desk, 24);
-    if first_failing(desk, SERIAL, STRAY).is_some() {
-        return false;
-    }
-    if !draws(desk, None) {
-        return false;
-    }
-    if first_failing(desk, SERIAL, STRAY_ON).is_some() {
-        return false;
-    }
-    draws(desk, Some(Why::Fifty))
-}
-
-fn draws_at_the_hundredth_anew(rt: &impl Abort, alloc: Global) -> bool {
-    let mut desk = desk_with_game(rt, alloc, 0, 0);
-    draws_at_the_hundredth(rt, &mut desk)
-}
-
-/// The position never stood before, neither behind 99 quiet half-moves nor behind 100.
-#[test]
-fn the_hundredth_quiet_half_move(rt: HostRuntime) {
-    assert!(rt; draws_at_the_hundredth_anew(&rt, rt.alloc()));
-}
+/// The position never stood before, neither behind 99 quiet half-moves nor behind 100: Ann's draw is an offer there, and
+/// a claim here.
+const HUNDREDTH: &[Stage] = &[
+    Shuffles(24),
+    Moves(STRAY),
+    Row(ANN, DRAW, None),
+    Over(None),
+    Moves(STRAY_ON),
+    Row(ANN, DRAW, None),
+    Over(Some(Why::Fifty)),
+];
 
 /// A seat makes 256 offers and declines, and no more; a claim isn't one of them.
-#[test]
-fn a_seat_tells_256_times(rt: HostRuntime) {
-    let mut desk = desk_with_game(&rt, rt.alloc(), 0, 0);
-    for _time in 0..256_u16 {
-        assert_eq!(rt; refusal(&mut desk, ANN, Says::Make(Offer::Draw)), None);
-        assert_eq!(rt; refusal(&mut desk, BEN, Says::Decline), None);
+const TOLD_256_TIMES: &[Stage] = &[
+    Declines(256),
+    Row(ANN, DRAW, Some(Refusal::FeedFull)),
+    Row(BEN, Says::Make(Offer::Abort), Some(Refusal::FeedFull)),
+    Row(BEN, Says::Decline, Some(Refusal::NoSuchOffer)),
+    Shuffles(2),
+    Row(ANN, DRAW, None),
+    Over(Some(Why::Threefold)),
+];
+
+/// A name, what stands at the desk, and the stages.
+const CASES: &[(&str, Opening, &[Stage])] = &[
+    ("refusals_of_offers", Opening::Chess(0, 0), ROWS),
+    ("offers_of_four", Opening::Pair, ROWS_OF_FOUR),
+    ("a_threefold_repetition", Opening::Chess(0, 0), REPETITION),
+    ("fifty_moves", Opening::Chess(0, 0), HUNDRED),
+    (
+        "the_hundredth_quiet_half_move",
+        Opening::Chess(0, 0),
+        HUNDREDTH,
+    ),
+    (
+        "a_seat_tells_256_times",
+        Opening::Chess(0, 0),
+        TOLD_256_TIMES,
+    ),
+];
+
+/// Looks at each case, whether it goes as it has to.
+fn each_case(rt: &impl Abort, alloc: Global) {
+    for (name, opening, stages) in CASES {
+        assert_eq!(rt;
+            first_wrong_anew(rt, alloc, *opening, stages),
+            None,
+            "{name}"
+        );
     }
-    let full = Some(Refusal::FeedFull);
-    assert_eq!(rt; refusal(&mut desk, ANN, Says::Make(Offer::Draw)), full);
-    assert_eq!(rt; refusal(&mut desk, BEN, Says::Make(Offer::Abort)), full);
-    assert_eq!(rt;
-        refusal(&mut desk, BEN, Says::Decline),
-        Some(Refusal::NoSuchOffer)
-    );
-    shuffles(&rt, &mut desk, 2);
-    assert_eq!(rt; refusal(&mut desk, ANN, Says::Make(Offer::Draw)), None);
-    assert_eq!(rt; why_over(&desk), Some(Why::Threefold));
+}
+
+#[test]
+fn offers_and_claims(rt: HostRuntime) {
+    each_case(&rt, rt.alloc());
 }

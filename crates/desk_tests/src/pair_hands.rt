@@ -1,10 +1,9 @@
 //! Men who go from one board of a pair to the other, and what the four players are told of it.
 
-use crate::four::{CAT, DAN, FOUR, desk_with_pair};
-use crate::shown::first_told_otherwise;
-use crate::table::{ANN, BEN, Does, Given, SERIAL, Step, first_failing};
-use fics_words::{NoMemory, Refusal};
-use linked_desk::Desk;
+use crate::four::{CAT, DAN, FOUR};
+use crate::shown::{Told, are_told};
+use crate::table::{ANN, BEN, Does, Given, Opening, Step};
+use fics_words::Refusal;
 use std::alloc::Global;
 use std::process::Abort;
 use std::test::Fail;
@@ -111,37 +110,35 @@ const DROPPED_TOLD: &[&str] = &[
     "<b1> game 2 white [] black []",
 ];
 
-/// Whether all four players are told that of these steps.
-fn are_told(
-    rt: &impl Abort,
-    alloc: Global,
-    steps: &[Step],
-    rows: &[&str],
-) -> Result<bool, NoMemory> {
-    let mut desk = desk_with_pair(rt, alloc);
-    if first_failing(&mut desk, SERIAL, steps).is_some() {
-        return Ok(false);
-    }
-    all_are_told(alloc, &desk, rows)
-}
+/// A name, the steps, and what all four players are told of them.
+const CASES: &[(&str, Told)] = &[
+    (
+        "a_promoted_man_is_handed_over",
+        Told {
+            opening: Opening::Pair,
+            steps: PROMOTED,
+            rows: PROMOTED_TOLD,
+        },
+    ),
+    (
+        "men_come_from_the_other_board",
+        Told {
+            opening: Opening::Pair,
+            steps: DROPPED,
+            rows: DROPPED_TOLD,
+        },
+    ),
+];
 
-fn all_are_told(alloc: Global, desk: &Desk, rows: &[&str]) -> Result<bool, NoMemory> {
-    for session in FOUR {
-        if first_told_otherwise(alloc, desk, *session, rows)?.is_some() {
-            return Ok(false);
-        }
+/// Looks at each case, whether it goes as it has to.
+fn each_case(rt: &impl Abort, alloc: Global) -> Result<(), Fail> {
+    for (name, told) in CASES {
+        assert!(rt; are_told(rt, alloc, told, FOUR)?, "{name}");
     }
-    Ok(true)
-}
-
-#[test]
-fn a_promoted_man_is_handed_over(rt: HostRuntime) -> Result<(), Fail> {
-    assert!(rt; are_told(&rt, rt.alloc(), PROMOTED, PROMOTED_TOLD)?);
     Ok(())
 }
 
 #[test]
-fn men_come_from_the_other_board(rt: HostRuntime) -> Result<(), Fail> {
-    assert!(rt; are_told(&rt, rt.alloc(), DROPPED, DROPPED_TOLD)?);
-    Ok(())
+fn men_go_to_the_other_board(rt: HostRuntime) -> Result<(), Fail> {
+    each_case(&rt, rt.alloc())
 }

@@ -1,13 +1,10 @@
 //! Games that are played by acts alone.
 
-use crate::shown::{begins_with_talk, ends_with_board, ends_with_end, last_clocks};
-use crate::table::{
-    ANN, BEN, Does, Given, SERIAL, STRANGER, Step, cleared, desk_with_game, first_failing,
-    is_given, outcome,
-};
+use crate::stages::{Case, Stage, first_wrong};
+use crate::table::{ANN, BEN, Does, Given, Opening, STRANGER, Step};
 use chess_model::Colour;
-use fics_words::{NoMemory, Refusal};
-use linked_desk::{Desk, Ended, Why};
+use fics_words::Refusal;
+use linked_desk::{Ended, Why};
 use std::alloc::Global;
 use std::process::Abort;
 use std::test::Fail;
@@ -51,88 +48,6 @@ const FAREWELLS: &[Step] = &[
     Step(9_500, ANN, Does::Fetch, Given::Items(1, true)),
 ];
 
-/// What is told before the first move.
-fn begins_as_said(desk: &Desk) -> bool {
-    last_clocks(desk, ANN) == Some([120_000, 120_000]) && begins_with_talk(desk, BEN, CREATED)
-}
-
-/// The stages of a game of a few moves.
-#[derive(Clone, Copy)]
-enum Stage {
-    Begins,
-    /// These steps are made, each given what it has to be.
-    Makes(&'static [Step]),
-    ShowsBoard,
-    ShowsEnd,
-    Clears,
-}
-
-fn holds(alloc: Global, desk: &mut Desk, stage: Stage) -> Result<bool, NoMemory> {
-    match stage {
-        Stage::Begins => Ok(begins_as_said(desk)),
-        Stage::Makes(steps) => Ok(first_failing(desk, SERIAL, steps).is_none()),
-        Stage::ShowsBoard => ends_with_board(alloc, desk, BEN, BLACK_TO_MOVE, THIRD),
-        Stage::ShowsEnd => ends_with_end(alloc, desk, ANN, RESIGNED),
-        Stage::Clears => Ok(cleared(desk)),
-    }
-}
-
-/// The place of the first stage that isn't as it has to be, if one isn't.
-fn first_wrong(
-    alloc: Global,
-    desk: &mut Desk,
-    stages: &[Stage],
-) -> Result<Option<usize>, NoMemory> {
-    for (place, stage) in stages.iter().enumerate() {
-        if !holds(alloc, desk, *stage)? {
-            return Ok(Some(place));
-        }
-    }
-    Ok(None)
-}
-
-/// The same at a new game of 2 minutes and 12 seconds.
-fn first_wrong_anew(
-    rt: &impl Abort,
-    alloc: Global,
-    stages: &[Stage],
-) -> Result<Option<usize>, NoMemory> {
-    let mut desk = desk_with_game(rt, alloc, 2, 12);
-    first_wrong(alloc, &mut desk, stages)
-}
-
-const A_GAME_THAT_IS_RESIGNED_STAGES: &[Stage] = &[
-    Stage::Begins,
-    Stage::Makes(THREE_MOVES),
-    Stage::ShowsBoard,
-    Stage::Makes(RESIGNATION),
-    Stage::ShowsEnd,
-    Stage::Makes(FAREWELLS),
-    Stage::Clears,
-];
-
-/// The board line and the end line of a game of a few moves, from the documents of this server.
-#[test]
-fn a_game_that_is_resigned(rt: HostRuntime) -> Result<(), Fail> {
-    assert_eq!(rt;
-        first_wrong_anew(&rt, rt.alloc(), A_GAME_THAT_IS_RESIGNED_STAGES)?,
-        None
-    );
-    Ok(())
-}
-
-/// Whether a session leaves, and the end and the number of viewers are these then.
-fn leaves(
-    desk: &mut Desk,
-    moment: u32,
-    session: u32,
-    ended: Option<Ended>,
-    viewers: usize,
-) -> bool {
-    let leave = Step(moment, session, Does::Leave, Given::Done);
-    is_given(desk, SERIAL, &leave) && outcome(desk) == (ended, viewers)
-}
-
 /// White has left board 1, so that Black has won.
 const LEFT: Option<Ended> = Some(Ended {
     why: Why::Left,
@@ -147,55 +62,6 @@ const FLAGGED: Option<Ended> = Some(Ended {
     winner: Some(Colour::Black),
 });
 
-/// The place of the first departure that isn't as it has to be, if one isn't.
-fn first_staying(
-    desk: &mut Desk,
-    departures: &[(u32, u32, Option<Ended>, usize)],
-) -> Option<usize> {
-    for (place, (moment, session, ended, viewers)) in departures.iter().enumerate() {
-        if !leaves(desk, *moment, *session, *ended, *viewers) || !is_at_desk(desk) {
-            return Some(place);
-        }
-    }
-    None
-}
-
-/// The same at a new untimed game.
-fn first_staying_anew(
-    rt: &impl Abort,
-    alloc: Global,
-    departures: &[(u32, u32, Option<Ended>, usize)],
-) -> Option<usize> {
-    let mut desk = desk_with_game(rt, alloc, 0, 0);
-    first_staying(&mut desk, departures)
-}
-
-const A_GAME_THAT_IS_LEFT_DEPARTURES: &[(u32, u32, Option<Ended>, usize)] = &[
-    (10, STRANGER, None, 2),
-    (20, ANN, LEFT, 1),
-    (30, BEN, LEFT, 0),
-];
-
-/// Who leaves a running game loses it; who leaves after its end changes nothing but the viewers.
-#[test]
-fn a_game_that_is_left(rt: HostRuntime) {
-    assert_eq!(rt;
-        first_staying_anew(&rt, rt.alloc(), A_GAME_THAT_IS_LEFT_DEPARTURES),
-        None
-    );
-}
-
-/// Whether the game of the tests is still at the desk.
-fn is_at_desk(desk: &Desk) -> bool {
-    desk.serial() == Some(SERIAL)
-}
-
-/// Whether a new game of a minute has that end and so many viewers after these steps, each given what it has to be.
-fn ends_so(rt: &impl Abort, alloc: Global, steps: &[Step], end: (Option<Ended>, usize)) -> bool {
-    let mut desk = desk_with_game(rt, alloc, 1, 0);
-    first_failing(&mut desk, SERIAL, steps).is_none() && outcome(&desk) == end
-}
-
 const A_GAME_THAT_IS_FLAGGED_STEPS: &[Step] = &[
     Step(0, ANN, Does::Move("e2e4"), Given::Done),
     Step(0, BEN, Does::Move("e7e5"), Given::Done),
@@ -204,8 +70,58 @@ const A_GAME_THAT_IS_FLAGGED_STEPS: &[Step] = &[
     Step(1, BEN, Does::Flag, Given::Done),
 ];
 
-/// White has a minute and thinks from moment 0 on. An act never counts as earlier than the one before it.
+const CASES: &[Case] = &[
+    // the board line and the end line of a game of a few moves, from the documents of this server
+    Case {
+        name: "a_game_that_is_resigned",
+        opening: Opening::Chess(2, 12),
+        stages: &[
+            Stage::Clocks([120_000, 120_000]),
+            Stage::Begins(CREATED),
+            Stage::Makes(THREE_MOVES),
+            Stage::ShowsBoard(BLACK_TO_MOVE, THIRD),
+            Stage::Makes(RESIGNATION),
+            Stage::ShowsEnd(ANN, RESIGNED),
+            Stage::Makes(FAREWELLS),
+            Stage::Clears,
+        ],
+    },
+    // who leaves a running game loses it; who leaves after its end changes nothing but the viewers
+    Case {
+        name: "a_game_that_is_left",
+        opening: Opening::Chess(0, 0),
+        stages: &[
+            Stage::Makes(&[Step(10, STRANGER, Does::Leave, Given::Done)]),
+            Stage::Outcome(None, 2),
+            Stage::Stays,
+            Stage::Makes(&[Step(20, ANN, Does::Leave, Given::Done)]),
+            Stage::Outcome(LEFT, 1),
+            Stage::Stays,
+            Stage::Makes(&[Step(30, BEN, Does::Leave, Given::Done)]),
+            Stage::Outcome(LEFT, 0),
+            Stage::Stays,
+        ],
+    },
+    // White has a minute and thinks from moment 0 on; an act never counts as earlier than the one before it
+    Case {
+        name: "a_game_that_is_flagged",
+        opening: Opening::Chess(1, 0),
+        stages: &[
+            Stage::Makes(A_GAME_THAT_IS_FLAGGED_STEPS),
+            Stage::Outcome(FLAGGED, 2),
+        ],
+    },
+];
+
+/// Looks at each case, whether it goes as it has to.
+fn each_case(rt: &impl Abort, alloc: Global) -> Result<(), Fail> {
+    for case in CASES {
+        assert_eq!(rt; first_wrong(rt, alloc, case)?, None, "{}", case.name);
+    }
+    Ok(())
+}
+
 #[test]
-fn a_game_that_is_flagged(rt: HostRuntime) {
-    assert!(rt; ends_so(&rt, rt.alloc(), A_GAME_THAT_IS_FLAGGED_STEPS, (FLAGGED, 2)));
+fn games_are_played(rt: HostRuntime) -> Result<(), Fail> {
+    each_case(&rt, rt.alloc())
 }

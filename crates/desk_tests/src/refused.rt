@@ -1,8 +1,7 @@
 //! A refusal of each kind, by a table.
 
 use crate::table::{
-    ANN, BEN, Does, Given, SERIAL, STRANGER, Step, desk_with_game, first_failing,
-    first_failing_anew,
+    ANN, BEN, Does, Given, Opening, SERIAL, STRANGER, Step, desk_of, first_failing,
 };
 use fics_words::Refusal;
 use linked_desk::Desk;
@@ -76,18 +75,6 @@ const AT_THE_GAME: &[Step] = &[
     Step(0, ANN, Does::Move("e2e4"), Given::Done),
 ];
 
-/// Whether a new game of a minute refuses all this, at first under another serial.
-fn refuses_all(rt: &impl Abort, alloc: Global) -> bool {
-    let mut desk = desk_with_game(rt, alloc, 1, 0);
-    first_failing(&mut desk, SERIAL + 1, AT_ANOTHER_GAME).is_none()
-        && first_failing(&mut desk, SERIAL, AT_THE_GAME).is_none()
-}
-
-#[test]
-fn refusals_of_a_running_game(rt: HostRuntime) {
-    assert!(rt; refuses_all(&rt, rt.alloc()));
-}
-
 const A_PINNED_KNIGHT_STEPS: &[Step] = &[
     Step(0, ANN, Does::Move("e2e4"), Given::Done),
     Step(0, BEN, Does::Move("e7e5"), Given::Done),
@@ -102,15 +89,6 @@ const A_PINNED_KNIGHT_STEPS: &[Step] = &[
         Given::Refused(Refusal::LeavesKing),
     ),
 ];
-
-/// A pinned man, in the order of the moves that pin it.
-#[test]
-fn a_pinned_knight(rt: HostRuntime) {
-    assert_eq!(rt;
-        first_failing_anew(&rt, rt.alloc(), 0, A_PINNED_KNIGHT_STEPS),
-        None
-    );
-}
 
 const REFUSALS_AFTER_THE_END_STEPS: &[Step] = &[
     Step(0, BEN, Does::Resign, Given::Done),
@@ -131,20 +109,6 @@ const REFUSALS_AFTER_THE_END_STEPS: &[Step] = &[
     ),
 ];
 
-#[test]
-fn refusals_after_the_end(rt: HostRuntime) {
-    assert_eq!(rt;
-        first_failing_anew(&rt, rt.alloc(), 1, REFUSALS_AFTER_THE_END_STEPS),
-        None
-    );
-}
-
-/// The place of the first step at a vacant desk that is given something else, if one is.
-fn first_failing_at_vacant(steps: &[Step]) -> Option<usize> {
-    let mut desk = Desk::vacant(128);
-    first_failing(&mut desk, SERIAL, steps)
-}
-
 const REFUSALS_OF_A_VACANT_DESK_STEPS: &[Step] = &[
     Step(
         0,
@@ -164,10 +128,59 @@ const REFUSALS_OF_A_VACANT_DESK_STEPS: &[Step] = &[
     Step(0, ANN, Does::Leave, Given::Done),
 ];
 
+/// A name, what stands at the desk, the steps under another serial that come first, and those at the game.
+struct Case(&'static str, Opening, &'static [Step], &'static [Step]);
+
+const CASES: &[Case] = &[
+    Case(
+        "refusals_of_a_running_game",
+        Opening::Chess(1, 0),
+        AT_ANOTHER_GAME,
+        AT_THE_GAME,
+    ),
+    // a pinned man, in the order of the moves that pin it
+    Case(
+        "a_pinned_knight",
+        Opening::Chess(0, 0),
+        &[],
+        A_PINNED_KNIGHT_STEPS,
+    ),
+    Case(
+        "refusals_after_the_end",
+        Opening::Chess(1, 0),
+        &[],
+        REFUSALS_AFTER_THE_END_STEPS,
+    ),
+    Case(
+        "refusals_of_a_vacant_desk",
+        Opening::Vacant,
+        &[],
+        REFUSALS_OF_A_VACANT_DESK_STEPS,
+    ),
+];
+
+/// The serial and the place of the first step of a case that is given something else, if one is.
+fn first_wrong(rt: &impl Abort, alloc: Global, case: &Case) -> Option<(u64, usize)> {
+    let mut desk = desk_of(rt, alloc, case.1);
+    first_wrong_at(&mut desk, case)
+}
+
+fn first_wrong_at(desk: &mut Desk, case: &Case) -> Option<(u64, usize)> {
+    if let Some(place) = first_failing(desk, SERIAL + 1, case.2) {
+        return Some((SERIAL + 1, place));
+    }
+    let place = first_failing(desk, SERIAL, case.3)?;
+    Some((SERIAL, place))
+}
+
+/// Looks at each case, whether it goes as it has to.
+fn each_case(rt: &impl Abort, alloc: Global) {
+    for case in CASES {
+        assert_eq!(rt; first_wrong(rt, alloc, case), None, "{}", case.0);
+    }
+}
+
 #[test]
-fn refusals_of_a_vacant_desk(rt: HostRuntime) {
-    assert_eq!(rt;
-        first_failing_at_vacant(REFUSALS_OF_A_VACANT_DESK_STEPS),
-        None
-    );
+fn acts_are_refused(rt: HostRuntime) {
+    each_case(&rt, rt.alloc());
 }

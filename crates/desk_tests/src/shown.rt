@@ -1,9 +1,18 @@
 //! What the items that a session hasn't been given say when they are printed.
 
+use crate::table::{Opening, SERIAL, Step, desk_of, first_failing};
 use fics_words::NoMemory;
 use linked_desk::{Desk, Item};
 use std::alloc::Global;
+use std::process::Abort;
 use style12_writer::{BoardView, Viewer, end_line, is_decisive, line_b1, line12};
+
+/// What stands at the desk, the steps there, and what is told of them.
+pub struct Told {
+    pub opening: Opening,
+    pub steps: &'static [Step],
+    pub rows: &'static [&'static str],
+}
 
 /// Whether the first item that a session hasn't been given is this line of text.
 pub fn begins_with_talk(desk: &Desk, session: u32, text: &str) -> bool {
@@ -77,7 +86,7 @@ fn is_end(alloc: Global, item: &Item, text: &[u8]) -> Result<bool, NoMemory> {
 /// The place of the first item that a session hasn't been given and that isn't told by its row, if one isn't. A row is
 /// the holdings line or the line of an end as it is written, or `board`, `board` with the number of its game, `talk` or
 /// `end`.
-pub fn first_told_otherwise(
+fn first_told_otherwise(
     alloc: Global,
     desk: &Desk,
     session: u32,
@@ -98,6 +107,34 @@ pub fn last_told_otherwise(
         return Ok(Some(items.len()));
     }
     first_otherwise(alloc, &items[items.len() - rows.len()..], rows)
+}
+
+/// Whether each of these sessions is told that after the steps at a desk with that opening.
+pub fn are_told(
+    rt: &impl Abort,
+    alloc: Global,
+    told: &Told,
+    sessions: &[u32],
+) -> Result<bool, NoMemory> {
+    let mut desk = desk_of(rt, alloc, told.opening);
+    if first_failing(&mut desk, SERIAL, told.steps).is_some() {
+        return Ok(false);
+    }
+    all_are_told(alloc, &desk, told.rows, sessions)
+}
+
+fn all_are_told(
+    alloc: Global,
+    desk: &Desk,
+    rows: &[&str],
+    sessions: &[u32],
+) -> Result<bool, NoMemory> {
+    for session in sessions {
+        if first_told_otherwise(alloc, desk, *session, rows)?.is_some() {
+            return Ok(false);
+        }
+    }
+    Ok(true)
 }
 
 fn first_otherwise(

@@ -4,6 +4,7 @@ ghost use Rattle.clock_ledger.specs.Span.{IsStamp};
 ghost use Rattle.linked_desk.specs.Acts.{FitsDeskAct};
 ghost use Rattle.linked_desk.specs.Boards.{board_numbers};
 
+use crate::four::desk_with_pair;
 use chess_model::{Kind, MoveWord, Square, Terms, Variant};
 use clock_ledger::STAMP_CYCLE;
 use fics_words::{Fail, Handle, Opponents, Player, Refusal, Seats};
@@ -65,7 +66,7 @@ pub fn desk_with_game(rt: &impl Abort, alloc: Global, minutes: u16, increment: u
 }
 
 /// Desk 1 with an untimed game of crazyhouse between Ann and Ben that began at moment 0.
-pub fn desk_with_house(rt: &impl Abort, alloc: Global) -> Desk {
+fn desk_with_house(rt: &impl Abort, alloc: Global) -> Desk {
     desk_with(rt, alloc, 0, 0, Variant::Crazyhouse)
 }
 
@@ -92,6 +93,28 @@ fn desk_with(rt: &impl Abort, alloc: Global, minutes: u16, increment: u16, varia
     desk
 }
 
+/// What stands at a desk as a test begins: nothing at desk 128, or a game at desk 1.
+#[derive(Clone, Copy)]
+pub enum Opening {
+    Vacant,
+    /// A game of chess between Ann and Ben with these minutes and this increment.
+    Chess(u16, u16),
+    /// An untimed game of crazyhouse between Ann and Ben.
+    House,
+    /// An untimed game of bughouse of four.
+    Pair,
+}
+
+/// The desk with that, begun at moment 0.
+pub fn desk_of(rt: &impl Abort, alloc: Global, opening: Opening) -> Desk {
+    match opening {
+        Opening::Vacant => Desk::vacant(128),
+        Opening::Chess(minutes, increment) => desk_with_game(rt, alloc, minutes, increment),
+        Opening::House => desk_with_house(rt, alloc),
+        Opening::Pair => desk_with_pair(rt, alloc),
+    }
+}
+
 /// The place of the first step at the game of that serial that is given something else, if one is.
 pub fn first_failing(desk: &mut Desk, serial: u64, steps: &[Step]) -> Option<usize> {
     for (place, step) in steps.iter().enumerate() {
@@ -100,18 +123,6 @@ pub fn first_failing(desk: &mut Desk, serial: u64, steps: &[Step]) -> Option<usi
         }
     }
     None
-}
-
-/// The same at a new game of chess with so many minutes. A test that has no desk of its own is proved in a fraction of
-/// the time.
-pub fn first_failing_anew(
-    rt: &impl Abort,
-    alloc: Global,
-    minutes: u16,
-    steps: &[Step],
-) -> Option<usize> {
-    let mut desk = desk_with_game(rt, alloc, minutes, 0);
-    first_failing(&mut desk, SERIAL, steps)
 }
 
 /// Whether a step at the game of that serial is given what it has to be.
@@ -134,7 +145,7 @@ pub fn answered(desk: &mut Desk, session: u32, moment: u32, serial: u64, act: &D
 }
 
 /// Makes an act. It ensures nothing, so that nothing above it is proved over what an act does.
-fn acted(
+pub fn acted(
     desk: &mut Desk,
     session: u32,
     moment: u32,

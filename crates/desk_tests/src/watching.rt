@@ -2,7 +2,7 @@
 ghost use Rattle.std.specs.Prelude.{IfSome};
 ghost use Rattle.linked_desk.specs.Acts.{FitsDeskAct};
 
-use crate::table::{ANN, Given, SERIAL, STRANGER, answered, desk_with_game, desk_with_house};
+use crate::table::{ANN, Given, Opening, SERIAL, STRANGER, answered, desk_of};
 use fics_words::{Line, Refusal};
 use linked_desk::{Desk, DeskAct};
 use std::alloc::Global;
@@ -15,6 +15,8 @@ enum Does {
     Unwatch,
     Show,
     Remark,
+    /// Says something so many times, and the last of them is given that.
+    RemarkTimes(u16),
     Fetch,
     Resign,
 }
@@ -76,6 +78,36 @@ const HOUSE: &[Step] = &[
     Step(ANN, Does::Show, Given::Items(2, false)),
 ];
 
+/// So many remarks are told, and then no more.
+const REMARKS: &[Step] = &[
+    Step(ANN, Does::RemarkTimes(1_024), Given::Done),
+    Step(ANN, Does::Remark, Given::Refused(Refusal::FeedFull)),
+];
+
+/// A name, what stands at the desk, the serial that is named, and the steps.
+const CASES: &[(&str, Opening, u64, &[Step])] = &[
+    (
+        "nobody_looks_on_elsewhere",
+        Opening::Chess(0, 0),
+        SERIAL + 1,
+        NOWHERE,
+    ),
+    (
+        "nobody_looks_on_at_a_vacant_desk",
+        Opening::Vacant,
+        SERIAL,
+        NOWHERE,
+    ),
+    (
+        "a_stranger_looks_on",
+        Opening::Chess(0, 0),
+        SERIAL,
+        LOOKING_ON,
+    ),
+    ("hands_are_shown", Opening::House, SERIAL, HOUSE),
+    ("remarks_are_counted", Opening::Chess(0, 0), SERIAL, REMARKS),
+];
+
 /// The place of the first step at the game of that serial that is given something else, if one is.
 fn first_failing(alloc: Global, desk: &mut Desk, serial: u64, steps: &[Step]) -> Option<usize> {
     for (place, step) in steps.iter().enumerate() {
@@ -86,18 +118,37 @@ fn first_failing(alloc: Global, desk: &mut Desk, serial: u64, steps: &[Step]) ->
     None
 }
 
-/// Whether so many remarks are told, and then no more.
-fn tells(alloc: Global, desk: &mut Desk, count: u16) -> bool {
-    for _remark in 0..count {
-        if what_comes(alloc, desk, SERIAL, ANN, Does::Remark) != Given::Done {
-            return false;
+/// The same at a desk with that opening.
+fn first_failing_anew(
+    rt: &impl Abort,
+    alloc: Global,
+    opening: Opening,
+    serial: u64,
+    steps: &[Step],
+) -> Option<usize> {
+    let mut desk = desk_of(rt, alloc, opening);
+    first_failing(alloc, &mut desk, serial, steps)
+}
+
+/// What the last of so many remarks is given, where those before it are told.
+fn remarks(alloc: Global, desk: &mut Desk, serial: u64, session: u32, times: u16) -> Given {
+    for _remark in 1..times {
+        let given = what_is_said(alloc, desk, serial, session, Does::Remark);
+        if given != Given::Done {
+            return given;
         }
     }
-    let full = Given::Refused(Refusal::FeedFull);
-    what_comes(alloc, desk, SERIAL, ANN, Does::Remark) == full
+    what_is_said(alloc, desk, serial, session, Does::Remark)
 }
 
 fn what_comes(alloc: Global, desk: &mut Desk, serial: u64, session: u32, does: Does) -> Given {
+    match does {
+        Does::RemarkTimes(times) => remarks(alloc, desk, serial, session, times),
+        _ => what_is_said(alloc, desk, serial, session, does),
+    }
+}
+
+fn what_is_said(alloc: Global, desk: &mut Desk, serial: u64, session: u32, does: Does) -> Given {
     match act_of(alloc, does) {
         Some(act) => answered(desk, session, 0, serial, &act),
         None => Given::Nothing,
@@ -111,7 +162,7 @@ fn act_of(alloc: Global, does: Does) -> Option<DeskAct>
         Does::Watch => Some(DeskAct::Watch),
         Does::Unwatch => Some(DeskAct::Unwatch),
         Does::Show => Some(DeskAct::Show),
-        Does::Remark => Some(DeskAct::Remark {
+        Does::Remark | Does::RemarkTimes(_) => Some(DeskAct::Remark {
             text: remark(alloc)?,
         }),
         Does::Fetch => Some(DeskAct::Fetch),
@@ -127,49 +178,18 @@ fn remark(alloc: Global) -> Option<Line> {
     }
 }
 
-/// The place of the first step that is given something else at a new game of chess, which has another serial.
-fn first_failing_elsewhere(rt: &impl Abort, alloc: Global, steps: &[Step]) -> Option<usize> {
-    let mut desk = desk_with_game(rt, alloc, 0, 0);
-    first_failing(alloc, &mut desk, SERIAL + 1, steps)
-}
-
-/// The same at a vacant desk.
-fn first_failing_at_vacant(alloc: Global, steps: &[Step]) -> Option<usize> {
-    let mut desk = Desk::vacant(128);
-    first_failing(alloc, &mut desk, SERIAL, steps)
-}
-
-/// The same at a new game of chess.
-fn first_failing_at_game(rt: &impl Abort, alloc: Global, steps: &[Step]) -> Option<usize> {
-    let mut desk = desk_with_game(rt, alloc, 0, 0);
-    first_failing(alloc, &mut desk, SERIAL, steps)
-}
-
-/// The same at a new game of crazyhouse.
-fn first_failing_at_house(rt: &impl Abort, alloc: Global, steps: &[Step]) -> Option<usize> {
-    let mut desk = desk_with_house(rt, alloc);
-    first_failing(alloc, &mut desk, SERIAL, steps)
-}
-
-/// Whether so many remarks are told at a new game, and then no more.
-fn tells_anew(rt: &impl Abort, alloc: Global, count: u16) -> bool {
-    let mut desk = desk_with_game(rt, alloc, 0, 0);
-    tells(alloc, &mut desk, count)
+/// Looks at each case, whether it goes as it has to.
+fn each_case(rt: &impl Abort, alloc: Global) {
+    for (name, opening, serial, steps) in CASES {
+        assert_eq!(rt;
+            first_failing_anew(rt, alloc, *opening, *serial, steps),
+            None,
+            "{name}"
+        );
+    }
 }
 
 #[test]
-fn nobody_looks_on_elsewhere(rt: HostRuntime) {
-    assert_eq!(rt; first_failing_elsewhere(&rt, rt.alloc(), NOWHERE), None);
-    assert_eq!(rt; first_failing_at_vacant(rt.alloc(), NOWHERE), None);
-}
-
-#[test]
-fn a_stranger_looks_on(rt: HostRuntime) {
-    assert_eq!(rt; first_failing_at_game(&rt, rt.alloc(), LOOKING_ON), None);
-    assert_eq!(rt; first_failing_at_house(&rt, rt.alloc(), HOUSE), None);
-}
-
-#[test]
-fn remarks_are_counted(rt: HostRuntime) {
-    assert!(rt; tells_anew(&rt, rt.alloc(), 1_024));
+fn looking_on(rt: HostRuntime) {
+    each_case(&rt, rt.alloc());
 }

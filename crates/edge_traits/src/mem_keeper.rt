@@ -30,7 +30,7 @@ impl Model for MemKeeper {
 }
 
 /// Where a key stands among sorted pairs, or would stand.
-#[derive(Clone, Copy, Debug, PartialEq, Eq)]
+#[derive(Clone, Copy)]
 pub enum Place {
     /// At this index.
     At(usize),

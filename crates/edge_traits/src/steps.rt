@@ -16,14 +16,14 @@ pub enum LinkStep {
 }
 
 /// A place among steps: the number of a step, and how many bytes of it were given.
-#[derive(Clone, Copy, Debug, PartialEq, Eq)]
+#[derive(Clone, Copy)]
 pub struct Spot {
     pub step: usize,
     pub offset: usize,
 }
 
 /// What stands at a spot.
-#[derive(Clone, Copy, Debug, PartialEq, Eq)]
+#[derive(Clone, Copy)]
 pub enum Look {
     /// So many bytes, which the buffer now begins with.
     Gives(usize),

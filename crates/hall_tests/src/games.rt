@@ -1,8 +1,8 @@
 //! Games by two sessions, over the server of one thread and at the seats of a hall.
 
+use crate::halls::{hall, two_seats};
 use crate::steps::{Does, Game, Said, Step, replied};
 use fics_words::Fail as Failure;
-use hall_core::Hall;
 use lobby_state::Lobby;
 use memory::NoMemory;
 use one_server::{OneServer, Runner};
@@ -61,12 +61,10 @@ pub fn server(alloc: Global) -> Result<OneServer, NoMemory> {
 }
 
 /// The place of the first step that is replied otherwise at a hall with an empty lobby, if one is.
-#[tactic(auto, using(one_server::proofs::Opens::opening_is))]
 fn over_hall<R: Wait>(rt: &R, alloc: Global, steps: &[Step]) -> Result<Option<usize>, Failure> {
-    let (hall, mut first) = Hall::open(alloc, Lobby::new(alloc)?)?;
+    let (hall, first) = hall(alloc)?;
     let gate = OpenGate::new();
-    let mut ann = hall.seat(hall.split(&mut first), &gate, rt);
-    let mut ben = hall.seat(hall.split(&mut first), &gate, rt);
+    let (mut ann, mut ben) = two_seats(rt, &hall, first, &gate);
     at_two_seats(alloc, &mut ann, &mut ben, steps)
 }
 
@@ -90,6 +88,14 @@ pub fn at_two_seats<R: Runner>(
 /// The place of the first step that is replied otherwise by the server of one thread, if one is.
 fn over_one_server(alloc: Global, steps: &[Step]) -> Result<Option<usize>, Failure> {
     let mut server = server(alloc)?;
+    at_the_server(alloc, &mut server, steps)
+}
+
+fn at_the_server(
+    alloc: Global,
+    server: &mut OneServer,
+    steps: &[Step],
+) -> Result<Option<usize>, Failure> {
     for (place, step) in steps.iter().enumerate() {
         let mut seat = server.seat(step.1);
         if replied(&mut seat, alloc, step.0, Game::First, step.2)? != step.3 {

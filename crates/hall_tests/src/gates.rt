@@ -1,9 +1,9 @@
 //! A gate at which another session makes acts at the same hall.
 
+use crate::halls::{four_passes, hall};
 use crate::steps::{Does, Game, Said, Step, act_of, in_short, replied};
 use fics_words::Fail as Failure;
-use hall_core::{Hall, HallSeat, Ran};
-use lobby_state::Lobby;
+use hall_core::{HallSeat, Ran};
 use one_server::Runner;
 use std::alloc::Global;
 use std::cell::{Cell, RefCell};
@@ -83,17 +83,13 @@ const STEPS: &[Step] = &[
 ];
 
 /// What Cat's tries came to, and the place of the first step that is replied otherwise, if one is.
-#[tactic(auto, using(one_server::proofs::Opens::opening_is))]
 fn visited<R: Wait>(
     rt: &R,
     alloc: Global,
     steps: &[Step],
 ) -> Result<([Option<Came>; 3], Option<usize>), Failure> {
-    let (hall, mut first) = Hall::open(alloc, Lobby::new(alloc)?)?;
-    let one = hall.split(&mut first);
-    let two = hall.split(&mut first);
-    let three = hall.split(&mut first);
-    let four = hall.split(&mut first);
+    let (hall, first) = hall(alloc)?;
+    let (one, two, three, four) = four_passes(&hall, first);
     let open = OpenGate::new();
     let gate = visited_by(alloc, hall.seat(three, &open, rt));
     let mut ann = hall.seat(one, &gate, rt);
@@ -132,12 +128,12 @@ fn with_cat<A: Runner, B: Runner, R: Wait>(
     for (place, step) in steps.iter().enumerate() {
         let Step(moment, session, does, expected) = *step;
         let said = match session {
-            1 => replied(ann, alloc, moment, Game::First, does)?,
-            2 => replied(ben, alloc, moment, Game::First, does)?,
-            3 => by_cat(gate, moment, does)?,
-            _ => replied(dan, alloc, moment, Game::Second, does)?,
+            1 => replied(ann, alloc, moment, Game::First, does),
+            2 => replied(ben, alloc, moment, Game::First, does),
+            3 => by_cat(gate, moment, does),
+            _ => replied(dan, alloc, moment, Game::Second, does),
         };
-        if said != expected {
+        if said? != expected {
             return Ok(Some(place));
         }
     }

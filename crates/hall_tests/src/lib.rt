@@ -11,6 +11,8 @@ mod games;
 #[cfg(test)]
 mod gates;
 #[cfg(test)]
+mod halls;
+#[cfg(test)]
 mod replies;
 #[cfg(test)]
 mod sessions;

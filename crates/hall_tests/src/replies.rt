@@ -1,5 +1,6 @@
 //! Whether two replies are the same, item by item.
 
+use crate::steps::of_pair;
 use linked_desk::DeskReply;
 use one_server::Reply;
 use style12_writer::Item;
@@ -20,7 +21,7 @@ pub fn is_same(one: &Reply, other: &Reply) -> bool {
             _ => false,
         },
         Reply::Pair(answer) => match other {
-            Reply::Pair(another) => answer == another,
+            Reply::Pair(another) => of_pair(*answer) == of_pair(*another),
             _ => false,
         },
     }

@@ -2,11 +2,10 @@
 //! thread: the sessions write the same bytes.
 
 use crate::games::server;
+use crate::halls::{hall, two_seats};
 use crate::talks::{Comes, answered};
 use fics_words::Fail as Failure;
-use hall_core::Hall;
-use lobby_state::Lobby;
-use one_server::Runner;
+use one_server::{OneServer, Runner};
 use session_core::Session;
 use std::alloc::Global;
 use std::sync::Wait;
@@ -51,12 +50,10 @@ fn hear<R: Runner>(
 }
 
 /// What both sessions write at a hall, in the order in which it is written.
-#[tactic(auto, using(one_server::proofs::Opens::opening_is))]
 fn at_the_hall<R: Wait>(rt: &R, alloc: Global, evening: &[Came]) -> Result<Vec<u8>, Failure> {
-    let (hall, mut first) = Hall::open(alloc, Lobby::new(alloc)?)?;
+    let (hall, first) = hall(alloc)?;
     let gate = OpenGate::new();
-    let mut ann = hall.seat(hall.split(&mut first), &gate, rt);
-    let mut ben = hall.seat(hall.split(&mut first), &gate, rt);
+    let (mut ann, mut ben) = two_seats(rt, &hall, first, &gate);
     both(alloc, &mut ann, &mut ben, evening)
 }
 
@@ -69,12 +66,23 @@ fn both<R: Runner>(
 ) -> Result<Vec<u8>, Failure> {
     let mut anns = Session::new(alloc);
     let mut bens = Session::new(alloc);
+    by_sessions(alloc, ann, ben, &mut anns, &mut bens, evening)
+}
+
+fn by_sessions<R: Runner>(
+    alloc: Global,
+    ann: &mut R,
+    ben: &mut R,
+    anns: &mut Session,
+    bens: &mut Session,
+    evening: &[Came],
+) -> Result<Vec<u8>, Failure> {
     let mut out = Vec::new(alloc);
     for came in evening {
         if came.1 == 1 {
-            hear(ann, alloc, &mut anns, *came, &mut out)?;
+            hear(ann, alloc, anns, *came, &mut out)?;
         } else {
-            hear(ben, alloc, &mut bens, *came, &mut out)?;
+            hear(ben, alloc, bens, *came, &mut out)?;
         }
     }
     Ok(out)
@@ -83,15 +91,33 @@ fn both<R: Runner>(
 /// What both sessions write over the server of one thread.
 fn over_one_server(alloc: Global, evening: &[Came]) -> Result<Vec<u8>, Failure> {
     let mut server = server(alloc)?;
+    at_the_server(alloc, &mut server, evening)
+}
+
+fn at_the_server(
+    alloc: Global,
+    server: &mut OneServer,
+    evening: &[Came],
+) -> Result<Vec<u8>, Failure> {
     let mut anns = Session::new(alloc);
     let mut bens = Session::new(alloc);
+    by_sessions_there(alloc, server, &mut anns, &mut bens, evening)
+}
+
+fn by_sessions_there(
+    alloc: Global,
+    server: &mut OneServer,
+    anns: &mut Session,
+    bens: &mut Session,
+    evening: &[Came],
+) -> Result<Vec<u8>, Failure> {
     let mut out = Vec::new(alloc);
     for came in evening {
         let mut seat = server.seat(came.1);
         if came.1 == 1 {
-            hear(&mut seat, alloc, &mut anns, *came, &mut out)?;
+            hear(&mut seat, alloc, anns, *came, &mut out)?;
         } else {
-            hear(&mut seat, alloc, &mut bens, *came, &mut out)?;
+            hear(&mut seat, alloc, bens, *came, &mut out)?;
         }
     }
     Ok(out)

@@ -2,11 +2,10 @@
 //! answer each line with the same bytes. The board lines are those of style 12, written out by hand.
 
 use crate::games::server;
+use crate::halls::{hall, two_seats};
 use crate::talks::{Comes, answered};
 use fics_words::Fail as Failure;
-use hall_core::Hall;
-use lobby_state::Lobby;
-use one_server::Runner;
+use one_server::{OneServer, Runner};
 use session_core::Session;
 use std::alloc::Global;
 use std::sync::Wait;
@@ -76,12 +75,10 @@ fn is_answered<R: Runner>(
 }
 
 /// The place of the first row that is answered otherwise at a hall with an empty lobby, if one is.
-#[tactic(auto, using(one_server::proofs::Opens::opening_is))]
 fn over_hall<R: Wait>(rt: &R, alloc: Global, rows: &[Row]) -> Result<Option<usize>, Failure> {
-    let (hall, mut first) = Hall::open(alloc, Lobby::new(alloc)?)?;
+    let (hall, first) = hall(alloc)?;
     let gate = OpenGate::new();
-    let mut ann = hall.seat(hall.split(&mut first), &gate, rt);
-    let mut ben = hall.seat(hall.split(&mut first), &gate, rt);
+    let (mut ann, mut ben) = two_seats(rt, &hall, first, &gate);
     at_two_seats(alloc, &mut ann, &mut ben, rows)
 }
 
@@ -94,11 +91,22 @@ fn at_two_seats<R: Runner>(
 ) -> Result<Option<usize>, Failure> {
     let mut anns = Session::new(alloc);
     let mut bens = Session::new(alloc);
+    by_sessions(alloc, ann, ben, &mut anns, &mut bens, rows)
+}
+
+fn by_sessions<R: Runner>(
+    alloc: Global,
+    ann: &mut R,
+    ben: &mut R,
+    anns: &mut Session,
+    bens: &mut Session,
+    rows: &[Row],
+) -> Result<Option<usize>, Failure> {
     for (place, row) in rows.iter().enumerate() {
         let answered = if row.0 == 1 {
-            is_answered(alloc, ann, &mut anns, *row)?
+            is_answered(alloc, ann, anns, *row)?
         } else {
-            is_answered(alloc, ben, &mut bens, *row)?
+            is_answered(alloc, ben, bens, *row)?
         };
         if !answered {
             return Ok(Some(place));
@@ -110,14 +118,32 @@ fn at_two_seats<R: Runner>(
 /// The place of the first row that is answered otherwise over the server of one thread, if one is.
 fn over_one_server(alloc: Global, rows: &[Row]) -> Result<Option<usize>, Failure> {
     let mut server = server(alloc)?;
+    at_the_server(alloc, &mut server, rows)
+}
+
+fn at_the_server(
+    alloc: Global,
+    server: &mut OneServer,
+    rows: &[Row],
+) -> Result<Option<usize>, Failure> {
     let mut anns = Session::new(alloc);
     let mut bens = Session::new(alloc);
+    by_sessions_there(alloc, server, &mut anns, &mut bens, rows)
+}
+
+fn by_sessions_there(
+    alloc: Global,
+    server: &mut OneServer,
+    anns: &mut Session,
+    bens: &mut Session,
+    rows: &[Row],
+) -> Result<Option<usize>, Failure> {
     for (place, row) in rows.iter().enumerate() {
         let mut seat = server.seat(row.0);
         let answered = if row.0 == 1 {
-            is_answered(alloc, &mut seat, &mut anns, *row)?
+            is_answered(alloc, &mut seat, anns, *row)?
         } else {
-            is_answered(alloc, &mut seat, &mut bens, *row)?
+            is_answered(alloc, &mut seat, bens, *row)?
         };
         if !answered {
             return Ok(Some(place));

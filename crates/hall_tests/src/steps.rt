@@ -232,7 +232,8 @@ fn of_desk(answer: &DeskReply) -> Said {
     }
 }
 
-fn of_pair(answer: PairReply) -> Said {
+/// What lobby and desk answer together, in short.
+pub fn of_pair(answer: PairReply) -> Said {
     match answer {
         PairReply::Started => Said::Started,
         PairReply::Kept => Said::Kept,

@@ -3,11 +3,11 @@
 ghost use Rattle.std.specs.Prelude.{◌<◌};
 
 use crate::games::server;
+use crate::halls::{four_passes, hall};
 use crate::replies::is_same;
 use crate::steps::{Does, Game, Said, Step, replied, reply_to};
 use fics_words::Fail as Failure;
-use hall_core::{Hall, HallSeat};
-use lobby_state::Lobby;
+use hall_core::HallSeat;
 use one_server::{OneServer, Reply};
 use std::alloc::Global;
 use std::sync::Wait;
@@ -108,20 +108,28 @@ struct Player<'a, R: Wait> {
 type Work = Result<Vec<Made>, Failure>;
 
 /// Makes the acts of a session, at a moment a millisecond.
-fn work<R: Wait>(alloc: Global, player: Player<'_, R>) -> Work {
-    let Player {
-        session,
-        mut seat,
-        gate,
-    } = player;
+fn work<R: Wait>(alloc: Global, mut player: Player<'_, R>) -> Work {
+    made_by(alloc, &mut player)
+}
+
+fn made_by<R: Wait>(alloc: Global, player: &mut Player<'_, R>) -> Work {
     let mut made = Vec::new(alloc);
     for number in 0..ACTS {
-        let (game, does) = deed(session, number);
-        let reply = reply_to(&mut seat, alloc, number, game, does)?;
-        let count = gate.last.load(Ordering::SeqCst);
-        made.push(Made { count, reply })?;
+        made.push(made_as(alloc, player, number)?)?;
     }
     Ok(made)
+}
+
+/// The act of a session with this number.
+fn made_as<R: Wait>(
+    alloc: Global,
+    player: &mut Player<'_, R>,
+    number: u32,
+) -> Result<Made, Failure> {
+    let (game, does) = deed(player.session, number);
+    let reply = reply_to(&mut player.seat, alloc, number, game, does)?;
+    let count = player.gate.last.load(Ordering::SeqCst);
+    Ok(Made { count, reply })
 }
 
 /// Two sessions in threads of their own.
@@ -143,17 +151,13 @@ fn counting(count: &AtomicU64) -> Turnstile<'_> {
 }
 
 /// What four sessions made in threads of their own, once they have sat down.
-#[tactic(auto, using(one_server::proofs::Opens::opening_is))]
 fn in_four<R: Threads + Wait + Sync>(
     rt: &R,
     alloc: Global,
     seating: &[Step],
 ) -> Result<[Vec<Made>; 4], Failure> {
-    let (hall, mut first) = Hall::open(alloc, Lobby::new(alloc)?)?;
-    let one = hall.split(&mut first);
-    let two = hall.split(&mut first);
-    let three = hall.split(&mut first);
-    let four = hall.split(&mut first);
+    let (hall, first) = hall(alloc)?;
+    let (one, two, three, four) = four_passes(&hall, first);
     let count = AtomicU64::new(0);
     let (a, b, c, d) = (
         counting(&count),
@@ -194,11 +198,11 @@ fn sit_down<R: Wait>(
     for step in steps {
         let game = Game::of(step.1);
         let _said = match step.1 {
-            1 => replied(&mut ann.seat, alloc, 0, game, step.2)?,
-            2 => replied(&mut ben.seat, alloc, 0, game, step.2)?,
-            3 => replied(&mut cat.seat, alloc, 0, game, step.2)?,
-            _ => replied(&mut dan.seat, alloc, 0, game, step.2)?,
-        };
+            1 => replied(&mut ann.seat, alloc, 0, game, step.2),
+            2 => replied(&mut ben.seat, alloc, 0, game, step.2),
+            3 => replied(&mut cat.seat, alloc, 0, game, step.2),
+            _ => replied(&mut dan.seat, alloc, 0, game, step.2),
+        }?;
     }
     Ok(())
 }
@@ -250,20 +254,29 @@ fn least(counts: [u64; 4]) -> usize
     if high < low { above } else { below }
 }
 
-/// The server of one thread, at which the same players have sat down.
-fn seated(alloc: Global, steps: &[Step]) -> Result<OneServer, Failure> {
-    let mut server = server(alloc)?;
+/// The same players sit down at the server of one thread.
+fn sit_down_there(alloc: Global, server: &mut OneServer, steps: &[Step]) -> Result<(), Failure> {
     for step in steps {
         let mut seat = server.seat(step.1);
         let _said = replied(&mut seat, alloc, 0, Game::of(step.1), step.2)?;
     }
-    Ok(server)
+    Ok(())
 }
 
 /// Gives the acts to the server of one thread in the order in which their last parts came out, and counts those that it
 /// answers as the hall did.
 fn answered_alike(alloc: Global, seating: &[Step], made: &[Vec<Made>; 4]) -> Result<u32, Failure> {
-    let mut server = seated(alloc, seating)?;
+    let mut server = server(alloc)?;
+    alike_there(alloc, &mut server, seating, made)
+}
+
+fn alike_there(
+    alloc: Global,
+    server: &mut OneServer,
+    seating: &[Step],
+    made: &[Vec<Made>; 4],
+) -> Result<u32, Failure> {
+    sit_down_there(alloc, server, seating)?;
     let mut next = [0u32; 4];
     let mut alike = 0u32;
     for _ in 0..4 * ACTS {
@@ -277,7 +290,7 @@ fn answered_alike(alloc: Global, seating: &[Step], made: &[Vec<Made>; 4]) -> Res
         let number = next[place];
         next[place] = number.wrapping_add(1);
         let act = made[place].get(number as usize);
-        if is_answered(alloc, &mut server, session_at(place), number, act)? {
+        if is_answered(alloc, server, session_at(place), number, act)? {
             alike = alike.wrapping_add(1);
         }
     }

@@ -21,4 +21,5 @@ pub mod KeepsWatch
 pub mod Linking
 pub mod Pairs
 pub mod SeatNumbers
+pub mod Telling
 pub mod WholeSets

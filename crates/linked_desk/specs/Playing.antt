@@ -71,6 +71,15 @@ moved_by desk g moment None word stamp = g
 moved_by desk g moment (Some seat) word stamp =
     moved desk (with_cleared seat g) moment (place_of seat) stamp (seat_word g seat word)
 
+-- plays a word of a seat of the running game: refused as the board answers
+abbrev pub seat_move_effect : ℕ → GameState → ℕ → ℕ → MoveWord → Option ℕ → Effect GameState DeskReply
+seat_move_effect desk g seat moment word stamp = record {
+  causes = refused_by (seat_word g seat word);
+  memory = true;
+  reply = Done;
+  after = moved desk (with_cleared seat g) moment (place_of seat) stamp (seat_word g seat word);
+}
+
 -- plays a word at the session's board: refused where it has no seat, where the game has ended, and then as the board
 -- answers
 abbrev pub move_effect : ℕ → GameState → ℕ → ℕ → MoveWord → Option ℕ → Effect GameState DeskReply

@@ -43,6 +43,11 @@ abbrev pub with_item : GameState → Option Item → GameState
 with_item g None = g
 with_item g (Some x) = with_items g (x ∷ [])
 
+-- a feed with one item more, if there is one
+abbrev pub feed_with : List Item → Option Item → List Item
+feed_with feed None = feed
+feed_with feed (Some x) = feed ++ x ∷ []
+
 -- the game with a board as the last item
 abbrev pub with_view : GameState → Option BoardView → GameState
 with_view g None = g

@@ -1,8 +1,9 @@
 //! The boards of a game.
-ghost use Rattle.std.specs.Prelude.{◌≡◌, ◌≤◌, ◌^◌, ◌∷◌, IfOk, IfSome, OnErr, slice_get};
+ghost use Rattle.std.specs.Prelude.{◌≡◌, ◌≤◌, ◌^◌, [], ◌∷◌, IfOk, IfSome, OnErr, slice_get};
 ghost use Rattle.std.specs.Option.{option_copied, option_to_list};
 ghost use Rattle.clock_ledger.specs.Span.{IsStamp};
 ghost use Rattle.fics_words.specs.Effect.{first_cause, refusal_of, refused_by};
+ghost use Rattle.game_board.specs.Board.{new_board};
 ghost use Rattle.linked_desk.specs.Make.{claim_at};
 ghost use Rattle.linked_desk.specs.Offering.{boards_taken_back, lacks_half_moves};
 ghost use Rattle.linked_desk.specs.Boards.{boards_acked, boards_after, flag_at, latest, new_boards, numbered, other_place, reply_at, word_at};
@@ -43,12 +44,34 @@ impl Boards {
         ensures order { IfOk result (λ boards. latest boards ≤ moment) }
     {
         let first = GameBoard::start(alloc, 1, terms, moment)?;
-        let second = match terms.variant {
-            Variant::Bughouse => Some(GameBoard::start(alloc, 2, terms, moment)?),
-            Variant::Chess => None,
-            Variant::Crazyhouse => None,
-        };
-        Ok(Boards { first, second })
+        match terms.variant {
+            Variant::Bughouse => Boards::pair(alloc, first),
+            Variant::Chess => Ok(Boards::single(first)),
+            Variant::Crazyhouse => Ok(Boards::single(first)),
+        }
+    }
+
+    /// The one board of a game.
+    fn single(first: GameBoard) -> Boards
+        ensures { result ≡ first ∷ [] }
+    {
+        Boards {
+            first,
+            second: None,
+        }
+    }
+
+    /// The boards at the start of a game of bughouse, the first of which is there.
+    fn pair(alloc: Global, first: GameBoard) -> Result<Boards, NoMemory>
+        requires start { first ≡ new_board 1 first.terms first.begin }
+        requires variant { first.terms.variant ≡ Variant.Bughouse }
+        ensures { IfOk result (λ boards. boards ≡ first ∷ new_board 2 first.terms first.begin ∷ []) }
+    {
+        let second = GameBoard::start(alloc, 2, first.terms(), first.begin())?;
+        Ok(Boards {
+            first,
+            second: Some(second),
+        })
     }
 
     /// The first board, and the second if there is one.
@@ -103,21 +126,14 @@ impl Boards {
         ensures order { latest self.new ≤ moment }
     {
         match place {
-            0 => {
-                let Some(second) = &mut self.second else {
-                    let captured = self.first.play(colour, word, moment, stamp)?;
-                    return Ok(captured);
-                };
-                let captured = play_linked(&mut self.first, second, colour, word, moment, stamp)?;
-                Ok(captured)
-            }
-            1 => {
-                let Some(second) = &mut self.second else {
-                    return Err(Refusal::NotPlaying);
-                };
-                let captured = play_linked(second, &mut self.first, colour, word, moment, stamp)?;
-                Ok(captured)
-            }
+            0 => match &mut self.second {
+                Some(second) => play_linked(&mut self.first, second, colour, word, moment, stamp),
+                None => self.first.play(colour, word, moment, stamp),
+            },
+            1 => match &mut self.second {
+                Some(second) => play_linked(second, &mut self.first, colour, word, moment, stamp),
+                None => Err(Refusal::NotPlaying),
+            },
             _ => Err(Refusal::NotPlaying),
         }
     }

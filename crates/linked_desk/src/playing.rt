@@ -1,15 +1,15 @@
 //! A move at a desk.
-ghost use Rattle.std.specs.Prelude.{◌≤◌, ◌^◌, IfSome};
+ghost use Rattle.std.specs.Prelude.{◌≡◌, ◌<◌, ◌≤◌, ◌^◌, IfSome, None};
 ghost use Rattle.clock_ledger.specs.Span.{IsStamp};
 ghost use Rattle.fics_words.specs.Effect.{Takes};
-ghost use Rattle.linked_desk.specs.Playing.{move_effect};
+ghost use Rattle.linked_desk.specs.Playing.{move_effect, seat_move_effect};
 
 use crate::acts::DeskReply;
 use crate::game::{Game, ROOM_TO_END};
 use crate::seats::{colour_at, place_of};
+use crate::views::add_some;
 use chess_model::MoveWord;
 use fics_words::{Fail, Refusal};
-use style12_writer::Item;
 
 impl Game {
     /// Plays a word of a session at its board, with its client's stamp if it has one, and tells the board, its hands
@@ -36,21 +36,38 @@ impl Game {
         if self.ended.is_some() {
             return Err(Fail::Refused(Refusal::GameOver));
         }
+        self.play_seat(desk, seat, moment, word, stamp)
+    }
+
+    /// Plays a word of a seat of the running game.
+    fn play_seat(
+        &mut self,
+        desk: u8,
+        seat: u8,
+        moment: u64,
+        word: &MoveWord,
+        stamp: Option<u32>,
+    ) -> Result<DeskReply, Fail>
+        requires low { 1 ≤ desk }
+        requires high { desk ≤ 128 }
+        requires seat { seat < self.old.offers.seats }
+        requires moment { moment ≤ 2 ^ 48 }
+        requires stamp { IfSome stamp IsStamp }
+        requires running { self.old.ended ≡ None }
+        ensures { Takes (seat_move_effect desk self.old seat moment word.now stamp) self.old self.new result }
+    {
         self.feed.reserve(3 + ROOM_TO_END)?;
         let now = self.last.max(moment);
         let place = place_of(seat);
         let captured = self.boards.play(place, colour_at(seat), word, now, stamp)?;
         self.offers.moved(seat);
         self.last = now;
-        if let Some(view) = self.view(desk, place) {
-            self.feed.add(Item::Board(view));
-        }
-        if let Some(hold) = self.hands_at(desk, place, captured) {
-            self.feed.add(hold);
-        }
-        if let Some(hold) = self.partner_hands_at(desk, place, captured) {
-            self.feed.add(hold);
-        }
+        let board = self.board_item(desk, place);
+        let own = self.hands_at(desk, place, captured);
+        let partner = self.partner_hands_at(desk, place, captured);
+        add_some(&mut self.feed, board);
+        add_some(&mut self.feed, own);
+        add_some(&mut self.feed, partner);
         self.finish(desk, moment, place);
         Ok(DeskReply::Done)
     }

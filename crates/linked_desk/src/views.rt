@@ -1,16 +1,18 @@
 //! What is shown of a game.
-ghost use Rattle.std.specs.Prelude.{◌≡◌, ◌≤◌, ℕ, IfOk, slice_get};
+ghost use Rattle.std.specs.Prelude.{◌≡◌, ◌+◌, ◌<◌, ◌≤◌, ℕ, IfOk, option_map, slice_get};
+ghost use Rattle.style12_writer.specs.declared.item.Item.TheVariants as item;
 ghost use Rattle.linked_desk.specs.Acts.{game_effect, items_told};
 ghost use Rattle.linked_desk.specs.Desk.{game_number};
-ghost use Rattle.linked_desk.specs.Views.{view_of, views_of};
+ghost use Rattle.linked_desk.specs.Views.{feed_with, view_of, views_of};
 
 use crate::acts::DeskAct;
 use crate::game::Game;
 use chess_model::Colour;
 use fics_words::{NoMemory, Opponents};
 use game_board::GameBoard;
+use observer_feed::Feed;
 use std::alloc::Global;
-use style12_writer::{BoardView, ItemList};
+use style12_writer::{BoardView, Item, ItemList};
 
 /// The number under which a board at a desk is shown.
 pub(crate) fn game_number(desk: u8, board: u8) -> u16
@@ -44,6 +46,15 @@ pub(crate) fn view_of(desk: u8, players: &Opponents, board: &GameBoard) -> Board
 }
 
 impl Game {
+    /// The board in that place as an item, if there is one.
+    pub(crate) fn board_item(&self, desk: u8, place: u8) -> Option<Item>
+        requires low { 1 ≤ desk }
+        requires high { desk ≤ 128 }
+        ensures { result ≡ option_map item.Board (slice_get (views_of desk self.now) place) }
+    {
+        Some(Item::Board(self.view(desk, place)?))
+    }
+
     /// What is shown of the board in that place, if there is one.
     pub(crate) fn view(&self, desk: u8, place: u8) -> Option<BoardView>
         requires low { 1 ≤ desk }
@@ -57,6 +68,18 @@ impl Game {
         };
         let board = self.boards.at(place)?;
         Some(view_of(desk, players, board))
+    }
+}
+
+/// Puts an item behind the others of a feed, if there is one, where there is room.
+pub(crate) fn add_some(feed: &mut Feed<Item>, item: Option<Item>)
+    requires { 0 < feed.old.room }
+    ensures items { feed.new.items ≡ feed_with feed.old.items item }
+    ensures viewers { feed.new.viewers ≡ feed.old.viewers }
+    ensures room { feed.old.room ≤ feed.new.room + 1 }
+{
+    if let Some(item) = item {
+        feed.add(item);
     }
 }
 

@@ -57,13 +57,17 @@ ask_effect lobby session to = record {
   after = partnered lobby session (member_of lobby session) (named lobby to);
 }
 
+-- the line that a parting by the player of this name sends
+abbrev pub parting_words : List ℕ → List ℕ
+parting_words name = said name (codes " is no longer your partner.") []
+
 -- the lobby where a member has parted with its partner, who is told, if there is room for a line
 abbrev pub single : LobbyState → ℕ → Option Member → Option ℕ → LobbyState
 single lobby session None partner = lobby
 single lobby session (Some caller) None = lobby
 single lobby session (Some caller) (Some partner) = record lobby {
   members =
-      broadcast (is_session partner) (said caller.name (codes " is no longer your partner.") []) lobby.members;
+      broadcast (is_session partner) (parting_words caller.name) lobby.members;
   partners = parted lobby.partners session;
 }
 

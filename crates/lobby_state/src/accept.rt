@@ -8,6 +8,7 @@ use crate::acts::Plan;
 use crate::challenge::{Challenge, first_between};
 use crate::pairing::is_simul_of_four;
 use crate::register::Register;
+use collections::{Predicate, find};
 use fics_words::{HandleKey, Refusal};
 
 impl Register {
@@ -53,9 +54,21 @@ impl Register {
     }
 }
 
+/// A challenge to the session.
+#[derive(Clone, Copy)]
+struct To(u32);
+
+impl Predicate<Challenge> for To {
+    ghost passes = { λ test challenge. challenge.to == test.0 };
+
+    fn passes(&self, challenge: &Challenge) -> bool {
+        challenge.to == self.0
+    }
+}
+
 /// The oldest challenge to the session.
 fn first_to(challenges: &[Challenge], session: u32) -> Option<&Challenge>
     ensures { option_copied result ≡ find (λ challenge. challenge.to == session) challenges.now }
 {
-    challenges.iter().find(|challenge| challenge.to == session)
+    find(challenges, &To(session))
 }

@@ -39,6 +39,18 @@ impl Predicate<Challenge> for OfOthers {
     }
 }
 
+/// A challenge by one session to another.
+#[derive(Clone, Copy)]
+struct Between(u32, u32);
+
+impl Predicate<Challenge> for Between {
+    ghost passes = { λ test challenge. (challenge.from == test.0) && (challenge.to == test.1) };
+
+    fn passes(&self, challenge: &Challenge) -> bool {
+        challenge.from == self.0 && challenge.to == self.1
+    }
+}
+
 /// A challenge that isn't by this session nor to it.
 #[derive(Clone, Copy)]
 pub(crate) struct Without(pub(crate) u32);
@@ -112,7 +124,5 @@ pub(crate) fn first_between(challenges: &[Challenge], from: u32, to: u32) -> Opt
     ensures { option_copied result
         ≡ find (λ challenge. (challenge.from == from) && (challenge.to == to)) challenges.now }
 {
-    challenges
-        .iter()
-        .find(|challenge| challenge.from == from && challenge.to == to)
+    find(challenges, &Between(from, to))
 }

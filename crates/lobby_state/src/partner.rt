@@ -1,13 +1,13 @@
 //! Partner: a member asks another to be its partner, or parts with the one it has.
 ghost use Rattle.std.specs.Prelude.{◌≡◌, IfOk, true};
 ghost use Rattle.fics_words.specs.Effect.{Takes};
-ghost use Rattle.lobby_state.specs.Partner.{ask_effect, asked_reply, part_effect, partner_effect, partner_words};
+ghost use Rattle.lobby_state.specs.Partner.{ask_effect, asked_reply, part_effect, parting_words, partner_effect, partner_words};
 
 use crate::acts::LobbyReply;
 use crate::broadcast::broadcast;
 use crate::member::OfSession;
 use crate::register::Register;
-use crate::said::said_line;
+use crate::said::{joined, said_line};
 use fics_words::{Duplicate, Fail, Handle, HandleKey, Line, NoMemory, Refusal};
 use std::alloc::Global;
 
@@ -70,11 +70,18 @@ impl Register {
         let Some(partner) = self.partner_of(session) else {
             return Err(Fail::Refused(Refusal::NoPartner));
         };
-        let line = said_line(self.alloc, caller.name, b" is no longer your partner.", b"")?;
+        let line = parting_line(self.alloc, caller.name)?;
         broadcast(&mut self.members, &OfSession(partner), &line)?;
         self.partners.part(session)?;
         Ok(LobbyReply::Done)
     }
+}
+
+/// The line that tells of a parting.
+fn parting_line(alloc: Global, name: Handle) -> Result<Line, NoMemory>
+    ensures { IfOk result (λ line. line ≡ parting_words name) }
+{
+    said_line(alloc, name, b" is no longer your partner.", b"")
 }
 
 /// What an ask is answered, where the two are partners from then on and where not.
@@ -110,8 +117,5 @@ fn link_line(alloc: Global, name: Handle) -> Result<Line, NoMemory>
 fn link_text(alloc: Global, letters: &[u8]) -> Result<Vec<u8>, NoMemory>
     ensures { IfOk result (λ text. text.items ≡ partner_words true letters.now) }
 {
-    let mut text = Vec::from_slice(alloc, b"You are now the partner of ")?;
-    text.extend_from_slice(letters)?;
-    text.push(b'.')?;
-    Ok(text)
+    joined(alloc, b"You are now the partner of ", letters, b".")
 }

@@ -7,10 +7,11 @@ use crate::acts::LobbyReply;
 use crate::broadcast::broadcast;
 use crate::member::Member;
 use crate::register::Register;
-use crate::terms::put_terms;
+use crate::said::{joined, put_numbered};
+use crate::terms::words_of_terms;
 use chess_model::{Terms, Variant};
 use collections::Predicate;
-use fics_words::{Duplicate, Fail, Handle, Line, NoMemory, Refusal, write_number};
+use fics_words::{Duplicate, Fail, Handle, Line, NoMemory, Refusal};
 use std::alloc::Global;
 
 /// A member of another session who wants to hear of seeks.
@@ -65,11 +66,13 @@ fn seek_line(alloc: Global, name: Handle, number: u16, terms: Terms) -> Result<L
 fn seek_text(alloc: Global, letters: &[u8], number: u16, terms: Terms) -> Result<Vec<u8>, NoMemory>
     ensures { IfOk result (λ text. text.items ≡ seek_words letters.now number terms) }
 {
-    let mut text = Vec::from_slice(alloc, letters)?;
-    text.extend_from_slice(b" seeking ")?;
-    put_terms(alloc, terms, &mut text)?;
-    text.extend_from_slice(b" (\"play ")?;
-    write_number(&mut text, u64::from(number))?;
-    text.extend_from_slice(b"\" to respond)")?;
+    let words = words_of_terms(alloc, terms)?;
+    let mut text = joined(alloc, letters, b" seeking ", words.as_slice())?;
+    put_numbered(
+        &mut text,
+        b" (\"play ",
+        u64::from(number),
+        b"\" to respond)",
+    )?;
     Ok(text)
 }

@@ -5,9 +5,9 @@ ghost use Rattle.lobby_state.specs.Lobby.{holder_of, opening, member_of, named, 
 
 use crate::challenge::Challenge;
 use crate::game::{Game, no_games};
-use crate::member::{Member, Members};
+use crate::member::{Member, Members, Named, OfSession, WithHandle};
 use channel_feed::Channels;
-use collections::{Listed, Reserved};
+use collections::{Listed, Reserved, find};
 use fics_words::{Duplicate, HandleKey, Line, NoMemory};
 use login_handles::Accounts;
 use partner_link::Partners;
@@ -118,23 +118,21 @@ impl Register {
     pub(crate) fn member(&self, session: u32) -> Option<&Member>
         ensures { option_copied result ≡ member_of self.now session }
     {
-        self.members.iter().find(|member| member.session == session)
+        find(self.members.as_slice(), &OfSession(session))
     }
 
     /// The member that the handle names, if there is one and it isn't going.
     pub(crate) fn named(&self, key: HandleKey) -> Option<&Member>
         ensures { option_copied result ≡ named self.now key }
     {
-        self.members
-            .iter()
-            .find(|member| member.name.key() == key && !member.going)
+        find(self.members.as_slice(), &Named(key))
     }
 
     /// The member that has the handle with this key, going or not.
     pub(crate) fn with_handle(&self, key: HandleKey) -> Option<&Member>
         ensures { option_copied result ≡ holder_of self.now key }
     {
-        self.members.iter().find(|member| member.name.key() == key)
+        find(self.members.as_slice(), &WithHandle(key))
     }
 
     /// The session's partner, if it has one.

@@ -1,8 +1,8 @@
 //! The lines of what members say to others.
-ghost use Rattle.std.specs.Prelude.{◌≡◌, IfOk};
+ghost use Rattle.std.specs.Prelude.{◌≡◌, ◌++◌, IfOk, OnOk, decimal};
 ghost use Rattle.lobby_state.specs.Said.{IsText, IsWording, said};
 
-use fics_words::{Handle, Line, NoMemory};
+use fics_words::{Handle, Line, NoMemory, write_number};
 use std::alloc::Global;
 
 /// The line of what a member says: its name, how it says it, and its text.
@@ -11,21 +11,36 @@ pub fn said_line(alloc: Global, name: Handle, wording: &[u8], text: &[u8]) -> Re
     requires text { IsText text.now }
     ensures { IfOk result (λ line. line ≡ said name wording.now text.now) }
 {
-    let bytes = said_bytes(alloc, name.letters(), wording, text)?;
+    let bytes = joined(alloc, name.letters(), wording, text)?;
     Ok(Line::from_bytes(bytes))
 }
 
-/// The bytes of that line.
-fn said_bytes(
+/// The three texts, one behind the other.
+pub(crate) fn joined(
     alloc: Global,
-    letters: &[u8],
-    wording: &[u8],
-    text: &[u8],
+    first: &[u8],
+    second: &[u8],
+    third: &[u8],
 ) -> Result<Vec<u8>, NoMemory>
-    ensures { IfOk result (λ bytes. bytes.items ≡ said letters.now wording.now text.now) }
+    ensures { IfOk result (λ bytes. bytes.items ≡ first.now ++ second.now ++ third.now) }
 {
-    let mut bytes = Vec::from_slice(alloc, letters)?;
-    bytes.extend_from_slice(wording)?;
-    bytes.extend_from_slice(text)?;
+    let mut bytes = Vec::from_slice(alloc, first)?;
+    bytes.extend_from_slice(second)?;
+    bytes.extend_from_slice(third)?;
     Ok(bytes)
+}
+
+/// Appends a number between two texts.
+pub(crate) fn put_numbered(
+    text: &mut Vec<u8>,
+    before: &[u8],
+    number: u64,
+    behind: &[u8],
+) -> Result<(), NoMemory>
+    ensures { OnOk result (text.new.items ≡ text.old.items ++ before.now ++ decimal number ++ behind.now) }
+{
+    text.extend_from_slice(before)?;
+    write_number(text, number)?;
+    text.extend_from_slice(behind)?;
+    Ok(())
 }

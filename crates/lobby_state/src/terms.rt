@@ -17,7 +17,7 @@ pub(crate) fn put_terms(alloc: Global, terms: Terms, text: &mut Vec<u8>) -> Resu
 }
 
 /// The bytes of these words.
-fn words_of_terms(alloc: Global, terms: Terms) -> Result<Vec<u8>, NoMemory>
+pub(crate) fn words_of_terms(alloc: Global, terms: Terms) -> Result<Vec<u8>, NoMemory>
     ensures { IfOk result (λ words. words.items ≡ terms_words terms) }
 {
     let mut words = Vec::new(alloc);

@@ -7,6 +7,7 @@ ghost use Rattle.lobby_state.specs.Withdraw.{own_of, withdraw_effect};
 use crate::acts::LobbyReply;
 use crate::challenge::{Challenge, OfOthers, first_between};
 use crate::register::Register;
+use collections::{Predicate, find};
 use fics_words::{Fail, HandleKey, Refusal};
 
 impl Register {
@@ -43,11 +44,21 @@ impl Register {
     }
 }
 
+/// A challenge by the session.
+#[derive(Clone, Copy)]
+struct By(u32);
+
+impl Predicate<Challenge> for By {
+    ghost passes = { λ test challenge. challenge.from == test.0 };
+
+    fn passes(&self, challenge: &Challenge) -> bool {
+        challenge.from == self.0
+    }
+}
+
 /// The oldest challenge by the session.
 fn first_by(challenges: &[Challenge], session: u32) -> Option<&Challenge>
     ensures { option_copied result ≡ find (λ challenge. challenge.from == session) challenges.now }
 {
-    challenges
-        .iter()
-        .find(|challenge| challenge.from == session)
+    find(challenges, &By(session))
 }

@@ -76,12 +76,6 @@ const CHALLENGES: &[Pairing] = &[
     Pairing::Other(Step::Ask(2, Some(*b"Ann"), 33)),
 ];
 
-#[test]
-fn challenges_to_bughouse_need_partners(rt: HostRuntime) -> Result<(), Fail> {
-    assert_eq!(rt; first_failing_pairing_anew(rt.alloc(), CHALLENGES)?, None);
-    Ok(())
-}
-
 const SEATS: &[Pairing] = &[
     ANN,
     BEN,
@@ -116,12 +110,6 @@ const SEATS: &[Pairing] = &[
     Pairing::Other(Step::Seated(4, 1, 1, 2)),
 ];
 
-#[test]
-fn four_are_seated(rt: HostRuntime) -> Result<(), Fail> {
-    assert_eq!(rt; first_failing_pairing_anew(rt.alloc(), SEATS)?, None);
-    Ok(())
-}
-
 const COLOURS: &[Pairing] = &[
     ANN,
     BEN,
@@ -145,12 +133,6 @@ const COLOURS: &[Pairing] = &[
     Pairing::Other(Step::Seated(3, 1, 1, 1)),
     Pairing::Other(Step::Seated(4, 1, 1, 0)),
 ];
-
-#[test]
-fn partners_have_opposite_colours(rt: HostRuntime) -> Result<(), Fail> {
-    assert_eq!(rt; first_failing_pairing_anew(rt.alloc(), COLOURS)?, None);
-    Ok(())
-}
 
 const PARTINGS: &[Pairing] = &[
     ANN,
@@ -187,8 +169,22 @@ const PARTINGS: &[Pairing] = &[
     Pairing::Other(Step::Seated(5, 1, 1, 3)),
 ];
 
+/// A name, and the steps of a lobby of its own.
+const CASES: &[(&str, &[Pairing])] = &[
+    ("challenges_to_bughouse_need_partners", CHALLENGES),
+    ("four_are_seated", SEATS),
+    ("partners_have_opposite_colours", COLOURS),
+    ("partners_are_those_of_the_acceptance", PARTINGS),
+];
+
 #[test]
-fn partners_are_those_of_the_acceptance(rt: HostRuntime) -> Result<(), Fail> {
-    assert_eq!(rt; first_failing_pairing_anew(rt.alloc(), PARTINGS)?, None);
+fn games_of_four(rt: HostRuntime) -> Result<(), Fail> {
+    for (name, steps) in CASES {
+        assert_eq!(rt;
+            first_failing_pairing_anew(rt.alloc(), steps)?,
+            None,
+            "{name}"
+        );
+    }
     Ok(())
 }

@@ -1,52 +1,60 @@
 //! Where a player plays, and where a game is played.
 ghost use Rattle.lobby_state.specs.Acts.{FitsLobby};
 
-use crate::steps::{CHESS, DONE, HOUSE, STRANGE, Step, first_failing, hall, is_as_expected};
-use fics_words::{Fail as Refused, Handle};
+use crate::steps::{CHESS, DONE, HOUSE, STRANGE, Step, hall, is_as_expected};
+use fics_words::{Fail as Refused, Handle, NoMemory};
 use lobby_state::{Lobby, LobbyAct, LobbyReply};
+use std::alloc::Global;
 use std::test::Fail;
-
-/// Two games are played: ann with ben at desk 1, and cid, who has Black, with dan at desk 2.
-const GAMES: &[Step] = &[
-    Step::Enter(1, *b"ann", DONE),
-    Step::Enter(2, *b"ben", DONE),
-    Step::Enter(3, *b"cid", DONE),
-    Step::Enter(4, *b"dan", DONE),
-    Step::Enter(5, *b"eve", DONE),
-    Step::Match(1, *b"ben", CHESS, DONE),
-    Step::Start(2, 1, 1, 1),
-    Step::Match(3, *b"dan", HOUSE, DONE),
-    Step::Start(4, 2, 2, 4),
-];
 
 /// What was found: the number of the refusal, the desk and the seat.
 #[derive(Clone, Copy, PartialEq, Eq)]
 struct Found(u8, u8, u8);
 
-/// Who asks for which number, and what is found.
-const NUMBERS: &[(u32, u16, Found)] = &[
-    (5, 1, Found(DONE, 1, 0)),
-    (1, 3, Found(DONE, 2, 0)),
-    // chess and crazyhouse have one board
-    (5, 2, Found(46, 0, 0)),
-    (5, 4, Found(46, 0, 0)),
-    (5, 5, Found(46, 0, 0)),
-    (5, 0, Found(46, 0, 0)),
-    (5, 255, Found(46, 0, 0)),
-    (5, 257, Found(46, 0, 0)),
-    (5, 65_535, Found(46, 0, 0)),
-    (9, 1, Found(54, 0, 0)),
-];
+/// What is asked, and what is found.
+enum Looking {
+    /// Asks for the game of this number.
+    Number(u32, u16, Found),
+    /// Asks for the player with this handle.
+    Player(u32, [u8; 3], Found),
+    /// A step of another kind.
+    Other(Step),
+}
 
-/// Who asks for which player, and what is found.
-const PLAYERS: &[(u32, [u8; 3], Found)] = &[
-    (5, *b"ann", Found(DONE, 1, 0)),
-    (5, *b"BEN", Found(DONE, 1, 1)),
-    (3, *b"cid", Found(DONE, 2, 1)),
-    (5, *b"dan", Found(DONE, 2, 0)),
-    (5, *b"eve", Found(20, 0, 0)),
-    (5, *b"zoe", Found(32, 0, 0)),
-    (9, *b"ann", Found(54, 0, 0)),
+use Looking::{Number, Other, Player};
+
+/// Two games are played: ann with ben at desk 1, and cid, who has Black, with dan at desk 2.
+const STEPS: &[Looking] = &[
+    Other(Step::Enter(1, *b"ann", DONE)),
+    Other(Step::Enter(2, *b"ben", DONE)),
+    Other(Step::Enter(3, *b"cid", DONE)),
+    Other(Step::Enter(4, *b"dan", DONE)),
+    Other(Step::Enter(5, *b"eve", DONE)),
+    Other(Step::Match(1, *b"ben", CHESS, DONE)),
+    Other(Step::Start(2, 1, 1, 1)),
+    Other(Step::Match(3, *b"dan", HOUSE, DONE)),
+    Other(Step::Start(4, 2, 2, 4)),
+    Number(5, 1, Found(DONE, 1, 0)),
+    Number(1, 3, Found(DONE, 2, 0)),
+    // chess and crazyhouse have one board
+    Number(5, 2, Found(46, 0, 0)),
+    Number(5, 4, Found(46, 0, 0)),
+    Number(5, 5, Found(46, 0, 0)),
+    Number(5, 0, Found(46, 0, 0)),
+    Number(5, 255, Found(46, 0, 0)),
+    Number(5, 257, Found(46, 0, 0)),
+    Number(5, 65_535, Found(46, 0, 0)),
+    Number(9, 1, Found(54, 0, 0)),
+    Player(5, *b"ann", Found(DONE, 1, 0)),
+    Player(5, *b"BEN", Found(DONE, 1, 1)),
+    Player(3, *b"cid", Found(DONE, 2, 1)),
+    Player(5, *b"dan", Found(DONE, 2, 0)),
+    Player(5, *b"eve", Found(20, 0, 0)),
+    Player(5, *b"zoe", Found(32, 0, 0)),
+    Player(9, *b"ann", Found(54, 0, 0)),
+    // who is going can't be named
+    Other(Step::Going(1)),
+    Player(5, *b"ann", Found(32, 0, 0)),
 ];
 
 /// What an act finds. It ensures nothing, so that nothing above it is proved over what an act does.
@@ -68,37 +76,34 @@ fn player_at(lobby: &mut Lobby, session: u32, letters: &[u8]) -> Found {
     }
 }
 
-/// The place of the first number that is found elsewhere, if one is.
-fn first_lost_game(lobby: &mut Lobby) -> Option<usize> {
-    for (place, row) in NUMBERS.iter().enumerate() {
-        if looked_up(lobby, row.0, &LobbyAct::FindGame { number: row.1 }) != row.2 {
+fn is_found(lobby: &mut Lobby, step: &Looking) -> bool {
+    match step {
+        Number(session, number, found) => {
+            looked_up(lobby, *session, &LobbyAct::FindGame { number: *number }) == *found
+        }
+        Player(session, name, found) => player_at(lobby, *session, name) == *found,
+        Other(step) => is_as_expected(lobby, step),
+    }
+}
+
+/// The place of the first step that finds something else, if one does.
+fn first_lost(lobby: &mut Lobby, steps: &[Looking]) -> Option<usize> {
+    for (place, step) in steps.iter().enumerate() {
+        if !is_found(lobby, step) {
             return Some(place);
         }
     }
     None
 }
 
-/// The place of the first player who is found elsewhere, if one is.
-fn first_lost_player(lobby: &mut Lobby) -> Option<usize> {
-    for (place, row) in PLAYERS.iter().enumerate() {
-        if player_at(lobby, row.0, &row.1) != row.2 {
-            return Some(place);
-        }
-    }
-    None
+/// The same at a new lobby.
+fn first_lost_anew(alloc: Global, steps: &[Looking]) -> Result<Option<usize>, NoMemory> {
+    let mut lobby = hall(alloc)?;
+    Ok(first_lost(&mut lobby, steps))
 }
 
 #[test]
 fn games_and_players_are_found(rt: HostRuntime) -> Result<(), Fail> {
-    let mut lobby = hall(rt.alloc())?;
-    assert_eq!(rt; first_failing(&mut lobby, GAMES), None);
-    assert_eq!(rt; first_lost_game(&mut lobby), None);
-    assert_eq!(rt; first_lost_player(&mut lobby), None);
-    // who is going can't be named
-    assert!(rt; is_as_expected(&mut lobby, &Step::Going(1)), "ann goes");
-    assert!(rt;
-        player_at(&mut lobby, 5, b"ann") == Found(32, 0, 0),
-        "ann isn't found"
-    );
+    assert_eq!(rt; first_lost_anew(rt.alloc(), STEPS)?, None);
     Ok(())
 }

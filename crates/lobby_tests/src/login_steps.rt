@@ -27,6 +27,8 @@ pub enum Login {
     /// An account is loaded.
     Load(&'static [u8], u8, u8),
     Bye(u32),
+    /// There are so many accounts.
+    Accounts(usize),
 }
 
 /// The place of the first step that answers otherwise, if one does.
@@ -57,7 +59,12 @@ fn is_as_expected(lobby: &mut Lobby, step: &Login) -> bool {
         }
         Login::Load(letters, password, number) => loading(lobby, letters, *password) == *number,
         Login::Bye(session) => acted(lobby, *session, &LobbyAct::Bye).is_ok(),
+        Login::Accounts(count) => accounts(lobby) == *count,
     }
+}
+
+fn accounts(lobby: &Lobby) -> usize {
+    lobby.accounts().len()
 }
 
 fn is_met(

@@ -1,7 +1,7 @@
 //! Logins, guests and accounts.
 
 use crate::login_steps::{Login, Met, first_failing_login, first_failing_login_anew};
-use crate::steps::{CHESS, DONE, Step, first_failing, first_failing_anew, hall, registered_seats};
+use crate::steps::{CHESS, DONE, Step, first_failing, hall, registered_seats};
 use fics_words::NoMemory;
 use lobby_state::Lobby;
 use std::alloc::Global;
@@ -29,27 +29,8 @@ const PASSWORDS_STEPS: &[Login] = &[
     Login::Bye(1),
     Login::Password(4, b"Ann", 3, Met::Refused(23)),
     Login::Password(4, b"ANN", 1, Met::As(b"Ann")),
+    Login::Accounts(2),
 ];
-
-/// How many accounts there are after these steps, if each is answered as it has to be.
-fn accounts_after(alloc: Global, steps: &[Login]) -> Result<Option<usize>, NoMemory> {
-    let mut lobby = hall(alloc)?;
-    Ok(accounts_without(first_failing_login(&mut lobby, steps), &lobby))
-}
-
-/// How many accounts there are, where no step failed.
-fn accounts_without(failing: Option<usize>, lobby: &Lobby) -> Option<usize> {
-    match failing {
-        None => Some(lobby.accounts().len()),
-        Some(_) => None,
-    }
-}
-
-#[test]
-fn passwords(rt: HostRuntime) -> Result<(), Fail> {
-    assert_eq!(rt; accounts_after(rt.alloc(), PASSWORDS_STEPS)?, Some(2));
-    Ok(())
-}
 
 const GUESTS_STEPS: &[Login] = &[
     Login::Guest(1, Met::As(b"GuestAAAA")),
@@ -68,9 +49,18 @@ const GUESTS_STEPS: &[Login] = &[
     Login::Guest(8, Met::As(b"GuestAAAG")),
 ];
 
+/// A name, and the steps of a lobby of its own.
+const CASES: &[(&str, &[Login])] = &[("passwords", PASSWORDS_STEPS), ("guests", GUESTS_STEPS)];
+
 #[test]
-fn guests(rt: HostRuntime) -> Result<(), Fail> {
-    assert_eq!(rt; first_failing_login_anew(rt.alloc(), GUESTS_STEPS)?, None);
+fn logins(rt: HostRuntime) -> Result<(), Fail> {
+    for (name, steps) in CASES {
+        assert_eq!(rt;
+            first_failing_login_anew(rt.alloc(), steps)?,
+            None,
+            "{name}"
+        );
+    }
     Ok(())
 }
 
@@ -104,29 +94,5 @@ fn is_black_marked(lobby: &mut Lobby) -> bool {
 #[test]
 fn seats_keep_the_mark(rt: HostRuntime) -> Result<(), Fail> {
     assert!(rt; are_marked(rt.alloc())?);
-    Ok(())
-}
-
-const DESKS_IN_USE_STEPS: &[Step] = &[
-    Step::Desks(&[]),
-    Step::Enter(1, *b"Ann", DONE),
-    Step::Enter(2, *b"Ben", DONE),
-    Step::Enter(3, *b"Cid", DONE),
-    Step::Enter(4, *b"Dan", DONE),
-    Step::Match(1, *b"Ben", CHESS, DONE),
-    Step::Start(2, 1, 1, 1),
-    Step::Match(3, *b"Dan", CHESS, DONE),
-    Step::Start(4, 2, 2, 4),
-    Step::Desks(&[(1, 1), (2, 2)]),
-    Step::Clear(1, 1, 1, true),
-    Step::Desks(&[(2, 2)]),
-    Step::Match(1, *b"Ben", CHESS, DONE),
-    Step::Start(2, 1, 3, 1),
-    Step::Desks(&[(1, 3), (2, 2)]),
-];
-
-#[test]
-fn desks_in_use(rt: HostRuntime) -> Result<(), Fail> {
-    assert_eq!(rt; first_failing_anew(rt.alloc(), DESKS_IN_USE_STEPS)?, None);
     Ok(())
 }

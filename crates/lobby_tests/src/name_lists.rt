@@ -1,8 +1,8 @@
 //! The lists of names that members keep, what they keep away, and the lists of challenges and of games.
 
-use crate::list_steps::{Keeping, first_failing_list, naming};
+use crate::list_steps::{Keeping, first_failing_list_anew};
 use crate::seek_steps::WHITE;
-use crate::steps::{CHESS, DONE, HOUSE, PAIRS, Step, hall, numbered};
+use crate::steps::{CHESS, DONE, HOUSE, PAIRS, Step};
 use crate::talk_steps::Talk;
 use lobby_state::{Var, WhichList};
 use std::test::Fail;
@@ -141,53 +141,45 @@ const GAMES: &[Keeping] = &[
     Keeping::Games(3, &[b"3 Dan Cid 3 0 crazyhouse"]),
 ];
 
+const A_LIST_HAS_100_NAMES_AT_MOST: &[Keeping] = &[
+    Keeping::Other(Talk::Other(Step::Enter(1, *b"Ann", DONE))),
+    Keeping::Numbered(1, CENSOR, 100),
+    Keeping::Name(1, CENSOR, *b"Ann", true, 40),
+    Keeping::Name(1, CENSOR, *b"aax", true, 51),
+    Keeping::Name(1, NOPLAY, *b"Ann", true, DONE),
+    Keeping::Name(1, CENSOR, *b"aax", false, DONE),
+    Keeping::Name(1, CENSOR, *b"Ann", true, DONE),
+];
+
+const A_CENSORED_TELL_TO_A_FULL_MEMBER: &[Keeping] = &[
+    Keeping::Other(Talk::Other(Step::Enter(1, *b"Ann", DONE))),
+    Keeping::Other(Talk::Other(Step::Enter(2, *b"Ben", DONE))),
+    Keeping::Other(Talk::TellTimes(1, *b"Ben", b"hi", 512)),
+    Keeping::Other(Talk::Tell(1, *b"Ben", b"hi", 49)),
+    Keeping::Other(Talk::Other(Step::Match(1, *b"Ben", CHESS, 49))),
+    Keeping::Name(2, CENSOR, *b"Ann", true, DONE),
+    Keeping::Other(Talk::Tell(1, *b"Ben", b"hi", 36)),
+    Keeping::Other(Talk::Other(Step::Match(1, *b"Ben", CHESS, 36))),
+];
+
+/// A name, and the steps of a lobby of its own.
+const CASES: &[(&str, &[Keeping])] = &[
+    ("names", NAMES),
+    ("heard", HEARD),
+    ("played", PLAYED),
+    ("challenges", CHALLENGES),
+    ("games", GAMES),
+    ("a_list_has_100_names_at_most", A_LIST_HAS_100_NAMES_AT_MOST),
+    (
+        "a_censored_tell_to_a_full_member_is_refused_for_the_list",
+        A_CENSORED_TELL_TO_A_FULL_MEMBER,
+    ),
+];
+
 #[test]
 fn lists_of_names(rt: HostRuntime) -> Result<(), Fail> {
-    for steps in [NAMES, HEARD, PLAYED, CHALLENGES, GAMES] {
-        let mut lobby = hall(rt.alloc())?;
-        assert_eq!(rt; first_failing_list(rt.alloc(), &mut lobby, steps), None);
+    for (name, steps) in CASES {
+        assert_eq!(rt; first_failing_list_anew(rt.alloc(), steps)?, None, "{name}");
     }
-    Ok(())
-}
-
-#[test]
-fn a_list_has_100_names_at_most(rt: HostRuntime) -> Result<(), Fail> {
-    let mut lobby = hall(rt.alloc())?;
-    let entered = [Keeping::Other(Talk::Other(Step::Enter(1, *b"Ann", DONE)))];
-    assert_eq!(rt; first_failing_list(rt.alloc(), &mut lobby, &entered), None);
-    for n in 0..100 {
-        assert_eq!(rt; naming(&mut lobby, 1, CENSOR, &numbered(n), true), DONE);
-    }
-    let full = [
-        Keeping::Name(1, CENSOR, *b"Ann", true, 40),
-        Keeping::Name(1, CENSOR, *b"aax", true, 51),
-        Keeping::Name(1, NOPLAY, *b"Ann", true, DONE),
-        Keeping::Name(1, CENSOR, *b"aax", false, DONE),
-        Keeping::Name(1, CENSOR, *b"Ann", true, DONE),
-    ];
-    assert_eq!(rt; first_failing_list(rt.alloc(), &mut lobby, &full), None);
-    Ok(())
-}
-
-#[test]
-fn a_censored_tell_to_a_full_member_is_refused_for_the_list(rt: HostRuntime) -> Result<(), Fail> {
-    let mut lobby = hall(rt.alloc())?;
-    let before = [
-        Keeping::Other(Talk::Other(Step::Enter(1, *b"Ann", DONE))),
-        Keeping::Other(Talk::Other(Step::Enter(2, *b"Ben", DONE))),
-    ];
-    assert_eq!(rt; first_failing_list(rt.alloc(), &mut lobby, &before), None);
-    for _n in 0..512 {
-        let tell = [Keeping::Other(Talk::Tell(1, *b"Ben", b"hi", DONE))];
-        assert_eq!(rt; first_failing_list(rt.alloc(), &mut lobby, &tell), None);
-    }
-    let after = [
-        Keeping::Other(Talk::Tell(1, *b"Ben", b"hi", 49)),
-        Keeping::Other(Talk::Other(Step::Match(1, *b"Ben", CHESS, 49))),
-        Keeping::Name(2, CENSOR, *b"Ann", true, DONE),
-        Keeping::Other(Talk::Tell(1, *b"Ben", b"hi", 36)),
-        Keeping::Other(Talk::Other(Step::Match(1, *b"Ben", CHESS, 36))),
-    ];
-    assert_eq!(rt; first_failing_list(rt.alloc(), &mut lobby, &after), None);
     Ok(())
 }

@@ -17,6 +17,8 @@ pub const ASKED: u8 = 254;
 pub enum Pairing {
     /// Asks this player.
     Ask(u32, [u8; 3], u8),
+    /// Asks this player so many times, and each time it is put.
+    AskTimes(u32, [u8; 3], u32),
     /// Parts with its partner.
     Part(u32, u8),
     /// Says this to its partner.
@@ -26,7 +28,7 @@ pub enum Pairing {
 }
 
 /// The place of the first step that answers otherwise, if one does.
-pub fn first_failing_pairing(alloc: Global, lobby: &mut Lobby, steps: &[Pairing]) -> Option<usize> {
+fn first_failing_pairing(alloc: Global, lobby: &mut Lobby, steps: &[Pairing]) -> Option<usize> {
     for (place, step) in steps.iter().enumerate() {
         if !answers(alloc, lobby, step) {
             return Some(place);
@@ -47,6 +49,7 @@ pub fn first_failing_pairing_anew(
 fn answers(alloc: Global, lobby: &mut Lobby, step: &Pairing) -> bool {
     match step {
         Pairing::Ask(session, name, number) => partnering(lobby, *session, name) == *number,
+        Pairing::AskTimes(session, name, times) => asks_times(lobby, *session, name, *times),
         Pairing::Part(session, number) => parting(lobby, *session) == *number,
         Pairing::Ptell(session, text, number) => {
             confiding(alloc, lobby, *session, text) == *number
@@ -64,6 +67,15 @@ pub fn partnering(lobby: &mut Lobby, session: u32, letters: &[u8]) -> u8 {
         name: Some(name.key()),
     };
     with_kind(&acted(lobby, session, &act))
+}
+
+fn asks_times(lobby: &mut Lobby, session: u32, letters: &[u8], times: u32) -> bool {
+    for _ in 0..times {
+        if partnering(lobby, session, letters) != ASKED {
+            return false;
+        }
+    }
+    true
 }
 
 fn parting(lobby: &mut Lobby, session: u32) -> u8 {

@@ -1,12 +1,7 @@
 //! Partners: who asks and is asked, what they tell each other, who parts, and why one is refused.
 
-use crate::partner_steps::{
-    ASKED, Pairing, first_failing_pairing, first_failing_pairing_anew, partnering,
-};
-use crate::steps::{DONE, Step, hall};
-use fics_words::NoMemory;
-use lobby_state::Lobby;
-use std::alloc::Global;
+use crate::partner_steps::{ASKED, Pairing, first_failing_pairing_anew};
+use crate::steps::{DONE, Step};
 use std::test::Fail;
 
 const ANN: Pairing = Pairing::Other(Step::Enter(1, *b"Ann", DONE));
@@ -48,15 +43,6 @@ const PARTNERS_ASK_TELL_AND_PART_STEPS: &[Pairing] = &[
     Pairing::Other(Step::Fetch(3, 1)),
 ];
 
-#[test]
-fn partners_ask_tell_and_part(rt: HostRuntime) -> Result<(), Fail> {
-    assert_eq!(rt;
-        first_failing_pairing_anew(rt.alloc(), PARTNERS_ASK_TELL_AND_PART_STEPS)?,
-        None
-    );
-    Ok(())
-}
-
 const WHAT_NAMES_ONE_WHO_LEAVES_GOES_STEPS: &[Pairing] = &[
     ANN,
     BEN,
@@ -86,18 +72,10 @@ const WHAT_NAMES_ONE_WHO_LEAVES_GOES_STEPS: &[Pairing] = &[
     Pairing::Ptell(1, b"hi", 37),
 ];
 
-#[test]
-fn what_names_one_who_leaves_goes(rt: HostRuntime) -> Result<(), Fail> {
-    assert_eq!(rt;
-        first_failing_pairing_anew(rt.alloc(), WHAT_NAMES_ONE_WHO_LEAVES_GOES_STEPS)?,
-        None
-    );
-    Ok(())
-}
-
-const ANN_AND_BEN: &[Pairing] = &[ANN, BEN];
-
-const AT_A_FULL_QUEUE: &[Pairing] = &[
+const A_FULL_QUEUE_TAKES_NO_LINE_STEPS: &[Pairing] = &[
+    ANN,
+    BEN,
+    Pairing::AskTimes(1, *b"Ben", 512),
     Pairing::Ask(1, *b"Ben", 49),
     Pairing::Ask(2, *b"Ann", DONE),
     Pairing::Ask(1, *b"Ben", 38),
@@ -107,27 +85,30 @@ const AT_A_FULL_QUEUE: &[Pairing] = &[
     Pairing::Part(2, 37),
 ];
 
-/// Whether Ann's 512 requests are put to Ben.
-fn asks_512_times(lobby: &mut Lobby) -> bool {
-    for _ in 0..512u32 {
-        if partnering(lobby, 1, b"Ben") != ASKED {
-            return false;
-        }
-    }
-    true
-}
-
-fn takes_no_line(alloc: Global) -> Result<bool, NoMemory> {
-    let mut lobby = hall(alloc)?;
-    Ok(
-        first_failing_pairing(alloc, &mut lobby, ANN_AND_BEN).is_none()
-            && asks_512_times(&mut lobby)
-            && first_failing_pairing(alloc, &mut lobby, AT_A_FULL_QUEUE).is_none(),
-    )
-}
+/// A name, and the steps of a lobby of its own.
+const CASES: &[(&str, &[Pairing])] = &[
+    (
+        "partners_ask_tell_and_part",
+        PARTNERS_ASK_TELL_AND_PART_STEPS,
+    ),
+    (
+        "what_names_one_who_leaves_goes",
+        WHAT_NAMES_ONE_WHO_LEAVES_GOES_STEPS,
+    ),
+    (
+        "a_full_queue_takes_no_line_of_a_partner",
+        A_FULL_QUEUE_TAKES_NO_LINE_STEPS,
+    ),
+];
 
 #[test]
-fn a_full_queue_takes_no_line_of_a_partner(rt: HostRuntime) -> Result<(), Fail> {
-    assert!(rt; takes_no_line(rt.alloc())?);
+fn partners(rt: HostRuntime) -> Result<(), Fail> {
+    for (name, steps) in CASES {
+        assert_eq!(rt;
+            first_failing_pairing_anew(rt.alloc(), steps)?,
+            None,
+            "{name}"
+        );
+    }
     Ok(())
 }

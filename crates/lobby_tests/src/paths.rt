@@ -18,15 +18,6 @@ const LINES_OF_CHALLENGES_STEPS: &[Step] = &[
     Step::Fetch(2, 0),
 ];
 
-#[test]
-fn lines_of_challenges(rt: HostRuntime) -> Result<(), Fail> {
-    assert_eq!(rt;
-        first_failing_anew(rt.alloc(), LINES_OF_CHALLENGES_STEPS)?,
-        None
-    );
-    Ok(())
-}
-
 const THE_OLDEST_CHALLENGE_IS_ACCEPTED_STEPS: &[Step] = &[
     Step::Enter(1, *b"Ann", DONE),
     Step::Enter(2, *b"Ben", DONE),
@@ -38,15 +29,6 @@ const THE_OLDEST_CHALLENGE_IS_ACCEPTED_STEPS: &[Step] = &[
     Step::Start(3, 1, 1, 2),
     Step::Ask(3, Some(*b"Ann"), 34),
 ];
-
-#[test]
-fn the_oldest_challenge_is_accepted(rt: HostRuntime) -> Result<(), Fail> {
-    assert_eq!(rt;
-        first_failing_anew(rt.alloc(), THE_OLDEST_CHALLENGE_IS_ACCEPTED_STEPS)?,
-        None
-    );
-    Ok(())
-}
 
 const GAMES_START_AND_END_STEPS: &[Step] = &[
     Step::Enter(1, *b"Ann", DONE),
@@ -76,15 +58,6 @@ const GAMES_START_AND_END_STEPS: &[Step] = &[
     Step::Seated(4, 0, 0, 0),
 ];
 
-#[test]
-fn games_start_and_end(rt: HostRuntime) -> Result<(), Fail> {
-    assert_eq!(rt;
-        first_failing_anew(rt.alloc(), GAMES_START_AND_END_STEPS)?,
-        None
-    );
-    Ok(())
-}
-
 const LEAVING_STEPS: &[Step] = &[
     Step::Enter(1, *b"Ann", DONE),
     Step::Enter(2, *b"Ben", DONE),
@@ -104,8 +77,40 @@ const LEAVING_STEPS: &[Step] = &[
     Step::Enter(9, *b"Ann", DONE),
 ];
 
+const DESKS_IN_USE_STEPS: &[Step] = &[
+    Step::Desks(&[]),
+    Step::Enter(1, *b"Ann", DONE),
+    Step::Enter(2, *b"Ben", DONE),
+    Step::Enter(3, *b"Cid", DONE),
+    Step::Enter(4, *b"Dan", DONE),
+    Step::Match(1, *b"Ben", CHESS, DONE),
+    Step::Start(2, 1, 1, 1),
+    Step::Match(3, *b"Dan", CHESS, DONE),
+    Step::Start(4, 2, 2, 4),
+    Step::Desks(&[(1, 1), (2, 2)]),
+    Step::Clear(1, 1, 1, true),
+    Step::Desks(&[(2, 2)]),
+    Step::Match(1, *b"Ben", CHESS, DONE),
+    Step::Start(2, 1, 3, 1),
+    Step::Desks(&[(1, 3), (2, 2)]),
+];
+
+/// A name, and the steps of a lobby of its own.
+const CASES: &[(&str, &[Step])] = &[
+    ("lines_of_challenges", LINES_OF_CHALLENGES_STEPS),
+    (
+        "the_oldest_challenge_is_accepted",
+        THE_OLDEST_CHALLENGE_IS_ACCEPTED_STEPS,
+    ),
+    ("games_start_and_end", GAMES_START_AND_END_STEPS),
+    ("leaving", LEAVING_STEPS),
+    ("desks_in_use", DESKS_IN_USE_STEPS),
+];
+
 #[test]
-fn leaving(rt: HostRuntime) -> Result<(), Fail> {
-    assert_eq!(rt; first_failing_anew(rt.alloc(), LEAVING_STEPS)?, None);
+fn happy_paths(rt: HostRuntime) -> Result<(), Fail> {
+    for (name, steps) in CASES {
+        assert_eq!(rt; first_failing_anew(rt.alloc(), steps)?, None, "{name}");
+    }
     Ok(())
 }

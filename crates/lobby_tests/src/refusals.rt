@@ -80,51 +80,15 @@ const CHALLENGES_ARE_REFUSED_STEPS: &[Step] = &[
     Step::Match(1, *b"Ben", PAIRS, 37),
 ];
 
-#[test]
-fn challenges_are_refused(rt: HostRuntime) -> Result<(), Fail> {
-    assert_eq!(rt;
-        first_failing_anew(rt.alloc(), CHALLENGES_ARE_REFUSED_STEPS)?,
-        None
-    );
-    Ok(())
-}
-
-const A_FULL_QUEUE_REFUSES_TWO: &[Step] = &[
+const A_FULL_QUEUE_REFUSES_STEPS: &[Step] = &[
     Step::Enter(1, *b"Ann", DONE),
     Step::Enter(2, *b"Ben", DONE),
-];
-
-const A_FULL_QUEUE_REFUSES_STEPS: &[Step] = &[
+    Step::MatchTimes(1, *b"Ben", CHESS, 512),
     Step::Match(1, *b"Ben", CHESS, 49),
     Step::Match(1, *b"Ben", PAIRS, 37),
     Step::Fetch(2, 512),
     Step::Match(1, *b"Ben", CHESS, DONE),
 ];
-
-/// Whether Ann's 512 challenges reach Ben.
-fn challenges_512_times(lobby: &mut Lobby) -> bool {
-    for _ in 0..512u32 {
-        if challenging(lobby, 1, b"Ben", CHESS) != DONE {
-            return false;
-        }
-    }
-    true
-}
-
-fn refuses_challenges(alloc: Global) -> Result<bool, NoMemory> {
-    let mut lobby = hall(alloc)?;
-    Ok(
-        first_failing(&mut lobby, A_FULL_QUEUE_REFUSES_TWO).is_none()
-            && challenges_512_times(&mut lobby)
-            && first_failing(&mut lobby, A_FULL_QUEUE_REFUSES_STEPS).is_none(),
-    )
-}
-
-#[test]
-fn a_full_queue_refuses(rt: HostRuntime) -> Result<(), Fail> {
-    assert!(rt; refuses_challenges(rt.alloc())?);
-    Ok(())
-}
 
 const ACCEPTANCES_ARE_REFUSED_STEPS: &[Step] = &[
     Step::Enter(1, *b"Ann", DONE),
@@ -141,12 +105,18 @@ const ACCEPTANCES_ARE_REFUSED_STEPS: &[Step] = &[
     Step::Ask(2, None, DONE),
 ];
 
+/// A name, and the steps of a lobby of its own.
+const CASES: &[(&str, &[Step])] = &[
+    ("challenges_are_refused", CHALLENGES_ARE_REFUSED_STEPS),
+    ("a_full_queue_refuses", A_FULL_QUEUE_REFUSES_STEPS),
+    ("acceptances_are_refused", ACCEPTANCES_ARE_REFUSED_STEPS),
+];
+
 #[test]
-fn acceptances_are_refused(rt: HostRuntime) -> Result<(), Fail> {
-    assert_eq!(rt;
-        first_failing_anew(rt.alloc(), ACCEPTANCES_ARE_REFUSED_STEPS)?,
-        None
-    );
+fn acts_are_refused(rt: HostRuntime) -> Result<(), Fail> {
+    for (name, steps) in CASES {
+        assert_eq!(rt; first_failing_anew(rt.alloc(), steps)?, None, "{name}");
+    }
     Ok(())
 }
 

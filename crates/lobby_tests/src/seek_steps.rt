@@ -1,6 +1,10 @@
 //! Steps of seeks, each with its expected answer.
 
-use crate::steps::{DONE, Step, acted, hall, is_as_expected, lists_ahead, number_of};
+ghost use Rattle.lobby_state.specs.Acts.{FitsLobby};
+
+use crate::steps::{
+    DONE, Step, acted, carried_out, hall, is_as_expected, is_start, lists_ahead, number_of,
+};
 use chess_model::{Colour, Terms, Variant};
 use fics_words::{Fail, Line, NoMemory, Refusal};
 use lobby_state::{Lobby, LobbyAct, LobbyReply, PairAct, Plan, Var};
@@ -13,13 +17,6 @@ pub const WHITE: Terms = Terms {
     variant: Variant::Chess,
     colour: Some(Colour::White),
 };
-
-/// A list that a session asks for.
-#[derive(Clone, Copy)]
-enum Listing {
-    Sought,
-    Who,
-}
 
 /// A step: the session that makes it, what it does, and what it has to answer; where a number may be that of a refusal
 /// it stands last, and 0 for none.
@@ -71,8 +68,8 @@ fn answers(lobby: &mut Lobby, step: &Seeking) -> bool {
         Seeking::Unpost(session, number, refusal) => {
             unposting(lobby, *session, *number) == *refusal
         }
-        Seeking::Sought(session, rows) => tells(lobby, *session, Listing::Sought, rows),
-        Seeking::Who(session, rows) => tells(lobby, *session, Listing::Who, rows),
+        Seeking::Sought(session, rows) => tells(lobby, *session, &LobbyAct::Sought, rows),
+        Seeking::Who(session, rows) => tells(lobby, *session, &LobbyAct::Who, rows),
         Seeking::Outside(session) => is_outside(lobby, *session),
         Seeking::Ask(session, number, refusal) => playing(lobby, *session, *number) == *refusal,
         Seeking::Play(session, number, desk, serial, white) => {
@@ -117,11 +114,13 @@ fn turns_deaf(lobby: &mut Lobby, session: u32) -> bool {
 }
 
 /// Asks for a list, and says whether it is these lines, and those of which a copy was made before.
-fn tells(lobby: &mut Lobby, session: u32, listing: Listing, rows: &[&[u8]]) -> bool {
-    let Ok(ahead) = lists_ahead(lobby, session, &act_of(listing)) else {
+pub fn tells(lobby: &mut Lobby, session: u32, act: &LobbyAct, rows: &[&[u8]]) -> bool
+    requires { FitsLobby act.now }
+{
+    let Ok(ahead) = lists_ahead(lobby, session, act) else {
         return false;
     };
-    match made(lobby, session, listing) {
+    match acted(lobby, session, act) {
         Ok(LobbyReply::Lines(lines)) => lines == ahead.lines && are_rows(lines.as_slice(), rows),
         _ => false,
     }
@@ -139,25 +138,9 @@ fn are_rows(lines: &[Line], rows: &[&[u8]]) -> bool {
     true
 }
 
-fn act_of(listing: Listing) -> LobbyAct {
-    match listing {
-        Listing::Sought => LobbyAct::Sought,
-        Listing::Who => LobbyAct::Who,
-    }
-}
-
-/// Makes an act that asks for a list.
-fn made(lobby: &mut Lobby, session: u32, listing: Listing) -> Result<LobbyReply, Fail> {
-    match listing {
-        Listing::Sought => acted(lobby, session, &LobbyAct::Sought),
-        Listing::Who => acted(lobby, session, &LobbyAct::Who),
-    }
-}
-
 fn is_outside(lobby: &mut Lobby, session: u32) -> bool {
-    let first = made(lobby, session, Listing::Sought);
-    let second = made(lobby, session, Listing::Who);
-    number_of(&first) == 54 && number_of(&second) == 54
+    number_of(&acted(lobby, session, &LobbyAct::Sought)) == 54
+        && number_of(&acted(lobby, session, &LobbyAct::Who)) == 54
 }
 
 /// Asks for the plan of taking a seek.
@@ -181,17 +164,6 @@ pub fn plays(
     serial: u64,
     white: u32,
 ) -> bool {
-    let Ok(plan) = lobby.plan(session, &PairAct::Play(number)) else {
-        return false;
-    };
-    lobby.commit(&plan, false);
-    match plan {
-        Plan::Start {
-            desk: at,
-            serial: under,
-            seats,
-            ..
-        } => at == desk && under == serial && seats.first.white.session == white,
-        _ => false,
-    }
+    let plan = carried_out(lobby, session, &PairAct::Play(number), false);
+    is_start(&plan, desk, serial, white)
 }

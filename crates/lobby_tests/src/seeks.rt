@@ -53,15 +53,6 @@ const A_SEEK_GETS_THE_LEAST_NUMBER_STEPS: &[Seeking] = &[
     Seeking::Who(2, &[b"beN", b"Cid"]),
 ];
 
-#[test]
-fn a_seek_gets_the_least_number(rt: HostRuntime) -> Result<(), Fail> {
-    assert_eq!(rt;
-        first_failing_seek_anew(rt.alloc(), A_SEEK_GETS_THE_LEAST_NUMBER_STEPS)?,
-        None
-    );
-    Ok(())
-}
-
 const SEEKS_ARE_REFUSED_STEPS: &[Seeking] = &[
     ANN,
     BEN,
@@ -87,15 +78,6 @@ const SEEKS_ARE_REFUSED_STEPS: &[Seeking] = &[
     Seeking::Ask(4, 1, 33),
 ];
 
-#[test]
-fn seeks_are_refused(rt: HostRuntime) -> Result<(), Fail> {
-    assert_eq!(rt;
-        first_failing_seek_anew(rt.alloc(), SEEKS_ARE_REFUSED_STEPS)?,
-        None
-    );
-    Ok(())
-}
-
 const OTHERS_HEAR_OF_A_SEEK_STEPS: &[Seeking] = &[
     ANN,
     BEN,
@@ -120,15 +102,6 @@ const OTHERS_HEAR_OF_A_SEEK_STEPS: &[Seeking] = &[
     Seeking::Other(Step::Fetch(2, 1)),
 ];
 
-#[test]
-fn others_hear_of_a_seek(rt: HostRuntime) -> Result<(), Fail> {
-    assert_eq!(rt;
-        first_failing_seek_anew(rt.alloc(), OTHERS_HEAR_OF_A_SEEK_STEPS)?,
-        None
-    );
-    Ok(())
-}
-
 const A_SEEK_IS_TAKEN_STEPS: &[Seeking] = &[
     ANN,
     BEN,
@@ -152,11 +125,21 @@ const A_SEEK_IS_TAKEN_STEPS: &[Seeking] = &[
     Seeking::Other(Step::Desks(&[(1, 1), (2, 2)])),
 ];
 
+/// A name, and the steps of a lobby of its own.
+const CASES: &[(&str, &[Seeking])] = &[
+    (
+        "a_seek_gets_the_least_number",
+        A_SEEK_GETS_THE_LEAST_NUMBER_STEPS,
+    ),
+    ("seeks_are_refused", SEEKS_ARE_REFUSED_STEPS),
+    ("others_hear_of_a_seek", OTHERS_HEAR_OF_A_SEEK_STEPS),
+    ("a_seek_is_taken", A_SEEK_IS_TAKEN_STEPS),
+];
+
 #[test]
-fn a_seek_is_taken(rt: HostRuntime) -> Result<(), Fail> {
-    assert_eq!(rt;
-        first_failing_seek_anew(rt.alloc(), A_SEEK_IS_TAKEN_STEPS)?,
-        None
-    );
+fn seeks(rt: HostRuntime) -> Result<(), Fail> {
+    for (name, steps) in CASES {
+        assert_eq!(rt; first_failing_seek_anew(rt.alloc(), steps)?, None, "{name}");
+    }
     Ok(())
 }

@@ -2,7 +2,10 @@
 
 use crate::partner_steps::partnering;
 use crate::seek_steps::{playing, plays, posts};
-use crate::steps::{STRANGE, Step, acted, hall, is_as_expected, key_of, number_if_done};
+use crate::steps::{
+    CHESS, DONE, STRANGE, Step, acted, challenging, entering, hall, is_as_expected, key_of,
+    number_if_done, numbered, starts,
+};
 use chess_model::Terms;
 use fics_words::{Fail, NoMemory};
 use lobby_state::{Lobby, LobbyAct, LobbyReply};
@@ -29,12 +32,14 @@ pub enum Giving {
     Play(u32, u16, u8, u64, u32),
     /// Asks this player to be its partner.
     Pair(u32, [u8; 3], u8),
+    /// The 32 sessions from 1 on enter, and each plays the giver, who has this handle.
+    Plays32(u32, [u8; 3]),
     /// A step of another kind.
     Other(Step),
 }
 
 /// The place of the first step that answers otherwise, if one does.
-pub fn first_failing_simul(lobby: &mut Lobby, steps: &[Giving]) -> Option<usize> {
+fn first_failing_simul(lobby: &mut Lobby, steps: &[Giving]) -> Option<usize> {
     for (place, step) in steps.iter().enumerate() {
         if !answers(lobby, step) {
             return Some(place);
@@ -73,8 +78,27 @@ fn answers(lobby: &mut Lobby, step: &Giving) -> bool {
             plays(lobby, *session, *number, *desk, *serial, *white)
         }
         Giving::Pair(session, name, number) => partnering(lobby, *session, name) == *number,
+        Giving::Plays32(session, name) => plays_32(lobby, *session, name),
         Giving::Other(step) => is_as_expected(lobby, step),
     }
+}
+
+/// Whether 32 others enter, and each plays the giver.
+fn plays_32(lobby: &mut Lobby, giver: u32, letters: &[u8]) -> bool {
+    for n in 1..33u8 {
+        if !plays_giver(lobby, giver, letters, n) {
+            return false;
+        }
+    }
+    true
+}
+
+/// Whether a session enters, challenges the giver and plays it at the desk of its number.
+fn plays_giver(lobby: &mut Lobby, giver: u32, letters: &[u8], n: u8) -> bool {
+    let session = u32::from(n);
+    entering(lobby, session, &numbered(session)) == DONE
+        && challenging(lobby, session, letters, CHESS) == DONE
+        && starts(lobby, giver, n, u64::from(n), giver)
 }
 
 /// An act that names nobody: the number of its refusal.

@@ -3,13 +3,8 @@
 
 use crate::partner_steps::ASKED;
 use crate::seek_steps::WHITE;
-use crate::simul_steps::{Giving, first_failing_simul, first_failing_simul_anew};
-use crate::steps::{
-    CHESS, DONE, HOUSE, PAIRS, Step, challenging, entering, hall, numbered, starts,
-};
-use fics_words::NoMemory;
-use lobby_state::Lobby;
-use std::alloc::Global;
+use crate::simul_steps::{Giving, first_failing_simul_anew};
+use crate::steps::{CHESS, DONE, HOUSE, PAIRS, Step};
 use std::test::Fail;
 
 const ANN: Giving = Giving::Other(Step::Enter(1, *b"Ann", DONE));
@@ -78,15 +73,6 @@ const SIMULS_BEGIN_AND_END_STEPS: &[Giving] = &[
     Giving::Open(1, 33),
 ];
 
-#[test]
-fn simuls_begin_and_end(rt: HostRuntime) -> Result<(), Fail> {
-    assert_eq!(rt;
-        first_failing_simul_anew(rt.alloc(), SIMULS_BEGIN_AND_END_STEPS)?,
-        None
-    );
-    Ok(())
-}
-
 /// Ann gives; each of the eight challenges her, and she accepts.
 const EIGHT_BOARDS: &[Giving] = &[
     ANN,
@@ -117,10 +103,7 @@ const EIGHT_BOARDS: &[Giving] = &[
     Giving::Other(Step::Start(1, 8, 8, 1)),
     // each new board comes behind
     Giving::Other(Step::Seated(1, 8, 1, 0)),
-];
-
-/// Once round the circle, back over its seam, to boards by the players' names, and past a board that is gone.
-const ROUND_THE_CIRCLE: &[Giving] = &[
+    // once round the circle, back over its seam, to boards by the players' names, and past a board that is gone
     Giving::Next(1, DONE),
     Giving::Other(Step::Seated(1, 8, 2, 0)),
     Giving::Next(1, DONE),
@@ -160,20 +143,6 @@ const ROUND_THE_CIRCLE: &[Giving] = &[
     Giving::Other(Step::Seated(1, 6, 8, 0)),
 ];
 
-fn goes_round(alloc: Global) -> Result<bool, NoMemory> {
-    let mut lobby = hall(alloc)?;
-    Ok(
-        first_failing_simul(&mut lobby, EIGHT_BOARDS).is_none()
-            && first_failing_simul(&mut lobby, ROUND_THE_CIRCLE).is_none(),
-    )
-}
-
-#[test]
-fn a_giver_goes_round_eight_boards(rt: HostRuntime) -> Result<(), Fail> {
-    assert!(rt; goes_round(rt.alloc())?);
-    Ok(())
-}
-
 const A_GIVER_HAS_WHITE_STEPS: &[Giving] = &[
     ANN,
     BEN,
@@ -203,15 +172,6 @@ const A_GIVER_HAS_WHITE_STEPS: &[Giving] = &[
     Giving::Other(Step::Match(4, *b"Cid", CHESS, 33)),
     Giving::Other(Step::Match(3, *b"Dan", CHESS, 33)),
 ];
-
-#[test]
-fn a_giver_has_white(rt: HostRuntime) -> Result<(), Fail> {
-    assert_eq!(rt;
-        first_failing_simul_anew(rt.alloc(), A_GIVER_HAS_WHITE_STEPS)?,
-        None
-    );
-    Ok(())
-}
 
 const A_GIVERS_CHALLENGES_STAY_STEPS: &[Giving] = &[
     ANN,
@@ -248,15 +208,6 @@ const A_GIVERS_CHALLENGES_STAY_STEPS: &[Giving] = &[
     Giving::Other(Step::Ask(5, None, DONE)),
 ];
 
-#[test]
-fn a_givers_challenges_with_others_stay(rt: HostRuntime) -> Result<(), Fail> {
-    assert_eq!(rt;
-        first_failing_simul_anew(rt.alloc(), A_GIVERS_CHALLENGES_STAY_STEPS)?,
-        None
-    );
-    Ok(())
-}
-
 const A_GIVER_POSTS_NO_SEEK_STEPS: &[Giving] = &[
     ANN,
     BEN,
@@ -275,15 +226,6 @@ const A_GIVER_POSTS_NO_SEEK_STEPS: &[Giving] = &[
     Giving::AskSeek(3, 1, 30),
     Giving::Other(Step::Match(2, *b"Ann", PAIRS, 33)),
 ];
-
-#[test]
-fn a_giver_posts_no_seek(rt: HostRuntime) -> Result<(), Fail> {
-    assert_eq!(rt;
-        first_failing_simul_anew(rt.alloc(), A_GIVER_POSTS_NO_SEEK_STEPS)?,
-        None
-    );
-    Ok(())
-}
 
 const A_SIMUL_HAS_NO_GAME_OF_FOUR_STEPS: &[Giving] = &[
     ANN,
@@ -312,24 +254,13 @@ const A_SIMUL_HAS_NO_GAME_OF_FOUR_STEPS: &[Giving] = &[
     Giving::Other(Step::Seated(4, 1, 2, 3)),
 ];
 
-#[test]
-fn a_simul_has_no_game_of_four(rt: HostRuntime) -> Result<(), Fail> {
-    assert_eq!(rt;
-        first_failing_simul_anew(rt.alloc(), A_SIMUL_HAS_NO_GAME_OF_FOUR_STEPS)?,
-        None
-    );
-    Ok(())
-}
-
-const A_GIVER_COMES: &[Giving] = &[
+const A_SIMUL_HAS_32_BOARDS_STEPS: &[Giving] = &[
     Giving::Other(Step::Enter(0, *b"Zoe", DONE)),
     Giving::Other(Step::Enter(40, *b"Yan", DONE)),
     Giving::Other(Step::Enter(41, *b"Xia", DONE)),
     Giving::Open(0, DONE),
-];
-
-/// With 32 boards no other one comes, by a challenge nor by a seek, until one is gone.
-const A_FULL_SIMUL: &[Giving] = &[
+    Giving::Plays32(0, *b"Zoe"),
+    // with 32 boards no other one comes, by a challenge nor by a seek, until one is gone
     Giving::Other(Step::Seated(0, 32, 1, 0)),
     Giving::Other(Step::Match(40, *b"Zoe", CHESS, DONE)),
     Giving::Other(Step::Match(0, *b"Xia", CHESS, DONE)),
@@ -348,34 +279,31 @@ const A_FULL_SIMUL: &[Giving] = &[
     Giving::Other(Step::Seated(0, 32, 1, 0)),
 ];
 
-/// Whether 32 others enter, and each plays the giver.
-fn plays_32(lobby: &mut Lobby) -> bool {
-    for n in 1..33u8 {
-        let session = u32::from(n);
-        if entering(lobby, session, &numbered(session)) != DONE {
-            return false;
-        }
-        if challenging(lobby, session, b"Zoe", CHESS) != DONE {
-            return false;
-        }
-        if !starts(lobby, 0, n, u64::from(n), 0) {
-            return false;
-        }
-    }
-    true
-}
-
-fn fills_up(alloc: Global) -> Result<bool, NoMemory> {
-    let mut lobby = hall(alloc)?;
-    Ok(
-        first_failing_simul(&mut lobby, A_GIVER_COMES).is_none()
-            && plays_32(&mut lobby)
-            && first_failing_simul(&mut lobby, A_FULL_SIMUL).is_none(),
-    )
-}
+/// A name, and the steps of a lobby of its own.
+const CASES: &[(&str, &[Giving])] = &[
+    ("simuls_begin_and_end", SIMULS_BEGIN_AND_END_STEPS),
+    ("a_giver_goes_round_eight_boards", EIGHT_BOARDS),
+    ("a_giver_has_white", A_GIVER_HAS_WHITE_STEPS),
+    (
+        "a_givers_challenges_with_others_stay",
+        A_GIVERS_CHALLENGES_STAY_STEPS,
+    ),
+    ("a_giver_posts_no_seek", A_GIVER_POSTS_NO_SEEK_STEPS),
+    (
+        "a_simul_has_no_game_of_four",
+        A_SIMUL_HAS_NO_GAME_OF_FOUR_STEPS,
+    ),
+    ("a_simul_has_32_boards", A_SIMUL_HAS_32_BOARDS_STEPS),
+];
 
 #[test]
-fn a_simul_has_32_boards(rt: HostRuntime) -> Result<(), Fail> {
-    assert!(rt; fills_up(rt.alloc())?);
+fn simuls(rt: HostRuntime) -> Result<(), Fail> {
+    for (name, steps) in CASES {
+        assert_eq!(rt;
+            first_failing_simul_anew(rt.alloc(), steps)?,
+            None,
+            "{name}"
+        );
+    }
     Ok(())
 }

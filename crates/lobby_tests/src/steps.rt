@@ -60,6 +60,8 @@ pub enum Step {
     Desks(&'static [(u8, u64)]),
     Going(u32),
     Bye(u32),
+    /// Challenges so many times, and each time without a refusal.
+    MatchTimes(u32, [u8; 3], Terms, u32),
 }
 
 /// The place of the first step that answers otherwise, if one does.
@@ -99,6 +101,9 @@ pub fn is_as_expected(lobby: &mut Lobby, step: &Step) -> bool {
         Step::Desks(rows) => tells_desks(lobby, rows),
         Step::Going(session) => acted(lobby, *session, &LobbyAct::Going).is_ok(),
         Step::Bye(session) => acted(lobby, *session, &LobbyAct::Bye).is_ok(),
+        Step::MatchTimes(session, to, terms, times) => {
+            challenges_times(lobby, *session, to, *terms, *times)
+        }
     }
 }
 
@@ -173,6 +178,15 @@ pub fn challenging(lobby: &mut Lobby, session: u32, to: &[u8], terms: Terms) -> 
     number_if_done(&acted(lobby, session, &LobbyAct::Match { to, terms }))
 }
 
+fn challenges_times(lobby: &mut Lobby, session: u32, to: &[u8], terms: Terms, times: u32) -> bool {
+    for _ in 0..times {
+        if challenging(lobby, session, to, terms) != DONE {
+            return false;
+        }
+    }
+    true
+}
+
 /// The number of an answer that is Done, or a refusal.
 pub fn number_if_done(answer: &Result<LobbyReply, Fail>) -> u8 {
     match answer {
@@ -204,7 +218,7 @@ pub fn asking(lobby: &Lobby, session: u32, name: Option<[u8; 3]>) -> u8 {
 }
 
 /// Carries out the plan of an act, if it has one.
-fn carried_out(lobby: &mut Lobby, session: u32, act: &PairAct, cleared: bool) -> Option<Plan> {
+pub fn carried_out(lobby: &mut Lobby, session: u32, act: &PairAct, cleared: bool) -> Option<Plan> {
     if let PairAct::Clear { desk, .. } = act {
         if *desk < 1 || *desk > 128 {
             return None;
@@ -219,7 +233,13 @@ fn carried_out(lobby: &mut Lobby, session: u32, act: &PairAct, cleared: bool) ->
 
 /// Accepts the oldest challenge, and says whether this game starts.
 pub fn starts(lobby: &mut Lobby, session: u32, desk: u8, serial: u64, white: u32) -> bool {
-    match carried_out(lobby, session, &PairAct::Accept(None), false) {
+    let plan = carried_out(lobby, session, &PairAct::Accept(None), false);
+    is_start(&plan, desk, serial, white)
+}
+
+/// Whether the plan starts this game.
+pub fn is_start(plan: &Option<Plan>, desk: u8, serial: u64, white: u32) -> bool {
+    match plan {
         Some(
             Plan::Start {
                 desk: at,
@@ -227,7 +247,7 @@ pub fn starts(lobby: &mut Lobby, session: u32, desk: u8, serial: u64, white: u32
                 seats,
                 ..
             },
-        ) => at == desk && under == serial && seats.first.white.session == white,
+        ) => *at == desk && *under == serial && seats.first.white.session == white,
         _ => false,
     }
 }

@@ -18,9 +18,13 @@ pub enum Talk {
     Tell(u32, [u8; 3], &'static [u8], u8),
     /// Is heard by so many, or is refused: a refusal stands for its number and 1,000.
     Shout(u32, &'static [u8], u16),
+    /// Tells it so many times, and each time without a refusal.
+    TellTimes(u32, [u8; 3], &'static [u8], u32),
     Set(u32, Var, bool, u8),
     /// Joins a channel, or leaves it.
     Channel(u32, u8, bool, u8),
+    /// Joins each channel from this one to the last.
+    ChannelsFrom(u32, u8),
     /// Is heard by so many in the channel, or is refused: a refusal stands for its number and 1,000.
     TellChannel(u32, u8, &'static [u8], u16),
     /// So many are in the channel, the first of them with this handle, or it is refused as above.
@@ -31,7 +35,7 @@ pub enum Talk {
 }
 
 /// The place of the first step that answers otherwise, if one does.
-pub fn first_failing_talk(alloc: Global, lobby: &mut Lobby, steps: &[Talk]) -> Option<usize> {
+fn first_failing_talk(alloc: Global, lobby: &mut Lobby, steps: &[Talk]) -> Option<usize> {
     for (place, step) in steps.iter().enumerate() {
         if !answers(alloc, lobby, step) {
             return Some(place);
@@ -56,6 +60,10 @@ pub fn answers(alloc: Global, lobby: &mut Lobby, step: &Talk) -> bool {
         Talk::Channel(session, channel, on, number) => {
             joining(lobby, *session, *channel, *on) == *number
         }
+        Talk::TellTimes(session, to, text, times) => {
+            tells_times(alloc, lobby, *session, to, text, *times)
+        }
+        Talk::ChannelsFrom(session, first) => joins_from(lobby, *session, *first),
         Talk::TellChannel(session, channel, text, heard) => {
             telling_channel(alloc, lobby, *session, *channel, text) == *heard
         }
@@ -69,7 +77,7 @@ pub fn answers(alloc: Global, lobby: &mut Lobby, step: &Talk) -> bool {
 }
 
 /// Tells the player with this handle something.
-pub fn telling(alloc: Global, lobby: &mut Lobby, session: u32, to: &[u8], text: &[u8]) -> u8 {
+fn telling(alloc: Global, lobby: &mut Lobby, session: u32, to: &[u8], text: &[u8]) -> u8 {
     let Some(to) = key_of(to) else {
         return STRANGE;
     };
@@ -77,6 +85,22 @@ pub fn telling(alloc: Global, lobby: &mut Lobby, session: u32, to: &[u8], text: 
         return STRANGE;
     };
     number_if_told_one(&acted(lobby, session, &LobbyAct::Tell { to, text }))
+}
+
+fn tells_times(
+    alloc: Global,
+    lobby: &mut Lobby,
+    session: u32,
+    to: &[u8],
+    text: &[u8],
+    times: u32,
+) -> bool {
+    for _ in 0..times {
+        if telling(alloc, lobby, session, to, text) != DONE {
+            return false;
+        }
+    }
+    true
 }
 
 /// What is said, of 800 bytes at most.
@@ -115,8 +139,17 @@ fn shouting(alloc: Global, lobby: &mut Lobby, session: u32, text: &[u8]) -> u16 
 }
 
 /// Joins the channel, or leaves it.
-pub fn joining(lobby: &mut Lobby, session: u32, channel: u8, on: bool) -> u8 {
+fn joining(lobby: &mut Lobby, session: u32, channel: u8, on: bool) -> u8 {
     number_if_done(&acted(lobby, session, &LobbyAct::Channel { channel, on }))
+}
+
+fn joins_from(lobby: &mut Lobby, session: u32, first: u8) -> bool {
+    for channel in first..=255u8 {
+        if joining(lobby, session, channel, true) != DONE {
+            return false;
+        }
+    }
+    true
 }
 
 fn telling_channel(

@@ -1,11 +1,9 @@
 //! What members say to others: tells, shouts, challenges that are turned down or taken back, and the variables by
 //! which a member says what it wants others to send.
 
-use crate::steps::{CHESS, DONE, PAIRS, Step, hall};
-use crate::talk_steps::{Talk, first_failing_talk, first_failing_talk_anew, joining, telling};
-use fics_words::NoMemory;
-use lobby_state::{Lobby, Var};
-use std::alloc::Global;
+use crate::steps::{CHESS, DONE, PAIRS, Step};
+use crate::talk_steps::{Talk, first_failing_talk_anew};
+use lobby_state::Var;
 use std::test::Fail;
 
 const TELLS_STEPS: &[Talk] = &[
@@ -26,12 +24,6 @@ const TELLS_STEPS: &[Talk] = &[
     Talk::Other(Step::Fetch(2, 2)),
     Talk::Other(Step::Fetch(3, 0)),
 ];
-
-#[test]
-fn tells(rt: HostRuntime) -> Result<(), Fail> {
-    assert_eq!(rt; first_failing_talk_anew(rt.alloc(), TELLS_STEPS)?, None);
-    Ok(())
-}
 
 const SHOUTS_STEPS: &[Talk] = &[
     Talk::Other(Step::Enter(1, *b"Ann", DONE)),
@@ -57,12 +49,6 @@ const SHOUTS_STEPS: &[Talk] = &[
     Talk::Shout(1, b"again", 3),
     Talk::Other(Step::Line(3, 0, b"Ann shouts: again")),
 ];
-
-#[test]
-fn shouts(rt: HostRuntime) -> Result<(), Fail> {
-    assert_eq!(rt; first_failing_talk_anew(rt.alloc(), SHOUTS_STEPS)?, None);
-    Ok(())
-}
 
 const CHANNELS_STEPS: &[Talk] = &[
     Talk::Other(Step::Enter(1, *b"Cid", DONE)),
@@ -102,15 +88,10 @@ const CHANNELS_STEPS: &[Talk] = &[
     Talk::TellChannel(2, 4, b"anew", 1039),
 ];
 
-#[test]
-fn channels(rt: HostRuntime) -> Result<(), Fail> {
-    assert_eq!(rt; first_failing_talk_anew(rt.alloc(), CHANNELS_STEPS)?, None);
-    Ok(())
-}
-
-const TWENTY_CHANNELS_ARE_ALL_ANN: &[Talk] = &[Talk::Other(Step::Enter(1, *b"Ann", DONE))];
-
 const TWENTY_CHANNELS_ARE_ALL_STEPS: &[Talk] = &[
+    Talk::Other(Step::Enter(1, *b"Ann", DONE)),
+    // the last twenty channels
+    Talk::ChannelsFrom(1, 236),
     Talk::Channel(1, 255, true, 51),
     Talk::Channel(1, 0, true, 40),
     Talk::Channel(1, 240, false, DONE),
@@ -118,39 +99,12 @@ const TWENTY_CHANNELS_ARE_ALL_STEPS: &[Talk] = &[
     Talk::Channel(1, 240, true, 40),
 ];
 
-/// Whether Ann joins the last twenty channels.
-fn joins_twenty(lobby: &mut Lobby) -> bool {
-    for channel in 236..=255u8 {
-        if joining(lobby, 1, channel, true) != DONE {
-            return false;
-        }
-    }
-    true
-}
-
-fn has_twenty_channels(alloc: Global) -> Result<bool, NoMemory> {
-    let mut lobby = hall(alloc)?;
-    Ok(
-        first_failing_talk(alloc, &mut lobby, TWENTY_CHANNELS_ARE_ALL_ANN).is_none()
-            && joins_twenty(&mut lobby)
-            && first_failing_talk(alloc, &mut lobby, TWENTY_CHANNELS_ARE_ALL_STEPS).is_none(),
-    )
-}
-
-#[test]
-fn twenty_channels_are_all(rt: HostRuntime) -> Result<(), Fail> {
-    assert!(rt; has_twenty_channels(rt.alloc())?);
-    Ok(())
-}
-
-const A_FULL_QUEUE_IS_PASSED_OVER_THREE: &[Talk] = &[
+const A_FULL_QUEUE_IS_PASSED_OVER_STEPS: &[Talk] = &[
     Talk::Other(Step::Enter(1, *b"Ann", DONE)),
     Talk::Other(Step::Enter(2, *b"Ben", DONE)),
     Talk::Other(Step::Enter(3, *b"Cid", DONE)),
     Talk::Other(Step::Match(2, *b"Ann", CHESS, DONE)),
-];
-
-const A_FULL_QUEUE_IS_PASSED_OVER_STEPS: &[Talk] = &[
+    Talk::TellTimes(1, *b"Ben", b"hi", 511),
     Talk::Shout(1, b"room for one", 2),
     Talk::Shout(1, b"passed over", 1),
     Talk::Tell(1, *b"Zoe", b"hi", 32),
@@ -161,31 +115,6 @@ const A_FULL_QUEUE_IS_PASSED_OVER_STEPS: &[Talk] = &[
     Talk::Other(Step::Fetch(2, 512)),
     Talk::Shout(1, b"room again", 2),
 ];
-
-/// Whether Ben is told 511 times.
-fn tells_511_times(alloc: Global, lobby: &mut Lobby) -> bool {
-    for _ in 0..511u32 {
-        if telling(alloc, lobby, 1, b"Ben", b"hi") != DONE {
-            return false;
-        }
-    }
-    true
-}
-
-fn is_passed_over(alloc: Global) -> Result<bool, NoMemory> {
-    let mut lobby = hall(alloc)?;
-    Ok(
-        first_failing_talk(alloc, &mut lobby, A_FULL_QUEUE_IS_PASSED_OVER_THREE).is_none()
-            && tells_511_times(alloc, &mut lobby)
-            && first_failing_talk(alloc, &mut lobby, A_FULL_QUEUE_IS_PASSED_OVER_STEPS).is_none(),
-    )
-}
-
-#[test]
-fn a_full_queue_is_passed_over(rt: HostRuntime) -> Result<(), Fail> {
-    assert!(rt; is_passed_over(rt.alloc())?);
-    Ok(())
-}
 
 const CHALLENGES_ARE_TURNED_DOWN_STEPS: &[Talk] = &[
     Talk::Other(Step::Enter(1, *b"Ann", DONE)),
@@ -209,15 +138,6 @@ const CHALLENGES_ARE_TURNED_DOWN_STEPS: &[Talk] = &[
     Talk::Other(Step::Ask(3, Some(*b"Ben"), DONE)),
     Talk::Other(Step::Fetch(3, 3)),
 ];
-
-#[test]
-fn challenges_are_turned_down(rt: HostRuntime) -> Result<(), Fail> {
-    assert_eq!(rt;
-        first_failing_talk_anew(rt.alloc(), CHALLENGES_ARE_TURNED_DOWN_STEPS)?,
-        None
-    );
-    Ok(())
-}
 
 const CHALLENGES_ARE_TAKEN_BACK_STEPS: &[Talk] = &[
     Talk::Other(Step::Enter(1, *b"Ann", DONE)),
@@ -243,15 +163,6 @@ const CHALLENGES_ARE_TAKEN_BACK_STEPS: &[Talk] = &[
     Talk::Other(Step::Fetch(2, 2)),
 ];
 
-#[test]
-fn challenges_are_taken_back(rt: HostRuntime) -> Result<(), Fail> {
-    assert_eq!(rt;
-        first_failing_talk_anew(rt.alloc(), CHALLENGES_ARE_TAKEN_BACK_STEPS)?,
-        None
-    );
-    Ok(())
-}
-
 const WHO_IS_NOT_OPEN_REFUSES_STEPS: &[Talk] = &[
     Talk::Other(Step::Enter(1, *b"Ann", DONE)),
     Talk::Other(Step::Enter(2, *b"Ben", DONE)),
@@ -271,11 +182,28 @@ const WHO_IS_NOT_OPEN_REFUSES_STEPS: &[Talk] = &[
     Talk::Other(Step::Match(1, *b"Ben", CHESS, 33)),
 ];
 
+/// A name, and the steps of a lobby of its own.
+const CASES: &[(&str, &[Talk])] = &[
+    ("tells", TELLS_STEPS),
+    ("shouts", SHOUTS_STEPS),
+    ("channels", CHANNELS_STEPS),
+    ("twenty_channels_are_all", TWENTY_CHANNELS_ARE_ALL_STEPS),
+    (
+        "a_full_queue_is_passed_over",
+        A_FULL_QUEUE_IS_PASSED_OVER_STEPS,
+    ),
+    (
+        "challenges_are_turned_down",
+        CHALLENGES_ARE_TURNED_DOWN_STEPS,
+    ),
+    ("challenges_are_taken_back", CHALLENGES_ARE_TAKEN_BACK_STEPS),
+    ("who_is_not_open_refuses", WHO_IS_NOT_OPEN_REFUSES_STEPS),
+];
+
 #[test]
-fn who_is_not_open_refuses(rt: HostRuntime) -> Result<(), Fail> {
-    assert_eq!(rt;
-        first_failing_talk_anew(rt.alloc(), WHO_IS_NOT_OPEN_REFUSES_STEPS)?,
-        None
-    );
+fn members_talk(rt: HostRuntime) -> Result<(), Fail> {
+    for (name, steps) in CASES {
+        assert_eq!(rt; first_failing_talk_anew(rt.alloc(), steps)?, None, "{name}");
+    }
     Ok(())
 }

@@ -18,7 +18,7 @@ pub enum Reply {
 }
 
 /// What the lobby and a desk answer together.
-#[derive(Clone, Copy, PartialEq, Eq)]
+#[derive(Clone, Copy)]
 pub enum PairReply {
     /// A game has started.
     Started,

@@ -1,6 +1,6 @@
 //! `run` over the fakes: the command `board`, and words that name no command.
 
-use crate::running::{Case, Row, at_least_one, board, expect, first_wrong, outcome};
+use crate::running::{Case, Row, at_least_one, board, expect, expect_tables, outcome};
 use std::alloc::Global;
 use std::test::Fail;
 
@@ -31,17 +31,6 @@ const FIRST_MOVES: &[Row] = &[
         &[FIRST_MOVE],
     ),
 ];
-
-#[test]
-fn answers_the_first_move(rt: HostRuntime) -> Result<(), Fail> {
-    assert_eq!(rt; first_wrong(rt.alloc(), FIRST_MOVES)?, None);
-    Ok(())
-}
-
-#[test]
-fn writes_nothing_for_no_input(rt: HostRuntime) -> Result<(), Fail> {
-    expect(&rt, rt.alloc(), &board(b""), 0, "")
-}
 
 /// How a run of three words ends, and what it writes, where they are read in pieces of so many bytes.
 fn in_pieces(alloc: Global, bytes: usize) -> Result<(u8, Vec<u8>), Fail> {
@@ -79,12 +68,6 @@ const OUT_OF_REACH: &[Row] = &[Row(
     0,
     &["refused 9 CannotReach\n\r", FIRST_MOVE],
 )];
-
-#[test]
-fn refuses_a_square_out_of_reach(rt: HostRuntime) -> Result<(), Fail> {
-    assert_eq!(rt; first_wrong(rt.alloc(), OUT_OF_REACH)?, None);
-    Ok(())
-}
 
 #[test]
 fn refuses_to_move_a_pinned_knight(rt: HostRuntime) -> Result<(), Fail> {
@@ -137,12 +120,6 @@ const BAD_LINES: &[Row] = &[
         &["bad line 1\n\r"],
     ),
 ];
-
-#[test]
-fn stops_at_the_first_bad_line(rt: HostRuntime) -> Result<(), Fail> {
-    assert_eq!(rt; first_wrong(rt.alloc(), BAD_LINES)?, None);
-    Ok(())
-}
 
 /// Words of all forms: named men, castling, a drop in chess, marks.
 const WORDS: &str = "\
@@ -210,12 +187,6 @@ const CALLS: &[Row] = &[
     ),
 ];
 
-#[test]
-fn tells_how_it_is_called(rt: HostRuntime) -> Result<(), Fail> {
-    assert_eq!(rt; first_wrong(rt.alloc(), CALLS)?, None);
-    Ok(())
-}
-
 const FAULTS: &[Row] = &[
     Row(&["board"], b"e2e4\n", 5, &[0], &[], 2, &[]),
     Row(&["board"], b"e2e4\ne7e5\n", 7, &[1], &[], 2, &[FIRST_MOVE]),
@@ -223,10 +194,21 @@ const FAULTS: &[Row] = &[
     Row(&["demo"], b"", 1, &[], &[0], 3, &[]),
 ];
 
+const NO_INPUT: &[Row] = &[Row(&["board"], b"", 4_096, &[], &[], 0, &[])];
+
+/// The tables, each with what it shows.
+const TABLES: &[(&str, &[Row])] = &[
+    ("answers the first move", FIRST_MOVES),
+    ("writes nothing for no input", NO_INPUT),
+    ("refuses a square out of reach", OUT_OF_REACH),
+    ("stops at the first bad line", BAD_LINES),
+    ("tells how it is called", CALLS),
+    ("tells faults of reading and writing", FAULTS),
+];
+
 #[test]
-fn tells_faults_of_reading_and_writing(rt: HostRuntime) -> Result<(), Fail> {
-    assert_eq!(rt; first_wrong(rt.alloc(), FAULTS)?, None);
-    Ok(())
+fn runs_end_as_the_tables_say(rt: HostRuntime) -> Result<(), Fail> {
+    expect_tables(&rt, rt.alloc(), TABLES)
 }
 
 /// A first move, and a line of so many bytes before the next one.

@@ -4,7 +4,7 @@
 //! these half-moves. The short texts are the moves of the games' printed scores. Which word is refused, and why, was
 //! said by hand.
 
-use crate::running::{board, expect, outcome};
+use crate::running::{board, outcome};
 use std::alloc::Global;
 use std::process::Abort;
 use std::test::Fail;
@@ -151,7 +151,17 @@ e8f8|<12> rnbq-k-r -pppppbp -----np- p------- P------- -----NP- -PPPPPBP RNBQK--
 ";
 
 /// Feeds the words of a table and compares all that is written with its answers.
-fn expect_game(rt: &impl Abort, alloc: Global, table: &str) -> Result<(), Fail> {
+fn expect_game(rt: &impl Abort, alloc: Global, name: &str, table: &str) -> Result<(), Fail> {
+    let (words, answers) = cut_table(alloc, table)?;
+    assert!(rt; !answers.is_empty(), "{name}");
+    let (status, written) = outcome(alloc, &board(words.as_bytes()))?;
+    assert!(rt; status == 0, "{name}: status {status}");
+    assert!(rt; written.as_slice() == answers.as_bytes(), "{name}");
+    Ok(())
+}
+
+/// The words of a table, a line each, and its answers.
+fn cut_table(alloc: Global, table: &str) -> Result<(String, String), Fail> {
     let mut words = String::new(alloc);
     let mut answers = String::new(alloc);
     for row in table.lines() {
@@ -162,29 +172,27 @@ fn expect_game(rt: &impl Abort, alloc: Global, table: &str) -> Result<(), Fail> 
             answers.push_str("\n\r")?;
         }
     }
-    assert!(rt; !answers.is_empty());
-    expect(rt, alloc, &board(words.as_bytes()), 0, answers.as_str())
+    Ok((words, answers))
 }
 
-#[test]
-fn the_immortal_game(rt: HostRuntime) -> Result<(), Fail> {
-    expect_game(&rt, rt.alloc(), IMMORTAL)
-}
+const GAMES: &[(&str, &str)] = &[
+    ("the immortal game", IMMORTAL),
+    ("en passant", EN_PASSANT),
+    ("en passant too late", TOO_LATE),
+    ("a pinned knight", PINNED),
+    ("rights that do not come back", RIGHTS),
+];
 
 #[test]
-fn en_passant(rt: HostRuntime) -> Result<(), Fail> {
-    expect_game(&rt, rt.alloc(), EN_PASSANT)?;
-    expect_game(&rt, rt.alloc(), TOO_LATE)
+fn known_games_are_answered(rt: HostRuntime) -> Result<(), Fail> {
+    expect_games(&rt, rt.alloc())
 }
 
-#[test]
-fn a_pinned_knight(rt: HostRuntime) -> Result<(), Fail> {
-    expect_game(&rt, rt.alloc(), PINNED)
-}
-
-#[test]
-fn rights_that_do_not_come_back(rt: HostRuntime) -> Result<(), Fail> {
-    expect_game(&rt, rt.alloc(), RIGHTS)
+fn expect_games(rt: &impl Abort, alloc: Global) -> Result<(), Fail> {
+    for (name, table) in GAMES {
+        expect_game(rt, alloc, name, table)?;
+    }
+    Ok(())
 }
 
 /// 1,200 half-moves of knights, and then each word is refused.

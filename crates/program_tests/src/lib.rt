@@ -6,6 +6,8 @@ mod board_ends;
 #[cfg(test)]
 mod boards;
 #[cfg(test)]
+mod evenings;
+#[cfg(test)]
 mod known_games;
 #[cfg(test)]
 mod replay_aliases;

@@ -1,12 +1,9 @@
 //! `replay` over the fakes: a player's aliases. The case is written as those of `replays`, and what is written was said
 //! by the rules alone.
 
-use crate::replays::expect_rows;
-use std::test::Fail;
-
 /// An alias is made, used, replaced and taken away. Its name is compared exactly, and a line is replaced once: in the
 /// text of `y` the word `x` is no alias.
-const ALIASES: &str = "\
+pub(crate) const ALIASES: &str = "\
 0 1 +
   1|Free Internet Chess Server profile
   1|login:\x20
@@ -53,8 +50,3 @@ const ALIASES: &str = "\
   1|refused 26 Unknown
   1|fics%\x20\
 ";
-
-#[test]
-fn replays_aliases(rt: HostRuntime) -> Result<(), Fail> {
-    expect_rows(&rt, rt.alloc(), "aliases", 0, ALIASES)
-}

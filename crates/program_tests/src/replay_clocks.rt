@@ -1,8 +1,5 @@
 //! `replay` over the fakes: clocks and flags. The cases are written as those of `replays`.
 
-use crate::replays::expect_rows;
-use std::test::Fail;
-
 /// The flag is called on a player who hasn't moved, then a millisecond too early, then in time.
 const FLAG_WINS: &str = "\
 seat Ann Ben 1 0 chess
@@ -303,22 +300,14 @@ seat Ann Ben 600 600 chess
   2|fics%\x20\
 ";
 
-/// Games: what they show, the status with which the run ends, and the script with what is written.
-const CLOCKS: &[(&str, u8, &str)] = &[
-    ("a flag that wins", 0, FLAG_WINS),
-    ("a flag on a player who is not to move", 0, FLAG_ON_WHITE),
-    ("both clocks have fallen, by White", 0, FLAG_DRAWS),
-    ("both clocks have fallen, by Black", 0, FLAG_DRAWS_BLACK),
-    ("untimed", 0, UNTIMED),
-    ("no minutes", 0, NO_MINUTES),
-    ("thoughts of minutes and hours", 0, LONG_THOUGHT),
-    ("the longest thought", 0, LONGEST),
+/// Games: what they show, and the script with what is written.
+pub(crate) const CLOCKS: &[(&str, &str)] = &[
+    ("a flag that wins", FLAG_WINS),
+    ("a flag on a player who is not to move", FLAG_ON_WHITE),
+    ("both clocks have fallen, by White", FLAG_DRAWS),
+    ("both clocks have fallen, by Black", FLAG_DRAWS_BLACK),
+    ("untimed", UNTIMED),
+    ("no minutes", NO_MINUTES),
+    ("thoughts of minutes and hours", LONG_THOUGHT),
+    ("the longest thought", LONGEST),
 ];
-
-#[test]
-fn replays_clocks(rt: HostRuntime) -> Result<(), Fail> {
-    for (name, status, rows) in CLOCKS {
-        expect_rows(&rt, rt.alloc(), name, *status, rows)?;
-    }
-    Ok(())
-}

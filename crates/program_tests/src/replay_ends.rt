@@ -1,7 +1,7 @@
 //! `replay` over the fakes: where a script is outside the grammar, and the statuses of a run.
 
 use crate::replays::{NEWS, RESIGNED, expect_text, replay, script_of, text_within};
-use crate::running::{Case, Row, at_least_one, first_wrong};
+use crate::running::{Case, Row, at_least_one, expect_tables};
 use std::alloc::Global;
 use std::test::Fail;
 
@@ -295,12 +295,6 @@ fn tells_a_fault_of_writing_a_transcript(rt: HostRuntime) -> Result<(), Fail> {
 
 const FAULT_AT_A_BAD_LINE: &[Row] = &[Row(&["replay"], b"\nhello\n", 3, &[], &[0], 3, &[])];
 
-#[test]
-fn tells_a_fault_of_writing_a_bad_line(rt: HostRuntime) -> Result<(), Fail> {
-    assert_eq!(rt; first_wrong(rt.alloc(), FAULT_AT_A_BAD_LINE)?, None);
-    Ok(())
-}
-
 const USAGE: &str = "usage: ficsd board, replay, demo N, check --store PATH, serve --port P\n";
 
 const GAME: &[u8] = b"seat Ann Ben 2 12 chess\n3000 1 > e2e4\n";
@@ -315,8 +309,13 @@ const CALLS: &[Row] = &[
     Row(&["--replay"], GAME, 1, &[], &[], 1, &[USAGE]),
 ];
 
+/// The tables, each with what it shows.
+const TABLES: &[(&str, &[Row])] = &[
+    ("tells a fault of writing a bad line", FAULT_AT_A_BAD_LINE),
+    ("replay takes no words", CALLS),
+];
+
 #[test]
-fn replay_takes_no_words(rt: HostRuntime) -> Result<(), Fail> {
-    assert_eq!(rt; first_wrong(rt.alloc(), CALLS)?, None);
-    Ok(())
+fn runs_end_as_the_tables_say(rt: HostRuntime) -> Result<(), Fail> {
+    expect_tables(&rt, rt.alloc(), TABLES)
 }

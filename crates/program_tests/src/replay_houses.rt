@@ -1,9 +1,6 @@
 //! `replay` over the fakes: crazyhouse, with the men in hand. The cases are written as those of `replays`, and what is
 //! written was said by the rules alone.
 
-use crate::replays::expect_rows;
-use std::test::Fail;
-
 /// A pawn is captured and dropped again; before that, words for drops that the rules refuse. Neither a quiet move nor
 /// a refusal tells of the hands.
 const DROPS: &str = "\
@@ -114,15 +111,7 @@ seat Ann Ben 2 0 crazyhouse
 ";
 
 /// Games: what they show, and the script with what is written.
-const HOUSES: &[(&str, &str)] = &[
+pub(crate) const HOUSES: &[(&str, &str)] = &[
     ("drops and words for them", DROPS),
     ("a promoted man", PROMOTED),
 ];
-
-#[test]
-fn replays_crazyhouse(rt: HostRuntime) -> Result<(), Fail> {
-    for (name, rows) in HOUSES {
-        expect_rows(&rt, rt.alloc(), name, 0, rows)?;
-    }
-    Ok(())
-}

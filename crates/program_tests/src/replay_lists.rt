@@ -1,12 +1,9 @@
 //! `replay` over the fakes: the lists of names of players, and the lists of challenges and games. The case is written
 //! as those of `replays`, and what is written was said by the rules alone.
 
-use crate::replays::expect_rows;
-use std::test::Fail;
-
 /// Ben keeps Ann away by one list and then by the other; challenges are listed; a game is listed until both players have
 /// heard of its end; and a list goes with its member.
-const LISTS: &str = "\
+pub(crate) const LISTS: &str = "\
 0 1 +
   1|Free Internet Chess Server profile
   1|login:\x20
@@ -147,8 +144,3 @@ const LISTS: &str = "\
   3|(told 1)
   3|fics%\x20\
 ";
-
-#[test]
-fn replays_lists(rt: HostRuntime) -> Result<(), Fail> {
-    expect_rows(&rt, rt.alloc(), "lists", 0, LISTS)
-}

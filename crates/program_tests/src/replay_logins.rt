@@ -1,7 +1,7 @@
 //! `replay` over the fakes: sessions that connect, log in, and leave. The cases are written as those of `replays`, and
 //! what is written was said by the rules alone.
 
-use crate::replays::{expect_rows, expect_text, replay, script_of, text_within};
+use crate::replays::{expect_text, replay, script_of, text_within};
 use std::test::Fail;
 
 /// A handle with an account is asked for its password.
@@ -261,7 +261,7 @@ const BAD: &[&str] = &[
 ];
 
 /// What scripts show, and the scripts with what is written.
-const SESSIONS: &[(&str, &str)] = &[
+pub(crate) const SESSIONS: &[(&str, &str)] = &[
     ("logins", LOGINS),
     ("passwords with blanks", BLANKS),
     ("guests", GUESTS),
@@ -269,14 +269,6 @@ const SESSIONS: &[(&str, &str)] = &[
     ("a link that ends", CUT),
     ("stamps", STAMPED),
 ];
-
-#[test]
-fn replays_sessions(rt: HostRuntime) -> Result<(), Fail> {
-    for (name, rows) in SESSIONS {
-        expect_rows(&rt, rt.alloc(), name, 0, rows)?;
-    }
-    Ok(())
-}
 
 #[test]
 fn nothing_comes_from_a_session_that_is_gone(rt: HostRuntime) -> Result<(), Fail> {

@@ -1,9 +1,6 @@
 //! `replay` over the fakes: offers at a desk. The cases are written as those of `replays`, and what is written was said
 //! by the rules alone.
 
-use crate::replays::expect_rows;
-use std::test::Fail;
-
 /// White offers a draw after its move, twice, and would accept its own offer; Black accepts it.
 const AGREED: &str = "\
 seat Ann Ben 2 0 chess
@@ -330,7 +327,7 @@ seat Ann Ben 2 0 chess
 ";
 
 /// Games: what they show, and the script with what is written.
-const GAMES: &[(&str, &str)] = &[
+pub(crate) const OFFERED: &[(&str, &str)] = &[
     ("a draw that is agreed", AGREED),
     ("a draw declined, and an abort", ABORTED),
     ("an offer before a move", GONE),
@@ -339,11 +336,3 @@ const GAMES: &[(&str, &str)] = &[
     ("castlings taken back", CASTLED),
     ("a promotion taken back in crazyhouse", HOUSE),
 ];
-
-#[test]
-fn replays_offers(rt: HostRuntime) -> Result<(), Fail> {
-    for (name, rows) in GAMES {
-        expect_rows(&rt, rt.alloc(), name, 0, rows)?;
-    }
-    Ok(())
-}

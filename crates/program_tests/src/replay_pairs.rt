@@ -1,9 +1,6 @@
 //! `replay` over the fakes: bughouse at two boards. The cases are written as those of `replays`, and what is written was
 //! said by the rules alone.
 
-use crate::replays::expect_rows;
-use std::test::Fail;
-
 /// White of the first board captures a pawn, which comes into the hand of Black of the second.
 const CAPTURED: &str = "\
 seat Ann Ben Cat Dan 2 0 bughouse
@@ -132,16 +129,8 @@ seat Ann Ben Cat Dan 2 0 bughouse
 ";
 
 /// Games: what they show, and the script with what is written.
-const PAIRS: &[(&str, &str)] = &[
-    ("a capture", CAPTURED),
-    ("a promoted man", HANDED_OVER),
-    ("an end", ENDED),
+pub(crate) const PAIRS: &[(&str, &str)] = &[
+    ("a capture at a pair", CAPTURED),
+    ("a promoted man of a pair", HANDED_OVER),
+    ("an end at a pair", ENDED),
 ];
-
-#[test]
-fn replays_bughouse(rt: HostRuntime) -> Result<(), Fail> {
-    for (name, rows) in PAIRS {
-        expect_rows(&rt, rt.alloc(), name, 0, rows)?;
-    }
-    Ok(())
-}

@@ -1,10 +1,7 @@
 //! `replay` over the fakes: what a guest alone in the hall is refused, and what it may do. The case is written as those
 //! of `replays`, and what is written was said by the rules alone.
 
-use crate::replays::expect_rows;
-use std::test::Fail;
-
-const ALONE: &str = "\
+pub(crate) const ALONE: &str = "\
 0 1 +
   1|Free Internet Chess Server profile
   1|login:\x20
@@ -66,8 +63,3 @@ const ALONE: &str = "\
   1|none
   1|fics%\x20\
 ";
-
-#[test]
-fn a_guest_alone_is_refused(rt: HostRuntime) -> Result<(), Fail> {
-    expect_rows(&rt, rt.alloc(), "alone", 0, ALONE)
-}

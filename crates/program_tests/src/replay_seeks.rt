@@ -1,11 +1,8 @@
 //! `replay` over the fakes: seeks. The cases are written as those of `replays`, and what is written was said by the rules
 //! alone.
 
-use crate::replays::expect_rows;
-use std::test::Fail;
-
 /// Alice seeks a game and asks for White, and Bob takes the seek.
-const SOUGHT: &str = "\
+pub(crate) const SOUGHT: &str = "\
 0 1 +
   1|Free Internet Chess Server profile
   1|login:\x20
@@ -51,8 +48,3 @@ const SOUGHT: &str = "\
 9500 1 > quit
   1|Goodbye.\
 ";
-
-#[test]
-fn replays_seeks(rt: HostRuntime) -> Result<(), Fail> {
-    expect_rows(&rt, rt.alloc(), "seeks", 0, SOUGHT)
-}

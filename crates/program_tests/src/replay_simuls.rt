@@ -1,13 +1,10 @@
 //! `replay` over the fakes: one player against three. The case is written as those of `replays`, and what is written was
 //! said by the rules alone.
 
-use crate::replays::expect_rows;
-use std::test::Fail;
-
 /// Ann gives a simul to Ben, Cid and Dan, whatever colours they name. After each half-move that is accepted she is at the
 /// next place, and after a refused one at the same; she turns over the places, and goes to one by its player. A game of
 /// which she has seen the end is a place no longer; with one place left she gives no simul any more.
-const THREE: &str = "\
+pub(crate) const THREE: &str = "\
 0 1 +
   1|Free Internet Chess Server profile
   1|login:\x20
@@ -190,8 +187,3 @@ const THREE: &str = "\
   1|<12> rnbqkbnr ppp--ppp ----p--- ---p---- --PP---- --N----- PP--PPPP R-BQKBNR B -1 1 1 1 1 1 3 Ann Cid -1 5 0 39 39 300 300 3 N/b1-c3 (0:00) Nc3 0
   1|fics%\x20\
 ";
-
-#[test]
-fn replays_a_simul(rt: HostRuntime) -> Result<(), Fail> {
-    expect_rows(&rt, rt.alloc(), "a simul", 0, THREE)
-}

@@ -1,9 +1,6 @@
 //! `replay` over the fakes: games over two stamped links. The cases are written as those of `replays`; clocks were
 //! worked out by hand.
 
-use crate::replays::expect_rows;
-use std::test::Fail;
-
 /// Eight half-moves at two minutes and twelve seconds. A charge runs from the half-move before it; where the player
 /// acknowledged that one, it is at most what passed on the player's own clock since then, and of several
 /// acknowledgements the last one counts. The first half-move of a colour is charged nothing, and each charge comes with
@@ -123,15 +120,7 @@ seat Ann Ben 2 12 chess
 ";
 
 /// What scripts show, and the scripts with what is written.
-const STAMPED: &[(&str, &str)] = &[
+pub(crate) const STAMPED: &[(&str, &str)] = &[
     ("eight half-moves", EIGHT),
     ("less by the client", LESS_BY_THE_CLIENT),
 ];
-
-#[test]
-fn replays_stamped_games(rt: HostRuntime) -> Result<(), Fail> {
-    for (name, rows) in STAMPED {
-        expect_rows(&rt, rt.alloc(), name, 0, rows)?;
-    }
-    Ok(())
-}

@@ -1,12 +1,9 @@
 //! `replay` over the fakes: players who talk to one another and turn challenges down. The cases are written as those of
 //! `replays`, and what is written was said by the rules alone.
 
-use crate::replays::expect_rows;
-use std::test::Fail;
-
 /// Three players in the hall: tells, a shout that one of them doesn't want to hear, a challenge that is turned down and
 /// one that is taken back.
-const TALK: &str = "\
+pub(crate) const TALK: &str = "\
 0 1 +
   1|Free Internet Chess Server profile
   1|login:\x20
@@ -106,8 +103,3 @@ const TALK: &str = "\
   2|refused 39 NotInChannel
   2|fics%\x20
 ";
-
-#[test]
-fn replays_talk(rt: HostRuntime) -> Result<(), Fail> {
-    expect_rows(&rt, rt.alloc(), "talk", 0, TALK)
-}

@@ -1,9 +1,6 @@
 //! `replay` over the fakes: people who look on at games and say something about them. The cases are written as those
 //! of `replays`, and what is written was said by the rules alone.
 
-use crate::replays::expect_rows;
-use std::test::Fail;
-
 /// Cat looks on at the game of Ann and Ben by its number and by a player, goes and comes again, has boards printed in
 /// both styles, and comes once more after the end.
 const WATCHED: &str = "\
@@ -219,16 +216,8 @@ seat Ann Ben 0 0 crazyhouse
 ";
 
 /// Games: what they show, and the script with what is written.
-const GAMES: &[(&str, &str)] = &[
+pub(crate) const OBSERVED: &[(&str, &str)] = &[
     ("watched", WATCHED),
     ("a draw watched", DRAWN),
     ("crazyhouse watched", HOUSE),
 ];
-
-#[test]
-fn replays_watching(rt: HostRuntime) -> Result<(), Fail> {
-    for (name, rows) in GAMES {
-        expect_rows(&rt, rt.alloc(), name, 0, rows)?;
-    }
-    Ok(())
-}

@@ -391,17 +391,17 @@ const LAST_OF_1200: &str = "\
 2|fics%\x20
 ";
 
-/// Games: what they show, the status with which the run ends, and the script with what is written.
-const GAMES: &[(&str, u8, &str)] = &[
-    ("resigned with clocks", 0, RESIGNED),
-    ("resigned before a move", 0, RESIGNED_AT_ONCE),
-    ("quiets and empty texts", 0, NEWS),
-    ("one player alone", 0, UNSEEN),
-    ("refused words", 0, REFUSED),
-    ("words after the end", 0, ENDED),
-    ("resigned by both", 0, ENDED_TWICE),
-    ("a king that came back", 0, KING_BACK),
-    ("a pawn and its last step", 0, PROMOTION),
+/// Games: what they show, and the script with what is written.
+pub(crate) const GAMES: &[(&str, &str)] = &[
+    ("resigned with clocks", RESIGNED),
+    ("resigned before a move", RESIGNED_AT_ONCE),
+    ("quiets and empty texts", NEWS),
+    ("one player alone", UNSEEN),
+    ("refused words", REFUSED),
+    ("words after the end", ENDED),
+    ("resigned by both", ENDED_TWICE),
+    ("a king that came back", KING_BACK),
+    ("a pawn and its last step", PROMOTION),
 ];
 
 /// `replay` over a script that is read whole.
@@ -477,37 +477,24 @@ pub(crate) fn expect_rows(
     rt: &impl Abort,
     alloc: Global,
     name: &str,
-    status: u8,
     rows: &str,
 ) -> Result<(), Fail> {
     let script = script_of(alloc, rows)?;
     let text = text_within(alloc, rows, script.len())?;
-    let whole = script.as_str();
-    expect_text(
-        rt,
-        alloc,
-        name,
-        &replay(whole.as_bytes()),
-        status,
-        text.as_str(),
-    )?;
-    let unended = whole.strip_suffix('\n').ok_or("a last line")?;
-    expect_text(
-        rt,
-        alloc,
-        name,
-        &replay(unended.as_bytes()),
-        status,
-        text.as_str(),
-    )
+    expect_both(rt, alloc, name, script.as_str(), text.as_str())
 }
 
-#[test]
-fn replays_games(rt: HostRuntime) -> Result<(), Fail> {
-    for (name, status, rows) in GAMES {
-        expect_rows(&rt, rt.alloc(), name, *status, rows)?;
-    }
-    Ok(())
+/// Runs a script as it stands, and without its last line feed.
+fn expect_both(
+    rt: &impl Abort,
+    alloc: Global,
+    name: &str,
+    script: &str,
+    text: &str,
+) -> Result<(), Fail> {
+    expect_text(rt, alloc, name, &replay(script.as_bytes()), 0, text)?;
+    let unended = script.strip_suffix('\n').ok_or("a last line")?;
+    expect_text(rt, alloc, name, &replay(unended.as_bytes()), 0, text)
 }
 
 /// 1,200 half-moves of knights. Then White's words are refused, and Black's come out of turn.

@@ -80,8 +80,20 @@ pub(crate) struct Row(
     pub(crate) &'static [&'static str],
 );
 
+/// Compares how the runs of each row end with what the row says.
+pub(crate) fn expect_tables(
+    rt: &impl Abort,
+    alloc: Global,
+    tables: &[(&str, &[Row])],
+) -> Result<(), Fail> {
+    for (name, rows) in tables {
+        assert_eq!(rt; first_wrong(alloc, rows)?, None, "{name}");
+    }
+    Ok(())
+}
+
 /// The place of the first row that ends otherwise or is answered by another text, if one is.
-pub(crate) fn first_wrong(alloc: Global, rows: &[Row]) -> Result<Option<usize>, Fail> {
+fn first_wrong(alloc: Global, rows: &[Row]) -> Result<Option<usize>, Fail> {
     for (place, row) in rows.iter().enumerate() {
         if !is_as_said(alloc, row)? {
             return Ok(Some(place));

@@ -9,16 +9,25 @@ fn square_of(file: u8, rank: u8) -> Option<Square> {
     Some(Square::on(file - b'a', rank - b'1'))
 }
 
+/// The letters of the kinds.
+const KINDS: &[(u8, Kind)] = &[
+    (b'P', Kind::Pawn),
+    (b'N', Kind::Knight),
+    (b'B', Kind::Bishop),
+    (b'R', Kind::Rook),
+    (b'Q', Kind::Queen),
+    (b'K', Kind::King),
+];
+
+/// The kind of a letter, large or small.
 fn kind_of(letter: u8) -> Option<Kind> {
-    match letter {
-        b'P' | b'p' => Some(Kind::Pawn),
-        b'N' | b'n' => Some(Kind::Knight),
-        b'B' | b'b' => Some(Kind::Bishop),
-        b'R' | b'r' => Some(Kind::Rook),
-        b'Q' | b'q' => Some(Kind::Queen),
-        b'K' | b'k' => Some(Kind::King),
-        _ => None,
+    let large = letter.to_ascii_uppercase();
+    for (of, kind) in KINDS {
+        if large == *of {
+            return Some(*kind);
+        }
     }
+    None
 }
 
 pub fn word_of(text: &[u8]) -> Option<MoveWord> {

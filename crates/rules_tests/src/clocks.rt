@@ -70,17 +70,17 @@ fn new_clock(alloc: Global, minutes: u16, increment: u16) -> Result<ClockLedger,
     Ok(ClockLedger::start(alloc, minutes, increment)?)
 }
 
-/// Whether there are clocks, and what this one shows.
-fn shown(clock: &ClockLedger) -> (bool, i64) {
-    (clock.timed(), clock.remaining())
+/// Whether there are clocks with these terms, and what they show at the start.
+fn shown(alloc: Global, minutes: u16, increment: u16) -> Result<(bool, i64), Fail> {
+    let clock = new_clock(alloc, minutes, increment)?;
+    Ok((clock.timed(), clock.remaining()))
 }
 
 #[test]
 fn the_start_follows_the_terms(rt: HostRuntime) -> Result<(), Fail> {
     for (minutes, increment, timed, remaining) in STARTS {
-        let clock = new_clock(rt.alloc(), *minutes, *increment)?;
         assert!(rt;
-            shown(&clock) == (*timed, *remaining),
+            shown(rt.alloc(), *minutes, *increment)? == (*timed, *remaining),
             "at {minutes} {increment}"
         );
     }
@@ -160,35 +160,57 @@ fn first_wrong(clock: &mut ClockLedger, steps: &[Step]) -> Option<usize> {
     None
 }
 
-const CHARGED: &[Step] = &[
-    Charges(5_000, 9_000, None),
-    Shows(128_000, 1),
-    Charges(9_500, 19_500, Some((1_000, 1_250))),
-    Shows(139_750, 2),
-    Backs,
-    Shows(128_000, 1),
-    Backs,
-    Shows(120_000, 0),
-];
-
-/// Two minutes, twelve seconds for each charge: 120,000 + 12,000 - 4,000, and all back with a takeback.
-#[test]
-fn a_charge_gives_the_increment_and_takes_its_amount(rt: HostRuntime) -> Result<(), Fail> {
-    let mut clock = new_clock(rt.alloc(), 2, 12)?;
-    assert_eq!(rt; first_wrong(&mut clock, CHARGED), None);
-    Ok(())
+/// A clock with these minutes and this increment.
+struct Case {
+    name: &'static str,
+    minutes: u16,
+    increment: u16,
+    steps: &'static [Step],
 }
 
-const BELOW: &[Step] = &[Charges(1_000, 62_500, None), Shows(-1_500, 1)];
+const CASES: &[Case] = &[
+    // 120,000 + 12,000 - 4,000, and all back with a takeback
+    Case {
+        name: "a_charge_gives_the_increment_and_takes_its_amount",
+        minutes: 2,
+        increment: 12,
+        steps: &[
+            Charges(5_000, 9_000, None),
+            Shows(128_000, 1),
+            Charges(9_500, 19_500, Some((1_000, 1_250))),
+            Shows(139_750, 2),
+            Backs,
+            Shows(128_000, 1),
+            Backs,
+            Shows(120_000, 0),
+        ],
+    },
+    // a minute and no increment, and 61.5 seconds of thought
+    Case {
+        name: "a_clock_goes_below_zero",
+        minutes: 1,
+        increment: 0,
+        steps: &[Charges(1_000, 62_500, None), Shows(-1_500, 1)],
+    },
+    // without clocks the same thought takes nothing
+    Case {
+        name: "an_untimed_clock_stays_at_zero",
+        minutes: 0,
+        increment: 0,
+        steps: &[Charges(1_000, 62_500, None), Shows(0, 1)],
+    },
+];
 
-const UNTIMED: &[Step] = &[Charges(1_000, 62_500, None), Shows(0, 1)];
+/// The place of the first step of a case that isn't as it has to be, if one isn't.
+fn first_wrong_of(alloc: Global, case: &Case) -> Result<Option<usize>, Fail> {
+    let mut clock = new_clock(alloc, case.minutes, case.increment)?;
+    Ok(first_wrong(&mut clock, case.steps))
+}
 
-/// A minute and no increment, and 61.5 seconds of thought; without clocks the same thought takes nothing.
 #[test]
-fn a_clock_goes_below_zero(rt: HostRuntime) -> Result<(), Fail> {
-    let mut clock = new_clock(rt.alloc(), 1, 0)?;
-    assert_eq!(rt; first_wrong(&mut clock, BELOW), None);
-    let mut untimed = new_clock(rt.alloc(), 0, 0)?;
-    assert_eq!(rt; first_wrong(&mut untimed, UNTIMED), None);
+fn clocks_are_charged(rt: HostRuntime) -> Result<(), Fail> {
+    for case in CASES {
+        assert_eq!(rt; first_wrong_of(rt.alloc(), case)?, None, "{}", case.name);
+    }
     Ok(())
 }

@@ -61,12 +61,12 @@ pub fn play_next(
 
 /// A second after the last half-move.
 fn a_second_on(board: &GameBoard) -> u64 {
-    board.begin() + 1_000
+    board.begin().saturating_add(1_000)
 }
 
 /// The first of these words that isn't played, if one isn't. The colours play them in turn, the first at `begin` and
 /// each a second after the one before.
-fn first_unplayed<'a>(board: &mut GameBoard, words: &'a str) -> Option<&'a str> {
+pub fn first_unplayed<'a>(board: &mut GameBoard, words: &'a str) -> Option<&'a str> {
     for word in words.split_whitespace() {
         let moment = a_second_on(board);
         if play_next(board, moment, word, None).is_err() {

@@ -141,9 +141,20 @@ fn takes_what_follows(rt: HostRuntime) -> Result<(), Fail> {
 /// What is captured is told.
 #[test]
 fn puts_a_capture(rt: HostRuntime) -> Result<(), Fail> {
-    let mut board = board_after(&rt, rt.alloc(), terms(0, 0, Variant::Chess), "e2e4 d7d5")?;
-    assert!(rt; put_uncharged(&mut board, 28, 35)? == PAWN);
+    assert!(rt; captured(&rt, rt.alloc(), "e2e4 d7d5", 28, 35)? == PAWN);
     Ok(())
+}
+
+/// What a move between two squares captures after these half-moves of an untimed game.
+fn captured(
+    rt: &impl Abort,
+    alloc: Global,
+    words: &str,
+    from: u8,
+    to: u8,
+) -> Result<Option<Man>, Fail> {
+    let mut board = board_after(rt, alloc, terms(0, 0, Variant::Chess), words)?;
+    put_uncharged(&mut board, from, to)
 }
 
 /// A pawn of Black's.

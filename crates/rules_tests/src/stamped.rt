@@ -5,6 +5,7 @@ use chess_model::{Colour, Variant};
 use clock_ledger::{Charge, STAMP_CYCLE};
 use game_board::GameBoard;
 use std::alloc::Global;
+use std::process::Abort;
 use std::test::Fail;
 
 /// What comes to a board.
@@ -94,9 +95,9 @@ fn last_charge(board: &GameBoard) -> Option<Option<Charge>> {
 }
 
 /// The place of the first row whose last charge is another one, if one is.
-fn first_wrong(alloc: Global, rows: &[Row], begin: u64, end: u64) -> Result<Option<usize>, Fail> {
-    for (place, row) in rows.iter().enumerate() {
-        if !is_charged(alloc, row, begin, end)? {
+fn first_wrong(alloc: Global, case: &Case) -> Result<Option<usize>, Fail> {
+    for (place, row) in case.rows.iter().enumerate() {
+        if !is_charged(alloc, row, case.begin, case.end)? {
             return Ok(Some(place));
         }
     }
@@ -173,13 +174,6 @@ const TO_MOVE: &[Row] = &[
     ),
 ];
 
-/// White's half-move from 5,000 to 9,000.
-#[test]
-fn stamps_of_the_player_to_move(rt: HostRuntime) -> Result<(), Fail> {
-    assert_eq!(rt; first_wrong(rt.alloc(), TO_MOVE, 5_000, 9_000)?, None);
-    Ok(())
-}
-
 /// Black plays `b8c6` at 9,500.
 const CLEARED: &[Row] = &[
     (
@@ -228,11 +222,41 @@ const CLEARED: &[Row] = &[
     ),
 ];
 
-/// Black's half-move from 9,000 to 9,500: White's one has cleared what was kept.
-#[test]
-fn a_half_move_clears_the_stamp(rt: HostRuntime) -> Result<(), Fail> {
-    assert_eq!(rt; first_wrong(rt.alloc(), CLEARED, 9_000, 9_500)?, None);
+/// Rows whose last charge is from `begin` to `end`.
+struct Case {
+    name: &'static str,
+    begin: u64,
+    end: u64,
+    rows: &'static [Row],
+}
+
+const CASES: &[Case] = &[
+    Case {
+        name: "stamps_of_the_player_to_move",
+        begin: 5_000,
+        end: 9_000,
+        rows: TO_MOVE,
+    },
+    // White's half-move has cleared what was kept
+    Case {
+        name: "a_half_move_clears_the_stamp",
+        begin: 9_000,
+        end: 9_500,
+        rows: CLEARED,
+    },
+];
+
+/// Looks at each case, whether it goes as it has to.
+fn each_case(rt: &impl Abort, alloc: Global) -> Result<(), Fail> {
+    for case in CASES {
+        assert_eq!(rt; first_wrong(alloc, case)?, None, "{}", case.name);
+    }
     Ok(())
+}
+
+#[test]
+fn last_charges(rt: HostRuntime) -> Result<(), Fail> {
+    each_case(&rt, rt.alloc())
 }
 
 const FREE: &[Comes] = &[Acks(W, 1_000), Plays(3_000, "e2e4", Some(1_200))];
@@ -240,8 +264,14 @@ const FREE: &[Comes] = &[Acks(W, 1_000), Plays(3_000, "e2e4", Some(1_200))];
 /// The first half-move of a colour is free, whatever its client says.
 #[test]
 fn the_first_half_move_is_free(rt: HostRuntime) -> Result<(), Fail> {
-    let board = board_after(rt.alloc(), FREE)?;
-    assert!(rt; last_charge(&board) == Some(None));
-    assert!(rt; remaining(&board, W) == 120_000);
+    let (charge, clock) = charge_and_clock(rt.alloc(), FREE)?;
+    assert!(rt; charge == Some(None));
+    assert!(rt; clock == 120_000);
     Ok(())
+}
+
+/// The charge of the last half-move after all this, if there is one, and what White's clock shows.
+fn charge_and_clock(alloc: Global, all: &[Comes]) -> Result<(Option<Option<Charge>>, i64), Fail> {
+    let board = board_after(alloc, all)?;
+    Ok((last_charge(&board), remaining(&board, W)))
 }

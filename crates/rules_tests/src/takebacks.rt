@@ -1,6 +1,6 @@
 //! Half-moves that are taken back.
 
-use crate::playing::{STRANGE, board_after, play_on, remaining, terms};
+use crate::playing::{STRANGE, board_after, first_unplayed, new_board, play_on, remaining, terms};
 use chess_model::{Colour, Variant};
 use fics_words::Refusal;
 use game_board::GameBoard;
@@ -119,39 +119,90 @@ fn all_is_as_it_was(rt: HostRuntime) -> Result<(), Fail> {
     Ok(())
 }
 
-/// What was taken back still counts as played.
-#[test]
-fn all_count(rt: HostRuntime) -> Result<(), Fail> {
-    let terms = terms(0, 0, Variant::Chess);
-    let mut board = board_after(&rt, rt.alloc(), terms, "e2e4 e7e5 g1f3")?;
-    assert!(rt; take_back(&mut board, 2) == Ok(()));
-    assert!(rt; stands(&board, 1, 3, 60_000));
-    play_on(&rt, &mut board, "c7c5");
-    assert!(rt; stands(&board, 2, 4, 61_000));
-    Ok(())
+/// What comes to a board, or what it has to show.
+enum Step {
+    /// Words of the colours in turn, each a second after the one before.
+    Plays(&'static str),
+    /// So many half-moves are taken back.
+    Backs(u16),
+    /// So many half-moves can't be taken back, since there are too few.
+    TooFew(u16),
+    /// So many half-moves stand, so many were played, and the clock runs from that moment.
+    Stands(usize, u16, u64),
 }
 
-/// Numbers of half-moves of which there are too few.
-const TOO_MANY: &[u16] = &[0, 6, 7, 1_200, 65_535];
+use Step::{Backs, Plays, Stands, TooFew};
 
-/// Whether each of these numbers is refused.
-fn are_refused(board: &mut GameBoard, numbers: &[u16]) -> bool {
-    for many in numbers {
-        if take_back(board, *many) != Err(Refusal::TooFewMoves) {
-            return false;
+/// Whether the board takes or shows a step as it has to.
+fn holds(board: &mut GameBoard, step: &Step) -> bool {
+    match step {
+        Plays(words) => first_unplayed(board, words).is_none(),
+        Backs(many) => take_back(board, *many) == Ok(()),
+        TooFew(many) => take_back(board, *many) == Err(Refusal::TooFewMoves),
+        Stands(many, played, begin) => stands(board, *many, *played, *begin),
+    }
+}
+
+/// A game of chess with these minutes and this increment.
+struct Case {
+    name: &'static str,
+    minutes: u16,
+    increment: u16,
+    steps: &'static [Step],
+}
+
+const CASES: &[Case] = &[
+    // what was taken back still counts as played
+    Case {
+        name: "all_count",
+        minutes: 0,
+        increment: 0,
+        steps: &[
+            Plays("e2e4 e7e5 g1f3"),
+            Backs(2),
+            Stands(1, 3, 60_000),
+            Plays("c7c5"),
+            Stands(2, 4, 61_000),
+        ],
+    },
+    // five half-moves stand, and other numbers are refused
+    Case {
+        name: "too_few",
+        minutes: 2,
+        increment: 12,
+        steps: &[
+            Plays("e2e4 e7e5 g1f3 b8c6 f1b5"),
+            TooFew(0),
+            TooFew(6),
+            TooFew(7),
+            TooFew(1_200),
+            TooFew(65_535),
+            Stands(5, 5, 5_000),
+            Backs(5),
+            Stands(0, 5, 60_000),
+        ],
+    },
+];
+
+/// The place of the first step of a game that isn't as it has to be, if one isn't.
+fn first_wrong(alloc: Global, case: &Case) -> Result<Option<usize>, Fail> {
+    let mut board = new_board(alloc, terms(case.minutes, case.increment, Variant::Chess))?;
+    Ok(first_wrong_at(&mut board, case.steps))
+}
+
+fn first_wrong_at(board: &mut GameBoard, steps: &[Step]) -> Option<usize> {
+    for (place, step) in steps.iter().enumerate() {
+        if !holds(board, step) {
+            return Some(place);
         }
     }
-    true
+    None
 }
 
-/// Five half-moves stand, and these numbers are refused.
 #[test]
-fn too_few(rt: HostRuntime) -> Result<(), Fail> {
-    let words = "e2e4 e7e5 g1f3 b8c6 f1b5";
-    let mut board = board_after(&rt, rt.alloc(), terms(2, 12, Variant::Chess), words)?;
-    assert!(rt; are_refused(&mut board, TOO_MANY));
-    assert!(rt; stands(&board, 5, 5, 5_000));
-    assert!(rt; take_back(&mut board, 5) == Ok(()));
-    assert!(rt; stands(&board, 0, 5, 60_000));
+fn steps_of_games(rt: HostRuntime) -> Result<(), Fail> {
+    for case in CASES {
+        assert_eq!(rt; first_wrong(rt.alloc(), case)?, None, "{}", case.name);
+    }
     Ok(())
 }

@@ -1,7 +1,7 @@
 //! How serving ends.
 
 /// Why no further link is taken.
-#[derive(Clone, Copy, Debug, PartialEq, Eq)]
+#[derive(Clone, Copy)]
 pub enum DoorEnd {
     /// The door is closed.
     Closed,

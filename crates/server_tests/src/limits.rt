@@ -1,11 +1,11 @@
-//! Refusals that come where a list is at its end: half-moves, desks, and men in hand.
+//! Refusals that come where a list is at its end: half-moves, desks, lines, sessions, and men in hand.
 
-use crate::refusals::name_of;
 use crate::steps::{Does, Said, Step, first_failing, is_as_expected, server};
 use chess_model::Variant;
 use fics_words::NoMemory;
 use one_server::OneServer;
 use std::alloc::Global;
+use std::process::Abort;
 use std::test::Fail;
 
 /// Ann and Ben at desk 1.
@@ -24,7 +24,7 @@ const SEATED_AT_CRAZYHOUSE: &[Step] = &[
 ];
 
 /// A part of a test at one server.
-pub enum Part {
+enum Part {
     Steps(&'static [Step]),
     /// These steps so many times.
     Times(u32, &'static [Step]),
@@ -35,7 +35,7 @@ pub enum Part {
 }
 
 /// The place of the first part at a new server in which a step is replied otherwise, if there is one.
-pub fn first_failing_part(alloc: Global, parts: &[Part]) -> Result<Option<usize>, NoMemory> {
+fn first_failing_part(alloc: Global, parts: &[Part]) -> Result<Option<usize>, NoMemory> {
     let mut server = server(alloc)?;
     Ok(first_wrong(&mut server, parts))
 }
@@ -79,6 +79,15 @@ fn first_outside(server: &mut OneServer) -> Option<u32> {
     None
 }
 
+/// A name of three letters, another one for each number below 676.
+fn name_of(number: u32) -> [u8; 3] {
+    [b'x', letter(number / 26), letter(number % 26)]
+}
+
+fn letter(number: u32) -> u8 {
+    b'a' + (number % 26) as u8
+}
+
 /// Whether a session challenges the next one, and a game starts.
 fn starts(server: &mut OneServer, one: u32) -> bool {
     let challenge = Does::Match(name_of(one.wrapping_add(1)), Variant::Chess);
@@ -119,13 +128,6 @@ const ENDS_AFTER_1200: &[Part] = &[
     Part::Steps(AFTER_1200_HALF_MOVES_MORE),
 ];
 
-/// Knights go out and home again for 1,200 half-moves.
-#[test]
-fn after_1200_half_moves(rt: HostRuntime) -> Result<(), Fail> {
-    assert_eq!(rt; first_failing_part(rt.alloc(), ENDS_AFTER_1200)?, None);
-    Ok(())
-}
-
 const WITHOUT_A_FREE_DESK_STEPS: &[Step] = &[
     Step(0, 0, Does::Going, Said::Places(1)),
     Step(0, 0, Does::Leave(1), Said::Done),
@@ -147,13 +149,6 @@ const FREES_A_DESK: &[Part] = &[
     Part::Steps(WITHOUT_A_FREE_DESK_STEPS),
 ];
 
-/// All desks are in use, the first one by two who left the hall without a Clear.
-#[test]
-fn without_a_free_desk(rt: HostRuntime) -> Result<(), Fail> {
-    assert_eq!(rt; first_failing_part(rt.alloc(), FREES_A_DESK)?, None);
-    Ok(())
-}
-
 const OF_DROPS_STEPS: &[Step] = &[
     Step(0, 1, Does::Drop(1, 28), Said::Refused(5)),
     Step(0, 1, Does::Move(1, 12, 28), Said::Done),
@@ -171,9 +166,55 @@ const REFUSES_DROPS: &[Part] = &[
     Part::Steps(OF_DROPS_STEPS),
 ];
 
-/// A pawn in hand, and where it may not be dropped: b8 is empty, d5 isn't.
-#[test]
-fn of_drops(rt: HostRuntime) -> Result<(), Fail> {
-    assert_eq!(rt; first_failing_part(rt.alloc(), REFUSES_DROPS)?, None);
+const OF_FULL_LISTS_TWO: &[Step] = &[
+    Step(0, 1, Does::Enter(*b"Ann"), Said::Entered),
+    Step(0, 2, Does::Enter(*b"Ben"), Said::Entered),
+];
+
+const OF_FULL_LISTS_FULL: &[Step] = &[Step(
+    0,
+    1,
+    Does::Match(*b"Ben", Variant::Chess),
+    Said::Refused(49),
+)];
+
+const OF_FULL_LISTS_MORE: &[Step] = &[Step(0, 1, Does::Match(*b"Ben", Variant::Chess), Said::Done)];
+
+const AT_A_FULL_LIST: &[Part] = &[
+    Part::Steps(OF_FULL_LISTS_TWO),
+    Part::Times(512, OF_FULL_LISTS_MORE),
+    Part::Steps(OF_FULL_LISTS_FULL),
+];
+
+const OF_A_FULL_HALL_STEPS: &[Step] = &[
+    Step(0, 256, Does::Enter(*b"Ann"), Said::Refused(25)),
+    Step(0, 5, Does::Bye, Said::Done),
+    Step(0, 256, Does::Enter(*b"Ann"), Said::Entered),
+];
+
+const AT_A_FULL_HALL: &[Part] = &[Part::AllEnter, Part::Steps(OF_A_FULL_HALL_STEPS)];
+
+/// A name, and the parts of a test at a server of its own.
+const CASES: &[(&str, &[Part])] = &[
+    // Knights go out and home again for 1,200 half-moves.
+    ("after_1200_half_moves", ENDS_AFTER_1200),
+    // All desks are in use, the first one by two who left the hall without a Clear.
+    ("without_a_free_desk", FREES_A_DESK),
+    // A pawn in hand, and where it may not be dropped: b8 is empty, d5 isn't.
+    ("of_drops", REFUSES_DROPS),
+    ("of_full_lists", AT_A_FULL_LIST),
+    ("of_a_full_hall", AT_A_FULL_HALL),
+];
+
+/// Looks at each case, whether it goes as it has to.
+fn each_case(rt: &impl Abort, alloc: Global) -> Result<(), Fail> {
+    for (name, steps) in CASES {
+        assert_eq!(rt; first_failing_part(alloc, steps)?, None, "{name}");
+    }
     Ok(())
+}
+
+#[test]
+fn lists_end(rt: HostRuntime) -> Result<(), Fail> {
+    each_case(&rt, rt.alloc())
 }

@@ -1,8 +1,9 @@
 //! The refusals of the acts, each by its number.
 
-use crate::limits::{Part, first_failing_part};
 use crate::steps::{Does, Said, Step, first_failing_anew};
 use chess_model::Variant;
+use std::alloc::Global;
+use std::process::Abort;
 use std::test::Fail;
 
 const IN_THE_LOBBY_STEPS: &[Step] = &[
@@ -48,12 +49,6 @@ const IN_THE_LOBBY_STEPS: &[Step] = &[
     ),
 ];
 
-#[test]
-fn in_the_lobby(rt: HostRuntime) -> Result<(), Fail> {
-    assert_eq!(rt; first_failing_anew(rt.alloc(), IN_THE_LOBBY_STEPS)?, None);
-    Ok(())
-}
-
 const OF_LOGINS_STEPS: &[Step] = &[
     Step(0, 1, Does::Register(1), Said::Refused(54)),
     Step(0, 1, Does::Guest, Said::Entered),
@@ -73,38 +68,6 @@ const OF_LOGINS_STEPS: &[Step] = &[
     Step(0, 3, Does::Accept(None), Said::Started),
     Step(0, 9, Does::InUse, Said::Desks(1)),
 ];
-
-#[test]
-fn of_logins(rt: HostRuntime) -> Result<(), Fail> {
-    assert_eq!(rt; first_failing_anew(rt.alloc(), OF_LOGINS_STEPS)?, None);
-    Ok(())
-}
-
-const OF_FULL_LISTS_TWO: &[Step] = &[
-    Step(0, 1, Does::Enter(*b"Ann"), Said::Entered),
-    Step(0, 2, Does::Enter(*b"Ben"), Said::Entered),
-];
-
-const OF_FULL_LISTS_FULL: &[Step] = &[Step(
-    0,
-    1,
-    Does::Match(*b"Ben", Variant::Chess),
-    Said::Refused(49),
-)];
-
-const OF_FULL_LISTS_MORE: &[Step] = &[Step(0, 1, Does::Match(*b"Ben", Variant::Chess), Said::Done)];
-
-const AT_A_FULL_LIST: &[Part] = &[
-    Part::Steps(OF_FULL_LISTS_TWO),
-    Part::Times(512, OF_FULL_LISTS_MORE),
-    Part::Steps(OF_FULL_LISTS_FULL),
-];
-
-#[test]
-fn of_full_lists(rt: HostRuntime) -> Result<(), Fail> {
-    assert_eq!(rt; first_failing_part(rt.alloc(), AT_A_FULL_LIST)?, None);
-    Ok(())
-}
 
 const AT_A_DESK_STEPS: &[Step] = &[
     Step(0, 1, Does::Enter(*b"Ann"), Said::Entered),
@@ -128,12 +91,6 @@ const AT_A_DESK_STEPS: &[Step] = &[
     Step(0, 1, Does::Items(1), Said::Refused(18)),
 ];
 
-#[test]
-fn at_a_desk(rt: HostRuntime) -> Result<(), Fail> {
-    assert_eq!(rt; first_failing_anew(rt.alloc(), AT_A_DESK_STEPS)?, None);
-    Ok(())
-}
-
 const OF_WORDS_STEPS: &[Step] = &[
     Step(0, 1, Does::Enter(*b"Ann"), Said::Entered),
     Step(0, 2, Does::Enter(*b"Ben"), Said::Entered),
@@ -153,31 +110,23 @@ const OF_WORDS_STEPS: &[Step] = &[
     Step(0, 1, Does::Knight(1, 11), Said::Refused(1)),
 ];
 
-#[test]
-fn of_words(rt: HostRuntime) -> Result<(), Fail> {
-    assert_eq!(rt; first_failing_anew(rt.alloc(), OF_WORDS_STEPS)?, None);
-    Ok(())
-}
-
-const OF_A_FULL_HALL_STEPS: &[Step] = &[
-    Step(0, 256, Does::Enter(*b"Ann"), Said::Refused(25)),
-    Step(0, 5, Does::Bye, Said::Done),
-    Step(0, 256, Does::Enter(*b"Ann"), Said::Entered),
+/// A name, and the steps of a server of its own.
+const CASES: &[(&str, &[Step])] = &[
+    ("in_the_lobby", IN_THE_LOBBY_STEPS),
+    ("of_logins", OF_LOGINS_STEPS),
+    ("at_a_desk", AT_A_DESK_STEPS),
+    ("of_words", OF_WORDS_STEPS),
 ];
 
-const AT_A_FULL_HALL: &[Part] = &[Part::AllEnter, Part::Steps(OF_A_FULL_HALL_STEPS)];
-
-#[test]
-fn of_a_full_hall(rt: HostRuntime) -> Result<(), Fail> {
-    assert_eq!(rt; first_failing_part(rt.alloc(), AT_A_FULL_HALL)?, None);
+/// Looks at each case, whether it goes as it has to.
+fn each_case(rt: &impl Abort, alloc: Global) -> Result<(), Fail> {
+    for (name, steps) in CASES {
+        assert_eq!(rt; first_failing_anew(alloc, steps)?, None, "{name}");
+    }
     Ok(())
 }
 
-/// A name of three letters, another one for each number below 676.
-pub fn name_of(number: u32) -> [u8; 3] {
-    [b'x', letter(number / 26), letter(number % 26)]
-}
-
-fn letter(number: u32) -> u8 {
-    b'a' + (number % 26) as u8
+#[test]
+fn acts_are_refused(rt: HostRuntime) -> Result<(), Fail> {
+    each_case(&rt, rt.alloc())
 }

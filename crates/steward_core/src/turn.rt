@@ -10,7 +10,7 @@ use one_server::{Act, Reply, Runner};
 use std::alloc::Global;
 
 /// How a turn of the steward ended.
-#[derive(Clone, Copy, Debug, PartialEq, Eq)]
+#[derive(Clone, Copy)]
 pub enum StewardEnd {
     /// Each of its acts was made.
     Done,

@@ -1,12 +1,14 @@
 -- The parts of the lines are printable.
-use Rattle.std.proofs.Common.{ℕ, ℤ, List, decimal, arith, rules, tests, ⊎_elim}
+use Rattle.std.proofs.Common.{ℕ, ℤ, List, [], ◌∷◌, decimal, arith, rules, tests, ⊎_elim}
 use Rattle.std.specs.Prelude.{All, IsTrue}
 use Rattle.std.specs.Char.{IsAsciiAlphabetic}
 use Rattle.std.specs.Fmt.{signed_decimal}
 use Rattle.std.specs.List.{list_all}
 use Rattle.std.proofs.lemmas.Bool.{and_parts, leb-true}
+use Rattle.std.proofs.lemmas.List.Elements.{All-nil, All-cons}
 use Rattle.std.proofs.lemmas.List.Sums.{list_all-from_AllPass, AllPass-from_list_all}
 use Rattle.chess_model.specs.MoveText.{is_printable}
+use Rattle.move_writer.specs.Blanks.{Shows}
 use Rattle.fics_words.specs.Line.{IsPrintable}
 use Rattle.style12_writer.proofs.Decimals.{All-decimal, All-signed_decimal}
 
@@ -27,3 +29,11 @@ printable-signed_decimal z = printable_from_All (signed_decimal z) (λ k d withi
 
 pub printable-letters : (letters : List ℕ) → All IsAsciiAlphabetic letters → IsTrue (list_all is_printable letters)
 printable-letters letters h = printable_from_All letters (λ k d within. ⊎_elim (λ upper. (omega arith, omega arith)) (λ lower. (omega arith, omega arith)) (h k d within))
+
+-- a byte that shows
+pub printable-shows : (byte : ℕ) → Shows byte → IsTrue (is_printable byte)
+printable-shows byte h = search (rules, tests)
+
+-- the text of one byte
+pub printable-byte : (byte : ℕ) → IsTrue (is_printable byte) → IsTrue (list_all is_printable (byte ∷ []))
+printable-byte byte h = printable_from_All (byte ∷ []) (All-cons IsPrintable byte [] (let parts = and_parts _ _ h in (leb-true 32 _ parts.0, leb-true _ 126 parts.1)) (All-nil IsPrintable))

@@ -1,5 +1,5 @@
 -- Fields one after another.
-use Rattle.std.proofs.Common.{◌≡◌, ℕ, ◌+◌, ◌<◌, List, [], ◌∷◌, ◌++◌, length, map, take, get_or, sym, ap, ◌∙◌, append_assoc}
+use Rattle.std.proofs.Common.{◌≡◌, ℕ, ◌+◌, ◌<◌, ◌≤◌, arith, List, [], ◌∷◌, ◌++◌, length, map, take, get_or, sym, ap, ◌∙◌, append_assoc}
 use Rattle.std.proofs.lemmas.List.{map-append, take_more, append-nil}
 use Rattle.std.proofs.lemmas.List.Concat.{flat_map-append}
 use Rattle.std.specs.List.{join_with_byte}
@@ -40,3 +40,22 @@ five_appended first a b c d start l0 l1 l2 l3 l4 none h0 h1 h2 h3 h4 =
     let e2 : l2 ≡ first ++ a ++ b = h2 ∙ ap (λ l. l ++ b) e1 in
     let e3 : l3 ≡ first ++ a ++ b ++ c = h3 ∙ ap (λ l. l ++ c) e2 in
     h4 ∙ ap (λ l. l ++ d) e3
+
+-- a line to which two texts were appended, or three
+pub two_appended : (a b l0 l1 l2 : List ℕ) → l1 ≡ l0 ++ a → l2 ≡ l1 ++ b → l2 ≡ l0 ++ (a ++ b)
+two_appended a b l0 l1 l2 h1 h2 = h2 ∙ ap (λ l. l ++ b) h1 ∙ append_assoc l0 a b
+
+pub three_appended : (a b c l0 l1 l2 l3 : List ℕ) → l1 ≡ l0 ++ a → l2 ≡ l1 ++ b → l3 ≡ l2 ++ c → l3 ≡ l0 ++ (a ++ b ++ c)
+three_appended a b c l0 l1 l2 l3 h1 h2 h3 = two_appended (a ++ b) c l0 l2 l3 (two_appended a b l0 l1 l2 h1 h2) h3
+
+-- a line to which three fields were appended
+pub three_fields : (a b c l0 l1 l2 l3 : List ℕ) → l1 ≡ l0 ++ 32 ∷ a → l2 ≡ l1 ++ 32 ∷ b → l3 ≡ l2 ++ 32 ∷ c → l3 ≡ l0 ++ spaced (a ∷ b ∷ c ∷ [])
+three_fields a b c l0 l1 l2 l3 h1 h2 h3 = three_appended (32 ∷ a) (32 ∷ b) (32 ∷ c) l0 l1 l2 l3 h1 h2 h3 ∙ simp (append_assoc, append-nil)
+
+-- how long a line is to which a text, a bounded one and a text were appended
+pub most_of_three : (a b d l0 l1 l2 l3 : ℕ) → l1 ≡ l0 + a → l2 ≤ l1 + b → l3 ≡ l2 + d → l3 ≤ l0 + (a + b + d)
+most_of_three a b d l0 l1 l2 l3 h1 h2 h3 = omega arith
+
+-- how long a line is to which three bounded texts were appended
+pub most_of_fields : (a b d l0 l1 l2 l3 : ℕ) → l1 ≤ l0 + a → l2 ≤ l1 + b → l3 ≤ l2 + d → l3 ≤ l0 + (a + b + d)
+most_of_fields a b d l0 l1 l2 l3 h1 h2 h3 = omega arith

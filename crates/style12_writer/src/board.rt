@@ -100,7 +100,7 @@ pub(crate) fn put_squares(
 {
     let squares = &men[8 * rank..8 * rank + 8];
     for square in squares {
-        line.text(&[letter_on(*square)])?;
+        line.byte(letter_on(*square))?;
     }
     Ok(())
 }

@@ -1,5 +1,7 @@
 //! The line of a game's beginning.
-ghost use Rattle.std.specs.Prelude.{◌≡◌, ◌+◌, ◌≤◌, ◌++◌, IfOk, OnOk, length};
+ghost use Rattle.std.specs.Prelude.{◌≡◌, ◌+◌, ◌≤◌, ◌++◌, IfOk, IsTrue, OnOk, length};
+ghost use Rattle.std.specs.List.{list_all};
+ghost use Rattle.chess_model.specs.MoveText.{is_printable};
 ghost use Rattle.chess_model.specs.VariantWord.{word_of};
 ghost use Rattle.style12_writer.specs.CreatedLine.{created_text, terms_text};
 
@@ -46,10 +48,19 @@ fn put_variant(line: &mut Draft, variant: Variant) -> Result<(), NoMemory>
     ensures text { OnOk result (line.new ≡ line.old ++ word_of variant) }
     ensures most { OnOk result (length line.new ≤ length line.old + 10) }
 {
-    match variant {
-        Variant::Chess => line.text(b"chess")?,
-        Variant::Crazyhouse => line.text(b"crazyhouse")?,
-        Variant::Bughouse => line.text(b"bughouse")?,
-    }
+    line.text(name_of(variant))?;
     Ok(())
+}
+
+/// The name of a variant.
+fn name_of(variant: Variant) -> &'static [u8]
+    ensures text { result.now ≡ word_of variant }
+    ensures printable { IsTrue (list_all is_printable result.now) }
+    ensures most { length result.now ≤ 10 }
+{
+    match variant {
+        Variant::Chess => b"chess",
+        Variant::Crazyhouse => b"crazyhouse",
+        Variant::Bughouse => b"bughouse",
+    }
 }

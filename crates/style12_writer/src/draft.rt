@@ -47,6 +47,16 @@ impl Draft {
         Ok(())
     }
 
+    /// Appends a byte.
+    pub(crate) fn byte(&mut self, byte: u8) -> Result<(), NoMemory>
+        requires { IsTrue (is_printable byte) }
+        ensures text { OnOk result (self.new ≡ self.old ++ byte ∷ []) }
+        ensures len { OnOk result (length self.new ≡ length self.old + 1) }
+    {
+        self.text(&[byte])?;
+        Ok(())
+    }
+
     /// Appends a player's name.
     pub(crate) fn name(&mut self, handle: &Handle) -> Result<(), NoMemory>
         ensures text { OnOk result (self.new ≡ self.old ++ handle.now) }

@@ -1,5 +1,5 @@
 //! The line of a game's end.
-ghost use Rattle.std.specs.Prelude.{◌≡◌, ◌+◌, ◌≤◌, ◌↔◌, ◌++◌, IfOk, OnOk, IsSome, IsTrue, length};
+ghost use Rattle.std.specs.Prelude.{◌≡◌, ◌+◌, ◌≤◌, ◌↔◌, ◌++◌, IfOk, OnOk, IsSome, IsTrue, codes, length};
 ghost use Rattle.std.specs.List.{list_all};
 ghost use Rattle.chess_model.specs.MoveText.{is_printable};
 ghost use Rattle.style12_writer.specs.EndLine.{is_decisive, loser_text, manner_text, reason_text, result_text, end_text};
@@ -8,7 +8,7 @@ use crate::draft::Draft;
 use crate::game_line::put_game;
 use crate::view::BoardView;
 use chess_model::{Colour, Why};
-use fics_words::Line;
+use fics_words::{Handle, Line};
 use memory::NoMemory;
 use std::alloc::Global;
 
@@ -74,12 +74,19 @@ fn put_loser(line: &mut Draft, v: &BoardView, winner: Option<Colour>) -> Result<
     ensures text { OnOk result (line.new ≡ line.old ++ loser_text v.now winner) }
     ensures most { OnOk result (length line.new ≤ length line.old + 18) }
 {
-    let loser = match winner {
-        Some(Colour::White) => &v.black,
-        Some(Colour::Black) => &v.white,
-        None => return Ok(()),
-    };
-    line.name(loser)?;
+    match winner {
+        Some(Colour::White) => put_name(line, &v.black),
+        Some(Colour::Black) => put_name(line, &v.white),
+        None => Ok(()),
+    }
+}
+
+/// Appends a player's name and a blank.
+fn put_name(line: &mut Draft, player: &Handle) -> Result<(), NoMemory>
+    ensures text { OnOk result (line.new ≡ line.old ++ player.now ++ codes " ") }
+    ensures most { OnOk result (length line.new ≤ length line.old + 18) }
+{
+    line.name(player)?;
     line.text(b" ")?;
     Ok(())
 }

@@ -67,7 +67,7 @@ fn put_letter(line: &mut Draft, kind: Kind) -> Result<(), NoMemory>
     ensures text { OnOk result (line.new ≡ line.old ++ letter_of kind ∷ []) }
     ensures len { OnOk result (length line.new ≡ length line.old + 1) }
 {
-    line.text(&[letter(kind)])?;
+    line.byte(letter(kind))?;
     Ok(())
 }
 

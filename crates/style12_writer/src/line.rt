@@ -1,11 +1,11 @@
 //! The board line.
-ghost use Rattle.std.specs.Prelude.{◌≡◌, ◌+◌, ◌<◌, ◌≤◌, ◌∷◌, ◌++◌, All, IfOk, IsTrue, OnOk, length};
+ghost use Rattle.std.specs.Prelude.{◌≡◌, ◌+◌, ◌<◌, ◌≤◌, [], ◌∷◌, ◌++◌, All, IfOk, IsTrue, OnOk, length};
 ghost use Rattle.move_writer.specs.Blanks.{HasNoBlank};
 ghost use Rattle.std.specs.Fmt.{signed_decimal};
 ghost use Rattle.std.specs.List.{list_all};
 ghost use Rattle.chess_model.specs.MoveText.{is_printable};
 ghost use Rattle.style12_writer.specs.Clocks.{whole_seconds_of, time_taken, two_digits_of};
-ghost use Rattle.style12_writer.specs.Line12.{game_fields, strength_fields, move_fields, fields_of, line12_text, cut_at_blanks};
+ghost use Rattle.style12_writer.specs.Line12.{game_number, white_name, black_name, game_fields, strength_fields, move_fields, fields_of, line12_text, cut_at_blanks};
 ghost use Rattle.style12_writer.specs.Spaced.{spaced};
 
 use crate::board::{flag, material, put_position};
@@ -36,12 +36,22 @@ fn put_game(line: &mut Draft, v: &BoardView, who: Viewer) -> Result<(), NoMemory
     ensures text { OnOk result (line.new ≡ line.old ++ spaced (game_fields v.now who)) }
     ensures most { OnOk result (length line.new ≤ length line.old + 120) }
 {
-    line.number_field(u64::from(v.game))?;
-    line.name_field(&v.white)?;
-    line.name_field(&v.black)?;
+    put_players(line, v)?;
     line.signed_field(i64::from(who.relation))?;
     line.number_field(u64::from(v.minutes))?;
     line.number_field(u64::from(v.increment))?;
+    Ok(())
+}
+
+/// Appends the fields of the game's number and its players.
+fn put_players(line: &mut Draft, v: &BoardView) -> Result<(), NoMemory>
+    ensures text { OnOk result (line.new
+        ≡ line.old ++ spaced (game_number v.now ∷ white_name v.now ∷ black_name v.now ∷ [])) }
+    ensures most { OnOk result (length line.new ≤ length line.old + 57) }
+{
+    line.number_field(u64::from(v.game))?;
+    line.name_field(&v.white)?;
+    line.name_field(&v.black)?;
     Ok(())
 }
 

@@ -1,5 +1,7 @@
 //! The lines that tell of offers.
-ghost use Rattle.std.specs.Prelude.{◌≡◌, IfOk};
+ghost use Rattle.std.specs.Prelude.{◌≡◌, ◌≤◌, ◌++◌, IfOk, IsTrue, length};
+ghost use Rattle.std.specs.List.{list_all};
+ghost use Rattle.chess_model.specs.MoveText.{is_printable};
 ghost use Rattle.style12_writer.specs.OfferLines.{abort_text, adjourn_text, decline_text, draw_text, takeback_text, taken_text};
 
 use crate::draft::Draft;
@@ -11,30 +13,21 @@ use std::alloc::Global;
 pub fn draw_line(alloc: Global, name: &Handle) -> Result<Line, NoMemory>
     ensures { IfOk result (λ line. line ≡ draw_text name.now) }
 {
-    let mut line = Draft::new(alloc);
-    line.name(name)?;
-    line.text(b" offers a draw.")?;
-    Ok(line.finish())
+    named(alloc, name, b" offers a draw.")
 }
 
 /// The line of a player who offers to end the game without a result, `H offers to abort.`.
 pub fn abort_line(alloc: Global, name: &Handle) -> Result<Line, NoMemory>
     ensures { IfOk result (λ line. line ≡ abort_text name.now) }
 {
-    let mut line = Draft::new(alloc);
-    line.name(name)?;
-    line.text(b" offers to abort.")?;
-    Ok(line.finish())
+    named(alloc, name, b" offers to abort.")
 }
 
 /// The line of a player who offers to go on another day, `H offers to adjourn.`.
 pub fn adjourn_line(alloc: Global, name: &Handle) -> Result<Line, NoMemory>
     ensures { IfOk result (λ line. line ≡ adjourn_text name.now) }
 {
-    let mut line = Draft::new(alloc);
-    line.name(name)?;
-    line.text(b" offers to adjourn.")?;
-    Ok(line.finish())
+    named(alloc, name, b" offers to adjourn.")
 }
 
 /// The line of a player who offers to take `n` half-moves back, `H offers to take back N.`.
@@ -53,10 +46,7 @@ pub fn takeback_line(alloc: Global, name: &Handle, n: u16) -> Result<Line, NoMem
 pub fn decline_line(alloc: Global, name: &Handle) -> Result<Line, NoMemory>
     ensures { IfOk result (λ line. line ≡ decline_text name.now) }
 {
-    let mut line = Draft::new(alloc);
-    line.name(name)?;
-    line.text(b" declines.")?;
-    Ok(line.finish())
+    named(alloc, name, b" declines.")
 }
 
 /// The line that tells that `n` half-moves were taken back, `N taken back.`.
@@ -66,5 +56,17 @@ pub fn taken_line(alloc: Global, n: u16) -> Result<Line, NoMemory>
     let mut line = Draft::new(alloc);
     line.number(u64::from(n))?;
     line.text(b" taken back.")?;
+    Ok(line.finish())
+}
+
+/// The line of a player's name and what is said of the player.
+fn named(alloc: Global, name: &Handle, said: &[u8]) -> Result<Line, NoMemory>
+    requires printable { IsTrue (list_all is_printable said.now) }
+    requires short { length said.now ≤ 40 }
+    ensures { IfOk result (λ line. line ≡ name.now ++ said.now) }
+{
+    let mut line = Draft::new(alloc);
+    line.name(name)?;
+    line.text(said)?;
     Ok(line.finish())
 }

@@ -1,5 +1,5 @@
 -- The first half of an act, and what it adds to the second.
-use Rattle.std.proofs.Common.{List, ◌≡◌, ◌≢◌, ℕ, ◌++◌, [], ◌∷◌, ⊎_elim, ap, sym, subst, ◌∙◌}
+use Rattle.std.proofs.Common.{List, ◌≡◌, ◌≢◌, ℕ, ◌++◌, [], ◌∷◌, ⊎_elim, inl, inr, refl, ap, sym, subst, ◌∙◌}
 use Rattle.std.proofs.lemmas.List.{append_assoc}
 use Rattle.std.specs.List.{slice_get}
 use Rattle.std.specs.declared.option.Option.TheVariants.{Some}
@@ -11,9 +11,12 @@ use Rattle.histories.specs.History.{IsPrefix, calls_of, entry, state, Legal}
 use Rattle.histories.proofs.Histories.{prefix_trans}
 use Rattle.memory.specs.declared.NoMemory.{NoMemory}
 use Rattle.turn_table.specs.declared.view.View.{View}
-use Rattle.turn_table.specs.Views.{In, Holds, Looks, begun, taken}
+use Rattle.turn_table.specs.Views.{In, Holds, Looks, begun, given, let_go, taken, tried}
 use Rattle.turn_table.specs.Passes.{with_busy}
-use Rattle.turn_chain.specs.Chain.{fixed, HasRun, HasNotRun}
+use Rattle.turn_chain.specs.Chain.{fixed, CameTo, HasRun, HasNotRun}
+use Rattle.turn_chain.specs.declared.tried.Tried.TheVariants.{Busy}
+use Rattle.turn_table.proofs.Keeping.{dropped}
+use Rattle.std.specs.Option.{option_and_then}
 
 -- what a pass has become while it makes no entry
 pub record Since {P A R : Type 0} (v w : View P A R) : Type 0 where
@@ -24,6 +27,10 @@ pub record Since {P A R : Type 0} (v w : View P A R) : Type 0 where
 module _ {P A R : Type 0} where
   pub since_trans : (u v w : View P A R) → Since u v → Since v w → Since u w
   since_trans u v w a b = record { begins = prefix_trans u.seen v.seen w.seen a.begins b.begins; made = b.made ∙ a.made; same = b.same ∙ a.same }
+
+pub on_err : {T E : Type 0} (r : Result T E) (P : Type 0) → P → OnErr r P
+on_err (Ok x) P h = tt
+on_err (Err e) P h = h
 
 module _ {P A R : Type 0} (c : Core P A R) where
   pub since_begun : (v w : View P A R) (a : A) → w ≡ begun c v a w.seen → Looks c v w.seen → Since v w
@@ -64,6 +71,62 @@ module _ {P A R : Type 0} (c : Core P A R) where
       let differs : s ≢ c.first a = (law.second_in (state c u.opening w.seen) w.number a p s looks.whole fits (subst (λ m. slice_get (state c u.opening w.seen) m ≡ Some p) first value) second).1 in
       let there : In (s, h.0) ((k, p) ∷ []) = subst (In (s, h.0)) held h.1 in
       ⊎_elim (λ g. differs (ap (λ (z : ℕ × P). z.0) g ∙ first)) (λ g. absurd g) there
+
+  -- nothing was made where the turn of the first part was another pass's
+  module _ (v u w : View P A R) (a : A) (k : ℕ) (e : u ≡ begun c v a u.seen) (looks : Looks c v u.seen) (busy : w ≡ tried u k) where
+    pub same_busy : fixed w ≡ fixed v
+    same_busy = ap fixed busy ∙ ap fixed e
+
+    pub came_busy : k ≡ c.first a → CameTo c v a (Busy k a) w
+    came_busy first =
+        let seen : u.seen ≡ w.seen = ap (λ (x : View P A R). x.seen) (sym busy) in
+        let made : w.made ≡ v.made = ap (λ (x : View P A R). x.made) busy ∙ ap (λ (x : View P A R). x.made) e in (
+          record {
+            begins = subst (IsPrefix v.seen) seen looks.on;
+            legal = subst (Legal c v.opening) seen looks.legal;
+            own = made ∙ sym looks.own ∙ ap (calls_of v.number) seen;
+            same = made;
+          },
+          refl,
+          record { part = inl first; last = ap (λ (x : View P A R). x.busy) busy ∙ ap (λ (x : View P A R). x.busy ++ k ∷ []) e },
+        )
+
+  -- nor where that of the second part was, and the first one went back as it was
+  module _ (v u w x y : View P A R) (a : A) (k : ℕ) (p : P) (s : ℕ) (e : u ≡ begun c v a u.seen) (begins : Looks c v u.seen)
+      (takes : w ≡ taken c u k p w.seen) (looks : Looks c u w.seen) (busy : x ≡ tried w s) (back : y ≡ given x k) where
+    once : Since v w
+    once = since_trans v u w (since_begun v u a e begins) (since_taken u w k p u.busy takes looks)
+
+    pub idle_given : v.held ≡ [] → y.held ≡ []
+    idle_given idle =
+        ap (λ (z : View P A R). z.held) back
+        ∙ ap (let_go k) (ap (λ (z : View P A R). z.held) busy ∙ ap (λ (z : View P A R). z.held) takes ∙ ap (λ zs. (k, p) ∷ zs) (ap (λ (z : View P A R). z.held) e ∙ idle))
+        ∙ dropped k (k, p) [] refl
+
+    pub same_given : fixed y ≡ fixed v
+    same_given = ap fixed back ∙ ap fixed busy ∙ once.same
+
+    pub came_given : k ≡ c.first a → slice_get (state c u.opening w.seen) k ≡ Some p → c.second p w.number a ≡ Some s → CameTo c v a (Busy s a) y
+    came_given first value second =
+        let number : w.number ≡ v.number = ap (λ (z : View P A R). z.number) once.same in
+        let opening : u.opening ≡ v.opening = ap (λ (z : View P A R). z.opening) e in
+        let seen : w.seen ≡ y.seen = ap (λ (z : View P A R). z.seen) (sym busy) ∙ ap (λ (z : View P A R). z.seen) (sym back) in
+        let made : y.made ≡ w.made = ap (λ (z : View P A R). z.made) back ∙ ap (λ (z : View P A R). z.made) busy in
+        let kept : w.made ≡ u.made = ap (λ (z : View P A R). z.made) takes in
+        let there : slice_get (state c v.opening y.seen) (c.first a) ≡ Some p = sym (λ i. slice_get (state c (opening i) (seen i)) (first i)) ∙ value in (
+          record {
+            begins = subst (IsPrefix v.seen) seen once.begins;
+            legal = subst (Legal c v.opening) seen (subst (λ xs. Legal c xs w.seen) opening looks.legal);
+            own = made ∙ kept ∙ sym looks.own ∙ (λ i. calls_of (ap (λ (z : View P A R). z.number) e i) (seen i));
+            same = made ∙ once.made;
+          },
+          refl,
+          record {
+            part = inr (ap (option_and_then (λ (q : P). c.second q v.number a)) there ∙ ap (λ n. c.second p n a) (sym number) ∙ second);
+            last = ap (λ (z : View P A R). z.busy) back ∙ ap (λ (z : View P A R). z.busy) busy
+                ∙ ap (λ ks. ks ++ s ∷ []) (ap (λ (z : View P A R). z.busy) takes ∙ ap (λ (z : View P A R). z.busy) e);
+          },
+        )
 
   -- what both halves came to
   module _ (v u w : View P A R) (a : A) (since : Since v u) where

@@ -66,21 +66,32 @@ fn first_otherwise<'a>(
     answer: Result<(), Failed>,
 ) -> Option<&'a str> {
     for row in rows.lines() {
-        let Some((name, text)) = row.split_once('|') else {
-            return Some(row);
-        };
-        if set(aliases, name.as_bytes(), text.as_bytes()) != answer {
+        if !is_answered(aliases, row, answer) {
             return Some(row);
         }
     }
     None
 }
 
+/// Whether a row, a name and a text, is answered so.
+fn is_answered(aliases: &mut Aliases, row: &str, answer: Result<(), Failed>) -> bool {
+    match row.split_once('|') {
+        Some((name, text)) => set(aliases, name.as_bytes(), text.as_bytes()) == answer,
+        None => false,
+    }
+}
+
 #[test]
 fn aliases_are_expanded_once(rt: HostRuntime) -> Result<(), Fail> {
     let mut aliases = Aliases::new(rt.alloc());
     assert!(rt; first_otherwise(&mut aliases, ALIASES, Ok(())).is_none());
-    read_rows(&rt, rt.alloc(), EXPANDED, &aliases)
+    read_rows(
+        &rt,
+        rt.alloc(),
+        "aliases_are_expanded_once",
+        EXPANDED,
+        &aliases,
+    )
 }
 
 #[test]

@@ -1,5 +1,6 @@
 //! Lines of players, and the commands that they are read as.
 
+use crate::{lists, offers, simuls, watching};
 use chess_model::{Colour, Terms, variant_word};
 use command_words::{Aliases, Command, Style, read_command};
 use fics_words::{Fail as Failed, Handle, Line, NoMemory, write_number};
@@ -218,10 +219,27 @@ match ann fischer|refused 28
 match ann 5 0 chess w x|refused 28
 m bob 2 12 chess white unrated|refused 28";
 
+/// The tables of lines, each with a name.
+const TABLES: &[(&str, &str)] = &[
+    ("reads_lines", LINES),
+    ("reads_lines_about_lists", lists::LINES),
+    ("reads_offers", offers::LINES),
+    ("reads_lines_about_simuls", simuls::LINES),
+    ("reads_lines_about_looking_on", watching::LINES),
+];
+
+/// Looks at each table, whether its rows are as they have to be.
+fn each_table(rt: &impl Abort, alloc: Global) -> Result<(), Fail> {
+    let none = Aliases::new(alloc);
+    for (name, rows) in TABLES {
+        read_rows(rt, alloc, name, rows, &none)?;
+    }
+    Ok(())
+}
+
 #[test]
 fn reads_lines(rt: HostRuntime) -> Result<(), Fail> {
-    let none = Aliases::new(rt.alloc());
-    read_rows(&rt, rt.alloc(), LINES, &none)
+    each_table(&rt, rt.alloc())
 }
 
 #[test]
@@ -274,21 +292,24 @@ fn what_is_said_has_800_bytes_at_most(rt: HostRuntime) -> Result<(), Fail> {
     Ok(())
 }
 
-/// Looks at each row's line whether it is read as the row says.
+/// Looks at each row's line of a table whether it is read as the row says.
 pub(crate) fn read_rows(
     rt: &impl Abort,
     alloc: Global,
+    table: &str,
     rows: &str,
     aliases: &Aliases,
 ) -> Result<(), Fail> {
     for row in rows.lines() {
-        let (line, wanted) = row.split_once('|').ok_or("a line and what it means")?;
-        assert!(rt;
-            is_read_as(alloc, aliases, line, wanted.as_bytes())?,
-            "{line}"
-        );
+        assert!(rt; is_row_read(alloc, aliases, row)?, "{table}: {row}");
     }
     Ok(())
+}
+
+/// Whether a row's line is read as the row says.
+fn is_row_read(alloc: Global, aliases: &Aliases, row: &str) -> Result<bool, Fail> {
+    let (line, wanted) = row.split_once('|').ok_or("a line and what it means")?;
+    is_read_as(alloc, aliases, line, wanted.as_bytes())
 }
 
 /// What a line is read as, told as a text.

@@ -2,6 +2,7 @@
 
 use edge_traits::{Clock, Gate, Heard, Link, LinkStep, MemLink, OpenGate, Sent, StillClock};
 use std::alloc::Global;
+use std::process::Abort;
 use std::test::Fail;
 
 /// A call of a link, and what it has to come to.
@@ -14,9 +15,13 @@ enum Call {
     Reads(&'static [u8]),
     /// Nothing is read, for this cause.
     Hears(Heard),
+    /// The link is closed.
+    Closes,
+    /// Exactly these bytes were written until then.
+    Keeps(&'static [u8]),
 }
 
-use Call::{Hears, Loses, Reads, Writes};
+use Call::{Closes, Hears, Keeps, Loses, Reads, Writes};
 
 /// The steps of a link: pieces of bytes, and pauses in place of nothing.
 fn steps_of(alloc: Global, pieces: &[Option<&[u8]>]) -> Result<Vec<LinkStep>, Fail> {
@@ -53,6 +58,16 @@ fn hears(link: &mut MemLink, what: Heard) -> bool {
     heard(link, &mut buf) == what
 }
 
+/// Whether exactly these bytes were written.
+fn keeps(link: &MemLink, bytes: &[u8]) -> bool {
+    link.written() == bytes
+}
+
+fn closes(link: &mut MemLink) -> bool {
+    link.close();
+    true
+}
+
 /// The place of the first call that comes to something else, if one does.
 fn first_wrong(link: &mut MemLink, calls: &[Call]) -> Option<usize> {
     for (place, call) in calls.iter().enumerate() {
@@ -61,6 +76,8 @@ fn first_wrong(link: &mut MemLink, calls: &[Call]) -> Option<usize> {
             Loses(bytes) => sent(link, bytes) == Sent::Failed,
             Reads(bytes) => reads(link, bytes),
             Hears(what) => hears(link, *what),
+            Closes => closes(link),
+            Keeps(bytes) => keeps(link, bytes),
         };
         if !holds {
             return Some(place);
@@ -69,44 +86,64 @@ fn first_wrong(link: &mut MemLink, calls: &[Call]) -> Option<usize> {
     None
 }
 
-const GIVEN: &[Option<&[u8]>] = &[Some(b"abcde"), None, Some(b""), Some(b"fg")];
+/// What a link gives, the calls of it that fail, by their numbers, and what all calls come to.
+struct Case {
+    name: &'static str,
+    given: &'static [Option<&'static [u8]>],
+    fails: &'static [u64],
+    calls: &'static [Call],
+}
 
-const ALL: &[Call] = &[
-    Writes(b"hello"),
-    Reads(b"abc"),
-    Reads(b"de"),
-    Hears(Heard::Quiet),
-    Reads(b"fg"),
-    Hears(Heard::End),
-    Hears(Heard::End),
-    Writes(b" again"),
+const CASES: &[Case] = &[
+    Case {
+        name: "gives_its_steps",
+        given: &[Some(b"abcde"), None, Some(b""), Some(b"fg")],
+        fails: &[],
+        calls: &[
+            Writes(b"hello"),
+            Reads(b"abc"),
+            Reads(b"de"),
+            Hears(Heard::Quiet),
+            Reads(b"fg"),
+            Hears(Heard::End),
+            Hears(Heard::End),
+            Writes(b" again"),
+            Closes,
+            Keeps(b"hello again"),
+        ],
+    },
+    Case {
+        name: "fails_at_the_calls_that_it_is_told",
+        given: &[Some(b"ab")],
+        fails: &[0, 2],
+        calls: &[
+            Loses(b"lost"),
+            Writes(b"kept"),
+            Hears(Heard::Failed),
+            Reads(b"ab"),
+            Keeps(b"kept"),
+        ],
+    },
 ];
 
-#[test]
-fn gives_its_steps(rt: HostRuntime) -> Result<(), Fail> {
-    let steps = steps_of(rt.alloc(), GIVEN)?;
-    let mut link = MemLink::new(rt.alloc(), steps, Vec::new(rt.alloc()));
-    assert_eq!(rt; first_wrong(&mut link, ALL), None);
-    link.close();
-    assert!(rt; link.written() == b"hello again".as_slice());
+/// The place of the first call of a case that comes to something else, if one does.
+fn first_wrong_of(alloc: Global, case: &Case) -> Result<Option<usize>, Fail> {
+    let steps = steps_of(alloc, case.given)?;
+    let fails = Vec::from_slice(alloc, case.fails)?;
+    Ok(first_wrong(&mut MemLink::new(alloc, steps, fails), case.calls))
+}
+
+/// Looks at each case, whether it goes as it has to.
+fn each_case(rt: &impl Abort, alloc: Global) -> Result<(), Fail> {
+    for case in CASES {
+        assert_eq!(rt; first_wrong_of(alloc, case)?, None, "{}", case.name);
+    }
     Ok(())
 }
 
-const FAULTY: &[Call] = &[
-    Loses(b"lost"),
-    Writes(b"kept"),
-    Hears(Heard::Failed),
-    Reads(b"ab"),
-];
-
 #[test]
-fn fails_at_the_calls_that_it_is_told(rt: HostRuntime) -> Result<(), Fail> {
-    let steps = steps_of(rt.alloc(), &[Some(b"ab")])?;
-    let fails = Vec::from_slice(rt.alloc(), &[0, 2])?;
-    let mut link = MemLink::new(rt.alloc(), steps, fails);
-    assert_eq!(rt; first_wrong(&mut link, FAULTY), None);
-    assert!(rt; link.written() == b"kept".as_slice());
-    Ok(())
+fn links_in_memory(rt: HostRuntime) -> Result<(), Fail> {
+    each_case(&rt, rt.alloc())
 }
 
 #[test]

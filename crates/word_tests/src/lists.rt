@@ -1,11 +1,7 @@
 //! Lines about lists of names, challenges and games, and the commands that they are read as.
 
-use crate::commands::read_rows;
-use command_words::Aliases;
-use std::test::Fail;
-
 /// A line, and what it is read as, in each row, as in the table of all commands.
-const LINES: &str = "\
+pub(crate) const LINES: &str = "\
 +censor Bob|+censor Bob
 +CENSOR  bob |+censor bob
 +ce bob|+censor bob
@@ -38,9 +34,3 @@ GAM|games
 g|refused 27
 games 1|refused 28
 gamess|refused 26";
-
-#[test]
-fn reads_lines_about_lists(rt: HostRuntime) -> Result<(), Fail> {
-    let none = Aliases::new(rt.alloc());
-    read_rows(&rt, rt.alloc(), LINES, &none)
-}

@@ -1,11 +1,7 @@
 //! Lines that make offers at a desk, and the commands that they are read as.
 
-use crate::commands::read_rows;
-use command_words::Aliases;
-use std::test::Fail;
-
 /// A line, and what it is read as, in each row.
-const LINES: &str = "\
+pub(crate) const LINES: &str = "\
 draw|draw
 DR|draw
 d|refused 27
@@ -25,8 +21,3 @@ takeback -1|refused 28
 takeback 1 2|refused 28
 takeback all|refused 28
 takeback 18446744073709551617|refused 28";
-
-#[test]
-fn reads_offers(rt: HostRuntime) -> Result<(), Fail> {
-    read_rows(&rt, rt.alloc(), LINES, &Aliases::new(rt.alloc()))
-}

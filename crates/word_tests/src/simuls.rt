@@ -1,11 +1,7 @@
 //! Lines of who gives a simul, and the commands that they are read as.
 
-use crate::commands::read_rows;
-use command_words::Aliases;
-use std::test::Fail;
-
 /// A line, and what it is read as, in each row, as in the table of all commands.
-const LINES: &str = "\
+pub(crate) const LINES: &str = "\
 simopen|simopen
 SIMO|simopen
 simopen 1|refused 28
@@ -33,8 +29,3 @@ goboard|refused 28
 go|refused 28
 g Ann|refused 27
 goboards Ann|refused 26";
-
-#[test]
-fn reads_lines_about_simuls(rt: HostRuntime) -> Result<(), Fail> {
-    read_rows(&rt, rt.alloc(), LINES, &Aliases::new(rt.alloc()))
-}

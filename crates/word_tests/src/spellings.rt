@@ -2,6 +2,7 @@
 
 use chess_model::{Kind, MoveWord, Square};
 use move_reader::read_word;
+use std::process::Abort;
 use std::test::Fail;
 
 /// A move of two squares, by their numbers.
@@ -76,12 +77,12 @@ fn read(text: &[u8]) -> Option<MoveWord> {
     read_word(text)
 }
 
-/// The first spelling of a table that isn't read as its word, if one isn't.
-fn first_misread(table: &[(&'static [u8], Word)]) -> Option<&'static [u8]> {
-    for (text, word) in table {
+/// The place of the first spelling of a table that isn't read as its word, if one isn't.
+fn first_misread(table: &[(&[u8], Word)]) -> Option<usize> {
+    for (place, (text, word)) in table.iter().enumerate() {
         let expected = word_of(word);
         if expected.is_none() || read(text) != expected {
-            return Some(text);
+            return Some(place);
         }
     }
     None
@@ -98,12 +99,6 @@ const TWO_SQUARES: &[(&[u8], Word)] = &[
     (b"e8b1", Squares(60, 1, None)),
 ];
 
-#[test]
-fn reads_two_squares(rt: HostRuntime) -> Result<(), Fail> {
-    assert!(rt; first_misread(TWO_SQUARES).is_none());
-    Ok(())
-}
-
 const ALGEBRAIC: &[(&[u8], Word)] = &[
     (b"e4", Named(Kind::Pawn, None, None, 28)),
     (b"Pe4", Named(Kind::Pawn, None, None, 28)),
@@ -118,12 +113,6 @@ const ALGEBRAIC: &[(&[u8], Word)] = &[
     (b"e2e4+", Named(Kind::Pawn, Some(4), Some(1), 28)),
     (b"e2xe4", Named(Kind::Pawn, Some(4), Some(1), 28)),
 ];
-
-#[test]
-fn reads_algebraic_notation(rt: HostRuntime) -> Result<(), Fail> {
-    assert!(rt; first_misread(ALGEBRAIC).is_none());
-    Ok(())
-}
 
 const OTHERS: &[(&[u8], Word)] = &[
     (b"e8=Q", Promoted(None, 60, Kind::Queen)),
@@ -141,10 +130,24 @@ const OTHERS: &[(&[u8], Word)] = &[
     (b"q@h8+", Dropped(Kind::Queen, 63)),
 ];
 
-#[test]
-fn reads_promotions_castling_and_drops(rt: HostRuntime) -> Result<(), Fail> {
-    assert!(rt; first_misread(OTHERS).is_none());
+/// The tables of spellings, each with a name.
+const TABLES: &[(&str, &[(&[u8], Word)])] = &[
+    ("reads_two_squares", TWO_SQUARES),
+    ("reads_algebraic_notation", ALGEBRAIC),
+    ("reads_promotions_castling_and_drops", OTHERS),
+];
+
+/// Looks at each table, whether its rows are as they have to be.
+fn each_table(rt: &impl Abort) -> Result<(), Fail> {
+    for (name, table) in TABLES {
+        assert_eq!(rt; first_misread(table), None, "{name}");
+    }
     Ok(())
+}
+
+#[test]
+fn reads_spellings(rt: HostRuntime) -> Result<(), Fail> {
+    each_table(&rt)
 }
 
 const NO_SPELLINGS: &[&[u8]] = &[

@@ -1,11 +1,7 @@
 //! Lines about looking on at games, and the commands that they are read as.
 
-use crate::commands::read_rows;
-use command_words::Aliases;
-use std::test::Fail;
-
 /// A line, and what it is read as, in each row, as in the table of all commands.
-const LINES: &str = "\
+pub(crate) const LINES: &str = "\
 refresh|refresh
 REF|refresh
 refresh now|refused 28
@@ -32,8 +28,3 @@ style 2|refused 28
 style 01|refused 28
 style 1 12|refused 28
 style|refused 28";
-
-#[test]
-fn reads_lines_about_looking_on(rt: HostRuntime) -> Result<(), Fail> {
-    read_rows(&rt, rt.alloc(), LINES, &Aliases::new(rt.alloc()))
-}

@@ -1,4 +1,4 @@
-use Rattle.std.proofs.Common.{ℕ, List, ◌∙◌, sym, subst}
+use Rattle.std.proofs.Common.{ℕ, List, ◌++◌, ◌∙◌, ap, sym, subst}
 use Rattle.std.specs.Prelude.{IsTrue}
 use Rattle.std.specs.List.{list_all}
 use Rattle.chess_model.specs.MoveText.{is_printable}
@@ -8,3 +8,7 @@ use Rattle.style12_writer.proofs.draft.Draft.number.Goals as goal
 pub text-requires : goal.text-requires
 text-requires c =
     subst (λ (text : List ℕ). IsTrue (list_all is_printable text)) (sym (c.as_bytes.ensures.value ∙ c.format.ensures.text)) (printable-decimal _)
+
+pub returns-clause-text : goal.returns-clause-text
+returns-clause-text c =
+    c.in_ok-text.ensures.text ∙ ap (λ (text : List ℕ). c.args.self.now ++ text) (c.as_bytes.ensures.value ∙ c.format.ensures.text)
