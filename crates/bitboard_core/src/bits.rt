@@ -14,7 +14,7 @@ use chess_model::{Colour, Kind, Man, Square};
 use std::marker::Model;
 
 /// A placement as sets of squares, beside the man on each square. Contracts see the placement.
-#[derive(Debug, Drop)]
+#[derive(Drop)]
 pub struct Bits {
     squares: [Option<Man>; 64],
     men: [u64; 12],
@@ -36,7 +36,7 @@ impl Model for Bits {
 
 /// The sets of a placement: bit s of a set stands for square s. The twelve sets of men are White's pawns, knights,
 /// bishops, rooks, queens and kings, then Black's; promoted men are in the set of the kind that they became, too.
-#[derive(Clone, Copy, Debug, PartialEq, Eq)]
+#[derive(Clone, Copy)]
 pub struct BitSets {
     pub men: [u64; 12],
     pub promoted: u64,

@@ -8,7 +8,7 @@ use crate::steps::{bishop_squares, king_squares, knight_squares, pawn_squares, r
 use chess_model::{Colour, Square};
 
 /// The men of one colour, by kind: bit s of a set stands for square s.
-#[derive(Clone, Copy, Debug, PartialEq, Eq)]
+#[derive(Clone, Copy)]
 pub struct Side {
     pub pawns: u64,
     pub knights: u64,

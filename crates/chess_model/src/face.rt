@@ -2,7 +2,7 @@ use crate::man::{Colour, Man};
 use crate::text::MoveText;
 
 /// All that a printed board shows of a game, clocks and names aside.
-#[derive(Clone, Copy, Debug, PartialEq, Eq)]
+#[derive(Clone, Copy, PartialEq, Eq)]
 pub struct Face {
     /// The man on each square, by the square's number.
     pub men: [Option<Man>; 64],

@@ -10,7 +10,7 @@ use crate::placement::Men;
 use crate::variant::Variant;
 
 /// How many men of each kind a player may drop. No king is ever in hand.
-#[derive(Clone, Copy, Debug, PartialEq, Eq)]
+#[derive(Clone, Copy, PartialEq, Eq)]
 pub struct Hand {
     pub pawns: u8,
     pub knights: u8,

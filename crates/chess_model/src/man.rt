@@ -21,7 +21,7 @@ impl Colour {
 }
 
 /// The six kinds of men (FIDE Laws, 2.2).
-#[derive(Clone, Copy, Debug, PartialEq, Eq)]
+#[derive(Clone, Copy, PartialEq, Eq)]
 pub enum Kind {
     Pawn,
     Knight,
@@ -48,7 +48,7 @@ impl Kind {
 }
 
 /// A man on the board. `promoted` marks one that a pawn became.
-#[derive(Clone, Copy, Debug, PartialEq, Eq)]
+#[derive(Clone, Copy, PartialEq, Eq)]
 pub struct Man {
     pub colour: Colour,
     pub kind: Kind,

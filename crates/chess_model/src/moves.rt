@@ -2,7 +2,7 @@ use crate::man::Kind;
 use crate::square::Square;
 
 /// A half-move, of which the colour is known from its place in the game.
-#[derive(Clone, Copy, Debug, PartialEq, Eq)]
+#[derive(Clone, Copy, PartialEq, Eq)]
 pub enum Move {
     /// A man goes from a square to another; `promo` is what a pawn becomes on its last rank.
     Plain {
@@ -22,7 +22,7 @@ pub enum Move {
 }
 
 /// A move as a player writes it, before a position gives it its meaning.
-#[derive(Clone, Copy, Debug, PartialEq, Eq)]
+#[derive(Clone, Copy, PartialEq, Eq)]
 pub enum MoveWord {
     /// Two squares, as `e2e4`.
     Coordinate {
@@ -50,7 +50,7 @@ pub enum MoveWord {
 }
 
 /// Why a word has no move in a position.
-#[derive(Clone, Copy, Debug, PartialEq, Eq)]
+#[derive(Clone, Copy, PartialEq, Eq)]
 pub enum Rejection {
     /// Two or more allowed moves match the word.
     Ambiguous,

@@ -19,7 +19,7 @@ use std::marker::Model;
 
 /// The slow board: 64 squares, the rights, the quiet count and the two hands. Contracts see it as the position of
 /// one board after a list of half-moves.
-#[derive(Clone, Copy, Debug)]
+#[derive(Clone, Copy)]
 pub struct PlainBoard {
     pub(crate) variant: Variant,
     pub(crate) men: Men,

@@ -9,7 +9,7 @@ use crate::square::Square;
 use crate::variant::Variant;
 
 /// Which castlings are still possible later in the game (FIDE Laws, 3.8.2.1).
-#[derive(Clone, Copy, Debug, PartialEq, Eq)]
+#[derive(Clone, Copy)]
 pub struct Rights {
     pub white_short: bool,
     pub white_long: bool,

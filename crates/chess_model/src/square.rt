@@ -4,7 +4,7 @@ ghost use Rattle.chess_model.specs.Squares.{file_of, rank_of, square_at, files_a
 use std::marker::Model;
 
 /// A square of the board: 0 is a1, 1 is b1, 8 is a2 and 63 is h8 (FIDE Laws, 2.4).
-#[derive(Clone, Copy, Debug, PartialEq, Eq)]
+#[derive(Clone, Copy, PartialEq, Eq)]
 pub struct Square(u8);
 
 impl Model for Square {

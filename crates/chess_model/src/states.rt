@@ -5,7 +5,7 @@ use crate::man::Kind;
 use crate::moves::Move;
 
 /// What a position is for the player who is to move.
-#[derive(Clone, Copy, Debug, PartialEq, Eq)]
+#[derive(Clone, Copy, PartialEq, Eq)]
 pub enum State {
     Safe,
     Check,
@@ -23,7 +23,7 @@ impl State {
 }
 
 /// What the printed text of an allowed move needs.
-#[derive(Clone, Copy, Debug, PartialEq, Eq)]
+#[derive(Clone, Copy)]
 pub struct Shown {
     pub what: Move,
     /// The kind of the man that moves or is dropped, the king for castling.

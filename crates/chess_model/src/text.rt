@@ -5,7 +5,7 @@ ghost use Rattle.chess_model.specs.MoveText.{IsMoveText, is_printable};
 use std::marker::Model;
 
 /// The text of a move: 1 to 12 bytes, each from 0x20 to 0x7E. Contracts see the list of these bytes.
-#[derive(Clone, Copy, Debug, PartialEq, Eq)]
+#[derive(Clone, Copy, PartialEq, Eq)]
 pub struct MoveText {
     bytes: [u8; 12],
     len: u8,

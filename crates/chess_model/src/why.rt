@@ -1,5 +1,5 @@
 /// Why a game ended.
-#[derive(Clone, Copy, Debug, PartialEq, Eq, Hash)]
+#[derive(Clone, Copy, PartialEq, Eq)]
 pub enum Why {
     /// Checkmate (FIDE Laws, 5.1.1).
     Mate,

@@ -7,7 +7,7 @@ use chess_model::{Hand, Kind};
 use std::marker::Model;
 
 /// How many men of each kind but the king a player may drop. Contracts see the hand that these counts are.
-#[derive(Clone, Copy, Debug, PartialEq, Eq)]
+#[derive(Clone, Copy, PartialEq, Eq)]
 pub struct Holdings {
     hand: Hand,
 }

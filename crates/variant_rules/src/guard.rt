@@ -8,7 +8,7 @@ use chess_model::Colour;
 
 /// Which half-moves have to be tried before it is known that they leave the own king safe: in check all of them, else
 /// those of the king, of men that a line joins to it, and en passant.
-#[derive(Clone, Copy, Debug)]
+#[derive(Clone, Copy)]
 pub(crate) struct Guard {
     pub(crate) in_check: bool,
     pub(crate) from: u64,

@@ -16,7 +16,7 @@ use chess_model::{Colour, Man, Move, Rights, Square, Variant};
 use holdings_drops::Holdings;
 
 /// Four squares, which may repeat each other.
-#[derive(Clone, Copy, Debug)]
+#[derive(Clone, Copy)]
 struct Squares {
     one: Square,
     two: Square,
@@ -25,14 +25,14 @@ struct Squares {
 }
 
 /// What stood on a square.
-#[derive(Clone, Copy, Debug)]
+#[derive(Clone, Copy)]
 struct Stood {
     on: Square,
     man: Option<Man>,
 }
 
 /// What taking a half-move back needs: what stood on the squares that it changed, and the values that it replaced.
-#[derive(Clone, Copy, Debug)]
+#[derive(Clone, Copy)]
 pub struct Undo {
     first: Stood,
     second: Stood,

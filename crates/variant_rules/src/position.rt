@@ -15,7 +15,7 @@ use std::marker::Model;
 
 /// The position of one board. Contracts see what chess_model calls a position: the men, whose turn it is, the en
 /// passant square, the rights, the quiet count and both hands.
-#[derive(Debug, Drop)]
+#[derive(Drop)]
 pub struct Position {
     pub(crate) variant: Variant,
     pub(crate) men: Bits,
@@ -49,7 +49,7 @@ impl Model for Position {
 }
 
 /// What a printed board shows of a position.
-#[derive(Clone, Copy, Debug, PartialEq, Eq)]
+#[derive(Clone, Copy)]
 pub struct Look {
     /// The man on each square, by the square's number.
     pub men: [Option<Man>; 64],

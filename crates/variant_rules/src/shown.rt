@@ -11,7 +11,7 @@ use crate::position::Position;
 use chess_model::{Kind, Man, Move, MoveWord, Shown, Square, State};
 
 /// Whether the text of a half-move names the file and the rank of its origin.
-#[derive(Clone, Copy, Debug)]
+#[derive(Clone, Copy)]
 pub(crate) struct Marks {
     by_file: bool,
     by_rank: bool,

@@ -15,7 +15,7 @@ use chess_model::{Colour, Kind, Man, Move, Square, Variant};
 
 /// What tells whether the kings of a colour are safe in a placement: the men of the other colour, all occupied squares,
 /// and these kings. It follows half-moves while no placement is changed.
-#[derive(Clone, Copy, Debug)]
+#[derive(Clone, Copy)]
 pub(crate) struct Sights {
     enemies: Side,
     occupied: u64,
