@@ -1,11 +1,12 @@
 -- The parts of the lines are printable.
-use Rattle.std.proofs.Common.{ℕ, ℤ, List, [], ◌∷◌, decimal, arith, rules, tests, ⊎_elim}
+use Rattle.std.proofs.Common.{ℕ, ℤ, List, [], ◌∷◌, ◌++◌, decimal, arith, rules, tests, ⊎_elim}
 use Rattle.std.specs.Prelude.{All, IsTrue}
 use Rattle.std.specs.Char.{IsAsciiAlphabetic}
 use Rattle.std.specs.Fmt.{signed_decimal}
 use Rattle.std.specs.List.{list_all}
 use Rattle.std.proofs.lemmas.Bool.{and_parts, leb-true}
 use Rattle.std.proofs.lemmas.List.Elements.{All-nil, All-cons}
+use Rattle.std.proofs.lemmas.List.Folds.{list_all-append}
 use Rattle.std.proofs.lemmas.List.Sums.{list_all-from_AllPass, AllPass-from_list_all}
 use Rattle.chess_model.specs.MoveText.{is_printable}
 use Rattle.move_writer.specs.Blanks.{Shows}
@@ -37,3 +38,7 @@ printable-shows byte h = search (rules, tests)
 -- the text of one byte
 pub printable-byte : (byte : ℕ) → IsTrue (is_printable byte) → IsTrue (list_all is_printable (byte ∷ []))
 printable-byte byte h = printable_from_All (byte ∷ []) (All-cons IsPrintable byte [] (let parts = and_parts _ _ h in (leb-true 32 _ parts.0, leb-true _ 126 parts.1)) (All-nil IsPrintable))
+
+-- a text behind another
+pub printable-append : (front text : List ℕ) → IsTrue (list_all is_printable front) → IsTrue (list_all is_printable text) → IsTrue (list_all is_printable (front ++ text))
+printable-append front text h i = simp (list_all-append, h, i)

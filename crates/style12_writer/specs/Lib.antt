@@ -6,5 +6,6 @@ pub mod GameLine
 pub mod HoldingsLine
 pub mod Line12
 pub mod OfferLines
+pub mod Room
 pub mod Spaced
 pub mod TextBoard

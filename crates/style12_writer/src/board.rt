@@ -1,14 +1,14 @@
 //! The fields that show the position.
-ghost use Rattle.std.specs.Prelude.{◌≡◌, ◌+◌, ◌<◌, ◌≤◌, ◌++◌, ◌∷◌, IsTrue, OnOk, length};
+ghost use Rattle.std.specs.Prelude.{◌≡◌, ◌+◌, ◌<◌, ◌≤◌, ◌++◌, ◌∷◌, IsTrue, length};
 ghost use Rattle.std.specs.List.{list_all};
 ghost use Rattle.chess_model.specs.MoveText.{is_printable};
 ghost use Rattle.style12_writer.specs.Board.{square_letter, rank_text, ranks, colour_to_move, double_push, castle_flags, flag_text, square_worth, material_of};
 ghost use Rattle.style12_writer.specs.Line12.{position_fields};
+ghost use Rattle.style12_writer.specs.Room.{HasRoom};
 ghost use Rattle.style12_writer.specs.Spaced.{spaced};
 
 use crate::draft::Draft;
 use chess_model::{Colour, Face, Kind, Man};
-use memory::NoMemory;
 use move_writer::letter;
 
 /// The numbers of the ranks from White's 8th down.
@@ -16,41 +16,41 @@ pub(crate) const RANKS: [usize; 8] = [7, 6, 5, 4, 3, 2, 1, 0];
 
 /// Appends the fields of the position.
 #[tactic(auto, unfolding(crate::specs::Line12::position_fields))]
-pub(crate) fn put_position(line: &mut Draft, face: &Face) -> Result<(), NoMemory>
-    ensures text { OnOk result (line.new ≡ line.old ++ spaced (position_fields face.now)) }
-    ensures most { OnOk result (length line.new ≤ length line.old + 124) }
+pub(crate) fn put_position(line: &mut Draft, face: &Face)
+    requires room { HasRoom 124 line.old }
+    ensures text { line.new ≡ line.old ++ spaced (position_fields face.now) }
+    ensures most { length line.new ≤ length line.old + 124 }
 {
-    put_ranks(line, &face.men)?;
-    line.field(colour_to_move(face.to_move))?;
-    put_push(line, face.push)?;
-    put_castlings(line, &face.rights)?;
-    line.number_field(u64::from(face.quiet))?;
-    Ok(())
+    put_ranks(line, &face.men);
+    line.field(colour_to_move(face.to_move));
+    put_push(line, face.push);
+    put_castlings(line, &face.rights);
+    line.number_field(u64::from(face.quiet));
 }
 
 /// Appends the four flags of castling, each as a field.
 #[tactic(auto, unfolding(crate::specs::Board::castle_flags))]
-fn put_castlings(line: &mut Draft, rights: &[bool; 4]) -> Result<(), NoMemory>
-    ensures text { OnOk result (line.new ≡ line.old ++ spaced (castle_flags rights.now)) }
-    ensures len { OnOk result (length line.new ≡ length line.old + 8) }
+fn put_castlings(line: &mut Draft, rights: &[bool; 4])
+    requires room { HasRoom 8 line.old }
+    ensures text { line.new ≡ line.old ++ spaced (castle_flags rights.now) }
+    ensures len { length line.new ≡ length line.old + 8 }
 {
-    line.field(flag(rights[0]))?;
-    line.field(flag(rights[1]))?;
-    line.field(flag(rights[2]))?;
-    line.field(flag(rights[3]))?;
-    Ok(())
+    line.field(flag(rights[0]));
+    line.field(flag(rights[1]));
+    line.field(flag(rights[2]));
+    line.field(flag(rights[3]));
 }
 
 /// Appends the eight ranks, each as a field.
 #[tactic(auto, unfolding(crate::specs::Board::ranks))]
-fn put_ranks(line: &mut Draft, men: &[Option<Man>; 64]) -> Result<(), NoMemory>
-    ensures text { OnOk result (line.new ≡ line.old ++ spaced (ranks men.now)) }
-    ensures len { OnOk result (length line.new ≡ length line.old + 72) }
+fn put_ranks(line: &mut Draft, men: &[Option<Man>; 64])
+    requires room { HasRoom 72 line.old }
+    ensures text { line.new ≡ line.old ++ spaced (ranks men.now) }
+    ensures len { length line.new ≡ length line.old + 72 }
 {
     for rank in RANKS {
-        put_rank(line, men, rank)?;
+        put_rank(line, men, rank);
     }
-    Ok(())
 }
 
 /// The letter of the colour that is to move.
@@ -66,43 +66,39 @@ pub(crate) fn colour_to_move(colour: Colour) -> &'static [u8]
 }
 
 /// Appends the file of a double push, or -1.
-fn put_push(line: &mut Draft, push: Option<u8>) -> Result<(), NoMemory>
-    ensures text { OnOk result (line.new ≡ line.old ++ 32 ∷ double_push push) }
-    ensures most { OnOk result (length line.new ≤ length line.old + 21) }
+fn put_push(line: &mut Draft, push: Option<u8>)
+    requires room { HasRoom 21 line.old }
+    ensures text { line.new ≡ line.old ++ 32 ∷ double_push push }
+    ensures most { length line.new ≤ length line.old + 21 }
 {
     match push {
-        None => line.field(b"-1")?,
-        Some(file) => line.number_field(u64::from(file))?,
+        None => line.field(b"-1"),
+        Some(file) => line.number_field(u64::from(file)),
     }
-    Ok(())
 }
 
 /// Appends the eight squares of a rank as a field.
-fn put_rank(line: &mut Draft, men: &[Option<Man>; 64], rank: usize) -> Result<(), NoMemory>
-    requires { rank < 8 }
-    ensures text { OnOk result (line.new ≡ line.old ++ 32 ∷ rank_text men.now rank) }
-    ensures len { OnOk result (length line.new ≡ length line.old + 9) }
+fn put_rank(line: &mut Draft, men: &[Option<Man>; 64], rank: usize)
+    requires rank { rank < 8 }
+    requires room { HasRoom 9 line.old }
+    ensures text { line.new ≡ line.old ++ 32 ∷ rank_text men.now rank }
+    ensures len { length line.new ≡ length line.old + 9 }
 {
-    line.text(b" ")?;
-    put_squares(line, men, rank)?;
-    Ok(())
+    line.text(b" ");
+    put_squares(line, men, rank);
 }
 
 /// Appends the eight squares of a rank.
-pub(crate) fn put_squares(
-    line: &mut Draft,
-    men: &[Option<Man>; 64],
-    rank: usize,
-) -> Result<(), NoMemory>
-    requires { rank < 8 }
-    ensures text { OnOk result (line.new ≡ line.old ++ rank_text men.now rank) }
-    ensures len { OnOk result (length line.new ≡ length line.old + 8) }
+pub(crate) fn put_squares(line: &mut Draft, men: &[Option<Man>; 64], rank: usize)
+    requires rank { rank < 8 }
+    requires room { HasRoom 8 line.old }
+    ensures text { line.new ≡ line.old ++ rank_text men.now rank }
+    ensures len { length line.new ≡ length line.old + 8 }
 {
     let squares = &men[8 * rank..8 * rank + 8];
     for square in squares {
-        line.byte(letter_on(*square))?;
+        line.byte(letter_on(*square));
     }
-    Ok(())
 }
 
 /// What a square shows: its man's letter, in lower case for Black, or `-`.

@@ -1,9 +1,10 @@
 //! The line of a game's beginning.
-ghost use Rattle.std.specs.Prelude.{◌≡◌, ◌+◌, ◌≤◌, ◌++◌, IfOk, IsTrue, OnOk, length};
+ghost use Rattle.std.specs.Prelude.{◌≡◌, ◌+◌, ◌≤◌, ◌++◌, IfOk, IsTrue, length};
 ghost use Rattle.std.specs.List.{list_all};
 ghost use Rattle.chess_model.specs.MoveText.{is_printable};
 ghost use Rattle.chess_model.specs.VariantWord.{word_of};
 ghost use Rattle.style12_writer.specs.CreatedLine.{created_text, terms_text};
+ghost use Rattle.style12_writer.specs.Room.{HasRoom};
 
 use crate::draft::Draft;
 use crate::game_line::put_game;
@@ -22,34 +23,34 @@ pub fn created_line(
 ) -> Result<Line, NoMemory>
     ensures { IfOk result (λ line. line ≡ created_text game white.now black.now terms.now) }
 {
-    let mut line = Draft::new(alloc);
-    put_game(&mut line, game, white, black)?;
-    line.text(b"Creating ")?;
-    put_terms(&mut line, terms)?;
-    line.text(b" match.}")?;
-    Ok(line.finish())
+    let mut line = Draft::new();
+    put_game(&mut line, game, white, black);
+    line.text(b"Creating ");
+    put_terms(&mut line, terms);
+    line.text(b" match.}");
+    line.finish(alloc)
 }
 
 /// Appends the minutes, the increment and the variant.
-fn put_terms(line: &mut Draft, terms: &Terms) -> Result<(), NoMemory>
-    ensures text { OnOk result (line.new ≡ line.old ++ terms_text terms.now) }
-    ensures most { OnOk result (length line.new ≤ length line.old + 60) }
+fn put_terms(line: &mut Draft, terms: &Terms)
+    requires room { HasRoom 60 line.old }
+    ensures text { line.new ≡ line.old ++ terms_text terms.now }
+    ensures most { length line.new ≤ length line.old + 60 }
 {
-    line.number(u64::from(terms.minutes))?;
-    line.text(b" ")?;
-    line.number(u64::from(terms.increment))?;
-    line.text(b" ")?;
-    put_variant(line, terms.variant)?;
-    Ok(())
+    line.number(u64::from(terms.minutes));
+    line.text(b" ");
+    line.number(u64::from(terms.increment));
+    line.text(b" ");
+    put_variant(line, terms.variant);
 }
 
 /// Appends the name of a variant.
-fn put_variant(line: &mut Draft, variant: Variant) -> Result<(), NoMemory>
-    ensures text { OnOk result (line.new ≡ line.old ++ word_of variant) }
-    ensures most { OnOk result (length line.new ≤ length line.old + 10) }
+fn put_variant(line: &mut Draft, variant: Variant)
+    requires room { HasRoom 10 line.old }
+    ensures text { line.new ≡ line.old ++ word_of variant }
+    ensures most { length line.new ≤ length line.old + 10 }
 {
-    line.text(name_of(variant))?;
-    Ok(())
+    line.text(name_of(variant));
 }
 
 /// The name of a variant.

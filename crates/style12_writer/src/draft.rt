@@ -1,7 +1,9 @@
-ghost use Rattle.std.specs.Prelude.{◌≡◌, ◌+◌, ◌≤◌, [], ◌∷◌, ◌++◌, IsTrue, OnOk, decimal, length};
+//! A line while it is written.
+ghost use Rattle.std.specs.Prelude.{◌≡◌, ◌+◌, ◌≤◌, [], ◌∷◌, ◌++◌, IfOk, IsTrue, decimal, length};
 ghost use Rattle.std.specs.Fmt.{signed_decimal};
 ghost use Rattle.std.specs.List.{list_all};
 ghost use Rattle.chess_model.specs.MoveText.{is_printable};
+ghost use Rattle.style12_writer.specs.Room.{HasRoom};
 
 use fics_words::{Handle, Line};
 use itoa::Buffer;
@@ -9,128 +11,132 @@ use memory::NoMemory;
 use std::alloc::Global;
 use std::marker::Model;
 
-/// A line while it is written.
+/// The most bytes of a draft: the board line, the longest that is written here, has at most 412.
+const MOST_BYTES: usize = 512;
+
+/// A line while it is written, in a place of its own, so that nothing is appended at the cost of memory.
 #[derive(Drop)]
 pub(crate) struct Draft {
-    bytes: Vec<u8>,
+    bytes: [u8; MOST_BYTES],
+    len: usize,
 }
 
 impl Model for Draft {
-    ghost use Rattle.std.specs.Prelude.{List, ℕ, IsTrue};
-    ghost use Rattle.std.specs.List.{list_all};
-    ghost use Rattle.chess_model.specs.MoveText.{is_printable};
+    ghost use Rattle.std.specs.Prelude.{List, ℕ, take};
+    ghost use Rattle.style12_writer.specs.Room.{HoldsDraft};
 
     ghost Value = { List ℕ };
 
-    ghost view = { λ draft. draft.bytes.items };
+    ghost view = { λ draft. take draft.len draft.bytes };
 
-    ghost invariant = { λ draft. IsTrue (list_all is_printable draft.bytes.items) };
+    ghost invariant = { λ draft. HoldsDraft draft.bytes draft.len };
 }
 
 impl Draft {
     /// The empty line.
-    pub(crate) fn new(alloc: Global) -> Draft
+    pub(crate) fn new() -> Draft
         ensures { result ≡ [] }
     {
         Draft {
-            bytes: Vec::new(alloc),
+            bytes: [0; MOST_BYTES],
+            len: 0,
         }
     }
 
     /// Appends a text.
-    pub(crate) fn text(&mut self, text: &[u8]) -> Result<(), NoMemory>
-        requires { IsTrue (list_all is_printable text.now) }
-        ensures text { OnOk result (self.new ≡ self.old ++ text.now) }
-        ensures len { OnOk result (length self.new ≡ length self.old + length text.now) }
+    pub(crate) fn text(&mut self, text: &[u8])
+        requires printable { IsTrue (list_all is_printable text.now) }
+        requires room { HasRoom (length text.now) self.old }
+        ensures text { self.new ≡ self.old ++ text.now }
+        ensures len { length self.new ≡ length self.old + length text.now }
     {
-        self.bytes.extend_from_slice(text)?;
-        Ok(())
+        let end = self.len + text.len();
+        self.bytes[self.len..end].copy_from_slice(text);
+        self.len = end;
     }
 
     /// Appends a byte.
-    pub(crate) fn byte(&mut self, byte: u8) -> Result<(), NoMemory>
-        requires { IsTrue (is_printable byte) }
-        ensures text { OnOk result (self.new ≡ self.old ++ byte ∷ []) }
-        ensures len { OnOk result (length self.new ≡ length self.old + 1) }
+    pub(crate) fn byte(&mut self, byte: u8)
+        requires printable { IsTrue (is_printable byte) }
+        requires room { HasRoom 1 self.old }
+        ensures text { self.new ≡ self.old ++ byte ∷ [] }
+        ensures len { length self.new ≡ length self.old + 1 }
     {
-        self.text(&[byte])?;
-        Ok(())
+        self.text(&[byte]);
     }
 
     /// Appends a player's name.
-    pub(crate) fn name(&mut self, handle: &Handle) -> Result<(), NoMemory>
-        ensures text { OnOk result (self.new ≡ self.old ++ handle.now) }
-        ensures most { OnOk result (length self.new ≤ length self.old + 17) }
+    pub(crate) fn name(&mut self, handle: &Handle)
+        requires room { HasRoom 17 self.old }
+        ensures text { self.new ≡ self.old ++ handle.now }
+        ensures most { length self.new ≤ length self.old + 17 }
     {
-        self.text(handle.letters())?;
-        Ok(())
+        self.text(handle.letters());
     }
 
     /// Appends a decimal.
-    pub(crate) fn number(&mut self, n: u64) -> Result<(), NoMemory>
-        ensures text { OnOk result (self.new ≡ self.old ++ decimal n) }
-        ensures most { OnOk result (length self.new ≤ length self.old + 20) }
+    pub(crate) fn number(&mut self, n: u64)
+        requires room { HasRoom 20 self.old }
+        ensures text { self.new ≡ self.old ++ decimal n }
+        ensures most { length self.new ≤ length self.old + 20 }
     {
-        self.text(Buffer::new().format(n).as_bytes())?;
-        Ok(())
+        self.text(Buffer::new().format(n).as_bytes());
     }
 
     /// Appends a decimal with its sign where it is below 0.
-    pub(crate) fn signed(&mut self, n: i64) -> Result<(), NoMemory>
-        ensures text { OnOk result (self.new ≡ self.old ++ signed_decimal n) }
-        ensures most { OnOk result (length self.new ≤ length self.old + 20) }
+    pub(crate) fn signed(&mut self, n: i64)
+        requires room { HasRoom 20 self.old }
+        ensures text { self.new ≡ self.old ++ signed_decimal n }
+        ensures most { length self.new ≤ length self.old + 20 }
     {
-        self.text(Buffer::new().format(n).as_bytes())?;
-        Ok(())
+        self.text(Buffer::new().format(n).as_bytes());
     }
 
     /// Appends a blank and a field.
-    pub(crate) fn field(&mut self, field: &[u8]) -> Result<(), NoMemory>
-        requires { IsTrue (list_all is_printable field.now) }
-        ensures text { OnOk result (self.new ≡ self.old ++ 32 ∷ field.now) }
-        ensures len { OnOk result (length self.new ≡ length self.old + 1 + length field.now) }
+    pub(crate) fn field(&mut self, field: &[u8])
+        requires printable { IsTrue (list_all is_printable field.now) }
+        requires room { HasRoom (1 + length field.now) self.old }
+        ensures text { self.new ≡ self.old ++ 32 ∷ field.now }
+        ensures len { length self.new ≡ length self.old + 1 + length field.now }
     {
-        self.text(b" ")?;
-        self.text(field)?;
-        Ok(())
+        self.text(b" ");
+        self.text(field);
     }
 
     /// Appends a blank and a player's name.
-    pub(crate) fn name_field(&mut self, handle: &Handle) -> Result<(), NoMemory>
-        ensures text { OnOk result (self.new ≡ self.old ++ 32 ∷ handle.now) }
-        ensures most { OnOk result (length self.new ≤ length self.old + 18) }
+    pub(crate) fn name_field(&mut self, handle: &Handle)
+        requires room { HasRoom 18 self.old }
+        ensures text { self.new ≡ self.old ++ 32 ∷ handle.now }
+        ensures most { length self.new ≤ length self.old + 18 }
     {
-        self.text(b" ")?;
-        self.name(handle)?;
-        Ok(())
+        self.text(b" ");
+        self.name(handle);
     }
 
     /// Appends a blank and a decimal.
-    pub(crate) fn number_field(&mut self, n: u64) -> Result<(), NoMemory>
-        ensures text { OnOk result (self.new ≡ self.old ++ 32 ∷ decimal n) }
-        ensures most { OnOk result (length self.new ≤ length self.old + 21) }
+    pub(crate) fn number_field(&mut self, n: u64)
+        requires room { HasRoom 21 self.old }
+        ensures text { self.new ≡ self.old ++ 32 ∷ decimal n }
+        ensures most { length self.new ≤ length self.old + 21 }
     {
-        self.text(b" ")?;
-        self.number(n)?;
-        Ok(())
+        self.text(b" ");
+        self.number(n);
     }
 
     /// Appends a blank and a decimal with its sign where it is below 0.
-    pub(crate) fn signed_field(&mut self, n: i64) -> Result<(), NoMemory>
-        ensures text { OnOk result (self.new ≡ self.old ++ 32 ∷ signed_decimal n) }
-        ensures most { OnOk result (length self.new ≤ length self.old + 21) }
+    pub(crate) fn signed_field(&mut self, n: i64)
+        requires room { HasRoom 21 self.old }
+        ensures text { self.new ≡ self.old ++ 32 ∷ signed_decimal n }
+        ensures most { length self.new ≤ length self.old + 21 }
     {
-        self.text(b" ")?;
-        self.signed(n)?;
-        Ok(())
+        self.text(b" ");
+        self.signed(n);
     }
 
     /// The line as it stands.
-    pub(crate) fn finish(self) -> Line
-        requires { length self ≤ 1023 }
-        ensures { result ≡ self }
+    pub(crate) fn finish(&self, alloc: Global) -> Result<Line, NoMemory>
+        ensures { IfOk result (λ line. line ≡ self.now) }
     {
-        let Draft { bytes } = self;
-        Line::from_bytes(bytes)
+        Ok(Line::from_bytes(Vec::from_slice(alloc, &self.bytes[..self.len])?))
     }
 }

@@ -1,8 +1,9 @@
 //! The line of a game's end.
-ghost use Rattle.std.specs.Prelude.{◌≡◌, ◌+◌, ◌≤◌, ◌↔◌, ◌++◌, IfOk, OnOk, IsSome, IsTrue, codes, length};
+ghost use Rattle.std.specs.Prelude.{◌≡◌, ◌+◌, ◌≤◌, ◌↔◌, ◌++◌, IfOk, IsSome, IsTrue, codes, length};
 ghost use Rattle.std.specs.List.{list_all};
 ghost use Rattle.chess_model.specs.MoveText.{is_printable};
 ghost use Rattle.style12_writer.specs.EndLine.{is_decisive, loser_text, manner_text, reason_text, result_text, end_text};
+ghost use Rattle.style12_writer.specs.Room.{HasRoom};
 
 use crate::draft::Draft;
 use crate::game_line::put_game;
@@ -41,54 +42,49 @@ pub fn end_line(
     requires { IsSome winner ↔ IsTrue (is_decisive why) }
     ensures { IfOk result (λ line. line ≡ end_text v.now why winner own) }
 {
-    let mut line = Draft::new(alloc);
-    put_game(&mut line, v.game, &v.white, &v.black)?;
-    put_reason(&mut line, v, why, winner, own)?;
-    line.text(b"} ")?;
-    line.text(result_of(why, winner))?;
-    Ok(line.finish())
+    let mut line = Draft::new();
+    put_game(&mut line, v.game, &v.white, &v.black);
+    put_reason(&mut line, v, why, winner, own);
+    line.text(b"} ");
+    line.text(result_of(why, winner));
+    line.finish(alloc)
 }
 
 /// Appends why the game ended: 43 bytes at most.
-fn put_reason(
-    line: &mut Draft,
-    v: &BoardView,
-    why: Why,
-    winner: Option<Colour>,
-    own: bool,
-) -> Result<(), NoMemory>
-    ensures text { OnOk result (line.new ≡ line.old ++ reason_text v.now why winner own) }
-    ensures most { OnOk result (length line.new ≤ length line.old + 43) }
+fn put_reason(line: &mut Draft, v: &BoardView, why: Why, winner: Option<Colour>, own: bool)
+    requires room { HasRoom 43 line.old }
+    ensures text { line.new ≡ line.old ++ reason_text v.now why winner own }
+    ensures most { length line.new ≤ length line.old + 43 }
 {
     if !own {
-        line.text(b"partner's game ended")?;
-        return Ok(());
+        line.text(b"partner's game ended");
+        return;
     }
-    put_loser(line, v, winner)?;
-    line.text(manner(why))?;
-    Ok(())
+    put_loser(line, v, winner);
+    line.text(manner(why));
 }
 
 /// Appends the name of the player who lost and a blank, where somebody won.
-fn put_loser(line: &mut Draft, v: &BoardView, winner: Option<Colour>) -> Result<(), NoMemory>
-    ensures text { OnOk result (line.new ≡ line.old ++ loser_text v.now winner) }
-    ensures most { OnOk result (length line.new ≤ length line.old + 18) }
+fn put_loser(line: &mut Draft, v: &BoardView, winner: Option<Colour>)
+    requires room { HasRoom 18 line.old }
+    ensures text { line.new ≡ line.old ++ loser_text v.now winner }
+    ensures most { length line.new ≤ length line.old + 18 }
 {
     match winner {
         Some(Colour::White) => put_name(line, &v.black),
         Some(Colour::Black) => put_name(line, &v.white),
-        None => Ok(()),
+        None => {}
     }
 }
 
 /// Appends a player's name and a blank.
-fn put_name(line: &mut Draft, player: &Handle) -> Result<(), NoMemory>
-    ensures text { OnOk result (line.new ≡ line.old ++ player.now ++ codes " ") }
-    ensures most { OnOk result (length line.new ≤ length line.old + 18) }
+fn put_name(line: &mut Draft, player: &Handle)
+    requires room { HasRoom 18 line.old }
+    ensures text { line.new ≡ line.old ++ player.now ++ codes " " }
+    ensures most { length line.new ≤ length line.old + 18 }
 {
-    line.name(player)?;
-    line.text(b" ")?;
-    Ok(())
+    line.name(player);
+    line.text(b" ");
 }
 
 /// How the game ended, or what the player who lost did.

@@ -1,7 +1,8 @@
 //! The holdings line.
-ghost use Rattle.std.specs.Prelude.{◌≡◌, ◌+◌, ◌≤◌, [], ◌∷◌, ◌++◌, IfOk, OnOk, length};
+ghost use Rattle.std.specs.Prelude.{◌≡◌, ◌+◌, ◌≤◌, [], ◌∷◌, ◌++◌, IfOk, length};
 ghost use Rattle.move_writer.specs.Letters.{letter_of};
 ghost use Rattle.style12_writer.specs.HoldingsLine.{came_text, hand_text, holdings_text, men_text};
+ghost use Rattle.style12_writer.specs.Room.{HasRoom};
 
 use crate::draft::Draft;
 use chess_model::Kind;
@@ -26,59 +27,59 @@ pub fn line_b1(
 ) -> Result<Line, NoMemory>
     ensures { IfOk result (λ line. line ≡ holdings_text game white.now black.now came) }
 {
-    let mut line = Draft::new(alloc);
-    line.text(b"<b1> game ")?;
-    line.number(u64::from(game))?;
-    line.text(b" white [")?;
-    put_hand(&mut line, white)?;
-    line.text(b"] black [")?;
-    put_hand(&mut line, black)?;
-    line.text(b"]")?;
-    put_came(&mut line, came)?;
-    Ok(line.finish())
+    let mut line = Draft::new();
+    line.text(b"<b1> game ");
+    line.number(u64::from(game));
+    line.text(b" white [");
+    put_hand(&mut line, white);
+    line.text(b"] black [");
+    put_hand(&mut line, black);
+    line.text(b"]");
+    put_came(&mut line, came);
+    line.finish(alloc)
 }
 
 /// Appends the men in a hand.
-fn put_hand(line: &mut Draft, hand: &Holdings) -> Result<(), NoMemory>
-    ensures text { OnOk result (line.new ≡ line.old ++ hand_text hand.now) }
-    ensures most { OnOk result (length line.new ≤ length line.old + 80) }
+fn put_hand(line: &mut Draft, hand: &Holdings)
+    requires room { HasRoom 80 line.old }
+    ensures text { line.new ≡ line.old ++ hand_text hand.now }
+    ensures most { length line.new ≤ length line.old + 80 }
 {
-    put_men(line, Kind::Pawn, hand.count(Kind::Pawn))?;
-    put_men(line, Kind::Knight, hand.count(Kind::Knight))?;
-    put_men(line, Kind::Bishop, hand.count(Kind::Bishop))?;
-    put_men(line, Kind::Rook, hand.count(Kind::Rook))?;
-    put_men(line, Kind::Queen, hand.count(Kind::Queen))?;
-    Ok(())
+    put_men(line, Kind::Pawn, hand.count(Kind::Pawn));
+    put_men(line, Kind::Knight, hand.count(Kind::Knight));
+    put_men(line, Kind::Bishop, hand.count(Kind::Bishop));
+    put_men(line, Kind::Rook, hand.count(Kind::Rook));
+    put_men(line, Kind::Queen, hand.count(Kind::Queen));
 }
 
 /// Appends a letter for each man of a kind.
-fn put_men(line: &mut Draft, kind: Kind, count: u8) -> Result<(), NoMemory>
-    ensures text { OnOk result (line.new ≡ line.old ++ men_text kind count) }
-    ensures most { OnOk result (length line.new ≤ length line.old + 16) }
+fn put_men(line: &mut Draft, kind: Kind, count: u8)
+    requires room { HasRoom 16 line.old }
+    ensures text { line.new ≡ line.old ++ men_text kind count }
+    ensures most { length line.new ≤ length line.old + 16 }
 {
     for _man in 0..count.min(MOST_OF_A_KIND) {
-        put_letter(line, kind)?;
+        put_letter(line, kind);
     }
-    Ok(())
 }
 
 /// Appends the letter of a kind.
-fn put_letter(line: &mut Draft, kind: Kind) -> Result<(), NoMemory>
-    ensures text { OnOk result (line.new ≡ line.old ++ letter_of kind ∷ []) }
-    ensures len { OnOk result (length line.new ≡ length line.old + 1) }
+fn put_letter(line: &mut Draft, kind: Kind)
+    requires room { HasRoom 1 line.old }
+    ensures text { line.new ≡ line.old ++ letter_of kind ∷ [] }
+    ensures len { length line.new ≡ length line.old + 1 }
 {
-    line.byte(letter(kind))?;
-    Ok(())
+    line.byte(letter(kind));
 }
 
 /// Appends the man that has just come, if one has.
-fn put_came(line: &mut Draft, came: Option<Kind>) -> Result<(), NoMemory>
-    ensures text { OnOk result (line.new ≡ line.old ++ came_text came) }
-    ensures most { OnOk result (length line.new ≤ length line.old + 5) }
+fn put_came(line: &mut Draft, came: Option<Kind>)
+    requires room { HasRoom 5 line.old }
+    ensures text { line.new ≡ line.old ++ came_text came }
+    ensures most { length line.new ≤ length line.old + 5 }
 {
     if let Some(kind) = came {
-        line.text(b" <- ")?;
-        put_letter(line, kind)?;
+        line.text(b" <- ");
+        put_letter(line, kind);
     }
-    Ok(())
 }

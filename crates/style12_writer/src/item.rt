@@ -12,7 +12,7 @@ pub type LineList = Listed<Line>;
 pub type ItemList = Listed<Item>;
 
 /// One thing that the viewers of a game are told.
-#[derive(Debug, Drop)]
+#[derive(Drop)]
 pub enum Item {
     /// A board line.
     Board(BoardView),

@@ -1,11 +1,12 @@
 //! The board line.
-ghost use Rattle.std.specs.Prelude.{◌≡◌, ◌+◌, ◌<◌, ◌≤◌, [], ◌∷◌, ◌++◌, All, IfOk, IsTrue, OnOk, length};
+ghost use Rattle.std.specs.Prelude.{◌≡◌, ◌+◌, ◌<◌, ◌≤◌, [], ◌∷◌, ◌++◌, All, IfOk, IsTrue, length};
 ghost use Rattle.move_writer.specs.Blanks.{HasNoBlank};
 ghost use Rattle.std.specs.Fmt.{signed_decimal};
 ghost use Rattle.std.specs.List.{list_all};
 ghost use Rattle.chess_model.specs.MoveText.{is_printable};
 ghost use Rattle.style12_writer.specs.Clocks.{whole_seconds_of, time_taken, two_digits_of};
 ghost use Rattle.style12_writer.specs.Line12.{game_number, white_name, black_name, game_fields, strength_fields, move_fields, fields_of, line12_text, cut_at_blanks};
+ghost use Rattle.style12_writer.specs.Room.{HasRoom};
 ghost use Rattle.style12_writer.specs.Spaced.{spaced};
 
 use crate::board::{flag, material, put_position};
@@ -21,88 +22,88 @@ use std::alloc::Global;
 pub fn line12(alloc: Global, v: &BoardView, who: Viewer) -> Result<Line, NoMemory>
     ensures { IfOk result (λ line. line ≡ line12_text v.now who) }
 {
-    let mut line = Draft::new(alloc);
-    line.text(b"<12>")?;
-    put_position(&mut line, &v.face)?;
-    put_game(&mut line, v, who)?;
-    put_strengths(&mut line, v)?;
-    put_moves(&mut line, v, who)?;
-    Ok(line.finish())
+    let mut line = Draft::new();
+    line.text(b"<12>");
+    put_position(&mut line, &v.face);
+    put_game(&mut line, v, who);
+    put_strengths(&mut line, v);
+    put_moves(&mut line, v, who);
+    line.finish(alloc)
 }
 
 /// Appends the fields of the game and its terms.
 #[tactic(auto, unfolding(crate::specs::Line12::game_fields))]
-fn put_game(line: &mut Draft, v: &BoardView, who: Viewer) -> Result<(), NoMemory>
-    ensures text { OnOk result (line.new ≡ line.old ++ spaced (game_fields v.now who)) }
-    ensures most { OnOk result (length line.new ≤ length line.old + 120) }
+fn put_game(line: &mut Draft, v: &BoardView, who: Viewer)
+    requires room { HasRoom 120 line.old }
+    ensures text { line.new ≡ line.old ++ spaced (game_fields v.now who) }
+    ensures most { length line.new ≤ length line.old + 120 }
 {
-    put_players(line, v)?;
-    line.signed_field(i64::from(who.relation))?;
-    line.number_field(u64::from(v.minutes))?;
-    line.number_field(u64::from(v.increment))?;
-    Ok(())
+    put_players(line, v);
+    line.signed_field(i64::from(who.relation));
+    line.number_field(u64::from(v.minutes));
+    line.number_field(u64::from(v.increment));
 }
 
 /// Appends the fields of the game's number and its players.
-fn put_players(line: &mut Draft, v: &BoardView) -> Result<(), NoMemory>
-    ensures text { OnOk result (line.new
-        ≡ line.old ++ spaced (game_number v.now ∷ white_name v.now ∷ black_name v.now ∷ [])) }
-    ensures most { OnOk result (length line.new ≤ length line.old + 57) }
+fn put_players(line: &mut Draft, v: &BoardView)
+    requires room { HasRoom 57 line.old }
+    ensures text { line.new
+        ≡ line.old ++ spaced (game_number v.now ∷ white_name v.now ∷ black_name v.now ∷ []) }
+    ensures most { length line.new ≤ length line.old + 57 }
 {
-    line.number_field(u64::from(v.game))?;
-    line.name_field(&v.white)?;
-    line.name_field(&v.black)?;
-    Ok(())
+    line.number_field(u64::from(v.game));
+    line.name_field(&v.white);
+    line.name_field(&v.black);
 }
 
 /// Appends the fields of what the players have.
 #[tactic(auto, unfolding(crate::specs::Line12::strength_fields))]
-fn put_strengths(line: &mut Draft, v: &BoardView) -> Result<(), NoMemory>
-    ensures text { OnOk result (line.new ≡ line.old ++ spaced (strength_fields v.now)) }
-    ensures most { OnOk result (length line.new ≤ length line.old + 84) }
+fn put_strengths(line: &mut Draft, v: &BoardView)
+    requires room { HasRoom 84 line.old }
+    ensures text { line.new ≡ line.old ++ spaced (strength_fields v.now) }
+    ensures most { length line.new ≤ length line.old + 84 }
 {
-    line.number_field(material(Colour::White, &v.face.men))?;
-    line.number_field(material(Colour::Black, &v.face.men))?;
-    put_seconds(line, v.remaining[0])?;
-    put_seconds(line, v.remaining[1])?;
-    Ok(())
+    line.number_field(material(Colour::White, &v.face.men));
+    line.number_field(material(Colour::Black, &v.face.men));
+    put_seconds(line, v.remaining[0]);
+    put_seconds(line, v.remaining[1]);
 }
 
 /// Appends the fields of the moves, and the board's orientation.
 #[tactic(auto, unfolding(crate::specs::Line12::move_fields))]
-fn put_moves(line: &mut Draft, v: &BoardView, who: Viewer) -> Result<(), NoMemory>
-    ensures text { OnOk result (line.new ≡ line.old ++ spaced (move_fields v.now who)) }
-    ensures most { OnOk result (length line.new ≤ length line.old + 80) }
+fn put_moves(line: &mut Draft, v: &BoardView, who: Viewer)
+    requires room { HasRoom 80 line.old }
+    ensures text { line.new ≡ line.old ++ spaced (move_fields v.now who) }
+    ensures most { length line.new ≤ length line.old + 80 }
 {
-    line.number_field(u64::from(v.face.number))?;
-    line.field(v.face.verbose.bytes())?;
-    put_time_taken(line, v.taken)?;
-    line.field(v.face.pretty.bytes())?;
-    line.field(flag(who.flip))?;
-    Ok(())
+    line.number_field(u64::from(v.face.number));
+    line.field(v.face.verbose.bytes());
+    put_time_taken(line, v.taken);
+    line.field(v.face.pretty.bytes());
+    line.field(flag(who.flip));
 }
 
 /// Appends a time in milliseconds as a field of whole seconds, truncated towards zero.
-fn put_seconds(line: &mut Draft, millis: i64) -> Result<(), NoMemory>
-    ensures text { OnOk result (line.new ≡ line.old ++ 32 ∷ signed_decimal (whole_seconds_of millis)) }
-    ensures most { OnOk result (length line.new ≤ length line.old + 21) }
+fn put_seconds(line: &mut Draft, millis: i64)
+    requires room { HasRoom 21 line.old }
+    ensures text { line.new ≡ line.old ++ 32 ∷ signed_decimal (whole_seconds_of millis) }
+    ensures most { length line.new ≤ length line.old + 21 }
 {
-    line.signed_field(millis / 1_000)?;
-    Ok(())
+    line.signed_field(millis / 1_000);
 }
 
 /// Appends a time in milliseconds as the field `(m:ss)`.
-fn put_time_taken(line: &mut Draft, millis: u64) -> Result<(), NoMemory>
-    ensures text { OnOk result (line.new ≡ line.old ++ 32 ∷ time_taken millis) }
-    ensures most { OnOk result (length line.new ≤ length line.old + 26) }
+fn put_time_taken(line: &mut Draft, millis: u64)
+    requires room { HasRoom 26 line.old }
+    ensures text { line.new ≡ line.old ++ 32 ∷ time_taken millis }
+    ensures most { length line.new ≤ length line.old + 26 }
 {
     let seconds = millis / 1_000;
-    line.text(b" (")?;
-    line.number(seconds / 60)?;
-    line.text(b":")?;
-    line.text(&two_digits(seconds % 60))?;
-    line.text(b")")?;
-    Ok(())
+    line.text(b" (");
+    line.number(seconds / 60);
+    line.text(b":");
+    line.text(&two_digits(seconds % 60));
+    line.text(b")");
 }
 
 /// A number below 100 in two digits.

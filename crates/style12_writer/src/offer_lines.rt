@@ -34,12 +34,12 @@ pub fn adjourn_line(alloc: Global, name: &Handle) -> Result<Line, NoMemory>
 pub fn takeback_line(alloc: Global, name: &Handle, n: u16) -> Result<Line, NoMemory>
     ensures { IfOk result (λ line. line ≡ takeback_text name.now n) }
 {
-    let mut line = Draft::new(alloc);
-    line.name(name)?;
-    line.text(b" offers to take back ")?;
-    line.number(u64::from(n))?;
-    line.text(b".")?;
-    Ok(line.finish())
+    let mut line = Draft::new();
+    line.name(name);
+    line.text(b" offers to take back ");
+    line.number(u64::from(n));
+    line.text(b".");
+    line.finish(alloc)
 }
 
 /// The line of a player who declines an offer, `H declines.`.
@@ -53,10 +53,10 @@ pub fn decline_line(alloc: Global, name: &Handle) -> Result<Line, NoMemory>
 pub fn taken_line(alloc: Global, n: u16) -> Result<Line, NoMemory>
     ensures { IfOk result (λ line. line ≡ taken_text n) }
 {
-    let mut line = Draft::new(alloc);
-    line.number(u64::from(n))?;
-    line.text(b" taken back.")?;
-    Ok(line.finish())
+    let mut line = Draft::new();
+    line.number(u64::from(n));
+    line.text(b" taken back.");
+    line.finish(alloc)
 }
 
 /// The line of a player's name and what is said of the player.
@@ -65,8 +65,8 @@ fn named(alloc: Global, name: &Handle, said: &[u8]) -> Result<Line, NoMemory>
     requires short { length said.now ≤ 40 }
     ensures { IfOk result (λ line. line ≡ name.now ++ said.now) }
 {
-    let mut line = Draft::new(alloc);
-    line.name(name)?;
-    line.text(said)?;
-    Ok(line.finish())
+    let mut line = Draft::new();
+    line.name(name);
+    line.text(said);
+    line.finish(alloc)
 }

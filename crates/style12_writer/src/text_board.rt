@@ -1,7 +1,8 @@
 //! The board in text.
-ghost use Rattle.std.specs.Prelude.{◌≡◌, ◌+◌, ◌<◌, ◌≤◌, ◌++◌, IfOk, OnOk, length};
+ghost use Rattle.std.specs.Prelude.{◌≡◌, ◌+◌, ◌<◌, ◌≤◌, ◌++◌, IfOk, length};
 ghost use Rattle.std.specs.Fmt.{signed_decimal};
 ghost use Rattle.style12_writer.specs.Board.{rank_text, ranks};
+ghost use Rattle.style12_writer.specs.Room.{HasRoom};
 ghost use Rattle.style12_writer.specs.TextBoard.{board1_lines, clocks_text, summary_text, turn_text};
 ghost use Rattle.style12_writer.specs.Clocks.{whole_seconds_of};
 
@@ -43,51 +44,51 @@ fn rank_line(alloc: Global, men: &[Option<Man>; 64], rank: usize) -> Result<Line
     requires { rank < 8 }
     ensures { IfOk result (λ line. line ≡ rank_text men.now rank) }
 {
-    let mut line = Draft::new(alloc);
-    put_squares(&mut line, men, rank)?;
-    Ok(line.finish())
+    let mut line = Draft::new();
+    put_squares(&mut line, men, rank);
+    line.finish(alloc)
 }
 
 /// The line behind the ranks.
 fn summary(alloc: Global, v: &BoardView) -> Result<Line, NoMemory>
     ensures { IfOk result (λ line. line ≡ summary_text v.now) }
 {
-    let mut line = Draft::new(alloc);
-    put_turn(&mut line, v)?;
-    put_clocks(&mut line, v)?;
-    line.text(b", last ")?;
-    line.text(v.face.pretty.bytes())?;
-    Ok(line.finish())
+    let mut line = Draft::new();
+    put_turn(&mut line, v);
+    put_clocks(&mut line, v);
+    line.text(b", last ");
+    line.text(v.face.pretty.bytes());
+    line.finish(alloc)
 }
 
 /// Appends who is to move, and in which game.
-fn put_turn(line: &mut Draft, v: &BoardView) -> Result<(), NoMemory>
-    ensures text { OnOk result (line.new ≡ line.old ++ turn_text v.now) }
-    ensures most { OnOk result (length line.new ≤ length line.old + 40) }
+fn put_turn(line: &mut Draft, v: &BoardView)
+    requires room { HasRoom 40 line.old }
+    ensures text { line.new ≡ line.old ++ turn_text v.now }
+    ensures most { length line.new ≤ length line.old + 40 }
 {
-    line.text(colour_to_move(v.face.to_move))?;
-    line.text(b" to move, game ")?;
-    line.number(u64::from(v.game))?;
-    Ok(())
+    line.text(colour_to_move(v.face.to_move));
+    line.text(b" to move, game ");
+    line.number(u64::from(v.game));
 }
 
 /// Appends the clocks.
-fn put_clocks(line: &mut Draft, v: &BoardView) -> Result<(), NoMemory>
-    ensures text { OnOk result (line.new ≡ line.old ++ clocks_text v.now) }
-    ensures most { OnOk result (length line.new ≤ length line.old + 60) }
+fn put_clocks(line: &mut Draft, v: &BoardView)
+    requires room { HasRoom 60 line.old }
+    ensures text { line.new ≡ line.old ++ clocks_text v.now }
+    ensures most { length line.new ≤ length line.old + 60 }
 {
-    line.text(b", White ")?;
-    put_whole_seconds(line, v.remaining[0])?;
-    line.text(b", Black ")?;
-    put_whole_seconds(line, v.remaining[1])?;
-    Ok(())
+    line.text(b", White ");
+    put_whole_seconds(line, v.remaining[0]);
+    line.text(b", Black ");
+    put_whole_seconds(line, v.remaining[1]);
 }
 
 /// Appends a time in milliseconds as whole seconds, truncated towards zero.
-fn put_whole_seconds(line: &mut Draft, millis: i64) -> Result<(), NoMemory>
-    ensures text { OnOk result (line.new ≡ line.old ++ signed_decimal (whole_seconds_of millis)) }
-    ensures most { OnOk result (length line.new ≤ length line.old + 20) }
+fn put_whole_seconds(line: &mut Draft, millis: i64)
+    requires room { HasRoom 20 line.old }
+    ensures text { line.new ≡ line.old ++ signed_decimal (whole_seconds_of millis) }
+    ensures most { length line.new ≤ length line.old + 20 }
 {
-    line.signed(millis / 1_000)?;
-    Ok(())
+    line.signed(millis / 1_000);
 }

@@ -2,7 +2,7 @@ use chess_model::Face;
 use fics_words::Handle;
 
 /// All that the lines of a board need: the position, the players, the terms and the clocks.
-#[derive(Clone, Copy, Debug, PartialEq, Eq)]
+#[derive(Clone, Copy, PartialEq)]
 pub struct BoardView {
     pub face: Face,
     /// The number of the game.
@@ -20,7 +20,7 @@ pub struct BoardView {
 }
 
 /// Who looks at a board.
-#[derive(Clone, Copy, Debug, PartialEq, Eq)]
+#[derive(Clone, Copy)]
 pub struct Viewer {
     /// 1 playing and to move, -1 playing and the opponent is to move, 0 observing a played game, 2 examining,
     /// -2 observing an examined game, -3 an isolated position.

@@ -3,8 +3,8 @@ use Rattle.style12_writer.proofs.game_line.put_number.Goals as goal
 
 pub returns-clause-text : goal.returns-clause-text
 returns-clause-text c =
-    let number = rw c.from.ensures at c.in_ok-number.ensures.text in
-    three_appended _ _ _ _ _ _ _ c.in_ok-text.ensures.text number c.in_ok-text-2.ensures.text
+    let number = rw c.from.ensures at c.number.ensures.text in
+    three_appended _ _ _ _ _ _ _ c.text.ensures.text number c.text-2.ensures.text
 
 pub returns-clause-most : goal.returns-clause-most
-returns-clause-most c = most_of_three _ _ _ _ _ _ _ c.in_ok-text.ensures.len c.in_ok-number.ensures.most c.in_ok-text-2.ensures.len
+returns-clause-most c = most_of_three _ _ _ _ _ _ _ c.text.ensures.len c.number.ensures.most c.text-2.ensures.len

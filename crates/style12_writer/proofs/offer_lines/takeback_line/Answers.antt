@@ -4,8 +4,8 @@ use Rattle.style12_writer.proofs.offer_lines.takeback_line.Goals as goal
 
 pub returns : goal.returns
 returns c =
-    let number = rw c.from.ensures at c.in_ok-number.ensures.text in
-    let named = c.in_ok-name.ensures.text ∙ ap (λ (l : List ℕ). l ++ c.args.name.now) c.new-line.ensures in
-    let offered = c.in_ok-text.ensures.text ∙ ap (λ (l : List ℕ). l ++ codes " offers to take back ") named in
+    let number = rw c.from.ensures at c.number.ensures.text in
+    let named = c.name.ensures.text ∙ ap (λ (l : List ℕ). l ++ c.args.name.now) c.new-line.ensures in
+    let offered = c.text.ensures.text ∙ ap (λ (l : List ℕ). l ++ codes " offers to take back ") named in
     let counted = number ∙ ap (λ (l : List ℕ). l ++ decimal c.args.n) offered in
-    c.finish.ensures ∙ c.in_ok-text-2.ensures.text ∙ ap (λ (l : List ℕ). l ++ codes ".") counted
+    rw (c.text-2.ensures.text ∙ ap (λ (l : List ℕ). l ++ codes ".") counted) at c.finish.ensures
