@@ -11,7 +11,7 @@ use crate::stamps::span;
 ///
 /// `client` has the stamps that the player's own machine put on the board's acknowledgement and on the move, where it
 /// stamps its lines. With them the player isn't charged for the time that the lines were on their way.
-#[derive(Clone, Copy, Debug, PartialEq, Eq)]
+#[derive(Clone, Copy, PartialEq, Eq)]
 pub struct Charge {
     pub begin: u64,
     pub end: u64,

@@ -13,7 +13,7 @@ use std::marker::Model;
 pub const MAX_CHARGES: usize = 600;
 
 /// The charges of one clock under its terms. Contracts see the terms and the list of the charges.
-#[derive(Debug, Drop)]
+#[derive(Drop)]
 pub struct ClockLedger {
     minutes: u16,
     increment: u16,

@@ -23,7 +23,7 @@ use variant_rules::Position;
 pub const MOST_PLAYED: u16 = 1200;
 
 /// A game on one board with its clocks, from the start.
-#[derive(Debug, Drop)]
+#[derive(Drop)]
 pub struct GameBoard {
     /// 1, or 2 for the second board of a pair.
     pub(crate) number: u8,

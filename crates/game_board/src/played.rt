@@ -3,7 +3,7 @@ use clock_ledger::Charge;
 use variant_rules::Undo;
 
 /// A half-move of a game, with the charge that it made to its colour's clock.
-#[derive(Clone, Copy, Debug, PartialEq, Eq)]
+#[derive(Clone, Copy, PartialEq, Eq)]
 pub struct Played {
     pub what: Move,
     /// None in an untimed game, and for the first half-move of each colour.
@@ -11,7 +11,7 @@ pub struct Played {
 }
 
 /// A half-move on one of the boards of a game.
-#[derive(Clone, Copy, Debug)]
+#[derive(Clone, Copy)]
 pub(crate) struct Made {
     /// The number of the board, 1 or 2.
     pub(crate) board: u8,
@@ -19,7 +19,7 @@ pub(crate) struct Made {
 }
 
 /// What a board keeps of a half-move beside it.
-#[derive(Clone, Copy, Debug)]
+#[derive(Clone, Copy)]
 pub(crate) struct Step {
     /// What takes the half-move back.
     pub(crate) undo: Undo,

@@ -19,6 +19,7 @@ pub mod KeepsShow
 pub mod KeepsStart
 pub mod KeepsWatch
 pub mod Linking
+pub mod Opening
 pub mod Pairs
 pub mod SeatNumbers
 pub mod Telling

@@ -1,5 +1,5 @@
 -- How a game begins at a desk.
-use Rattle.std.specs.Prelude.{◌≡◌, ◌≢◌, ◌*◌, ℕ, [], ◌∷◌, ◌++◌, flat_map, length, map, List, Some, None, option_to_list}
+use Rattle.std.specs.Prelude.{◌≡◌, ◌≢◌, ◌*◌, ℕ, [], ◌∷◌, ◌++◌, flat_map, length, map, List, Some, None, option_map, option_to_list}
 use Rattle.fics_words.specs.Handle.{key_of}
 use Rattle.chess_model.specs.declared.variant.Terms.{Terms}
 use Rattle.fics_words.specs.declared.player.Player.{Player}
@@ -49,6 +49,16 @@ abbrev pub created_item : ℕ → Terms → Opponents → Board → Item
 created_item desk terms players board =
     item.Talk (created_text (game_number desk board.number) players.white.name players.black.name terms)
 
+-- the line that tells that a game begins at the board of that number
+abbrev pub announcement : ℕ → Terms → ℕ → Opponents → Item
+announcement desk terms number players =
+    item.Talk (created_text (game_number desk number) players.white.name players.black.name terms)
+
+-- and those for each pair of players, of which the first sits at board 1, and the second at board 2
+abbrev pub announcements : ℕ → Terms → Seats → List Item
+announcements desk terms seats =
+    announcement desk terms 1 seats.first ∷ option_to_list (option_map (announcement desk terms 2) seats.second)
+
 -- the first line of a board
 abbrev pub board_item : ℕ → Opponents → Board → Item
 board_item desk players board = item.Board (view_of desk players board)
@@ -56,6 +66,10 @@ board_item desk players board = item.Board (view_of desk players board)
 -- what is shown of a board at the beginning: the board, and its hands where the variant has them
 abbrev pub first_items : ℕ → Opponents → Board → List Item
 first_items desk players board = board_item desk players board ∷ option_to_list (first_hands desk board)
+
+-- and of each board
+abbrev pub shown_items : ℕ → List Opponents → List Board → List Item
+shown_items desk pairs boards = flat_map (λ items. items) (each_board (first_items desk) pairs boards)
 
 -- what is told of the beginning: a line for each board, and then each board with its hands
 abbrev pub opening_items : ℕ → Terms → List Opponents → List Board → List Item

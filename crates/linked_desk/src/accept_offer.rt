@@ -5,7 +5,7 @@ ghost use Rattle.linked_desk.specs.AcceptOffer.{accept_effect};
 
 use crate::acts::DeskReply;
 use crate::game::Game;
-use fics_words::{Duplicate, Fail, Refusal};
+use fics_words::{Fail, Refusal};
 
 impl Game {
     /// Accepts for a session the earliest offer of another seat that its own lacks: it takes effect, or stands for this
@@ -27,7 +27,7 @@ impl Game {
         if self.ended.is_some() {
             return Err(Fail::Refused(Refusal::GameOver));
         }
-        let mut offers = self.offers.duplicate()?;
+        let mut offers = self.offers.copied();
         let (offer, agreed) = offers.accept(seat)?;
         if agreed {
             self.agree(desk, offers, moment, seat, offer)?;

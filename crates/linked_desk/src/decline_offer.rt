@@ -5,7 +5,7 @@ ghost use Rattle.linked_desk.specs.DeclineOffer.{decline_effect};
 
 use crate::acts::DeskReply;
 use crate::game::Game;
-use fics_words::{Duplicate, Fail, Refusal};
+use fics_words::{Fail, Refusal};
 
 impl Game {
     /// Declines for a session the earliest offer of another seat that its own lacks: it stands for no seat any more,
@@ -20,7 +20,7 @@ impl Game {
         if self.ended.is_some() {
             return Err(Fail::Refused(Refusal::GameOver));
         }
-        let mut offers = self.offers.duplicate()?;
+        let mut offers = self.offers.copied();
         offers.decline(seat)?;
         if self.tally.is_told_out(seat) {
             return Err(Fail::Refused(Refusal::FeedFull));

@@ -70,7 +70,7 @@ impl Desk {
         ensures err { OnErr result (self.new ≡ self.old) }
     {
         let game = opened(alloc, self.number, serial, terms, seats, moment)?;
-        self.game = Some(game);
+        drop(self.game.replace(game));
         Ok(())
     }
 
@@ -188,6 +188,6 @@ impl Desk {
         requires unwatched { viewer_count self.old ≡ 0 }
         ensures { self.new ≡ record self.old { game = None } }
     {
-        self.game = None;
+        drop(self.game.take());
     }
 }

@@ -1,7 +1,7 @@
 use chess_model::{Colour, Why};
 
 /// How a game ended.
-#[derive(Clone, Copy, Debug, PartialEq, Eq)]
+#[derive(Clone, Copy, PartialEq, Eq)]
 pub struct Ended {
     pub why: Why,
     /// The board on which it ended.

@@ -9,7 +9,7 @@ use crate::game::Game;
 use crate::offering::end_without_winner;
 use crate::seats::place_of;
 use chess_model::Why;
-use fics_words::{Duplicate, Fail, Refusal};
+use fics_words::{Fail, Refusal};
 use offer_book::Offer;
 
 impl Game {
@@ -140,7 +140,7 @@ impl Game {
             return Err(Fail::Refused(Refusal::FeedFull));
         }
         // the offers are made anew beside the old ones, so that want of memory for what is told changes nothing
-        let mut offers = self.offers.duplicate()?;
+        let mut offers = self.offers.copied();
         if offers.offer(seat, offer)? {
             self.agree(desk, offers, moment, seat, offer)?;
             return Ok(DeskReply::Done);

@@ -114,8 +114,8 @@ impl Game {
         ensures ok { OnOk result (self.new ≡ taken_back desk (with_offers offers moment self.old) moment n) }
         ensures err { OnErr result (self.new ≡ self.old) }
     {
-        let line = taken_line(self.alloc, n)?;
         self.feed.reserve(3 + ROOM_TO_END)?;
+        let line = taken_line(self.alloc, n)?;
         let now = self.last.max(moment);
         self.offers = offers;
         self.boards.take_back(n, now);

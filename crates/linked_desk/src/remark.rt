@@ -28,8 +28,8 @@ impl Game {
         if self.remarks >= MOST_REMARKS {
             return Err(Fail::Refused(Refusal::FeedFull));
         }
-        let line = text.duplicate()?;
         self.feed.reserve(1 + ROOM_TO_END)?;
+        let line = text.duplicate()?;
         self.feed.add(Item::Talk(line));
         self.remarks += 1;
         self.last = self.last.max(moment);

@@ -2,8 +2,8 @@
 ghost use Rattle.std.specs.Prelude.{◌≡◌, ◌≢◌, ◌+◌, ◌≤◌, ◌^◌, [], ◌∷◌, ◌++◌, false, length, map, IfOk, OnOk};
 ghost use Rattle.fics_words.specs.Seats.{seat_list};
 ghost use Rattle.offer_book.specs.Offers.{no_offers};
-ghost use Rattle.observer_feed.specs.Feed.{is_viewer};
-ghost use Rattle.linked_desk.specs.Seating.{AllDiffer, created_item, first_items, from_start, opened, opening_items, sessions_of};
+ghost use Rattle.observer_feed.specs.Feed.{empty_feed, is_viewer};
+ghost use Rattle.linked_desk.specs.Seating.{AllDiffer, HasPairsFor, announcement, announcements, first_items, from_start, opened, sessions_of, shown_items};
 ghost use Rattle.linked_desk.specs.Seats.{pairs_of};
 
 use crate::boards::Boards;
@@ -21,6 +21,7 @@ use style12_writer::{Item, created_line};
 
 /// A game that begins at a desk: each board is announced by a line and then shown, with its hands where the variant has
 /// them, and the players are viewers from the start.
+#[tactic(auto, using(crate::proofs::Opening::announced_first))]
 pub(crate) fn opened(
     alloc: Global,
     desk: u8,
@@ -33,11 +34,12 @@ pub(crate) fn opened(
     requires high { desk ≤ 128 }
     requires moment { moment ≤ 2 ^ 48 }
     requires sessions { AllDiffer (sessions_of seats.now) }
+    requires pairs { HasPairsFor terms seats.now }
     ensures { IfOk result (λ game. game ≡ opened desk serial terms seats.now moment) }
 {
+    let mut feed = announced(alloc, desk, &terms, seats)?;
     let boards = Boards::start(alloc, terms, moment)?;
-    let mut feed = opening_feed(alloc, desk, &terms, seats, &boards)?;
-    add_players(&mut feed, seats)?;
+    show_each(&mut feed, desk, seats, &boards);
     Ok(Game {
         alloc,
         serial,
@@ -53,35 +55,62 @@ pub(crate) fn opened(
     })
 }
 
-/// What is told of the beginning, as yet to nobody: a line for each board, and then each board with its hands. There is
-/// room for the end.
-fn opening_feed(
+/// A feed that tells the players, who are its viewers from the start, that their games begin. There is room for what
+/// is shown then, and for the end.
+fn announced(alloc: Global, desk: u8, terms: &Terms, seats: &Seats) -> Result<Feed<Item>, NoMemory>
+    requires low { 1 ≤ desk }
+    requires high { desk ≤ 128 }
+    requires sessions { AllDiffer (sessions_of seats.now) }
+    ensures items { IfOk result (λ feed. feed.items ≡ announcements desk terms.now seats.now) }
+    ensures viewers { IfOk result (λ feed. feed.viewers ≡ map from_start (seat_list seats.now)) }
+    ensures room { IfOk result (λ feed. 8 ≤ feed.room) }
+{
+    let mut feed = Feed::new(alloc);
+    announce(&mut feed, alloc, desk, terms, seats)?;
+    Ok(feed)
+}
+
+/// Takes the room in an empty feed, makes the players its viewers and tells that a game begins at each board.
+fn announce(
+    feed: &mut Feed<Item>,
     alloc: Global,
     desk: u8,
     terms: &Terms,
     seats: &Seats,
-    boards: &Boards,
-) -> Result<Feed<Item>, NoMemory>
+) -> Result<(), NoMemory>
     requires low { 1 ≤ desk }
     requires high { desk ≤ 128 }
-    ensures items { IfOk result (λ feed. feed.items ≡ opening_items desk terms.now (pairs_of seats.now) boards.now) }
-    ensures viewers { IfOk result (λ feed. feed.viewers ≡ []) }
-    ensures room { IfOk result (λ feed. 4 ≤ feed.room) }
+    requires sessions { AllDiffer (sessions_of seats.now) }
+    requires empty { feed.old ≡ empty_feed }
+    ensures items { OnOk result (feed.new.items ≡ announcements desk terms.now seats.now) }
+    ensures viewers { OnOk result (feed.new.viewers ≡ map from_start (seat_list seats.now)) }
+    ensures room { OnOk result (8 ≤ feed.new.room) }
+{
+    feed.reserve(6 + ROOM_TO_END)?;
+    add_players(feed, seats)?;
+    feed.add(announcement(alloc, desk, terms, 1, &seats.first)?);
+    if let Some(players) = &seats.second {
+        feed.add(announcement(alloc, desk, terms, 2, players)?);
+    }
+    Ok(())
+}
+
+/// Shows each board at the beginning.
+fn show_each(feed: &mut Feed<Item>, desk: u8, seats: &Seats, boards: &Boards)
+    requires low { 1 ≤ desk }
+    requires high { desk ≤ 128 }
+    requires room { 4 ≤ feed.old.room }
+    ensures items { feed.new.items ≡ feed.old.items ++ shown_items desk (pairs_of seats.now) boards.now }
+    ensures viewers { feed.new.viewers ≡ feed.old.viewers }
+    ensures room { feed.old.room ≤ feed.new.room + 4 }
 {
     let (first, second) = boards.both();
-    let mut feed = Feed::new(alloc);
-    feed.reserve(6 + ROOM_TO_END)?;
-    feed.add(created_item(alloc, desk, terms, &seats.first, first)?);
+    show(feed, desk, &seats.first, first);
     if let Some(players) = &seats.second {
         if let Some(board) = second {
-            feed.add(created_item(alloc, desk, terms, players, board)?);
-            show(&mut feed, desk, &seats.first, first);
-            show(&mut feed, desk, players, board);
-            return Ok(feed);
+            show(feed, desk, players, board);
         }
     }
-    show(&mut feed, desk, &seats.first, first);
-    Ok(feed)
 }
 
 /// Shows a board at the beginning, with its hands where the variant has them.
@@ -99,19 +128,19 @@ fn show(feed: &mut Feed<Item>, desk: u8, players: &Opponents, board: &GameBoard)
     }
 }
 
-/// The line that tells that a game begins at a board.
-fn created_item(
+/// The line that tells that a game begins at the board of that number.
+fn announcement(
     alloc: Global,
     desk: u8,
     terms: &Terms,
+    number: u8,
     players: &Opponents,
-    board: &GameBoard,
 ) -> Result<Item, NoMemory>
     requires low { 1 ≤ desk }
     requires high { desk ≤ 128 }
-    ensures { IfOk result (λ item. item ≡ created_item desk terms.now players.now board.now) }
+    ensures { IfOk result (λ item. item ≡ announcement desk terms.now number players.now) }
 {
-    let game = game_number(desk, board.number());
+    let game = game_number(desk, number);
     let line = created_line(alloc, game, &players.white.name, &players.black.name, terms)?;
     Ok(Item::Talk(line))
 }

@@ -5,14 +5,14 @@ ghost use Rattle.observer_feed.specs.Feed.{first_place};
 use collections::{Change, Predicate};
 
 /// A viewer of a feed: its session, and how many items of the feed it has been given.
-#[derive(Clone, Copy, Debug, PartialEq, Eq)]
+#[derive(Clone, Copy)]
 pub struct Cursor {
     pub session: u32,
     pub seen: usize,
 }
 
 /// Which items a new viewer is given.
-#[derive(Clone, Copy, Debug, PartialEq, Eq)]
+#[derive(Clone, Copy)]
 pub enum Told {
     /// All that the feed has, and all that comes.
     FromStart,

@@ -3,7 +3,7 @@ ghost use Rattle.std.specs.Prelude.{◌≡◌};
 ghost use Rattle.offer_book.specs.Offers.{is_other_takeback, is_takeback};
 
 /// What a player offers to all others at the desk.
-#[derive(Clone, Copy, Debug, PartialEq, Eq)]
+#[derive(Clone, Copy, PartialEq, Eq)]
 pub enum Offer {
     /// The game ends as a draw.
     Draw,
@@ -16,7 +16,7 @@ pub enum Offer {
 }
 
 /// An offer that stands, and the seat that made it.
-#[derive(Clone, Copy, Debug, PartialEq, Eq)]
+#[derive(Clone, Copy)]
 pub struct Standing {
     pub seat: u8,
     pub offer: Offer,

@@ -6,13 +6,13 @@ ghost use Rattle.offer_book.specs.Offers.{accepting, after_half_move, declining,
 use crate::clearing::{AfterHalfMove, Without};
 use crate::offer::Offer;
 use crate::rows::{Rows, stands};
-use fics_words::{Duplicate, NoMemory, Refusal};
+use fics_words::Refusal;
 use std::marker::Model;
 
 /// The offers that stand at a desk of two or four seats. Contracts see the number of seats and the list of the offers,
 /// each with the seat that made it, in the order in which they were made. An offer takes effect when every seat of the
 /// desk has it standing, and is cleared then. No call takes memory.
-#[derive(Debug, Drop)]
+#[derive(Drop)]
 pub struct Offers {
     pub(crate) seats: u8,
     rows: Rows,
@@ -115,6 +115,16 @@ impl Offers {
         Some(row.offer)
     }
 
+    /// The same offers once more.
+    pub fn copied(&self) -> Offers
+        ensures { result ≡ self.now }
+    {
+        Offers {
+            seats: self.seats,
+            rows: self.rows.copied(),
+        }
+    }
+
     /// Makes an offer that the seat doesn't have standing, and says whether it takes effect.
     fn make(&mut self, seat: u8, offer: Offer) -> bool
         requires seated { seat < self.old.seats }
@@ -124,17 +134,5 @@ impl Offers {
     {
         self.rows.add(seat, offer);
         self.rows.settle(self.seats, offer)
-    }
-}
-
-impl Duplicate for Offers {
-    /// Takes no memory.
-    fn duplicate(&self) -> Result<Offers, NoMemory>
-        ensures { result ≡ Ok self.now }
-    {
-        Ok(Offers {
-            seats: self.seats,
-            rows: self.rows.copied(),
-        })
     }
 }

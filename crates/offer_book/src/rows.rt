@@ -18,7 +18,7 @@ const NOTHING: Standing = Standing {
 };
 
 /// At most 16 offers that stand, which contracts see as the list of them.
-#[derive(Debug, Drop)]
+#[derive(Drop)]
 pub(crate) struct Rows {
     count: usize,
     field: [Standing; 16],
