@@ -11,7 +11,7 @@ use std::marker::Model;
 const MOST: usize = 20;
 
 /// A player, by its session, in a channel.
-#[derive(Clone, Copy, Debug, PartialEq, Eq)]
+#[derive(Clone, Copy)]
 pub struct Membership {
     pub who: u32,
     pub channel: u8,
@@ -52,7 +52,7 @@ impl Predicate<Membership> for WithoutPlayer {
 
 /// The channels, numbered 0 to 255, with the players that are in them. Contracts see the list of these, in the order of
 /// joining.
-#[derive(Debug, Drop)]
+#[derive(Drop)]
 pub struct Channels {
     rows: Listed<Membership>,
 }

@@ -22,7 +22,7 @@ impl Predicate<HandleKey> for Without {
 }
 
 /// A list of handles, by their keys. Contracts see the list of these, in the order of adding.
-#[derive(Debug, Drop)]
+#[derive(Drop)]
 pub struct NameList {
     names: Listed<HandleKey>,
 }

@@ -12,7 +12,7 @@ const MOST: usize = 512;
 
 /// The lines that wait for a player, at most 512. Contracts see them with the oldest first, and for how many more there
 /// is room that takes no memory.
-#[derive(Debug, Drop)]
+#[derive(Drop)]
 pub struct Waiting {
     lines: Reserved<Line>,
 }

@@ -1,11 +1,12 @@
 -- A broadcast goes from member to member, and what a broadcast leaves well-formed.
-use Rattle.std.proofs.Common.{◌≡◌, ℕ, ◌-◌, zero, suc, Bool, true, false, cond, List, [], ◌∷◌, ◌++◌, Some, length, take, slice_get, refl, sym, ap, ◌∙◌, arith}
+use Rattle.std.proofs.Common.{◌≡◌, ℕ, ◌+◌, ◌-◌, zero, suc, Bool, true, false, cond, List, [], ◌∷◌, ◌++◌, Some, length, take, drop, slice_get, refl, sym, ap, ◌∙◌, arith}
 use Rattle.std.proofs.Math.ListN.{set}
-use Rattle.std.proofs.lemmas.List.{length_push, set-set, take_at}
+use Rattle.std.proofs.lemmas.List.{append_assoc, drop-set, drop-set-lt, length_push, set-set, take_at, take_more_set}
+use Rattle.std.proofs.lemmas.List.Sums.{sum_by-cons}
 use Rattle.std.proofs.lemmas.Option.{slice_get_within}
 use Rattle.fics_words.specs.Handle.{key_of}
 use Rattle.lobby_state.specs.declared.member.Member.{Member}
-use Rattle.lobby_state.specs.Broadcast.{broadcast, hears, hearing}
+use Rattle.lobby_state.specs.Broadcast.{broadcast, heard, hears, hearing}
 use Rattle.lobby_state.specs.Lobby.{LobbyState}
 use Rattle.lobby_state.specs.Match.{with_line}
 use Rattle.lobby_state.specs.WellFormed.{IsWellFormed, HasSeats}
@@ -20,6 +21,47 @@ set-same (z ∷ zs) (suc i) x e = ap (λ us. z ∷ us) (set-same zs i x e)
 -- an item that was changed is put back
 pub put_back : {X : Type 0} (xs : List X) (i : ℕ) (x y : X) → slice_get xs i ≡ Some x → set (set xs i y) i x ≡ xs
 put_back xs i x y e = set-set xs i y x ∙ set-same xs i x e
+
+-- the member at this place is the first of those from here on
+pub from_here : (xs : List Member) (i : ℕ) (x : Member) → slice_get xs i ≡ Some x → drop i xs ≡ x ∷ drop (i + 1) xs
+from_here xs i x e = ap (λ (ms : List Member). drop i ms) (sym (set-same xs i x e)) ∙ drop-set xs i x (slice_get_within xs i x e)
+
+-- those behind a member that was changed are as before
+behind : (xs : List Member) (i : ℕ) (there : Member) → drop (i + 1) (set xs i there) ≡ drop (i + 1) xs
+behind xs i there = drop-set-lt (i + 1) xs i there (omega arith)
+
+heard_from : (test : Member → Bool) (xs : List Member) (i : ℕ) (x there : Member) → slice_get xs i ≡ Some x
+    → heard test (drop i xs) ≡ cond (hears test x) 1 0 + heard test (drop (i + 1) (set xs i there))
+heard_from test xs i x there e =
+    ap (heard test) (from_here xs i x e) ∙ sum_by-cons (λ m. cond (hears test m) 1 0) x (drop (i + 1) xs)
+    ∙ ap (λ (ms : List Member). cond (hears test x) 1 0 + heard test ms) (sym (behind xs i there))
+
+-- where the member at this place hears the line, one more does than of those behind it
+pub heard_here : (test : Member → Bool) (xs : List Member) (i : ℕ) (x there : Member) (is_told : Bool) (others : ℕ) → slice_get xs i ≡ Some x
+    → is_told ≡ hears test x → is_told ≡ true → others ≡ heard test (drop (i + 1) (set xs i there)) → others + 1 ≡ heard test (drop i xs)
+heard_here test xs i x there is_told others e told was rest =
+    let one : ◌≡◌ {A = ℕ} (cond (hears test x) 1 0) 1 = ap (λ (b : Bool). cond b 1 0) (sym told ∙ was) in
+    omega (arith, heard_from test xs i x there e, one, rest)
+
+-- and else as many
+pub heard_behind : (test : Member → Bool) (xs : List Member) (i : ℕ) (x there : Member) (is_told : Bool) (others : ℕ) → slice_get xs i ≡ Some x
+    → is_told ≡ hears test x → is_told ≡ false → others ≡ heard test (drop (i + 1) (set xs i there)) → others ≡ heard test (drop i xs)
+heard_behind test xs i x there is_told others e told was rest =
+    let none : ◌≡◌ {A = ℕ} (cond (hears test x) 1 0) 0 = ap (λ (b : Bool). cond b 1 0) (sym told ∙ was) in
+    omega (arith, heard_from test xs i x there e, none, rest)
+
+-- the line went to the member at this place and to those behind it
+pub went_out : (test : Member → Bool) (line : List ℕ) (xs after : List Member) (i : ℕ) (x there : Member) → slice_get xs i ≡ Some x
+    → there ≡ hearing test line x → after ≡ take (i + 1) (set xs i there) ++ broadcast test line (drop (i + 1) (set xs i there))
+    → after ≡ take i xs ++ broadcast test line (drop i xs)
+went_out test line xs after i x there e is went =
+    let inside = slice_get_within xs i x e in
+    went
+    ∙ ap (λ (ms : List Member). ms ++ broadcast test line (drop (i + 1) (set xs i there))) (take_more_set xs i there inside)
+    ∙ ap (λ (ms : List Member). (take i xs ++ there ∷ []) ++ broadcast test line ms) (behind xs i there)
+    ∙ append_assoc (take i xs) (there ∷ []) (broadcast test line (drop (i + 1) xs))
+    ∙ ap (λ (m : Member). take i xs ++ m ∷ broadcast test line (drop (i + 1) xs)) is
+    ∙ ap (λ (ms : List Member). take i xs ++ broadcast test line ms) (sym (from_here xs i x e))
 
 -- a line that was put last is taken back
 pub taken_back : (line : List ℕ) (m : Member)

@@ -13,6 +13,7 @@ pub mod KeepsUnpost
 pub mod KeepsSought
 pub mod KeepsWho
 pub mod Broadcasting
+pub mod Naming
 pub mod KeepsShout
 pub mod KeepsTell
 pub mod KeepsChannel

@@ -23,7 +23,7 @@ use Rattle.lobby_state.specs.Match.{challenge_words}
 use Rattle.lobby_state.specs.Partner.{partner_words}
 use Rattle.lobby_state.specs.Pending.{pending_words, side_words}
 use Rattle.lobby_state.specs.Post.{seek_words}
-use Rattle.lobby_state.specs.Said.{IsWording}
+use Rattle.lobby_state.specs.Said.{IsText, IsWording, said}
 use Rattle.lobby_state.specs.Sought.{sought_words}
 use Rattle.lobby_state.specs.TellChannel.{channel_words}
 use Rattle.lobby_state.specs.TermsText.{colour_words, terms_words}
@@ -148,6 +148,15 @@ IsWording-parts = IsWording-from_test (codes " is no longer your partner.") (ome
 pub IsWording-confides : IsWording (codes " (your partner) tells you: ")
 IsWording-confides = IsWording-from_test (codes " (your partner) tells you: ") (omega arith) refl
 
+pub IsWording-tells : IsWording (codes " tells you: ")
+IsWording-tells = IsWording-from_test (codes " tells you: ") (omega arith) refl
+
+pub IsWording-shouts : IsWording (codes " shouts: ")
+IsWording-shouts = IsWording-from_test (codes " shouts: ") (omega arith) refl
+
+pub IsWording-declines : IsWording (codes " declines your challenge.")
+IsWording-declines = IsWording-from_test (codes " declines your challenge.") (omega arith) refl
+
 IsPrinted-now : IsPrinted 27 (codes "You are now the partner of ")
 IsPrinted-now = IsPrinted-from_test 27 (codes "You are now the partner of ") (omega arith) refl
 
@@ -158,6 +167,14 @@ pub IsPrinted-link_words : (name : List ℕ) → IsPrinted 17 name → IsPrinted
 IsPrinted-link_words name h =
     let join = IsPrinted-append in
     join 44 1 _ _ (join 27 17 _ _ IsPrinted-now h) IsPrinted-stop
+
+-- a line of what a member says is a line
+pub IsLine-said : (name wording text : List ℕ) → IsHandle name → IsWording wording → IsText text → IsLine (said name wording text)
+IsLine-said name wording text h w t =
+    let join = IsPrinted-append in
+    let front = join 17 30 _ _ (IsPrinted-handle name h) (record { short = w.0; shows = w.1 }) in
+    let printed = join 47 800 _ _ front (record { short = t.0; shows = t.1 }) in
+    (omega (arith, printed.short), printed.shows)
 
 pub IsLine-from_printed : (most : ℕ) (text : List ℕ) → most ≤ 1023 → IsPrinted most text → IsLine text
 IsLine-from_printed most text few h = (omega (arith, few, h.short), h.shows)

@@ -2,7 +2,7 @@
 use Rattle.std.specs.Prelude.{ℕ, ◌==◌, Bool, true, not, ◌&&◌, ◌||◌, nat_le, List, [], ◌∷◌, ◌++◌, length, Option, None, Some, is_none, codes}
 use Rattle.std.specs.List.{filter}
 use Rattle.chess_model.specs.declared.variant.Terms.{Terms}
-use Rattle.fics_words.specs.Effect.{Effect}
+use Rattle.fics_words.specs.Effect.{Cause, Effect}
 use Rattle.fics_words.specs.declared.refusal.Refusal.TheVariants.{NotIn, NoSuchPlayer, BadOpponent, Playing, Refuses, NotInVariant, NoPartner, QueueFull}
 use Rattle.lobby_state.specs.declared.acts.LobbyReply.{LobbyReply}
 use Rattle.lobby_state.specs.declared.acts.LobbyReply.TheVariants.{Done}
@@ -11,7 +11,7 @@ use Rattle.lobby_state.specs.declared.member.Member.{Member}
 use Rattle.lobby_state.specs.Change.{change_first, holds}
 use Rattle.lobby_state.specs.Lobby.{LobbyState, most_lines, is_session, is_named, is_busy, member_of, named}
 use Rattle.lobby_state.specs.NameList.{avoids}
-use Rattle.lobby_state.specs.Pairing.{are_partners, is_simul_of_four, lack_partner, pairing_of}
+use Rattle.lobby_state.specs.Pairing.{are_partners, is_simul_of_four, lack_partner, paired, pairing_of}
 use Rattle.lobby_state.specs.TermsText.{terms_words}
 
 -- the line that a challenge sends: who challenges, and on which terms
@@ -38,14 +38,30 @@ is_same_pair new old = (old.from == new.from) && (old.to == new.to)
 abbrev pub with_challenge : Challenge → List Challenge → List Challenge
 with_challenge new challenges = filter (λ old. not (is_same_pair new old)) challenges ++ new ∷ []
 
+-- the lobby where the member of that name has made this challenge, and whom the key names is told
+abbrev pub challenged_by : LobbyState → List ℕ → List ℕ → Challenge → LobbyState
+challenged_by lobby name to challenge = record lobby {
+  members = change_first (is_named to) (with_line (challenge_words name challenge.terms)) lobby.members;
+  challenges = with_challenge challenge lobby.challenges;
+}
+
 -- the lobby where the first of two members has challenged the second
 abbrev pub challenged : LobbyState → Option Member → Option Member → List ℕ → Terms → LobbyState
 challenged lobby None other to terms = lobby
 challenged lobby (Some caller) None to terms = lobby
-challenged lobby (Some caller) (Some other) to terms = record lobby {
-  members = change_first (is_named to) (with_line (challenge_words caller.name terms)) lobby.members;
-  challenges = with_challenge (record { from = caller.session; to = other.session; terms = terms }) lobby.challenges;
-}
+challenged lobby (Some caller) (Some other) to terms =
+    challenged_by lobby caller.name to (record { from = caller.session; to = other.session; terms = terms })
+
+-- why the first of two members, who are there, can't challenge the second
+abbrev pub match_causes : LobbyState → ℕ → Member → Member → Terms → List Cause
+match_causes lobby session caller other terms =
+    let pairing = paired caller other terms in
+    (is_session session other || are_partners lobby pairing, BadOpponent) ∷
+    (is_busy caller || is_busy other, Playing) ∷
+    (is_closed other || avoids (Some caller) other, Refuses) ∷
+    (is_simul_of_four pairing, NotInVariant) ∷
+    (lack_partner lobby pairing, NoPartner) ∷
+    (is_full other, QueueFull) ∷ []
 
 -- a challenge is refused where the session isn't a member; where nobody has the handle, or that member is going; where
 -- it is the session itself, or in bughouse its partner; where one of the two has a place and gives no simul, whatever

@@ -1,7 +1,7 @@
 -- Partner: a member asks another to be its partner, or parts with the one it has. This server's own, and the command is
 -- FICS's.
 use Rattle.std.specs.Prelude.{◌≡◌, ℕ, Bool, true, false, ◌||◌, List, [], ◌∷◌, ◌++◌, Option, None, Some, is_none, is_some, codes, refl}
-use Rattle.fics_words.specs.Effect.{Effect}
+use Rattle.fics_words.specs.Effect.{Cause, Effect}
 use Rattle.fics_words.specs.declared.refusal.Refusal.TheVariants.{NotIn, NoSuchPlayer, BadOpponent, HasPartner, NoPartner, QueueFull}
 use Rattle.partner_link.specs.Partners.{asking, has_asked, parted}
 use Rattle.lobby_state.specs.declared.acts.LobbyReply.{LobbyReply}
@@ -31,16 +31,35 @@ abbrev pub partner_words : Bool → List ℕ → List ℕ
 partner_words true name = codes "You are now the partner of " ++ name ++ codes "."
 partner_words false name = said name (codes " offers to be your partner.") []
 
--- the lobby where a member has asked another: they are partners where the other has asked before, and else the request
--- stands; and the other is told
+-- the lobby where the member of this name has asked another: they are partners where the other has asked before, and else
+-- the request stands; and the other is told
+abbrev pub partnered_with : LobbyState → ℕ → List ℕ → ℕ → LobbyState
+partnered_with lobby session name other = record lobby {
+  members = broadcast (is_session other) (partner_words (has_asked lobby.partners.requests other session) name) lobby.members;
+  partners = (asking lobby.partners session other).after;
+}
+
+-- the same of the members, where both are there
 abbrev pub partnered : LobbyState → ℕ → Option Member → Option Member → LobbyState
 partnered lobby session None other = lobby
 partnered lobby session (Some caller) None = lobby
-partnered lobby session (Some caller) (Some other) = record lobby {
-  members =
-      broadcast (is_session other.session) (partner_words (is_asked_by lobby session other) caller.name) lobby.members;
-  partners = (asking lobby.partners session other.session).after;
+partnered lobby session (Some caller) (Some other) = partnered_with lobby session caller.name other.session
+
+-- an ask of another who is there is refused where one of the two has a partner
+abbrev pub asking_effect : LobbyState → ℕ → List ℕ → ℕ → Effect LobbyState LobbyReply
+asking_effect lobby session name other = record {
+  causes = (asking lobby.partners session other).causes;
+  memory = true;
+  reply = asked_reply (has_asked lobby.partners.requests other session);
+  after = partnered_with lobby session name other;
 }
+
+-- why the session can't ask this member
+abbrev pub ask_causes : LobbyState → ℕ → Member → List Cause
+ask_causes lobby session other =
+    (is_session session other, BadOpponent) ∷
+    (is_some (partner_in lobby session) || has_partner lobby other, HasPartner) ∷
+    (is_full other, QueueFull) ∷ []
 
 -- an ask is refused where the session isn't a member; where nobody has the handle, or that member is going; where it is
 -- the session itself; where one of the two has a partner; and where 512 lines wait for the other

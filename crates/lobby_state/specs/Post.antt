@@ -22,13 +22,25 @@ seek_words name number terms =
 abbrev pub hears_seeks : ℕ → Member → Bool
 hears_seeks session member = not (is_session session member) && member.wants.seeks
 
--- the lobby where the member has posted a seek
+-- the lobby where the member of this name has posted a seek
+abbrev pub posted_by : LobbyState → ℕ → List ℕ → Terms → LobbyState
+posted_by lobby session name terms = record lobby {
+  members = broadcast (hears_seeks session) (seek_words name (next_number lobby.seeks) terms) lobby.members;
+  seeks = (posting lobby.seeks session terms).after;
+}
+
+-- the same of the member, where it is there
 abbrev pub posted : LobbyState → ℕ → Option Member → Terms → LobbyState
 posted lobby session None terms = lobby
-posted lobby session (Some caller) terms = record lobby {
-  members =
-      broadcast (hears_seeks session) (seek_words caller.name (next_number lobby.seeks) terms) lobby.members;
-  seeks = (posting lobby.seeks session terms).after;
+posted lobby session (Some caller) terms = posted_by lobby session caller.name terms
+
+-- the seek of a member of this name is refused where it has three
+abbrev pub seeking_effect : LobbyState → ℕ → List ℕ → Terms → Effect LobbyState LobbyReply
+seeking_effect lobby session name terms = record {
+  causes = (posting lobby.seeks session terms).causes;
+  memory = true;
+  reply = Number (next_number lobby.seeks);
+  after = posted_by lobby session name terms;
 }
 
 -- the member is taken: it has a place, or gives a simul

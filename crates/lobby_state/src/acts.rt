@@ -188,7 +188,7 @@ pub enum PairAct {
 }
 
 /// What a pair act is to do, as the lobby alone decides it. Desks are 1 to 128.
-#[derive(Clone, Copy, PartialEq, Eq)]
+#[derive(Clone, Copy)]
 pub enum Plan {
     /// A game starts.
     Start {

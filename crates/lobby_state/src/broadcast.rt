@@ -1,10 +1,57 @@
 //! A line that goes to all members whom a test names.
 ghost use Rattle.std.specs.Prelude.{◌≡◌, ◌+◌, ◌-◌, ◌≤◌, ◌++◌, IfOk, OnErr, OnOk, drop, length, take};
 ghost use Rattle.lobby_state.specs.Broadcast.{broadcast, heard, hears, hearing};
+ghost use Rattle.lobby_state.specs.Said.{IsText, IsWording, said};
 
 use crate::member::{MOST_MEMBERS, Member, Members};
+use crate::register::Register;
+use crate::said::said_line;
 use collections::Predicate;
-use fics_words::{Line, NoMemory};
+use fics_words::{Handle, Line, NoMemory};
+use std::alloc::Global;
+
+impl Register {
+    /// Says something to each member whom the test names and for whom fewer than 512 lines wait: who says it, how it is
+    /// said, and its text. It answers how many members that are. Running out of memory changes nothing.
+    pub(crate) fn say<P: Predicate<Member>>(
+        &mut self,
+        test: &P,
+        name: Handle,
+        wording: &[u8],
+        text: &[u8],
+    ) -> Result<u16, NoMemory>
+        requires wording { IsWording wording.now }
+        requires text { IsText text.now }
+        ensures told { IfOk result (λ told. told ≡ heard (P.passes test.now) self.old.members) }
+        ensures ok { OnOk result (self.new ≡ record self.old {
+          members = broadcast (P.passes test.now) (said name wording.now text.now) self.old.members;
+        }) }
+        ensures err { OnErr result (self.new ≡ self.old) }
+    {
+        say(self.alloc, &mut self.members, test, name, wording, text)
+    }
+}
+
+/// Says something to each of these members whom the test names and for whom fewer than 512 lines wait, and answers how
+/// many members that are. Running out of memory changes nothing.
+pub(crate) fn say<P: Predicate<Member>>(
+    alloc: Global,
+    members: &mut Members,
+    test: &P,
+    name: Handle,
+    wording: &[u8],
+    text: &[u8],
+) -> Result<u16, NoMemory>
+    requires wording { IsWording wording.now }
+    requires text { IsText text.now }
+    ensures told { IfOk result (λ told. told ≡ heard (P.passes test.now) members.old) }
+    ensures ok { OnOk result
+        (members.new ≡ broadcast (P.passes test.now) (said name wording.now text.now) members.old) }
+    ensures err { OnErr result (members.new ≡ members.old) }
+{
+    let line = said_line(alloc, name, wording, text)?;
+    broadcast(members, test, &line)
+}
 
 /// Puts a copy of the line behind those that wait for each member whom the test names and for whom fewer than 512
 /// wait, and answers how many members that are. Running out of memory changes nothing.

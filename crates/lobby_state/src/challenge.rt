@@ -11,7 +11,7 @@ use collections::{Predicate, Reserved, find};
 use fics_words::Seats;
 
 /// A challenge that stands: by which session, to which, and to which game.
-#[derive(Clone, Copy, Debug, PartialEq, Eq)]
+#[derive(Clone, Copy)]
 pub struct Challenge {
     pub from: u32,
     pub to: u32,

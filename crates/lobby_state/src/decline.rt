@@ -3,11 +3,9 @@ ghost use Rattle.fics_words.specs.Effect.{Takes};
 ghost use Rattle.lobby_state.specs.Decline.{decline_effect};
 
 use crate::acts::LobbyReply;
-use crate::broadcast::broadcast;
 use crate::challenge::OfOthers;
 use crate::member::OfSession;
 use crate::register::Register;
-use crate::said::said_line;
 use fics_words::{Fail, HandleKey, Refusal};
 
 impl Register {
@@ -27,8 +25,13 @@ impl Register {
         let Some(offer) = self.offer(session, name) else {
             return Err(Fail::Refused(Refusal::NoChallenge));
         };
-        let line = said_line(self.alloc, caller.name, b" declines your challenge.", b"")?;
-        broadcast(&mut self.members, &OfSession(offer.from), &line)?;
+        let name = caller.name;
+        self.say(
+            &OfSession(offer.from),
+            name,
+            b" declines your challenge.",
+            b"",
+        )?;
         self.challenges.retain(&OfOthers(offer));
         Ok(LobbyReply::Done)
     }

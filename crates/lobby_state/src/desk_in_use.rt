@@ -1,5 +1,5 @@
 /// A desk that is in use, and for which game.
-#[derive(Clone, Copy, Debug, PartialEq, Eq)]
+#[derive(Clone, Copy, PartialEq, Eq)]
 pub struct DeskInUse {
     /// The desk, 1 to 128.
     pub desk: u8,

@@ -11,7 +11,7 @@ use std::alloc::Global;
 pub const DESKS: usize = 128;
 
 /// The game for which a desk is in use.
-#[derive(Clone, Copy, Debug, PartialEq, Eq)]
+#[derive(Clone, Copy)]
 pub struct Game {
     /// The number of the game among all that were started, from 1 on.
     pub serial: u64,

@@ -1,14 +1,14 @@
 //! Match: a member challenges another to a game.
-ghost use Rattle.std.specs.Prelude.{◌≡◌, IfOk};
-ghost use Rattle.fics_words.specs.Effect.{Takes};
-ghost use Rattle.lobby_state.specs.Match.{challenge_words, match_effect};
+ghost use Rattle.std.specs.Prelude.{◌≡◌, IfOk, OnErr, OnOk};
+ghost use Rattle.fics_words.specs.Effect.{Takes, first_cause};
+ghost use Rattle.lobby_state.specs.Match.{challenge_words, challenged_by, match_causes, match_effect};
 
 use crate::acts::LobbyReply;
 use crate::challenge::{Challenge, put_challenge};
-use crate::member::add_line;
+use crate::member::{Member, add_line};
 use crate::pairing::is_simul_of_four;
 use crate::register::Register;
-use crate::terms::put_terms;
+use crate::terms::with_terms;
 use chess_model::Terms;
 use fics_words::{Fail, Handle, HandleKey, Line, NoMemory, Refusal};
 use std::alloc::Global;
@@ -32,34 +32,65 @@ impl Register {
         let Some(other) = self.named(to) else {
             return Err(Fail::Refused(Refusal::NoSuchPlayer));
         };
-        if other.session == session || self.are_partners(caller, other, terms) {
-            return Err(Fail::Refused(Refusal::BadOpponent));
-        }
-        if caller.is_busy() || other.is_busy() {
-            return Err(Fail::Refused(Refusal::Playing));
-        }
-        if !other.wants.matches || other.avoids(caller) {
-            return Err(Fail::Refused(Refusal::Refuses));
-        }
-        if is_simul_of_four(caller, other, terms) {
-            return Err(Fail::Refused(Refusal::NotInVariant));
-        }
-        if self.lack_partner(caller, other, terms) {
-            return Err(Fail::Refused(Refusal::NoPartner));
-        }
-        if other.is_full() {
-            return Err(Fail::Refused(Refusal::QueueFull));
+        if let Some(refusal) = self.challenge_refusal(session, caller, other, terms) {
+            return Err(Fail::Refused(refusal));
         }
         let challenge = Challenge {
             from: caller.session,
             to: other.session,
             terms,
         };
-        let line = challenge_line(self.alloc, caller.name, terms)?;
+        let name = caller.name;
+        self.stand_challenge(name, to, challenge)?;
+        Ok(LobbyReply::Done)
+    }
+
+    /// Why the session, which is the caller's, can't challenge the other, if it can't.
+    fn challenge_refusal(
+        &self,
+        session: u32,
+        caller: &Member,
+        other: &Member,
+        terms: Terms,
+    ) -> Option<Refusal>
+        ensures { result ≡ first_cause (match_causes self.now session caller.now other.now terms) }
+    {
+        if other.session == session || self.are_partners(caller, other, terms) {
+            return Some(Refusal::BadOpponent);
+        }
+        if caller.is_busy() || other.is_busy() {
+            return Some(Refusal::Playing);
+        }
+        if !other.wants.matches || other.avoids(caller) {
+            return Some(Refusal::Refuses);
+        }
+        if is_simul_of_four(caller, other, terms) {
+            return Some(Refusal::NotInVariant);
+        }
+        if self.lack_partner(caller, other, terms) {
+            return Some(Refusal::NoPartner);
+        }
+        if other.is_full() {
+            return Some(Refusal::QueueFull);
+        }
+        None
+    }
+
+    /// The challenge by the member of that name stands, and whom the key names is told.
+    fn stand_challenge(
+        &mut self,
+        name: Handle,
+        to: HandleKey,
+        challenge: Challenge,
+    ) -> Result<(), NoMemory>
+        ensures ok { OnOk result (self.new ≡ challenged_by self.old name to challenge) }
+        ensures err { OnErr result (self.new ≡ self.old) }
+    {
         self.challenges.reserve(1)?;
+        let line = challenge_line(self.alloc, name, challenge.terms)?;
         add_line(&mut self.members, to, line)?;
         put_challenge(&mut self.challenges, challenge);
-        Ok(LobbyReply::Done)
+        Ok(())
     }
 }
 
@@ -76,9 +107,5 @@ fn challenge_line(alloc: Global, name: Handle, terms: Terms) -> Result<Line, NoM
 fn challenge_text(alloc: Global, letters: &[u8], terms: Terms) -> Result<Vec<u8>, NoMemory>
     ensures { IfOk result (λ text. text.items ≡ challenge_words letters.now terms) }
 {
-    let mut text = Vec::from_slice(alloc, b"Challenge: ")?;
-    text.extend_from_slice(letters)?;
-    text.push(b' ')?;
-    put_terms(alloc, terms, &mut text)?;
-    Ok(text)
+    with_terms(alloc, b"Challenge: ", letters, terms)
 }

@@ -10,7 +10,7 @@ use collections::position;
 use fics_words::{Fail, HandleKey, Refusal};
 
 /// A list of names of a member, by FICS's names.
-#[derive(Clone, Copy, Debug, PartialEq, Eq)]
+#[derive(Clone, Copy)]
 pub enum WhichList {
     /// Those who can't tell the member anything, nor play with it.
     Censor,

@@ -1,14 +1,17 @@
 //! Partner: a member asks another to be its partner, or parts with the one it has.
-ghost use Rattle.std.specs.Prelude.{◌≡◌, IfOk, true};
-ghost use Rattle.fics_words.specs.Effect.{Takes};
-ghost use Rattle.lobby_state.specs.Partner.{ask_effect, asked_reply, part_effect, parting_words, partner_effect, partner_words};
+ghost use Rattle.std.specs.Prelude.{◌≡◌, IfOk, OnErr, OnOk, true};
+ghost use Rattle.fics_words.specs.Effect.{Takes, first_cause};
+ghost use Rattle.lobby_state.specs.Broadcast.{broadcast};
+ghost use Rattle.lobby_state.specs.Lobby.{is_session};
+ghost use Rattle.lobby_state.specs.Partner.{ask_causes, ask_effect, asked_reply, asking_effect, part_effect};
+ghost use Rattle.lobby_state.specs.Partner.{partner_effect, partner_words};
 
 use crate::acts::LobbyReply;
 use crate::broadcast::broadcast;
-use crate::member::OfSession;
+use crate::member::{Member, Members, OfSession};
 use crate::register::Register;
 use crate::said::{joined, said_line};
-use fics_words::{Duplicate, Fail, Handle, HandleKey, Line, NoMemory, Refusal};
+use fics_words::{Fail, Handle, HandleKey, Line, NoMemory, Refusal};
 use std::alloc::Global;
 
 impl Register {
@@ -39,23 +42,39 @@ impl Register {
         let Some(other) = self.named(to) else {
             return Err(Fail::Refused(Refusal::NoSuchPlayer));
         };
+        if let Some(refusal) = self.ask_refusal(session, other) {
+            return Err(Fail::Refused(refusal));
+        }
+        let (name, partner) = (caller.name, other.session);
+        self.ask_member(session, name, partner)
+    }
+
+    /// Why the session can't ask the other to be its partner, if it can't.
+    fn ask_refusal(&self, session: u32, other: &Member) -> Option<Refusal>
+        ensures { result ≡ first_cause (ask_causes self.now session other.now) }
+    {
         if other.session == session {
-            return Err(Fail::Refused(Refusal::BadOpponent));
+            return Some(Refusal::BadOpponent);
         }
         if self.partner_of(session).is_some() || self.partner_of(other.session).is_some() {
-            return Err(Fail::Refused(Refusal::HasPartner));
+            return Some(Refusal::HasPartner);
         }
         if other.is_full() {
-            return Err(Fail::Refused(Refusal::QueueFull));
+            return Some(Refusal::QueueFull);
         }
-        let partner = other.session;
-        let name = caller.name;
+        None
+    }
+
+    /// The session, which goes by that name, asks another to be its partner, and the other is told. Refused where one
+    /// of the two has a partner.
+    fn ask_member(&mut self, session: u32, name: Handle, other: u32) -> Result<LobbyReply, Fail>
+        ensures { Takes (asking_effect self.old session name other) self.old self.new result }
+    {
+        let linked = self.partners.has_asked(other, session);
         // requests and links are made anew beside the old ones, so that want of memory for the line changes nothing
-        let mut partners = self.partners.duplicate()?;
-        let linked = partners.ask(session, partner)?;
-        let line = partner_line(self.alloc, name, linked)?;
-        broadcast(&mut self.members, &OfSession(partner), &line)?;
-        self.partners = partners;
+        let asked = self.partners.after_ask(session, other)?;
+        tell_asked(self.alloc, &mut self.members, other, name, linked)?;
+        self.partners = asked;
         Ok(asked_reply(linked))
     }
 
@@ -70,18 +89,32 @@ impl Register {
         let Some(partner) = self.partner_of(session) else {
             return Err(Fail::Refused(Refusal::NoPartner));
         };
-        let line = parting_line(self.alloc, caller.name)?;
-        broadcast(&mut self.members, &OfSession(partner), &line)?;
+        let name = caller.name;
+        self.say(
+            &OfSession(partner),
+            name,
+            b" is no longer your partner.",
+            b"",
+        )?;
         self.partners.part(session)?;
         Ok(LobbyReply::Done)
     }
 }
 
-/// The line that tells of a parting.
-fn parting_line(alloc: Global, name: Handle) -> Result<Line, NoMemory>
-    ensures { IfOk result (λ line. line ≡ parting_words name) }
+/// Tells the other of an ask by the player of this name, where fewer than 512 lines wait there.
+fn tell_asked(
+    alloc: Global,
+    members: &mut Members,
+    other: u32,
+    name: Handle,
+    linked: bool,
+) -> Result<u16, NoMemory>
+    ensures ok { OnOk result
+        (members.new ≡ broadcast (is_session other) (partner_words linked name) members.old) }
+    ensures err { OnErr result (members.new ≡ members.old) }
 {
-    said_line(alloc, name, b" is no longer your partner.", b"")
+    let line = partner_line(alloc, name, linked)?;
+    broadcast(members, &OfSession(other), &line)
 }
 
 /// What an ask is answered, where the two are partners from then on and where not.

@@ -6,7 +6,7 @@ ghost use Rattle.lobby_state.specs.Pending.{is_on_side, other_of, pending_effect
 use crate::acts::LobbyReply;
 use crate::challenge::Challenge;
 use crate::register::Register;
-use crate::terms::put_terms;
+use crate::terms::with_terms;
 use chess_model::Terms;
 use collections::Listed;
 use fics_words::{Fail, Line, NoMemory, Refusal};
@@ -106,9 +106,5 @@ fn pending_text(
 ) -> Result<Vec<u8>, NoMemory>
     ensures { IfOk result (λ text. text.items ≡ pending_words side letters.now terms) }
 {
-    let mut text = Vec::from_slice(alloc, side_words(side))?;
-    text.extend_from_slice(letters)?;
-    text.push(b' ')?;
-    put_terms(alloc, terms, &mut text)?;
-    Ok(text)
+    with_terms(alloc, side_words(side), letters, terms)
 }

@@ -1,11 +1,12 @@
 //! Post: a member offers a game to whoever takes it.
-ghost use Rattle.std.specs.Prelude.{◌≡◌, ◌<◌, IfOk, length};
+ghost use Rattle.std.specs.Prelude.{◌≡◌, ◌<◌, IfOk, OnErr, OnOk, length};
 ghost use Rattle.fics_words.specs.Effect.{Takes};
-ghost use Rattle.lobby_state.specs.Post.{hears_seeks, post_effect, seek_words};
+ghost use Rattle.lobby_state.specs.Broadcast.{broadcast};
+ghost use Rattle.lobby_state.specs.Post.{hears_seeks, post_effect, seek_words, seeking_effect};
 
 use crate::acts::LobbyReply;
 use crate::broadcast::broadcast;
-use crate::member::Member;
+use crate::member::{Member, Members};
 use crate::register::Register;
 use crate::said::{joined, put_numbered};
 use crate::terms::words_of_terms;
@@ -44,14 +45,38 @@ impl Register {
             return Err(Fail::Refused(Refusal::Playing));
         }
         let name = caller.name;
+        self.post_seek(session, name, terms)
+    }
+
+    /// A seek of the session, which goes by that name, stands, and others are told. Refused where it has three seeks.
+    fn post_seek(&mut self, session: u32, name: Handle, terms: Terms) -> Result<LobbyReply, Fail>
+        requires { length self.old.seeks < 65535 }
+        ensures { Takes (seeking_effect self.old session name terms) self.old self.new result }
+    {
         // the seeks are made anew beside the old ones, so that want of memory for the lines changes nothing
         let mut seeks = self.seeks.duplicate()?;
         let number = seeks.post(session, terms)?;
-        let line = seek_line(self.alloc, name, number, terms)?;
-        let _told = broadcast(&mut self.members, &HearsSeeks(session), &line)?;
+        tell_of_seek(self.alloc, &mut self.members, session, name, number, terms)?;
         self.seeks = seeks;
         Ok(LobbyReply::Number(number))
     }
+}
+
+/// Tells of a seek by the session, which goes by that name, to the others who want to hear of seeks.
+fn tell_of_seek(
+    alloc: Global,
+    members: &mut Members,
+    session: u32,
+    name: Handle,
+    number: u16,
+    terms: Terms,
+) -> Result<u16, NoMemory>
+    ensures ok { OnOk result
+        (members.new ≡ broadcast (hears_seeks session) (seek_words name number terms) members.old) }
+    ensures err { OnErr result (members.new ≡ members.old) }
+{
+    let line = seek_line(alloc, name, number, terms)?;
+    broadcast(members, &HearsSeeks(session), &line)
 }
 
 /// The line that a seek sends, `H seeking M I V C ("play N" to respond)`: whose it is, on which terms, and its number.

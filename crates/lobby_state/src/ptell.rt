@@ -4,10 +4,8 @@ ghost use Rattle.fics_words.specs.Effect.{Takes};
 ghost use Rattle.lobby_state.specs.Ptell.{is_partner_full, ptell_effect};
 
 use crate::acts::LobbyReply;
-use crate::broadcast::broadcast;
 use crate::member::OfSession;
 use crate::register::Register;
-use crate::said::said_line;
 use fics_words::{Fail, Line, Refusal};
 
 impl Register {
@@ -26,13 +24,13 @@ impl Register {
         if self.is_partner_full(partner) {
             return Err(Fail::Refused(Refusal::QueueFull));
         }
-        let line = said_line(
-            self.alloc,
-            caller.name,
+        let name = caller.name;
+        self.say(
+            &OfSession(partner),
+            name,
             b" (your partner) tells you: ",
             text.bytes(),
         )?;
-        broadcast(&mut self.members, &OfSession(partner), &line)?;
         Ok(LobbyReply::Told(1))
     }
 

@@ -60,15 +60,17 @@ impl Register {
     pub(crate) fn new(alloc: Global) -> Result<Register, NoMemory>
         ensures { IfOk result (λ register. register ≡ opening) }
     {
+        let members = Members::new(alloc)?;
+        let games = no_games(alloc)?;
         Ok(Register {
             alloc,
             accounts: Accounts::new(alloc),
-            members: Members::new(alloc)?,
+            members,
             challenges: Reserved::new(alloc),
             seeks: SeekBook::new(alloc),
             channels: Channels::new(alloc),
             partners: Partners::new(alloc),
-            games: no_games(alloc)?,
+            games,
             started: 0,
         })
     }

@@ -4,10 +4,8 @@ ghost use Rattle.fics_words.specs.Effect.{Takes};
 ghost use Rattle.lobby_state.specs.Shout.{hears_shouts, shout_effect};
 
 use crate::acts::LobbyReply;
-use crate::broadcast::broadcast;
 use crate::member::Member;
 use crate::register::Register;
-use crate::said::said_line;
 use collections::Predicate;
 use fics_words::{Fail, Line, Refusal};
 
@@ -32,8 +30,8 @@ impl Register {
         let Some(caller) = self.member(session) else {
             return Err(Fail::Refused(Refusal::NotIn));
         };
-        let line = said_line(self.alloc, caller.name, b" shouts: ", text.bytes())?;
-        let told = broadcast(&mut self.members, &HearsShouts(session), &line)?;
+        let name = caller.name;
+        let told = self.say(&HearsShouts(session), name, b" shouts: ", text.bytes())?;
         Ok(LobbyReply::Told(told))
     }
 }

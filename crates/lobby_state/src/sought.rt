@@ -7,9 +7,10 @@ ghost use Rattle.lobby_state.specs.Sought.{name_in, sought_effect, sought_line, 
 
 use crate::acts::LobbyReply;
 use crate::register::Register;
-use crate::terms::put_terms;
+use crate::said::put_numbered;
+use crate::terms::with_terms;
 use collections::Listed;
-use fics_words::{Fail, Line, NoMemory, Refusal, write_number};
+use fics_words::{Fail, Line, NoMemory, Refusal};
 use seek_match::Seek;
 use std::alloc::Global;
 
@@ -61,11 +62,7 @@ impl Register {
 fn sought_text(alloc: Global, letters: &[u8], seek: Seek) -> Result<Vec<u8>, NoMemory>
     ensures { IfOk result (λ text. text.items ≡ sought_words letters.now seek) }
 {
-    let mut text = Vec::new(alloc);
-    write_number(&mut text, u64::from(seek.number))?;
-    text.push(b' ')?;
-    text.extend_from_slice(letters)?;
-    text.push(b' ')?;
-    put_terms(alloc, seek.terms, &mut text)?;
-    Ok(text)
+    let mut number = Vec::new(alloc);
+    put_numbered(&mut number, b"", u64::from(seek.number), b" ")?;
+    with_terms(alloc, &number, letters, seek.terms)
 }

@@ -7,9 +7,11 @@ ghost use Rattle.lobby_state.specs.Told.{lists_told};
 ghost use Rattle.lobby_state.specs.Plans.{committed, desk_of, plan_of};
 
 use crate::acts::{LobbyAct, LobbyReply, PairAct, Plan};
+use crate::desk_in_use::DeskInUse;
 use crate::register::Register;
 use crate::told::ReplyLists;
-use fics_words::{Fail, NoMemory, Refusal};
+use collections::Listed;
+use fics_words::{Fail, Line, NoMemory, Refusal};
 
 impl Register {
     /// Carries out an act that needs the lobby alone.
@@ -58,37 +60,37 @@ impl Register {
         ensures lists { IfOk result (λ lists. lists ≡ lists_told (lobby_effect self.now session act.now).reply) }
         ensures sure { LobbyNeedsNoMemory act.now → IsOk result }
     {
-        let none = ReplyLists::none(self.alloc);
+        let lines = self.lines_ahead(session, act)?;
+        let desks = self.desks_ahead(session, act)?;
+        Ok(ReplyLists { lines, desks })
+    }
+
+    /// A copy of the lines that an act will answer.
+    fn lines_ahead(&self, session: u32, act: &LobbyAct) -> Result<Listed<Line>, NoMemory>
+        ensures lines { IfOk result (λ lines.
+            lines ≡ (lists_told (lobby_effect self.now session act.now).reply).lines) }
+        ensures sure { LobbyNeedsNoMemory act.now → IsOk result }
+    {
         match act {
-            LobbyAct::Fetch => Ok(ReplyLists {
-                lines: self.waiting_copy(session)?,
-                ..none
-            }),
-            LobbyAct::Sought => Ok(ReplyLists {
-                lines: self.sought_lines()?,
-                ..none
-            }),
-            LobbyAct::Who => Ok(ReplyLists {
-                lines: self.who_lines()?,
-                ..none
-            }),
-            LobbyAct::Pending => Ok(ReplyLists {
-                lines: self.pending_lines(session)?,
-                ..none
-            }),
-            LobbyAct::Games => Ok(ReplyLists {
-                lines: self.games_lines()?,
-                ..none
-            }),
-            LobbyAct::InChannel { channel } => Ok(ReplyLists {
-                lines: self.in_channel_lines(*channel)?,
-                ..none
-            }),
-            LobbyAct::InUse => Ok(ReplyLists {
-                desks: self.desks_in_use()?,
-                ..none
-            }),
-            _ => Ok(none),
+            LobbyAct::Fetch => self.waiting_copy(session),
+            LobbyAct::Sought => self.sought_lines(),
+            LobbyAct::Who => self.who_lines(),
+            LobbyAct::Pending => self.pending_lines(session),
+            LobbyAct::Games => self.games_lines(),
+            LobbyAct::InChannel { channel } => self.in_channel_lines(*channel),
+            _ => Ok(Listed::new(self.alloc)),
+        }
+    }
+
+    /// A copy of the desks that an act will answer.
+    fn desks_ahead(&self, session: u32, act: &LobbyAct) -> Result<Listed<DeskInUse>, NoMemory>
+        ensures desks { IfOk result (λ desks.
+            desks ≡ (lists_told (lobby_effect self.now session act.now).reply).desks) }
+        ensures sure { LobbyNeedsNoMemory act.now → IsOk result }
+    {
+        match act {
+            LobbyAct::InUse => self.desks_in_use(),
+            _ => Ok(Listed::new(self.alloc)),
         }
     }
 

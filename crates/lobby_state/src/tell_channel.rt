@@ -4,10 +4,9 @@ ghost use Rattle.fics_words.specs.Effect.{Takes};
 ghost use Rattle.lobby_state.specs.TellChannel.{channel_words, hears_channel, tell_channel_effect};
 
 use crate::acts::LobbyReply;
-use crate::broadcast::broadcast;
+use crate::broadcast::say;
 use crate::member::Member;
 use crate::register::Register;
-use crate::said::said_line;
 use channel_feed::Channels;
 use collections::Predicate;
 use fics_words::{Fail, Line, NoMemory, Refusal, write_number};
@@ -49,13 +48,19 @@ impl Register {
         }
         let name = caller.name;
         let wording = channel_words(self.alloc, channel)?;
-        let line = said_line(self.alloc, name, &wording, text.bytes())?;
         let others = HearsChannel {
             channels: &self.channels,
             session,
             channel,
         };
-        let told = broadcast(&mut self.members, &others, &line)?;
+        let told = say(
+            self.alloc,
+            &mut self.members,
+            &others,
+            name,
+            &wording,
+            text.bytes(),
+        )?;
         Ok(LobbyReply::Told(told))
     }
 }

@@ -1,10 +1,25 @@
 //! The terms of a game in a line.
-ghost use Rattle.std.specs.Prelude.{◌≡◌, ◌++◌, IfOk, OnOk};
+ghost use Rattle.std.specs.Prelude.{◌≡◌, ◌++◌, IfOk, OnOk, codes};
 ghost use Rattle.lobby_state.specs.TermsText.{colour_words, terms_words};
 
+use crate::said::joined;
 use chess_model::{Colour, Terms, variant_word};
 use fics_words::{NoMemory, write_number};
 use std::alloc::Global;
+
+/// Two texts, one behind the other, and behind a blank the terms.
+pub(crate) fn with_terms(
+    alloc: Global,
+    first: &[u8],
+    second: &[u8],
+    terms: Terms,
+) -> Result<Vec<u8>, NoMemory>
+    ensures { IfOk result (λ text. text.items ≡ first.now ++ second.now ++ codes " " ++ terms_words terms) }
+{
+    let mut text = joined(alloc, first, second, b" ")?;
+    put_terms(alloc, terms, &mut text)?;
+    Ok(text)
+}
 
 /// Appends the terms as lines of the lobby have them, `M I V C`: the minutes, the increment in seconds, the variant, and
 /// the colour where one is asked for.

@@ -9,7 +9,7 @@ use collections::Change;
 use fics_words::{Fail, Refusal};
 
 /// A variable of a member, by FICS's names.
-#[derive(Clone, Copy, Debug, PartialEq, Eq)]
+#[derive(Clone, Copy)]
 pub enum Var {
     /// Whether the member can be challenged.
     Open,

@@ -1,5 +1,5 @@
 /// What a member wants others to send; a newcomer wants all of it.
-#[derive(Clone, Copy, Debug, PartialEq, Eq)]
+#[derive(Clone, Copy)]
 pub struct Wants {
     /// To be challenged: FICS's variable `open`.
     pub matches: bool,

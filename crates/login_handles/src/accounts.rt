@@ -13,7 +13,7 @@ use std::marker::Model;
 const MOST: usize = 4_096;
 
 /// The accounts of a server, in the order in which they were made. Contracts see the list of them.
-#[derive(Debug, Drop)]
+#[derive(Drop)]
 pub struct Accounts {
     rows: Listed<Account>,
 }

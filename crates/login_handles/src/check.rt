@@ -1,7 +1,7 @@
 //! What a login finds.
 
 /// What the accounts say of a name and a password's digest.
-#[derive(Clone, Copy, Debug, PartialEq, Eq)]
+#[derive(Clone, Copy, PartialEq, Eq)]
 pub enum Check {
     /// The handle has no account: whoever asks enters unregistered.
     Free,

@@ -6,7 +6,7 @@ use collections::Predicate;
 use fics_words::{Duplicate, NoMemory};
 
 /// A request that stands: which player has asked which to be its partner.
-#[derive(Clone, Copy, Debug, PartialEq, Eq)]
+#[derive(Clone, Copy)]
 pub struct PartnerRequest {
     pub from: u32,
     pub to: u32,
@@ -38,7 +38,7 @@ impl Duplicate for PartnerRequest {
 }
 
 /// Two players who are partners: the one who asked first, and the one who asked back.
-#[derive(Clone, Copy, Debug, PartialEq, Eq)]
+#[derive(Clone, Copy)]
 pub struct PartnerLink {
     pub first: u32,
     pub second: u32,

@@ -13,7 +13,7 @@ use std::marker::Model;
 /// Players are known by the numbers of their sessions. Contracts see the two lists.
 ///
 /// Each player has one partner at most, and nobody is its own partner.
-#[derive(Debug, Drop)]
+#[derive(Drop)]
 pub struct Partners {
     requests: Listed<PartnerRequest>,
     pub(crate) links: Listed<PartnerLink>,
@@ -33,7 +33,7 @@ impl Partners {
     ghost use Rattle.std.specs.Prelude.{◌≡◌, ok_or, OnErr, OnOk, []};
     ghost use Rattle.fics_words.specs.Effect.{Takes};
     ghost use Rattle.fics_words.specs.declared.refusal.Refusal.TheVariants.{NoPartner};
-    ghost use Rattle.partner_link.specs.Partners.{asking, parted, partner_of, without};
+    ghost use Rattle.partner_link.specs.Partners.{asking, has_asked, parted, partner_of, trying, without};
 
     /// No requests and no links; takes no memory.
     pub fn new(alloc: Global) -> Partners
@@ -76,6 +76,22 @@ impl Partners {
             self.requests.push(PartnerRequest { from, to })?;
         }
         Ok(false)
+    }
+
+    /// The requests and links as they would be after that ask, which changes nothing here. Refused as the ask is.
+    pub fn after_ask(&self, from: u32, to: u32) -> Result<Partners, Fail>
+        ensures { Takes (trying self.now from to) self.now self.now result }
+    {
+        let mut after = self.duplicate()?;
+        after.ask(from, to)?;
+        Ok(after)
+    }
+
+    /// Whether the other has a request to this player standing, so that an ask links the two.
+    pub fn has_asked(&self, other: u32, who: u32) -> bool
+        ensures { result ≡ has_asked self.now.requests other who }
+    {
+        who != other && stands(self.requests.as_slice(), other, who)
     }
 
     /// Takes away the link of this player, and gives who its partner was. Refuses with `NoPartner` where it has none.

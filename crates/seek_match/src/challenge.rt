@@ -7,7 +7,7 @@ use collections::Predicate;
 use fics_words::{Duplicate, NoMemory};
 
 /// A game that a player offers to one other: by which session, to which, and on which terms.
-#[derive(Clone, Copy, Debug, PartialEq, Eq)]
+#[derive(Clone, Copy)]
 pub struct Challenge {
     pub from: u32,
     pub to: u32,
@@ -44,6 +44,21 @@ impl Predicate<Challenge> for OfAnotherPair {
 
     fn passes(&self, challenge: &Challenge) -> bool {
         !(challenge.from == self.0.from && challenge.to == self.0.to)
+    }
+}
+
+/// A challenge to this player, and by that one, if one is given.
+#[derive(Clone, Copy)]
+pub(crate) struct ToPlayer {
+    pub(crate) from: Option<u32>,
+    pub(crate) to: u32,
+}
+
+impl Predicate<Challenge> for ToPlayer {
+    ghost passes = { λ test challenge. is_to test.from test.to challenge };
+
+    fn passes(&self, challenge: &Challenge) -> bool {
+        challenge.is_to(self.from, self.to)
     }
 }
 

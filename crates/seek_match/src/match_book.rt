@@ -1,17 +1,17 @@
 //! The challenges that stand.
-ghost use Rattle.std.specs.Prelude.{◌≡◌, option_copied};
-ghost use Rattle.std.specs.List.{find, list_any};
-ghost use Rattle.seek_match.specs.Matches.{is_between, is_to};
+ghost use Rattle.std.specs.Prelude.{◌≡◌};
+ghost use Rattle.std.specs.List.{list_any};
+ghost use Rattle.seek_match.specs.Matches.{is_between};
 
-use crate::challenge::{Challenge, NotBetween, OfAnotherPair};
-use collections::Reserved;
+use crate::challenge::{Challenge, NotBetween, OfAnotherPair, ToPlayer};
+use collections::{Reserved, find};
 use fics_words::{Duplicate, NoMemory};
 use std::alloc::Global;
 use std::marker::Model;
 
 /// The challenges that stand, in the order of making. Contracts see the list of them. Nobody has two challenges to one
 /// player.
-#[derive(Debug, Drop)]
+#[derive(Drop)]
 pub struct MatchBook {
     rows: Reserved<Challenge>,
 }
@@ -59,7 +59,7 @@ impl MatchBook {
     pub fn find(&self, from: Option<u32>, to: u32) -> Option<Challenge>
         ensures { result ≡ challenge_to self.now from to }
     {
-        find_challenge(self.rows.as_slice(), from, to).copied()
+        find(self.rows.as_slice(), &ToPlayer { from, to }).copied()
     }
 
     /// Takes away the challenge by the first player to the second, and tells whether there was one.
@@ -91,19 +91,6 @@ impl Duplicate for MatchBook {
             rows: self.rows.duplicate()?,
         })
     }
-}
-
-/// The first of these challenges that is to this player, and by that one, if one is given.
-fn find_challenge<'a>(
-    challenges: &'a [Challenge],
-    from: Option<u32>,
-    to: u32,
-) -> Option<&'a Challenge>
-    ensures { option_copied result ≡ find (is_to from to) challenges.now }
-{
-    challenges
-        .iter()
-        .find(|challenge| challenge.is_to(from, to))
 }
 
 /// Whether one of these challenges is by the first player to the second.

@@ -1,11 +1,12 @@
 //! A seek, and whose it is.
-ghost use Rattle.std.specs.Prelude.{◌≡◌};
-ghost use Rattle.seek_match.specs.Seeks.{is_by};
+ghost use Rattle.std.specs.Prelude.{◌≡◌, not};
+ghost use Rattle.seek_match.specs.Seeks.{has_number, is_by};
 
 use chess_model::Terms;
+use collections::Predicate;
 
 /// A game that a player offers to whoever takes it: under which number, by which session, and on which terms.
-#[derive(Clone, Copy, Debug, PartialEq, Eq)]
+#[derive(Clone, Copy)]
 pub struct Seek {
     /// From 1 on.
     pub number: u16,
@@ -22,5 +23,32 @@ impl Seek {
             None => self.by == by,
             Some(number) => self.by == by && self.number == number,
         }
+    }
+}
+
+/// The seek of that number.
+#[derive(Clone, Copy)]
+pub(crate) struct OfNumber(pub(crate) u16);
+
+impl Predicate<Seek> for OfNumber {
+    ghost passes = { λ test seek. has_number test.0 seek };
+
+    fn passes(&self, seek: &Seek) -> bool {
+        seek.number == self.0
+    }
+}
+
+/// A seek that isn't by this player, or hasn't the number, if one is given.
+#[derive(Clone, Copy)]
+pub(crate) struct NotBy {
+    pub(crate) by: u32,
+    pub(crate) number: Option<u16>,
+}
+
+impl Predicate<Seek> for NotBy {
+    ghost passes = { λ test seek. not (is_by test.by test.number seek) };
+
+    fn passes(&self, seek: &Seek) -> bool {
+        !seek.is_by(self.by, self.number)
     }
 }

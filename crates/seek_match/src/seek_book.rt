@@ -1,11 +1,11 @@
 //! The seeks that stand.
-ghost use Rattle.std.specs.Prelude.{◌≡◌, ◌+◌, ◌<◌, ◌≤◌, IfOk, length, not, option_copied};
-ghost use Rattle.std.specs.List.{count_by, filter, find};
-ghost use Rattle.seek_match.specs.Seeks.{has_number, is_by, next_number};
+ghost use Rattle.std.specs.Prelude.{◌≡◌, ◌+◌, ◌<◌, ◌≤◌, IfOk, length};
+ghost use Rattle.std.specs.List.{count_by, filter};
+ghost use Rattle.seek_match.specs.Seeks.{is_by, next_number};
 
-use crate::seek::Seek;
+use crate::seek::{NotBy, OfNumber, Seek};
 use chess_model::Terms;
-use collections::Predicate;
+use collections::{Predicate, find};
 use fics_words::{Duplicate, Fail, NoMemory, Refusal};
 use std::alloc::Global;
 use std::marker::Model;
@@ -14,7 +14,7 @@ use std::marker::Model;
 const MOST: usize = 3;
 
 /// The seeks that stand, in the order of their numbers. Contracts see the list of them.
-#[derive(Debug, Drop)]
+#[derive(Drop)]
 pub struct SeekBook {
     pub(crate) rows: Vec<Seek>,
 }
@@ -65,7 +65,7 @@ impl SeekBook {
     pub fn get(&self, number: u16) -> Option<Seek>
         ensures { result ≡ seek_of self.now number }
     {
-        find_seek(self.rows.as_slice(), number).copied()
+        find(self.rows.as_slice(), &OfNumber(number)).copied()
     }
 
     /// Takes away this player's seek of that number, or without a number all seeks of this player, and gives how many
@@ -78,7 +78,7 @@ impl SeekBook {
         if count == 0 {
             return Err(Refusal::NoSuchSeek);
         }
-        drop_seeks(&mut self.rows, by, number);
+        keep_seeks(&mut self.rows, &NotBy { by, number });
         Ok(count as u16)
     }
 
@@ -113,13 +113,6 @@ fn copy_of(alloc: Global, seeks: &[Seek]) -> Result<Vec<Seek>, NoMemory>
     Ok(Vec::from_slice(alloc, seeks)?)
 }
 
-/// The seek of that number among these, if there is one.
-fn find_seek<'a>(seeks: &'a [Seek], number: u16) -> Option<&'a Seek>
-    ensures { option_copied result ≡ find (has_number number) seeks.now }
-{
-    seeks.iter().find(|seek| seek.number == number)
-}
-
 /// How many of these are by this player, and have the number, if one is given.
 fn count_by(seeks: &[Seek], by: u32, number: Option<u16>) -> usize
     ensures { result ≡ count_by (is_by by number) seeks.now }
@@ -142,17 +135,6 @@ fn next_number(seeks: &[Seek]) -> u16
         number += 1;
     }
     number
-}
-
-/// Takes away the seeks that are by this player, and have the number, if one is given. A list that is left empty gives
-/// its block back.
-fn drop_seeks(seeks: &mut Vec<Seek>, by: u32, number: Option<u16>)
-    ensures { seeks.new.items ≡ filter (λ seek. not (is_by by number seek)) seeks.old.items }
-{
-    seeks.retain(|seek| !seek.is_by(by, number));
-    if seeks.is_empty() {
-        *seeks = Vec::new(*seeks.allocator());
-    }
 }
 
 /// Keeps the seeks that pass `test`. A list that is left empty gives its block back.

@@ -1,5 +1,5 @@
 /// A seat that a member has at a desk in use.
-#[derive(Clone, Copy, Debug, PartialEq, Eq)]
+#[derive(Clone, Copy, PartialEq, Eq)]
 pub struct Place {
     /// The desk, 1 to 128.
     pub desk: u8,

@@ -21,7 +21,7 @@ const NOWHERE: Place = Place {
 
 /// The places of a player in the order in which they came, which of them is the present one, and whether the player
 /// gives a simul. Contracts see whether it gives, the present place's number, and the list of the places.
-#[derive(Clone, Copy, Debug, PartialEq, Eq)]
+#[derive(Clone, Copy, PartialEq, Eq)]
 pub struct Places {
     giving: bool,
     at: usize,

@@ -1,5 +1,5 @@
 /// Which way a giver turns in the circle of its places.
-#[derive(Clone, Copy, Debug, PartialEq, Eq)]
+#[derive(Clone, Copy)]
 pub enum Way {
     /// To the place that came next, and from the last one to the first.
     Next,

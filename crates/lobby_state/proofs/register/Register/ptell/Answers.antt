@@ -1,5 +1,13 @@
+use Rattle.std.proofs.Common.{sym, ◌∙◌}
+use Rattle.lobby_state.proofs.KeepsPtell.{confides}
 use Rattle.lobby_state.proofs.Words.{IsWording-confides}
 use Rattle.lobby_state.proofs.register.Register.ptell.Goals as goal
 
-pub said_line-requires-clause-wording : goal.said_line-requires-clause-wording
-said_line-requires-clause-wording c = IsWording-confides
+pub say-requires-clause-wording : goal.say-requires-clause-wording
+say-requires-clause-wording c = IsWording-confides
+
+pub returns : goal.returns
+returns c =
+    confides c.args.self.now c.say.new.self c.args.session c.in-Some-partner_of.partner c.args.text.now c.bytes.result.now c.in-Some.caller.now
+    (sym c.in-Some.ensures) (sym c.in-Some-partner_of.ensures) (sym c.is_partner_full.ensures ∙ c.if-is_partner_full.false)
+    c.bytes.ensures.bytes c.in_ok-say.ensures.ok

@@ -13,5 +13,5 @@ overflow_cast-result c =
 
 pub invariant_of-self : goal.invariant_of-self
 invariant_of-self c =
-    subst AreSeeks (sym c.drop_seeks.ensures)
+    subst AreSeeks (sym c.keep_seeks.ensures)
     (RiseAbove-filter (λ seek. not (is_by c.args.by c.args.number seek)) 0 c.self.inside.rows.items c.self.invariant)
