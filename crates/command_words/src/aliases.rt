@@ -1,7 +1,7 @@
 //! Aliases: short names for texts that a player types often.
 
-ghost use Rattle.std.specs.Prelude.{◌≡◌, ◌<◌, IfOk, IfSome, length, position, option_copied, true};
-ghost use Rattle.command_words.specs.Aliases.{has_name, is_alias_name, alias_of};
+ghost use Rattle.std.specs.Prelude.{◌≡◌, ◌<◌, IfOk, IfSome, OnOk, OnErr, length, position, option_copied, true};
+ghost use Rattle.command_words.specs.Aliases.{has_name, is_alias_name, alias_of, with_alias};
 ghost use Rattle.command_words.specs.Texts.{is_text};
 
 use crate::arguments::{are_within, is_text};
@@ -83,10 +83,7 @@ impl Aliases {
             return Err(Fail::Refused(Refusal::ListFull));
         }
         let alias = new_alias(self.alloc, name, text)?;
-        match place {
-            Some(place) => *self.rows.item_mut(place) = alias,
-            None => self.rows.push(alias)?,
-        }
+        put(&mut self.rows, place, alias)?;
         Ok(())
     }
 
@@ -100,6 +97,21 @@ impl Aliases {
         };
         self.rows.remove(place);
         Ok(())
+    }
+}
+
+/// Puts an alias in that place, or behind the others where there is none. Running out of memory changes nothing.
+fn put(rows: &mut Listed<Alias>, place: Option<usize>, alias: Alias) -> Result<(), NoMemory>
+    requires { IfSome place (λ place. place < length rows.old) }
+    ensures put { OnOk result (rows.new ≡ with_alias rows.old alias place) }
+    ensures unchanged { OnErr result (rows.new ≡ rows.old) }
+{
+    match place {
+        Some(place) => {
+            *rows.item_mut(place) = alias;
+            Ok(())
+        }
+        None => rows.push(alias),
     }
 }
 

@@ -1,5 +1,5 @@
 /// How boards are printed.
-#[derive(Clone, Copy, Debug, PartialEq, Eq)]
+#[derive(Clone, Copy)]
 pub enum Style {
     /// The ranks on eight lines, and a line of text: style 1 of FICS in short.
     One,

@@ -13,7 +13,7 @@ use chess_model::{Colour, Terms, Variant, read_variant};
 const MOST_TIME: u16 = 600;
 
 /// The time of a game.
-#[derive(Clone, Copy, Debug, PartialEq, Eq)]
+#[derive(Clone, Copy)]
 pub(crate) struct Time {
     /// The time at the start, in minutes.
     pub(crate) minutes: u16,

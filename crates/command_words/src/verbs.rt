@@ -6,7 +6,7 @@ ghost use Rattle.command_words.specs.Verbs.{name_of, short_of, is_called, begins
 use fics_words::Refusal;
 
 /// A command, without its arguments.
-#[derive(Clone, Copy, PartialEq, Eq)]
+#[derive(Clone, Copy)]
 pub enum Verb {
     Abort,
     Accept,

@@ -17,7 +17,7 @@ const MOST_STAMPED: usize = 1_033;
 const CLOSING: u8 = 0x80;
 
 /// A line that came over a link.
-#[derive(Debug, Drop)]
+#[derive(Drop)]
 pub enum Incoming {
     /// A line of at most 1,023 bytes, each from 0x20 to 0x7E.
     Plain(Line),
@@ -48,8 +48,10 @@ pub(crate) fn read_rest(alloc: Global, line: &[u8]) -> Result<Option<Incoming>, 
     if line.is_empty() {
         return Ok(None);
     }
-    let incoming = read_line(alloc, line)?;
-    Ok(Some(incoming))
+    match read_line(alloc, line) {
+        Ok(incoming) => Ok(Some(incoming)),
+        Err(want) => Err(want),
+    }
 }
 
 fn is_stamped(line: &[u8]) -> bool
@@ -67,10 +69,10 @@ fn read_plain(alloc: Global, line: &[u8]) -> Result<Incoming, NoMemory>
     if line.len() > MOST_PLAIN {
         return Ok(Incoming::TooLong);
     }
-    let found = Line::read(alloc, line)?;
-    match found {
-        Some(text) => Ok(Incoming::Plain(text)),
-        None => Ok(Incoming::BadByte),
+    match Line::read(alloc, line) {
+        Ok(Some(text)) => Ok(Incoming::Plain(text)),
+        Ok(None) => Ok(Incoming::BadByte),
+        Err(want) => Err(want),
     }
 }
 
@@ -91,9 +93,10 @@ fn open_line(alloc: Global, raw: &mut [u8]) -> Result<Incoming, NoMemory>
     ensures { IfOk result (λ incoming. incoming ≡ said (opened raw.old)) }
 {
     match unseal(raw) {
-        Some(Sealed::Text { text, stamp }) => match Line::read(alloc, text)? {
-            Some(line) => Ok(Incoming::Stamped(line, stamp)),
-            None => Ok(Incoming::BadByte),
+        Some(Sealed::Text { text, stamp }) => match Line::read(alloc, text) {
+            Ok(Some(line)) => Ok(Incoming::Stamped(line, stamp)),
+            Ok(None) => Ok(Incoming::BadByte),
+            Err(want) => Err(want),
         },
         Some(Sealed::Ack { stamp }) => Ok(Incoming::Ack(stamp)),
         None => Ok(Incoming::BadByte),

@@ -13,7 +13,7 @@ const SB: u8 = 250;
 const SE: u8 = 240;
 
 /// Where the next byte stands.
-#[derive(Clone, Copy, Debug, PartialEq, Eq)]
+#[derive(Clone, Copy)]
 pub enum Telnet {
     /// Among data.
     Data,

@@ -54,14 +54,16 @@ impl OneServer {
         ensures { IfOk result (λ server. server ≡ record { opening = opened lobby; log = [] }) }
     {
         lobbies_are_well_formed(&lobby);
-        let desks = vacant_desks(alloc)?;
-        Ok(OneServer {
-            alloc,
-            opening: Snapshot::of(&lobby),
-            lobby,
-            desks,
-            log: Vec::new(alloc),
-        })
+        match vacant_desks(alloc) {
+            Ok(desks) => Ok(OneServer {
+                alloc,
+                opening: Snapshot::of(&lobby),
+                lobby,
+                desks,
+                log: Vec::new(alloc),
+            }),
+            Err(want) => Err(want),
+        }
     }
 
     /// Makes an act of a session at `moment`, in milliseconds. What it is answered is the reply of the step in the

@@ -6,7 +6,7 @@ use crate::begin::is_greeting;
 use crate::input::Input;
 use crate::session_memory::Memory;
 use crate::standing::Standing;
-use crate::texts::{LINE_END, put_prompt};
+use crate::texts::{LINE_END, prompt_of, put_between};
 use fics_words::NoMemory;
 use line_reader::Incoming;
 use std::alloc::Global;
@@ -51,7 +51,7 @@ pub(crate) fn framed(
         Framing::Bare => Ok(text),
         Framing::Answer => {
             let mut text = text;
-            put_prompt(standing, &mut text)?;
+            text.extend_from_slice(prompt_of(standing))?;
             Ok(text)
         }
         Framing::News => unasked(alloc, text.as_slice(), standing),
@@ -66,9 +66,7 @@ fn unasked(alloc: Global, news: &[u8], standing: Standing) -> Result<Vec<u8>, No
     if news.is_empty() {
         return Ok(bytes);
     }
-    bytes.extend_from_slice(LINE_END)?;
-    bytes.extend_from_slice(news)?;
-    put_prompt(standing, &mut bytes)?;
+    put_between(LINE_END, news, prompt_of(standing), &mut bytes)?;
     Ok(bytes)
 }
 

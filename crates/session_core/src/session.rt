@@ -7,11 +7,13 @@ use crate::leaving::leave;
 use crate::session_memory::Memory;
 use crate::standing::Standing;
 use crate::taking::take;
-use crate::texts::put_prompt;
 use fics_words::{Handle, NoMemory};
 use one_server::Runner;
 use std::alloc::Global;
 use std::marker::Model;
+
+/// What a connection opens with.
+const OPENING: &[u8] = b"Free Internet Chess Server profile\n\rlogin: ";
 
 /// A session: one connection, from its opening to its end. Contracts see what it remembers.
 #[derive(Drop)]
@@ -59,8 +61,7 @@ impl Session {
     pub fn open(&self) -> Result<Vec<u8>, NoMemory>
         ensures { IfOk result (λ bytes. bytes.items ≡ opening_text) }
     {
-        let mut bytes = Vec::from_slice(self.alloc, b"Free Internet Chess Server profile\n\r")?;
-        put_prompt(Standing::Login, &mut bytes)?;
+        let bytes = Vec::from_slice(self.alloc, OPENING)?;
         Ok(bytes)
     }
 

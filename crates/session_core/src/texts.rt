@@ -1,5 +1,5 @@
 //! What a session writes.
-ghost use Rattle.std.specs.Prelude.{◌≡◌, ◌++◌, All, OnOk, codes};
+ghost use Rattle.std.specs.Prelude.{◌≡◌, ◌++◌, All, OnOk, codes, decimal};
 ghost use Rattle.linked_desk.specs.Sound.{NamesWinner};
 ghost use Rattle.one_server.specs.Replies.{IsReply};
 ghost use Rattle.session_core.specs.Texts.{asked_line, asks_back, board_text, done_line, entered_line, is_own_turn};
@@ -22,26 +22,20 @@ pub(crate) const LINE_END: &[u8] = b"\n\r";
 pub fn put_refusal(cause: Refusal, out: &mut Vec<u8>) -> Result<(), NoMemory>
     ensures { OnOk result (out.new.items ≡ out.old.items ++ refusal_line cause) }
 {
-    out.extend_from_slice(b"refused ")?;
-    write_number(out, u64::from(cause.number()))?;
-    out.extend_from_slice(b" ")?;
-    out.extend_from_slice(cause.name().as_bytes())?;
-    out.extend_from_slice(LINE_END)?;
-    Ok(())
+    put_count(b"refused ", u64::from(cause.number()), b" ", out)?;
+    put_ended(cause.name().as_bytes(), out)
 }
 
-/// Appends what stands at the end of an answer: a prompt, or a farewell.
-pub(crate) fn put_prompt(standing: Standing, out: &mut Vec<u8>) -> Result<(), NoMemory>
-    ensures { OnOk result (out.new.items ≡ out.old.items ++ prompt_of standing) }
+/// What stands at the end of an answer: a prompt, or a farewell.
+pub(crate) fn prompt_of(standing: Standing) -> &'static [u8]
+    ensures { result.now ≡ prompt_of standing }
 {
-    let prompt: &[u8] = match standing {
+    match standing {
         Standing::Login => b"login: ",
         Standing::Password(_) => b"password: ",
         Standing::In(_) => b"fics% ",
         Standing::Gone => b"Goodbye.\n\r",
-    };
-    out.extend_from_slice(prompt)?;
-    Ok(())
+    }
 }
 
 /// Appends what a reply prints.
@@ -64,40 +58,28 @@ pub(crate) fn put_reply(reply: &Reply, out: &mut Vec<u8>) -> Result<(), NoMemory
 pub(crate) fn put_done(out: &mut Vec<u8>) -> Result<(), NoMemory>
     ensures { OnOk result (out.new.items ≡ out.old.items ++ done_line) }
 {
-    out.extend_from_slice(b"Ok.")?;
-    out.extend_from_slice(LINE_END)?;
-    Ok(())
+    put_ended(b"Ok.", out)
 }
 
 /// Appends the line of what another was asked.
 fn put_asked(out: &mut Vec<u8>) -> Result<(), NoMemory>
     ensures { OnOk result (out.new.items ≡ out.old.items ++ asked_line) }
 {
-    out.extend_from_slice(b"Asked.")?;
-    out.extend_from_slice(LINE_END)?;
-    Ok(())
+    put_ended(b"Asked.", out)
 }
 
 /// Appends the line of a session that comes in.
 fn put_entered(name: Handle, out: &mut Vec<u8>) -> Result<(), NoMemory>
     ensures { OnOk result (out.new.items ≡ out.old.items ++ entered_line name) }
 {
-    out.extend_from_slice(b"Entered as ")?;
-    out.extend_from_slice(name.letters())?;
-    out.extend_from_slice(b".")?;
-    out.extend_from_slice(LINE_END)?;
-    Ok(())
+    put_between(b"Entered as ", name.letters(), b".\n\r", out)
 }
 
 /// Appends the line that tells the number of a new seek.
 fn put_number(number: u16, out: &mut Vec<u8>) -> Result<(), NoMemory>
     ensures { OnOk result (out.new.items ≡ out.old.items ++ number_line number) }
 {
-    out.extend_from_slice(b"Your seek is ")?;
-    write_number(out, u64::from(number))?;
-    out.extend_from_slice(b".")?;
-    out.extend_from_slice(LINE_END)?;
-    Ok(())
+    put_count(b"Your seek is ", u64::from(number), b".\n\r", out)
 }
 
 /// Appends the lines of a list, or that there are none.
@@ -114,20 +96,14 @@ fn put_list(lines: &[Line], out: &mut Vec<u8>) -> Result<(), NoMemory>
 fn put_none(out: &mut Vec<u8>) -> Result<(), NoMemory>
     ensures { OnOk result (out.new.items ≡ out.old.items ++ codes "none" ++ line_end) }
 {
-    out.extend_from_slice(b"none")?;
-    out.extend_from_slice(LINE_END)?;
-    Ok(())
+    put_ended(b"none", out)
 }
 
 /// Appends the line of how many were told.
 fn put_told(count: u16, out: &mut Vec<u8>) -> Result<(), NoMemory>
     ensures { OnOk result (out.new.items ≡ out.old.items ++ told_line count) }
 {
-    out.extend_from_slice(b"(told ")?;
-    write_number(out, u64::from(count))?;
-    out.extend_from_slice(b")")?;
-    out.extend_from_slice(LINE_END)?;
-    Ok(())
+    put_count(b"(told ", u64::from(count), b")\n\r", out)
 }
 
 /// Appends the lines that waited in the lobby.
@@ -271,7 +247,39 @@ fn is_own_turn(relation: i8) -> bool
 fn put_line(line: &Line, out: &mut Vec<u8>) -> Result<(), NoMemory>
     ensures { OnOk result (out.new.items ≡ out.old.items ++ line.now ++ line_end) }
 {
-    out.extend_from_slice(line.bytes())?;
+    put_ended(line.bytes(), out)
+}
+
+/// Appends the bytes of a line and its end.
+fn put_ended(bytes: &[u8], out: &mut Vec<u8>) -> Result<(), NoMemory>
+    ensures { OnOk result (out.new.items ≡ out.old.items ++ bytes.now ++ line_end) }
+{
+    out.extend_from_slice(bytes)?;
     out.extend_from_slice(LINE_END)?;
+    Ok(())
+}
+
+/// Appends bytes between two others.
+pub(crate) fn put_between(
+    front: &[u8],
+    middle: &[u8],
+    end: &[u8],
+    out: &mut Vec<u8>,
+) -> Result<(), NoMemory>
+    ensures { OnOk result (out.new.items ≡ out.old.items ++ front.now ++ middle.now ++ end.now) }
+{
+    out.extend_from_slice(front)?;
+    out.extend_from_slice(middle)?;
+    out.extend_from_slice(end)?;
+    Ok(())
+}
+
+/// Appends a decimal between two texts.
+fn put_count(front: &[u8], count: u64, end: &[u8], out: &mut Vec<u8>) -> Result<(), NoMemory>
+    ensures { OnOk result (out.new.items ≡ out.old.items ++ front.now ++ decimal count ++ end.now) }
+{
+    out.extend_from_slice(front)?;
+    write_number(out, count)?;
+    out.extend_from_slice(end)?;
     Ok(())
 }

@@ -20,11 +20,20 @@ pub fn seal(alloc: Global, text: &[u8], stamp: u32) -> Result<Vec<u8>, NoMemory>
     ensures line { IfOk result (λ line. line.items ≡ spelling (message_of text.now stamp) ++ 0x0A ∷ []) }
 {
     let mut line = Vec::new(alloc);
-    write_body(&mut line, text, stamp)?;
-    fill_group(&mut line)?;
-    hide(&mut line);
-    line.extend_from_slice(&[CLOSING, b'\n'])?;
+    write_line(&mut line, text, stamp)?;
     Ok(line)
+}
+
+/// Writes the one line of a text and a stamp where nothing stands yet.
+fn write_line(line: &mut Vec<u8>, text: &[u8], stamp: u32) -> Result<(), NoMemory>
+    requires { line.old.items ≡ [] }
+    ensures { OnOk result (line.new.items ≡ spelling (message_of text.now stamp) ++ 0x0A ∷ []) }
+{
+    write_body(line, text, stamp)?;
+    fill_group(line)?;
+    hide(line);
+    line.extend_from_slice(&[CLOSING, b'\n'])?;
+    Ok(())
 }
 
 /// Brings what stands in the open to how it stands on the line.

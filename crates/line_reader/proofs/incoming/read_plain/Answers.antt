@@ -1,5 +1,11 @@
-use Rattle.line_reader.proofs.Printable.{plain_found}
+use Rattle.line_reader.proofs.Printable.{plain_found, plain_missed, plain_long}
 use Rattle.line_reader.proofs.incoming.read_plain.Goals as goal
 
-pub returns-in-Some : goal.returns-in-Some
-returns-in-Some c = plain_found c.in_ok-found.found c.in-Some.text c.args.line.now (c.in_ok-found.ensures {u = tt}) c.in-Some.is
+pub returns-then-line-gt-MOST_PLAIN : goal.returns-then-line-gt-MOST_PLAIN
+returns-then-line-gt-MOST_PLAIN c = plain_long c.args.line.now c.if-line-gt-MOST_PLAIN.true
+
+pub returns-in-Ok-Some : goal.returns-in-Ok-Some
+returns-in-Ok-Some c = plain_found c.in-Ok-Some.field-0 c.in-Ok-Some.text c.args.line.now (c.in-Ok-Some.ensures {u = tt}) c.in-Ok-Some.field-0-is
+
+pub returns-in-Ok-None : goal.returns-in-Ok-None
+returns-in-Ok-None c = plain_missed c.in-Ok-None.field-0 c.args.line.now c.if-line-gt-MOST_PLAIN.false (c.in-Ok-None.ensures {u = tt}) c.in-Ok-None.field-0-is
