@@ -37,7 +37,14 @@ fn put_line(
     ensures { OnOk result (out.new.items ≡ out.old.items ++ (end_text view.now why winner true ++ codes "\n\r")) }
 {
     let line = end_line(*out.allocator(), view, why, winner, true)?;
-    out.extend_from_slice(line.bytes())?;
+    put_ended(line.bytes(), out)
+}
+
+/// Appends a line and what ends it.
+pub(crate) fn put_ended(line: &[u8], out: &mut Vec<u8>) -> Result<(), NoMemory>
+    ensures { OnOk result (out.new.items ≡ out.old.items ++ (line.now ++ codes "\n\r")) }
+{
+    out.extend_from_slice(line)?;
     out.extend_from_slice(END_OF_LINE)?;
     Ok(())
 }

@@ -4,7 +4,7 @@ ghost use Rattle.std.specs.Prelude.{◌≡◌, ◌++◌, OnOk, codes};
 ghost use Rattle.board_command.specs.Game.{untimed, view_of, observer, shown_text, state_of};
 ghost use Rattle.style12_writer.specs.Line12.{line12_text};
 
-use crate::endings::put_end;
+use crate::endings::{put_end, put_ended};
 use chess_model::{MoveWord, State, Terms, Variant};
 use fics_words::{Handle, NoMemory, Refusal};
 use game_board::GameBoard;
@@ -114,9 +114,7 @@ fn write_line(view: &BoardView, out: &mut Vec<u8>) -> Result<(), NoMemory>
         flip: false,
     };
     let line = line12(*out.allocator(), view, observer)?;
-    out.extend_from_slice(line.bytes())?;
-    out.extend_from_slice(END_OF_LINE)?;
-    Ok(())
+    put_ended(line.bytes(), out)
 }
 
 /// What the line of the board shows.

@@ -14,7 +14,7 @@ pub trait Clock {
 }
 
 /// A clock that stands still, and shows its one moment.
-#[derive(Clone, Copy, Debug)]
+#[derive(Clone, Copy)]
 pub struct StillClock {
     moment: u64,
 }

@@ -3,7 +3,7 @@
 use crate::link::Link;
 
 /// What a door gave.
-#[derive(Debug, Drop)]
+#[derive(Drop)]
 pub enum Came<L> {
     /// A connection.
     Link(L),

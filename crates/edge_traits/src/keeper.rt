@@ -1,10 +1,11 @@
 //! Where records are kept between two runs.
 
 use memory::{Duplicate, NoMemory};
+use std::alloc::Global;
 use std::marker::Model;
 
 /// A record and the key under which it is kept. Contracts see the pair of the two lists of bytes.
-#[derive(Debug, Drop)]
+#[derive(Drop)]
 pub struct Pair {
     pub key: Vec<u8>,
     pub bytes: Vec<u8>,
@@ -18,12 +19,23 @@ impl Model for Pair {
     ghost view = { λ pair. (pair.key.items, pair.bytes.items) };
 }
 
+impl Pair {
+    ghost use Rattle.std.specs.Prelude.{◌≡◌, IfOk};
+
+    /// A pair of copies of this key and this record; answers `NoMemory` only when out of memory.
+    pub(crate) fn of(alloc: Global, key: &[u8], bytes: &[u8]) -> Result<Pair, NoMemory>
+        ensures { IfOk result (λ pair. pair ≡ (key.now, bytes.now)) }
+    {
+        let key = Vec::from_slice(alloc, key)?;
+        let bytes = Vec::from_slice(alloc, bytes)?;
+        Ok(Pair { key, bytes })
+    }
+}
+
 impl Duplicate for Pair {
     fn duplicate(&self) -> Result<Pair, NoMemory> {
-        Ok(Pair {
-            key: self.key.clone()?,
-            bytes: self.bytes.clone()?,
-        })
+        let alloc = *self.key.allocator();
+        Pair::of(alloc, self.key.as_slice(), self.bytes.as_slice())
     }
 }
 
@@ -39,7 +51,7 @@ pub enum Kept {
 }
 
 /// Why a table couldn't be loaded.
-#[derive(Clone, Copy, Debug, PartialEq, Eq)]
+#[derive(Clone, Copy)]
 pub enum KeeperFail {
     /// A fault, which the object counted.
     Failed,

@@ -3,7 +3,7 @@
 use crate::sink::Sent;
 
 /// What a read of a link gave.
-#[derive(Clone, Copy, Debug, PartialEq, Eq)]
+#[derive(Clone, Copy, PartialEq, Eq)]
 pub enum Heard {
     /// So many bytes, at least 1, which the buffer now begins with.
     Bytes(usize),

@@ -133,11 +133,7 @@ fn put_pair(pairs: &mut Vec<Pair>, key: &[u8], bytes: &[u8]) -> Result<(), NoMem
     ensures put { OnOk result (pairs.new.items ≡ put keys_order key.now bytes.now pairs.old.items) }
     ensures unchanged { OnErr result (pairs.new.items ≡ pairs.old.items) }
 {
-    let alloc = *pairs.allocator();
-    let pair = Pair {
-        key: Vec::from_slice(alloc, key)?,
-        bytes: Vec::from_slice(alloc, bytes)?,
-    };
+    let pair = Pair::of(*pairs.allocator(), key, bytes)?;
     match find_place(pairs, key) {
         Place::At(i) => pairs[i] = pair,
         Place::Gap(i) => pairs.insert(i, pair)?,
@@ -183,7 +179,7 @@ fn copies_of(alloc: Global, pairs: &[Pair]) -> Result<Vec<Pair>, NoMemory>
 {
     let mut copies = Vec::with_capacity(alloc, pairs.len())?;
     for pair in pairs {
-        copies.push(pair.duplicate()?)?;
+        copies.push_reserved(pair.duplicate()?);
     }
     Ok(copies)
 }

@@ -7,7 +7,7 @@ ghost use Rattle.edge_traits.specs.Wire.{taken_at, left_at, IsSeen, IsSeenIn};
 use crate::link::Heard;
 
 /// What a link in memory gives.
-#[derive(Debug, Drop)]
+#[derive(Drop)]
 pub enum LinkStep {
     /// Bytes, of which a read gives as many as its buffer takes; an empty piece is passed over.
     Piece(Vec<u8>),

@@ -55,8 +55,12 @@ parts_again lobby tail taken rest whole e n =
     let there = behind (TheLobby lobby) tail whole in
     ap (λ ps. TheLobby lobby ∷ ps) (all_taken taken rest tail e (n ∙ sym there.2))
 
-is_no_desk : (lobby : LobbyState) (desk : DeskState) → TheLobby lobby ≡ ADesk desk → ⊥
-is_no_desk lobby desk e = cc
+-- the first one is the lobby
+pub first_lobby : (first : Part) (tail : List Part) → IsWhole (first ∷ tail) → (lobby : LobbyState) × (first ≡ TheLobby lobby)
+first_lobby first tail whole =
+    let e : Some first ≡ Some (TheLobby whole.lobby) = whole.first in
+    let same : first ≡ TheLobby whole.lobby = cc in
+    (whole.lobby, same)
 
 -- one more is taken
 pub taken_more : (taken more : List DeskState) (desk : DeskState) (old rest tail : List Part) → more ≡ taken ++ desk ∷ [] → old ≡ ADesk desk ∷ rest → map ADesk taken ++ old ≡ tail → map ADesk more ++ rest ≡ tail
@@ -65,9 +69,3 @@ taken_more taken more desk old rest tail n o e =
     ∙ (ap (λ ps. ps ++ rest) (map-append ADesk taken (desk ∷ []))
     ∙ (append_assoc (map ADesk taken) (ADesk desk ∷ []) rest
     ∙ (ap (λ ps. map ADesk taken ++ ps) (sym o) ∙ e)))
-
--- no lobby is among them
-pub no_lobby : (one : Part) (tail : List Part) (taken : List DeskState) (lobby : LobbyState) (old rest : List Part) → IsWhole (one ∷ tail) → old ≡ TheLobby lobby ∷ rest → map ADesk taken ++ old ≡ tail → ⊥
-no_lobby one tail taken lobby old rest whole o e =
-    let there = next_desk one tail taken (TheLobby lobby) rest whole (ap (λ ps. map ADesk taken ++ ps) (sym o) ∙ e) in
-    is_no_desk lobby there.0 there.1

@@ -1,7 +1,10 @@
 //! The hall's two ends: its parts before it opens, and after it closed.
 
 ghost use Rattle.std.specs.Prelude.{◌≡◌, ◌+◌, ◌≤◌, [], IfOk, vec_len, vec_capacity};
+ghost use Rattle.linked_desk.specs.Desk.{DeskState};
 ghost use Rattle.lobby_state.specs.Desks.{desks as desk_count};
+ghost use Rattle.lobby_state.specs.Lobby.{LobbyState};
+ghost use Rattle.one_server.specs.declared.part.Part.TheVariants.{Lobby as TheLobby, Desk as ADesk};
 ghost use Rattle.one_server.specs.Whole.{IsWhole, opened, parts_of};
 
 use linked_desk::Desk;
@@ -39,17 +42,37 @@ pub fn told_apart(parts: Vec<Part>, room: Vec<Desk>) -> HallParts
 {
     let mut desks = room;
     let mut rest = parts.into_iter();
-    let Some(Part::Lobby(lobby)) = rest.next() else {
+    let Some(first) = rest.next() else {
         unreachable!()
     };
+    let lobby = lobby_of(first);
     for _slot in 0..DESKS {
         let Some(part) = rest.next() else {
             unreachable!()
         };
-        let Part::Desk(desk) = part else {
-            unreachable!()
-        };
-        desks.push_reserved(desk);
+        desks.push_reserved(desk_of(part));
     }
     HallParts { lobby, desks }
+}
+
+/// The lobby that a part is.
+fn lobby_of(part: Part) -> Lobby
+    requires { (lobby : LobbyState) × (part ≡ TheLobby lobby) }
+    ensures { part ≡ TheLobby result }
+{
+    match part {
+        Part::Lobby(lobby) => lobby,
+        Part::Desk(_) => unreachable!(),
+    }
+}
+
+/// The desk that a part is.
+fn desk_of(part: Part) -> Desk
+    requires { (desk : DeskState) × (part ≡ ADesk desk) }
+    ensures { part ≡ ADesk result }
+{
+    match part {
+        Part::Desk(desk) => desk,
+        Part::Lobby(_) => unreachable!(),
+    }
 }

@@ -54,8 +54,8 @@ impl Hall {
         ensures { IfOk result (λ t. t.1 ≡ first_pass t.0 (opened lobby)) }
     {
         lobbies_are_well_formed(&lobby);
-        let room = Vec::with_capacity(alloc, DESKS)?;
         let parts = opening_parts(alloc, lobby)?;
+        let room = Vec::with_capacity(alloc, DESKS)?;
         let (turns, pass) = Turns::new(alloc, parts)?;
         Ok((Hall { turns, room }, HallPass { pass }))
     }

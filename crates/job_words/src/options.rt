@@ -4,7 +4,7 @@ ghost use Rattle.std.specs.Prelude.{◌≡◌, ◌↔◌, ◌≢◌, ℕ, List, 
 ghost use Rattle.job_words.specs.Jobs.{BeginsWith, IsCut, IsValue, name_of};
 
 /// What may be said of serving.
-#[derive(Clone, Copy, Debug, PartialEq, Eq)]
+#[derive(Clone, Copy)]
 pub enum ServeOption {
     /// The port.
     Port,

@@ -10,25 +10,25 @@ use Rattle.edge_traits.specs.declared.source.Got.TheVariants.{Bytes}
 use Rattle.line_answers.specs.Handling.{Reaching}
 use Rattle.line_answers.specs.HandlerEnds.{AreAnswered, AreSpent, HandlerEnds}
 use Rattle.line_answers.specs.Standing.{Standing}
+use Rattle.line_answers.specs.Progress.{Progress}
 use Rattle.line_answers.specs.Reading.{Reading, IsAnswered, IsRefusedOr, AfterFinish}
 use Rattle.line_answers.specs.Ends.{OnReadFault, OnWriteFault}
 use Rattle.line_answers.specs.declared.end.End.{End}
 use Rattle.line_answers.specs.declared.end.End.TheVariants.{Done, ReadFault, WriteFault, Memory, BadLine, Spent}
-use Rattle.line_answers.proofs.Feeding.{Progress-start}
 
 -- no end has come
 not_ended : {P : Type 0} → false ≡ true → P
 not_ended e = absurd (let bad : false ≡ true = e in cc)
 
 -- before the first read
-pub Reading-start : {S : Type 0} (reached : Reaching S) (handler : S) (left written : Option (List ℕ)) → reached [] handler []
-    → Reading reached left left written written (record { handler = handler; number = 1; kept = [] }) 0
-Reading-start reached handler left written start = record {
+pub Reading-start : {S : Type 0} (reached : Reaching S) (standing : Standing S) (left written : Option (List ℕ)) → Progress reached [] standing []
+    → Reading reached left left written written standing 0
+Reading-start reached standing left written unfed = record {
   taken = [];
   text = [];
   came = Consumes-nil left;
   wrote = Appends-nil written;
-  progress = Progress-start reached handler start;
+  progress = unfed;
   few = omega arith;
   many = omega arith;
 }

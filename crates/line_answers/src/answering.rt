@@ -35,15 +35,31 @@ pub fn answer_lines<S: Source, K: Sink, T: LineHandler>(
 {
     let mut machine = Machine::new(alloc, handler);
     let mut out = Vec::new(alloc);
+    answer_reads(&mut machine, &mut out, source, sink)
+}
+
+/// Reads the source to its end, with a machine that was fed nothing yet.
+fn answer_reads<S: Source, K: Sink, T: LineHandler>(
+    machine: &mut Machine<T>,
+    out: &mut Vec<u8>,
+    source: &mut S,
+    sink: &mut K,
+) -> End
+    requires { Progress T.reached [] machine.old [] }
+    ensures ends { HandlerEnds T.reached T.closed T.ending (S.left source.old) (S.left source.new) (K.written sink.old)
+        (K.written sink.new) result }
+    ensures read_cause { OnReadFault result (Rose (S.faults source.old) (S.faults source.new)) }
+    ensures write_cause { OnWriteFault result (Rose (K.faults sink.old) (K.faults sink.new)) }
+{
     let mut buf = [0; 1024];
     'reads: for _ in 0..MOST_READS {
         match source.read(&mut buf) {
             Got::Bytes(n) => {
-                if let Err(end) = answer(&mut machine, &buf[..n], &mut out, sink) {
+                if let Err(end) = answer(machine, &buf[..n], out, sink) {
                     return end;
                 }
             }
-            Got::End => return finish(&mut machine, &mut out, sink),
+            Got::End => return finish(machine, out, sink),
             Got::Failed => return End::ReadFault,
         }
     }

@@ -6,7 +6,7 @@ ghost use Rattle.line_answers.specs.declared.stop.Stop.TheVariants.{Memory};
 use fics_words::NoMemory;
 
 /// Why the machine goes no further.
-#[derive(Clone, Copy, Debug, PartialEq, Eq)]
+#[derive(Clone, Copy)]
 pub enum Stop {
     /// A line is outside the grammar; its number was appended to what is written.
     BadLine,

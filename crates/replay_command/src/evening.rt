@@ -65,10 +65,10 @@ impl Evening {
     {
         Ok(Evening {
             alloc,
+            sessions: new_sessions(alloc)?,
             server: OneServer::new(alloc, Lobby::new(alloc)?)?,
             order: None,
             moment: 0,
-            sessions: new_sessions(alloc)?,
         })
     }
 

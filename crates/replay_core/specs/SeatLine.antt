@@ -26,6 +26,12 @@ pub record AreSeatTerms (terms : Terms) : Type 0 where
   pub increment : terms.increment ≤ 600
   pub white : terms.colour ≡ Some White
 
+-- players of these names may play so
+pub record MayPlay (names : List (List ℕ)) (terms : Terms) : Type 0 where
+  pub count : length names ≡ players_of terms.variant
+  pub different : AreDifferent names
+  pub in_range : AreSeatTerms terms
+
 -- the players in the order of their seats, and what they play
 pub record IsSeatLine (seat : SeatLine) : Type 0 where
   pub count : length seat.names ≡ players_of seat.terms.variant

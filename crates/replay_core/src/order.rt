@@ -7,7 +7,7 @@ ghost use Rattle.replay_core.specs.Order.{is_connect};
 use crate::script::{MOST_SESSIONS, ScriptEvent, ScriptLine};
 
 /// Where a session stands.
-#[derive(Clone, Copy, Debug)]
+#[derive(Clone, Copy)]
 enum Presence {
     /// It hasn't connected.
     Away,
@@ -18,7 +18,7 @@ enum Presence {
 }
 
 /// How far a script has come: what its lines so far say of those that may still come.
-#[derive(Clone, Copy, Debug)]
+#[derive(Clone, Copy)]
 pub struct Attendance {
     moment: u64,
     presences: [Presence; MOST_SESSIONS],

@@ -20,7 +20,7 @@ pub(crate) const MOST_SESSIONS: usize = 64;
 const LAST_STAMP: u64 = 9_999_999;
 
 /// What comes from a session.
-#[derive(Debug, Drop, PartialEq, Eq)]
+#[derive(Drop, PartialEq)]
 pub enum ScriptEvent {
     /// The session connects.
     Connect,
@@ -37,7 +37,7 @@ pub enum ScriptEvent {
 }
 
 /// One line of a script.
-#[derive(Debug, Drop, PartialEq, Eq)]
+#[derive(Drop, PartialEq)]
 pub struct ScriptLine {
     /// When it happens, in milliseconds, at most 2^48.
     pub moment: u64,

@@ -3,7 +3,7 @@
 ghost use Rattle.std.specs.Prelude.{◌≡◌, ◌≢◌, ◌↔◌, ◌∷◌, ◌++◌, ℕ, List, All, Any, IfOk, IfSome, IfNone, IsTrue, codes};
 ghost use Rattle.chess_model.specs.declared.variant.Terms.{Terms};
 ghost use Rattle.fics_words.specs.Handle.{IsHandle, key_of};
-ghost use Rattle.replay_core.specs.SeatLine.{AreDifferent, AreSeatTerms, IsSeatLine, players_of, seat_text, terms_text};
+ghost use Rattle.replay_core.specs.SeatLine.{AreDifferent, AreSeatTerms, IsSeatLine, MayPlay, players_of, seat_text, terms_text};
 ghost use Rattle.replay_core.specs.Words.{blank, words_before};
 ghost use Rattle.replay_core.specs.declared.seat_line.SeatLine.{SeatLine};
 
@@ -17,7 +17,7 @@ use std::alloc::Global;
 const MOST_TIME: u64 = 600;
 
 /// Who plays what at the start of a script.
-#[derive(Debug, Drop, PartialEq, Eq)]
+#[derive(Drop)]
 pub struct SeatLine {
     /// White and Black of board 1, and in bughouse then White and Black of board 2. Session 1 has the first name,
     /// session 2 the second, and so on.
@@ -37,16 +37,26 @@ pub fn read_seat(alloc: Global, line: &Line) -> Result<Option<SeatLine>, NoMemor
         return Ok(None);
     };
     let (names, rest) = cut_handles(alloc, rest)?;
-    let Some(terms) = read_terms(rest) else {
+    let Some(terms) = seat_terms(names.as_slice(), rest) else {
         return Ok(None);
     };
-    if names.len() != players(terms.variant) {
-        return Ok(None);
-    }
-    if !are_different(names.as_slice()) {
-        return Ok(None);
-    }
     Ok(Some(SeatLine { names, terms }))
+}
+
+/// What these players play, by what stands behind their names.
+fn seat_terms(names: &[Handle], rest: &[u8]) -> Option<Terms>
+    ensures spelled { IfSome result (λ terms. rest.now ≡ terms_text terms) }
+    ensures in_range { IfSome result (MayPlay names.now) }
+    ensures none { IfNone result ((terms : Terms) → MayPlay names.now terms → rest.now ≢ terms_text terms) }
+{
+    let terms = read_terms(rest)?;
+    if names.len() != players(terms.variant) {
+        return None;
+    }
+    if !are_different(names) {
+        return None;
+    }
+    Some(terms)
 }
 
 /// What stands behind the first word of a seat line.

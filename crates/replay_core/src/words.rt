@@ -1,8 +1,8 @@
 //! Words at the front of a line, each up to its blank.
 
-ghost use Rattle.std.specs.Prelude.{◌≡◌, ◌≢◌, ◌≤◌, ◌∷◌, ◌++◌, ℕ, List, IfSome, IfNone, decimal};
+ghost use Rattle.std.specs.Prelude.{◌≡◌, ◌≢◌, ◌<◌, ◌≤◌, ◌∷◌, ◌++◌, ℕ, List, IfSome, IfNone, decimal, length, position};
 ghost use Rattle.fics_words.specs.Handle.{IsHandle};
-ghost use Rattle.replay_core.specs.Words.{IsWord, blank};
+ghost use Rattle.replay_core.specs.Words.{IsWord, blank, is_blank};
 
 use fics_words::{Handle, read_number};
 
@@ -12,8 +12,18 @@ pub(crate) fn cut_word(bytes: &[u8]) -> Option<(&[u8], &[u8])>
     ensures word { IfSome result (λ parts. IsWord parts.0.now) }
     ensures none { IfNone result (IsWord bytes.now) }
 {
-    let place = bytes.iter().position(|byte| *byte == b' ')?;
+    let Some(place) = first_blank(bytes) else {
+        return None;
+    };
     Some((&bytes[..place], &bytes[place + 1..]))
+}
+
+/// The place of the first blank.
+fn first_blank(bytes: &[u8]) -> Option<usize>
+    ensures place { result ≡ position is_blank bytes.now }
+    ensures within { IfSome result (λ place. place < length bytes.now) }
+{
+    bytes.iter().position(|byte| *byte == b' ')
 }
 
 /// A decimal of at most `most`, and what follows the blank behind it; `None` where the bytes don't begin so.

@@ -107,7 +107,7 @@ fn reads_good_lines(rt: HostRuntime) -> Result<(), Fail> {
         let (text, expected) = row.split_once('|').ok_or("a line and its reading")?;
         let line = line_of(rt.alloc(), text.as_bytes())?;
         let read = read_script(rt.alloc(), &line)?.ok_or("a line of a session")?;
-        assert_eq!(rt; read, expected_of(rt.alloc(), expected)?, "{text}");
+        assert!(rt; read == expected_of(rt.alloc(), expected)?, "{text}");
     }
     Ok(())
 }
@@ -133,15 +133,12 @@ fn reads_long_texts(rt: HostRuntime) -> Result<(), Fail> {
         bytes.extend_from_slice(text.as_slice())?;
         let line = line_of(rt.alloc(), bytes.as_slice())?;
         let read = read_script(rt.alloc(), &line)?.ok_or("a line of a session")?;
-        let event = ScriptEvent::Plain(line_of(rt.alloc(), text.as_slice())?);
-        assert_eq!(rt;
-            read,
-            ScriptLine {
-                moment: 0,
-                session: 1,
-                event
-            }
-        );
+        let expected = ScriptLine {
+            moment: 0,
+            session: 1,
+            event: ScriptEvent::Plain(line_of(rt.alloc(), text.as_slice())?),
+        };
+        assert!(rt; read == expected);
     }
     Ok(())
 }

@@ -1,16 +1,20 @@
-use Rattle.std.proofs.Common.{List, ◌≡◌, ◌∷◌, ap, sym, subst, ◌∙◌}
+use Rattle.std.proofs.Common.{List, ◌≡◌, ◌∷◌, ◌++◌, map, ap, sym, subst, ◌∙◌}
 use Rattle.std.specs.Vec.Iter.{into_iter_items}
 use Rattle.one_server.specs.declared.part.Part.{Part}
-use Rattle.one_server.specs.declared.part.Part.TheVariants.{Lobby as TheLobby}
+use Rattle.one_server.specs.declared.part.Part.TheVariants.{Desk as ADesk}
 use Rattle.one_server.specs.Whole.{IsWhole}
-use Rattle.hall_core.proofs.Apart.{no_lobby}
+use Rattle.hall_core.proofs.Apart.{first_lobby, next_desk}
 use Rattle.hall_core.proofs.ends.told_apart.Goals as goal
 
-pub unreachable-requires-in_default-part : goal.unreachable-requires-in_default-part
-unreachable-requires-in_default-part c =
+pub lobby_of-lobby-requires : goal.lobby_of-lobby-requires
+lobby_of-lobby-requires c =
+    let tail : List Part = into_iter_items c.next.new.self in
+    first_lobby c.in-Some.first tail (subst IsWhole (sym c.into_iter-rest.ensures.rest ∙ c.in-Some.ensures.items) c.requires.whole)
+
+pub desk_of-requires : goal.desk_of-requires
+desk_of-requires c =
     let tail : List Part = into_iter_items c.next.new.self in
     let rest : List Part = into_iter_items c.next-in-loop-slot.new.self in
-    let first : Part = c.in-Some-Lobby.field-0 in
-    let whole : IsWhole (first ∷ tail) = subst IsWhole (sym c.into_iter-rest.ensures.rest ∙ c.in-Some-Lobby.ensures.items) c.requires.whole in
-    let old : into_iter_items c.loop-slot.rest ≡ TheLobby c.in_default-part.field-0 ∷ rest = c.in-Some.ensures.items ∙ ap (λ (p : Part). p ∷ rest) c.in_default-part.is in
-    no_lobby first tail c.loop-slot.desks.items c.in_default-part.field-0 (into_iter_items c.loop-slot.rest) rest whole old c.loop-slot.invariant.order
+    let whole : IsWhole (c.in-Some.first ∷ tail) = subst IsWhole (sym c.into_iter-rest.ensures.rest ∙ c.in-Some.ensures.items) c.requires.whole in
+    next_desk c.in-Some.first tail c.loop-slot.desks.items c.in-Some-next.part rest whole
+    (ap (λ ps. map ADesk c.loop-slot.desks.items ++ ps) (sym c.in-Some-next.ensures.items) ∙ c.loop-slot.invariant.order)

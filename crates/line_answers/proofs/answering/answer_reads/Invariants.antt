@@ -1,6 +1,6 @@
 use Rattle.std.proofs.Common.{◌≡◌, ◌≤◌, length}
 use Rattle.line_answers.specs.Reading.{Reading}
-use Rattle.line_answers.proofs.answering.answer_lines.Given as goal
+use Rattle.line_answers.proofs.answering.answer_reads.Given as goal
 
 abbrev pub invariant-reads : goal.invariant-reads
 invariant-reads g l = record {
