@@ -1,80 +1,222 @@
-//! The fakes, in short sessions.
+//! The fakes, in short sessions: tables of calls, each with what it has to come to.
 
 use edge_traits::{
-    Got, Keeper, KeeperFail, Kept, MemKeeper, MemSink, MemSource, Sent, Sink, Source,
+    Got, Keeper, KeeperFail, Kept, MemKeeper, MemSink, MemSource, Pair, Sent, Sink, Source,
 };
+use fics_words::NoMemory;
+use std::alloc::Global;
 use std::test::Fail;
+
+/// What a source gives.
+enum Given {
+    Bytes(&'static [u8]),
+    End,
+    Fault,
+}
+
+/// The room of each read, and what it gives: the second and the fifth read fail.
+const READS: &[(usize, Given)] = &[
+    (4, Given::Bytes(b"abc")),
+    (4, Given::Fault),
+    (2, Given::Bytes(b"de")),
+    (4, Given::Bytes(b"fg")),
+    (4, Given::Fault),
+    (4, Given::End),
+    (4, Given::End),
+];
+
+/// Calls of the fakes. They ensure nothing, so that nothing above them is proved over what a fake does.
+fn read(source: &mut MemSource, buf: &mut [u8]) -> Got {
+    source.read(buf)
+}
+
+fn write(sink: &mut MemSink, bytes: &[u8]) -> Sent {
+    sink.write(bytes)
+}
+
+fn gives(source: &mut MemSource, room: usize, wanted: &Given) -> bool {
+    let mut buf = [0; 4];
+    let got = read(source, &mut buf[..room.min(4)]);
+    is_given(got, &buf, wanted)
+}
+
+fn is_given(got: Got, buf: &[u8], wanted: &Given) -> bool {
+    match (got, wanted) {
+        (Got::Bytes(count), Given::Bytes(bytes)) => buf.get(..count) == Some(*bytes),
+        (Got::End, Given::End) => true,
+        (Got::Failed, Given::Fault) => true,
+        _ => false,
+    }
+}
+
+/// The place of the first read that gives something else, if one does.
+fn first_wrong_read(alloc: Global) -> Result<Option<usize>, NoMemory> {
+    let bytes = Vec::from_slice(alloc, b"abcdefg")?;
+    let fails = Vec::from_slice(alloc, &[1, 4])?;
+    let mut source = MemSource::new(bytes, 3, fails);
+    Ok(first_wrong_of(&mut source))
+}
+
+fn first_wrong_of(source: &mut MemSource) -> Option<usize> {
+    for (place, (room, wanted)) in READS.iter().enumerate() {
+        if !gives(source, *room, wanted) {
+            return Some(place);
+        }
+    }
+    None
+}
 
 #[test]
 fn gives_bytes_in_cuts(rt: HostRuntime) -> Result<(), Fail> {
-    let bytes = Vec::from_slice(rt.alloc(), b"abcdefg")?;
-    let fails = Vec::from_slice(rt.alloc(), &[1, 4])?;
-    let mut source = MemSource::new(bytes, 3, fails);
-    let mut buf = [0; 4];
-    assert_eq!(rt; source.read(&mut buf), Got::Bytes(3));
-    assert_eq!(rt; &buf[..3], b"abc".as_slice());
-    assert_eq!(rt; source.read(&mut buf), Got::Failed);
-    assert_eq!(rt; source.read(&mut buf[..2]), Got::Bytes(2));
-    assert_eq!(rt; &buf[..2], b"de".as_slice());
-    assert_eq!(rt; source.read(&mut buf), Got::Bytes(2));
-    assert_eq!(rt; source.read(&mut buf), Got::Failed);
-    assert_eq!(rt; source.read(&mut buf), Got::End);
-    assert_eq!(rt; source.read(&mut buf), Got::End);
+    assert_eq!(rt; first_wrong_read(rt.alloc())?, None);
     Ok(())
+}
+
+/// What is written, and whether it is: the second write fails.
+const WRITES: &[(&[u8], Sent)] = &[
+    (b"one ", Sent::All),
+    (b"two ", Sent::Failed),
+    (b"three", Sent::All),
+];
+
+/// The place of the first write that comes to something else, if one does, or their number where something else is
+/// kept.
+fn first_wrong_write(alloc: Global) -> Result<Option<usize>, NoMemory> {
+    let fails = Vec::from_slice(alloc, &[1])?;
+    let mut sink = MemSink::new(alloc, fails);
+    Ok(first_wrong_in(&mut sink))
+}
+
+fn first_wrong_in(sink: &mut MemSink) -> Option<usize> {
+    for (place, (bytes, wanted)) in WRITES.iter().enumerate() {
+        if write(sink, bytes) != *wanted {
+            return Some(place);
+        }
+    }
+    if sink.written() == b"one three".as_slice() {
+        None
+    } else {
+        Some(WRITES.len())
+    }
 }
 
 #[test]
 fn keeps_what_is_written(rt: HostRuntime) -> Result<(), Fail> {
-    let fails = Vec::from_slice(rt.alloc(), &[1])?;
-    let mut sink = MemSink::new(rt.alloc(), fails);
-    assert_eq!(rt; sink.write(b"one "), Sent::All);
-    assert_eq!(rt; sink.write(b"two "), Sent::Failed);
-    assert_eq!(rt; sink.write(b"three"), Sent::All);
-    assert_eq!(rt; sink.written(), b"one three".as_slice());
+    assert_eq!(rt; first_wrong_write(rt.alloc())?, None);
     Ok(())
+}
+
+/// A call of a keeper, and what it comes to.
+enum Keeps {
+    Puts(&'static [u8], &'static [u8], Kept),
+    Removes(&'static [u8], Kept),
+    /// The records can't be loaded.
+    Refuses,
+    /// The records are these, in order, each a key and its bytes.
+    Loads(&'static [(&'static [u8], &'static [u8])]),
+}
+
+/// The third call and the eighth fail.
+const KEPT: &[Keeps] = &[
+    Keeps::Puts(b"b", b"1", Kept::Done),
+    Keeps::Puts(b"a", b"2", Kept::Done),
+    Keeps::Puts(b"c", b"3", Kept::Failed),
+    Keeps::Puts(b"ab", b"4", Kept::Done),
+    Keeps::Puts(b"b", b"5", Kept::Done),
+    Keeps::Removes(b"none", Kept::Done),
+    Keeps::Removes(b"a", Kept::Done),
+    Keeps::Refuses,
+    Keeps::Loads(&[(b"ab", b"4"), (b"b", b"5")]),
+];
+
+fn put(keeper: &mut MemKeeper, key: &[u8], bytes: &[u8]) -> Kept {
+    keeper.put(key, bytes)
+}
+
+fn remove(keeper: &mut MemKeeper, key: &[u8]) -> Kept {
+    keeper.remove(key)
+}
+
+fn is_refused(keeper: &mut MemKeeper) -> bool {
+    matches!(keeper.load(), Err(KeeperFail::Failed))
+}
+
+fn loads(keeper: &mut MemKeeper, records: &[(&[u8], &[u8])]) -> bool {
+    match keeper.load() {
+        Ok(pairs) => are_kept(&pairs, records),
+        Err(_) => false,
+    }
+}
+
+fn are_kept(pairs: &[Pair], records: &[(&[u8], &[u8])]) -> bool {
+    for (place, (key, bytes)) in records.iter().enumerate() {
+        match pairs.get(place) {
+            Some(pair) if pair.key.as_slice() == *key && pair.bytes.as_slice() == *bytes => {}
+            _ => return false,
+        }
+    }
+    pairs.len() == records.len()
+}
+
+fn is_as_said(keeper: &mut MemKeeper, call: &Keeps) -> bool {
+    match call {
+        Keeps::Puts(key, bytes, wanted) => put(keeper, key, bytes) == *wanted,
+        Keeps::Removes(key, wanted) => remove(keeper, key) == *wanted,
+        Keeps::Refuses => is_refused(keeper),
+        Keeps::Loads(records) => loads(keeper, records) && are_kept(keeper.pairs(), records),
+    }
+}
+
+/// The place of the first call that comes to something else, if one does.
+fn first_wrong_call(alloc: Global) -> Result<Option<usize>, NoMemory> {
+    let fails = Vec::from_slice(alloc, &[2, 7])?;
+    let mut keeper = MemKeeper::new(alloc, fails);
+    Ok(first_wrong_by(&mut keeper))
+}
+
+fn first_wrong_by(keeper: &mut MemKeeper) -> Option<usize> {
+    for (place, call) in KEPT.iter().enumerate() {
+        if !is_as_said(keeper, call) {
+            return Some(place);
+        }
+    }
+    None
 }
 
 #[test]
 fn keeps_records_in_order(rt: HostRuntime) -> Result<(), Fail> {
-    let fails = Vec::from_slice(rt.alloc(), &[2, 7])?;
-    let mut keeper = MemKeeper::new(rt.alloc(), fails);
-    assert_eq!(rt; keeper.put(b"b", b"1"), Kept::Done);
-    assert_eq!(rt; keeper.put(b"a", b"2"), Kept::Done);
-    assert_eq!(rt; keeper.put(b"c", b"3"), Kept::Failed);
-    assert_eq!(rt; keeper.put(b"ab", b"4"), Kept::Done);
-    assert_eq!(rt; keeper.put(b"b", b"5"), Kept::Done);
-    assert_eq!(rt; keeper.remove(b"none"), Kept::Done);
-    assert_eq!(rt; keeper.remove(b"a"), Kept::Done);
-    let refused = keeper.load();
-    assert!(rt; matches!(refused, Err(KeeperFail::Failed)));
-    let Ok(pairs) = keeper.load() else {
-        return Err("no pairs".into());
-    };
-    assert_eq!(rt; pairs.len(), 2);
-    assert_eq!(rt; pairs[0].key.as_slice(), b"ab".as_slice());
-    assert_eq!(rt; pairs[0].bytes.as_slice(), b"4".as_slice());
-    assert_eq!(rt; pairs[1].key.as_slice(), b"b".as_slice());
-    assert_eq!(rt; pairs[1].bytes.as_slice(), b"5".as_slice());
-    assert_eq!(rt; keeper.pairs().len(), 2);
+    assert_eq!(rt; first_wrong_call(rt.alloc())?, None);
     Ok(())
+}
+
+/// Whether a hundred reads, a byte each, give all bytes to a sink, and neither of the two ever fails.
+fn is_handed_on(alloc: Global) -> Result<bool, NoMemory> {
+    let bytes = Vec::from_slice(alloc, b"xyz")?;
+    let mut source = MemSource::new(bytes, 1, Vec::new(alloc));
+    let mut sink = MemSink::new(alloc, Vec::new(alloc));
+    Ok(hands_on(&mut source, &mut sink))
+}
+
+fn hands_on(source: &mut MemSource, sink: &mut MemSink) -> bool {
+    for _ in 0..100 {
+        if !hands_byte_on(source, sink) {
+            return false;
+        }
+    }
+    sink.written() == b"xyz".as_slice()
+}
+
+fn hands_byte_on(source: &mut MemSource, sink: &mut MemSink) -> bool {
+    let mut buf = [0; 8];
+    match read(source, &mut buf) {
+        Got::Bytes(count) => count == 1 && write(sink, &buf[..1]) == Sent::All,
+        Got::End => true,
+        Got::Failed => false,
+    }
 }
 
 #[test]
 fn never_fails_with_an_empty_list(rt: HostRuntime) -> Result<(), Fail> {
-    let bytes = Vec::from_slice(rt.alloc(), b"xyz")?;
-    let mut source = MemSource::new(bytes, 1, Vec::new(rt.alloc()));
-    let mut sink = MemSink::new(rt.alloc(), Vec::new(rt.alloc()));
-    let mut buf = [0; 8];
-    for _ in 0..100 {
-        match source.read(&mut buf) {
-            Got::Bytes(n) => {
-                assert_eq!(rt; n, 1);
-                assert_eq!(rt; sink.write(&buf[..1]), Sent::All);
-            }
-            Got::End => {}
-            Got::Failed => assert!(rt; false, "a fault"),
-        }
-    }
-    assert_eq!(rt; sink.written(), b"xyz".as_slice());
+    assert!(rt; is_handed_on(rt.alloc())?);
     Ok(())
 }

@@ -1,5 +1,5 @@
 //! What forty guests type in an evening, drawn from a seed, and what they are answered: a plain model of the lobby, written
-//! from the rules in docs/RULES.md, which shares nothing with the server. `evening_tests` compares the two.
+//! from the rules in docs/RULES.md, which shares nothing with the server. `session_tests` compares the two.
 #![tactic(auto)]
 
 mod draws;
@@ -11,5 +11,5 @@ mod rules;
 pub use draws::Draws;
 pub use model::Model;
 pub use names::name_of;
-pub use orders::{GUESTS, drawn, typed};
+pub use orders::{GUESTS, Order, drawn, typed};
 pub use rules::answered;

@@ -6,66 +6,100 @@ use line_reader::LineReader;
 use std::alloc::Global;
 use std::test::Fail;
 
-/// `count` letters, an LF, and a line behind them.
-fn letters(alloc: Global, count: usize) -> Result<Vec<u8>, NoMemory> {
+/// So many letters, what stands behind them, where the text is cut, and its lines. A line of 1,023 bytes is read and a
+/// longer one is too long; one that ends in 0x80 and is no stamped line is read up to 1,033 bytes.
+const ROWS: &[(usize, &[u8], usize, &[u8])] = &[
+    (1_024, b"\nb\n", 1_024, b"L\nPb\n"),
+    (1_033, b"\nb\n", 1_024, b"L\nPb\n"),
+    (1_034, b"\nb\n", 1_024, b"L\nPb\n"),
+    (1_035, b"\nb\n", 1_024, b"L\nPb\n"),
+    (5_000, b"\nb\n", 1_024, b"L\nPb\n"),
+    (1_032, b"\x80\nb\n", 1_030, b"B\nPb\n"),
+    (1_033, b"\x80\nb\n", 1_030, b"L\nPb\n"),
+];
+
+/// The lines of so many letters with a text behind them.
+fn lines_of(alloc: Global, count: usize, behind: &[u8], cut: usize) -> Result<Vec<u8>, NoMemory> {
     let mut text = vec![in alloc; b'a'; count]?;
-    text.extend_from_slice(b"\nb\n")?;
-    Ok(text)
+    text.extend_from_slice(behind)?;
+    told(alloc, &text, cut)
+}
+
+/// The place of the first row with other lines, if there is one.
+fn first_wrong(alloc: Global) -> Result<Option<usize>, NoMemory> {
+    for (place, (count, behind, cut, lines)) in ROWS.iter().enumerate() {
+        let given = lines_of(alloc, *count, behind, *cut)?;
+        if given.as_slice() != *lines {
+            return Ok(Some(place));
+        }
+    }
+    Ok(None)
 }
 
 #[test]
-fn plain_lines(rt: HostRuntime) -> Result<(), Fail> {
-    let long = told(rt.alloc(), letters(rt.alloc(), 1_023)?.as_slice(), 500)?;
-    assert_eq!(rt; long.len(), 1_028);
-    assert_eq!(rt; &long[..2], b"Pa".as_slice());
-    for count in [1_024, 1_033, 1_034, 1_035, 5_000] {
-        let longer = told(rt.alloc(), letters(rt.alloc(), count)?.as_slice(), 1_024)?;
-        assert_eq!(rt; longer.as_slice(), b"L\nPb\n".as_slice());
+fn long_lines(rt: HostRuntime) -> Result<(), Fail> {
+    assert_eq!(rt; first_wrong(rt.alloc())?, None);
+    Ok(())
+}
+
+/// Whether the longest line is read: a letter, its text, and the line behind it.
+fn is_longest_read(alloc: Global) -> Result<bool, NoMemory> {
+    let lines = lines_of(alloc, 1_023, b"\nb\n", 500)?;
+    Ok(lines.len() == 1_028 && lines.as_slice().starts_with(b"Pa"))
+}
+
+#[test]
+fn the_longest_line(rt: HostRuntime) -> Result<(), Fail> {
+    assert!(rt; is_longest_read(rt.alloc())?);
+    Ok(())
+}
+
+const LETTERS: &[u8] = &[b'a'; 1_024];
+
+const FEEDS: &[u8] = &[b'\n'; 1_024];
+
+/// Feeds a piece so often, and takes the lines that have come each time: three at most.
+fn feeds_over(
+    reader: &mut LineReader,
+    piece: &[u8],
+    turns: usize,
+    lines: &mut Vec<u8>,
+) -> Result<(), NoMemory> {
+    for _turn in 0..turns {
+        reader.feed(piece)?;
+        drain(reader, 3, lines)?;
     }
     Ok(())
 }
 
-/// Lines that end in 0x80 and are no stamped lines: read up to 1,033 bytes, and too long from there on.
-#[test]
-fn stamped_lines(rt: HostRuntime) -> Result<(), Fail> {
-    for (count, lines) in [(1_032, b"B\nPb\n"), (1_033, b"L\nPb\n")] {
-        let mut text = vec![in rt.alloc(); b'a'; count]?;
-        text.extend_from_slice(b"\x80\nb\n")?;
-        let given = told(rt.alloc(), text.as_slice(), 1_030)?;
-        assert_eq!(rt; given.as_slice(), lines.as_slice());
-    }
-    Ok(())
+/// The lines of a link on which a piece comes so often behind a front, a `|`, and those that come behind the end.
+fn endless(
+    alloc: Global,
+    front: &[u8],
+    piece: &[u8],
+    turns: usize,
+    end: &[u8],
+) -> Result<Vec<u8>, NoMemory> {
+    let mut lines = Vec::new(alloc);
+    let mut reader = LineReader::new(alloc)?;
+    feeds_over(&mut reader, front, 1, &mut lines)?;
+    feeds_over(&mut reader, piece, turns, &mut lines)?;
+    lines.push(b'|')?;
+    feeds_over(&mut reader, end, 1, &mut lines)?;
+    Ok(lines)
 }
 
 #[test]
 fn endless_line(rt: HostRuntime) -> Result<(), Fail> {
-    let piece = [b'a'; 1_024];
-    let mut lines = Vec::new(rt.alloc());
-    let mut reader = LineReader::new(rt.alloc())?;
-    for _turn in 0..10_000 {
-        reader.feed(&piece)?;
-        drain(&mut reader, 1, &mut lines)?;
-    }
-    assert_eq!(rt; lines.len(), 0);
-    reader.feed(b"\nb\n")?;
-    drain(&mut reader, 3, &mut lines)?;
-    assert_eq!(rt; lines.as_slice(), b"L\nPb\n".as_slice());
+    let lines = endless(rt.alloc(), b"", LETTERS, 10_000, b"\nb\n")?;
+    assert_eq!(rt; lines.as_slice(), b"|L\nPb\n".as_slice());
     Ok(())
 }
 
 #[test]
 fn endless_block(rt: HostRuntime) -> Result<(), Fail> {
-    let piece = [b'\n'; 1_024];
-    let mut lines = Vec::new(rt.alloc());
-    let mut reader = LineReader::new(rt.alloc())?;
-    reader.feed(b"a\xFF\xFA")?;
-    for _turn in 0..1_000 {
-        reader.feed(&piece)?;
-        drain(&mut reader, 1, &mut lines)?;
-    }
-    assert_eq!(rt; lines.len(), 0);
-    reader.feed(b"\xFF\xFF\xF0\xFF\xF0b\n")?;
-    drain(&mut reader, 3, &mut lines)?;
-    assert_eq!(rt; lines.as_slice(), b"Pab\n".as_slice());
+    let end = b"\xFF\xFF\xF0\xFF\xF0b\n";
+    let lines = endless(rt.alloc(), b"a\xFF\xFA", FEEDS, 1_000, end)?;
+    assert_eq!(rt; lines.as_slice(), b"|Pab\n".as_slice());
     Ok(())
 }

@@ -13,17 +13,11 @@ const LINK: &[u8] = b"\xFF\xFD\x01gu\xFF\xFB\x0Aest\r\n\
 
 const LINES: &[u8] = b"Pguest\nS0 a\nB\nPe2e4\nP\nB\n>Pflag\n";
 
-#[test]
-fn each_cut(rt: HostRuntime) -> Result<(), Fail> {
-    for cut in 0..=LINK.len() {
-        let lines = told(rt.alloc(), LINK, cut)?;
-        assert_eq!(rt; lines.as_slice(), LINES);
-    }
-    Ok(())
-}
+/// A text, and the lines of it and of what is left of it, however it is cut.
+type Row = (&'static [u8], &'static [u8]);
 
-/// Fronts of a link's bytes, and the lines of each with the rest.
-const FRONTS: &[(&[u8], &[u8])] = &[
+const ROWS: &[Row] = &[
+    (LINK, LINES),
     (b"", b""),
     (b"a", b">Pa\n"),
     (b"a\r", b">Pa\n"),
@@ -43,14 +37,26 @@ const FRONTS: &[(&[u8], &[u8])] = &[
     (b"fl\xFF\xFD\x01ag\n", b"Pflag\n"),
 ];
 
-#[test]
-fn fronts(rt: HostRuntime) -> Result<(), Fail> {
-    for (bytes, lines) in FRONTS {
+/// The place of the first row with other lines, and where it was cut, if there is one.
+fn first_wrong(alloc: Global) -> Result<Option<(usize, usize)>, NoMemory> {
+    for (place, (bytes, lines)) in ROWS.iter().enumerate() {
         for cut in 0..=bytes.len() {
-            let given = told(rt.alloc(), bytes, cut)?;
-            assert_eq!(rt; given.as_slice(), *lines);
+            if !is_told(alloc, bytes, cut, lines)? {
+                return Ok(Some((place, cut)));
+            }
         }
     }
+    Ok(None)
+}
+
+fn is_told(alloc: Global, bytes: &[u8], cut: usize, lines: &[u8]) -> Result<bool, NoMemory> {
+    let given = told(alloc, bytes, cut)?;
+    Ok(given.as_slice() == lines)
+}
+
+#[test]
+fn each_cut(rt: HostRuntime) -> Result<(), Fail> {
+    assert_eq!(rt; first_wrong(rt.alloc())?, None);
     Ok(())
 }
 
@@ -72,22 +78,6 @@ const SESSION: &[(&[u8], &[u8])] = &[
     (b"\xFF\xF9quit\n", b"Pquit\n"),
 ];
 
-#[test]
-fn each_prefix_however_it_is_cut(rt: HostRuntime) -> Result<(), Fail> {
-    let text = parts(rt.alloc(), false, usize::MAX)?;
-    for end in 0..=text.len() {
-        let wanted = parts(rt.alloc(), true, end)?;
-        let prefix = &text.as_slice()[..end];
-        for cut in 0..=end {
-            let lines = whole_lines(rt.alloc(), prefix, cut)?;
-            assert_eq!(rt; lines.as_slice(), wanted.as_slice());
-        }
-        let lines = lines_by_bytes(rt.alloc(), prefix)?;
-        assert_eq!(rt; lines.as_slice(), wanted.as_slice());
-    }
-    Ok(())
-}
-
 /// The bytes, or the lines, of the parts that end within the first `end` bytes.
 fn parts(alloc: Global, lines: bool, end: usize) -> Result<Vec<u8>, NoMemory> {
     let mut given = Vec::new(alloc);
@@ -100,4 +90,47 @@ fn parts(alloc: Global, lines: bool, end: usize) -> Result<Vec<u8>, NoMemory> {
         given.extend_from_slice(if lines { line } else { bytes })?;
     }
     Ok(given)
+}
+
+/// Whether the lines of this text are those, fed in two pieces, however it is cut, and byte by byte.
+fn are_lines(alloc: Global, text: &[u8], lines: &[u8]) -> Result<bool, NoMemory> {
+    for cut in 0..=text.len() {
+        if !are_lines_cut(alloc, text, cut, lines)? {
+            return Ok(false);
+        }
+    }
+    let given = lines_by_bytes(alloc, text)?;
+    Ok(given.as_slice() == lines)
+}
+
+fn are_lines_cut(alloc: Global, text: &[u8], cut: usize, lines: &[u8]) -> Result<bool, NoMemory> {
+    let given = whole_lines(alloc, text, cut)?;
+    Ok(given.as_slice() == lines)
+}
+
+/// Whether the first `end` bytes of a text give the lines of the parts that end in them.
+fn is_prefix_told(alloc: Global, text: &[u8], end: usize) -> Result<bool, NoMemory> {
+    let wanted = parts(alloc, true, end)?;
+    are_lines(alloc, text.split_at(end.min(text.len())).0, &wanted)
+}
+
+/// The length of the first prefix of a text with other lines, if there is one.
+fn first_wrong_prefix(alloc: Global, text: &[u8]) -> Result<Option<usize>, NoMemory> {
+    for end in 0..=text.len() {
+        if !is_prefix_told(alloc, text, end)? {
+            return Ok(Some(end));
+        }
+    }
+    Ok(None)
+}
+
+fn first_wrong_end(alloc: Global) -> Result<Option<usize>, NoMemory> {
+    let text = parts(alloc, false, usize::MAX)?;
+    first_wrong_prefix(alloc, &text)
+}
+
+#[test]
+fn each_prefix_however_it_is_cut(rt: HostRuntime) -> Result<(), Fail> {
+    assert_eq!(rt; first_wrong_end(rt.alloc())?, None);
+    Ok(())
 }

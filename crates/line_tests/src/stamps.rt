@@ -1,76 +1,103 @@
 //! Stamped lines that another program has worked out.
 
+use fics_words::NoMemory;
 use stamp_codec::{Sealed, seal, span, unseal};
+use std::alloc::Global;
 use std::test::Fail;
 
-const LETTER: [u8; 14] = [
-    0xC5, 0xD1, 0xBC, 0xDC, 0xA2, 0xA5, 0xB0, 0xBC, 0xA1, 0x70, 0x79, 0x87, 0x80, 0x0A,
+/// The letter `a` with stamp 0.
+const LETTER: &[u8] = b"\xC5\xD1\xBC\xDC\xA2\xA5\xB0\xBC\xA1\x70\x79\x87\x80\n";
+
+/// The empty text with stamp 0.
+const EMPTY: &[u8] = b"\xC5\xB9\xBC\xB4\xA2\xA5\xB0\xBC\xA1\x99\x79\xBE\x80\n";
+
+/// `tell bob hi ~` with stamp 1234567.
+const TELL: &[u8] =
+    b"\xD4\x6C\x65\x69\x71\x76\x6E\xAD\xB0\xAC\xA1\x92\xD8\xBB\xAA\x7B\x76\xA2\x64\x7D\x67\x71\x7C\xBE\x80\n";
+
+/// The acknowledgement with stamp 9999999.
+const ACK: &[u8] = b"\xC5\xB0\xB4\xBC\xAA\xAD\xB8\xB4\xA9\x98\x91\xA4\x80\n";
+
+/// The letter with its first byte spoiled.
+const SPOILED: &[u8] = b"\xC4\xD1\xBC\xDC\xA2\xA5\xB0\xBC\xA1\x70\x79\x87\x80\n";
+
+/// What a line is read as.
+enum Read {
+    Text(&'static [u8], u32),
+    Ack(u32),
+    Nothing,
+}
+
+const ROWS: &[(&[u8], Read)] = &[
+    (LETTER, Read::Text(b"a", 0)),
+    (EMPTY, Read::Text(b"", 0)),
+    (TELL, Read::Text(b"tell bob hi ~", 1_234_567)),
+    (ACK, Read::Ack(9_999_999)),
+    (SPOILED, Read::Nothing),
 ];
 
-/// Whether a text with this stamp was read.
-fn says(found: Option<Sealed<'_>>, wanted: &[u8], at: u32) -> bool {
-    match found {
-        Some(Sealed::Text { text, stamp }) => text == wanted && stamp == at,
-        Some(Sealed::Ack { stamp: _ }) => false,
-        None => false,
+/// Whether this was found.
+fn is_found(found: Option<Sealed<'_>>, wanted: &Read) -> bool {
+    match (found, wanted) {
+        (Some(Sealed::Text { text, stamp }), Read::Text(words, at)) => {
+            text == *words && stamp == *at
+        }
+        (Some(Sealed::Ack { stamp }), Read::Ack(at)) => stamp == *at,
+        (None, Read::Nothing) => true,
+        _ => false,
     }
 }
 
-/// Whether an acknowledgement with this stamp was read.
-fn receipts(found: Option<Sealed<'_>>, at: u32) -> bool {
-    match found {
-        Some(Sealed::Ack { stamp }) => stamp == at,
-        Some(Sealed::Text { text: _, stamp: _ }) => false,
-        None => false,
+fn is_read(alloc: Global, line: &[u8], wanted: &Read) -> Result<bool, NoMemory> {
+    let mut raw = Vec::from_slice(alloc, line.strip_suffix(b"\n").unwrap_or(line))?;
+    Ok(is_found(unseal(&mut raw), wanted))
+}
+
+/// The place of the first line that is read as something else, if there is one.
+fn first_wrong(alloc: Global) -> Result<Option<usize>, NoMemory> {
+    for (place, (line, wanted)) in ROWS.iter().enumerate() {
+        if !is_read(alloc, line, wanted)? {
+            return Ok(Some(place));
+        }
     }
+    Ok(None)
 }
 
 #[test]
-fn stamp_span(rt: HostRuntime) -> Result<(), Fail> {
-    assert_eq!(rt; span(9_999_900, 100), 200);
+fn lines_are_unsealed(rt: HostRuntime) -> Result<(), Fail> {
+    assert_eq!(rt; first_wrong(rt.alloc())?, None);
     Ok(())
 }
 
 #[test]
 fn sealed_letter(rt: HostRuntime) -> Result<(), Fail> {
-    let line = seal(rt.alloc(), b"a", 0)?;
-    assert_eq!(rt; line.as_slice(), LETTER.as_slice());
-    let mut raw = LETTER;
-    assert!(rt; says(unseal(&mut raw[..13]), b"a", 0));
-    let mut spoiled = LETTER;
-    spoiled[0] = 0xC4;
-    assert!(rt; unseal(&mut spoiled[..13]).is_none());
+    assert_eq!(rt; seal(rt.alloc(), b"a", 0)?.as_slice(), LETTER);
     Ok(())
 }
 
 #[test]
-fn other_lines(rt: HostRuntime) -> Result<(), Fail> {
-    let empty = [
-        0xC5, 0xB9, 0xBC, 0xB4, 0xA2, 0xA5, 0xB0, 0xBC, 0xA1, 0x99, 0x79, 0xBE, 0x80, 0x0A,
-    ];
-    let mut raw = empty;
-    assert!(rt; says(unseal(&mut raw[..13]), b"", 0));
-    let sealed = seal(rt.alloc(), b"", 0)?;
-    assert_eq!(rt; sealed.as_slice(), empty.as_slice());
-    let tell = [
-        0xD4, 0x6C, 0x65, 0x69, 0x71, 0x76, 0x6E, 0xAD, 0xB0, 0xAC, 0xA1, 0x92, 0xD8, 0xBB, 0xAA,
-        0x7B, 0x76, 0xA2, 0x64, 0x7D, 0x67, 0x71, 0x7C, 0xBE, 0x80, 0x0A,
-    ];
-    let mut raw = tell;
-    assert!(rt; says(unseal(&mut raw[..25]), b"tell bob hi ~", 1_234_567));
-    let sealed = seal(rt.alloc(), b"tell bob hi ~", 1_234_567)?;
-    assert_eq!(rt; sealed.as_slice(), tell.as_slice());
+fn sealed_empty_text(rt: HostRuntime) -> Result<(), Fail> {
+    assert_eq!(rt; seal(rt.alloc(), b"", 0)?.as_slice(), EMPTY);
     Ok(())
 }
 
 #[test]
-fn acknowledgement(rt: HostRuntime) -> Result<(), Fail> {
-    let line = [
-        0xC5, 0xB0, 0xB4, 0xBC, 0xAA, 0xAD, 0xB8, 0xB4, 0xA9, 0x98, 0x91, 0xA4, 0x80, 0x0A,
-    ];
-    let mut raw = line;
-    assert!(rt; receipts(unseal(&mut raw[..13]), 9_999_999));
-    let sealed = seal(rt.alloc(), b"\x029", 9_999_999)?;
-    assert_eq!(rt; sealed.as_slice(), line.as_slice());
+fn sealed_tell(rt: HostRuntime) -> Result<(), Fail> {
+    assert_eq!(rt;
+        seal(rt.alloc(), b"tell bob hi ~", 1_234_567)?.as_slice(),
+        TELL
+    );
+    Ok(())
+}
+
+#[test]
+fn sealed_acknowledgement(rt: HostRuntime) -> Result<(), Fail> {
+    assert_eq!(rt; seal(rt.alloc(), b"\x029", 9_999_999)?.as_slice(), ACK);
+    Ok(())
+}
+
+#[test]
+fn stamp_span(rt: HostRuntime) -> Result<(), Fail> {
+    assert_eq!(rt; span(9_999_900, 100), 200);
     Ok(())
 }

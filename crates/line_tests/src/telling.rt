@@ -8,12 +8,26 @@ use std::alloc::Global;
 pub fn told(alloc: Global, text: &[u8], cut: usize) -> Result<Vec<u8>, NoMemory> {
     let mut told = Vec::new(alloc);
     let mut reader = LineReader::new(alloc)?;
-    feed_cut(&mut reader, text, cut, &mut told)?;
-    if let Some(rest) = reader.rest()? {
-        told.push(b'>')?;
-        tell(&rest, &mut told)?;
-    }
+    tell_all(&mut reader, text, cut, &mut told)?;
     Ok(told)
+}
+
+fn tell_all(
+    reader: &mut LineReader,
+    text: &[u8],
+    cut: usize,
+    told: &mut Vec<u8>,
+) -> Result<(), NoMemory> {
+    feed_cut(reader, text, cut, told)?;
+    match reader.rest()? {
+        Some(rest) => tell_rest(&rest, told),
+        None => Ok(()),
+    }
+}
+
+fn tell_rest(rest: &Incoming, told: &mut Vec<u8>) -> Result<(), NoMemory> {
+    told.push(b'>')?;
+    tell(rest, told)
 }
 
 /// The whole lines of `text`, which is fed in two pieces.
@@ -61,23 +75,31 @@ pub fn drain(reader: &mut LineReader, most: usize, told: &mut Vec<u8>) -> Result
 
 fn tell(incoming: &Incoming, told: &mut Vec<u8>) -> Result<(), NoMemory> {
     match incoming {
-        Incoming::Plain(line) => {
-            told.push(b'P')?;
-            told.extend_from_slice(line.bytes())?;
-        }
-        Incoming::Stamped(line, stamp) => {
-            told.push(b'S')?;
-            write_number(told, u64::from(*stamp))?;
-            told.push(b' ')?;
-            told.extend_from_slice(line.bytes())?;
-        }
-        Incoming::Ack(stamp) => {
-            told.push(b'A')?;
-            write_number(told, u64::from(*stamp))?;
-        }
-        Incoming::TooLong => told.push(b'L')?,
-        Incoming::BadByte => told.push(b'B')?,
+        Incoming::Plain(line) => put(told, b'P', line.bytes()),
+        Incoming::Stamped(line, stamp) => put_stamped(told, *stamp, line.bytes()),
+        Incoming::Ack(stamp) => put_ack(told, *stamp),
+        Incoming::TooLong => put(told, b'L', b""),
+        Incoming::BadByte => put(told, b'B', b""),
     }
+}
+
+/// Appends a letter, a text and a line feed.
+fn put(told: &mut Vec<u8>, letter: u8, text: &[u8]) -> Result<(), NoMemory> {
+    told.push(letter)?;
+    told.extend_from_slice(text)?;
+    told.push(b'\n')?;
+    Ok(())
+}
+
+fn put_stamped(told: &mut Vec<u8>, stamp: u32, text: &[u8]) -> Result<(), NoMemory> {
+    told.push(b'S')?;
+    write_number(told, u64::from(stamp))?;
+    put(told, b' ', text)
+}
+
+fn put_ack(told: &mut Vec<u8>, stamp: u32) -> Result<(), NoMemory> {
+    told.push(b'A')?;
+    write_number(told, u64::from(stamp))?;
     told.push(b'\n')?;
     Ok(())
 }

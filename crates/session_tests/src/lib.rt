@@ -10,6 +10,8 @@ mod acts;
 #[cfg(test)]
 mod evenings;
 #[cfg(test)]
+mod forty_guests;
+#[cfg(test)]
 mod leaving;
 #[cfg(test)]
 mod links;
