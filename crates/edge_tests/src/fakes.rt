@@ -1,4 +1,5 @@
 //! The fakes, in short sessions: tables of calls, each with what it has to come to.
+ghost use Rattle.std.specs.Prelude.{◌<◌, length};
 
 use edge_traits::{
     Got, Keeper, KeeperFail, Kept, MemKeeper, MemSink, MemSource, Pair, Sent, Sink, Source,
@@ -26,7 +27,9 @@ const READS: &[(usize, Given)] = &[
 ];
 
 /// Calls of the fakes. They ensure nothing, so that nothing above them is proved over what a fake does.
-fn read(source: &mut MemSource, buf: &mut [u8]) -> Got {
+fn read(source: &mut MemSource, buf: &mut [u8]) -> Got
+    requires { 0 < length buf.old }
+{
     source.read(buf)
 }
 
@@ -36,7 +39,7 @@ fn write(sink: &mut MemSink, bytes: &[u8]) -> Sent {
 
 fn gives(source: &mut MemSource, room: usize, wanted: &Given) -> bool {
     let mut buf = [0; 4];
-    let got = read(source, &mut buf[..room.min(4)]);
+    let got = read(source, &mut buf[..room.min(4).max(1)]);
     is_given(got, &buf, wanted)
 }
 
