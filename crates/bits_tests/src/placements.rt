@@ -1,8 +1,9 @@
 //! Placements as sets, with figures by hand: bit s of a set stands for square s, a1 is 0 and h8 is 63.
 
 use bitboard_core::Bits;
-use chess_model::{Colour, Kind, Man, PlainBoard, Square, Variant};
+use chess_model::{Colour, Kind, Man, Square, Variant};
 use holdings_drops::Holdings;
+use plain_board::PlainBoard;
 use std::process::Abort;
 
 fn man(colour: Colour, kind: Kind) -> Man {

@@ -1,8 +1,9 @@
 //! Positions: the ends of games, the marks of moves, and the list of allowed half-moves beside the slow board's rule.
 
-use chess_model::{Kind, Move, PlainBoard, Shown, Square, State, Variant};
+use chess_model::{Kind, Move, Shown, Square, State, Variant};
 use memory::NoMemory;
 use move_reader::read_word;
+use plain_board::PlainBoard;
 use std::alloc::Global;
 use std::test::Fail;
 use variant_rules::Position;

@@ -5,7 +5,6 @@ pub mod ChessLaws
 pub mod LegalLists
 pub mod MoreMoves
 pub mod MovesListed
-pub mod NamedAnswers
 pub mod NoMoreMen
 pub mod SoundPositions
 pub mod StandsAfter

@@ -12,10 +12,8 @@ pub mod LegalPositions
 pub mod MoveList
 pub mod MoveText
 pub mod MoveTextFields
-pub mod NamedWords
 pub mod Next
 pub mod Placement
-pub mod PlainBoardFields
 pub mod Position
 pub mod Reach
 pub mod Result

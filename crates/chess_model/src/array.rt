@@ -2,7 +2,6 @@ ghost use Rattle.std.specs.Prelude.{◌≡◌};
 ghost use Rattle.chess_model.specs.Placement.{array_of};
 
 use crate::man::{Colour, Kind, Man};
-use crate::placement::Men;
 use crate::variant::Variant;
 
 const WHITE_PAWN: Option<Man> = Some(Man {
@@ -78,7 +77,7 @@ const BLACK_KING: Option<Man> = Some(Man {
 });
 
 #[rattlefmt::skip]
-const USUAL_ARRAY: Men = [
+const USUAL_ARRAY: [Option<Man>; 64] = [
     WHITE_ROOK, WHITE_KNIGHT, WHITE_BISHOP, WHITE_QUEEN, WHITE_KING, WHITE_BISHOP, WHITE_KNIGHT, WHITE_ROOK,
     WHITE_PAWN, WHITE_PAWN, WHITE_PAWN, WHITE_PAWN, WHITE_PAWN, WHITE_PAWN, WHITE_PAWN, WHITE_PAWN,
     None, None, None, None, None, None, None, None,
@@ -89,8 +88,8 @@ const USUAL_ARRAY: Men = [
     BLACK_ROOK, BLACK_KNIGHT, BLACK_BISHOP, BLACK_QUEEN, BLACK_KING, BLACK_BISHOP, BLACK_KNIGHT, BLACK_ROOK,
 ];
 
-/// The placement of the start (FIDE Laws, 2.3).
-pub(crate) fn array_for(_v: Variant) -> Men
+/// The placement of the start (FIDE Laws, 2.3): the man on each square, by the square's number.
+pub fn array_for(_v: Variant) -> [Option<Man>; 64]
     ensures { result ≡ array_of _v }
 {
     USUAL_ARRAY

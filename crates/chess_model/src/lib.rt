@@ -1,26 +1,19 @@
-//! The rules of chess, crazyhouse and bughouse as definitions, and the slow board that follows them word by word.
+//! The rules of chess, crazyhouse and bughouse as definitions, and the values that boards and players speak of.
 //!
 //! `specs/` says what a placement, a move, an attack, a right, a hand and an allowed move are, once, for all
 //! variants and for one or two boards: a game is the list of its half-moves, and everything else is said of that
-//! list. `PlainBoard` keeps 64 squares, the rights and the two hands in place of the list. Its contract: it stands
-//! for a list of half-moves, `allowed` is the rule for every move, `after` stands for the list with that move at
-//! its end, and `answer` gives a written move word its one move or the reason why it has none.
+//! list. The calls of `laws` show what these definitions mean in the words of the game.
+//!
+//! The contract: squares, colours, kinds, men, moves, words, hands and texts are the values of which the definitions
+//! speak, each call on one of them is the definition that its contract names, and each law holds.
 #![tactic(auto)]
 
-mod allowed;
-mod answer;
 mod array;
-mod attack;
-mod changes;
-mod counts;
 mod face;
 mod hand;
 mod laws;
 mod man;
 mod moves;
-mod placement;
-mod plain_board;
-mod reach;
 mod rights;
 mod square;
 mod states;
@@ -29,6 +22,7 @@ mod variant;
 mod variant_words;
 mod why;
 
+pub use array::array_for;
 pub use face::Face;
 pub use hand::Hand;
 pub use laws::{
@@ -40,7 +34,6 @@ pub use laws::{
 };
 pub use man::{Colour, Kind, Man};
 pub use moves::{Move, MoveWord, Rejection};
-pub use plain_board::PlainBoard;
 pub use rights::Rights;
 pub use square::Square;
 pub use states::{Shown, State};

@@ -1,5 +1,6 @@
 ghost use Rattle.std.specs.Prelude.{◌≡◌};
 ghost use Rattle.chess_model.specs.Men.{same_colour, same_kind};
+ghost use Rattle.chess_model.specs.Placement.{opposite};
 
 /// The two sides.
 #[derive(Clone, Copy, Debug, PartialEq, Eq)]
@@ -9,6 +10,16 @@ pub enum Colour {
 }
 
 impl Colour {
+    /// The other side.
+    pub fn opposite(self) -> Colour
+        ensures { result ≡ opposite self }
+    {
+        match self {
+            Colour::White => Colour::Black,
+            Colour::Black => Colour::White,
+        }
+    }
+
     /// Whether another colour is the same.
     pub fn is_same(self, other: Colour) -> bool
         ensures { result ≡ same_colour self other }

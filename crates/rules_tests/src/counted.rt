@@ -1,7 +1,8 @@
 //! How many lists of allowed moves there are from the start, against counts that are known from outside
 //! (Chess Programming Wiki, `Perft Results`).
 
-use chess_model::{Move, PlainBoard, Square, Variant};
+use chess_model::{Move, Square, Variant};
+use plain_board::PlainBoard;
 
 /// The board after the plain move between two squares, where it is allowed.
 fn moved(board: &PlainBoard, a: u8, b: u8) -> Option<PlainBoard> {

@@ -1,7 +1,8 @@
 //! Games played word by word: which words are accepted, and why the next one isn't.
 
 use crate::chess_words::word_of;
-use chess_model::{Colour, Kind, Man, PlainBoard, Rejection, Square, Variant};
+use chess_model::{Colour, Kind, Man, Rejection, Square, Variant};
+use plain_board::PlainBoard;
 use std::test::Fail;
 
 /// The board after the words, and how the first word that has no move is refused.

@@ -9,7 +9,7 @@ ghost use Rattle.variant_rules.specs.Faces.{LooksLike, Receives};
 
 use crate::changes::taken_by;
 use bitboard_core::{Bits, square_of};
-use chess_model::{Colour, Kind, Man, Move, PlainBoard, Rights, Square, Variant};
+use chess_model::{Colour, Kind, Man, Move, Rights, Square, Variant, array_for};
 use holdings_drops::Holdings;
 use std::marker::Model;
 
@@ -68,8 +68,7 @@ impl Position {
         ensures variant { result.variant ≡ v }
         ensures stands { (b : ℕ) → Stands result [] b }
     {
-        let board = PlainBoard::start(v);
-        let men = Bits::of(board.men());
+        let men = Bits::of(&array_for(v));
         Position {
             variant: v,
             men,
