@@ -1,10 +1,9 @@
 //! The fakes, in short sessions: tables of calls, each with what it has to come to.
 ghost use Rattle.std.specs.Prelude.{◌<◌, length};
 
-use edge_traits::{
-    Got, Keeper, KeeperFail, Kept, MemKeeper, MemSink, MemSource, Pair, Sent, Sink, Source,
-};
+use edge_traits::{Got, Keeper, KeeperFail, Kept, Pair, Sent, Sink, Source};
 use fics_words::NoMemory;
+use memory_edges::{MemKeeper, MemSink, MemSource};
 use std::alloc::Global;
 use std::test::Fail;
 

@@ -2,7 +2,6 @@
 use Rattle.std.specs.Prelude.{◌≡◌, ℕ, ⊤, Bool, true, false, List, Some, None, Err, Result}
 use Rattle.std.specs.declared.option.Option.{Option}
 use Rattle.std.specs.FinMap as map
-use Rattle.edge_traits.specs.Faults.{Plan}
 use Rattle.edge_traits.specs.Pairs.{Table, Pairs}
 use Rattle.edge_traits.specs.declared.keeper.Kept.{Kept}
 use Rattle.edge_traits.specs.declared.keeper.Kept.TheVariants.{Done, Failed, Memory}
@@ -55,8 +54,3 @@ keep_failed answer = false
 abbrev pub load_failed : {A : Type 0} → Result A KeeperFail → Bool
 load_failed (Err fail.Failed) = true
 load_failed answer = false
-
--- a keeper in memory: its pairs in ascending order of key, and its plan of faults
-pub record Shelf : Type 0 where
-  pub pairs : Pairs
-  pub plan : Plan

@@ -2,8 +2,6 @@ pub mod Door
 pub mod Faults
 pub mod Keeper
 pub mod Link
-pub mod MemDoor
 pub mod Pairs
 pub mod Sink
 pub mod Source
-pub mod Wire

@@ -2,7 +2,6 @@
 use Rattle.std.specs.Prelude.{ℕ, Bool, true, false, List, take}
 use Rattle.std.specs.declared.option.Option.{Option}
 use Rattle.std.specs.Io.KnownBytes.{Appends}
-use Rattle.edge_traits.specs.Faults.{Plan}
 use Rattle.edge_traits.specs.declared.sink.Sent.{Sent}
 use Rattle.edge_traits.specs.declared.sink.Sent.TheVariants.{All, Failed, Memory}
 
@@ -25,8 +24,3 @@ OnWriteFailed answer P = Unit {0}
 abbrev pub write_failed : Sent → Bool
 write_failed Failed = true
 write_failed answer = false
-
--- a sink in memory: what it was written, and its plan of faults
-pub record Slate : Type 0 where
-  pub written : List ℕ
-  pub plan : Plan

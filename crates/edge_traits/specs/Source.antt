@@ -2,7 +2,6 @@
 use Rattle.std.specs.Prelude.{ℕ, ◌<◌, ◌≤◌, Bool, true, false, List, length, take}
 use Rattle.std.specs.declared.option.Option.{Option}
 use Rattle.std.specs.Io.KnownBytes.{Consumes, Keeps, IsAtEnd}
-use Rattle.edge_traits.specs.Faults.{Plan}
 use Rattle.edge_traits.specs.declared.source.Got.{Got}
 use Rattle.edge_traits.specs.declared.source.Got.TheVariants.{Bytes, End, Failed}
 
@@ -26,9 +25,3 @@ read_failed answer = false
 abbrev pub IfBytes : Got → (ℕ → Type 0) → Type 0
 IfBytes (Bytes n) P = P n
 IfBytes answer P = Unit {0}
-
--- a source in memory: what it has left, the most that one read gives, and its plan of faults
-pub record Stock : Type 0 where
-  pub left : List ℕ
-  pub cut : ℕ
-  pub plan : Plan

@@ -23,7 +23,7 @@ impl Pair {
     ghost use Rattle.std.specs.Prelude.{◌≡◌, IfOk};
 
     /// A pair of copies of this key and this record; answers `NoMemory` only when out of memory.
-    pub(crate) fn of(alloc: Global, key: &[u8], bytes: &[u8]) -> Result<Pair, NoMemory>
+    pub fn of(alloc: Global, key: &[u8], bytes: &[u8]) -> Result<Pair, NoMemory>
         ensures { IfOk result (λ pair. pair ≡ (key.now, bytes.now)) }
     {
         let key = Vec::from_slice(alloc, key)?;

@@ -2,10 +2,10 @@
 //! standard streams; it ends with their status.
 #![tactic(auto)]
 
-use edge_traits::{MemKeeper, OpenGate};
+use edge_traits::OpenGate;
 use job_words::{Job, JobFail, read_job};
 use line_answers::{End, status};
-use real_edges::{StdSink, StdSource, TcpDoor, WallClock};
+use real_edges::{NoStore, StdSink, StdSource, TcpDoor, WallClock};
 use run_call::run;
 use serve_core::serve;
 use std::alloc::{AllocError, Global};
@@ -30,7 +30,7 @@ fn main(rt: HostRuntime) -> ExitCode {
         Err(JobFail::Memory) => ExitCode::from(status(End::Memory)),
         Ok(_) | Err(JobFail::Usage) => {
             let mut source = StdSource::new(rt.reader());
-            let mut keeper = MemKeeper::new(rt.alloc(), Vec::new(rt.alloc()));
+            let mut keeper = NoStore::new();
             ExitCode::from(run(
                 rt.alloc(),
                 words.as_slice(),
@@ -56,7 +56,7 @@ where
 {
     let clock = WallClock::new(rt);
     let gate = OpenGate::new();
-    let mut keeper = MemKeeper::new(alloc, Vec::new(alloc));
+    let mut keeper = NoStore::new();
     let (status, served) = serve(
         rt,
         alloc,

@@ -2,7 +2,7 @@
 
 ghost use Rattle.std.specs.Prelude.{◌≤◌};
 
-use edge_traits::{MemKeeper, MemSink, MemSource};
+use memory_edges::{MemKeeper, MemSink, MemSource};
 use run_call::run;
 use std::alloc::Global;
 use std::process::Abort;

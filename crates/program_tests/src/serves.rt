@@ -3,9 +3,10 @@
 
 ghost use Rattle.std.specs.Prelude.{Some, IfOk};
 ghost use Rattle.edge_traits.specs.Door.{IsNew};
-ghost use Rattle.edge_traits.specs.MemDoor.{AreNew};
+ghost use Rattle.memory_edges.specs.MemDoor.{AreNew};
 
-use edge_traits::{LinkStep, MemDoor, MemKeeper, MemLink, MemSink, OpenGate, StillClock};
+use edge_traits::{OpenGate, StillClock};
+use memory_edges::{LinkStep, MemDoor, MemKeeper, MemLink, MemSink};
 use serve_core::serve;
 use std::alloc::{AllocError, Global};
 use std::sync::Wait;

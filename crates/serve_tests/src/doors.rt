@@ -2,8 +2,9 @@
 
 ghost use Rattle.std.specs.Prelude.{None};
 
-use edge_traits::{Came, Doorway, Heard, Link, MemSink, OpenGate, Sent, StillClock};
+use edge_traits::{Came, Doorway, Heard, Link, OpenGate, Sent, StillClock};
 use lobby_state::Lobby;
+use memory_edges::MemSink;
 use serve_core::{ServeEnd, serve_lobby};
 use std::alloc::Global;
 use std::sync::Arc;

@@ -2,12 +2,13 @@
 
 ghost use Rattle.std.specs.Prelude.{Some, IfOk};
 ghost use Rattle.edge_traits.specs.Door.{IsNew};
-ghost use Rattle.edge_traits.specs.MemDoor.{AreNew};
+ghost use Rattle.memory_edges.specs.MemDoor.{AreNew};
 ghost use Rattle.serve_core.specs.Keeping.{IsUnused};
 
-use edge_traits::{LinkStep, MemDoor, MemLink, MemSink, OpenGate, StillClock};
+use edge_traits::{OpenGate, StillClock};
 use lobby_state::Lobby;
 use memory::NoMemory;
+use memory_edges::{LinkStep, MemDoor, MemLink, MemSink};
 use serve_core::{ServeEnd, serve_lobby};
 use std::alloc::{AllocError, Global};
 use std::sync::Wait;

@@ -3,7 +3,8 @@
 ghost use Rattle.std.specs.Prelude.{None};
 
 use crate::held_stage::{ALL, Player, Seen, Stage};
-use edge_traits::{Came, Doorway, MemKeeper, MemSink, StillClock};
+use edge_traits::{Came, Doorway, StillClock};
+use memory_edges::{MemKeeper, MemSink};
 use serve_core::serve;
 use std::alloc::{AllocError, Global};
 use std::sync::Wait;

@@ -1,7 +1,8 @@
 //! Two guests over TCP, each in a thread of its own.
 
-use edge_traits::{MemSink, OpenGate};
+use edge_traits::OpenGate;
 use lobby_state::Lobby;
+use memory_edges::MemSink;
 use real_edges::{TcpDoor, WallClock};
 use serve_core::{ServeEnd, serve_lobby};
 use std::alloc::Global;

@@ -1,9 +1,10 @@
 //! Links in memory: how they end, what is written to them, and how often the clock is asked.
 
 use crate::talks::server;
-use edge_traits::{Clock, LinkStep, MemLink, StillClock};
+use edge_traits::{Clock, StillClock};
 use fics_words::{Fail as Failure, NoMemory};
 use link_core::{LinkEnd, serve_link};
+use memory_edges::{LinkStep, MemLink};
 use std::alloc::Global;
 use std::cell::Cell;
 use std::test::Fail;

@@ -1,6 +1,7 @@
 //! A link, a clock and a gate in memory.
 
-use edge_traits::{Clock, Gate, Heard, Link, LinkStep, MemLink, OpenGate, Sent, StillClock};
+use edge_traits::{Clock, Gate, Heard, Link, OpenGate, Sent, StillClock};
+use memory_edges::{LinkStep, MemLink};
 use std::alloc::Global;
 use std::process::Abort;
 use std::test::Fail;

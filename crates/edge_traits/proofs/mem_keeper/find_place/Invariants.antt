@@ -1,5 +1,0 @@
-use Rattle.edge_traits.proofs.Places.{IsPassed}
-use Rattle.edge_traits.proofs.mem_keeper.find_place.Given as goal
-
-abbrev pub invariant-loop-i : goal.invariant-loop-i
-invariant-loop-i l = IsPassed l.pairs l.key l.i
