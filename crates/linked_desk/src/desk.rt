@@ -16,10 +16,17 @@ use std::marker::Model;
 use style12_writer::{Item, ItemList};
 
 /// A desk of the hall, with the game that is played at it, if there is one.
-#[derive(Drop)]
 pub struct Desk {
     number: u8,
     game: Option<Game>,
+}
+
+// One call for who drops a desk: a derived destructor is proved again in each crate above, with those of its parts.
+impl Drop for Desk {
+    fn drop(self) {
+        let Desk { number: _, game } = self;
+        drop(game);
+    }
 }
 
 impl Model for Desk {
