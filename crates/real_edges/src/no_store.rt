@@ -2,7 +2,7 @@
 
 use edge_traits::{Keeper, KeeperFail, Kept, Pair};
 
-/// A keeper that has nowhere to keep: each call fails, and is counted. What it holds isn't told.
+/// A keeper that has nowhere to keep: its table is empty and stays so, and each call fails, and is counted.
 #[derive(Drop)]
 pub struct NoStore {
     faults: u64,
@@ -16,9 +16,10 @@ impl NoStore {
 }
 
 impl Keeper for NoStore {
-    ghost use Rattle.std.specs.Prelude.{None};
+    ghost use Rattle.std.specs.Prelude.{[], Some};
+    ghost use Rattle.std.specs.FinMap as map;
 
-    ghost table = { λ _. None };
+    ghost table = { λ _. Some (map.from_sorted []) };
 
     ghost faults = { λ keeper. keeper.faults };
 
