@@ -44,15 +44,14 @@ HasPairsFor terms seats = length (seat_list seats) ≡ 2 * length (board_numbers
 abbrev pub from_start : Player → Cursor
 from_start player = record { session = player.session; seen = 0 }
 
--- the line that tells that a game begins at a board
-abbrev pub created_item : ℕ → Terms → Opponents → Board → Item
-created_item desk terms players board =
-    item.Talk (created_text (game_number desk board.number) players.white.name players.black.name terms)
-
 -- the line that tells that a game begins at the board of that number
 abbrev pub announcement : ℕ → Terms → ℕ → Opponents → Item
 announcement desk terms number players =
     item.Talk (created_text (game_number desk number) players.white.name players.black.name terms)
+
+-- that line for a board and its players
+abbrev pub created_item : ℕ → Terms → Opponents → Board → Item
+created_item desk terms players board = announcement desk terms board.number players
 
 -- and those for each pair of players, of which the first sits at board 1, and the second at board 2
 abbrev pub announcements : ℕ → Terms → Seats → List Item
@@ -74,8 +73,7 @@ shown_items desk pairs boards = flat_map (λ items. items) (each_board (first_it
 -- what is told of the beginning: a line for each board, and then each board with its hands
 abbrev pub opening_items : ℕ → Terms → List Opponents → List Board → List Item
 opening_items desk terms pairs boards =
-    each_board (created_item desk terms) pairs boards
-    ++ flat_map (λ items. items) (each_board (first_items desk) pairs boards)
+    each_board (created_item desk terms) pairs boards ++ shown_items desk pairs boards
 
 -- a game that begins at this moment: the players are its viewers from the start
 abbrev pub opened : ℕ → ℕ → Terms → Seats → ℕ → GameState
