@@ -145,6 +145,13 @@ const REFUSALS: &[(Refusal, u8, &str)] = &[
     (Refusal::NotInChannel, 39, "NotInChannel"),
     (Refusal::OnList, 51, "OnList"),
     (Refusal::BadByte, 56, "BadByte"),
+    (Refusal::TourneyStarted, 59, "TourneyStarted"),
+    (Refusal::TourneyFull, 60, "TourneyFull"),
+    (Refusal::TooFewPlayers, 61, "TooFewPlayers"),
+    (Refusal::TourneyNotStarted, 62, "TourneyNotStarted"),
+    (Refusal::NoSuchRound, 63, "NoSuchRound"),
+    (Refusal::NotPaired, 64, "NotPaired"),
+    (Refusal::AlreadyReported, 65, "AlreadyReported"),
 ];
 
 fn is_named(refusal: Refusal, number: u8, name: &str) -> bool {

@@ -1,7 +1,7 @@
--- The 56 causes of a refusal: this server's own numbers and names.
+-- The 63 causes of a refusal: this server's own numbers and names.
 use Rattle.std.specs.Prelude.{ℕ, List, codes}
 use Rattle.fics_words.specs.declared.refusal.Refusal.{Refusal}
-use Rattle.fics_words.specs.declared.refusal.Refusal.TheVariants.{Ambiguous, LeavesKing, CastleForbidden, NoDrops, NotInHand, Occupied, EndRank, NoPiece, CannotReach, GameOver, NotYourTurn, TooManyMoves, NothingToClaim, NotFallen, TooFewMoves, NoSuchOffer, AlreadyOffered, NotWatching, FeedFull, NotPlaying, NotInVariant, BadHandle, WrongPassword, HandleTaken, HallFull, Unknown, AmbiguousWord, BadArguments, TooLong, NoSuchSeek, SeekFull, NoSuchPlayer, Playing, NoChallenge, NoDesk, Refuses, NoPartner, HasPartner, NotInChannel, ListFull, BadChannel, NotGiving, SimulFull, NoStored, ShelfFull, NoSuchGame, AccountsFull, AlreadyRegistered, QueueFull, BadOpponent, OnList, NotOnList, NotRegistered, NotIn, AlreadyWatching, BadByte}
+use Rattle.fics_words.specs.declared.refusal.Refusal.TheVariants.{Ambiguous, LeavesKing, CastleForbidden, NoDrops, NotInHand, Occupied, EndRank, NoPiece, CannotReach, GameOver, NotYourTurn, TooManyMoves, NothingToClaim, NotFallen, TooFewMoves, NoSuchOffer, AlreadyOffered, NotWatching, FeedFull, NotPlaying, NotInVariant, BadHandle, WrongPassword, HandleTaken, HallFull, Unknown, AmbiguousWord, BadArguments, TooLong, NoSuchSeek, SeekFull, NoSuchPlayer, Playing, NoChallenge, NoDesk, Refuses, NoPartner, HasPartner, NotInChannel, ListFull, BadChannel, NotGiving, SimulFull, NoStored, ShelfFull, NoSuchGame, AccountsFull, AlreadyRegistered, QueueFull, BadOpponent, OnList, NotOnList, NotRegistered, NotIn, AlreadyWatching, BadByte, TourneyStarted, TourneyFull, TooFewPlayers, TourneyNotStarted, NoSuchRound, NotPaired, AlreadyReported}
 
 -- the number that is printed
 abbrev pub number_of : Refusal → ℕ
@@ -61,6 +61,13 @@ number_of NotRegistered = 53
 number_of NotIn = 54
 number_of AlreadyWatching = 55
 number_of BadByte = 56
+number_of TourneyStarted = 59
+number_of TourneyFull = 60
+number_of TooFewPlayers = 61
+number_of TourneyNotStarted = 62
+number_of NoSuchRound = 63
+number_of NotPaired = 64
+number_of AlreadyReported = 65
 
 -- the name that is printed, as ASCII bytes
 abbrev pub name_of : Refusal → List ℕ
@@ -120,3 +127,10 @@ name_of NotRegistered = codes "NotRegistered"
 name_of NotIn = codes "NotIn"
 name_of AlreadyWatching = codes "AlreadyWatching"
 name_of BadByte = codes "BadByte"
+name_of TourneyStarted = codes "TourneyStarted"
+name_of TourneyFull = codes "TourneyFull"
+name_of TooFewPlayers = codes "TooFewPlayers"
+name_of TourneyNotStarted = codes "TourneyNotStarted"
+name_of NoSuchRound = codes "NoSuchRound"
+name_of NotPaired = codes "NotPaired"
+name_of AlreadyReported = codes "AlreadyReported"

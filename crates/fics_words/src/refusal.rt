@@ -1,8 +1,9 @@
-//! Why a command was refused: 56 causes, each with the number and the name that a player is shown.
+//! Why a command was refused: 63 causes, each with the number and the name that a player is shown. No cause has
+//! the number 57 or 58.
 
 ghost use Rattle.std.specs.Prelude.{◌≡◌};
 
-/// The cause of a refusal, numbered from 1; shown to a player as `refused N Name`.
+/// The cause of a refusal, numbered from 1 to 56 and from 59 to 65; shown to a player as `refused N Name`.
 #[derive(Clone, Copy, Debug, PartialEq, Eq)]
 pub enum Refusal {
     /// Two or more allowed moves match the word.
@@ -117,12 +118,26 @@ pub enum Refusal {
     AlreadyWatching,
     /// The line has bytes that aren't allowed.
     BadByte,
+    /// The tourney has started: nobody joins it any more, and it doesn't start again.
+    TourneyStarted = 59,
+    /// The tourney has all the players that it can hold.
+    TourneyFull,
+    /// A tourney needs two players to start.
+    TooFewPlayers,
+    /// The tourney hasn't started: it has no rounds, results and table yet.
+    TourneyNotStarted,
+    /// The tourney has no round of that number.
+    NoSuchRound,
+    /// In no round of the tourney do these two meet with these colours.
+    NotPaired,
+    /// The result of these two stands already.
+    AlreadyReported,
 }
 
 impl Refusal {
     ghost use Rattle.fics_words.specs.Refusal.{number_of, name_of};
 
-    /// The refusal's number, 1 to 56.
+    /// The refusal's number, from 1 to 56 or from 59 to 65.
     pub fn number(self) -> u8
         ensures { result ≡ number_of self }
     {
@@ -190,6 +205,13 @@ impl Refusal {
             Refusal::NotIn => "NotIn",
             Refusal::AlreadyWatching => "AlreadyWatching",
             Refusal::BadByte => "BadByte",
+            Refusal::TourneyStarted => "TourneyStarted",
+            Refusal::TourneyFull => "TourneyFull",
+            Refusal::TooFewPlayers => "TooFewPlayers",
+            Refusal::TourneyNotStarted => "TourneyNotStarted",
+            Refusal::NoSuchRound => "NoSuchRound",
+            Refusal::NotPaired => "NotPaired",
+            Refusal::AlreadyReported => "AlreadyReported",
         }
     }
 }
