@@ -23,7 +23,7 @@ use Rattle.style12_writer.specs.declared.item.Item.TheVariants as item
 use Rattle.linked_desk.specs.Boards.{board_numbers, latest}
 use Rattle.linked_desk.specs.Desk.{GameState, moment_at, occupant}
 use Rattle.linked_desk.specs.Hands.{first_hands}
-use Rattle.linked_desk.specs.Offering.{agreed, back_by, boards_taken_back, decline_item, end_without_winner, offer_item, offer_text, told, with_offers, with_taken}
+use Rattle.linked_desk.specs.Offering.{agreed, back_by, boards_taken_back, decline_item, end_without_winner, offer_item, offer_text, told, with_count, with_offers, with_taken}
 use Rattle.linked_desk.specs.Offering as offering
 use Rattle.linked_desk.specs.Sound.{AreSame, IsSound, NamesWinner}
 use Rattle.linked_desk.specs.Tally.{counted}
@@ -161,6 +161,19 @@ occupant-agreed desk g moment seat Draw = refl
 occupant-agreed desk g moment seat Abort = refl
 occupant-agreed desk g moment seat Adjourn = refl
 occupant-agreed desk g moment seat (Takeback n) = occupant-taken_back desk g moment n
+
+-- how many offers a seat has made is no part of that
+pub IsSound-with_count : (g : GameState) (seat : ℕ) → IsSound g → IsSound (with_count seat g)
+IsSound-with_count g seat s = record {
+  numbers = s.numbers;
+  seated = s.seated;
+  terms = s.terms;
+  scores = s.scores;
+  together = s.together;
+  order = s.order;
+  winners = s.winners;
+  ended = s.ended;
+}
 
 pub IsSound-with_offers : (g : GameState) (offers : OfferBook) (moment : ℕ) → IsSound g → IsSound (with_offers offers moment g)
 IsSound-with_offers g offers moment s = IsSound-offers g offers g.tally moment s

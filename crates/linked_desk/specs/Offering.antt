@@ -42,7 +42,7 @@ offer_item g seat offer =
 abbrev pub decline_item : GameState → ℕ → Option Item
 decline_item g seat = option_map (λ (p : Player). item.Talk (decline_text p.name)) (slice_get (seat_list g.seats) seat)
 
--- a seat tells an offer, or that it declines one, no more than so often
+-- a seat makes offers and declines them no more than so often in all
 abbrev pub told_out_cause : GameState → ℕ → Cause
 told_out_cause g seat = (is_told_out g.tally seat, FeedFull)
 
@@ -54,6 +54,10 @@ with_offers offers moment g = record g { offers = offers; last = moment_at g mom
 abbrev pub told : OfferBook → ℕ → ℕ → Option Item → GameState → GameState
 told offers seat moment x g =
     with_item (record g { offers = offers; tally = counted g.tally seat; last = moment_at g moment }) x
+
+-- the game where a seat has made one offer more of those that it may make
+abbrev pub with_count : ℕ → GameState → GameState
+with_count seat g = record g { tally = counted g.tally seat }
 
 -- how the game ends where a seat's act makes it end so, and nobody wins
 abbrev pub end_without_winner : ℕ → Why → Ended
