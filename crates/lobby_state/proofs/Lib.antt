@@ -50,3 +50,4 @@ pub mod KeepingAway
 pub mod KeepsStart
 pub mod KeepsClear
 pub mod KeepsPlans
+pub mod Meeting

@@ -1,8 +1,10 @@
 //! What holds of every lobby and of every act, as calls that do nothing: each says by its contract what was proved.
 ghost use Rattle.std.specs.Prelude.{◌≡◌, ◌<◌, Ok, length};
+ghost use Rattle.fics_words.specs.Effect.{answer_of, state_of};
 ghost use Rattle.login_handles.specs.Guests.{IsLeastFree};
 ghost use Rattle.lobby_state.specs.Acts.{lobby_effect};
 ghost use Rattle.lobby_state.specs.Enter.{guest_in, names_taken};
+ghost use Rattle.lobby_state.specs.GoBoard.{MeetsPlayer, go_board_effect};
 ghost use Rattle.lobby_state.specs.InUse.{AreDesksInUse, desks_in_use};
 ghost use Rattle.lobby_state.specs.Keeps.{Keeps, KeepsPlan};
 ghost use Rattle.lobby_state.specs.KeptAway.{KeepAway};
@@ -11,7 +13,7 @@ ghost use Rattle.lobby_state.specs.Planned.{IsPlanned};
 ghost use Rattle.lobby_state.specs.Plans.{NamesDesk, plan_of};
 ghost use Rattle.lobby_state.specs.WellFormed.{IsWellFormed};
 
-use crate::acts::{LobbyAct, PairAct, Plan};
+use crate::acts::{LobbyAct, LobbyReply, PairAct, Plan};
 use crate::lobby::Lobby;
 use fics_words::HandleKey;
 
@@ -47,6 +49,13 @@ pub fn guests_have_the_least_name(lobby: &Lobby)
 /// Match and a Play of one that the other avoids aren't done.
 pub fn lists_keep_away(lobby: &Lobby, session: u32, to: HandleKey, number: u16)
     ensures { KeepAway lobby.now session to number }
+{}
+
+/// A GoBoard that is done goes to the first of the session's places whose opponent, in the other seat of the same board,
+/// is the named player.
+pub fn go_board_meets_the_player(lobby: &Lobby, session: u32, name: HandleKey)
+    ensures { answer_of (go_board_effect lobby.now session name) ≡ Ok LobbyReply.Done
+        → MeetsPlayer lobby.now (state_of lobby.now (go_board_effect lobby.now session name)) session name }
 {}
 
 /// An InUse tells the desks that are in use with their serials, each of them once, in ascending order.

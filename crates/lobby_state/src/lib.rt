@@ -69,8 +69,8 @@ pub use challenge::Challenge;
 pub use desk_in_use::DeskInUse;
 pub use game::{DESKS, Game};
 pub use laws::{
-    acts_keep, guests_have_the_least_name, in_use_tells_the_desks, lists_keep_away,
-    lobbies_are_well_formed, plans_keep,
+    acts_keep, go_board_meets_the_player, guests_have_the_least_name, in_use_tells_the_desks,
+    lists_keep_away, lobbies_are_well_formed, plans_keep,
 };
 pub use lobby::Lobby;
 pub use member::Member;
