@@ -27,7 +27,7 @@ fn serve<T>(rt: &T, alloc: Global) -> Option<ServeEnd>
 where
     T: Net<Listener = TcpListener, Stream = TcpStream> + Clock + Threads + Wait + Sync,
 {
-    let mut door = TcpDoor::new(rt, String::from_str(alloc, HOME).ok()?, PORT, Some(2));
+    let mut door = TcpDoor::new(rt, HOME, PORT, Some(2));
     let clock = WallClock::new(rt);
     let mut sink = MemSink::new(alloc, Vec::new(alloc));
     let gate = OpenGate::new();
