@@ -1,5 +1,5 @@
 -- The rule of the flag: whose clock has fallen, and what the call of the other player brings.
-use Rattle.std.specs.Prelude.{ℕ, ◌-◌, Bool, true, false, not, ◌&&◌, ◌||◌, if◌then◌else◌, Option, Some, None, Result, Ok, Err, pos, int_lt}
+use Rattle.std.specs.Prelude.{◌≡◌, ◌≢◌, ℕ, ◌-◌, ◌≤◌, Bool, true, false, not, ◌&&◌, ◌||◌, if◌then◌else◌, Option, Some, None, Result, Ok, Err, pos, int_lt}
 use Rattle.std.specs.List.{list_all}
 use Rattle.chess_model.specs.declared.man.Colour.{Colour}
 use Rattle.chess_model.specs.declared.man.Kind.TheVariants.{King}
@@ -46,3 +46,9 @@ flag_answer b c moment =
     if has_fallen b (opposite c) moment
     then Ok (if cannot_win b c moment then None else Some c)
     else Err NotFallen
+
+-- a colour's clock that has fallen at a moment has fallen at every later one, so that its flag can be called then too
+pub record StaysFallen (b : Board) (c : Colour) : Type 0 where
+  pub fallen : (moment later : ℕ) → moment ≤ later → has_fallen b c moment ≡ true → has_fallen b c later ≡ true
+  pub called : (moment later : ℕ) → moment ≤ later → flag_answer b (opposite c) moment ≢ Err NotFallen
+      → flag_answer b (opposite c) later ≢ Err NotFallen

@@ -1,6 +1,6 @@
 -- Handles in the order of their keys: where one more belongs among them, that they stay in order, and that each member's
 -- is among them once.
-use Rattle.std.proofs.Common.{◌≡◌, ◌≢◌, ◌⊎◌, ℕ, ◌≤◌, ◌<◌, zero, suc, Bool, true, false, not, List, [], ◌∷◌, ◌++◌, length, map, get_or, refl, sym, ap, ◌∙◌, inl, inr, arith}
+use Rattle.std.proofs.Common.{◌≡◌, ◌⊎◌, ℕ, ◌≤◌, ◌<◌, zero, suc, Bool, true, false, not, List, [], ◌∷◌, length, get_or, refl, sym, ap, ◌∙◌, inl, inr, arith}
 use Rattle.std.specs.Prelude.{All, if◌then◌else◌}
 use Rattle.std.specs.Cmp.{IsStrictWeakOrder}
 use Rattle.std.specs.List.{AllPairs, insert}
@@ -9,10 +9,9 @@ use Rattle.std.proofs.lemmas.Cmp.{nat_list_cmp_total}
 use Rattle.std.proofs.lemmas.List.Elements.{All-nil, All-cons, All-weaker}
 use Rattle.std.proofs.lemmas.List.Kept.{AllPairs-cons}
 use Rattle.std.proofs.lemmas.List.MinMax.{ranks_by}
-use Rattle.std.proofs.lemmas.List.Sorted.{All-permutation, IsPermutation-append_left, IsPermutation-cons, IsPermutation-middle, IsPermutation-refl, IsPermutation-sym, IsPermutation-trans}
+use Rattle.std.proofs.lemmas.List.Sorted.{All-permutation, IsPermutation-cons, IsPermutation-middle, IsPermutation-refl, IsPermutation-trans}
 use Rattle.fics_words.specs.Handle.{key_of}
-use Rattle.lobby_state.specs.declared.member.Member.{Member}
-use Rattle.lobby_state.specs.Who.{AreInOrder, ListsEach, is_before, with_name, with_names}
+use Rattle.lobby_state.specs.Who.{AreInOrder, is_before, with_name}
 
 -- of any two keys one comes before the other, or they are one
 keys_rank : IsStrictWeakOrder is_before
@@ -58,10 +57,10 @@ put_there name (other ∷ names) (suc i) low h =
     ((λ k d from below. h.0 (suc k) d (omega arith) (omega (arith, below))), λ k d from inside. h.1 (suc k) d (omega (arith, from)) (omega (arith, inside))))
     ∙ sym (the_second (is_before name other) (name ∷ other ∷ names) (other ∷ with_name name names) (h.0 0 other (omega arith) (omega arith)))
 
-pairs_head : {X : Type 0} (R : X → X → Type 0) (x : X) (xs : List X) → AllPairs R (x ∷ xs) → All (R x) xs
+pub pairs_head : {X : Type 0} (R : X → X → Type 0) (x : X) (xs : List X) → AllPairs R (x ∷ xs) → All (R x) xs
 pairs_head R x xs h k d inside = h 0 (suc k) d (omega arith) (omega (arith, inside))
 
-pairs_tail : {X : Type 0} (R : X → X → Type 0) (x : X) (xs : List X) → AllPairs R (x ∷ xs) → AllPairs R xs
+pub pairs_tail : {X : Type 0} (R : X → X → Type 0) (x : X) (xs : List X) → AllPairs R (x ∷ xs) → AllPairs R xs
 pairs_tail R x xs h i j d before inside = h (suc i) (suc j) d (omega (arith, before)) (omega (arith, inside))
 
 -- one handle more, and the others as they were
@@ -73,11 +72,11 @@ more_by false name other names h =
     (IsPermutation-middle (name ∷ []) other names)
     (IsPermutation-cons other (name ∷ names) (with_name name names) h)
 
-one_more : (name : List ℕ) (names : List (List ℕ)) → IsPermutation (name ∷ names) (with_name name names)
+pub one_more : (name : List ℕ) (names : List (List ℕ)) → IsPermutation (name ∷ names) (with_name name names)
 one_more name [] = IsPermutation-refl (name ∷ [])
 one_more name (other ∷ names) = more_by (is_before name other) name other names (one_more name names)
 
-All-with_name : (P : List ℕ → Type 0) (name : List ℕ) (names : List (List ℕ)) → P name → All P names → All P (with_name name names)
+pub All-with_name : (P : List ℕ → Type 0) (name : List ℕ) (names : List (List ℕ)) → P name → All P names → All P (with_name name names)
 All-with_name P name names head tail = All-permutation P (name ∷ names) (with_name name names) (one_more name names) (All-cons P name names head tail)
 
 -- they stay in order

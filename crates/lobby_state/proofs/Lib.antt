@@ -13,6 +13,8 @@ pub mod KeepsUnpost
 pub mod KeepsSought
 pub mod KeepsWho
 pub mod Broadcasting
+pub mod InOrder
+pub mod EachOnce
 pub mod Naming
 pub mod KeepsShout
 pub mod KeepsTell

@@ -1,10 +1,11 @@
 //! What holds of every lobby and of every act, as calls that do nothing: each says by its contract what was proved.
-ghost use Rattle.std.specs.Prelude.{◌≡◌, ◌<◌, Ok, length};
+ghost use Rattle.std.specs.Prelude.{◌≡◌, ◌<◌, ℕ, Ok, filter, length};
 ghost use Rattle.fics_words.specs.Effect.{answer_of, state_of};
 ghost use Rattle.login_handles.specs.Guests.{IsLeastFree};
 ghost use Rattle.lobby_state.specs.Acts.{lobby_effect};
 ghost use Rattle.lobby_state.specs.Enter.{guest_in, names_taken};
 ghost use Rattle.lobby_state.specs.GoBoard.{MeetsPlayer, go_board_effect};
+ghost use Rattle.lobby_state.specs.InChannel.{in_channel_lines, is_there};
 ghost use Rattle.lobby_state.specs.InUse.{AreDesksInUse, desks_in_use};
 ghost use Rattle.lobby_state.specs.Keeps.{Keeps, KeepsPlan};
 ghost use Rattle.lobby_state.specs.KeptAway.{KeepAway};
@@ -12,6 +13,7 @@ ghost use Rattle.lobby_state.specs.Lobby.{most_members};
 ghost use Rattle.lobby_state.specs.Planned.{IsPlanned};
 ghost use Rattle.lobby_state.specs.Plans.{NamesDesk, plan_of};
 ghost use Rattle.lobby_state.specs.WellFormed.{IsWellFormed};
+ghost use Rattle.lobby_state.specs.Who.{ListsEach, who_lines};
 
 use crate::acts::{LobbyAct, LobbyReply, PairAct, Plan};
 use crate::lobby::Lobby;
@@ -57,6 +59,16 @@ pub fn go_board_meets_the_player(lobby: &Lobby, session: u32, name: HandleKey)
     ensures { answer_of (go_board_effect lobby.now session name) ≡ Ok LobbyReply.Done
         → MeetsPlayer lobby.now (state_of lobby.now (go_board_effect lobby.now session name)) session name }
 {}
+
+/// A Who lists the handle of each member once, and an InChannel that of each member in the channel, in the order of a
+/// dictionary.
+pub fn who_lists_each_member_once(lobby: &Lobby)
+    ensures hall { ListsEach lobby.now.members (who_lines lobby.now) }
+    ensures channel { (channel : ℕ) → ListsEach (filter (is_there lobby.now.channels channel) lobby.now.members)
+        (in_channel_lines lobby.now channel) }
+{
+    let _ = &lobby.register;
+}
 
 /// An InUse tells the desks that are in use with their serials, each of them once, in ascending order.
 pub fn in_use_tells_the_desks(lobby: &Lobby)

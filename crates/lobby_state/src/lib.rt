@@ -70,7 +70,7 @@ pub use desk_in_use::DeskInUse;
 pub use game::{DESKS, Game};
 pub use laws::{
     acts_keep, go_board_meets_the_player, guests_have_the_least_name, in_use_tells_the_desks,
-    lists_keep_away, lobbies_are_well_formed, plans_keep,
+    lists_keep_away, lobbies_are_well_formed, plans_keep, who_lists_each_member_once,
 };
 pub use lobby::Lobby;
 pub use member::Member;
