@@ -9,7 +9,7 @@ use crate::replay_offers::OFFERED;
 use crate::replay_pairs::PAIRS;
 use crate::replay_refusals::ALONE;
 use crate::replay_seeks::SOUGHT;
-use crate::replay_simuls::THREE;
+use crate::replay_simuls::SIMULS;
 use crate::replay_stamps::STAMPED;
 use crate::replay_talk::TALK;
 use crate::replay_watching::OBSERVED;
@@ -24,7 +24,6 @@ const LONE: &[(&str, &str)] = &[
     ("lists", LISTS),
     ("a guest alone", ALONE),
     ("seeks", SOUGHT),
-    ("a simul", THREE),
     ("talk", TALK),
 ];
 
@@ -74,6 +73,11 @@ fn replays_stamped_games(rt: HostRuntime) -> Result<(), Fail> {
 #[test]
 fn replays_watching(rt: HostRuntime) -> Result<(), Fail> {
     expect_table(&rt, rt.alloc(), OBSERVED)
+}
+
+#[test]
+fn replays_simuls(rt: HostRuntime) -> Result<(), Fail> {
+    expect_table(&rt, rt.alloc(), SIMULS)
 }
 
 #[test]
