@@ -15,6 +15,9 @@ pub mod KeepsWho
 pub mod Broadcasting
 pub mod InOrder
 pub mod EachOnce
+pub mod GamesFound
+pub mod WaitingKept
+pub mod SettledOffers
 pub mod Naming
 pub mod KeepsShout
 pub mod KeepsTell
