@@ -1,18 +1,12 @@
 //! `ready` means that one can connect: a client that does so while it is written is served.
 
-use edge_traits::{OpenGate, Sent, Sink};
-use lobby_state::Lobby;
-use real_edges::{TcpDoor, WallClock};
-use serve_core::{ServeEnd, serve_lobby};
+use crate::tcp::{HOME, serve, took_leave};
+use edge_traits::{Sent, Sink};
+use serve_core::ServeEnd;
 use std::alloc::Global;
 use std::io::{Read, Write};
 use std::net::{Net, TcpListener, TcpStream};
-use std::sync::Wait;
 use std::test::Fail;
-use std::thread::Threads;
-use std::time::Clock;
-
-const HOME: &str = "127.0.0.1";
 
 const PORT: u16 = 50_733;
 
@@ -50,30 +44,23 @@ fn guest<R: Net<Listener = TcpListener, Stream = TcpStream>>(rt: &R) -> Option<T
     Some(stream)
 }
 
-/// How serving that client ends, and all that it was sent.
-fn serve<T>(rt: &T, alloc: Global) -> Option<(ServeEnd, Vec<u8>)>
-where
-    T: Net<Listener = TcpListener, Stream = TcpStream> + Clock + Threads + Wait + Sync,
-{
-    let mut door = TcpDoor::new(rt, HOME, PORT, Some(1));
-    let mut caller = Caller { rt, client: None };
-    let clock = WallClock::new(rt);
-    let gate = OpenGate::new();
-    let lobby = Lobby::new(alloc).ok()?;
-    let (end, _hall) = serve_lobby(rt, alloc, lobby, &mut door, &clock, &mut caller, &gate);
+/// All that the client was sent, if it has connected.
+fn heard_by(alloc: Global, client: Option<TcpStream>) -> Option<Vec<u8>> {
     let mut heard = Vec::new(alloc);
-    caller.client?.read_to_end(&mut heard).ok()?;
-    Some((end, heard))
-}
-
-/// Whether all was served, and the client was taken leave of.
-fn is_served(end: ServeEnd, heard: &[u8]) -> bool {
-    end == ServeEnd::Done && heard.ends_with(b"Goodbye.\n\r")
+    client?.read_to_end(&mut heard).ok()?;
+    Some(heard)
 }
 
 #[test]
 fn who_connects_on_ready_is_served(rt: HostRuntime) -> Result<(), Fail> {
-    let served = serve(&rt, rt.alloc());
-    assert!(rt; served.is_some_and(|(end, heard)| is_served(end, heard.as_slice())));
+    let alloc = rt.alloc();
+    let mut caller = Caller {
+        rt: &rt,
+        client: None,
+    };
+    let end = serve(&rt, alloc, PORT, 1, &mut caller);
+    assert!(rt; end == Some(ServeEnd::Done));
+    let heard = heard_by(alloc, caller.client);
+    assert!(rt; heard.is_some_and(|heard| took_leave(heard.as_slice())));
     Ok(())
 }
