@@ -13,7 +13,7 @@ use Rattle.chess_model.specs.Squares.{file_of, rank_of, square_at, ranks_apart, 
 use Rattle.chess_model.specs.Men.{same_kind, is_held_by, is_held_as}
 use Rattle.chess_model.specs.FischerArrays.{Files, count_on}
 use Rattle.chess_model.specs.Placement.{Placement, man_at, IsHeldBy, IsHeldAs, unpromoted, home_rank, back_rank, array_from, array_of, king_file, rook_file, king_home, rook_home}
-use Rattle.chess_model.specs.Census.{men_of, one_set}
+use Rattle.chess_model.specs.Census.{men_on, men_of, one_set}
 use Rattle.chess_model.specs.Reach.{IsStep, Clear, Strikes}
 use Rattle.chess_model.specs.Attacked.{StrikesAs, IsAttacked, IsKingSafe}
 use Rattle.chess_model.specs.Tests.{squares}
@@ -49,6 +49,9 @@ each_file P a b c d e f g h (suc (suc (suc (suc (suc (suc (suc (suc more))))))))
 
 pub length-array : (v : Variant) → length (array_of v) ≡ 64
 length-array v = eight (λ rank. length (array_from rank) ≡ 64) (λ a b c d e f g h. refl) (back_rank v) (home_rank_of v).eight
+
+pub men_at_start : (v : Variant) → men_on (array_of v) ≡ 32
+men_at_start v = eight (λ rank. men_on (array_from rank) ≡ 32) (λ a b c d e f g h. refl) (back_rank v) (home_rank_of v).eight
 
 -- the man on a home rank
 on_home : (rank : List Kind) → length rank ≡ 8 → (c : Colour) (file : ℕ) → file < 8 →
