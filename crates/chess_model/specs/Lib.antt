@@ -5,6 +5,7 @@ pub mod Attacked
 pub mod Census
 pub mod Claims
 pub mod Examples
+pub mod FischerArrays
 pub mod Holdings
 pub mod Laws
 pub mod Men

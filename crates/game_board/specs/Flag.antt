@@ -5,7 +5,7 @@ use Rattle.chess_model.specs.declared.man.Colour.{Colour}
 use Rattle.chess_model.specs.declared.man.Kind.TheVariants.{King}
 use Rattle.chess_model.specs.declared.man.Man.{Man}
 use Rattle.chess_model.specs.declared.variant.Variant.{Variant}
-use Rattle.chess_model.specs.declared.variant.Variant.TheVariants.{Chess, Crazyhouse, Bughouse}
+use Rattle.chess_model.specs.declared.variant.Variant.TheVariants.{Chess, Crazyhouse, Bughouse, Fischer}
 use Rattle.chess_model.specs.Placement.{Placement, opposite}
 use Rattle.chess_model.specs.Holdings.{same_colour, same_kind}
 use Rattle.fics_words.specs.declared.refusal.Refusal.{Refusal}
@@ -35,6 +35,7 @@ abbrev pub needs_men : Variant → Bool
 needs_men Chess = true
 needs_men Crazyhouse = false
 needs_men Bughouse = false
+needs_men (Fischer number) = true
 
 -- whether the caller of a flag can't win by it
 abbrev pub cannot_win : Board → Colour → ℕ → Bool

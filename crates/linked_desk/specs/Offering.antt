@@ -2,7 +2,7 @@
 use Rattle.std.specs.Prelude.{ℕ, Bool, true, ◌∷◌, [], List, Option, None, slice_get}
 use Rattle.std.specs.Option.{option_map, option_and_then}
 use Rattle.chess_model.specs.declared.variant.Variant.{Variant}
-use Rattle.chess_model.specs.declared.variant.Variant.TheVariants.{Chess, Crazyhouse, Bughouse}
+use Rattle.chess_model.specs.declared.variant.Variant.TheVariants.{Chess, Crazyhouse, Bughouse, Fischer}
 use Rattle.chess_model.specs.declared.why.Why.{Why}
 use Rattle.chess_model.specs.declared.why.Why.TheVariants as why
 use Rattle.fics_words.specs.Effect.{Cause}
@@ -72,6 +72,7 @@ lacks_half_moves (b ∷ boards) n = has_too_few b n
 abbrev pub back_by : Variant → Board → ℕ → ℕ → Board
 back_by Chess b n moment = take_back_after b n moment
 back_by Crazyhouse b n moment = take_back_after b n moment
+back_by (Fischer number) b n moment = take_back_after b n moment
 back_by Bughouse b n moment = b
 
 -- the boards after that

@@ -20,7 +20,7 @@ pub enum DeskAct {
     /// move; else nothing changes but the desk's moment. Refused with `NotPlaying`. Takes no memory.
     Acked { stamp: u32 },
     /// Offers something to all others at the desk. It takes effect where every other seat has it standing, and else it
-    /// stands and is told; an offer of a draw that may be claimed, in chess, ends the game at once. Refused with
+    /// stands and is told; an offer of a draw that may be claimed, in chess and Fischer random, ends the game at once. Refused with
     /// `NotPlaying`, `GameOver`, `NotInVariant` for a takeback and for adjourning at a pair, `TooFewMoves` for a
     /// takeback of 0 and of more half-moves than the board's list has, `NotRegistered` for adjourning where a player
     /// has no account, and then, unless a draw is claimed, `AlreadyOffered` where the seat has this very offer

@@ -2,6 +2,7 @@
 
 use crate::replay_aliases::ALIASES;
 use crate::replay_clocks::CLOCKS;
+use crate::replay_fischer::ARRAYS;
 use crate::replay_houses::HOUSES;
 use crate::replay_lists::LISTS;
 use crate::replay_logins::SESSIONS;
@@ -48,6 +49,11 @@ fn replays_clocks(rt: HostRuntime) -> Result<(), Fail> {
 #[test]
 fn replays_crazyhouse(rt: HostRuntime) -> Result<(), Fail> {
     expect_table(&rt, rt.alloc(), HOUSES)
+}
+
+#[test]
+fn replays_fischer_random(rt: HostRuntime) -> Result<(), Fail> {
+    expect_table(&rt, rt.alloc(), ARRAYS)
 }
 
 #[test]
