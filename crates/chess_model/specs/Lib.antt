@@ -8,6 +8,7 @@ pub mod Examples
 pub mod FischerArrays
 pub mod Holdings
 pub mod Laws
+pub mod Material
 pub mod Men
 pub mod LegalPositions
 pub mod MoveList

@@ -16,6 +16,7 @@ mod home_rank;
 mod homes;
 mod laws;
 mod man;
+mod material;
 mod moves;
 mod rights;
 mod square;
@@ -37,6 +38,7 @@ pub use laws::{
     words_are_answered, worked_claims, worked_examples, worked_moves, worked_results, worked_words,
 };
 pub use man::{Colour, Kind, Man};
+pub use material::material_of;
 pub use moves::{Move, MoveWord, Rejection};
 pub use rights::Rights;
 pub use square::Square;

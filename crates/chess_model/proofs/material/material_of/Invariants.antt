@@ -1,7 +1,7 @@
 use Rattle.std.proofs.Common.{◌≡◌, ◌*◌, ◌≤◌, take}
 use Rattle.std.specs.Prelude.{sum_by}
-use Rattle.style12_writer.specs.Board.{square_worth}
-use Rattle.style12_writer.proofs.board.material.Given as goal
+use Rattle.chess_model.specs.Material.{square_worth}
+use Rattle.chess_model.proofs.material.material_of.Given as goal
 
 abbrev pub invariant-loop-square : goal.invariant-loop-square
 invariant-loop-square l =
