@@ -1,5 +1,2 @@
-pub mod BoardEnds
-pub mod BoardLines
-pub mod Completeness
 pub mod LineAnswers
 pub mod Names

@@ -3,5 +3,4 @@ pub mod BoardEnds
 pub mod Endings
 pub mod Game
 pub mod GameFields
-pub mod PlayedLinesProof
 pub mod Transcript

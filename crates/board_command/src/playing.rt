@@ -7,28 +7,16 @@ ghost use Rattle.line_answers.specs.Ends.{OnReadFault, OnWriteFault};
 use crate::game::{END_OF_LINE, Game};
 use edge_traits::{Sink, Source};
 use fics_words::NoMemory;
-use line_answers::{End, LineHandler, answer_lines};
+use line_answers::{End, LineAnswerer, answer_each};
 use std::alloc::Global;
 
-impl LineHandler for Game {
-    ghost use Rattle.std.specs.Prelude.{◌≡◌, codes};
-    ghost use Rattle.board_command.specs.Transcript.{IsPlayed};
-    ghost use Rattle.board_command.specs.PlayedLinesProof.{played_lines};
+impl LineAnswerer for Game {
+    ghost use Rattle.board_command.specs.Transcript.{board_lines};
 
-    ghost reached = { IsPlayed };
-
-    ghost closed = { λ old new. new ≡ old };
-
-    ghost ending = { codes "\n\r" };
-
-    ghost lines = { played_lines };
+    ghost command = { board_lines };
 
     fn answer_line(&mut self, line: &[u8], out: &mut Vec<u8>) -> Result<bool, NoMemory> {
         self.answer_line(line, out)
-    }
-
-    fn close(&mut self) -> Result<(), NoMemory> {
-        Ok(())
     }
 
     fn ending(&self) -> &'static [u8] {
@@ -45,5 +33,5 @@ pub fn board<S: Source, K: Sink>(alloc: Global, source: &mut S, sink: &mut K) ->
     let Ok(game) = Game::new(alloc) else {
         return End::Memory;
     };
-    answer_lines(alloc, game, source, sink)
+    answer_each(alloc, game, source, sink)
 }

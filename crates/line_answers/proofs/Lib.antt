@@ -1,6 +1,9 @@
+pub mod Completeness
 pub mod Feeding
 pub mod HandlerLines
+pub mod LineCommandEnds
 pub mod Parts
 pub mod Pieces
+pub mod PlayedSteps
 pub mod Rounds
 pub mod Sending

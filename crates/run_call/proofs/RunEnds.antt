@@ -18,8 +18,9 @@ use Rattle.line_answers.specs.declared.end.End.{End}
 use Rattle.line_answers.specs.declared.end.End.TheVariants.{Done, ReadFault, WriteFault, Memory, BadLine, Spent}
 use Rattle.run_call.specs.declared.command.Command.{Command}
 use Rattle.run_call.specs.declared.command.Command.TheVariants.{Board, Replay}
-use Rattle.board_command.proofs.BoardEnds.{AnswersPart-none}
-use Rattle.board_command.proofs.Completeness.{is_complete}
+use Rattle.board_command.specs.Transcript.{board_lines}
+use Rattle.line_answers.proofs.Completeness.{is_complete}
+use Rattle.line_answers.proofs.LineCommandEnds.{AnswersPart-none}
 use Rattle.replay_command.proofs.ReplayEnds.{ReplayEnds-none, is_complete-replayed}
 
 -- ---- statuses
@@ -89,7 +90,7 @@ Keeps-same None = tt
 Keeps-same (Some bytes) = refl
 
 out_of_memory : (left written : Option (List ℕ)) (command : Command) → CommandEnds left left written written Memory command
-out_of_memory left written Board = AnswersPart-none left written
+out_of_memory left written Board = AnswersPart-none board_lines left written
 out_of_memory left written Replay = ReplayEnds-none left written
 
 pub memory_at_once : (words : List (String Global)) (left written : Option (List ℕ)) → WritesPart words left left written written Memory
@@ -101,7 +102,7 @@ memory_at_once words left written = (λ command names. out_of_memory left writte
 is_complete-command : (command : Command) (left left' written written' : Option (List ℕ)) (P Q : Type 0) (end : End) → CommandEnds left left' written written' end command
     → OnReadFault end P → OnWriteFault end Q → ¬ P → ¬ Q
     → IfSome left (λ text. length text < 2 ^ 40 → AreGood (lines_of text) command → (status_of end ≡ 0) ⊎ (status_of end ≡ 6))
-is_complete-command Board left left' written written' P Q end h p q no_read no_write = is_complete left left' written written' P Q end h p q no_read no_write
+is_complete-command Board left left' written written' P Q end h p q no_read no_write = is_complete board_lines left left' written written' P Q end h p q no_read no_write
 is_complete-command Replay left left' written written' P Q end h p q no_read no_write = is_complete-replayed left left' written written' P Q end h p q no_read no_write
 
 pub complete_at : (words : List (String Global)) (command other : Command) (left left' written written' : Option (List ℕ)) (P Q : Type 0) (end : End) (status : ℕ)
