@@ -51,7 +51,7 @@ seat Ann Ben 2 0 fischer 96
   1|fics%\x20
 3500 2 > g8f8
   2|<12> bbqnr-kr pppppppp ------n- -------- -------- ------N- PPPPPPPP BBQNRRK- B -1 0 0 1 1 3 1 Ann Ben 1 2 0 39 39 119 120 2 o-o (0:01) O-O 1
-  2|<12> bbqnrk-r pppppppp ------n- -------- -------- ------N- PPPPPPPP BBQNRRK- W -1 0 0 0 0 4 1 Ann Ben -1 2 0 39 39 119 120 3 K/g8-f8 (0:00) Kf8 1
+  2|<12> bbqnrk-r pppppppp ------n- -------- -------- ------N- PPPPPPPP BBQNRRK- W -1 0 0 0 0 4 1 Ann Ben -1 2 0 39 39 119 119 3 K/g8-f8 (0:00) Kf8 1
   2|fics%\x20\
 ";
 
