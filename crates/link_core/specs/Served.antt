@@ -19,8 +19,8 @@ use Rattle.link_core.specs.Arrivals.{inputs_of}
 use Rattle.link_core.specs.Talk.{IsShown, Talks, joined}
 
 -- what there is to tell of a link that was served: what was taken from it, and whether the end was given; the inputs
--- that were answered, the entries of the acts for them, what was to be written for each, and what the session remembered
--- then; the entries behind those; and what was written to the link
+-- that were answered, the entries of the acts for them, what was to be written for each, and what the session
+-- remembered then; the entries behind those; and what was written to the link
 pub record Dialogue : Type 0 where
   pub taken : List Sign
   pub is_ended : Bool
@@ -199,8 +199,8 @@ HasClosed old new = Both old new (λ before after. after.closed ≡ true)
 
 -- 5. The end of the reading.
 
--- why the link is read no longer: the session has quit; the end was given; the link counted a fault; at least 2^40 bytes
--- and pauses were taken; or memory ran out, of which nothing is told
+-- why the link is read no longer: the session has quit; the end was given; the link counted a fault; at least 2^40
+-- bytes and pauses were taken; or memory ran out, of which nothing is told
 abbrev pub HasEnded : LinkEnd → Dialogue → ℕ → ℕ → Type 0
 HasEnded Quit told before now = is_gone told.memory ≡ true
 HasEnded End told before now = told.is_ended ≡ true

@@ -39,12 +39,15 @@ module _ {C : Type 0} (shows : C → ℕ → Bool) (hall : TableId) (clock : C) 
   -- served its link, or of a worker that is waited for; links came as many as there are such numbers, and those that
   -- didn't come back are as many as the workers. What the pass itself made are turns of the steward, as many as the
   -- door gave Quiets
-  pub record Underway (supply : Supply) (door : Option DoorTale) (pass : PassState) (waiting : List (Due C)) : Type 0 where
+  pub record Underway (supply : Supply) (door : Option DoorTale) (pass : PassState) (waiting : List (Due C))
+      : Type 0 where
     pub here : pass.home ≡ hall
     pub first : pass.number ≡ 0
     pub owed : (due : Due C) → In due waiting → IsOwed door due
-    pub served : (j : Joined Timed Reply) → In j pass.joined → HasServed (shows clock) (supply ≡ Short) door j.number j.calls
-    pub numbers : (m : ℕ) → 0 < m → m ≤ pass.splits → In m (map joined_number pass.joined) ⊎ In m (map due_number waiting)
+    pub served : (j : Joined Timed Reply) → In j pass.joined
+        → HasServed (shows clock) (supply ≡ Short) door j.number j.calls
+    pub numbers : (m : ℕ) → 0 < m → m ≤ pass.splits
+        → In m (map joined_number pass.joined) ⊎ In m (map due_number waiting)
     pub came : IfTold door (λ tale. length tale.came ≡ pass.splits)
     pub out : IfTold door (λ tale. length tale.back + length waiting ≡ length tale.came)
     pub stewards : AreStewards pass.made

@@ -16,8 +16,8 @@ pub record ComesBack (door : DoorTale) (number : ℕ) (came : Tale) : Type 0 whe
   pub signs : link.taken ++ link.left ≡ came.left
   pub greeted : WasGreeted came link ⊎ (1 ≤ faults)
 
--- where nothing failed and memory was enough, the link of each session came back so: none was hung up unserved, and none
--- was exchanged for another
+-- where nothing failed and memory was enough, the link of each session came back so: none was hung up unserved, and
+-- none was exchanged for another
 abbrev pub EachComesBack : Type 0
 EachComesBack =
     (shows : ℕ → Bool) (end : ServeEnd) (door : DoorTale) (number : ℕ) (calls : Log) (came : Tale) → IsClean end

@@ -1,5 +1,5 @@
--- What a server promises that has served: its hall, its links, its steward, its text and its door, and how it ended. This
--- server's own.
+-- What a server promises that has served: its hall, its links, its steward, its text and its door, and how it ended.
+-- This server's own.
 use Rattle.std.specs.Prelude.{codes, ◌≡◌, ◌≢◌, ℕ, ◌+◌, ◌^◌, ◌<◌, ◌≤◌, ◌⊎◌, Bool, List, [], ◌++◌, length}
 use Rattle.std.specs.declared.option.Option.{Option}
 use Rattle.std.specs.Io.KnownBytes.{Appends}
@@ -62,15 +62,16 @@ pub record Sheet : Type 0 where
   pub written : Option (List ℕ)
   pub faults : ℕ
 
--- `ready` wasn't written out: the sink failed, which it counted, or memory ran out. Then nothing else was written, and no
--- link was taken
+-- `ready` wasn't written out: the sink failed, which it counted, or memory ran out. Then nothing else was written, and
+-- no link was taken
 pub record StopsUnready (end : ServeEnd) (count : ℕ) (before after : Sheet) : Type 0 where
   pub none_taken : count ≡ 0
   pub front : AppendsFront before.written after.written ready_text
   pub why : ((end ≡ WriteFault) × Rose before.faults after.faults) ⊎ (end ≡ Memory)
 
--- `ready` was written; links were taken until the door had none left, or failed, or 2^31 had come; and then `closed` was
--- written: all of it, but for an end of it where the sink failed, which it counted, or where that write ran out of memory
+-- `ready` was written; links were taken until the door had none left, or failed, or 2^31 had come; and then `closed`
+-- was written: all of it, but for an end of it where the sink failed, which it counted, or where that write ran out of
+-- memory
 pub record SaysClosed (end : ServeEnd) (door : Option DoorTale) (count : ℕ) (before after : Sheet) : Type 0 where
   pub none_left : IfTold door (λ tale. (tale.left ≡ []) ⊎ ((end ≡ DoorFault) ⊎ (count ≡ 2 ^ 31)))
   pub mid : Option (List ℕ)

@@ -46,7 +46,8 @@ pub record EndsWithTurn (lack : Type 0) (made : Log) : Type 0 where
 -- the entries are those of so many turns, one after the other, in each of which every act was made
 abbrev pub AreTurns : ℕ → Log → Type 0
 AreTurns zero made = made ≡ []
-AreTurns (suc n) made = (before : Log) × (entries : Log) × (moment : ℕ) × AreTurns n before × IsTurn Done moment entries × (made ≡ before ++ entries)
+AreTurns (suc n) made = (before : Log) × (entries : Log) × (moment : ℕ) × AreTurns n before
+    × IsTurn Done moment entries × (made ≡ before ++ entries)
 
 -- all entries are those of such turns, of which there are as many as the door gave Quiets, and so many more
 abbrev pub HasTurns : ℕ → Option DoorTale → Log → Type 0

@@ -12,8 +12,8 @@ use Rattle.serve_core.specs.declared.end.ServeEnd.TheVariants.{Done, DoorFault, 
 use Rattle.serve_core.specs.declared.settle.Supply.{Supply}
 use Rattle.serve_core.specs.declared.settle.Supply.TheVariants.{Short}
 
--- why no further link is taken, of so many: the door is closed and has none left, where it tells; or it counted a fault;
--- or 2^31 came
+-- why no further link is taken, of so many: the door is closed and has none left, where it tells; or it counted a
+-- fault; or 2^31 came
 abbrev pub Stopped : DoorEnd → ℕ → Option DoorTale → ℕ → ℕ → Type 0
 Stopped door_end.Closed count door before now = IfTold door (λ tale. tale.left ≡ []) × (count < 2 ^ 31)
 Stopped door_end.Failed count door before now = Rose before now × (count < 2 ^ 31)

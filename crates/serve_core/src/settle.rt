@@ -73,8 +73,8 @@ impl<L: Link + Drop, C: Clock> Host<L, C> {
         T: Threads + Wait,
         G: Gate,
         D: Doorway<Link = L>,
-        requires { Underway C.shows place.now.hall.now place.now.clock.now self.old.supply (D.tale door.old) self.old.pass
-            self.old.waiting.items }
+        requires { Underway C.shows place.now.hall.now place.now.clock.now self.old.supply (D.tale door.old)
+            self.old.pass self.old.waiting.items }
         ensures kept { Underway C.shows place.now.hall.now place.now.clock.now self.new.supply (D.tale door.new)
             self.new.pass self.new.waiting.items }
         ensures same { SameHall self.old.pass self.new.pass }
@@ -99,8 +99,8 @@ impl<L: Link + Drop, C: Clock> Host<L, C> {
         T: Threads + Wait,
         G: Gate,
         D: Doorway<Link = L>,
-        requires { Underway C.shows place.now.hall.now place.now.clock.now self.old.supply (D.tale door.old) self.old.pass
-            self.old.waiting.items }
+        requires { Underway C.shows place.now.hall.now place.now.clock.now self.old.supply (D.tale door.old)
+            self.old.pass self.old.waiting.items }
         ensures kept { Underway C.shows place.now.hall.now place.now.clock.now self.new.supply (D.tale door.new)
             self.new.pass [] }
         ensures same { SameHall self.old.pass self.new.pass }
