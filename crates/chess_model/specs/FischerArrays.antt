@@ -1,4 +1,5 @@
--- The arrays of Fischer random (FIDE Laws, Guidelines II.2) by their numbers, which are this server's own: there are 960.
+-- The arrays of Fischer random (FIDE Laws, Guidelines II.2) by their numbers, which are this server's own: there are
+-- 960.
 use Rattle.std.specs.Prelude.{◌≡◌, ℕ, ◌+◌, ◌-◌, ◌*◌, ◌/◌, ◌%◌, ◌<◌, zero, suc, List, [], ◌∷◌, length, map, replicate, reverse, take_while, not, Option, Some, None, slice_index_or, slice_set, unwrap_or}
 use Rattle.std.specs.List.{count_by}
 use Rattle.chess_model.specs.declared.man.Kind.{Kind}
@@ -60,8 +61,8 @@ first_file k rank = length (take_while (λ j. not (same_kind j k)) rank)
 abbrev pub last_file : Kind → List Kind → ℕ
 last_file k rank = 7 - first_file k (reverse rank)
 
--- what the Laws ask of an array: one king with a rook on each side, two bishops on squares of different colours, a queen,
--- and two knights
+-- what the Laws ask of an array: one king with a rook on each side, two bishops on squares of different colours, a
+-- queen, and two knights
 pub record IsArrayRank (rank : List Kind) : Type 0 where
   pub files : length rank ≡ 8
   pub kings : count_on King rank ≡ 1

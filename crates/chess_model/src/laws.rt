@@ -93,8 +93,9 @@ pub fn third_times_are_counted()
     ensures { ThirdTimes }
 {}
 
-/// No legal list of half-moves makes or loses a man, by colour and kind: in chess and in Fischer random with the captured men, in crazyhouse
-/// with both hands, and in a pair of boards with the hands of both boards. A promoted man counts as a pawn.
+/// No legal list of half-moves makes or loses a man, by colour and kind: in chess and in Fischer random with the
+/// captured men, in crazyhouse with both hands, and in a pair of boards with the hands of both boards. A promoted man
+/// counts as a pawn.
 pub fn census_stays()
     ensures { CensusStays }
 {}
@@ -114,7 +115,7 @@ pub fn worked_words()
     ensures { WordExamples }
 {}
 
-/// Mates, stalemates, and positions that are neither, in the three variants.
+/// Mates, stalemates, and positions that are neither, in chess, crazyhouse and bughouse.
 pub fn worked_results()
     ensures { ResultExamples }
 {}

@@ -34,7 +34,8 @@ unfolding words_of terms_of number_of
 example_all = refl
 
 example_fischer :
-    seek_of (codes "5 0 fischer 518") ≡ Ok (Seek (record { minutes = 5; increment = 0; variant = Fischer 518; colour = None }))
+    seek_of (codes "5 0 fischer 518")
+    ≡ Ok (Seek (record { minutes = 5; increment = 0; variant = Fischer 518; colour = None }))
 unfolding words_of terms_of number_of
 example_fischer = refl
 

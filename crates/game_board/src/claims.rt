@@ -26,8 +26,9 @@ fn has_claims(variant: Variant) -> bool
 }
 
 impl GameBoard {
-    /// Claims a draw, in chess and in Fischer random alone: why the game is one, by fifty moves of each player without a pawn's move and
-    /// without a capture, or else by a position that stands at least for the third time. Refuses with `NothingToClaim`.
+    /// Claims a draw, in chess and in Fischer random alone: why the game is one, by fifty moves of each player without
+    /// a pawn's move and without a capture, or else by a position that stands at least for the third time. Refuses with
+    /// `NothingToClaim`.
     #[tactic(auto, unfolding(crate::specs::Claim::claim_answer))]
     pub fn claim_draw(&self) -> Result<Why, Refusal>
         ensures { result ≡ claim_answer self.now }

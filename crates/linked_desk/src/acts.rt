@@ -20,10 +20,10 @@ pub enum DeskAct {
     /// move; else nothing changes but the desk's moment. Refused with `NotPlaying`. Takes no memory.
     Acked { stamp: u32 },
     /// Offers something to all others at the desk. It takes effect where every other seat has it standing, and else it
-    /// stands and is told; an offer of a draw that may be claimed, in chess and Fischer random, ends the game at once. Refused with
-    /// `NotPlaying`, `GameOver`, `NotInVariant` for a takeback and for adjourning at a pair, `TooFewMoves` for a
-    /// takeback of 0 and of more half-moves than the board's list has, `NotRegistered` for adjourning where a player
-    /// has no account, and then, unless a draw is claimed, `AlreadyOffered` where the seat has this very offer
+    /// stands and is told; an offer of a draw that may be claimed, in chess and Fischer random, ends the game at once.
+    /// Refused with `NotPlaying`, `GameOver`, `NotInVariant` for a takeback and for adjourning at a pair, `TooFewMoves`
+    /// for a takeback of 0 and of more half-moves than the board's list has, `NotRegistered` for adjourning where a
+    /// player has no account, and then, unless a draw is claimed, `AlreadyOffered` where the seat has this very offer
     /// standing, `FeedFull` where the seat has made 256 offers and declines.
     Make { offer: Offer },
     /// Accepts the earliest offer of another seat that the own one lacks. Refused with `NotPlaying`, `GameOver`, then

@@ -107,8 +107,18 @@ const ROWS: &[Row] = &[
         FORBIDDEN,
     ),
     // two squares stand for castling where the king's home is on file e, and for a step of the king elsewhere
-    Row(Variant::Fischer(518), "g1f3 g8f6 g2g3 g7g6 f1g2 f8g7 e1g1", 7, None),
-    Row(Variant::Fischer(468), "f1g1", 0, Some(Rejection::CannotReach)),
+    Row(
+        Variant::Fischer(518),
+        "g1f3 g8f6 g2g3 g7g6 f1g2 f8g7 e1g1",
+        7,
+        None,
+    ),
+    Row(
+        Variant::Fischer(468),
+        "f1g1",
+        0,
+        Some(Rejection::CannotReach),
+    ),
     // two knights reach d2
     Row(
         CHESS,

@@ -137,8 +137,18 @@ fn names_variants(rt: HostRuntime) {
         assert_eq!(rt; read_variant(word.as_bytes()), Some(variant));
     }
     for word in [
-        "", "Chess", "chess ", "suicide", "bug", "fischer", "fischer ", "fischer 960", "fischer 01",
-        "fischer 65536", "fischer 5a", "fischer\u{e9}",
+        "",
+        "Chess",
+        "chess ",
+        "suicide",
+        "bug",
+        "fischer",
+        "fischer ",
+        "fischer 960",
+        "fischer 01",
+        "fischer 65536",
+        "fischer 5a",
+        "fischer\u{e9}",
     ] {
         assert_eq!(rt; read_variant(word.as_bytes()), None, "{word}");
     }
