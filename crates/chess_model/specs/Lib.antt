@@ -7,6 +7,7 @@ pub mod Claims
 pub mod Examples
 pub mod Holdings
 pub mod Laws
+pub mod Material
 pub mod Men
 pub mod LegalPositions
 pub mod MoveList

@@ -13,6 +13,7 @@ mod face;
 mod hand;
 mod laws;
 mod man;
+mod material;
 mod moves;
 mod rights;
 mod square;
@@ -33,6 +34,7 @@ pub use laws::{
     worked_claims, worked_examples, worked_moves, worked_results, worked_words,
 };
 pub use man::{Colour, Kind, Man};
+pub use material::material_of;
 pub use moves::{Move, MoveWord, Rejection};
 pub use rights::Rights;
 pub use square::Square;
