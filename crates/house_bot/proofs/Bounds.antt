@@ -1,6 +1,6 @@
 -- No value is as great as the bounds between which values are looked for.
 use Rattle.std.proofs.Common.{arith, ◌≡◌, ◌≢◌, ℕ, ℤ, zero, suc, pos, neg_ℤ, ◌+◌, ◌*◌, ◌≤◌, ◌-ℤ◌, ◌≤ℤ◌, Bool, true, false, cond, List, [], ◌∷◌, ◌++◌, map, fold, length, Option, Some, None, refl, ◌∙◌}
-use Rattle.std.specs.Prelude.{sum_by, unwrap_or}
+use Rattle.std.specs.Prelude.{unwrap_or}
 use Rattle.std.specs.Int.{int_max}
 use Rattle.std.specs.List.{filter}
 use Rattle.std.proofs.lemmas.Int.{ints, clamps}
@@ -28,7 +28,7 @@ use Rattle.chess_model.specs.AllMoves.{board_moves, drop_moves, allowed_moves}
 use Rattle.chess_model.specs.Result.{result}
 use Rattle.chess_model.proofs.NoMoreMen.{one_if, all_men-next, length-place_after}
 use Rattle.chess_model.proofs.TestsDecide.{Decides-allowed}
-use Rattle.house_bot.specs.Value.{hand_worth, hand_material, material, balance, greatest, end_value, value, move_value}
+use Rattle.house_bot.specs.Value.{hand_material, material, balance, greatest, end_value, value, move_value}
 
 -- far within the widest window
 pub record IsWithin (z : ℤ) : Type 0 where

@@ -1,7 +1,7 @@
 -- The first best of a list of moves.
-use Rattle.std.proofs.Common.{arith, ◌≡◌, ◌≢◌, ℕ, ℤ, pos, neg_ℤ, ◌<◌, ◌<ℤ◌, ◌≤ℤ◌, Bool, true, false, cond, List, [], ◌∷◌, map, length, Option, Some, None, refl, sym, ap, ◌∙◌}
+use Rattle.std.proofs.Common.{arith, ◌≡◌, ◌≢◌, ℤ, pos, neg_ℤ, ◌<ℤ◌, ◌≤ℤ◌, Bool, true, false, cond, List, [], ◌∷◌, Option, Some, None, refl, sym, ap, ◌∙◌}
 use Rattle.std.specs.Prelude.{int_lt}
-use Rattle.std.specs.Int.{int_max, int_min}
+use Rattle.std.specs.Int.{int_max}
 use Rattle.std.specs.List.{find}
 use Rattle.std.specs.Ordering.{int_eq, is_eq}
 use Rattle.std.specs.declared.cmp.Ordering.TheVariants.{Less, Equal, Greater}
@@ -9,10 +9,9 @@ use Rattle.std.proofs.lemmas.Int.{ints, clamps, by_lt_z}
 use Rattle.std.proofs.lemmas.Bool.Decides.{Decides-int_eq}
 use Rattle.chess_model.specs.declared.moves.Move.{Move}
 use Rattle.house_bot.specs.declared.chosen.Choice.{Choice}
-use Rattle.house_bot.specs.Value.{greatest}
 use Rattle.house_bot.specs.Searching.{cut, better, best_of}
 use Rattle.house_bot.proofs.Cuts.{int_lt-yes, int_lt-no}
-use Rattle.house_bot.proofs.Raises.{top, raised_by-grows, top-greatest}
+use Rattle.house_bot.proofs.Raises.{top, raised_by-grows}
 
 -- the choice of a move
 abbrev chosen : Move → ℤ → Choice

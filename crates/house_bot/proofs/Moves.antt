@@ -1,5 +1,5 @@
 -- What is listed as allowed is allowed.
-use Rattle.std.proofs.Common.{◌≡◌, ℕ, ◌<◌, ◌++◌, List, length, get_or, true, refl}
+use Rattle.std.proofs.Common.{◌≡◌, ℕ, ◌<◌, ◌++◌, List, length, get_or, true}
 use Rattle.std.specs.Prelude.{All}
 use Rattle.std.proofs.lemmas.List.Elements.{All-same, All-get_or, filter_passes}
 use Rattle.chess_model.specs.declared.moves.Move.{Move}

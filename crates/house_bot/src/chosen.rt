@@ -38,9 +38,8 @@ fn better(old: Choice, m: &Move, worth: i32) -> Choice
 /// that reaches it; no move where `depth` is 0 or none is allowed. The position is afterwards as it was before, also
 /// where memory runs out.
 ///
-/// The value counts in pawns: a mate is -(100,000 + the half-moves left) for the player who is mated, a stalemate 0, and
-/// else what men are worth at the end, own less the other's. The time grows with the depth as with the number of lists
-/// of half-moves of half that length or more.
+/// The value counts in pawns, from the side of the player to move: a mate is -(100,000 + the half-moves left), a
+/// stalemate 0, and else it is what the own men are worth at the end less what the other's are.
 pub fn best(alloc: Global, p: &mut Position, depth: u8) -> Result<(i32, Option<Move>), NoMemory>
     requires { p.old.variant ≢ Variant.Bughouse }
     ensures same { p.new ≡ p.old }
@@ -53,6 +52,7 @@ pub fn best(alloc: Global, p: &mut Position, depth: u8) -> Result<(i32, Option<M
     }
     p.has_two_sets();
     let moves = p.moves(alloc)?;
+    // never so outside bughouse, where a game goes on; it costs nothing to ask
     if moves.is_empty() {
         return Ok((0, None));
     }

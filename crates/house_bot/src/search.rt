@@ -23,6 +23,7 @@ fn search(alloc: Global, p: &mut Position, depth: u8, low: i32, high: i32) -> Re
         return Ok(worth.clamp(low, high));
     }
     let moves = p.moves(alloc)?;
+    // in bughouse a player without a move may wait
     if moves.is_empty() {
         return Ok(0_i32.clamp(low, high));
     }

@@ -1,6 +1,6 @@
-use Rattle.std.proofs.Common.{arith, rules, ◌≡◌, ◌≢◌, ◌⊎◌, inl, inr, ⊎_elim, ℕ, ℤ, suc, pos, ◌+◌, ◌-◌, ◌<◌, ◌≤◌, ◌<ℤ◌, ◌≤ℤ◌, List, [], length, take, None, refl, sym, ap, subst, ◌∙◌}
+use Rattle.std.proofs.Common.{arith, rules, ◌≡◌, ◌≢◌, ◌⊎◌, inl, inr, ℕ, ℤ, pos, ◌-◌, ◌<◌, ◌≤◌, List, [], length, None, refl, sym, ap, subst, ◌∙◌}
 use Rattle.std.proofs.lemmas.Bool.Decides.{nat_tests}
-use Rattle.std.proofs.lemmas.Int.{ints, clamps, to_z-of_z}
+use Rattle.std.proofs.lemmas.Int.{ints, to_z-of_z}
 use Rattle.std.proofs.lemmas.List.{take_all}
 use Rattle.chess_model.specs.declared.moves.Move.{Move}
 use Rattle.chess_model.specs.declared.variant.Variant.TheVariants.{Bughouse}
@@ -8,7 +8,7 @@ use Rattle.chess_model.specs.Position.{Position}
 use Rattle.chess_model.specs.Allowed.{Allowed}
 use Rattle.chess_model.specs.AllMoves.{allowed_moves}
 use Rattle.house_bot.specs.declared.chosen.Choice.{Choice}
-use Rattle.house_bot.specs.Value.{value, move_value, best_move}
+use Rattle.house_bot.specs.Value.{move_value, best_move}
 use Rattle.house_bot.specs.Searching.{cut, GoesOn, IsOver, better, best_of}
 use Rattle.house_bot.proofs.Bounds.{IsTwoSets}
 use Rattle.house_bot.proofs.Choices.{no_choice}

@@ -1,14 +1,13 @@
-use Rattle.std.proofs.Common.{arith, rules, ◌≡◌, ℕ, ◌+◌, ◌-◌, ◌<◌, ◌≤◌, ℤ, pos, neg_ℤ, ◌-ℤ◌, ◌<ℤ◌, ◌≤ℤ◌, Bool, true, false, cond, List, length, take, get_or, map, suc, sym, ap, subst, ◌∙◌}
-use Rattle.std.specs.Int.{int_max, int_min}
+use Rattle.std.proofs.Common.{arith, rules, ◌≡◌, ℕ, ◌+◌, ◌-◌, ◌<◌, ℤ, pos, neg_ℤ, ◌<ℤ◌, ◌≤ℤ◌, Bool, true, false, List, length, take, sym, ap, subst, ◌∙◌}
+use Rattle.std.specs.Int.{int_min}
 use Rattle.std.proofs.lemmas.Bool.Decides.{nat_tests}
 use Rattle.std.proofs.lemmas.Int.{ints, clamps, to_z-of_z}
 use Rattle.chess_model.specs.declared.moves.Move.{Move}
 use Rattle.chess_model.specs.Position.{Position}
 use Rattle.chess_model.specs.Allowed.{Allowed}
 use Rattle.chess_model.specs.AllMoves.{allowed_moves}
-use Rattle.chess_model.specs.Next.{next}
 use Rattle.variant_rules.specs.Undos.{IsUndoOf}
-use Rattle.house_bot.specs.Value.{value, move_value, greatest}
+use Rattle.house_bot.specs.Value.{value, move_value}
 use Rattle.house_bot.specs.Searching.{cut, IsWindow, GoesOn, is_tried, raised, raised_by}
 use Rattle.house_bot.proofs.Cuts.{cut-neg, negated, negated_fits, IsBound-low, IsBound-high, IsBound-cut}
 use Rattle.house_bot.proofs.Moves.{allowed_at}

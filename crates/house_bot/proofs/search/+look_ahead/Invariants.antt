@@ -1,4 +1,4 @@
-use Rattle.std.proofs.Common.{◌≡◌, ℕ, ◌+◌, ◌*◌, ◌<ℤ◌, ◌≤ℤ◌, take}
+use Rattle.std.proofs.Common.{◌≡◌, ◌+◌, ◌*◌, ◌<ℤ◌, ◌≤ℤ◌, take}
 use Rattle.house_bot.specs.Value.{move_value}
 use Rattle.house_bot.specs.Searching.{is_tried, raised_by}
 use Rattle.house_bot.proofs.search.+look_ahead.Given as goal
