@@ -9,7 +9,7 @@ use Rattle.chess_model.specs.declared.variant.Terms.{Terms}
 use Rattle.chess_model.specs.declared.variant.Variant.{Variant}
 use Rattle.chess_model.specs.declared.variant.Variant.TheVariants.{Chess, Crazyhouse, Bughouse, Fischer}
 use Rattle.chess_model.specs.Allowed.{HasDrops, IsLegal}
-use Rattle.chess_model.specs.Census.{men_of, one_set, captured}
+use Rattle.chess_model.specs.Census.{men_of, one_set}
 use Rattle.chess_model.specs.Holdings.{count_in}
 use Rattle.chess_model.specs.MoveList.{HalfMove}
 use Rattle.chess_model.specs.Position.{Position, position_after, hand_of_side}
