@@ -60,8 +60,8 @@ pub fn lists_keep_away(lobby: &Lobby, session: u32, to: HandleKey, number: u16)
     ensures { KeepAway lobby.now session to number }
 {}
 
-/// A GoBoard that is done goes to the first of the session's places whose opponent, in the other seat of the same board,
-/// is the named player.
+/// A GoBoard that is done goes to the first of the session's places whose opponent, in the other seat of the same
+/// board, is the named player.
 pub fn go_board_meets_the_player(lobby: &Lobby, session: u32, name: HandleKey)
     ensures { answer_of (go_board_effect lobby.now session name) ≡ Ok LobbyReply.Done
         → MeetsPlayer lobby.now (state_of lobby.now (go_board_effect lobby.now session name)) session name }
