@@ -1,5 +1,5 @@
 -- What the definition of a value gives in each case, and that a game that has ended has no moves.
-use Rattle.std.proofs.Common.{arith, ◌≡◌, ◌≢◌, ℕ, ℤ, zero, suc, ◌<◌, Bool, true, false, cond, List, [], ◌∷◌, ◌++◌, map, Some, None, refl, sym, ap, ◌∙◌}
+use Rattle.std.proofs.Common.{arith, ◌≡◌, ◌≢◌, ℕ, ℤ, zero, suc, ◌<◌, Bool, true, false, cond, List, [], ◌∷◌, ◌++◌, map, Some, None, refl, sym, ap, ◌∙◌, inl, inr, length}
 use Rattle.std.specs.Prelude.{unwrap_or}
 use Rattle.std.specs.Bool.{Decides}
 use Rattle.std.specs.List.{filter, find}
@@ -14,6 +14,8 @@ use Rattle.chess_model.specs.Allowed.{Allowed}
 use Rattle.chess_model.specs.Tests.{is_allowed}
 use Rattle.chess_model.specs.AllMoves.{board_moves, drop_moves, allowed_moves}
 use Rattle.chess_model.specs.Result.{result, is_end, HasAnswer, IsState}
+use Rattle.chess_model.proofs.Among.{Among}
+use Rattle.chess_model.proofs.MovesListed.{Among-allowed}
 use Rattle.chess_model.proofs.StatesTold.{state_told}
 use Rattle.chess_model.proofs.TestsDecide.{Decides-allowed}
 use Rattle.house_bot.specs.Value.{balance, greatest, end_value, value, move_value, best_move}
@@ -34,9 +36,16 @@ value-suc : (e : ℕ) (p : Position) → None ≡ end_value (result p) (suc e) �
 unfolding value
 value-suc e p none = sym (ap (λ o. unwrap_or o (greatest (map (move_value e p) (allowed_moves p)))) none)
 
+going : (s : State) (d : ℕ) → None ≡ end_value s d → is_end s ≡ false
+going Mate d e = absurd (let never : None ≡ end_value Mate d = e in cc)
+going Stalemate d e = absurd (let never : None ≡ end_value Stalemate d = e in cc)
+going Check d e = refl
+going Safe d e = refl
+
 pub goes_on : (d : ℕ) (p : Position) → 0 < d → None ≡ end_value (result p) d → GoesOn d p
 goes_on d p left none = record {
   left = left;
+  goes = going (result p) d none;
   best = λ e same.
       ap (λ n. value n p) (sym same) ∙ value-suc e p (none ∙ ap (end_value (result p)) (sym same));
 }
@@ -74,6 +83,26 @@ stuck p Safe other h e = absurd (let no : false ≡ true = e in cc)
 -- a game that has ended, but in bughouse, has no moves
 pub ended_has_no_moves : (p : Position) → p.variant ≢ Bughouse → is_end (result p) ≡ true → allowed_moves p ≡ []
 ended_has_no_moves p other e = stuck p (result p) other (state_told p) e
+
+answered : (p : Position) (s : State) → p.variant ≢ Bughouse → IsState p s → is_end s ≡ false → HasAnswer p.variant p
+answered p Mate other h e = absurd (let never : true ≡ false = e in cc)
+answered p Stalemate other h e = absurd (let never : true ≡ false = e in cc)
+answered p Check other h e = h.1
+answered p Safe other h e = elim h.1 [ inl answer ↦ answer | inr waits ↦ absurd (other waits) ]
+
+some_move : (v : Variant) (p : Position) → v ≢ Bughouse → HasAnswer v p → (m : Move) × Allowed p m
+some_move Bughouse p other h = absurd (other refl)
+some_move _ p other h = h
+
+some_among : (m : Move) (ms : List Move) → Among m ms → 0 < length ms
+some_among m [] a = absurd a
+some_among m (x ∷ ms) a = omega arith
+
+-- and one that goes on has some
+pub has_moves : (p : Position) → p.variant ≢ Bughouse → is_end (result p) ≡ false → 0 < length (allowed_moves p)
+has_moves p other e =
+    let t = some_move p.variant p other (answered p (result p) other (state_told p) e) in
+    some_among t.0 (allowed_moves p) (Among-allowed p t.0 t.1)
 
 -- with no half-move to look at, or with no allowed one, there is no best move
 pub best_move-zero : (p : Position) → best_move 0 p ≡ None

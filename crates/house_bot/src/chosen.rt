@@ -52,10 +52,6 @@ pub fn best(alloc: Global, p: &mut Position, depth: u8) -> Result<(i32, Option<M
     }
     p.has_two_sets();
     let moves = p.moves(alloc)?;
-    // never so outside bughouse, where a game goes on; it costs nothing to ask
-    if moves.is_empty() {
-        return Ok((0, None));
-    }
     let mut choice = Choice {
         worth: -TOP,
         what: None,

@@ -15,7 +15,7 @@ use Rattle.house_bot.proofs.Choices.{no_choice}
 use Rattle.house_bot.proofs.Moves.{allowed_at}
 use Rattle.house_bot.proofs.Raises.{greatest_none}
 use Rattle.house_bot.proofs.Roots.{IsOpen, IsFound, turn_chooses, turn_stays_open, found, no_elements}
-use Rattle.house_bot.proofs.Values.{ended_has_no_moves, best_move-zero, best_move-none}
+use Rattle.house_bot.proofs.Values.{ended_has_no_moves, has_moves, best_move-zero, best_move-none}
 use Rattle.house_bot.proofs.chosen.best.Goals as goal
 use mir.Syntax.{w32}
 use mir.Val.{SFits, to_z, of_z}
@@ -37,20 +37,6 @@ pub returns-in-Some-clause-none : goal.returns-in-Some-clause-none
 returns-in-Some-clause-none c =
     let p : Position = c.args.p.now in
     (λ e. over c.args.depth p c.requires c.in-Some.ensures.over, λ h. refl)
-
-pub returns-then-is_empty-clause-value : goal.returns-then-is_empty-clause-value
-returns-then-is_empty-clause-value c =
-    let p : Position = c.args.p.now in
-    let ahead : GoesOn c.args.depth p = c.in_default.ensures.open in
-    let e = ahead.best (c.args.depth - 1) (omega (arith, ahead.left)) in
-    let none : length c.in_ok-moves.moves.items ≡ 0 = grind (arith, nat_tests, c.is_empty.ensures, c.if-is_empty.true, c.in_ok-moves.moves.ok.0) in
-    sym (e ∙ greatest_none (move_value (c.args.depth - 1) p) (allowed_moves p) (sym (ap (λ (l : List Move). length l) c.in_ok-moves.ensures) ∙ none))
-
-pub returns-then-is_empty-clause-first : goal.returns-then-is_empty-clause-first
-returns-then-is_empty-clause-first c =
-    let p : Position = c.args.p.now in
-    let none : length c.in_ok-moves.moves.items ≡ 0 = grind (arith, nat_tests, c.is_empty.ensures, c.if-is_empty.true, c.in_ok-moves.moves.ok.0) in
-    sym (best_move-none c.args.depth p (no_elements (allowed_moves p) (sym (ap (λ (l : List Move). length l) c.in_ok-moves.ensures) ∙ none)))
 
 pub loop-m-init : goal.loop-m-init
 loop-m-init c = record { same = refl; choice = refl; least = omega (arith, ints); below = omega (arith, ints) }
@@ -128,8 +114,7 @@ returns-clause-value c =
     let past : length ms ≤ c.loop-m.m-index = search rules in
     let chosen : choice ≡ best_of (move_value d p) no_choice (allowed_moves p) =
     c.loop-m.invariant.choice ∙ ap (λ (l : List Move). best_of (move_value d p) no_choice l) (take_all c.loop-m.m-index ms past ∙ listed) in
-    let some : 0 < length c.in_ok-moves.moves.items = grind (arith, nat_tests, c.is_empty.ensures, c.if-is_empty.false, c.in_ok-moves.moves.ok.0) in
-    let some_allowed : 0 < length (allowed_moves p) = omega (arith, some, ap (λ (l : List Move). length l) c.in_ok-moves.ensures) in
+    let some_allowed : 0 < length (allowed_moves p) = has_moves p c.requires ahead.goes in
     let two : IsTwoSets p = record {
       variant = c.requires;
       squares = c.has_two_sets.ensures.squares;
@@ -153,8 +138,7 @@ returns-clause-first c =
     let past : length ms ≤ c.loop-m.m-index = search rules in
     let chosen : choice ≡ best_of (move_value d p) no_choice (allowed_moves p) =
     c.loop-m.invariant.choice ∙ ap (λ (l : List Move). best_of (move_value d p) no_choice l) (take_all c.loop-m.m-index ms past ∙ listed) in
-    let some : 0 < length c.in_ok-moves.moves.items = grind (arith, nat_tests, c.is_empty.ensures, c.if-is_empty.false, c.in_ok-moves.moves.ok.0) in
-    let some_allowed : 0 < length (allowed_moves p) = omega (arith, some, ap (λ (l : List Move). length l) c.in_ok-moves.ensures) in
+    let some_allowed : 0 < length (allowed_moves p) = has_moves p c.requires ahead.goes in
     let two : IsTwoSets p = record {
       variant = c.requires;
       squares = c.has_two_sets.ensures.squares;
@@ -175,8 +159,7 @@ returns-clause-none c =
     let past : length ms ≤ c.loop-m.m-index = search rules in
     let chosen : choice ≡ best_of (move_value d p) no_choice (allowed_moves p) =
     c.loop-m.invariant.choice ∙ ap (λ (l : List Move). best_of (move_value d p) no_choice l) (take_all c.loop-m.m-index ms past ∙ listed) in
-    let some : 0 < length c.in_ok-moves.moves.items = grind (arith, nat_tests, c.is_empty.ensures, c.if-is_empty.false, c.in_ok-moves.moves.ok.0) in
-    let some_allowed : 0 < length (allowed_moves p) = omega (arith, some, ap (λ (l : List Move). length l) c.in_ok-moves.ensures) in
+    let some_allowed : 0 < length (allowed_moves p) = has_moves p c.requires ahead.goes in
     let two : IsTwoSets p = record {
       variant = c.requires;
       squares = c.has_two_sets.ensures.squares;
