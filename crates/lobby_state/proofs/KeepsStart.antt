@@ -8,7 +8,7 @@ use Rattle.std.proofs.lemmas.List.Elements.{All-set, All-push, All-filter, All-w
 use Rattle.std.proofs.lemmas.Option.{slice_get_within}
 use Rattle.chess_model.specs.declared.variant.Terms.{Terms}
 use Rattle.chess_model.specs.declared.variant.Variant.{Variant}
-use Rattle.chess_model.specs.declared.variant.Variant.TheVariants.{Chess, Crazyhouse, Bughouse}
+use Rattle.chess_model.specs.declared.variant.Variant.TheVariants.{Chess, Crazyhouse, Bughouse, Fischer}
 use Rattle.fics_words.specs.Effect.{unless}
 use Rattle.fics_words.specs.Handle.{key_of}
 use Rattle.fics_words.specs.Seats.{plays_as, seat_list, seat_number}
@@ -93,6 +93,7 @@ boards_by : (variant : Variant) (seats : Seats) → FitsVariant variant seats �
 boards_by Bughouse seats h = h
 boards_by Chess seats h = h
 boards_by Crazyhouse seats h = h
+boards_by (Fischer n) seats h = h
 
 in_seat_session : (desk serial : ℕ) (number : Option ℕ) (m : Member) → (in_seat desk serial number m).session ≡ m.session
 in_seat_session desk serial None m = refl
