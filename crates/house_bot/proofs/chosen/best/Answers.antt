@@ -1,5 +1,4 @@
 use Rattle.std.proofs.Common.{arith, rules, ◌≡◌, ◌≢◌, ◌⊎◌, inl, inr, ℕ, ℤ, pos, ◌-◌, ◌<◌, ◌≤◌, List, [], length, None, refl, sym, ap, subst, ◌∙◌}
-use Rattle.std.proofs.lemmas.Bool.Decides.{nat_tests}
 use Rattle.std.proofs.lemmas.Int.{ints, to_z-of_z}
 use Rattle.std.proofs.lemmas.List.{take_all}
 use Rattle.chess_model.specs.declared.moves.Move.{Move}
@@ -13,8 +12,7 @@ use Rattle.house_bot.specs.Searching.{cut, GoesOn, IsOver, better, best_of}
 use Rattle.house_bot.proofs.Bounds.{IsTwoSets}
 use Rattle.house_bot.proofs.Choices.{no_choice}
 use Rattle.house_bot.proofs.Moves.{allowed_at}
-use Rattle.house_bot.proofs.Raises.{greatest_none}
-use Rattle.house_bot.proofs.Roots.{IsOpen, IsFound, turn_chooses, turn_stays_open, found, no_elements}
+use Rattle.house_bot.proofs.Roots.{IsOpen, IsFound, turn_chooses, turn_stays_open, found}
 use Rattle.house_bot.proofs.Values.{ended_has_no_moves, has_moves, best_move-zero, best_move-none}
 use Rattle.house_bot.proofs.chosen.best.Goals as goal
 use mir.Syntax.{w32}
