@@ -40,7 +40,7 @@ use Rattle.pgn_book.proofs.Laying.{allowed_at}
 -- ---- the bytes of pretty texts
 
 -- a byte of a word that neither praises nor blames
-is_plain : ℕ → Bool
+pub is_plain : ℕ → Bool
 is_plain b = is_word_byte b && not (is_praise b)
 
 -- a byte with which no number and no result begins
@@ -48,9 +48,9 @@ is_head : ℕ → Bool
 is_head b = not (is_digit b) && not (is_among (49 ∷ 48 ∷ 42 ∷ []) b)
 
 -- at most so many plain bytes
-record IsPlain (text : List ℕ) (n : ℕ) : Type 0 where
-  bytes : list_all is_plain text ≡ true
-  most : length text ≤ n
+pub record IsPlain (text : List ℕ) (n : ℕ) : Type 0 where
+  pub bytes : list_all is_plain text ≡ true
+  pub most : length text ≤ n
 
 all-append : (f : ℕ → Bool) (xs ys : List ℕ) → list_all f xs ≡ true → list_all f ys ≡ true → list_all f (xs ++ ys) ≡ true
 all-append f [] ys h g = g
@@ -166,12 +166,12 @@ origin_plain shown from Queen h = piece_origin shown from Queen h
 origin_plain shown from King h = piece_origin shown from King h
 
 -- a move between squares of the board
-abbrev IsOnSquares : Move → Type 0
+abbrev pub IsOnSquares : Move → Type 0
 IsOnSquares (move.Plain a b promo) = (a < 64) × (b < 64)
 IsOnSquares (move.Castle long) = Unit {0}
 IsOnSquares (move.Drop k to) = to < 64
 
-allowed_on_squares : (p : Position) (m : Move) → Allowed p m → IsOnSquares m
+pub allowed_on_squares : (p : Position) (m : Move) → Allowed p m → IsOnSquares m
 allowed_on_squares p (move.Plain a b promo) h = (h.move.from, h.move.to)
 allowed_on_squares p (move.Castle long) h = tt
 allowed_on_squares p (move.Drop k to) h = h.move.square
@@ -193,7 +193,7 @@ move_plain shown (move.Drop k to) h =
     longer (letter_of k ∷ 64 ∷ square_text to) 4 8 (omega arith)
     (join (letter_of k ∷ []) (64 ∷ square_text to) 1 3 (one (letter_of k) (man_plain k)) (join (64 ∷ []) (square_text to) 1 2 at_plain (square_plain to h)))
 
-pretty_plain : (shown : Shown) → IsOnSquares shown.what → IsPlain (pretty_of shown) 9
+pub pretty_plain : (shown : Shown) → IsOnSquares shown.what → IsPlain (pretty_of shown) 9
 pretty_plain shown h = join (pretty_move shown shown.what) (mark_text shown.after) 8 1 (move_plain shown shown.what h) (mark_plain shown.after)
 
 -- the first byte
@@ -280,7 +280,7 @@ all-reverse (b ∷ text) h =
 unpraised : (text : List ℕ) → list_all is_plain text ≡ true → without_praise text ≡ text
 unpraised text h = ap reverse (no_leading (reverse text) (all-reverse text h)) ∙ reverse-reverse text
 
-plain_word : (text : List ℕ) → list_all is_plain text ≡ true → list_all is_word_byte text ≡ true
+pub plain_word : (text : List ℕ) → list_all is_plain text ≡ true → list_all is_word_byte text ≡ true
 unfolding is_plain
 plain_word [] h = refl
 plain_word (b ∷ text) h =
@@ -308,7 +308,7 @@ digits_test = record {
   more = λ b ds r h. ap (λ (t : Bool). t && list_all is_digit ds) (from_range b r.0 r.1) ∙ h;
 }
 
-decimal_digits : (n : ℕ) → n < 1000 → list_all is_digit (decimal n) ≡ true
+pub decimal_digits : (n : ℕ) → n < 1000 → list_all is_digit (decimal n) ≡ true
 decimal_digits n h = digits_decimal (numerals_by_value (λ ds. list_all is_digit ds ≡ true) digits_test) n (omega arith)
 
 any_digit : (l d u s : Bool) → d ≡ true → ((l || (d || u)) || s) ≡ true
@@ -316,7 +316,7 @@ any_digit true d u s h = refl
 any_digit false true u s h = refl
 any_digit false false u s h = cc
 
-digits_word : (text : List ℕ) → list_all is_digit text ≡ true → list_all is_word_byte text ≡ true
+pub digits_word : (text : List ℕ) → list_all is_digit text ≡ true → list_all is_word_byte text ≡ true
 unfolding is_word_byte
 digits_word [] h = refl
 digits_word (b ∷ text) h =

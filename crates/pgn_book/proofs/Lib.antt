@@ -5,3 +5,5 @@ pub mod GamesTold
 pub mod ExportRead
 pub mod PiecesFound
 pub mod GamesFound
+pub mod Cuts
+pub mod LinesFit

@@ -23,7 +23,8 @@ result_text Open = codes "*"
 
 abbrev pub is_result : List ℕ → Bool
 is_result word =
-    bytes_eq word (result_text White) || (bytes_eq word (result_text Black) || (bytes_eq word (result_text Draw) || bytes_eq word (result_text Open)))
+    bytes_eq word (result_text White) || (bytes_eq word (result_text Black)
+    || (bytes_eq word (result_text Draw) || bytes_eq word (result_text Open)))
 
 -- the half-moves of a game on one board
 abbrev pub on_board : Move → HalfMove
@@ -111,7 +112,8 @@ Tells before piece first = (IsPassed piece × (first ≡ [])) ⊎ IsNext before 
 abbrev pub TellMoves : List Move → List Piece → List Move → Type 0
 TellMoves before [] moves = moves ≡ []
 TellMoves before (piece ∷ pieces) moves =
-    (first : List Move) × (rest : List Move) × Tells before piece first × TellMoves (before ++ first) pieces rest × (moves ≡ first ++ rest)
+    (first : List Move) × (rest : List Move) × Tells before piece first × TellMoves (before ++ first) pieces rest
+    × (moves ≡ first ++ rest)
 
 -- the pieces of one game, of at most 1,200 half-moves
 pub record IsGame (pieces : List Piece) (g : PgnGame) : Type 0 where

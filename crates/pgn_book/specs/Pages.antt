@@ -17,4 +17,5 @@ placed page token =
 
 -- the tokens were laid, whatever follows them
 pub record Lays (old new : Page) (tokens : List (List ℕ)) : Type 0 where
-  pub laid_so : (more : List (List ℕ)) → new.text ++ laid new.column more ≡ old.text ++ laid old.column (tokens ++ more)
+  pub laid_so : (more : List (List ℕ)) → new.text ++ laid new.column more
+      ≡ old.text ++ laid old.column (tokens ++ more)

@@ -348,3 +348,26 @@ read_from (Some s) (b ∷ text) = adding (step s b).given (read_from (step s b).
 
 abbrev pub first_state : State
 first_state = state_at Start 0 no_book
+
+-- ---- pieces of a text
+
+-- the games that some bytes give, and the state for the bytes behind them, unless no text goes on so
+pub record Gone : Type 0 where
+  pub games : List PgnGame
+  pub on : Option State
+
+abbrev pub with_given : Option PgnGame → Gone → Gone
+with_given None rest = rest
+with_given (Some g) rest = record { games = g ∷ rest.games; on = rest.on }
+
+abbrev pub gone : Option State → List ℕ → Gone
+gone None text = record { games = []; on = None }
+gone (Some s) [] = record { games = []; on = Some s }
+gone (Some s) (b ∷ text) = with_given (step s b).given (gone (step s b).on text)
+
+-- what is gone through one behind the other
+abbrev pub gone_both : Gone → Gone → Gone
+gone_both one other = record { games = one.games ++ other.games; on = other.on }
+
+abbrev pub adding_all : List PgnGame → Outcome → Outcome
+adding_all games outcome = record { games = games ++ outcome.games; whole = outcome.whole }

@@ -2,7 +2,8 @@
 //!
 //! The contract: `export` writes exactly the text that `specs/Export.antt` defines of a game. The grammar of
 //! `specs/Lexing.antt` and `specs/Games.antt` reads at most one list of games in a text, and in the export of a game
-//! exactly that game.
+//! exactly that game. `specs/Reading.antt` reads a text a byte at a time, and finds exactly what the grammar reads,
+//! however the text is cut; no call of this crate reads yet.
 #![tactic(auto)]
 
 mod export_form;
@@ -13,5 +14,6 @@ mod page;
 pub use export_form::export;
 pub use game::{PgnGame, PgnResult, TagRow};
 pub use laws::{
-    exports_read_back, texts_are_read_from_left_to_right, texts_have_one_reading, worked_texts,
+    exported_lines_fit, exports_read_back, texts_are_read_from_left_to_right,
+    texts_are_read_in_pieces, texts_have_one_reading, worked_exports, worked_texts,
 };
