@@ -1,0 +1,13 @@
+pub mod Balance
+pub mod Colours
+pub mod Fair
+pub mod Few
+pub mod Joined
+pub mod Keeping
+pub mod Opponents
+pub mod Paired
+pub mod Positions
+pub mod Rounds
+pub mod Rows
+pub mod Sums
+pub mod TableOrder
