@@ -1,8 +1,7 @@
 -- What is exported is read as the game that was exported.
-use Rattle.std.proofs.Common.{arith, ◌≡◌, ◌≢◌, ℕ, ◌+◌, ◌*◌, ◌/◌, ◌%◌, ◌<◌, ◌≤◌, suc, zero, inl, inr, Bool, true, false, ◌&&◌, ◌||◌, not, cond, nat_eq, List, [], ◌∷◌, ◌++◌, length, map, reverse, Option, Some, None, refl, sym, ap, subst, ◌∙◌, append_assoc, append-nil, length-append}
+use Rattle.std.proofs.Common.{arith, ◌≡◌, ◌≢◌, ℕ, ◌+◌, ◌/◌, ◌%◌, ◌<◌, ◌≤◌, suc, zero, inl, inr, Bool, true, false, ◌&&◌, ◌||◌, not, cond, nat_eq, List, [], ◌∷◌, ◌++◌, length, map, reverse, Option, Some, None, refl, sym, ap, subst, ◌∙◌, append_assoc, append-nil, length-append}
 use Rattle.std.specs.Prelude.{◌==◌, nat_le, bytes_eq, codes, decimal}
 use Rattle.std.specs.List.{list_all}
-use Rattle.std.specs.Str.Parse.{digits_value}
 use Rattle.std.proofs.lemmas.Bool.{and_parts, ne_eqb}
 use Rattle.std.proofs.lemmas.Bool.Decides.{nat_tests}
 use Rattle.std.proofs.lemmas.List.{reverse-append, reverse-reverse}
@@ -15,7 +14,6 @@ use Rattle.chess_model.specs.declared.moves.Move.TheVariants as move
 use Rattle.chess_model.specs.declared.states.State.{State}
 use Rattle.chess_model.specs.declared.states.State.TheVariants.{Safe, Check, Mate, Stalemate}
 use Rattle.chess_model.specs.declared.states.Shown.{Shown}
-use Rattle.chess_model.specs.declared.variant.Variant.{Variant}
 use Rattle.chess_model.specs.declared.variant.Variant.TheVariants.{Chess}
 use Rattle.chess_model.specs.MoveList.{HalfMove}
 use Rattle.chess_model.specs.Position.{Position}
@@ -28,10 +26,10 @@ use Rattle.pretty_reading.proofs.ReadBack.{reads_back}
 use Rattle.pgn_book.specs.declared.game.PgnResult.{PgnResult}
 use Rattle.pgn_book.specs.declared.game.PgnResult.TheVariants.{White, Black, Draw, Open}
 use Rattle.pgn_book.specs.declared.game.PgnGame.{PgnGame}
-use Rattle.pgn_book.specs.Bytes.{is_among, is_space, is_letter, is_digit, is_name_byte, move_signs, is_word_byte, Every, StopsBefore}
-use Rattle.pgn_book.specs.Lexing.{Piece, Blank, Escape, Braces, Comment, Word, Glyph, Quoted, Sign, Opening, Closing, Within, escaped, IsWord, IsText, At, is_sign, Lexes, at_start, unmarked}
-use Rattle.pgn_book.specs.Games.{result_text, is_result, on_board, position_of, Tag, IsTag, tag_pieces, all_tag_pieces, row_of, is_praise, without_leading, without_praise, IsPassed, IsMoveWord, IsNext, TellMoves, IsGame, Reads}
-use Rattle.pgn_book.specs.Export.{tag_line, tag_lines, number_at, move_tokens, laid, movetext, export_text, IsExportable}
+use Rattle.pgn_book.specs.Bytes.{is_among, is_space, is_letter, is_digit, move_signs, is_word_byte, StopsBefore}
+use Rattle.pgn_book.specs.Lexing.{Piece, Blank, Word, Quoted, Sign, escaped, IsWord, IsText, At, is_sign, Lexes}
+use Rattle.pgn_book.specs.Games.{result_text, is_result, on_board, position_of, Tag, all_tag_pieces, is_praise, without_leading, without_praise, IsPassed, IsMoveWord, TellMoves, IsGame, Reads}
+use Rattle.pgn_book.specs.Export.{tag_line, move_tokens, laid, movetext, export_text, IsExportable}
 use Rattle.pgn_book.specs.Laws.{ExportsReadBack}
 use Rattle.pgn_book.proofs.PiecesRead.{telling}
 use Rattle.pgn_book.proofs.GamesTold.{one_reading}

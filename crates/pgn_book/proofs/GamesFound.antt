@@ -1,9 +1,9 @@
 -- A text that is read to its end is one of games.
-use Rattle.std.proofs.Common.{arith, ◌≡◌, ◌≢◌, ◌⊎◌, inl, inr, ℕ, ◌+◌, ◌<◌, ◌≤◌, Bool, true, false, ◌&&◌, not, cond, nat_lt, List, [], ◌∷◌, ◌++◌, length, filter, take, drop, Option, Some, None, Result, Ok, Err, refl, sym, ap, subst, ◌∙◌, append_assoc, append-nil, length-append}
+use Rattle.std.proofs.Common.{arith, ◌≡◌, inl, inr, ℕ, ◌+◌, ◌<◌, ◌≤◌, Bool, true, false, ◌&&◌, not, cond, nat_lt, List, [], ◌∷◌, ◌++◌, length, Option, Some, None, Result, Ok, Err, refl, sym, ap, subst, ◌∙◌, append_assoc, append-nil, length-append}
 use Rattle.std.specs.Prelude.{◌==◌, ◌||◌, bytes_eq, codes}
 use Rattle.std.specs.List.{list_all, AllByRecursion}
 use Rattle.std.specs.Result.{result_ok}
-use Rattle.std.proofs.lemmas.Bool.{eqb-true, and_parts, or_parts}
+use Rattle.std.proofs.lemmas.Bool.{eqb-true, and_parts}
 use Rattle.std.proofs.lemmas.Slice.Eq.{bytes_eq-Decides}
 use Rattle.move_reader.proofs.ByteMeanings.{below}
 use Rattle.move_reader.specs.Reading.{reading}
@@ -13,14 +13,12 @@ use Rattle.chess_model.specs.declared.moves.Rejection.{Rejection}
 use Rattle.chess_model.specs.Position.{Position}
 use Rattle.chess_model.specs.WordAnswer.{word_answer}
 use Rattle.pretty_reading.specs.ReadsBack.{IsReadAs}
-use Rattle.pgn_book.specs.declared.game.PgnResult.{PgnResult}
 use Rattle.pgn_book.specs.declared.game.PgnResult.TheVariants.{White, Black, Draw, Open}
 use Rattle.pgn_book.specs.declared.game.PgnGame.{PgnGame}
 use Rattle.pgn_book.specs.Bytes.{is_digit, is_name_byte}
 use Rattle.pgn_book.specs.Lexing.{Piece, Blank, Escape, Braces, Comment, Word, Glyph, Quoted, Sign, Opening, Closing, Within, is_skipped, is_sign, At, MayStand, behind, Lexes, at_start, unmarked}
-use Rattle.pgn_book.specs.Games.{result_text, is_result, position_of, Tag, IsTag, tag_pieces, all_tag_pieces, row_of, without_praise, IsPassed, IsMoveWord, IsNext, Tells, TellMoves, IsGame, AreGames, Reads}
-use Rattle.pgn_book.specs.Reading as reader
-use Rattle.pgn_book.specs.Reading.{Stage, Before, Tags, Opened, Named, Told, Moves, Row, Book, empty_row, no_book, noted, result_of, game_of, Taken, goes, fails, gives, staged, opened, closed, passed_over, quoted, named, from_word, move_read, with_move, moved, told, worded, signed, is_nothing, glyphed, took, Outcome, adding, is_before, all_told, state_at, Between, read_from, first_state}
+use Rattle.pgn_book.specs.Games.{result_text, is_result, position_of, Tag, IsTag, tag_pieces, all_tag_pieces, without_praise, IsPassed, IsMoveWord, Tells, TellMoves, IsGame, AreGames, Reads}
+use Rattle.pgn_book.specs.Reading.{Stage, Before, Tags, Opened, Named, Told, Moves, Row, Book, empty_row, no_book, noted, result_of, game_of, Taken, goes, fails, gives, staged, opened, closed, passed_over, quoted, named, from_word, move_read, with_move, moved, told, worded, signed, glyphed, took, Outcome, adding, is_before, all_told, state_at, Between, read_from, first_state}
 use Rattle.pgn_book.specs.Laws.{ReaderReads}
 use Rattle.pgn_book.proofs.PiecesRead.{telling, lexed_read, start_read}
 use Rattle.pgn_book.proofs.GamesTold.{row_from, texts_of, row_told, reads_told}

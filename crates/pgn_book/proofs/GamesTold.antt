@@ -1,13 +1,11 @@
 -- The games that pieces tell are the games that are read.
-use Rattle.std.proofs.Common.{arith, ◌≡◌, ℕ, ◌+◌, ◌<◌, ◌≤◌, inl, inr, Bool, true, false, ◌&&◌, not, cond, nat_lt, List, [], ◌∷◌, ◌++◌, length, Option, Some, None, Ok, refl, sym, ap, subst, ◌∙◌, append_assoc, append-nil, length-append}
-use Rattle.std.specs.Prelude.{bytes_eq, codes, unwrap_or, ◌==◌}
+use Rattle.std.proofs.Common.{arith, ◌≡◌, ℕ, ◌+◌, ◌<◌, ◌≤◌, inl, inr, Bool, true, false, ◌&&◌, not, cond, List, [], ◌∷◌, ◌++◌, length, Option, Some, None, refl, sym, ap, ◌∙◌, append_assoc, append-nil, length-append}
+use Rattle.std.specs.Prelude.{bytes_eq, codes, unwrap_or}
 use Rattle.std.specs.List.{list_all, AllByRecursion}
 use Rattle.std.specs.Result.{result_ok}
 use Rattle.move_reader.proofs.ByteMeanings.{is_below}
-use Rattle.move_reader.specs.Reading.{reading}
 use Rattle.chess_model.specs.declared.moves.Move.{Move}
 use Rattle.chess_model.specs.Position.{Position}
-use Rattle.chess_model.specs.WordAnswer.{word_answer}
 use Rattle.pretty_reading.specs.ReadsBack.{IsReadAs}
 use Rattle.pgn_book.specs.declared.game.PgnResult.{PgnResult}
 use Rattle.pgn_book.specs.declared.game.PgnResult.TheVariants.{White, Black, Draw, Open}
@@ -15,7 +13,7 @@ use Rattle.pgn_book.specs.declared.game.TagRow.{TagRow}
 use Rattle.pgn_book.specs.declared.game.PgnGame.{PgnGame}
 use Rattle.pgn_book.specs.Bytes.{is_digit, is_name_byte}
 use Rattle.pgn_book.specs.Lexing.{Piece, Blank, Escape, Braces, Comment, Word, Glyph, Quoted, Sign, Opening, Closing, Within, at_start, unmarked}
-use Rattle.pgn_book.specs.Games.{result_text, is_result, position_of, Tag, IsTag, tag_pieces, all_tag_pieces, first_text, row_of, without_praise, IsPassed, IsMoveWord, IsNext, Tells, TellMoves, IsGame, AreGames, Reads, OneReading}
+use Rattle.pgn_book.specs.Games.{result_text, is_result, position_of, Tag, IsTag, all_tag_pieces, first_text, row_of, without_praise, IsPassed, IsMoveWord, Tells, TellMoves, IsGame, AreGames, Reads, OneReading}
 use Rattle.pgn_book.specs.Reading as reader
 use Rattle.pgn_book.specs.Reading.{Stage, Before, Tags, Opened, Named, Told, Moves, Row, Book, empty_row, no_book, noted_as, noted, result_of, game_of, Taken, goes, fails, staged, passed_over, from_word, move_read, with_move, told, took, Outcome, adding, all_told, read_from, first_state}
 use Rattle.pgn_book.proofs.PiecesRead.{telling, lexed_read, start_read}

@@ -1,7 +1,7 @@
 -- No line of an exported movetext is longer than 79 bytes.
 use Rattle.std.proofs.Common.{arith, ◌≡◌, ℕ, ◌+◌, ◌/◌, ◌%◌, ◌<◌, ◌≤◌, Bool, true, false, ◌&&◌, not, cond, nat_eq, List, [], ◌∷◌, ◌++◌, length, map, refl, sym, ap, subst, ◌∙◌, append_assoc, length-append}
 use Rattle.std.specs.Prelude.{◌==◌, nat_le, codes, decimal}
-use Rattle.std.specs.List.{AllByRecursion, list_all, slice_split, onto_first}
+use Rattle.std.specs.List.{AllByRecursion, list_all, onto_first}
 use Rattle.std.proofs.lemmas.Bool.{and_parts, eqb-true}
 use Rattle.std.proofs.lemmas.Bool.Decides.{nat_tests}
 use Rattle.std.proofs.lemmas.Fmt.{length-decimal-le}
@@ -13,10 +13,9 @@ use Rattle.variant_rules.specs.Showing.{shown_of}
 use Rattle.pretty_reading.specs.ReadsBack.{pretty_in}
 use Rattle.pgn_book.specs.declared.game.PgnResult.{PgnResult}
 use Rattle.pgn_book.specs.declared.game.PgnResult.TheVariants.{White, Black, Draw, Open}
-use Rattle.pgn_book.specs.declared.game.PgnGame.{PgnGame}
 use Rattle.pgn_book.specs.Bytes.{is_word_byte}
 use Rattle.pgn_book.specs.Games.{result_text, on_board, position_of}
-use Rattle.pgn_book.specs.Export.{number_at, move_tokens, laid, movetext, IsExportable}
+use Rattle.pgn_book.specs.Export.{number_at, move_tokens, laid, movetext}
 use Rattle.pgn_book.specs.Laws.{LinesFit, lines_of}
 use Rattle.pgn_book.proofs.Laying.{allowed_at}
 use Rattle.pgn_book.proofs.ExportRead.{IsPlain, allowed_on_squares, pretty_plain, plain_word, decimal_digits, digits_word}

@@ -1,14 +1,14 @@
 -- A text that is read to its end has pieces.
-use Rattle.std.proofs.Common.{arith, ◌≡◌, ◌≢◌, ◌⊎◌, inl, inr, ℕ, ◌+◌, ◌-◌, ◌<◌, ◌≤◌, Bool, true, false, ◌&&◌, not, cond, nat_eq, nat_lt, List, [], ◌∷◌, ◌++◌, length, take, drop, Option, Some, None, refl, sym, ap, subst, ◌∙◌, append_assoc, length-append}
+use Rattle.std.proofs.Common.{arith, ◌≡◌, ◌≢◌, ◌⊎◌, inl, inr, ℕ, ◌+◌, ◌-◌, ◌<◌, ◌≤◌, Bool, true, false, ◌&&◌, not, cond, nat_eq, nat_lt, List, [], ◌∷◌, ◌++◌, length, Option, Some, None, refl, sym, ap, subst, ◌∙◌, append_assoc, length-append}
 use Rattle.std.specs.Prelude.{◌==◌, ◌||◌}
 use Rattle.std.specs.List.{list_all}
-use Rattle.std.proofs.lemmas.Bool.{eqb-true, eqb-false, and_parts, or_parts}
+use Rattle.std.proofs.lemmas.Bool.{eqb-true, eqb-false, and_parts}
 use Rattle.move_reader.proofs.ByteMeanings.{below}
 use Rattle.pgn_book.specs.declared.game.PgnGame.{PgnGame}
-use Rattle.pgn_book.specs.Bytes.{is_among, spaces, is_space, is_word_byte, Every, StopsBefore}
+use Rattle.pgn_book.specs.Bytes.{is_among, is_space, is_word_byte, Every, StopsBefore}
 use Rattle.pgn_book.specs.Lexing.{Piece, Blank, Escape, Braces, Comment, Word, Glyph, Quoted, Sign, Opening, Closing, Within, escaped, escaped_byte, spelling, is_of_line, is_of_braces, is_of_text, is_sign, is_reserved, IsRestOfLine, IsWord, IsText, At, MayStand, behind, Lexes}
-use Rattle.pgn_book.specs.Reading.{Book, Taken, took, Outcome, adding, nothing_read, Place, Start, AfterOne, AfterTwo, Between, InLine, InBraces, InWord, InQuotes, InStroke, State, state_at, to_place, Step, silent, outside, opens, closes, nested, skipping, spaced, begun, begun_behind, piece_of, longer, word_ended, step, is_before, is_at_rest, resting, read_from}
-use Rattle.pgn_book.proofs.PiecesRead.{each_among, EachOf}
+use Rattle.pgn_book.specs.Reading.{Book, Taken, took, Outcome, adding, Place, Start, AfterOne, AfterTwo, Between, InLine, InBraces, InWord, InQuotes, InStroke, State, state_at, to_place, Step, silent, outside, opens, closes, nested, skipping, spaced, begun, begun_behind, piece_of, longer, word_ended, step, is_before, is_at_rest, resting, read_from}
+use Rattle.pgn_book.proofs.PiecesRead.{each_among}
 
 -- what follows ends behind a whole game
 abbrev Whole : Option State → List ℕ → Type 0

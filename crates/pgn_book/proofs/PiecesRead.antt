@@ -1,5 +1,5 @@
 -- The pieces of a text are read one behind the other.
-use Rattle.std.proofs.Common.{arith, ◌≡◌, ℕ, ◌+◌, ◌-◌, ◌<◌, ◌≤◌, Bool, true, false, ◌&&◌, not, cond, nat_eq, nat_lt, List, [], ◌∷◌, ◌++◌, length, take, drop, filter, Option, Some, None, refl, sym, ap, subst, ◌∙◌, append_assoc, append-nil, length-append}
+use Rattle.std.proofs.Common.{arith, ◌≡◌, ℕ, ◌+◌, ◌-◌, ◌<◌, ◌≤◌, Bool, true, false, ◌&&◌, not, cond, nat_eq, List, [], ◌∷◌, ◌++◌, length, take, drop, filter, Option, Some, None, refl, sym, ap, subst, ◌∙◌, append_assoc, append-nil, length-append}
 use Rattle.std.specs.Prelude.{◌==◌, ◌||◌, bytes_eq}
 use Rattle.std.specs.List.{list_all}
 use Rattle.std.proofs.lemmas.Bool.{eqb-true, ne_eqb, and_parts, or_parts}
@@ -7,8 +7,8 @@ use Rattle.std.proofs.lemmas.Slice.Eq.{bytes_eq-Decides}
 use Rattle.move_reader.proofs.ByteMeanings.{is_below}
 use Rattle.pgn_book.specs.declared.game.PgnGame.{PgnGame}
 use Rattle.pgn_book.specs.Bytes.{is_among, spaces, is_space, is_word_byte, Every, StopsBefore}
-use Rattle.pgn_book.specs.Lexing.{Piece, Blank, Escape, Braces, Comment, Word, Glyph, Quoted, Sign, Opening, Closing, Within, escaped, escaped_byte, spelling, is_of_line, is_of_braces, is_of_text, is_sign, is_reserved, At, MayStand, behind, Lexes, is_skipped, unmarked}
-use Rattle.pgn_book.specs.Reading.{Stage, Before, Tags, Opened, Named, Told, Moves, Book, no_book, Taken, goes, fails, opened, closed, passed_over, quoted, signed, took, Outcome, adding, nothing_read, all_told, Place, Start, AfterOne, AfterTwo, Between, InLine, InBraces, InWord, InQuotes, InStroke, State, state_at, to_place, Step, silent, outside, opens, closes, nested, skipping, spaced, begun, begun_behind, piece_of, longer, word_ended, step, resting, read_from, first_state}
+use Rattle.pgn_book.specs.Lexing.{Piece, Blank, Escape, Braces, Comment, Word, Glyph, Quoted, Sign, Opening, Closing, Within, escaped, spelling, is_of_line, is_of_braces, is_of_text, is_sign, is_reserved, At, MayStand, behind, Lexes, is_skipped, unmarked}
+use Rattle.pgn_book.specs.Reading.{Stage, Before, Tags, Opened, Named, Told, Moves, Book, no_book, Taken, opened, closed, passed_over, quoted, took, Outcome, adding, nothing_read, all_told, AfterOne, AfterTwo, Between, InLine, InBraces, InWord, InQuotes, InStroke, State, state_at, to_place, Step, silent, outside, opens, closes, nested, skipping, spaced, begun, begun_behind, piece_of, longer, word_ended, step, resting, read_from, first_state}
 
 -- a property of each of some bytes
 abbrev pub EachOf : (ℕ → Type 0) → List ℕ → Type 0

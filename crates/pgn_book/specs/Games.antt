@@ -1,6 +1,6 @@
 -- The games of PGN text: tags, moves and a result (the standard of portable game notation, section 8, in this
 -- project's profile).
-use Rattle.std.specs.Prelude.{◌≡◌, ◌≢◌, ◌⊎◌, ℕ, ◌≤◌, Bool, true, false, not, ◌==◌, ◌&&◌, ◌||◌, if◌then◌else◌, List, [], ◌∷◌, ◌++◌, length, map, filter, Option, Some, None, unwrap_or, bytes_eq, codes, reverse}
+use Rattle.std.specs.Prelude.{◌≡◌, ◌≢◌, ◌⊎◌, ℕ, ◌≤◌, Bool, false, not, ◌||◌, if◌then◌else◌, List, [], ◌∷◌, ◌++◌, length, map, filter, Option, Some, None, unwrap_or, bytes_eq, codes, reverse}
 use Rattle.std.specs.List.{AllByRecursion, list_all}
 use Rattle.chess_model.specs.declared.moves.Move.{Move}
 use Rattle.chess_model.specs.declared.variant.Variant.TheVariants.{Chess}
@@ -12,7 +12,7 @@ use Rattle.pgn_book.specs.declared.game.PgnResult.TheVariants.{White, Black, Dra
 use Rattle.pgn_book.specs.declared.game.TagRow.{TagRow}
 use Rattle.pgn_book.specs.declared.game.PgnGame.{PgnGame}
 use Rattle.pgn_book.specs.Bytes.{is_among, is_digit, is_name_byte, Every}
-use Rattle.pgn_book.specs.Lexing.{Piece, Blank, Escape, Braces, Comment, Word, Glyph, Quoted, Sign, Opening, Closing, Within, Lexes, unmarked, at_start, is_skipped}
+use Rattle.pgn_book.specs.Lexing.{Piece, Word, Glyph, Quoted, Sign, Opening, Closing, Within, Lexes, unmarked, at_start, is_skipped}
 
 -- the word of a result
 abbrev pub result_text : PgnResult → List ℕ

@@ -4,7 +4,7 @@ use Rattle.std.specs.List.{AllByRecursion, slice_split}
 use Rattle.pgn_book.specs.declared.game.PgnGame.{PgnGame}
 use Rattle.pgn_book.specs.Games.{Reads}
 use Rattle.pgn_book.specs.Export.{movetext, export_text, IsExportable}
-use Rattle.pgn_book.specs.Reading.{State, Outcome, read_from, first_state, gone, gone_both, adding_all}
+use Rattle.pgn_book.specs.Reading.{State, read_from, first_state, gone, gone_both, adding_all}
 
 -- the grammar reads in the export of a game exactly that game
 pub record ExportsReadBack : Type 0 where

@@ -1,5 +1,5 @@
 -- A page while tokens are laid on it.
-use Rattle.std.specs.Prelude.{◌≡◌, ℕ, ◌+◌, ◌≤◌, nat_le, nat_eq, if◌then◌else◌, List, [], ◌∷◌, ◌++◌, length}
+use Rattle.std.specs.Prelude.{◌≡◌, ℕ, ◌+◌, nat_le, nat_eq, if◌then◌else◌, List, ◌∷◌, ◌++◌, length}
 use Rattle.pgn_book.specs.Export.{laid}
 
 -- the text so far, and the column in which it ends

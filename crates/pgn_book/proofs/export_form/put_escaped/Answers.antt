@@ -1,4 +1,4 @@
-use Rattle.std.proofs.Common.{◌≡◌, ℕ, ◌++◌, List, take, get_or, sym, ap, ◌∙◌, append_assoc}
+use Rattle.std.proofs.Common.{ℕ, ◌++◌, List, take, get_or, sym, ap, ◌∙◌, append_assoc}
 use Rattle.pgn_book.specs.Lexing.{escaped, escaped_byte}
 use Rattle.pgn_book.proofs.Escapes.{escaped_more}
 use Rattle.pgn_book.proofs.export_form.put_escaped.Goals as goal

@@ -1,4 +1,3 @@
-use Rattle.std.proofs.Common.{◌≡◌}
 use Rattle.pgn_book.proofs.Laying.{allowed_next, laid_next}
 use Rattle.pgn_book.proofs.export_form.put_moves.Goals as goal
 

@@ -1,4 +1,3 @@
-use Rattle.std.proofs.Common.{◌≡◌}
 use Rattle.pgn_book.proofs.Laying.{HaveLaid}
 use Rattle.pgn_book.proofs.export_form.put_moves.Given as goal
 
