@@ -35,8 +35,8 @@ fn search(alloc: Global, p: &mut Position, depth: u8, low: i32, high: i32) -> Re
     Ok(whole)
 }
 
-/// The greatest of `low` and what those moves are worth that are tried, no more than `high`. Tried are those that take a
-/// man, or those that don't: what takes a man goes first, since it more often ends the search early.
+/// The greatest of `low` and what those moves are worth that are tried, no more than `high`. Tried are those that take
+/// a man, or those that don't: what takes a man goes first, since it more often ends the search early.
 #[cycle(look_ahead)]
 fn raised_by(
     alloc: Global,
