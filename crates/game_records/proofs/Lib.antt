@@ -1,5 +1,6 @@
 pub mod Each
 pub mod Counts
+pub mod Played
 pub mod NumbersBack
 pub mod MovesBack
 pub mod ChargesBack

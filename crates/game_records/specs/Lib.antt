@@ -6,4 +6,5 @@ pub mod Spelling
 pub mod Keys
 pub mod Reading
 pub mod Replays
+pub mod Laws
 pub mod Examples

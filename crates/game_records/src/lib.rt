@@ -26,6 +26,6 @@ pub use chess_model::{Move, Terms, Variant};
 pub use clock_ledger::Charge;
 pub use fics_words::{Account, Handle, HandleKey, NoMemory};
 pub use keys::{account_key, game_key, game_number};
-pub use laws::one_record;
+pub use laws::{one_record, played_by_steps};
 pub use records::{Record, read_record, write_record};
 pub use stored_game::{Half, StoredGame};

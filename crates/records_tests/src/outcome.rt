@@ -17,7 +17,7 @@ pub enum Outcome {
 }
 
 /// What reading the text comes to.
-pub fn outcome(alloc: Global, text: &[u8]) -> Result<Outcome, NoMemory> {
+pub fn reading(alloc: Global, text: &[u8]) -> Result<Outcome, NoMemory> {
     match read_record(alloc, text)? {
         None => Ok(Outcome::Nothing),
         Some(record) => written_again(alloc, &record, text),
@@ -37,10 +37,10 @@ fn written_again(alloc: Global, value: &Record, text: &[u8]) -> Result<Outcome, 
 
 /// Whether the text is no record.
 pub fn is_nothing(alloc: Global, text: &[u8]) -> Result<bool, NoMemory> {
-    Ok(matches!(outcome(alloc, text)?, Outcome::Nothing))
+    Ok(matches!(reading(alloc, text)?, Outcome::Nothing))
 }
 
 /// Whether the text is a record, which is written with the same bytes.
 pub fn is_same(alloc: Global, text: &[u8]) -> Result<bool, NoMemory> {
-    Ok(matches!(outcome(alloc, text)?, Outcome::Same))
+    Ok(matches!(reading(alloc, text)?, Outcome::Same))
 }

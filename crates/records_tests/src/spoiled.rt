@@ -1,6 +1,6 @@
 //! Texts that are no records, and some that hardly are.
 
-use crate::outcome::{Outcome, is_nothing, is_same, outcome};
+use crate::outcome::{Outcome, is_nothing, is_same, reading};
 use crate::texts::{ANN, CHESS, CRAZYHOUSE, FISCHER, PAIR};
 use fics_words::NoMemory;
 use std::alloc::Global;
@@ -157,7 +157,7 @@ fn turned(alloc: Global, text: &[u8], place: usize, mask: u8) -> Result<Vec<u8>,
 fn is_spelled_at(alloc: Global, text: &[u8], place: usize) -> Result<bool, NoMemory> {
     for mask in 1..=255 {
         let bytes = turned(alloc, text, place, mask)?;
-        if outcome(alloc, &bytes)? == Outcome::Other {
+        if reading(alloc, &bytes)? == Outcome::Other {
             return Ok(false);
         }
     }
