@@ -94,3 +94,5 @@ halves_step v count i bytes h = less_one v (count - i) (count - (i + 1)) bytes (
 
 pub halves_end : (v : Variant) (count i : ℕ) (bytes : List ℕ) → count ≤ i → halves_in v (count - i) bytes ≡ []
 halves_end v count i bytes h = ap (λ (k : ℕ). halves_in v k bytes) (let e : count - i ≡ 0 = omega arith in e)
+
+pub ruleset each_half = (halves_step, halves_end)

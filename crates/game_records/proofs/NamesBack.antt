@@ -58,3 +58,7 @@ no_handle done all count i rest h e bad each =
     let left = each-back IsHandle done (names_in (count - i) rest) (subst (AllByRecursion IsHandle) (sym e) each) in
     let next = subst (AllByRecursion IsHandle) (names_step count i rest h) left in
     bad next.0
+
+pub ruleset each_name = (names_step, names_end)
+
+pub ruleset behind_each = (behind_step, behind_end)
