@@ -1,12 +1,12 @@
 -- What a reader gives before and after a byte, and at the end.
-use Rattle.std.proofs.Common.{◌≡◌, ℕ, ◌+◌, Bool, true, false, List, [], ◌∷◌, ◌++◌, drop, Option, Some, None, refl, sym, ap, subst, ◌∙◌, append-nil, arith}
+use Rattle.std.proofs.Common.{◌≡◌, ℕ, ◌+◌, Bool, true, false, List, [], ◌∷◌, ◌++◌, drop, Option, Some, None, refl, sym, ap, subst, ◌∙◌, append-nil}
 use Rattle.std.specs.Prelude.{is_some}
 use Rattle.std.proofs.lemmas.List.{drop-drop}
 use Rattle.pgn_book.specs.declared.game.PgnGame.{PgnGame}
 use Rattle.pgn_book.specs.declared.book.Read.{Read}
 use Rattle.pgn_book.specs.declared.reader.PgnStep.{PgnStep}
 use Rattle.pgn_book.specs.declared.reader.PgnStep.TheVariants.{Game, More, Bad}
-use Rattle.pgn_book.specs.Reading.{State, Step, step, gone, with_given, read_from, adding, nothing_read}
+use Rattle.pgn_book.specs.Reading.{State, Step, step, gone, with_given, read_from, adding}
 use Rattle.pgn_book.specs.Taking.{on_if, IsStep}
 use Rattle.pgn_book.specs.Reader.{Reader, line_if, line_from, GoesOn, IsRead, IsNext, IsLast}
 
