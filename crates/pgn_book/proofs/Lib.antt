@@ -6,6 +6,7 @@ pub mod Walking
 pub mod ReaderSteps
 pub mod PiecesRead
 pub mod GamesTold
+pub mod PrettyWords
 pub mod ExportRead
 pub mod PiecesFound
 pub mod GamesFound

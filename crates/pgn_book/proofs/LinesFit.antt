@@ -18,7 +18,8 @@ use Rattle.pgn_book.specs.Games.{result_text, on_board, position_of}
 use Rattle.pgn_book.specs.Export.{number_at, move_tokens, laid, movetext}
 use Rattle.pgn_book.specs.Laws.{LinesFit, lines_of}
 use Rattle.pgn_book.proofs.Laying.{allowed_at}
-use Rattle.pgn_book.proofs.ExportRead.{IsPlain, allowed_on_squares, pretty_plain, plain_word, decimal_digits, digits_word}
+use Rattle.pgn_book.proofs.PrettyWords.{IsPlain, allowed_on_squares, pretty_plain, plain_word}
+use Rattle.pgn_book.proofs.ExportRead.{decimal_digits, digits_word}
 
 -- a byte of a line
 abbrev is_line_byte : ℕ → Bool

@@ -1,12 +1,12 @@
 -- What a reader gives before and after a byte, and at the end.
-use Rattle.std.proofs.Common.{◌≡◌, ℕ, ◌+◌, Bool, true, false, List, [], ◌∷◌, ◌++◌, drop, Option, Some, None, refl, sym, ap, subst, ◌∙◌, append-nil, arith}
+use Rattle.std.proofs.Common.{◌≡◌, ℕ, ◌+◌, Bool, true, false, List, [], ◌∷◌, ◌++◌, drop, Option, Some, None, refl, sym, ap, subst, ◌∙◌, append-nil}
 use Rattle.std.specs.Prelude.{is_some}
 use Rattle.std.proofs.lemmas.List.{drop-drop}
 use Rattle.pgn_book.specs.declared.game.PgnGame.{PgnGame}
 use Rattle.pgn_book.specs.declared.book.Read.{Read}
 use Rattle.pgn_book.specs.declared.reader.PgnStep.{PgnStep}
 use Rattle.pgn_book.specs.declared.reader.PgnStep.TheVariants.{Game, More, Bad}
-use Rattle.pgn_book.specs.Reading.{State, Step, step, gone, with_given, read_from, adding, nothing_read}
+use Rattle.pgn_book.specs.Reading.{State, Step, step, gone, with_given, read_from, adding}
 use Rattle.pgn_book.specs.Taking.{on_if, IsStep}
 use Rattle.pgn_book.specs.Reader.{Reader, line_if, line_from, GoesOn, IsRead, IsNext, IsLast}
 
@@ -62,16 +62,22 @@ read_on : (now new : Reader) (given : Option PgnGame) → GoesOn now given new �
 read_on now new given h =
     ap (read_from now.on) (sym (append-nil now.rest)) ∙ h.read [] ∙ ap (λ (l : List ℕ). adding given (read_from new.on l)) (append-nil new.rest)
 
+lines_on : (now new : Reader) (given : Option PgnGame) → GoesOn now given new
+    → line_from now.line now.on now.rest ≡ line_from new.line new.on new.rest
+lines_on now new given h =
+    ap (line_from now.line now.on) (sym (append-nil now.rest)) ∙ h.line [] ∙ ap (line_from new.line new.on) (append-nil new.rest)
+
 pub next_last : (now new : Reader) (step : PgnStep) → IsNext now step new → (step ≡ More → ⊥) → IsLast now step new
-next_last now new (Game g) h other = read_on now new (Some g) h
+next_last now new (Game g) h other = record { read = read_on now new (Some g) h; line = lines_on now new (Some g) h }
 next_last now new More h other = absurd (other refl)
 next_last now new (Bad line) h other =
     (read_on now new None h.0.goes_on ∙ ap (λ (o : Option State). read_from o new.rest) h.1, h.1, h.2, h.3)
 
 pub more_last : (now mid new : Reader) (step : PgnStep) → IsNext now More mid → IsLast mid step new → IsLast now step new
-more_last now mid new (Game g) h last = read_on now mid None h.0.goes_on ∙ last
+more_last now mid new (Game g) h last = record {
+  read = read_on now mid None h.0.goes_on ∙ last.read;
+  line = lines_on now mid None h.0.goes_on ∙ last.line;
+}
 more_last now mid new More h last = read_on now mid None h.0.goes_on ∙ last
 more_last now mid new (Bad line) h last =
-    let lines : line_from now.line now.on now.rest ≡ line_from mid.line mid.on mid.rest =
-    ap (line_from now.line now.on) (sym (append-nil now.rest)) ∙ h.0.goes_on.line [] ∙ ap (line_from mid.line mid.on) (append-nil mid.rest) in
-    (read_on now mid None h.0.goes_on ∙ last.0, last.1, last.2 ∙ sym lines, last.3)
+    (read_on now mid None h.0.goes_on ∙ last.0, last.1, last.2 ∙ sym (lines_on now mid None h.0.goes_on), last.3)

@@ -1,11 +1,11 @@
 -- What a byte makes of a walk, from what its piece makes of the book.
-use Rattle.std.proofs.Common.{◌≡◌, ℕ, ◌+◌, ◌-◌, Bool, true, false, ◌||◌, cond, nat_eq, nat_lt, List, [], ◌∷◌, ◌++◌, Option, Some, None, refl, sym, ap, subst, ◌∙◌}
+use Rattle.std.proofs.Common.{◌≡◌, ℕ, ◌+◌, ◌-◌, Bool, true, false, ◌||◌, cond, nat_eq, nat_lt, List, [], ◌∷◌, ◌++◌, Option, Some, None, refl, sym, ap, ◌∙◌}
 use Rattle.std.specs.Prelude.{◌==◌, Result, Ok, Err, IfOk}
 use Rattle.pgn_book.specs.declared.book.Read.{Read}
 use Rattle.pgn_book.specs.declared.place.Place.{Place}
 use Rattle.pgn_book.specs.declared.place.Place.TheVariants.{Between, InWord, InQuotes, InStroke}
 use Rattle.pgn_book.specs.Bytes.{is_among, move_signs, is_name_byte, is_word_byte}
-use Rattle.pgn_book.specs.Lexing.{Sign, Quoted, Glyph, Word, is_sign, is_of_text}
+use Rattle.pgn_book.specs.Lexing.{is_sign, is_of_text}
 use Rattle.pgn_book.specs.Reading.{Book, Taken, State, Step, silent, state_at, to_place, took, passed_over, signed, quoted, glyphed, worded, piece_of, opens, closes, outside, nested, in_quotes, longer, step, step_in}
 use Rattle.pgn_book.specs.Taking.{on_if, IsTaken, IsTakenSilently, IsStep}
 

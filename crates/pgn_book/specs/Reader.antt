@@ -39,7 +39,8 @@ rests (Some s) = is_at_rest s.depth (Some s.book)
 pub record GoesOn (old : Reader) (given : Option PgnGame) (new : Reader) : Type 0 where
   pub games : (more : List ℕ) → gone old.on (old.rest ++ more) ≡ with_given given (gone new.on (new.rest ++ more))
   pub read : (more : List ℕ) → read_from old.on (old.rest ++ more) ≡ adding given (read_from new.on (new.rest ++ more))
-  pub line : (more : List ℕ) → line_from old.line old.on (old.rest ++ more) ≡ line_from new.line new.on (new.rest ++ more)
+  pub line : (more : List ℕ) → line_from old.line old.on (old.rest ++ more)
+      ≡ line_from new.line new.on (new.rest ++ more)
 
 -- all that was fed was read, and no game was in it
 pub record IsRead (old new : Reader) : Type 0 where
@@ -50,11 +51,18 @@ pub record IsRead (old new : Reader) : Type 0 where
 abbrev pub IsNext : Reader → PgnStep → Reader → Type 0
 IsNext old (Game g) new = GoesOn old (Some g) new
 IsNext old More new = IsRead old new × (new.on ≢ None)
-IsNext old (Bad line) new = IsRead old new × (new.on ≡ None) × (line ≡ line_from old.line old.on old.rest) × (line ≡ new.line)
+IsNext old (Bad line) new =
+    IsRead old new × (new.on ≡ None) × (line ≡ line_from old.line old.on old.rest) × (line ≡ new.line)
+
+-- at the end of the text, the first game, behind which the new reader goes on
+pub record GivesLast (old : Reader) (g : PgnGame) (new : Reader) : Type 0 where
+  pub read : read_from old.on old.rest ≡ adding (Some g) (read_from new.on new.rest)
+  pub line : line_from old.line old.on old.rest ≡ line_from new.line new.on new.rest
 
 -- at the end of the text: the first game, or that nothing of one is left, or that something is
 abbrev pub IsLast : Reader → PgnStep → Reader → Type 0
-IsLast old (Game g) new = read_from old.on old.rest ≡ adding (Some g) (read_from new.on new.rest)
+IsLast old (Game g) new = GivesLast old g new
 IsLast old More new = read_from old.on old.rest ≡ record { games = []; whole = true }
 IsLast old (Bad line) new =
-    (read_from old.on old.rest ≡ nothing_read) × (new.on ≡ None) × (line ≡ line_from old.line old.on old.rest) × (line ≡ new.line)
+    (read_from old.on old.rest ≡ nothing_read) × (new.on ≡ None) × (line ≡ line_from old.line old.on old.rest)
+    × (line ≡ new.line)

@@ -1,5 +1,5 @@
 -- What the calls of the reader say of pieces and bytes.
-use Rattle.std.specs.Prelude.{◌≡◌, ℕ, Bool, true, false, if◌then◌else◌, List, Option, Some, None, unwrap_or, codes}
+use Rattle.std.specs.Prelude.{◌≡◌, Bool, true, false, Option, Some, None, unwrap_or, codes}
 use Rattle.pgn_book.specs.declared.row.Row.{Row}
 use Rattle.pgn_book.specs.declared.book.Read.{Read}
 use Rattle.pgn_book.specs.declared.place.Place.TheVariants.{Between}

@@ -102,7 +102,8 @@ impl Walk {
 
     /// Takes a byte of the mark of UTF-8.
     fn mark(&mut self, byte: u8, wanted: u8, behind: Place) -> bool
-        ensures { on_if result self.new ≡ (if byte == wanted then Some (state_at behind self.old.depth self.old.book) else None) }
+        ensures { on_if result self.new
+            ≡ (if byte == wanted then Some (state_at behind self.old.depth self.old.book) else None) }
     {
         if byte == wanted {
             self.place = behind;
@@ -235,7 +236,8 @@ impl Walk {
 
     /// Takes a byte in a word, or behind it.
     fn go_on(&mut self, alloc: Global, glyph: bool, word: Text, byte: u8) -> Result<Read, NoMemory>
-        ensures { IfOk result (λ read. IsStep read self.new (step_in (InWord glyph word) self.old.depth self.old.book byte)) }
+        ensures { IfOk result (λ read. IsStep read self.new
+            (step_in (InWord glyph word) self.old.depth self.old.book byte)) }
     {
         if is_word_byte(byte) {
             return Ok(silent(self.lengthen(glyph, word, byte)));

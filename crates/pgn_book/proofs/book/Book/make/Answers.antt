@@ -2,7 +2,7 @@ use Rattle.std.proofs.Common.{List, map, ap, sym, subst, ◌∙◌}
 use Rattle.chess_model.specs.declared.moves.Move.{Move}
 use Rattle.chess_model.specs.Allowed.{Allowed}
 use Rattle.chess_model.specs.Position.{Position, Stands}
-use Rattle.pgn_book.specs.Games.{on_board, position_of}
+use Rattle.pgn_book.specs.Games.{on_board}
 use Rattle.pgn_book.specs.Reading.{Book}
 use Rattle.pgn_book.proofs.Resolving.{at_moves, stands_on}
 use Rattle.pgn_book.proofs.book.Book.make.Goals as goal

@@ -1,4 +1,4 @@
-use Rattle.std.proofs.Common.{◌≡◌, true, false, Some, None, cond, refl}
+use Rattle.std.proofs.Common.{true, Some, None, cond, refl}
 use Rattle.std.specs.Prelude.{◌==◌}
 use Rattle.pgn_book.specs.declared.place.Place.TheVariants.{Start, AfterOne, AfterTwo, Between, InLine, InBraces, InWord, InQuotes, InStroke}
 use Rattle.pgn_book.specs.Reading.{started, state_at, begun, in_line, in_braces, in_quotes, in_stroke, step, step_in}
