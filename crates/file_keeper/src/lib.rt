@@ -1,8 +1,9 @@
 //! Keepers over a file of SQLite: one that a server keeps its records with, and one that only reads them.
 //!
 //! Each meets the trait `Keeper`: it fails only where its count of faults rose, and the pairs that it loads ascend by
-//! key. What the file holds isn't told by either. The file has one table, which the command `sqlite3` reads and writes
-//! while no keeper holds the file.
+//! key; the one that reads refuses each change. What a file holds is told by neither: what is said of files here was
+//! tested (`bench/store`) and isn't proved. The file has one table, which the command `sqlite3` reads and writes while
+//! no keeper holds the file.
 #![tactic(auto)]
 
 mod records;
