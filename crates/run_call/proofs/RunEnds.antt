@@ -1,6 +1,6 @@
 -- How a run ends, by its status and the command that its words name.
-use Rattle.std.proofs.Common.{◌≡◌, ℕ, ◌^◌, ◌<◌, List, [], ◌∷◌, length, refl, sym, ap, subst, ◌∙◌, arith, inl, inr, None, Some}
-use Rattle.std.specs.Prelude.{◌⊎◌, ◌==◌, if◌then◌else◌, Option, IfSome, Contains, String, codes}
+use Rattle.std.proofs.Common.{◌≡◌, ℕ, ◌^◌, ◌<◌, List, [], ◌∷◌, length, refl, sym, ap, subst, ◌∙◌, arith, get_or, map, inl, inr, None, Some}
+use Rattle.std.specs.Prelude.{◌⊎◌, ◌==◌, if◌then◌else◌, Option, IfSome, Contains, String, string_bytes}
 use Rattle.std.specs.declared.alloc.Global.{Global}
 use Rattle.std.specs.Io.KnownBytes.{Keeps}
 use Rattle.std.proofs.KnownBytes.{Appends-nil}
@@ -17,10 +17,11 @@ use Rattle.run_call.specs.Words.{Does, IsCommand, Names}
 use Rattle.line_answers.specs.declared.end.End.{End}
 use Rattle.line_answers.specs.declared.end.End.TheVariants.{Done, ReadFault, WriteFault, Memory, BadLine, Spent}
 use Rattle.run_call.specs.declared.command.Command.{Command}
-use Rattle.run_call.specs.declared.command.Command.TheVariants.{Board, Replay}
+use Rattle.run_call.specs.declared.command.Command.TheVariants.{Board, Replay, Tourney}
 use Rattle.board_command.specs.Transcript.{board_lines}
 use Rattle.line_answers.proofs.Completeness.{is_complete}
 use Rattle.line_answers.proofs.LineCommandEnds.{AnswersPart-none}
+use Rattle.tourney_command.specs.Texts.{tourney_lines}
 use Rattle.replay_command.proofs.ReplayEnds.{ReplayEnds-none, is_complete-replayed}
 
 -- ---- statuses
@@ -55,20 +56,33 @@ one_end end wanted status is told = sym (end_of-status end) ∙ ap end_of (sym i
 -- ---- words
 
 -- words that name no job name no command
+none_named : (words : List (String Global)) (command : Command) → ((job : Job) → jobs.Names words job → ⊥) → Names words command → ⊥
+none_named words Board none h = none job.Board h
+none_named words Replay none h = none job.Replay h
+none_named words Tourney none h = none job.Tourney h
+
 pub on_fail : (fail : JobFail) (words : List (String Global)) → OnUsage fail ((job : Job) → jobs.Names words job → ⊥) → OnUsage fail (¬ (IsCommand words))
-on_fail fails.Usage words none = λ command. elim command [ inl h ↦ none job.Board h | inr h ↦ none job.Replay h ]
+on_fail fails.Usage words none = λ named. none_named words named.0 none named.1
 on_fail fails.Memory words none = tt
+
+-- the command that words name, by the first byte of the first word
+abbrev command_by : ℕ → Command
+command_by byte = if byte == 98 then Board else (if byte == 114 then Replay else Tourney)
+
+abbrev command_of : List (List ℕ) → Command
+command_of words = command_by (get_or (get_or words 0 []) 0 0)
+
+command_is : (words : List (String Global)) (command : Command) → Names words command → command_of (map string_bytes words) ≡ command
+command_is words Board n = ap command_of n
+command_is words Replay n = ap command_of n
+command_is words Tourney n = ap command_of n
 
 -- words name one command
 one_command : (words : List (String Global)) (command other : Command) → Names words command → Names words other → other ≡ command
-one_command words Board Board n m = refl
-one_command words Board Replay n m = absurd (let bad : codes "board" ∷ [] ≡ codes "replay" ∷ [] = sym n ∙ m in cc)
-one_command words Replay Board n m = absurd (let bad : codes "board" ∷ [] ≡ codes "replay" ∷ [] = sym m ∙ n in cc)
-one_command words Replay Replay n m = refl
+one_command words command other n m = sym (command_is words other m) ∙ command_is words command n
 
 pub is_command : (words : List (String Global)) (command : Command) → Names words command → IsCommand words
-is_command words Board n = inl n
-is_command words Replay n = inr n
+is_command words command n = (command, n)
 
 module _ (words : List (String Global)) (command : Command) (names : Names words command) (left left' written written' : Option (List ℕ)) (end : End) (ends : CommandEnds left left' written written' end command) where
   -- a status tells how the command ended
@@ -92,6 +106,7 @@ Keeps-same (Some bytes) = refl
 out_of_memory : (left written : Option (List ℕ)) (command : Command) → CommandEnds left left written written Memory command
 out_of_memory left written Board = AnswersPart-none board_lines left written
 out_of_memory left written Replay = ReplayEnds-none left written
+out_of_memory left written Tourney = AnswersPart-none tourney_lines left written
 
 pub memory_at_once : (words : List (String Global)) (left written : Option (List ℕ)) → WritesPart words left left written written Memory
 memory_at_once words left written = (λ command names. out_of_memory left written command, λ none. (Keeps-same left, (0, Appends-nil written)))
@@ -104,6 +119,7 @@ is_complete-command : (command : Command) (left left' written written' : Option 
     → IfSome left (λ text. length text < 2 ^ 40 → AreGood (lines_of text) command → (status_of end ≡ 0) ⊎ (status_of end ≡ 6))
 is_complete-command Board left left' written written' P Q end h p q no_read no_write = is_complete board_lines left left' written written' P Q end h p q no_read no_write
 is_complete-command Replay left left' written written' P Q end h p q no_read no_write = is_complete-replayed left left' written written' P Q end h p q no_read no_write
+is_complete-command Tourney left left' written written' P Q end h p q no_read no_write = is_complete tourney_lines left left' written written' P Q end h p q no_read no_write
 
 pub complete_at : (words : List (String Global)) (command other : Command) (left left' written written' : Option (List ℕ)) (P Q : Type 0) (end : End) (status : ℕ)
     → Names words command → Names words other → status ≡ status_of end → CommandEnds left left' written written' end command → OnReadFault end P → OnWriteFault end Q → ¬ P → ¬ Q

@@ -1,0 +1,5 @@
+use Rattle.tourney_command.proofs.Handles.{handle_is}
+use Rattle.tourney_command.proofs.reading.read_handle.Goals as goal
+
+pub returns : goal.returns
+returns c = handle_is c.args.bytes.now c.read.result c.read.ensures
