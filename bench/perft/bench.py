@@ -25,6 +25,17 @@ POSITIONS = {
     "promotion": "rnbq1k1r/pp1Pbppp/2p5/8/2B5/8/PPP1NnPP/RNBQK2R w KQ - 1 8",
     "passing": "rnbqkbnr/ppp2ppp/8/3P4/3Pp3/8/PPP1QPPP/RNB1KBNR b KQkq d3 0 4",
     "corner": "rnbqkbnr/P1ppppp1/8/7p/8/8/1PPPPPPP/RNBQKBNR w KQkq - 0 5",
+    # Fischer random, where a right is told by the rook's file
+    "array_0": "bbqnnrkr/pppppppp/8/8/8/8/PPPPPPPP/BBQNNRKR w HFhf - 0 1",
+    "array_96": "bbqnrnkr/pppppppp/8/8/8/8/PPPPPPPP/BBQNRNKR w HEhe - 0 1",
+    "array_468": "rbbnnkrq/pppppppp/8/8/8/8/PPPPPPPP/RBBNNKRQ w GAga - 0 1",
+    "array_518": "rnbqkbnr/pppppppp/8/8/8/8/PPPPPPPP/RNBQKBNR w HAha - 0 1",
+    "array_681": "qrkbbnnr/pppppppp/8/8/8/8/PPPPPPPP/QRKBBNNR w HBhb - 0 1",
+    "array_959": "rkrnnqbb/pppppppp/8/8/8/8/PPPPPPPP/RKRNNQBB w CAca - 0 1",
+    "wing": "r2k1r1b/qpp1pppp/1n1p1n2/N3P3/p1PNb3/8/PP1P1PPP/R1QKBR1B b FAfa - 0 9",
+    "far": "rk1b1rnn/ppp1p1p1/3p3p/5p2/P2q1B2/1B3N1P/1P1QPPP1/RK3R1N w FAfa - 0 9",
+    "beside": "bbr3kr/pppp3p/3npqn1/3N1pp1/PN2B3/2P3P1/1P1PPP1P/B1R1Q1KR b HChc - 3 9",
+    "centre": "bbrkq1nr/p2p1pp1/1p1n4/1Qp1p3/1N2P1pP/2P5/PP1PNP2/BBRK3R w HChc - 0 9",
 }
 
 
@@ -51,6 +62,7 @@ class Stockfish:
 
     def __init__(self):
         self.process = subprocess.Popen([STOCKFISH], stdin=subprocess.PIPE, stdout=subprocess.PIPE, text=True, bufsize=1)
+        self.process.stdin.write("setoption name UCI_Chess960 value true\n")
         self.say("isready", "readyok")
 
     def say(self, text, until):

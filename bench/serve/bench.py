@@ -1,6 +1,6 @@
 #!/usr/bin/env python3
-"""Round trips of `ficsd serve` over loopback, of empty lines and of moves, beside an echo server of one thread a link
-in the same run, and what idle links take.
+"""Round trips of `ficsd serve` over loopback, of empty lines, of moves and of `who`, beside an echo server of one
+thread a link in the same run, and what idle links take.
 
 usage: bench.py [PROGRAM]; without it the program that `./ficsd board </dev/null` builds. Wants a C compiler.
 """
@@ -19,6 +19,7 @@ from measure import machine, program_of  # noqa: E402
 SECONDS = 3
 LINKS = (1, 16, 256)
 PLAYERS = (2, 16, 256)
+MEMBERS = (16, 64, 256)
 TICKS = os.sysconf("SC_CLK_TCK")
 
 
@@ -71,8 +72,9 @@ def trips(load, server, port, links, end, kind):
 
 
 def beside(load, plain, other, served, port, links, kind):
-    """Prints the round trips of both servers with as many lines under way: one a link, or one a pair of players."""
-    lines = links // 2 if kind == "moves" else links
+    """Prints the round trips of both servers with as many lines under way: one a link, one a pair of players, or one
+    of all where a member asks who is in the hall."""
+    lines = {"moves": links // 2, "who": 1}.get(kind, links)
     rate, cost = trips(load, plain, other, lines, "\n", "echo")
     print(f"echo    {lines:4} links: {rate:9.0f} round trips a second, {cost:6.1f} microseconds of processor time each")
     mine, cost = trips(load, served, port, links, "fics% ", kind)
@@ -100,7 +102,7 @@ def main(words):
                 share = (processor_seconds(served) - before) / (time.monotonic() - start)
                 print(f"memory with {links} idle links: {resident(served)} KiB, {100 * share:.1f} % of a processor")
                 idle.wait()
-            for kind, counts in (("empty", LINKS), ("moves", PLAYERS)):
+            for kind, counts in (("empty", LINKS), ("moves", PLAYERS), ("who", MEMBERS)):
                 for links in counts:
                     beside(load, plain, other, served, port, links, kind)
             print(f"memory once all have left: {resident(served)} KiB")

@@ -2,9 +2,9 @@
  * seconds, all in one thread by poll. Prints the round trips and the seconds.
  * usage: load PORT LINKS SECONDS END KIND
  *   END is the text that ends an answer ('fics% ' of ficsd, a line feed of the echo server)
- *   KIND is 'echo' (no login), 'empty' (login, then empty lines), 'moves' (login, and then each two links play games:
- *   only accepted moves are counted, and one line of each game is under way), or 'idle' (login, and then nothing for
- *   those seconds) */
+ *   KIND is 'echo' (no login), 'empty' (login, then empty lines), 'who' (login, and then the first link asks who is in
+ *   the hall, and the others say nothing), 'moves' (login, and then each two links play games: only accepted moves are
+ *   counted, and one line of each game is under way), or 'idle' (login, and then nothing for those seconds) */
 #include <arpa/inet.h>
 #include <netinet/in.h>
 #include <poll.h>
@@ -154,6 +154,8 @@ int main(int count, char **words)
     int links = atoi(words[2]), rest = atoi(words[3]);
     const char *end = words[4], *kind = words[5];
     int echo = !strcmp(kind, "echo"), idle = !strcmp(kind, "idle"), moves = !strcmp(kind, "moves");
+    int who = !strcmp(kind, "who");
+    const char *line = who ? "who\n" : "\n";
     static struct pollfd polls[MOST];
     struct sockaddr_in at = {.sin_family = AF_INET};
     at.sin_addr.s_addr = htonl(INADDR_LOOPBACK);
@@ -178,7 +180,7 @@ int main(int count, char **words)
         printf("%ld %.3f\n", trips, now() - start);
         return 0;
     }
-    for (int i = 0; i < links; i++) say(&peers[i], "\n");
+    for (int i = 0; i < (who ? 1 : links); i++) say(&peers[i], line);
     while (now() < last) {
         if (poll(polls, links, 100) < 0) fail("poll");
         for (int i = 0; i < links; i++) {
@@ -187,7 +189,7 @@ int main(int count, char **words)
             if (!ends_in(&peers[i], end)) continue;
             trips++;
             forget(&peers[i]);
-            say(&peers[i], "\n");
+            say(&peers[i], line);
         }
     }
     printf("%ld %.3f\n", trips, now() - start);

@@ -14,14 +14,16 @@ use Rattle.chess_model.specs.declared.rights.Rights.{Rights}
 use Rattle.chess_model.specs.declared.hand.Hand.{Hand}
 use Rattle.chess_model.specs.declared.variant.Variant.{Variant}
 use Rattle.chess_model.specs.Squares.{file_of, rank_of, square_at, along}
-use Rattle.chess_model.specs.Placement.{Placement, man_at, opposite, second_rank, last_rank, unpromoted, array_of, king_home, rook_home, king_end, rook_end}
+use Rattle.chess_model.specs.Placement.{Placement, man_at, opposite, home_rank, second_rank, last_rank, unpromoted, back_rank, array_from, array_of, king_file, rook_file, king_home, rook_home, king_end, rook_end}
 use Rattle.chess_model.specs.Reach.{IsAhead, Advances, PawnTakes, Goes, Reaches}
 use Rattle.chess_model.specs.Attacked.{IsAttacked}
 use Rattle.chess_model.specs.MoveList.{is_pawn, is_en_passant, taking_square, landed, two_moved, place_after}
 use Rattle.chess_model.specs.Holdings.{count_in}
 use Rattle.chess_model.specs.Position.{Position, hand_of_side}
 use Rattle.chess_model.specs.Allowed.{HasPromotion, GoesAs, IsPlainMove, right_of, IsUnattackedWay, IsFreeFor, IsFreeWay, CanCastle, MayDropOn, CanDrop, IsMove, Allowed}
+use Rattle.chess_model.proofs.Arrays.{eight}
 use Rattle.chess_model.proofs.ChessLaws.{opposite-opposite}
+use Rattle.chess_model.proofs.HomeRanks.{home_rank_of, files_of}
 use Rattle.chess_model.proofs.NoMoreMen.{taking_square-lt, homes}
 use Rattle.chess_laws.specs.Mirror.{turned, recoloured, mirrored_men, mirrored_rights, mirrored, mirrored_move, ColoursMayBeExchanged}
 use Rattle.chess_laws.proofs.MenTurned.{recoloured-twice, AreTurned, AreTurned-back, mirrored_at, length-mirrored, AreTurned-mirrored, empty-turned, held-turned, held-from, forward-turned, step-turned, clear-turned, strikes-turned, attacked-turned, attacked-from, safe-turned, safe-from}
@@ -187,17 +189,17 @@ plain-mirrored v P Q h c a b promo ha hb =
     (landed (man_at P a) promo) (landed (man_at Q (turned a)) promo) hb refl
     (ap (λ (man : Option Man). landed man promo) (h.turn.each a ha) ∙ landed-recoloured (man_at P a) promo)
 
+-- a home stands on its file and the other colour's on the same one
+home-turned : (file : ℕ) (c : Colour) → file < 8 → square_at file (home_rank (opposite c)) ≡ turned (square_at file (home_rank c))
+home-turned file White less = sym (turned-square file 0 (omega (arith, less)) (omega arith))
+home-turned file Black less = sym (turned-square file 7 (omega (arith, less)) (omega arith))
+
 king-turned : (v : Variant) (c : Colour) → king_home v (opposite c) ≡ turned (king_home v c)
-unfolding turned
-king-turned v White = refl
-king-turned v Black = refl
+king-turned v c = let files = files_of v in home-turned (king_file v) c (omega (arith, files.short_rook, files.most))
 
 rook-turned : (v : Variant) (c : Colour) (long : Bool) → rook_home v (opposite c) long ≡ turned (rook_home v c long)
-unfolding turned
-rook-turned v White true = refl
-rook-turned v White false = refl
-rook-turned v Black true = refl
-rook-turned v Black false = refl
+rook-turned v c true = let files = files_of v in home-turned (rook_file v true) c (omega (arith, files.long_rook, files.short_rook, files.most))
+rook-turned v c false = home-turned (rook_file v false) c (files_of v).most
 
 king_end-turned : (c : Colour) (long : Bool) → king_end (opposite c) long ≡ turned (king_end c long)
 unfolding turned
@@ -401,7 +403,7 @@ allowed-back p m size h =
 
 array-mirrored : (v : Variant) → mirrored_men (array_of v) ≡ array_of v
 unfolding mirrored_men turned
-array-mirrored v = refl
+array-mirrored v = eight (λ rank. mirrored_men (array_from rank) ≡ array_from rank) (λ a b c d e f g h. refl) (back_rank v) (home_rank_of v).eight
 
 pub colours_exchanged : ColoursMayBeExchanged
 colours_exchanged = record {

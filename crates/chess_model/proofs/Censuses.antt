@@ -11,16 +11,17 @@ use Rattle.chess_model.specs.declared.man.Man.{Man}
 use Rattle.chess_model.specs.declared.moves.Move.{Move}
 use Rattle.chess_model.specs.declared.moves.Move.TheVariants.{Plain, Castle, Drop}
 use Rattle.chess_model.specs.declared.variant.Variant.{Variant}
-use Rattle.chess_model.specs.declared.variant.Variant.TheVariants.{Chess, Crazyhouse, Bughouse}
+use Rattle.chess_model.specs.declared.variant.Variant.TheVariants.{Chess, Crazyhouse, Bughouse, Fischer}
 use Rattle.chess_model.specs.Men.{same_colour, same_kind, is_held_by}
 use Rattle.chess_model.specs.Placement.{Placement, array_of}
 use Rattle.chess_model.specs.MoveList.{HalfMove, Ply, moves_of, settings, place_after, place_from, side_from, taken, history}
 use Rattle.chess_model.specs.Holdings.{hands_over, captures, loses, drops, other_board, gained, spent, count_in, hand_after}
 use Rattle.chess_model.specs.Position.{Position, position_after, hand_of_side}
-use Rattle.chess_model.specs.Allowed.{Allowed, IsLegal}
+use Rattle.chess_model.specs.Allowed.{Allowed, HasDrops, IsLegal}
 use Rattle.chess_model.specs.LegalPositions.{IsSound, IsPrey}
 use Rattle.chess_model.specs.Census.{counts_as, men_of, one_set, captured, CensusStays}
 use Rattle.chess_model.proofs.MoreMoves.{one, moves_of-same, moves_of-other, place_from-append, settings-append, history-same, history-other}
+use Rattle.chess_model.proofs.Arrays.{array_is_set}
 use Rattle.chess_model.proofs.NoMoreMen.{cond_and-false}
 use Rattle.chess_model.proofs.StandsAfter.{paid-append}
 use Rattle.chess_model.proofs.TestsDecide.{Decides-kind}
@@ -76,20 +77,6 @@ record IsBalanced (v : Variant) (ms : List Move) : Type 0 where
       ≡ one_set k + count_by (drops c k) (settings v (array_of v) White ms)
   kings_kept : (c : Colour) → count_by (loses c King) (settings v (array_of v) White ms) ≡ 0
   kings_undropped : (c : Colour) → count_by (drops c King) (settings v (array_of v) White ms) ≡ 0
-
-array_is_set : (v : Variant) (c : Colour) (k : Kind) → men_of c k (array_of v) ≡ one_set k
-array_is_set v White Pawn = refl
-array_is_set v White Knight = refl
-array_is_set v White Bishop = refl
-array_is_set v White Rook = refl
-array_is_set v White Queen = refl
-array_is_set v White King = refl
-array_is_set v Black Pawn = refl
-array_is_set v Black Knight = refl
-array_is_set v Black Bishop = refl
-array_is_set v Black Rook = refl
-array_is_set v Black Queen = refl
-array_is_set v Black King = refl
 
 balanced_start : (v : Variant) → IsBalanced v []
 balanced_start v = record {
@@ -167,6 +154,7 @@ count_more f v T d e m = elim (cases_eq d e) [
 gained-more : (v : Variant) (T : List HalfMove) (d b : ℕ) (m : Move) (c : Colour) (k : Kind) →
     gained v T b c k ≤ gained v (T ++ one d m) b c k
 gained-more Chess T d b m c k = omega arith
+gained-more (Fischer number) T d b m c k = omega arith
 gained-more Crazyhouse T d b m c k = count_more (captures c k) Crazyhouse T d b m
 gained-more Bughouse T d b m c k = count_more (loses c k) Bughouse T d (other_board b) m
 
@@ -234,12 +222,18 @@ in_hand v T b c Rook h = refl
 in_hand v T b c Queen h = refl
 in_hand v T b c King h = omega (arith, h refl)
 
-chess_kept : (T : List HalfMove) (b : ℕ) (c : Colour) (k : Kind) → IsLegal Chess T →
-    men_of c k (place_from Chess (array_of Chess) White (moves_of b T)) + captured Chess T b c k ≡ one_set k
-chess_kept T b c k legal =
-    let s = (balanced Chess b T legal).men c k in
-    let p : spent Chess T b c k ≤ 0 = legal_paid Chess T legal b c k in
-    omega (arith, s, p)
+nothing_gained : (v : Variant) (T : List HalfMove) (b : ℕ) (c : Colour) (k : Kind) → ¬ HasDrops v → gained v T b c k ≡ 0
+nothing_gained Chess T b c k none = refl
+nothing_gained (Fischer number) T b c k none = refl
+nothing_gained Crazyhouse T b c k none = absurd (none tt)
+nothing_gained Bughouse T b c k none = absurd (none tt)
+
+chess_kept : (v : Variant) (T : List HalfMove) (b : ℕ) (c : Colour) (k : Kind) → ¬ HasDrops v → IsLegal v T →
+    men_of c k (place_from v (array_of v) White (moves_of b T)) + captured v T b c k ≡ one_set k
+chess_kept v T b c k none legal =
+    let s = (balanced v b T legal).men c k in
+    let p : spent v T b c k ≤ gained v T b c k = legal_paid v T legal b c k in
+    omega (arith, s, p, nothing_gained v T b c k none)
 
 king_in_crazyhouse : (T : List HalfMove) (b : ℕ) → IsLegal Crazyhouse T → (c : Colour) →
     gained Crazyhouse T b c King ≡ spent Crazyhouse T b c King

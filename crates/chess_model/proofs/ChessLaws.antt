@@ -24,6 +24,7 @@ use Rattle.chess_model.specs.Position.{Position}
 use Rattle.chess_model.specs.Laws.{MovesOneMan, MovesKingAndRook, MeetsOwnKind, IsIrreversible, CountsQuietMoves, EachSquareIsKnown, AttackGoesBothWays, RightsNeverComeBack, NoMenAreMade}
 use Rattle.chess_model.proofs.MoreMoves.{last_ply, history-same, history-other, right_stands-append}
 use Rattle.chess_model.proofs.StandsAfter.{Stands-next}
+use Rattle.chess_model.proofs.Arrays.{length-array}
 use Rattle.chess_model.proofs.NoMoreMen.{all_men-next, length-place_after, taking_square-lt, taking_square-differs, origin, homes}
 
 -- lines
@@ -333,7 +334,7 @@ length-place_from v P c (m ∷ ms) = length-place_from v (place_after v P c m) (
 pub men_not_made : NoMenAreMade
 men_not_made p T b m stands allowed =
     let size : length p.men ≡ 64 =
-    ap (λ (q : Position). length q.men) stands.same ∙ length-place_from p.variant (array_of p.variant) White (moves_of b T) in
+    ap (λ (q : Position). length q.men) stands.same ∙ length-place_from p.variant (array_of p.variant) White (moves_of b T) ∙ length-array p.variant in
     let next_stands = Stands-next p T b m allowed stands in
     let Q : Position → Type 0 = λ x. all_men x ≤ all_men p in
     subst Q next_stands.same (all_men-next p m size allowed)

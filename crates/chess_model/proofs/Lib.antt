@@ -1,11 +1,16 @@
 pub mod Among
+pub mod Arrays
 pub mod Captures
 pub mod Censuses
 pub mod ChessLaws
+pub mod FischerWords
+pub mod HomeFiles
+pub mod HomeRanks
 pub mod LegalLists
 pub mod MoreMoves
 pub mod MovesListed
 pub mod NoMoreMen
+pub mod OnFree
 pub mod SoundPositions
 pub mod StandsAfter
 pub mod StatesTold

@@ -13,7 +13,7 @@ use Rattle.chess_model.specs.declared.man.Kind.{Kind}
 use Rattle.chess_model.specs.declared.man.Kind.TheVariants.{Pawn, Knight, Bishop, Rook, Queen}
 use Rattle.chess_model.specs.declared.moves.Move.{Move}
 use Rattle.chess_model.specs.declared.variant.Variant.{Variant}
-use Rattle.chess_model.specs.declared.variant.Variant.TheVariants.{Chess, Crazyhouse, Bughouse}
+use Rattle.chess_model.specs.declared.variant.Variant.TheVariants.{Chess, Crazyhouse, Bughouse, Fischer}
 use Rattle.chess_model.specs.Placement.{Placement, opposite, array_of}
 use Rattle.chess_model.specs.MoveList.{HalfMove, Ply, moves_of, place_after, settings, place_from, side_from, history}
 use Rattle.chess_model.specs.RightsAndCounts.{keeps_right, right_stands, rights_after, passed_over, en_passant_after, is_quiet, quiet_count}
@@ -113,6 +113,7 @@ spent-append v T b m c k = rw history-same (sum_by_push (λ h. cond (drops c k h
 pub gained-append : (v : Variant) (T : List HalfMove) (b : ℕ) (m : Move) (c : Colour) (k : Kind) →
     gained v (T ++ one b m) b c k ≡ gained v T b c k + gain v c k (last_ply v T b m)
 gained-append Chess T b m c k = refl
+gained-append (Fischer number) T b m c k = refl
 gained-append Crazyhouse T b m c k =
     rw history-same (sum_by_push (λ h. cond (captures c k h) 1 0) (history Crazyhouse T b) (last_ply Crazyhouse T b m))
 gained-append Bughouse T b m c k =

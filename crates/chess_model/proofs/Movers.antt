@@ -1,15 +1,16 @@
 -- What the other board leaves alone, whose half-move is whose, and where the homes are.
-use Rattle.std.proofs.Common.{arith, ◌≡◌, ℕ, ◌%◌, ◌<◌, suc, zero, List, [], ◌∷◌, Bool, true, false, length, min, slice_index_or, refl, ap, ◌∙◌}
+use Rattle.std.proofs.Common.{arith, ◌≡◌, ℕ, ◌%◌, ◌<◌, suc, zero, List, [], ◌∷◌, true, false, length, min, slice_index_or, refl, ap, ◌∙◌}
 use Rattle.chess_model.specs.declared.man.Colour.{Colour}
 use Rattle.chess_model.specs.declared.man.Colour.TheVariants.{White, Black}
-use Rattle.chess_model.specs.declared.man.Kind.TheVariants.{Rook, King}
 use Rattle.chess_model.specs.declared.moves.Move.{Move}
 use Rattle.chess_model.specs.declared.variant.Variant.{Variant}
 use Rattle.chess_model.specs.Squares.{rank_of}
-use Rattle.chess_model.specs.Placement.{Placement, man_at, opposite, unpromoted, home_rank, array_of, king_home, rook_home}
+use Rattle.chess_model.specs.Placement.{Placement, opposite, home_rank, array_of, king_home, rook_home}
 use Rattle.chess_model.specs.MoveList.{Ply, moves_of, settings, place_after, place_from, side_from}
 use Rattle.chess_model.specs.RightsAndCounts.{rights_after, en_passant_after, quiet_count}
 use Rattle.chess_model.specs.LegalPositions.{OtherBoardStays, ColoursAlternate, HomesAreInTheArray}
+use Rattle.chess_model.proofs.Arrays.{kings_home, rooks_home}
+use Rattle.chess_model.proofs.HomeRanks.{files_of}
 use Rattle.chess_model.proofs.MoreMoves.{moves_of-other}
 use Rattle.chess_model.proofs.ChessLaws.{opposite-opposite}
 
@@ -47,22 +48,11 @@ colours_alternate = record {
 }
 
 homes_order : (v : Variant) (c : Colour) → (rook_home v c true < king_home v c) × (king_home v c < rook_home v c false)
-homes_order v White = (omega arith, omega arith)
-homes_order v Black = (omega arith, omega arith)
-
-kings_home : (v : Variant) (c : Colour) → man_at (array_of v) (king_home v c) ≡ unpromoted c King
-kings_home v White = refl
-kings_home v Black = refl
-
-rooks_home : (v : Variant) (c : Colour) (long : Bool) → man_at (array_of v) (rook_home v c long) ≡ unpromoted c Rook
-rooks_home v White true = refl
-rooks_home v White false = refl
-rooks_home v Black true = refl
-rooks_home v Black false = refl
+homes_order v c = let f = files_of v in (omega (arith, f.long_rook), omega (arith, f.short_rook))
 
 home_is_on_rank : (v : Variant) (c : Colour) → rank_of (king_home v c) ≡ home_rank c
-home_is_on_rank v White = refl
-home_is_on_rank v Black = refl
+home_is_on_rank v White = let f = files_of v in omega (arith, f.short_rook, f.most)
+home_is_on_rank v Black = let f = files_of v in omega (arith, f.short_rook, f.most)
 
 pub homes_in_array : HomesAreInTheArray
 homes_in_array = record { king = kings_home; rook = rooks_home; order = homes_order; rank = home_is_on_rank }

@@ -12,7 +12,7 @@ use Rattle.chess_model.specs.declared.moves.Move.{Move}
 use Rattle.chess_model.specs.declared.moves.Move.TheVariants.{Plain, Castle, Drop}
 use Rattle.chess_model.specs.declared.hand.Hand.{Hand}
 use Rattle.chess_model.specs.declared.variant.Variant.{Variant}
-use Rattle.chess_model.specs.declared.variant.Variant.TheVariants.{Chess, Crazyhouse, Bughouse}
+use Rattle.chess_model.specs.declared.variant.Variant.TheVariants.{Chess, Crazyhouse, Bughouse, Fischer}
 use Rattle.chess_model.specs.Squares.{file_of, rank_of, square_at}
 use Rattle.chess_model.specs.Placement.{Placement, man_at, unpromoted, king_home, rook_home, king_end, rook_end}
 use Rattle.chess_model.specs.Reach.{IsForward, IsStep, Reaches}
@@ -22,6 +22,7 @@ use Rattle.chess_model.specs.Census.{men_on, men_in, all_men}
 use Rattle.chess_model.specs.Position.{Position, hand_of_side}
 use Rattle.chess_model.specs.Allowed.{GoesAs, Allowed}
 use Rattle.chess_model.specs.Next.{gain, next_hand, next}
+use Rattle.chess_model.proofs.HomeRanks.{files_of}
 use Rattle.chess_model.proofs.StandsAfter.{same_colour-eq}
 
 -- 1 where a man stands there
@@ -148,6 +149,7 @@ hand-plain _ hand _ _ P a b promo = omega arith
 
 no_gain : (v : Variant) (c : Colour) (k : Kind) (h : Ply) → hands_over k (taken h.before h.what) ≡ false → gain v c k h ≡ 0
 no_gain Chess c k h e = refl
+no_gain (Fischer number) c k h e = refl
 no_gain Crazyhouse c k h e = rw e (cond_and-false (same_colour h.by c))
 no_gain Bughouse c k h e = refl
 
@@ -204,10 +206,10 @@ pub record Homes (v : Variant) (c : Colour) (long : Bool) : Type 0 where
   pub goals_differ : king_end c long ≢ rook_end c long
 
 pub homes : (v : Variant) (c : Colour) (long : Bool) → Homes v c long
-homes v White true = record { king = omega arith; rook = omega arith; king_goal = omega arith; rook_goal = omega arith; differ = λ e. omega arith; goals_differ = λ e. omega arith }
-homes v White false = record { king = omega arith; rook = omega arith; king_goal = omega arith; rook_goal = omega arith; differ = λ e. omega arith; goals_differ = λ e. omega arith }
-homes v Black true = record { king = omega arith; rook = omega arith; king_goal = omega arith; rook_goal = omega arith; differ = λ e. omega arith; goals_differ = λ e. omega arith }
-homes v Black false = record { king = omega arith; rook = omega arith; king_goal = omega arith; rook_goal = omega arith; differ = λ e. omega arith; goals_differ = λ e. omega arith }
+homes v White true = let f = files_of v in record { king = omega (arith, f.long_rook, f.short_rook, f.most); rook = omega (arith, f.long_rook, f.short_rook, f.most); king_goal = omega arith; rook_goal = omega arith; differ = λ e. omega (arith, e, f.long_rook, f.short_rook, f.most); goals_differ = λ e. omega arith }
+homes v White false = let f = files_of v in record { king = omega (arith, f.long_rook, f.short_rook, f.most); rook = omega (arith, f.long_rook, f.short_rook, f.most); king_goal = omega arith; rook_goal = omega arith; differ = λ e. omega (arith, e, f.long_rook, f.short_rook, f.most); goals_differ = λ e. omega arith }
+homes v Black true = let f = files_of v in record { king = omega (arith, f.long_rook, f.short_rook, f.most); rook = omega (arith, f.long_rook, f.short_rook, f.most); king_goal = omega arith; rook_goal = omega arith; differ = λ e. omega (arith, e, f.long_rook, f.short_rook, f.most); goals_differ = λ e. omega arith }
+homes v Black false = let f = files_of v in record { king = omega (arith, f.long_rook, f.short_rook, f.most); rook = omega (arith, f.long_rook, f.short_rook, f.most); king_goal = omega arith; rook_goal = omega arith; differ = λ e. omega (arith, e, f.long_rook, f.short_rook, f.most); goals_differ = λ e. omega arith }
 
 held_by : (p : Position) (c : Colour) (j : Kind) → 0 < count_in (hand_of_side p p.to_move) j →
     same_colour p.to_move c ≡ true → 0 < count_in (hand_of_side p c) j

@@ -23,14 +23,15 @@ use Rattle.chess_model.specs.RightsAndCounts.{touches, keeps_right, rights_after
 use Rattle.chess_model.specs.Holdings.{count_in}
 use Rattle.chess_model.specs.Position.{Position, position_after, hand_of_side}
 use Rattle.chess_model.specs.Allowed.{IsPromotion, HasPromotion, right_of, Allowed, IsLegal}
-use Rattle.chess_model.specs.Tests as test
 use Rattle.chess_model.specs.Next.{next, next_rights}
 use Rattle.chess_model.specs.Laws.{MovesOneMan, MovesKingAndRook}
 use Rattle.chess_model.specs.LegalPositions.{behind, HasPassed, AreAtHome, IsSound, IsPrey, LegalPositionsAreSound, MovesAMan}
+use Rattle.chess_model.proofs.Arrays.{length-array, kings_home, rooks_home, kings_at_start, safe_at_start}
+use Rattle.chess_model.proofs.HomeRanks.{files_of}
 use Rattle.chess_model.proofs.MoreMoves.{one, moves_of-same, moves_of-other, place_from-append, side_from-append, settings-append, rights_after-append, en_passant_after-append}
 use Rattle.chess_model.proofs.NoMoreMen.{cond_and-false, length-place_after}
 use Rattle.chess_model.proofs.ChessLaws.{known_squares, opposite-opposite}
-use Rattle.chess_model.proofs.TestsDecide.{Decides-kind, Decides-king_safe}
+use Rattle.chess_model.proofs.TestsDecide.{Decides-kind}
 use Rattle.chess_model.proofs.Captures.{IsMover, mover, Take, nothing, on_target, passing, take_of, captures_prey, moves_a_man}
 use Rattle.chess_model.proofs.Weights.{IsSteady, brought, weight-after}
 
@@ -116,10 +117,10 @@ record OnHomeRank (v : Variant) (c : Colour) (long : Bool) : Type 0 where
   rook_goal : rank_of (rook_end c long) ≡ home_rank c
 
 on_home_rank : (v : Variant) (c : Colour) (long : Bool) → OnHomeRank v c long
-on_home_rank v White true = record { king = refl; rook = refl; king_goal = refl; rook_goal = refl }
-on_home_rank v White false = record { king = refl; rook = refl; king_goal = refl; rook_goal = refl }
-on_home_rank v Black true = record { king = refl; rook = refl; king_goal = refl; rook_goal = refl }
-on_home_rank v Black false = record { king = refl; rook = refl; king_goal = refl; rook_goal = refl }
+on_home_rank v White true = let f = files_of v in record { king = omega (arith, f.long_rook, f.short_rook, f.most); rook = omega (arith, f.long_rook, f.short_rook, f.most); king_goal = refl; rook_goal = refl }
+on_home_rank v White false = let f = files_of v in record { king = omega (arith, f.long_rook, f.short_rook, f.most); rook = omega (arith, f.long_rook, f.short_rook, f.most); king_goal = refl; rook_goal = refl }
+on_home_rank v Black true = let f = files_of v in record { king = omega (arith, f.long_rook, f.short_rook, f.most); rook = omega (arith, f.long_rook, f.short_rook, f.most); king_goal = refl; rook_goal = refl }
+on_home_rank v Black false = let f = files_of v in record { king = omega (arith, f.long_rook, f.short_rook, f.most); rook = omega (arith, f.long_rook, f.short_rook, f.most); king_goal = refl; rook_goal = refl }
 
 home_ranks_differ : (c d : Colour) → (c ≡ d → ⊥) → home_rank c ≢ home_rank d
 home_ranks_differ White White h e = h refl
@@ -347,22 +348,14 @@ bare-append v ms m n w k s =
     }) first
 
 homes_at_start : (v : Variant) (c : Colour) (long : Bool) → AreAtHome v (array_of v) c long
-homes_at_start v White true = record { king = (refl, refl); rook = (refl, refl) }
-homes_at_start v White false = record { king = (refl, refl); rook = (refl, refl) }
-homes_at_start v Black true = record { king = (refl, refl); rook = (refl, refl) }
-homes_at_start v Black false = record { king = (refl, refl); rook = (refl, refl) }
-
-kings_at_start : (v : Variant) (c : Colour) → count_by (is_held_as c King) (array_of v) ≡ 1
-kings_at_start v White = refl
-kings_at_start v Black = refl
-
-safe_at_start : (v : Variant) → IsKingSafe (array_of v) Black
-unfolding test.is_king_safe test.is_attacked
-safe_at_start v = (Decides-king_safe (array_of v) Black).0 refl
+homes_at_start v c long = record {
+  king = subst (IsHeldAs c King) (sym (kings_home v c)) (refl, refl);
+  rook = subst (IsHeldAs c Rook) (sym (rooks_home v c long)) (refl, refl);
+}
 
 sound_start : (v : Variant) → IsSound (bare v [])
 sound_start v = record {
-  squares = refl;
+  squares = length-array v;
   one_king = kings_at_start v;
   other_safe = safe_at_start v;
   rights = λ c long h. homes_at_start v c long;

@@ -8,7 +8,7 @@ use Rattle.chess_model.specs.declared.man.Kind.TheVariants.{Knight}
 use Rattle.chess_model.specs.declared.moves.Move.{Move}
 use Rattle.chess_model.specs.declared.moves.Move.TheVariants.{Plain, Castle, Drop}
 use Rattle.chess_model.specs.declared.variant.Variant.{Variant}
-use Rattle.chess_model.specs.declared.variant.Variant.TheVariants.{Chess, Crazyhouse, Bughouse}
+use Rattle.chess_model.specs.declared.variant.Variant.TheVariants.{Chess, Crazyhouse, Bughouse, Fischer}
 use Rattle.chess_model.specs.Placement.{man_at, unpromoted}
 use Rattle.chess_model.specs.Attacked.{IsKingSafe}
 use Rattle.chess_model.specs.Position.{Position}
@@ -82,6 +82,7 @@ any_shield p =
 
 Decides-answer : (v : Variant) (p : Position) → Decides (has_answer v p) (HasAnswer v p)
 Decides-answer Chess p = any_move p
+Decides-answer (Fischer number) p = any_move p
 Decides-answer Crazyhouse p = any_move p
 Decides-answer Bughouse p =
     Decides-or (can_move p) (list_any (shields p) test.squares) (Decides-can_move p) (any_shield p)
@@ -93,6 +94,7 @@ told v p e true true s a = (s.0 refl, inl (a.0 refl))
 told v p e false true s a = (not_from_Decides false s refl, a.0 refl)
 told v p e false false s a = (not_from_Decides false s refl, not_from_Decides false a refl)
 told Chess p e true false s a = (s.0 refl, not_from_Decides false a refl, λ f. let g = sym e ∙ f in cc)
+told (Fischer number) p e true false s a = (s.0 refl, not_from_Decides false a refl, λ f. let g = sym e ∙ f in cc)
 told Crazyhouse p e true false s a = (s.0 refl, not_from_Decides false a refl, λ f. let g = sym e ∙ f in cc)
 told Bughouse p e true false s a = (s.0 refl, inr e)
 

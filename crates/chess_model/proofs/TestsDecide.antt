@@ -10,7 +10,7 @@ use Rattle.chess_model.specs.declared.man.Man.{Man}
 use Rattle.chess_model.specs.declared.moves.Move.{Move}
 use Rattle.chess_model.specs.declared.moves.Move.TheVariants.{Plain, Castle, Drop}
 use Rattle.chess_model.specs.declared.variant.Variant.{Variant}
-use Rattle.chess_model.specs.declared.variant.Variant.TheVariants.{Chess, Crazyhouse, Bughouse}
+use Rattle.chess_model.specs.declared.variant.Variant.TheVariants.{Chess, Crazyhouse, Bughouse, Fischer}
 use Rattle.chess_model.specs.Squares.{rank_of, files_apart, ranks_apart, distance, along}
 use Rattle.chess_model.specs.Men.{same_colour, same_kind, is_held_by, is_held_as}
 use Rattle.chess_model.specs.Placement.{Placement, man_at, opposite, IsHeldBy, IsHeldAs, second_rank, last_rank, king_home, rook_home, king_end, rook_end}
@@ -299,6 +299,7 @@ Decides-castle p long =
 
 pub Decides-has_drops : (v : Variant) → Decides (test.has_drops v) (HasDrops v)
 Decides-has_drops Chess = never (λ e. e)
+Decides-has_drops (Fischer number) = never (λ e. e)
 Decides-has_drops Crazyhouse = always tt
 Decides-has_drops Bughouse = always tt
 

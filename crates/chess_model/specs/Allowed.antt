@@ -9,7 +9,7 @@ use Rattle.chess_model.specs.declared.moves.Move.{Move}
 use Rattle.chess_model.specs.declared.moves.Move.TheVariants.{Plain, Castle, Drop}
 use Rattle.chess_model.specs.declared.rights.Rights.{Rights}
 use Rattle.chess_model.specs.declared.variant.Variant.{Variant}
-use Rattle.chess_model.specs.declared.variant.Variant.TheVariants.{Chess, Crazyhouse, Bughouse}
+use Rattle.chess_model.specs.declared.variant.Variant.TheVariants.{Chess, Crazyhouse, Bughouse, Fischer}
 use Rattle.chess_model.specs.Squares.{rank_of, distance, along}
 use Rattle.chess_model.specs.Placement.{Placement, man_at, opposite, last_rank, king_home, rook_home, king_end, rook_end}
 use Rattle.chess_model.specs.Reach.{Reaches}
@@ -85,6 +85,7 @@ abbrev pub HasDrops : Variant → Type 0
 HasDrops Chess = ⊥
 HasDrops Crazyhouse = ⊤
 HasDrops Bughouse = ⊤
+HasDrops (Fischer number) = ⊥
 
 -- a pawn isn't dropped on the first or eighth rank
 abbrev pub MayDropOn : Kind → ℕ → Type 0

@@ -6,14 +6,14 @@ use Rattle.chess_model.specs.declared.man.Kind.{Kind}
 use Rattle.chess_model.specs.declared.man.Kind.TheVariants.{Pawn, Knight, Bishop, Rook, Queen, King}
 use Rattle.chess_model.specs.declared.man.Man.{Man}
 use Rattle.chess_model.specs.declared.variant.Variant.{Variant}
-use Rattle.chess_model.specs.declared.variant.Variant.TheVariants.{Chess, Crazyhouse, Bughouse}
+use Rattle.chess_model.specs.declared.variant.Variant.TheVariants.{Crazyhouse, Bughouse}
 use Rattle.chess_model.specs.declared.hand.Hand.{Hand}
 use Rattle.chess_model.specs.Placement.{Placement}
 use Rattle.chess_model.specs.Men.{is_held_by}
 use Rattle.chess_model.specs.MoveList.{HalfMove, history}
 use Rattle.chess_model.specs.Holdings.{hands_over, loses, count_in, hand_after}
 use Rattle.chess_model.specs.Position.{Position, position_after}
-use Rattle.chess_model.specs.Allowed.{IsLegal}
+use Rattle.chess_model.specs.Allowed.{HasDrops, IsLegal}
 
 -- the men on a board
 abbrev pub men_on : Placement → ℕ
@@ -48,9 +48,9 @@ one_set King = 1
 abbrev pub captured : Variant → List HalfMove → ℕ → Colour → Kind → ℕ
 captured v T b c k = count_by (loses c k) (history v T b)
 
--- in chess: the men of a colour and kind on the board, and those captured
-abbrev pub chess_census : List HalfMove → ℕ → Colour → Kind → ℕ
-chess_census T b c k = men_of c k (position_after Chess T b).men + captured Chess T b c k
+-- in chess and in Fischer random: the men of a colour and kind on the board, and those captured
+abbrev pub chess_census : Variant → List HalfMove → ℕ → Colour → Kind → ℕ
+chess_census v T b c k = men_of c k (position_after v T b).men + captured v T b c k
 
 -- in crazyhouse: the men of a kind, of both colours, on the board and in both hands
 abbrev pub crazyhouse_census : List HalfMove → ℕ → Kind → ℕ
@@ -66,7 +66,9 @@ pair_census T c k =
 
 -- no legal list of half-moves makes or loses a man
 pub record CensusStays : Type 0 where
-  pub chess : (T : List HalfMove) (b : ℕ) (c : Colour) (k : Kind) → IsLegal Chess T → chess_census T b c k ≡ one_set k
+  -- in chess and in Fischer random, where nothing is dropped
+  pub chess : (v : Variant) (T : List HalfMove) (b : ℕ) (c : Colour) (k : Kind) → ¬ HasDrops v → IsLegal v T →
+      chess_census v T b c k ≡ one_set k
   pub crazyhouse : (T : List HalfMove) (b : ℕ) (k : Kind) → IsLegal Crazyhouse T → crazyhouse_census T b k
       ≡ 2 * one_set k
   pub pair : (T : List HalfMove) (c : Colour) (k : Kind) → IsLegal Bughouse T → pair_census T c k ≡ 2 * one_set k

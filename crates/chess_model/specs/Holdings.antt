@@ -7,7 +7,7 @@ use Rattle.chess_model.specs.declared.man.Man.{Man}
 use Rattle.chess_model.specs.declared.moves.Move.{Move}
 use Rattle.chess_model.specs.declared.moves.Move.TheVariants.{Plain, Castle, Drop}
 use Rattle.chess_model.specs.declared.variant.Variant.{Variant}
-use Rattle.chess_model.specs.declared.variant.Variant.TheVariants.{Chess, Crazyhouse, Bughouse}
+use Rattle.chess_model.specs.declared.variant.Variant.TheVariants.{Chess, Crazyhouse, Bughouse, Fischer}
 use Rattle.chess_model.specs.declared.hand.Hand.{Hand}
 pub use Rattle.chess_model.specs.Men.{same_colour, same_kind, is_held_by}
 use Rattle.chess_model.specs.MoveList.{HalfMove, Ply, taken, history}
@@ -47,6 +47,7 @@ other_board b = 3 - b
 -- in bughouse the men of its own colour that were captured on the other board
 abbrev pub gained : Variant → List HalfMove → ℕ → Colour → Kind → ℕ
 gained Chess T b c k = 0
+gained (Fischer number) T b c k = 0
 gained Crazyhouse T b c k = count_by (captures c k) (history Crazyhouse T b)
 gained Bughouse T b c k = count_by (loses c k) (history Bughouse T (other_board b))
 

@@ -5,8 +5,10 @@ pub mod Attacked
 pub mod Census
 pub mod Claims
 pub mod Examples
+pub mod FischerArrays
 pub mod Holdings
 pub mod Laws
+pub mod Material
 pub mod Men
 pub mod LegalPositions
 pub mod MoveList

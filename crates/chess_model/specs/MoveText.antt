@@ -1,3 +1,4 @@
+-- The text of a move: 1 to 12 bytes of printable ASCII.
 use Rattle.std.specs.Prelude.{ℕ, ◌<◌, ◌≤◌, Bool, ◌&&◌, IsTrue, nat_le, List, length}
 use Rattle.std.specs.List.{list_all}
 

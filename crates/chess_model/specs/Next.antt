@@ -7,7 +7,7 @@ use Rattle.chess_model.specs.declared.moves.Move.{Move}
 use Rattle.chess_model.specs.declared.hand.Hand.{Hand}
 use Rattle.chess_model.specs.declared.rights.Rights.{Rights}
 use Rattle.chess_model.specs.declared.variant.Variant.{Variant}
-use Rattle.chess_model.specs.declared.variant.Variant.TheVariants.{Chess, Crazyhouse, Bughouse}
+use Rattle.chess_model.specs.declared.variant.Variant.TheVariants.{Chess, Crazyhouse, Bughouse, Fischer}
 use Rattle.chess_model.specs.Placement.{Placement, opposite}
 use Rattle.chess_model.specs.MoveList.{Ply, place_after}
 use Rattle.chess_model.specs.RightsAndCounts.{keeps_right, passed_over, is_quiet}
@@ -32,6 +32,7 @@ abbrev pub gain : Variant → Colour → Kind → Ply → ℕ
 gain Chess c k h = 0
 gain Crazyhouse c k h = cond (captures c k h) 1 0
 gain Bughouse c k h = 0
+gain (Fischer number) c k h = 0
 
 -- the hand of c
 abbrev pub next_hand : Variant → Hand → Colour → Ply → Hand

@@ -1,12 +1,13 @@
 -- Placements: which man stands on which square, and the placement at the start (FIDE Laws 2.2 and 2.3).
-use Rattle.std.specs.Prelude.{◌≡◌, ℕ, ◌-◌, Bool, true, false, not, List, [], ◌∷◌, ◌++◌, length, map, replicate, reverse, take_while, Option, Some, None, slice_index_or}
+use Rattle.std.specs.Prelude.{◌≡◌, ℕ, ◌%◌, Bool, true, false, List, ◌++◌, map, replicate, Option, Some, None, slice_index_or}
 use Rattle.chess_model.specs.declared.man.Colour.{Colour}
 use Rattle.chess_model.specs.declared.man.Colour.TheVariants.{White, Black}
 use Rattle.chess_model.specs.declared.man.Kind.{Kind}
-use Rattle.chess_model.specs.declared.man.Kind.TheVariants.{Pawn, Knight, Bishop, Rook, Queen, King}
+use Rattle.chess_model.specs.declared.man.Kind.TheVariants.{Pawn, Rook, King}
 use Rattle.chess_model.specs.declared.man.Man.{Man}
 use Rattle.chess_model.specs.declared.variant.Variant.{Variant}
-use Rattle.chess_model.specs.Men.{same_kind}
+use Rattle.chess_model.specs.declared.variant.Variant.TheVariants.{Chess, Crazyhouse, Bughouse, Fischer}
+use Rattle.chess_model.specs.FischerArrays.{usual_rank, numbered_rank, first_file, last_file}
 use Rattle.chess_model.specs.Squares.{square_at}
 
 -- the man on each square, by the square's number
@@ -46,17 +47,12 @@ abbrev pub last_rank : Colour → ℕ
 last_rank White = 7
 last_rank Black = 0
 
--- the kinds on the home ranks at the start, from file a to file h
+-- the kinds on the home ranks at the start, from file a to file h; numbers of arrays count modulo 960
 abbrev pub back_rank : Variant → List Kind
-back_rank v = Rook ∷ Knight ∷ Bishop ∷ Queen ∷ King ∷ Bishop ∷ Knight ∷ Rook ∷ []
-
--- the file of the first man of a kind in a rank that is told from file a
-abbrev pub first_file : Kind → List Kind → ℕ
-first_file k rank = length (take_while (λ j. not (same_kind j k)) rank)
-
--- the file of the last man of a kind in a rank of eight that is told from file a
-abbrev pub last_file : Kind → List Kind → ℕ
-last_file k rank = 7 - first_file k (reverse rank)
+back_rank Chess = usual_rank
+back_rank Crazyhouse = usual_rank
+back_rank Bughouse = usual_rank
+back_rank (Fischer number) = numbered_rank (number % 960)
 
 -- the file of the king at the start
 abbrev pub king_file : Variant → ℕ
@@ -71,11 +67,15 @@ rook_file v false = last_file Rook (back_rank v)
 abbrev pub unpromoted : Colour → Kind → Option Man
 unpromoted c k = Some (record { colour = c; kind = k; promoted = false })
 
+-- the placement in which both colours have these home ranks, with the pawns before them
+abbrev pub array_from : List Kind → Placement
+array_from rank =
+    map (unpromoted White) rank ++ replicate 8 (unpromoted White Pawn) ++ replicate 32 None
+    ++ replicate 8 (unpromoted Black Pawn) ++ map (unpromoted Black) rank
+
 -- the placement of the start
 abbrev pub array_of : Variant → Placement
-array_of v =
-    map (unpromoted White) (back_rank v) ++ replicate 8 (unpromoted White Pawn) ++ replicate 32 None
-    ++ replicate 8 (unpromoted Black Pawn) ++ map (unpromoted Black) (back_rank v)
+array_of v = array_from (back_rank v)
 
 -- the square on which a colour's king begins
 abbrev pub king_home : Variant → Colour → ℕ

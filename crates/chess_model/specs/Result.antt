@@ -8,7 +8,7 @@ use Rattle.chess_model.specs.declared.moves.Move.TheVariants.{Plain, Castle, Dro
 use Rattle.chess_model.specs.declared.states.State.{State}
 use Rattle.chess_model.specs.declared.states.State.TheVariants.{Safe, Check, Mate, Stalemate}
 use Rattle.chess_model.specs.declared.variant.Variant.{Variant}
-use Rattle.chess_model.specs.declared.variant.Variant.TheVariants.{Chess, Crazyhouse, Bughouse}
+use Rattle.chess_model.specs.declared.variant.Variant.TheVariants.{Chess, Crazyhouse, Bughouse, Fischer}
 use Rattle.chess_model.specs.Placement.{man_at, unpromoted}
 use Rattle.chess_model.specs.Position.{Position}
 use Rattle.chess_model.specs.Attacked.{IsKingSafe}
@@ -37,12 +37,14 @@ shields p s = is_none (man_at p.men s) && is_king_safe (slice_set p.men s (unpro
 abbrev pub has_answer : Variant → Position → Bool
 has_answer Chess p = can_move p || can_drop_any p
 has_answer Crazyhouse p = can_move p || can_drop_any p
+has_answer (Fischer number) p = can_move p || can_drop_any p
 has_answer Bughouse p = can_move p || list_any (shields p) squares
 
 -- what a stuck player is who isn't in check: in bughouse this one waits
 abbrev pub stuck_unchecked : Variant → State
 stuck_unchecked Chess = Stalemate
 stuck_unchecked Crazyhouse = Stalemate
+stuck_unchecked (Fischer number) = Stalemate
 stuck_unchecked Bughouse = Safe
 
 -- the state by the variant, whether the player is in check, and whether there is an answer
@@ -72,6 +74,7 @@ pub record Shields (p : Position) (s : ℕ) : Type 0 where
 abbrev pub HasAnswer : Variant → Position → Type 0
 HasAnswer Chess p = (m : Move) × Allowed p m
 HasAnswer Crazyhouse p = (m : Move) × Allowed p m
+HasAnswer (Fischer number) p = (m : Move) × Allowed p m
 HasAnswer Bughouse p = ((m : Move) × IsOnBoard m × Allowed p m) ⊎ ((s : ℕ) × Shields p s)
 
 -- what each state says of a position

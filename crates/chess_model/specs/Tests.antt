@@ -10,7 +10,7 @@ use Rattle.chess_model.specs.declared.man.Man.{Man}
 use Rattle.chess_model.specs.declared.moves.Move.{Move}
 use Rattle.chess_model.specs.declared.moves.Move.TheVariants.{Plain, Castle, Drop}
 use Rattle.chess_model.specs.declared.variant.Variant.{Variant}
-use Rattle.chess_model.specs.declared.variant.Variant.TheVariants.{Chess, Crazyhouse, Bughouse}
+use Rattle.chess_model.specs.declared.variant.Variant.TheVariants.{Chess, Crazyhouse, Bughouse, Fischer}
 use Rattle.chess_model.specs.Squares.{rank_of, files_apart, ranks_apart, distance, along}
 use Rattle.chess_model.specs.Men.{same_colour, is_held_by, is_held_as}
 use Rattle.chess_model.specs.Placement.{Placement, man_at, opposite, second_rank, last_rank, king_home, rook_home, king_end, rook_end}
@@ -174,6 +174,7 @@ abbrev pub has_drops : Variant → Bool
 has_drops Chess = false
 has_drops Crazyhouse = true
 has_drops Bughouse = true
+has_drops (Fischer number) = false
 
 -- whether a man of that kind may be dropped on the rank of that square
 abbrev pub may_drop_on : Kind → ℕ → Bool

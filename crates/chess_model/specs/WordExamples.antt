@@ -10,7 +10,7 @@ use Rattle.chess_model.specs.declared.moves.MoveWord.TheVariants as word
 use Rattle.chess_model.specs.declared.moves.Rejection.TheVariants.{Ambiguous, LeavesKing, CastleForbidden, NoDrops, NotInHand, Occupied, EndRank, NoPiece, CannotReach}
 use Rattle.chess_model.specs.declared.hand.Hand.{Hand}
 use Rattle.chess_model.specs.declared.variant.Variant.{Variant}
-use Rattle.chess_model.specs.declared.variant.Variant.TheVariants.{Chess, Crazyhouse}
+use Rattle.chess_model.specs.declared.variant.Variant.TheVariants.{Chess, Crazyhouse, Fischer}
 use Rattle.chess_model.specs.Placement.{Placement, man_at, unpromoted}
 use Rattle.chess_model.specs.MoveList.{place_after}
 use Rattle.chess_model.specs.Position.{Position, position_after}
@@ -82,6 +82,14 @@ castling_past rook = chess White (white King 4 ∷ white Rook 0 ∷ white Rook 7
 abbrev pub black_long : Position
 black_long = chess Black (black King 60 ∷ black Rook 56 ∷ white King 4 ∷ [])
 
+-- array 96, where the king begins on g1. White: Kg1, Rh1; Black: Ka8
+abbrev pub king_on_g : Position
+king_on_g = board (Fischer 96) White None empty_hand (white King 6 ∷ white Rook 7 ∷ black King 56 ∷ [])
+
+-- array 681, where the king begins on c1 beside a rook on b1. White: Kc1, Rb1; Black: Kh8 and some more men
+abbrev pub rook_beside : List Standing → Position
+rook_beside more = board (Fischer 681) White None empty_hand (white King 2 ∷ white Rook 1 ∷ black King 63 ∷ more)
+
 -- White: Kh1, Nc3, Ng1; Black: Kh8
 abbrev pub two_knights : Position
 two_knights = chess White (white King 7 ∷ white Knight 18 ∷ white Knight 6 ∷ black King 63 ∷ [])
@@ -111,6 +119,15 @@ pub record AllowedExamples : Type 0 where
   pub long_past_d1 : is_allowed (castling_past 35) (move.Castle true) ≡ false
   pub black_castles : is_allowed black_long (move.Castle true) ≡ true
   pub black_rook : man_at (place_after Chess black_long.men Black (move.Castle true)) 59 ≡ unpromoted Black Rook
+  -- Fischer random: king and rook exchange, the other rook is in the way, the king is there already, and castling takes
+  -- the rook away that stood between the king and a queen
+  pub exchange : is_allowed (position_after (Fischer 468) [] 1) (move.Castle false) ≡ true
+  pub in_the_way : is_allowed (position_after (Fischer 0) [] 1) (move.Castle false) ≡ false
+  pub on_g : is_allowed king_on_g (move.Castle false) ≡ true
+  pub king_stays : man_at (place_after (Fischer 96) king_on_g.men White (move.Castle false)) 6 ≡ unpromoted White King
+  pub rook_comes : man_at (place_after (Fischer 96) king_on_g.men White (move.Castle false)) 5 ≡ unpromoted White Rook
+  pub unmasked : is_allowed (rook_beside (black Queen 0 ∷ [])) (move.Castle true) ≡ false
+  pub not_unmasked : is_allowed (rook_beside []) (move.Castle true) ≡ true
   -- promotion: to a queen and not to a king, and not without a kind
   pub to_queen : is_allowed about_to_promote (move.Plain 48 56 (Some Queen)) ≡ true
   pub to_king : is_allowed about_to_promote (move.Plain 48 56 (Some King)) ≡ false

@@ -1,6 +1,7 @@
 //! What the definitions of the rules mean, in the words of the game. Each call does nothing: its contract is the law.
 
 ghost use Rattle.chess_model.specs.Laws.{EachSquareIsKnown, AttackGoesBothWays, RightsNeverComeBack, CountsQuietMoves, NoMenAreMade, LegalListsGrow, TestsSayTheRules, WordsAreAnswered, MovesAreListed, StatesAreTold};
+ghost use Rattle.chess_model.specs.FischerArrays.{FischerArrays};
 ghost use Rattle.chess_model.specs.LegalPositions.{LegalPositionsAreSound, OtherBoardStays, ColoursAlternate, HomesAreInTheArray};
 ghost use Rattle.chess_model.specs.Census.{CensusStays};
 ghost use Rattle.chess_model.specs.Claims.{ThirdTimes};
@@ -77,6 +78,11 @@ pub fn colours_alternate()
     ensures { ColoursAlternate }
 {}
 
+/// Each number from 0 to 959 has an array of Fischer random, no two have the same one, and 518 has the usual one.
+pub fn fischer_arrays_are_set_up()
+    ensures { FischerArrays }
+{}
+
 /// The homes of kings and rooks are where these stand in the array.
 pub fn homes_are_in_the_array()
     ensures { HomesAreInTheArray }
@@ -87,8 +93,9 @@ pub fn third_times_are_counted()
     ensures { ThirdTimes }
 {}
 
-/// No legal list of half-moves makes or loses a man, by colour and kind: in chess with the captured men, in crazyhouse
-/// with both hands, and in a pair of boards with the hands of both boards. A promoted man counts as a pawn.
+/// No legal list of half-moves makes or loses a man, by colour and kind: in chess and in Fischer random with the
+/// captured men, in crazyhouse with both hands, and in a pair of boards with the hands of both boards. A promoted man
+/// counts as a pawn.
 pub fn census_stays()
     ensures { CensusStays }
 {}
@@ -108,7 +115,7 @@ pub fn worked_words()
     ensures { WordExamples }
 {}
 
-/// Mates, stalemates, and positions that are neither, in the three variants.
+/// Mates, stalemates, and positions that are neither, in chess, crazyhouse and bughouse.
 pub fn worked_results()
     ensures { ResultExamples }
 {}

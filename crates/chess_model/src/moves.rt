@@ -58,7 +58,7 @@ pub enum Rejection {
     LeavesKing,
     /// A castling word, and that castling isn't allowed.
     CastleForbidden,
-    /// A drop word in chess.
+    /// A drop word in chess or in Fischer random.
     NoDrops,
     /// The hand has no man of the kind.
     NotInHand,

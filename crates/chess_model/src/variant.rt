@@ -8,6 +8,9 @@ pub enum Variant {
     Crazyhouse,
     /// Two boards and two teams: captured men keep their colour and go to the capturer's partner.
     Bughouse,
+    /// Chess from one of 960 arrays, by its number from 0 to 959, in which castling brings the king to file g or c and
+    /// the rook to file f or d. Nothing reads a greater number, which would count as its remainder by 960.
+    Fischer(u16),
 }
 
 /// What two players agree on before a game.

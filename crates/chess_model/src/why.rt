@@ -9,7 +9,8 @@ pub enum Why {
     Resigned,
     /// A player called the flag of the opponent, whose clock had fallen (FIDE Laws, 6.9).
     Flag,
-    /// The flag was called, but the caller's clock had fallen too, or in chess the caller had only a king.
+    /// The flag was called, but the caller's clock had fallen too, or in chess or Fischer random the caller had only a
+    /// king.
     FlagDraw,
     /// The players agreed on a draw (FIDE Laws, 5.2.3).
     Agreed,

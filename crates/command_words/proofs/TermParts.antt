@@ -1,18 +1,18 @@
 -- What is read as the terms of a game is what the words spell.
-use Rattle.std.proofs.Common.{◌≡◌, ◌≢◌, ℕ, true, false, cond, List, [], ◌∷◌, ◌++◌, refl, sym, ap, subst, ◌∙◌, append-nil, arith, Some, None, inl, inr}
+use Rattle.std.proofs.Common.{◌≡◌, ◌≢◌, ℕ, Bool, true, false, cond, List, [], ◌∷◌, ◌++◌, refl, sym, ap, subst, ◌∙◌, append-nil, arith, Some, None, inl, inr}
 use Rattle.std.specs.Prelude.{Option, option_map, bytes_eq, codes, decimal}
 use Rattle.std.proofs.lemmas.Slice.Eq.{bytes_eq-Decides}
 use Rattle.chess_model.specs.declared.man.Colour.{Colour}
 use Rattle.chess_model.specs.declared.man.Colour.TheVariants.{White, Black}
 use Rattle.chess_model.specs.declared.variant.Terms.{Terms}
 use Rattle.chess_model.specs.declared.variant.Variant.{Variant}
-use Rattle.chess_model.specs.declared.variant.Variant.TheVariants.{Chess, Crazyhouse, Bughouse}
-use Rattle.chess_model.specs.VariantWord.{word_of}
+use Rattle.chess_model.specs.declared.variant.Variant.TheVariants.{Chess, Crazyhouse, Bughouse, Fischer}
+use Rattle.chess_model.specs.VariantWord.{IsNumbered, word_of}
 use Rattle.command_words.specs.declared.terms.Time.{Time}
 use Rattle.command_words.specs.Blanks.{Words}
 use Rattle.command_words.specs.Numbers.{number_of}
 use Rattle.command_words.specs.TermWords.{OneOf, SpellsTime, Spells, unrated_words, variant_words, colour_words, time_of}
-use Rattle.command_words.specs.TermReading.{told, leading, timed, leading_time, behind_unrated, meaning_in, variants, colours, variant_of, colour_of, asked_colour, with_none_left, agreed, terms_of, AreReadAsSpelled}
+use Rattle.command_words.specs.TermReading.{told, in_one_word, array_named, from_array, leading_variant, leading, timed, leading_time, behind_unrated, meaning_in, variants, colours, variant_of, colour_of, asked_colour, with_none_left, agreed, terms_of, AreReadAsSpelled}
 use Rattle.command_words.proofs.Decimals.{number_of-decimal, number_of-spelled}
 
 same : (word other : List ℕ) → bytes_eq word other ≡ true → word ≡ other
@@ -39,10 +39,11 @@ variant_spelled : (word : List ℕ) (v : Variant) → variant_of word ≡ Some v
 variant_spelled word v e = meaning_in-all (λ word v. word ≡ word_of v) variants word v (refl, (refl, (refl, tt))) e
 
 -- the tests of a word say which variant it names
-pub variant_named : (word : List ℕ) (v : Variant) → word ≡ word_of v → Some v ≡ variant_of word
+pub variant_named : (word : List ℕ) (v : Variant) → word ≡ word_of v → in_one_word v ≡ variant_of word
 variant_named word Chess e = sym (ap variant_of e)
 variant_named word Crazyhouse e = sym (ap variant_of e)
 variant_named word Bughouse e = sym (ap variant_of e)
+variant_named word (Fischer number) e = sym (ap variant_of e)
 
 pub variant_unnamed : (word : List ℕ) → ((v : Variant) → word ≢ word_of v) → None ≡ variant_of word
 variant_unnamed word none =
@@ -72,8 +73,35 @@ leading-front meaning absent P none some (word ∷ words) =
 variant_word : (word : List ℕ) (v : Variant) → variant_of word ≡ Some v → OneOf (variant_words v) (word ∷ [])
 variant_word word v e = meaning_in-all (λ word v. OneOf (variant_words v) (word ∷ [])) variants word v (inr (inl refl), (inl refl, (inl refl, tt))) e
 
-variant-front : (words : Words) → Front words (leading variant_of Chess words).1 (OneOf (variant_words (leading variant_of Chess words).0))
-variant-front words = leading-front variant_of Chess (λ v ws. OneOf (variant_words v) ws) (inl refl) variant_word words
+-- the words spell the variant
+abbrev SpellsVariant : Variant → Words → Type 0
+SpellsVariant v words = OneOf (variant_words v) words × IsNumbered v
+
+numbered_word : (word : List ℕ) (v : Variant) → variant_of word ≡ Some v → IsNumbered v
+numbered_word word v e = meaning_in-all (λ word v. IsNumbered v) variants word v (tt, (tt, (tt, tt))) e
+
+named-front : (words : Words) → Front words (leading variant_of Chess words).1 (SpellsVariant (leading variant_of Chess words).0)
+named-front words =
+    leading-front variant_of Chess SpellsVariant (inl refl, tt) (λ word v e. (variant_word word v e, numbered_word word v e)) words
+
+array-front : (word number : List ℕ) (words : Words) (o : Option ℕ) → array_named word number ≡ o →
+    Front (word ∷ number ∷ words) (from_array o (word ∷ number ∷ words) words).1 (SpellsVariant (from_array o (word ∷ number ∷ words) words).0)
+array-front word number words None e = named-front (word ∷ number ∷ words)
+array-front word number words (Some n) e =
+    elim (bytes_eq word (codes "fischer")) as (λ t. bytes_eq word (codes "fischer") ≡ t → cond t (number_of 959 number) None ≡ Some n →
+    Front (word ∷ number ∷ words) words (SpellsVariant (Fischer n))) [
+      | true ↦ λ is read.
+          let spelled = number_of-spelled 959 number n (omega arith) read in
+          let both : word ∷ number ∷ [] ≡ codes "fischer" ∷ decimal n ∷ [] =
+          ap (λ (w : List ℕ). w ∷ number ∷ []) (same word (codes "fischer") is) ∙ ap (λ (w : List ℕ). codes "fischer" ∷ w ∷ []) spelled.0 in
+          record { front = word ∷ number ∷ []; split = refl; fits = (inl both, omega (arith, spelled.1)) }
+      | false ↦ λ is read. absurd (let bad : None ≡ Some n = read in cc)
+    ] refl e
+
+variant-front : (words : Words) → Front words (leading_variant words).1 (SpellsVariant (leading_variant words).0)
+variant-front [] = record { front = []; split = refl; fits = (inl refl, tt) }
+variant-front (word ∷ []) = named-front (word ∷ [])
+variant-front (word ∷ number ∷ words) = array-front word number words (array_named word number) refl
 
 colour_word : (word : List ℕ) (c : Colour) → colour_of word ≡ Some c → OneOf (colour_words (Some c)) (word ∷ [])
 colour_word word c e =
@@ -128,10 +156,10 @@ read-spells usual words terms e =
     let t = time-front usual words in
     let u = unrated-front (leading_time usual words).1 in
     let v = variant-front (behind_unrated (leading_time usual words).1) in
-    let c = colour-front (leading variant_of Chess (behind_unrated (leading_time usual words).1)).1 in
+    let c = colour-front (leading_variant (behind_unrated (leading_time usual words).1)).1 in
     let ended = none_left _ terms _ e in
-    let spelled : Spells usual words (agreed (leading_time usual words).0 (leading variant_of Chess (behind_unrated (leading_time usual words).1)).0
-    (leading asked_colour None (leading variant_of Chess (behind_unrated (leading_time usual words).1)).1).0) = record {
+    let spelled : Spells usual words (agreed (leading_time usual words).0 (leading_variant (behind_unrated (leading_time usual words).1)).0
+    (leading asked_colour None (leading_variant (behind_unrated (leading_time usual words).1)).1).0) = record {
       time = t.front;
       unrated = u.front;
       variant = v.front;
@@ -140,7 +168,8 @@ read-spells usual words terms e =
           (c.split ∙ ap (λ (w : Words). c.front ++ w) ended.0 ∙ append-nil c.front)));
       spells_time = t.fits;
       may_be_unrated = u.fits;
-      spells_variant = v.fits;
+      numbered = v.fits.1;
+      spells_variant = v.fits.0;
       spells_colour = c.fits;
     } in
     subst (Spells usual words) ended.1 spelled
@@ -159,14 +188,17 @@ colour_cases P (Some Black) words (inr (inl e)) none white w black b = subst P (
 colour_cases P (Some Black) words (inr (inr e)) none white w black b = absurd e
 
 variant_cases : (P : Words → Type 0) (v : Variant) (words : Words) → OneOf (variant_words v) words
-    → P [] → P (word_of Chess ∷ []) → P (word_of Crazyhouse ∷ []) → P (word_of Bughouse ∷ []) → P words
-variant_cases P Chess words (inl e) none chess crazyhouse bughouse = subst P (sym e) none
-variant_cases P Chess words (inr (inl e)) none chess crazyhouse bughouse = subst P (sym e) chess
-variant_cases P Chess words (inr (inr e)) none chess crazyhouse bughouse = absurd e
-variant_cases P Crazyhouse words (inl e) none chess crazyhouse bughouse = subst P (sym e) crazyhouse
-variant_cases P Crazyhouse words (inr e) none chess crazyhouse bughouse = absurd e
-variant_cases P Bughouse words (inl e) none chess crazyhouse bughouse = subst P (sym e) bughouse
-variant_cases P Bughouse words (inr e) none chess crazyhouse bughouse = absurd e
+    → P [] → P (word_of Chess ∷ []) → P (word_of Crazyhouse ∷ []) → P (word_of Bughouse ∷ [])
+    → ((n : ℕ) → P (codes "fischer" ∷ decimal n ∷ [])) → P words
+variant_cases P Chess words (inl e) none chess crazyhouse bughouse fischer = subst P (sym e) none
+variant_cases P Chess words (inr (inl e)) none chess crazyhouse bughouse fischer = subst P (sym e) chess
+variant_cases P Chess words (inr (inr e)) none chess crazyhouse bughouse fischer = absurd e
+variant_cases P Crazyhouse words (inl e) none chess crazyhouse bughouse fischer = subst P (sym e) crazyhouse
+variant_cases P Crazyhouse words (inr e) none chess crazyhouse bughouse fischer = absurd e
+variant_cases P Bughouse words (inl e) none chess crazyhouse bughouse fischer = subst P (sym e) bughouse
+variant_cases P Bughouse words (inr e) none chess crazyhouse bughouse fischer = absurd e
+variant_cases P (Fischer n) words (inl e) none chess crazyhouse bughouse fischer = subst P (sym e) (fischer n)
+variant_cases P (Fischer n) words (inr e) none chess crazyhouse bughouse fischer = absurd e
 
 unrated_cases : (P : Words → Type 0) (words : Words) → OneOf unrated_words words → P [] → P (codes "unrated" ∷ []) → P words
 unrated_cases P words (inl e) none unrated = subst P (sym e) none
@@ -183,18 +215,31 @@ colour-again (Some Black) words (inl e) = ap (leading asked_colour None) e
 colour-again (Some Black) words (inr (inl e)) = ap (leading asked_colour None) e
 colour-again (Some Black) words (inr (inr e)) = absurd e
 
+-- a word that isn't `fischer` names its variant by itself
+by_itself : (word : List ℕ) (words : Words) → bytes_eq word (codes "fischer") ≡ false → leading_variant (word ∷ words) ≡ leading variant_of Chess (word ∷ words)
+by_itself word [] other = refl
+by_itself word (next ∷ words) other =
+    ap (λ (t : Bool). from_array (cond t (number_of 959 next) None) (word ∷ next ∷ words) words) other
+
 -- a colour's word is no variant's
-variant-again : (v : Variant) (asked : Option Colour) (words colour : Words) → OneOf (variant_words v) words → OneOf (colour_words asked) colour
-    → leading variant_of Chess (words ++ colour) ≡ (v, colour)
-variant-again Chess asked words colour (inl e) c =
-    ap (λ (w : Words). leading variant_of Chess (w ++ colour)) e
-    ∙ colour_cases (λ w. leading variant_of Chess w ≡ (Chess, w)) asked colour c refl refl refl refl refl
-variant-again Chess asked words colour (inr (inl e)) c = ap (λ (w : Words). leading variant_of Chess (w ++ colour)) e
-variant-again Chess asked words colour (inr (inr e)) c = absurd e
-variant-again Crazyhouse asked words colour (inl e) c = ap (λ (w : Words). leading variant_of Chess (w ++ colour)) e
-variant-again Crazyhouse asked words colour (inr e) c = absurd e
-variant-again Bughouse asked words colour (inl e) c = ap (λ (w : Words). leading variant_of Chess (w ++ colour)) e
-variant-again Bughouse asked words colour (inr e) c = absurd e
+variant-again : (v : Variant) (asked : Option Colour) (words colour : Words) → IsNumbered v → OneOf (variant_words v) words → OneOf (colour_words asked) colour
+    → leading_variant (words ++ colour) ≡ (v, colour)
+variant-again Chess asked words colour small (inl e) c =
+    ap (λ (w : Words). leading_variant (w ++ colour)) e
+    ∙ colour_cases (λ w. leading_variant w ≡ (Chess, w)) asked colour c refl refl refl refl refl
+variant-again Chess asked words colour small (inr (inl e)) c =
+    ap (λ (w : Words). leading_variant (w ++ colour)) e ∙ by_itself (word_of Chess) colour refl
+variant-again Chess asked words colour small (inr (inr e)) c = absurd e
+variant-again Crazyhouse asked words colour small (inl e) c =
+    ap (λ (w : Words). leading_variant (w ++ colour)) e ∙ by_itself (word_of Crazyhouse) colour refl
+variant-again Crazyhouse asked words colour small (inr e) c = absurd e
+variant-again Bughouse asked words colour small (inl e) c =
+    ap (λ (w : Words). leading_variant (w ++ colour)) e ∙ by_itself (word_of Bughouse) colour refl
+variant-again Bughouse asked words colour small (inr e) c = absurd e
+variant-again (Fischer n) asked words colour small (inl e) c =
+    ap (λ (w : Words). leading_variant (w ++ colour)) e
+    ∙ ap (λ (o : Option ℕ). from_array o (codes "fischer" ∷ decimal n ∷ colour) colour) (number_of-decimal 959 n (omega (arith, small)) (omega arith))
+variant-again (Fischer n) asked words colour small (inr e) c = absurd e
 
 -- a variant's word and a colour's aren't `unrated`
 unrated-again : (v : Variant) (asked : Option Colour) (words variant colour : Words) → OneOf unrated_words words → OneOf (variant_words v) variant
@@ -202,7 +247,7 @@ unrated-again : (v : Variant) (asked : Option Colour) (words variant colour : Wo
 unrated-again v asked words variant colour u vs c =
     unrated_cases (λ w. behind_unrated (w ++ (variant ++ colour)) ≡ variant ++ colour) words u
     (variant_cases (λ w. behind_unrated (w ++ colour) ≡ w ++ colour) v variant vs
-    (colour_cases (λ w. behind_unrated w ≡ w) asked colour c refl refl refl refl refl) refl refl refl)
+    (colour_cases (λ w. behind_unrated w ≡ w) asked colour c refl refl refl refl refl) refl refl refl (λ n. refl))
     refl
 
 -- none of these words is a number
@@ -217,7 +262,8 @@ no_time usual v asked words variant colour u vs c =
     unrated_cases (λ w. leading_time usual (w ++ (variant ++ colour)) ≡ (usual, w ++ (variant ++ colour))) words u
     (variant_cases (λ w. leading_time usual (w ++ colour) ≡ (usual, w ++ colour)) v variant vs
     (colour_cases (λ w. leading_time usual w ≡ (usual, w)) asked colour c refl refl refl refl refl)
-    (no_number usual (word_of Chess) colour refl) (no_number usual (word_of Crazyhouse) colour refl) (no_number usual (word_of Bughouse) colour refl))
+    (no_number usual (word_of Chess) colour refl) (no_number usual (word_of Crazyhouse) colour refl) (no_number usual (word_of Bughouse) colour refl)
+    (λ n. no_number usual (codes "fischer") (decimal n ∷ colour) refl))
     (no_number usual (codes "unrated") (variant ++ colour) refl)
 
 time-again : (usual time : Time) (words rest : Words) → SpellsTime usual words time → leading_time usual rest ≡ (usual, rest)
@@ -234,17 +280,17 @@ time-again usual time words rest (inr (e, usually)) none =
 -- the four parts, read one behind another
 pub parts_are_terms : (usual time : Time) (words unrated variant_words' colour_words' left : Words) (variant : Variant) (colour : Option Colour)
     → (time, unrated) ≡ leading_time usual words → variant_words' ≡ behind_unrated unrated
-    → (variant, colour_words') ≡ leading variant_of Chess variant_words' → (colour, left) ≡ leading asked_colour None colour_words'
+    → (variant, colour_words') ≡ leading_variant variant_words' → (colour, left) ≡ leading asked_colour None colour_words'
     → with_none_left (agreed time variant colour) left ≡ terms_of usual words
 unfolding terms_of
 parts_are_terms usual time words unrated variant_words' colour_words' left variant colour t u v c =
     ap (λ (p : Option Colour × Words). with_none_left (agreed time variant p.0) p.1) c
     ∙ ap (λ (p : Variant × Words). with_none_left (agreed time p.0 (leading asked_colour None p.1).0) (leading asked_colour None p.1).1) v
-    ∙ ap (λ (w : Words). with_none_left (agreed time (leading variant_of Chess w).0 (leading asked_colour None (leading variant_of Chess w).1).0)
-    (leading asked_colour None (leading variant_of Chess w).1).1) u
-    ∙ ap (λ (p : Time × Words). with_none_left (agreed p.0 (leading variant_of Chess (behind_unrated p.1)).0
-    (leading asked_colour None (leading variant_of Chess (behind_unrated p.1)).1).0)
-    (leading asked_colour None (leading variant_of Chess (behind_unrated p.1)).1).1) t
+    ∙ ap (λ (w : Words). with_none_left (agreed time (leading_variant w).0 (leading asked_colour None (leading_variant w).1).0)
+    (leading asked_colour None (leading_variant w).1).1) u
+    ∙ ap (λ (p : Time × Words). with_none_left (agreed p.0 (leading_variant (behind_unrated p.1)).0
+    (leading asked_colour None (leading_variant (behind_unrated p.1)).1).0)
+    (leading asked_colour None (leading_variant (behind_unrated p.1)).1).1) t
 
 spelled-read : (usual : Time) (words : Words) (terms : Terms) → Spells usual words terms → terms_of usual words ≡ Some terms
 spelled-read usual words terms s =
@@ -252,7 +298,7 @@ spelled-read usual words terms s =
     let none = no_time usual terms.variant terms.colour s.unrated s.variant s.colour s.may_be_unrated s.spells_variant s.spells_colour in
     let t = time-again usual (time_of terms) s.time (s.unrated ++ (s.variant ++ s.colour)) s.spells_time none in
     let u = unrated-again terms.variant terms.colour s.unrated s.variant s.colour s.may_be_unrated s.spells_variant s.spells_colour in
-    let v = variant-again terms.variant terms.colour s.variant s.colour s.spells_variant s.spells_colour in
+    let v = variant-again terms.variant terms.colour s.variant s.colour s.numbered s.spells_variant s.spells_colour in
     let c = colour-again terms.colour s.colour s.spells_colour in
     ap (terms_of usual) s.parts
     ∙ sym (parts_are_terms usual (time_of terms) whole (s.unrated ++ (s.variant ++ s.colour)) (s.variant ++ s.colour) s.colour [] terms.variant terms.colour

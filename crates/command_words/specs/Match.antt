@@ -1,8 +1,8 @@
 -- `match HANDLE [MINUTES INCREMENT] [unrated] [VARIANT] [COLOUR]`, short `m`: challenges a player.
 use Rattle.std.specs.Prelude.{◌≡◌, ℕ, List, [], ◌∷◌, Option, Some, None, Result, Ok, Err, codes, refl}
-use Rattle.chess_model.specs.declared.man.Colour.TheVariants.{White}
+use Rattle.chess_model.specs.declared.man.Colour.TheVariants.{White, Black}
 use Rattle.chess_model.specs.declared.variant.Terms.{Terms}
-use Rattle.chess_model.specs.declared.variant.Variant.TheVariants.{Chess, Bughouse}
+use Rattle.chess_model.specs.declared.variant.Variant.TheVariants.{Chess, Bughouse, Fischer}
 use Rattle.fics_words.specs.declared.refusal.Refusal.{Refusal}
 use Rattle.fics_words.specs.declared.refusal.Refusal.TheVariants.{BadArguments}
 use Rattle.command_words.specs.declared.command.Command.{Command}
@@ -58,6 +58,12 @@ unfolding words_of terms_of number_of
 example_other_order = refl
 
 -- argument words count with case
+example_fischer :
+    match_of (codes "ben 2 12 fischer 0 black")
+    ≡ Ok (Match (codes "ben") (record { minutes = 2; increment = 12; variant = Fischer 0; colour = Some Black }))
+unfolding words_of terms_of number_of
+example_fischer = refl
+
 example_capital : match_of (codes "bob Chess") ≡ Err BadArguments
 unfolding words_of terms_of number_of
 example_capital = refl

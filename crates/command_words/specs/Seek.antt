@@ -2,7 +2,7 @@
 use Rattle.std.specs.Prelude.{◌≡◌, ℕ, List, [], Option, Some, None, Result, Ok, Err, codes, refl}
 use Rattle.chess_model.specs.declared.man.Colour.TheVariants.{White}
 use Rattle.chess_model.specs.declared.variant.Terms.{Terms}
-use Rattle.chess_model.specs.declared.variant.Variant.TheVariants.{Chess, Crazyhouse}
+use Rattle.chess_model.specs.declared.variant.Variant.TheVariants.{Chess, Crazyhouse, Fischer}
 use Rattle.fics_words.specs.declared.refusal.Refusal.{Refusal}
 use Rattle.fics_words.specs.declared.refusal.Refusal.TheVariants.{BadArguments}
 use Rattle.command_words.specs.declared.command.Command.{Command}
@@ -32,6 +32,20 @@ example_all :
     ≡ Ok (Seek (record { minutes = 3; increment = 2; variant = Crazyhouse; colour = Some White }))
 unfolding words_of terms_of number_of
 example_all = refl
+
+example_fischer :
+    seek_of (codes "5 0 fischer 518")
+    ≡ Ok (Seek (record { minutes = 5; increment = 0; variant = Fischer 518; colour = None }))
+unfolding words_of terms_of number_of
+example_fischer = refl
+
+example_no_array : seek_of (codes "5 0 fischer") ≡ Err BadArguments
+unfolding words_of terms_of number_of
+example_no_array = refl
+
+example_array_too_great : seek_of (codes "5 0 fischer 960") ≡ Err BadArguments
+unfolding words_of terms_of number_of
+example_array_too_great = refl
 
 example_rated : seek_of (codes "5 0 rated") ≡ Err BadArguments
 unfolding words_of terms_of number_of

@@ -5,7 +5,7 @@ use Rattle.chess_model.specs.declared.man.Colour.{Colour}
 use Rattle.chess_model.specs.declared.man.Colour.TheVariants.{White, Black}
 use Rattle.chess_model.specs.declared.variant.Terms.{Terms}
 use Rattle.chess_model.specs.declared.variant.Variant.{Variant}
-use Rattle.chess_model.specs.declared.variant.Variant.TheVariants.{Chess, Crazyhouse, Bughouse}
+use Rattle.chess_model.specs.declared.variant.Variant.TheVariants.{Chess, Crazyhouse, Bughouse, Fischer}
 use Rattle.chess_model.specs.VariantWord.{word_of}
 use Rattle.command_words.specs.declared.terms.Time.{Time}
 use Rattle.command_words.specs.Blanks.{Words}
@@ -48,9 +48,31 @@ variants = (word_of Chess, Chess) ∷ (word_of Crazyhouse, Crazyhouse) ∷ (word
 abbrev pub colours : List (List ℕ × Colour)
 colours = (codes "white", White) ∷ (codes "w", White) ∷ (codes "black", Black) ∷ (codes "b", Black) ∷ []
 
--- the variant of that word
+-- the variant of that one word
 abbrev pub variant_of : List ℕ → Option Variant
 variant_of = meaning_in variants
+
+-- a variant that one word names
+abbrev pub in_one_word : Variant → Option Variant
+in_one_word Chess = Some Chess
+in_one_word Crazyhouse = Some Crazyhouse
+in_one_word Bughouse = Some Bughouse
+in_one_word (Fischer number) = None
+
+-- the number of the array of Fischer random that these two words name
+abbrev pub array_named : List ℕ → List ℕ → Option ℕ
+array_named word number = if bytes_eq word (codes "fischer") then number_of 959 number else None
+
+-- Fischer random from that array, and the words behind its two; else what the first word means
+abbrev pub from_array : Option ℕ → Words → Words → Variant × Words
+from_array (Some number) words behind = (Fischer number, behind)
+from_array None words behind = leading variant_of Chess words
+
+-- the variant that stands first, and the words behind it; where none does, chess, and all the words
+abbrev pub leading_variant : Words → Variant × Words
+leading_variant [] = (Chess, [])
+leading_variant (word ∷ []) = leading variant_of Chess (word ∷ [])
+leading_variant (word ∷ number ∷ words) = from_array (array_named word number) (word ∷ number ∷ words) words
 
 -- the colour of that word
 abbrev pub colour_of : List ℕ → Option Colour
@@ -74,7 +96,7 @@ agreed time variant colour =
 unfoldable pub terms_of : Time → Words → Option Terms
 terms_of usual words =
     let time = leading_time usual words in
-    let variant = leading variant_of Chess (behind_unrated time.1) in
+    let variant = leading_variant (behind_unrated time.1) in
     let colour = leading asked_colour None variant.1 in
     with_none_left (agreed time.0 variant.0 colour.0) colour.1
 

@@ -1,12 +1,13 @@
 -- The words that spell the terms of a game, as players type them at FICS behind the name of whom they challenge:
--- [MINUTES INCREMENT] [unrated] [VARIANT] [COLOUR]. What stands in brackets may be left out.
+-- [MINUTES INCREMENT] [unrated] [VARIANT] [COLOUR]. What stands in brackets may be left out. VARIANT is `chess`,
+-- `crazyhouse`, `bughouse` or `fischer N`, N from 0 to 959.
 use Rattle.std.specs.Prelude.{◌≡◌, ◌⊎◌, ◌≤◌, List, [], ◌∷◌, ◌++◌, Option, Some, None, codes, decimal}
 use Rattle.chess_model.specs.declared.man.Colour.{Colour}
 use Rattle.chess_model.specs.declared.man.Colour.TheVariants.{White, Black}
 use Rattle.chess_model.specs.declared.variant.Terms.{Terms}
 use Rattle.chess_model.specs.declared.variant.Variant.{Variant}
-use Rattle.chess_model.specs.declared.variant.Variant.TheVariants.{Chess}
-use Rattle.chess_model.specs.VariantWord.{word_of}
+use Rattle.chess_model.specs.declared.variant.Variant.TheVariants.{Chess, Crazyhouse, Bughouse, Fischer}
+use Rattle.chess_model.specs.VariantWord.{IsNumbered, word_of}
 use Rattle.command_words.specs.declared.terms.Time.{Time}
 use Rattle.command_words.specs.Blanks.{Words}
 
@@ -30,10 +31,12 @@ SpellsTime usual words time =
 abbrev pub unrated_words : List Words
 unrated_words = [] ∷ (codes "unrated" ∷ []) ∷ []
 
--- the variant's word, which may be left out for chess
+-- the variant's word, which may be left out for chess; behind Fischer random's stands the number of the array
 abbrev pub variant_words : Variant → List Words
 variant_words Chess = [] ∷ (word_of Chess ∷ []) ∷ []
-variant_words variant = (word_of variant ∷ []) ∷ []
+variant_words Crazyhouse = (word_of Crazyhouse ∷ []) ∷ []
+variant_words Bughouse = (word_of Bughouse ∷ []) ∷ []
+variant_words (Fischer number) = (codes "fischer" ∷ decimal number ∷ []) ∷ []
 
 -- the colour that is asked for, which may be any
 abbrev pub colour_words : Option Colour → List Words
@@ -54,5 +57,7 @@ pub record Spells (usual : Time) (words : Words) (terms : Terms) : Type 0 where
   pub parts : words ≡ time ++ (unrated ++ (variant ++ colour))
   pub spells_time : SpellsTime usual time (time_of terms)
   pub may_be_unrated : OneOf unrated_words unrated
+  -- the number of an array is from 0 to 959
+  pub numbered : IsNumbered terms.variant
   pub spells_variant : OneOf (variant_words terms.variant) variant
   pub spells_colour : OneOf (colour_words terms.colour) colour

@@ -3,7 +3,7 @@
 ghost use Rattle.std.specs.Prelude.{◌≡◌, None};
 ghost use Rattle.chess_model.specs.declared.variant.Variant.TheVariants.{Chess};
 ghost use Rattle.command_words.specs.Blanks.{words_of};
-ghost use Rattle.command_words.specs.TermReading.{asked_colour, behind_unrated, colour_of, leading, leading_time, terms_of, variant_of};
+ghost use Rattle.command_words.specs.TermReading.{array_named, asked_colour, behind_unrated, colour_of, in_one_word, leading, leading_time, leading_variant, terms_of, variant_of};
 
 use crate::blanks::cut_word;
 use crate::numbers::number_of;
@@ -11,6 +11,9 @@ use chess_model::{Colour, Terms, Variant, read_variant};
 
 /// The most minutes at the start of a game, and the most seconds of increment.
 const MOST_TIME: u16 = 600;
+
+/// The greatest number of an array of Fischer random.
+const LAST_ARRAY: u16 = 959;
 
 /// The time of a game.
 #[derive(Clone, Copy)]
@@ -22,8 +25,8 @@ pub(crate) struct Time {
 }
 
 /// Reads `[MINUTES INCREMENT] [unrated] [VARIANT] [COLOUR]`, where what stands in brackets may be left out: without
-/// numbers the time is the usual one, without a variant it is chess, and without a colour none is asked for. Numbers are
-/// at most 600, and the case of letters counts.
+/// numbers the time is the usual one, without a variant it is chess, and without a colour none is asked for. Minutes and
+/// increment are at most 600, the number of an array of Fischer random is at most 959, and the case of letters counts.
 pub(crate) fn read_terms(usual: Time, text: &[u8]) -> Option<Terms>
     ensures { result ≡ terms_of usual (words_of text.now) }
 {
@@ -74,8 +77,34 @@ fn behind_unrated(text: &[u8]) -> &[u8]
     text
 }
 
-/// The variant whose word stands first, and the text behind it; else chess and all the text.
+/// The variant whose words stand first, and the text behind them; else chess and all the text.
 fn cut_variant(text: &[u8]) -> (Variant, &[u8])
+    ensures { (result.0, words_of result.1.now) ≡ leading_variant (words_of text.now) }
+{
+    let Some((word, rest)) = cut_word(text) else {
+        return (Variant::Chess, text);
+    };
+    let Some((number, rest)) = cut_word(rest) else {
+        return cut_named(text);
+    };
+    match array_named(word, number) {
+        Some(number) => (Variant::Fischer(number), rest),
+        None => cut_named(text),
+    }
+}
+
+/// The number of the array that the words `fischer N` name.
+fn array_named(word: &[u8], number: &[u8]) -> Option<u16>
+    ensures { result ≡ array_named word.now number.now }
+{
+    if word == b"fischer".as_slice() {
+        return number_of(LAST_ARRAY, number);
+    }
+    None
+}
+
+/// The variant whose one word stands first, and the text behind it; else chess and all the text.
+fn cut_named(text: &[u8]) -> (Variant, &[u8])
     ensures { (result.0, words_of result.1.now) ≡ leading variant_of Chess (words_of text.now) }
 {
     let Some((word, rest)) = cut_word(text) else {
@@ -100,11 +129,26 @@ fn cut_colour(text: &[u8]) -> (Option<Colour>, &[u8])
     }
 }
 
-/// The variant of that word.
+/// The variant of that one word.
 fn variant_of(word: &[u8]) -> Option<Variant>
     ensures { result ≡ variant_of word.now }
 {
-    read_variant(word)
+    let Some(variant) = read_variant(word) else {
+        return None;
+    };
+    in_one_word(variant)
+}
+
+/// The variant, where one word names it.
+fn in_one_word(variant: Variant) -> Option<Variant>
+    ensures { result ≡ in_one_word variant }
+{
+    match variant {
+        Variant::Chess => Some(Variant::Chess),
+        Variant::Crazyhouse => Some(Variant::Crazyhouse),
+        Variant::Bughouse => Some(Variant::Bughouse),
+        Variant::Fischer(_) => None,
+    }
 }
 
 /// The colour of that word: `white`, `w`, `black` or `b`.

@@ -24,6 +24,8 @@ enum Stage {
     Row(u32, Says, Option<Refusal>),
     /// Ann offers a draw and Ben declines it, so many times.
     Declines(u16),
+    /// Ann moves, Ben offers to take that back, and Ann agrees by saying this, so many times.
+    Takebacks(u16, Says),
     /// The knights are shuffled so many times.
     Shuffles(u8),
     /// These half-moves are made.
@@ -34,7 +36,7 @@ enum Stage {
     Ahead(usize),
 }
 
-use Stage::{Ahead, Declines, Moves, Over, Row, Shuffles};
+use Stage::{Ahead, Declines, Moves, Over, Row, Shuffles, Takebacks};
 
 /// What is refused before any half-move, in the order of the causes: a takeback of none and of too many, adjourning
 /// without accounts, an offer that stands, and answers to none.
@@ -106,6 +108,9 @@ const SHUFFLE: &[Step] = &[
     Step(0, BEN, Does::Move("f6g8"), Given::Done),
 ];
 
+/// What is taken back again.
+const ONE_HALF_MOVE: &[Step] = &[Step(0, ANN, Does::Move("e2e4"), Given::Done)];
+
 /// Three half-moves behind the shuffles, after which the position never stood before.
 const STRAY: &[Step] = &[
     Step(0, ANN, Does::Move("b1c3"), Given::Done),
@@ -165,10 +170,28 @@ fn declines(desk: &mut Desk, times: u16) -> bool {
     true
 }
 
+/// Whether Ann moves and the two agree to take that back so many times, the last one by saying this.
+fn takebacks(desk: &mut Desk, times: u16, agrees: Says) -> bool {
+    for _time in 0..times {
+        if !takes_back(desk, agrees) {
+            return false;
+        }
+    }
+    true
+}
+
+fn takes_back(desk: &mut Desk, agrees: Says) -> bool {
+    if first_failing(desk, SERIAL, ONE_HALF_MOVE).is_some() {
+        return false;
+    }
+    refusal(desk, BEN, TAKEBACK).is_none() && refusal(desk, ANN, agrees).is_none()
+}
+
 fn holds(desk: &mut Desk, stage: &Stage) -> bool {
     match stage {
         Row(session, says, cause) => refusal(desk, *session, *says) == *cause,
         Declines(times) => declines(desk, *times),
+        Takebacks(times, agrees) => takebacks(desk, *times, *agrees),
         Shuffles(times) => shuffles(desk, *times),
         Moves(steps) => first_failing(desk, SERIAL, steps).is_none(),
         Over(why) => why_over(desk) == *why,
@@ -198,6 +221,8 @@ fn first_wrong_anew(
 }
 
 const DRAW: Says = Says::Make(Offer::Draw);
+
+const TAKEBACK: Says = Says::Make(Offer::Takeback(1));
 
 /// A position that stands for the third time, by an offer of a draw: after one shuffle it stands for the second time.
 const REPETITION: &[Stage] = &[
@@ -235,6 +260,33 @@ const TOLD_256_TIMES: &[Stage] = &[
     Over(Some(Why::Threefold)),
 ];
 
+/// An offer that takes effect at once, since the other seat has it standing, is one of the 256 too: Ann makes 255 of
+/// them, and one that stands, and no more.
+const AGREED_256_TIMES: &[Stage] = &[
+    Takebacks(255, TAKEBACK),
+    Row(ANN, Says::Make(Offer::Abort), None),
+    Row(ANN, DRAW, Some(Refusal::FeedFull)),
+    Row(BEN, DRAW, None),
+    Row(BEN, TAKEBACK, Some(Refusal::TooFewMoves)),
+    Over(None),
+];
+
+/// And the 256th that takes effect is the last.
+const AGREED_TO_THE_LAST: &[Stage] = &[
+    Takebacks(256, TAKEBACK),
+    Row(ANN, DRAW, Some(Refusal::FeedFull)),
+    Row(BEN, DRAW, Some(Refusal::FeedFull)),
+    Over(None),
+];
+
+/// An acceptance is none of them.
+const ACCEPTED_256_TIMES: &[Stage] = &[
+    Takebacks(256, Says::Accept),
+    Row(BEN, DRAW, Some(Refusal::FeedFull)),
+    Row(ANN, DRAW, None),
+    Over(None),
+];
+
 /// A name, what stands at the desk, and the stages.
 const CASES: &[(&str, Opening, &[Stage])] = &[
     ("refusals_of_offers", Opening::Chess(0, 0), ROWS),
@@ -250,6 +302,17 @@ const CASES: &[(&str, Opening, &[Stage])] = &[
         "a_seat_tells_256_times",
         Opening::Chess(0, 0),
         TOLD_256_TIMES,
+    ),
+    (
+        "offers_that_take_effect_count",
+        Opening::Chess(0, 0),
+        AGREED_256_TIMES,
+    ),
+    ("the_last_of_them", Opening::Chess(0, 0), AGREED_TO_THE_LAST),
+    (
+        "acceptances_do_not_count",
+        Opening::Chess(0, 0),
+        ACCEPTED_256_TIMES,
     ),
 ];
 

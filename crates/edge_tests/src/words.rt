@@ -145,6 +145,8 @@ const REFUSALS: &[(Refusal, u8, &str)] = &[
     (Refusal::NotInChannel, 39, "NotInChannel"),
     (Refusal::OnList, 51, "OnList"),
     (Refusal::BadByte, 56, "BadByte"),
+    (Refusal::NoMoreMoves, 57, "NoMoreMoves"),
+    (Refusal::NoEarlierMoves, 58, "NoEarlierMoves"),
     (Refusal::TourneyStarted, 59, "TourneyStarted"),
     (Refusal::TourneyFull, 60, "TourneyFull"),
     (Refusal::TooFewPlayers, 61, "TooFewPlayers"),

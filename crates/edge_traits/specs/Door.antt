@@ -1,17 +1,17 @@
 -- What the calls of a door do to what it tells.
 use Rattle.std.specs.Prelude.{◌≡◌, ◌≢◌, ℕ, ◌+◌, ◌<◌, ◌≤◌, ⊤, Bool, true, false, List, [], ◌∷◌, ◌++◌, length, Some, None}
 use Rattle.std.specs.declared.option.Option.{Option}
-use Rattle.edge_traits.specs.Link.{Tale, IsFresh}
+use Rattle.edge_traits.specs.Link.{Handed, Tale, IsFresh}
 use Rattle.edge_traits.specs.declared.doorway.Came.{Came}
 use Rattle.edge_traits.specs.declared.doorway.Came.TheVariants.{Link, Quiet, Closed, Failed}
 
 -- what a door tells: the links that it has left to give, each as what it tells; those that came, in their order, as
--- what they told when they came; those that came back, each with its number and with what it told then; and how many
+-- what they told when they came; those that came back, each with its number and as it was handed back; and how many
 -- Quiets the door gave
 pub record DoorTale : Type 0 where
   pub left : List (Option Tale)
   pub came : List (Option Tale)
-  pub back : List (ℕ × Option Tale)
+  pub back : List (ℕ × Handed)
   pub quiets : ℕ
 
 -- a relation of what a door told and of what it tells; a door that tells goes on telling, and no other begins to
@@ -47,9 +47,13 @@ IsNew faults tale = (faults ≡ 0) × IfTold tale IsFresh
 abbrev pub IsOut : ℕ → DoorTale → Type 0
 IsOut number tale = (number ≢ 0) × (number ≤ length tale.came) × (length tale.back < length tale.came)
 
--- a link, which tells this, came back under its number
-abbrev pub TakesBack : ℕ → Option Tale → DoorTale → DoorTale → Type 0
+-- a link, handed back like this, came back under its number
+abbrev pub TakesBack : ℕ → Handed → DoorTale → DoorTale → Type 0
 TakesBack number link old new = new ≡ record old { back = old.back ++ (number, link) ∷ [] }
+
+-- a door gives its links in their order, and each once: what it had left is what came since, and then what it has left
+abbrev pub KeepsLinks : DoorTale → DoorTale → Type 0
+KeepsLinks old new = old.came ++ old.left ≡ new.came ++ new.left
 
 -- the fact holds where the door failed
 abbrev pub OnDoorFailed : {L : Type 0} → Came L → Type 0 → Type 0

@@ -27,6 +27,11 @@ pub record Tale : Type 0 where
   pub closed : Bool
   pub at_read : Extent
 
+-- a link as it is handed over: what it tells, and how many faults it has counted
+pub record Handed : Type 0 where
+  pub tale : Option Tale
+  pub faults : ℕ
+
 -- nothing was read or written, and the link isn't closed
 abbrev pub IsFresh : Tale → Type 0
 IsFresh tale =

@@ -16,8 +16,8 @@ pub enum Came<L> {
 }
 
 /// Where connections come from, and where they are handed back. A door that tells its `tale` says which links it has
-/// left to give, which came, which came back under which numbers, and how many Quiets it gave; a real one tells
-/// nothing. Its count of `faults` never falls.
+/// left to give, which came, which came back under which numbers and with how many faults, and how many Quiets it gave;
+/// a real one tells nothing. Its count of `faults` never falls.
 pub trait Doorway {
     ghost use Rattle.std.specs.Prelude.{◌≡◌, ℕ, ◌≤◌};
     ghost use Rattle.std.specs.declared.option.Option.{Option};
@@ -42,6 +42,9 @@ pub trait Doorway {
     /// Hands back the connection that `next` gave as the number-th, counted from 1. Takes no memory and can't fail.
     fn back(&mut self, number: u64, link: Self::Link)
         requires { IfTold (tale self.old) (IsOut number) }
-        ensures back { Goes (tale self.old) (tale self.new) (TakesBack number (Self.Link.tale link)) }
+        ensures back { Goes (tale self.old) (tale self.new) (TakesBack number (record {
+          tale = Self.Link.tale link;
+          faults = Self.Link.faults link;
+        })) }
         ensures faults { faults self.new ≡ faults self.old };
 }

@@ -1,7 +1,7 @@
--- The 63 causes of a refusal: this server's own numbers and names.
+-- The 65 causes of a refusal: this server's own numbers and names.
 use Rattle.std.specs.Prelude.{ℕ, List, codes}
 use Rattle.fics_words.specs.declared.refusal.Refusal.{Refusal}
-use Rattle.fics_words.specs.declared.refusal.Refusal.TheVariants.{Ambiguous, LeavesKing, CastleForbidden, NoDrops, NotInHand, Occupied, EndRank, NoPiece, CannotReach, GameOver, NotYourTurn, TooManyMoves, NothingToClaim, NotFallen, TooFewMoves, NoSuchOffer, AlreadyOffered, NotWatching, FeedFull, NotPlaying, NotInVariant, BadHandle, WrongPassword, HandleTaken, HallFull, Unknown, AmbiguousWord, BadArguments, TooLong, NoSuchSeek, SeekFull, NoSuchPlayer, Playing, NoChallenge, NoDesk, Refuses, NoPartner, HasPartner, NotInChannel, ListFull, BadChannel, NotGiving, SimulFull, NoStored, ShelfFull, NoSuchGame, AccountsFull, AlreadyRegistered, QueueFull, BadOpponent, OnList, NotOnList, NotRegistered, NotIn, AlreadyWatching, BadByte, TourneyStarted, TourneyFull, TooFewPlayers, TourneyNotStarted, NoSuchRound, NotPaired, AlreadyReported}
+use Rattle.fics_words.specs.declared.refusal.Refusal.TheVariants.{Ambiguous, LeavesKing, CastleForbidden, NoDrops, NotInHand, Occupied, EndRank, NoPiece, CannotReach, GameOver, NotYourTurn, TooManyMoves, NothingToClaim, NotFallen, TooFewMoves, NoSuchOffer, AlreadyOffered, NotWatching, FeedFull, NotPlaying, NotInVariant, BadHandle, WrongPassword, HandleTaken, HallFull, Unknown, AmbiguousWord, BadArguments, TooLong, NoSuchSeek, SeekFull, NoSuchPlayer, Playing, NoChallenge, NoDesk, Refuses, NoPartner, HasPartner, NotInChannel, ListFull, BadChannel, NotGiving, SimulFull, NoStored, ShelfFull, NoSuchGame, AccountsFull, AlreadyRegistered, QueueFull, BadOpponent, OnList, NotOnList, NotRegistered, NotIn, AlreadyWatching, BadByte, NoMoreMoves, NoEarlierMoves, TourneyStarted, TourneyFull, TooFewPlayers, TourneyNotStarted, NoSuchRound, NotPaired, AlreadyReported}
 
 -- the number that is printed
 abbrev pub number_of : Refusal → ℕ
@@ -61,6 +61,8 @@ number_of NotRegistered = 53
 number_of NotIn = 54
 number_of AlreadyWatching = 55
 number_of BadByte = 56
+number_of NoMoreMoves = 57
+number_of NoEarlierMoves = 58
 number_of TourneyStarted = 59
 number_of TourneyFull = 60
 number_of TooFewPlayers = 61
@@ -127,6 +129,8 @@ name_of NotRegistered = codes "NotRegistered"
 name_of NotIn = codes "NotIn"
 name_of AlreadyWatching = codes "AlreadyWatching"
 name_of BadByte = codes "BadByte"
+name_of NoMoreMoves = codes "NoMoreMoves"
+name_of NoEarlierMoves = codes "NoEarlierMoves"
 name_of TourneyStarted = codes "TourneyStarted"
 name_of TourneyFull = codes "TourneyFull"
 name_of TooFewPlayers = codes "TooFewPlayers"

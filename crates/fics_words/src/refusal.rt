@@ -1,9 +1,8 @@
-//! Why a command was refused: 63 causes, each with the number and the name that a player is shown. No cause has
-//! the number 57 or 58.
+//! Why a command was refused: 65 causes, each with the number and the name that a player is shown.
 
 ghost use Rattle.std.specs.Prelude.{◌≡◌};
 
-/// The cause of a refusal, numbered from 1 to 56 and from 59 to 65; shown to a player as `refused N Name`.
+/// The cause of a refusal, numbered from 1 to 65; shown to a player as `refused N Name`.
 #[derive(Clone, Copy, Debug, PartialEq, Eq)]
 pub enum Refusal {
     /// Two or more allowed moves match the word.
@@ -118,8 +117,12 @@ pub enum Refusal {
     AlreadyWatching,
     /// The line has bytes that aren't allowed.
     BadByte,
+    /// Fewer half-moves than that follow in the stored game.
+    NoMoreMoves,
+    /// Fewer half-moves than that were played so far in the stored game.
+    NoEarlierMoves,
     /// The tourney has started: nobody joins it any more, and it doesn't start again.
-    TourneyStarted = 59,
+    TourneyStarted,
     /// The tourney has all the players that it can hold.
     TourneyFull,
     /// A tourney needs two players to start.
@@ -137,7 +140,7 @@ pub enum Refusal {
 impl Refusal {
     ghost use Rattle.fics_words.specs.Refusal.{number_of, name_of};
 
-    /// The refusal's number, from 1 to 56 or from 59 to 65.
+    /// The refusal's number, 1 to 65.
     pub fn number(self) -> u8
         ensures { result ≡ number_of self }
     {
@@ -205,6 +208,8 @@ impl Refusal {
             Refusal::NotIn => "NotIn",
             Refusal::AlreadyWatching => "AlreadyWatching",
             Refusal::BadByte => "BadByte",
+            Refusal::NoMoreMoves => "NoMoreMoves",
+            Refusal::NoEarlierMoves => "NoEarlierMoves",
             Refusal::TourneyStarted => "TourneyStarted",
             Refusal::TourneyFull => "TourneyFull",
             Refusal::TooFewPlayers => "TooFewPlayers",

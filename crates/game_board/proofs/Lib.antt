@@ -1,5 +1,6 @@
 pub mod Acknowledged
 pub mod Charged
+pub mod Fallen
 pub mod Grown
 pub mod LastPlayed
 pub mod Legal

@@ -1,7 +1,7 @@
--- The draws that a player may claim, in chess alone (FIDE Laws 9.2 and 9.3).
+-- The draws that a player may claim, in chess and in Fischer random alone (FIDE Laws 9.2 and 9.3).
 use Rattle.std.specs.Prelude.{Bool, true, false, not, if◌then◌else◌, Result, Ok, Err}
 use Rattle.chess_model.specs.declared.variant.Variant.{Variant}
-use Rattle.chess_model.specs.declared.variant.Variant.TheVariants.{Chess, Crazyhouse, Bughouse}
+use Rattle.chess_model.specs.declared.variant.Variant.TheVariants.{Chess, Crazyhouse, Bughouse, Fischer}
 use Rattle.chess_model.specs.declared.why.Why.{Why}
 use Rattle.chess_model.specs.declared.why.Why.TheVariants.{Fifty, Threefold}
 use Rattle.chess_model.specs.Claims.{is_fifty, is_threefold}
@@ -14,6 +14,7 @@ abbrev pub has_claims : Variant → Bool
 has_claims Chess = true
 has_claims Crazyhouse = false
 has_claims Bughouse = false
+has_claims (Fischer number) = true
 
 -- whether the position on the board stands at least for the third time
 abbrev pub is_third_time : Board → Bool

@@ -1,11 +1,11 @@
 -- The rule of the flag: whose clock has fallen, and what the call of the other player brings.
-use Rattle.std.specs.Prelude.{ℕ, ◌-◌, Bool, true, false, not, ◌&&◌, ◌||◌, if◌then◌else◌, Option, Some, None, Result, Ok, Err, pos, int_lt}
+use Rattle.std.specs.Prelude.{◌≡◌, ◌≢◌, ℕ, ◌-◌, ◌≤◌, Bool, true, false, not, ◌&&◌, ◌||◌, if◌then◌else◌, Option, Some, None, Result, Ok, Err, pos, int_lt}
 use Rattle.std.specs.List.{list_all}
 use Rattle.chess_model.specs.declared.man.Colour.{Colour}
 use Rattle.chess_model.specs.declared.man.Kind.TheVariants.{King}
 use Rattle.chess_model.specs.declared.man.Man.{Man}
 use Rattle.chess_model.specs.declared.variant.Variant.{Variant}
-use Rattle.chess_model.specs.declared.variant.Variant.TheVariants.{Chess, Crazyhouse, Bughouse}
+use Rattle.chess_model.specs.declared.variant.Variant.TheVariants.{Chess, Crazyhouse, Bughouse, Fischer}
 use Rattle.chess_model.specs.Placement.{Placement, opposite}
 use Rattle.chess_model.specs.Holdings.{same_colour, same_kind}
 use Rattle.fics_words.specs.declared.refusal.Refusal.{Refusal}
@@ -35,6 +35,7 @@ abbrev pub needs_men : Variant → Bool
 needs_men Chess = true
 needs_men Crazyhouse = false
 needs_men Bughouse = false
+needs_men (Fischer number) = true
 
 -- whether the caller of a flag can't win by it
 abbrev pub cannot_win : Board → Colour → ℕ → Bool
@@ -46,3 +47,9 @@ flag_answer b c moment =
     if has_fallen b (opposite c) moment
     then Ok (if cannot_win b c moment then None else Some c)
     else Err NotFallen
+
+-- a colour's clock that has fallen at a moment has fallen at every later one, so that its flag can be called then too
+pub record StaysFallen (b : Board) (c : Colour) : Type 0 where
+  pub fallen : (moment later : ℕ) → moment ≤ later → has_fallen b c moment ≡ true → has_fallen b c later ≡ true
+  pub called : (moment later : ℕ) → moment ≤ later → flag_answer b (opposite c) moment ≢ Err NotFallen
+      → flag_answer b (opposite c) later ≢ Err NotFallen

@@ -21,12 +21,14 @@ fn has_claims(variant: Variant) -> bool
         Variant::Chess => true,
         Variant::Crazyhouse => false,
         Variant::Bughouse => false,
+        Variant::Fischer(_) => true,
     }
 }
 
 impl GameBoard {
-    /// Claims a draw, in chess alone: why the game is one, by fifty moves of each player without a pawn's move and
-    /// without a capture, or else by a position that stands at least for the third time. Refuses with `NothingToClaim`.
+    /// Claims a draw, in chess and in Fischer random alone: why the game is one, by fifty moves of each player without
+    /// a pawn's move and without a capture, or else by a position that stands at least for the third time. Refuses with
+    /// `NothingToClaim`.
     #[tactic(auto, unfolding(crate::specs::Claim::claim_answer))]
     pub fn claim_draw(&self) -> Result<Why, Refusal>
         ensures { result ≡ claim_answer self.now }

@@ -373,6 +373,7 @@ impl GameBoard {
             Variant::Chess => has_only_king(self.position(), caller),
             Variant::Crazyhouse => false,
             Variant::Bughouse => false,
+            Variant::Fischer(_) => has_only_king(self.position(), caller),
         }
     }
 }

@@ -14,6 +14,7 @@ ghost use Rattle.game_board.specs.Acked.{acknowledged};
 ghost use Rattle.game_board.specs.Board.{Board, new_board, to_move, mover_after, position_of};
 ghost use Rattle.game_board.specs.BoardFace.{before_own};
 ghost use Rattle.game_board.specs.Charges.{charges_of};
+ghost use Rattle.game_board.specs.Flag.{StaysFallen, has_fallen};
 ghost use Rattle.game_board.specs.Play.{move_answer, next_charge, play_after, with_half_move};
 ghost use Rattle.game_board.specs.Learn.{partner_position, learnt};
 ghost use Rattle.game_board.specs.Scoresheet.{IsTrueScore};
@@ -59,6 +60,16 @@ pub fn the_last_acknowledgement_counts()
         (λ charge. charge.client ≡ None) }
     ensures cleared { (b : Board) (m : Move) (moment : ℕ) (stamp : Option ℕ)
         → (with_half_move b m moment stamp).kept ≡ None }
+{}
+
+/// A clock that has fallen stays fallen while the same player thinks: at every later moment, whatever the clients
+/// acknowledge, and whatever is played on the partner's board.
+pub fn a_fallen_clock_stays_fallen()
+    ensures later { (b : Board) (c : Colour) → StaysFallen b c }
+    ensures acked { (b : Board) (c by : Colour) (stamp moment : ℕ)
+        → has_fallen (acknowledged b by stamp) c moment ≡ has_fallen b c moment }
+    ensures learnt { (b : Board) (c : Colour) (m : Move) (moment : ℕ)
+        → has_fallen (learnt b m) c moment ≡ has_fallen b c moment }
 {}
 
 /// The list of a board is a true score of its game from the start on, whatever words are played and whatever half-moves

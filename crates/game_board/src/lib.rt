@@ -23,8 +23,8 @@ pub use board_face::face;
 pub use clock_ledger::{Charge, ClockLedger};
 pub use game_board::{GameBoard, MOST_PLAYED};
 pub use laws::{
-    charges_follow_the_list, play_takes_exactly_the_answers, scores_are_true,
-    the_last_acknowledgement_counts, the_last_own_half_move_is_shown,
+    a_fallen_clock_stays_fallen, charges_follow_the_list, play_takes_exactly_the_answers,
+    scores_are_true, the_last_acknowledgement_counts, the_last_own_half_move_is_shown,
 };
 pub use learn::handed_over_as;
 pub use played::Played;

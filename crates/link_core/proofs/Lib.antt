@@ -4,3 +4,4 @@ pub mod Arriving
 pub mod Stamps
 pub mod Stepping
 pub mod Ending
+pub mod Owning

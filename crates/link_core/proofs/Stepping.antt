@@ -15,15 +15,15 @@ use Rattle.session_core.specs.declared.input.Input.TheVariants.{Line, Quiet}
 use Rattle.session_core.specs.Course.{Begins, Passes}
 use Rattle.session_core.specs.Going.{Broke}
 use Rattle.session_core.specs.Inputs.{input_course}
-use Rattle.session_core.specs.Memory.{MemoryState, has_entered, newcomer}
+use Rattle.session_core.specs.Memory.{MemoryState, newcomer}
 use Rattle.session_core.specs.Session.{leaving}
 use Rattle.session_core.specs.Texts.{opening_text}
 use Rattle.session_core.proofs.Going.{made_none, made_then, same_mark, same_number}
 use Rattle.link_core.specs.declared.link_end.LinkEnd.{LinkEnd}
 use Rattle.link_core.specs.declared.link_end.LinkEnd.TheVariants as end
 use Rattle.link_core.specs.Arrivals.{bytes_of, inputs_of, lines_behind}
-use Rattle.link_core.specs.Served.{Comes, Ends, LastRead, NotRead, Writes, WritesPart}
-use Rattle.link_core.specs.Steps.{AfterAnswer, AfterStep, AfterWrite, AnsweredPart, AnsweredWhole, Behind, Halfway, IsDrained, Progress, Stand, Stops, TellsOpen, Written, WrittenPart}
+use Rattle.link_core.specs.Served.{Covers, HasWritten, LastRead, NotRead, WritesPart}
+use Rattle.link_core.specs.Steps.{AfterAnswer, AfterStep, AfterWrite, AnsweredPart, AnsweredWhole, Behind, Halfway, IsDrained, Progress, Stand, EndsReading, Stops, TellsOpen, Written, WrittenPart}
 use Rattle.link_core.specs.Talk.{Answers, IsShown, Talks, joined}
 use Rattle.link_core.proofs.Arriving.{behind_reader, bytes_more, bytes_pause, come_bytes, come_end, come_pause, fed_lines, fed_rest}
 use Rattle.link_core.proofs.Tales.{both_map, both_then, tells_more, written_none}
@@ -101,8 +101,8 @@ module _ (shows : ℕ → Bool) (start : Stand) where
       }
 
   -- the reading ends behind answered inputs
-  pub stops_at : (end : LinkEnd) (now : Stand) (taken : List Sign) (e : Bool) (due : List Input) (h : Halfway shows start now taken e due) → Comes end h.inputs (inputs_of taken e)
-      → Behind end shows start.state.mark start.state.number h.inputs (inputs_of taken e) now.memory now.memory [] → Writes end (opening_text ∷ h.pieces) (said h.pieces) → Ends end taken e now.memory
+  pub stops_at : (end : LinkEnd) (now : Stand) (taken : List Sign) (e : Bool) (due : List Input) (h : Halfway shows start now taken e due) → Covers end h.inputs (inputs_of taken e)
+      → Behind end shows start.state.mark start.state.number h.inputs (inputs_of taken e) now.memory now.memory [] → HasWritten end (opening_text ∷ h.pieces) (said h.pieces) → EndsReading end taken e now.memory
       → Stops shows end start now
   stops_at end now taken e due h come behind writes ends = record {
     taken = taken;
@@ -127,14 +127,14 @@ module _ (shows : ℕ → Bool) (start : Stand) where
   pub stops_memory : (now : Stand) (taken : List Sign) (e : Bool) (due : List Input) → Halfway shows start now taken e due → Stops shows end.Memory start now
   stops_memory now taken e due h =
       stops_at end.Memory now taken e due h (due, sym h.come)
-      (inl (record { midway = inl refl; inside = sym (or-false (has_entered now.memory)) })) (whole_part h.pieces) tt
+      (inl (inl (refl, refl))) (whole_part h.pieces) tt
 
   -- an input was answered, and what was written is a prefix of the answer
   stopped_part : (end : LinkEnd) (now new : Stand) (taken : List Sign) (e : Bool) (input : Input) (due : List Input) → Halfway shows start now taken e (input ∷ due)
       → AnsweredPart shows input now.state now.memory now.link new.state new.memory new.link
-      → ((inputs : List Input) → IsPrefix inputs (inputs_of taken e) → Comes end inputs (inputs_of taken e))
+      → ((inputs : List Input) → IsPrefix inputs (inputs_of taken e) → Covers end inputs (inputs_of taken e))
       → ((inputs : List Input) → Behind end shows start.state.mark start.state.number inputs (inputs_of taken e) new.memory new.memory [])
-      → ((pieces : List (List ℕ)) (written : List ℕ) → WritesPart pieces written → Writes end pieces written) → Ends end taken e new.memory → Stops shows end start new
+      → ((pieces : List (List ℕ)) (written : List ℕ) → WritesPart pieces written → HasWritten end pieces written) → EndsReading end taken e new.memory → Stops shows end start new
   stopped_part end now new taken e input due h a comes behind writes ends =
       let made : Log = h.made ++ a.answered.made in
       record {
@@ -199,17 +199,15 @@ module _ (shows : ℕ → Bool) (start : Stand) where
   stopped_there : (now new : Stand) (taken : List Sign) (e : Bool) (input : Input) (due : List Input) → Halfway shows start now taken e (input ∷ due) → (moment : ℕ)
       → IsShown shows moment → new.link ≡ now.link → Broke (input_course input now.memory) moment now.state now.memory new.state new.memory → Stops shows end.Memory start new
   stopped_there now new taken e input due h moment shown same (inl b) =
-      stopped_broke now new taken e input due h b.entries b.grew same (inl (record {
-        midway = inr (record {
-          next = input;
-          more = due;
-          come_is = h.come;
-          moment = moment;
-          shown = shown;
-          begins = subst (λ (n : ℕ). Begins (input_course input now.memory) n moment b.entries) (same_number start.state now.state h.made h.grew) b.begins;
-        });
+      stopped_broke now new taken e input due h b.entries b.grew same (inl (inr (record {
+        next = input;
+        more = due;
+        come_is = h.come;
+        moment = moment;
+        shown = shown;
+        begins = subst (λ (n : ℕ). Begins (input_course input now.memory) n moment b.entries) (same_number start.state now.state h.made h.grew) b.begins;
         inside = b.inside;
-      }))
+      })))
   stopped_there now new taken e input due h moment shown same (inr l) =
       stopped_broke now new taken e input due h l.part.entries l.part.grew same (inr (
         record {
@@ -237,7 +235,7 @@ module _ (shows : ℕ → Bool) (start : Stand) where
       stopped_part end.WriteFault now new taken e input due h a (λ inputs p. p) (λ inputs. (refl, refl)) (λ pieces written w. w) tt
   stopped_one end.Memory now new taken e input due h (inl a) =
       stopped_part end.Memory now new taken e input due h a (λ inputs p. p)
-      (λ inputs. inl (record { midway = inl refl; inside = sym (or-false (has_entered new.memory)) })) (λ pieces written w. w) tt
+      (λ inputs. inl (inl (refl, refl))) (λ pieces written w. w) tt
   stopped_one end.Memory now new taken e input due h (inr b) = stopped_there now new taken e input due h b.moment b.shown b.same b.broke
   stopped_one end.End now new taken e input due h a = absurd a
   stopped_one end.ReadFault now new taken e input due h a = absurd a
@@ -251,11 +249,14 @@ module _ (shows : ℕ → Bool) (start : Stand) where
   extent_is : (t t' w w' : ℕ) (e e' : Bool) → t ≡ t' → w ≡ w' → e ≡ e' → extent t w e ≡ extent t' w' e'
   extent_is t t' w w' e e' p q r = ap (λ (x : ℕ). extent x w e) p ∙ ap (λ (x : ℕ). extent t' x e) q ∙ ap (λ (x : Bool). extent t' w' x) r
 
+  not_ended : false ≡ true → ⊥
+  not_ended is = cc
+
   -- the link was read, where all that came before was answered
   pub read_on : (now : Stand) (taken : List Sign) (what : Heard) (buf : List ℕ) (link : Option Tale) (e : Bool) (due : List Input) → Halfway shows start now taken false [] → Both now.link link (Reads what buf)
-      → ((before : Bool) → is_ended what (before || false) ≡ (before || e)) → inputs_of (taken ++ signs_of what buf) e ≡ inputs_of taken false ++ due
+      → ((before : Bool) → is_ended what (before || false) ≡ (before || e)) → (e ≡ true → (y z : Tale) → Reads what buf y z → z.left ≡ []) → inputs_of (taken ++ signs_of what buf) e ≡ inputs_of taken false ++ due
       → Halfway shows start (record now { link = link }) (taken ++ signs_of what buf) e due
-  read_on now taken what buf link e due h r ends comes =
+  read_on now taken what buf link e due h r ends none comes =
       let signs = signs_of what buf in
       let all : inputs_of taken false ≡ h.inputs = h.come ∙ append-nil h.inputs in
       record {
@@ -265,6 +266,8 @@ module _ (shows : ℕ → Bool) (start : Stand) where
         grew = h.grew;
         tells = both_then start.link now.link link h.tells r (λ x y z p q. record {
           taken_is = q.taken ∙ ap (λ (l : List Sign). l ++ signs) p.taken_is ∙ append_assoc x.taken taken signs;
+          left_is = p.left_is ∙ ap (λ (l : List Sign). taken ++ l) q.left ∙ sym (append_assoc taken signs z.left);
+          none_left = λ is. none is y z q;
           ended_is = q.ended ∙ ap (is_ended what) p.ended_is ∙ ends x.ended;
           written_is = q.written ∙ p.written_is;
           closed_is = q.closed ∙ p.closed_is;
@@ -303,7 +306,7 @@ module _ (shows : ℕ → Bool) (start : Stand) where
       record {
         taken = p.taken ++ map Byte bytes;
         half =
-            read_on now p.taken (heard.Bytes n) buf link false (map Line (lines_of fed [])) (drained_half now p.taken reader drained.0 p.half) r (λ before. refl)
+            read_on now p.taken (heard.Bytes n) buf link false (map Line (lines_of fed [])) (drained_half now p.taken reader drained.0 p.half) r (λ before. refl) (λ is. absurd (not_ended is))
             (come_bytes p.taken bytes ∙ ap (λ (l : List Incoming). inputs_of p.taken false ++ map Line l) lines);
         given = p.given;
         along = λ more. ap (lines_of fresh) (text more) ∙ p.along (bytes ++ more) ∙ ap (λ (l : List Incoming). p.given ++ l) (sym (fed_lines reader bytes more));
@@ -353,7 +356,7 @@ module _ (shows : ℕ → Bool) (start : Stand) where
   pause_due : (now : Stand) (reader : Reader) (turns : ℕ) (buf : List ℕ) (link : Option Tale) (p : Progress shows start now reader turns) → IsDrained reader → Both now.link link (Reads heard.Quiet buf)
       → Halfway shows start (record now { link = link }) (p.taken ++ Pause ∷ []) false (Quiet ∷ [])
   pause_due now reader turns buf link p drained r =
-      read_on now p.taken heard.Quiet buf link false (Quiet ∷ []) (drained_half now p.taken reader drained.0 p.half) r (λ before. refl) (come_pause p.taken)
+      read_on now p.taken heard.Quiet buf link false (Quiet ∷ []) (drained_half now p.taken reader drained.0 p.half) r (λ before. refl) (λ is. absurd (not_ended is)) (come_pause p.taken)
 
   pub progress_quiet : (now new : Stand) (reader : Reader) (turns : ℕ) (buf : List ℕ) (link : Option Tale) → Progress shows start now reader turns → IsDrained reader → Both now.link link (Reads heard.Quiet buf)
       → AnsweredWhole shows Quiet now.state now.memory link new.state new.memory new.link → Progress shows start new reader (turns + 1)
@@ -386,7 +389,7 @@ module _ (shows : ℕ → Bool) (start : Stand) where
   end_due now reader turns buf link p drained r =
       let rest : rest_of fresh (bytes_of (p.taken ++ [])) ≡ rest_of reader [] =
       ap (λ (l : List Sign). rest_of fresh (bytes_of l)) (append-nil p.taken) ∙ ap (rest_of fresh) (sym (append-nil (bytes_of p.taken))) ∙ p.rest [] in
-      read_on now p.taken heard.End buf link true (map Line (option_to_list (rest_of reader []))) (drained_half now p.taken reader drained.0 p.half) r (λ before. sym (or-true before))
+      read_on now p.taken heard.End buf link true (map Line (option_to_list (rest_of reader []))) (drained_half now p.taken reader drained.0 p.half) r (λ before. sym (or-true before)) (λ is y z q. sym q.left ∙ q.end)
       (come_end (p.taken ++ [])
       ∙ ap (λ (l : List Sign). inputs_of l false ++ map Line (option_to_list (rest_of fresh (bytes_of (p.taken ++ []))))) (append-nil p.taken)
       ∙ ap (λ (o : Option Incoming). inputs_of p.taken false ++ map Line (option_to_list o)) rest)
@@ -400,7 +403,7 @@ module _ (shows : ℕ → Bool) (start : Stand) where
       → Stops shows end.ReadFault start (record now { link = link })
   stops_failed now reader turns buf link p drained r =
       let h : Halfway shows start (record now { link = link }) (p.taken ++ []) false [] =
-      read_on now p.taken heard.Failed buf link false [] (drained_half now p.taken reader drained.0 p.half) r (λ before. refl)
+      read_on now p.taken heard.Failed buf link false [] (drained_half now p.taken reader drained.0 p.half) r (λ before. refl) (λ is. absurd (not_ended is))
       (ap (λ (l : List Sign). inputs_of l false) (append-nil p.taken) ∙ sym (append-nil (inputs_of p.taken false))) in
       stops_at end.ReadFault (record now { link = link }) (p.taken ++ []) false [] h (sym (h.come ∙ append-nil h.inputs)) (refl, refl) refl tt
 
@@ -415,6 +418,8 @@ module _ (shows : ℕ → Bool) (start : Stand) where
   opened : (put : List ℕ) (link : Option Tale) → Written put start.link link → Both start.link link (TellsOpen [] false put)
   opened put link w = both_map start.link link w (λ x y q. record {
     taken_is = ap (λ (t : Tale). t.taken) q ∙ sym (append-nil x.taken);
+    left_is = sym (ap (λ (t : Tale). t.left) q);
+    none_left = λ is. absurd (not_ended is);
     ended_is = ap (λ (t : Tale). t.ended) q ∙ sym (or-false x.ended);
     written_is = ap (λ (t : Tale). t.written) q;
     closed_is = ap (λ (t : Tale). t.closed) q;
@@ -444,8 +449,8 @@ module _ (shows : ℕ → Bool) (start : Stand) where
   }
 
   -- it was written in part, or not at all
-  stops_none : (end : LinkEnd) (link : Option Tale) → IsKnown start.state → start.memory ≡ newcomer → (w : WrittenPart opening_text start.link link) → Comes end [] []
-      → Behind end shows start.state.mark start.state.number [] [] start.memory start.memory [] → Writes end (opening_text ∷ []) w.put → Ends end [] false start.memory → Stops shows end start (record start { link = link })
+  stops_none : (end : LinkEnd) (link : Option Tale) → IsKnown start.state → start.memory ≡ newcomer → (w : WrittenPart opening_text start.link link) → Covers end [] []
+      → Behind end shows start.state.mark start.state.number [] [] start.memory start.memory [] → HasWritten end (opening_text ∷ []) w.put → EndsReading end [] false start.memory → Stops shows end start (record start { link = link })
   stops_none end link known new w comes behind writes ends = record {
     taken = [];
     is_ended = false;
@@ -470,7 +475,7 @@ module _ (shows : ℕ → Bool) (start : Stand) where
 
   pub stops_opening_memory : (link : Option Tale) → IsKnown start.state → start.memory ≡ newcomer → WrittenPart opening_text start.link link → Stops shows end.Memory start (record start { link = link })
   stops_opening_memory link known new w =
-      stops_none end.Memory link known new w (prefix_refl []) (inl (record { midway = inl refl; inside = sym (or-false (has_entered start.memory)) })) (opening_part link w) tt
+      stops_none end.Memory link known new w (prefix_refl []) (inl (inl (refl, refl))) (opening_part link w) tt
 
   pub stops_opening : (end : LinkEnd) (link : Option Tale) → IsKnown start.state → start.memory ≡ newcomer → AfterWrite opening_text start.link link (Err end) → Stops shows end start (record start { link = link })
   stops_opening end.WriteFault link known new w = stops_none end.WriteFault link known new w (prefix_refl []) (refl, refl) (opening_part link w) tt

@@ -58,6 +58,8 @@ tells_more taken is_ended written put a b c t w =
     both_then a b c t w
     (λ x y z p q. record {
       taken_is = ap (λ (t : Tale). t.taken) q ∙ p.taken_is;
+      left_is = p.left_is ∙ ap (λ (l : List Sign). taken ++ l) (sym (ap (λ (t : Tale). t.left) q));
+      none_left = λ e. ap (λ (t : Tale). t.left) q ∙ p.none_left e;
       ended_is = ap (λ (t : Tale). t.ended) q ∙ p.ended_is;
       written_is = ap (λ (t : Tale). t.written) q ∙ ap (λ (l : List ℕ). l ++ put) p.written_is ∙ append_assoc x.written written put;
       closed_is = ap (λ (t : Tale). t.closed) q ∙ p.closed_is;

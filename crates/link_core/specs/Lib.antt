@@ -1,4 +1,5 @@
 pub mod Arrivals
+pub mod Laws
 pub mod Talk
 pub mod Served
 pub mod Steps

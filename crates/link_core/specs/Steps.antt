@@ -1,5 +1,5 @@
 -- How far a link was served: on the way, and where the reading has ended.
-use Rattle.std.specs.Prelude.{◌≡◌, ◌⊎◌, ℕ, ◌≤◌, Bool, true, false, ◌||◌, List, [], ◌∷◌, ◌++◌, length, map, Result, Ok, Err}
+use Rattle.std.specs.Prelude.{◌≡◌, ◌⊎◌, ℕ, ◌^◌, ◌≤◌, Bool, true, false, ◌||◌, List, [], ◌∷◌, ◌++◌, length, map, Result, Ok, Err}
 use Rattle.std.specs.declared.option.Option.{Option}
 use Rattle.edge_traits.specs.Link.{Both, Sign, Tale}
 use Rattle.histories.specs.History.{IsPrefix}
@@ -8,14 +8,14 @@ use Rattle.line_reader.specs.Reader.{Reader, fresh, lines_of, rest_of}
 use Rattle.one_server.specs.Running.{Log, Made, RunnerState}
 use Rattle.session_core.specs.declared.input.Input.{Input}
 use Rattle.session_core.specs.declared.input.Input.TheVariants.{Line}
-use Rattle.session_core.specs.Going.{Broke, any_entered}
+use Rattle.session_core.specs.Going.{Broke}
 use Rattle.session_core.specs.Inputs.{input_course}
-use Rattle.session_core.specs.Memory.{MemoryState, has_entered, is_gone, newcomer}
+use Rattle.session_core.specs.Memory.{MemoryState, is_gone, newcomer}
 use Rattle.session_core.specs.Texts.{opening_text}
 use Rattle.link_core.specs.declared.link_end.LinkEnd.{LinkEnd}
-use Rattle.link_core.specs.declared.link_end.LinkEnd.TheVariants.{Quit, ReadFault, WriteFault, Memory}
+use Rattle.link_core.specs.declared.link_end.LinkEnd.TheVariants.{Quit, End, ReadFault, WriteFault, Spent, Memory}
 use Rattle.link_core.specs.Arrivals.{bytes_of, inputs_of}
-use Rattle.link_core.specs.Served.{BeginsNext, Comes, Ends, LastRead, NotRead, QuitsShort, Writes}
+use Rattle.link_core.specs.Served.{Covers, HasWritten, IsMidway, LastRead, NotRead, QuitsShort}
 use Rattle.link_core.specs.Talk.{Answers, IsShown, Talks, joined}
 
 -- these bytes were written, and nothing else happened to the link
@@ -84,9 +84,11 @@ AfterAnswer shows input old before link new after link_now (Err Memory) =
     ⊎ BrokeThere shows input old before link new after link_now
 AfterAnswer shows input old before link new after link_now (Err _) = ⊥
 
--- what a link tells on the way: it isn't closed
+-- what a link tells on the way: it has left what came behind what was taken, and it isn't closed
 pub record TellsOpen (taken : List Sign) (is_ended : Bool) (written : List ℕ) (old new : Tale) : Type 0 where
   pub taken_is : new.taken ≡ old.taken ++ taken
+  pub left_is : old.left ≡ taken ++ new.left
+  pub none_left : is_ended ≡ true → new.left ≡ []
   pub ended_is : new.ended ≡ (old.ended || is_ended)
   pub written_is : new.written ≡ old.written ++ written
   pub closed_is : new.closed ≡ old.closed
@@ -120,16 +122,18 @@ pub record Progress (shows : ℕ → Bool) (start now : Stand) (reader : Reader)
   pub many : turns ≤ length taken
 
 -- what was made behind the answered inputs, as the reading ended: nothing, but where memory ran out
-pub record Breaks (shows : ℕ → Bool) (session : ℕ) (inputs come : List Input) (memory after : MemoryState) (begun : Log)
-    : Type 0 where
-  pub midway : (begun ≡ []) ⊎ BeginsNext shows session inputs come memory begun
-  pub inside : has_entered after ≡ (has_entered memory || any_entered begun)
-
 abbrev pub Behind : LinkEnd → (ℕ → Bool) → Bool → ℕ → List Input → List Input → MemoryState → MemoryState → Log → Type 0
 Behind Memory shows mark session inputs come memory after begun =
-    Breaks shows session inputs come memory after begun
+    IsMidway shows session inputs come memory after begun
     ⊎ (QuitsShort shows mark session inputs come memory begun × (is_gone after ≡ true))
 Behind _ shows mark session inputs come memory after begun = (begun ≡ []) × (after ≡ memory)
+
+-- why the reading ended, but for faults, whose cause is in the link's count
+abbrev pub EndsReading : LinkEnd → List Sign → Bool → MemoryState → Type 0
+EndsReading Quit taken is_ended memory = is_gone memory ≡ true
+EndsReading End taken is_ended memory = is_ended ≡ true
+EndsReading Spent taken is_ended memory = 2 ^ 40 ≤ length taken
+EndsReading _ taken is_ended memory = Unit {0}
 
 -- the reading has ended; the session has still to leave, and the link to be closed
 pub record Stops (shows : ℕ → Bool) (end : LinkEnd) (start now : Stand) : Type 0 where
@@ -142,15 +146,15 @@ pub record Stops (shows : ℕ → Bool) (end : LinkEnd) (start now : Stand) : Ty
   pub pieces : List (List ℕ)
   pub memory : MemoryState
   pub talked : Talks shows start.state.number inputs newcomer made pieces memory
-  pub come : Comes end inputs (inputs_of taken is_ended)
+  pub come : Covers end inputs (inputs_of taken is_ended)
   pub begun : Log
   pub grew : Made start.state (made ++ begun) now.state
   pub behind : Behind end shows start.state.mark start.state.number inputs (inputs_of taken is_ended) memory
       now.memory begun
-  pub writes : Writes end (opening_text ∷ pieces) written
+  pub writes : HasWritten end (opening_text ∷ pieces) written
   pub read : NotRead taken is_ended start.link now.link
       ⊎ LastRead shows start.state.number taken (made ++ begun) written start.link now.link
-  pub ends : Ends end taken is_ended memory
+  pub ends : EndsReading end taken is_ended memory
 
 -- a step on the way: it goes on, or the reading has ended
 abbrev pub AfterStep : (ℕ → Bool) → Stand → Stand → Reader → ℕ → Result (Unit {0}) LinkEnd → Type 0

@@ -24,8 +24,9 @@ pub fn serve_link<R: Runner, L: Link, C: Clock>(
     clock: &C,
 ) -> LinkEnd
     ensures home { R.home r.new ≡ R.home r.old }
-    ensures served { Serves (C.shows clock.now) result (R.state r.old) (L.tale link.old)
-        (R.state r.new) (L.tale link.new) }
+    ensures served { Serves (C.shows clock.now) result
+        (R.state r.old) (record { tale = L.tale link.old; faults = L.faults link.old })
+        (R.state r.new) (record { tale = L.tale link.new; faults = L.faults link.new }) }
     ensures read_fault { result ≡ LinkEnd.ReadFault → Rose (L.faults link.old) (L.faults link.new) }
     ensures write_fault { result ≡ LinkEnd.WriteFault → Rose (L.faults link.old) (L.faults link.new) }
     ensures counted { L.faults link.old ≤ L.faults link.new }

@@ -12,25 +12,26 @@ use Rattle.offer_book.specs.declared.offer.Offer.TheVariants.{Draw, Abort, Adjou
 use Rattle.offer_book.specs.Offers.{offering}
 use Rattle.linked_desk.specs.Desk.{GameState, occupant, seat_of}
 use Rattle.linked_desk.specs.Make.{claim_at, claim_effect, claimed, fitting_effect, granted, make_effect, stood}
-use Rattle.linked_desk.specs.Offering.{agreed, end_without_winner, offer_item, told, with_offers}
+use Rattle.linked_desk.specs.Offering.{agreed, end_without_winner, offer_item, told, with_count, with_offers}
 use Rattle.linked_desk.specs.Seats.{place_of}
 use Rattle.linked_desk.specs.Sound.{IsSound, Names}
 use Rattle.linked_desk.proofs.Keeps.{Keeps, IsSound-ended_by}
-use Rattle.linked_desk.proofs.KeepsOffers.{IsSound-agreed, IsSound-told, IsSound-with_offers, either_occupant, either_sound, occupant-agreed, occupant-told, offer_item-names}
+use Rattle.linked_desk.proofs.KeepsOffers.{IsSound-agreed, IsSound-told, IsSound-with_count, IsSound-with_offers, either_occupant, either_sound, occupant-agreed, occupant-told, offer_item-names}
 
 sound_stood : (desk : ℕ) (g : GameState) (seat moment : ℕ) (offer : Offer) → IsSound g → IsSound (stood desk g seat moment offer)
 sound_stood desk g seat moment offer s =
     let effect = offering g.offers seat offer in
     let after : GameState = with_offers effect.after moment g in
-    either_sound effect.reply (agreed desk after moment seat offer) (told effect.after seat moment (offer_item g seat offer) g)
-    (IsSound-agreed desk after moment seat offer (IsSound-with_offers g effect.after moment s))
+    either_sound effect.reply (with_count seat (agreed desk after moment seat offer)) (told effect.after seat moment (offer_item g seat offer) g)
+    (IsSound-with_count (agreed desk after moment seat offer) seat
+    (IsSound-agreed desk after moment seat offer (IsSound-with_offers g effect.after moment s)))
     (IsSound-told g effect.after seat moment (offer_item g seat offer) (offer_item-names g seat offer) s)
 
 occupant-stood : (desk : ℕ) (g : GameState) (seat moment : ℕ) (offer : Offer) → occupant (stood desk g seat moment offer) ≡ occupant g
 occupant-stood desk g seat moment offer =
     let effect = offering g.offers seat offer in
     let after : GameState = with_offers effect.after moment g in
-    either_occupant effect.reply g (agreed desk after moment seat offer) (told effect.after seat moment (offer_item g seat offer) g)
+    either_occupant effect.reply g (with_count seat (agreed desk after moment seat offer)) (told effect.after seat moment (offer_item g seat offer) g)
     (occupant-agreed desk after moment seat offer)
     (occupant-told g effect.after seat moment (offer_item g seat offer))
 

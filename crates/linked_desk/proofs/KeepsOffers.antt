@@ -5,7 +5,7 @@ use Rattle.std.specs.Option.{option_map, option_and_then}
 use Rattle.std.proofs.lemmas.List.Elements.{All-nil, All-head}
 use Rattle.chess_model.specs.declared.variant.Terms.{Terms}
 use Rattle.chess_model.specs.declared.variant.Variant.{Variant}
-use Rattle.chess_model.specs.declared.variant.Variant.TheVariants.{Chess, Crazyhouse, Bughouse}
+use Rattle.chess_model.specs.declared.variant.Variant.TheVariants.{Chess, Crazyhouse, Bughouse, Fischer}
 use Rattle.chess_model.specs.declared.why.Why.TheVariants as why
 use Rattle.chess_model.specs.MoveList.{HalfMove}
 use Rattle.fics_words.specs.declared.player.Player.{Player}
@@ -23,7 +23,7 @@ use Rattle.style12_writer.specs.declared.item.Item.TheVariants as item
 use Rattle.linked_desk.specs.Boards.{board_numbers, latest}
 use Rattle.linked_desk.specs.Desk.{GameState, moment_at, occupant}
 use Rattle.linked_desk.specs.Hands.{first_hands}
-use Rattle.linked_desk.specs.Offering.{agreed, back_by, boards_taken_back, decline_item, end_without_winner, offer_item, offer_text, told, with_offers, with_taken}
+use Rattle.linked_desk.specs.Offering.{agreed, back_by, boards_taken_back, decline_item, end_without_winner, offer_item, offer_text, told, with_count, with_offers, with_taken}
 use Rattle.linked_desk.specs.Offering as offering
 use Rattle.linked_desk.specs.Sound.{AreSame, IsSound, NamesWinner}
 use Rattle.linked_desk.specs.Tally.{counted}
@@ -77,6 +77,7 @@ alike_back : {X : Type 0} (of : Board → X) (v : Variant) (b : Board) (n moment
     of (back_by v b n moment) ≡ of b
 alike_back of Chess b n moment e = alike of (has_too_few b n) b (taken_back b n moment) e
 alike_back of Crazyhouse b n moment e = alike of (has_too_few b n) b (taken_back b n moment) e
+alike_back of (Fischer number) b n moment e = alike of (has_too_few b n) b (taken_back b n moment) e
 alike_back of Bughouse b n moment e = refl
 
 begin_either : (few : Bool) (b new : Board) (moment : ℕ) → b.begin ≤ moment → new.begin ≤ moment → (if few then b else new).begin ≤ moment
@@ -86,6 +87,7 @@ begin_either false b new moment h k = k
 begin_back : (v : Variant) (b : Board) (n moment : ℕ) → b.begin ≤ moment → (back_by v b n moment).begin ≤ moment
 begin_back Chess b n moment h = begin_either (has_too_few b n) b (taken_back b n moment) moment h (omega arith)
 begin_back Crazyhouse b n moment h = begin_either (has_too_few b n) b (taken_back b n moment) moment h (omega arith)
+begin_back (Fischer number) b n moment h = begin_either (has_too_few b n) b (taken_back b n moment) moment h (omega arith)
 begin_back Bughouse b n moment h = h
 
 chess_is_single : Chess ≡ Bughouse → ⊥
@@ -94,9 +96,13 @@ chess_is_single e = cc
 crazyhouse_is_single : Crazyhouse ≡ Bughouse → ⊥
 crazyhouse_is_single e = cc
 
+fischer_is_single : (number : ℕ) → Fischer number ≡ Bughouse → ⊥
+fischer_is_single number e = cc
+
 score_back : (v : Variant) (b : Board) (n moment : ℕ) → b.terms.variant ≡ v → b.begin ≤ moment → IsTrueScore b → IsTrueScore (back_by v b n moment)
 score_back Chess b n moment is h score = IsTrueScore-take_back_after b n moment (λ e. chess_is_single (sym is ∙ e)) score h
 score_back Crazyhouse b n moment is h score = IsTrueScore-take_back_after b n moment (λ e. crazyhouse_is_single (sym is ∙ e)) score h
+score_back (Fischer number) b n moment is h score = IsTrueScore-take_back_after b n moment (λ e. fischer_is_single number (sym is ∙ e)) score h
 score_back Bughouse b n moment is h score = score
 
 -- of one board there is one list, and the boards of a pair stay as they are
@@ -161,6 +167,19 @@ occupant-agreed desk g moment seat Draw = refl
 occupant-agreed desk g moment seat Abort = refl
 occupant-agreed desk g moment seat Adjourn = refl
 occupant-agreed desk g moment seat (Takeback n) = occupant-taken_back desk g moment n
+
+-- how many offers a seat has made is no part of that
+pub IsSound-with_count : (g : GameState) (seat : ℕ) → IsSound g → IsSound (with_count seat g)
+IsSound-with_count g seat s = record {
+  numbers = s.numbers;
+  seated = s.seated;
+  terms = s.terms;
+  scores = s.scores;
+  together = s.together;
+  order = s.order;
+  winners = s.winners;
+  ended = s.ended;
+}
 
 pub IsSound-with_offers : (g : GameState) (offers : OfferBook) (moment : ℕ) → IsSound g → IsSound (with_offers offers moment g)
 IsSound-with_offers g offers moment s = IsSound-offers g offers g.tally moment s

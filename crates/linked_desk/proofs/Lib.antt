@@ -1,5 +1,6 @@
 pub mod BoardLists
 pub mod ClearedOffers
+pub mod Counting
 pub mod Finishing
 pub mod Holding
 pub mod Keeps

@@ -3,7 +3,7 @@ use Rattle.std.proofs.Common.{◌≡◌, ℕ, ◌*◌, ◌∷◌, length, map, O
 use Rattle.std.specs.Prelude.{◌++◌, option_map, option_to_list}
 use Rattle.chess_model.specs.declared.variant.Terms.{Terms}
 use Rattle.chess_model.specs.declared.variant.Variant.{Variant}
-use Rattle.chess_model.specs.declared.variant.Variant.TheVariants.{Chess, Crazyhouse, Bughouse}
+use Rattle.chess_model.specs.declared.variant.Variant.TheVariants.{Chess, Crazyhouse, Bughouse, Fischer}
 use Rattle.fics_words.specs.declared.seats.Opponents.{Opponents}
 use Rattle.fics_words.specs.declared.seats.Seats.{Seats}
 use Rattle.fics_words.specs.Seats.{seat_list}
@@ -20,9 +20,11 @@ announced_at : (desk : ℕ) (terms : Terms) (first : Opponents) (second : Option
     ≡ each_board (created_item desk terms) (first ∷ option_to_list second) (map (λ number. new_board number terms moment) (board_numbers v))
 announced_at desk terms first None moment Chess h = refl
 announced_at desk terms first None moment Crazyhouse h = refl
+announced_at desk terms first None moment (Fischer number) h = refl
 announced_at desk terms first None moment Bughouse h = absurd (omega (arith, h))
 announced_at desk terms first (Some players) moment Chess h = absurd (omega (arith, h))
 announced_at desk terms first (Some players) moment Crazyhouse h = absurd (omega (arith, h))
+announced_at desk terms first (Some players) moment (Fischer number) h = absurd (omega (arith, h))
 announced_at desk terms first (Some players) moment Bughouse h = refl
 
 pub announced_first : (desk : ℕ) (terms : Terms) (seats : Seats) (moment : ℕ) → HasPairsFor terms seats →

@@ -8,7 +8,7 @@ use Rattle.chess_model.specs.declared.man.Colour.{Colour}
 use Rattle.chess_model.specs.declared.moves.Move.{Move}
 use Rattle.chess_model.specs.declared.moves.MoveWord.{MoveWord}
 use Rattle.chess_model.specs.declared.variant.Variant.{Variant}
-use Rattle.chess_model.specs.declared.variant.Variant.TheVariants.{Chess, Crazyhouse, Bughouse}
+use Rattle.chess_model.specs.declared.variant.Variant.TheVariants.{Chess, Crazyhouse, Bughouse, Fischer}
 use Rattle.chess_model.specs.Allowed.{Allowed}
 use Rattle.chess_model.specs.Holdings.{other_board}
 use Rattle.chess_model.specs.MoveList.{HalfMove}
@@ -26,11 +26,13 @@ use Rattle.linked_desk.proofs.BoardLists.{nothing-changed_at}
 pub numbers_of_two : (v : Variant) (b c : Board) → map (λ (x : Board). x.number) (b ∷ c ∷ []) ≡ board_numbers v → (v ≡ Bughouse) × (b.number ≡ 1) × (c.number ≡ 2)
 numbers_of_two Chess b c e = absurd cc
 numbers_of_two Crazyhouse b c e = absurd cc
+numbers_of_two (Fischer number) b c e = absurd cc
 numbers_of_two Bughouse b c e = (refl, cc, cc)
 
 pub never_three : (v : Variant) (b c d : Board) (more : List Board) → map (λ (x : Board). x.number) (b ∷ c ∷ d ∷ more) ≡ board_numbers v → ⊥
 never_three Chess b c d more e = cc
 never_three Crazyhouse b c d more e = cc
+never_three (Fischer number) b c d more e = cc
 never_three Bughouse b c d more e = cc
 
 -- the number of the board in a place, and of that in the other one
@@ -47,6 +49,8 @@ numbers_linked Chess zero m n e f = absurd cc
 numbers_linked Chess (suc k) m n e f = absurd cc
 numbers_linked Crazyhouse zero m n e f = absurd cc
 numbers_linked Crazyhouse (suc k) m n e f = absurd cc
+numbers_linked (Fischer number) zero m n e f = absurd cc
+numbers_linked (Fischer number) (suc k) m n e f = absurd cc
 numbers_linked Bughouse zero m n e f = let one : 1 ≡ m = cc in let two : 2 ≡ n = cc in (refl, omega (arith, one, two))
 numbers_linked Bughouse (suc zero) m n e f = let two : 2 ≡ m = cc in let one : 1 ≡ n = cc in (refl, omega (arith, one, two))
 numbers_linked Bughouse (suc (suc k)) m n e f = absurd cc

@@ -7,9 +7,9 @@ use Rattle.chess_model.specs.declared.man.Kind.{Kind}
 use Rattle.chess_model.specs.declared.man.Kind.TheVariants.{Pawn, Knight, Bishop, Rook, Queen, King}
 use Rattle.chess_model.specs.declared.variant.Terms.{Terms}
 use Rattle.chess_model.specs.declared.variant.Variant.{Variant}
-use Rattle.chess_model.specs.declared.variant.Variant.TheVariants.{Chess, Crazyhouse, Bughouse}
-use Rattle.chess_model.specs.Allowed.{IsLegal}
-use Rattle.chess_model.specs.Census.{men_of, one_set, captured}
+use Rattle.chess_model.specs.declared.variant.Variant.TheVariants.{Chess, Crazyhouse, Bughouse, Fischer}
+use Rattle.chess_model.specs.Allowed.{HasDrops, IsLegal}
+use Rattle.chess_model.specs.Census.{men_of, one_set}
 use Rattle.chess_model.specs.Holdings.{count_in}
 use Rattle.chess_model.specs.MoveList.{HalfMove}
 use Rattle.chess_model.specs.Position.{Position, position_after, hand_of_side}
@@ -23,11 +23,12 @@ use Rattle.linked_desk.specs.Sound.{AreSame, IsSound, HasSoundGame}
 use Rattle.linked_desk.specs.WholeSets.{AreWhole, HasOneSet, HasTwoSets, HaveTwoSets, HasWholeSets, HasPrintedHands, AllAt}
 use Rattle.linked_desk.proofs.Pairs.{never_three, numbers_of_two}
 
-one_set_on : (b : Board) → b.terms.variant ≡ Chess → IsTrueScore b → HasOneSet b
+one_set_on : (b : Board) → ¬ HasDrops b.terms.variant → IsTrueScore b → HasOneSet b
 unfolding position_of
-one_set_on b e s = λ c k.
-    subst (λ (v : Variant). men_of c k (position_after v b.all b.number).men + captured Chess b.all b.number c k ≡ one_set k) (sym e)
-    (census_kept.chess b.all b.number c k (subst (λ (v : Variant). IsLegal v b.all) e s.legal))
+one_set_on b none s = λ c k. census_kept.chess b.terms.variant b.all b.number c k none s.legal
+
+one_set_of : (v : Variant) (b : Board) → ¬ HasDrops v → b.terms.variant ≡ v → IsTrueScore b → HasOneSet b
+one_set_of v b none e s = one_set_on b (subst (λ (w : Variant). ¬ HasDrops w) (sym e) none) s
 
 two_sets_on : (b : Board) → b.terms.variant ≡ Crazyhouse → IsTrueScore b → HasTwoSets b
 unfolding position_of
@@ -56,7 +57,9 @@ two_sets_of b c first second one two all s =
 
 whole_boards : (v : Variant) (boards : List Board) → map (λ (b : Board). b.number) boards ≡ board_numbers v → All (λ (b : Board). b.terms.variant ≡ v) boards → All IsTrueScore boards →
     AreSame (map (λ (b : Board). b.all) boards) → AreWhole v boards
-whole_boards Chess boards numbers terms scores same = λ k d within. one_set_on _ (terms k d within) (scores k d within)
+whole_boards Chess boards numbers terms scores same = λ k d within. one_set_of Chess _ (λ drops. drops) (terms k d within) (scores k d within)
+whole_boards (Fischer number) boards numbers terms scores same =
+    λ k d within. one_set_of (Fischer number) _ (λ drops. drops) (terms k d within) (scores k d within)
 whole_boards Crazyhouse boards numbers terms scores same = λ k d within. two_sets_on _ (terms k d within) (scores k d within)
 whole_boards Bughouse [] numbers terms scores same = absurd cc
 whole_boards Bughouse (b ∷ []) numbers terms scores same = absurd cc
@@ -90,6 +93,20 @@ empty_in_chess T b Black Rook = omega arith
 empty_in_chess T b Black Queen = omega arith
 empty_in_chess T b Black King = omega arith
 
+empty_in_fischer : (number : ℕ) (T : List HalfMove) (b : ℕ) (c : Colour) (k : Kind) → count_in (hand_of_side (position_after (Fischer number) T b) c) k ≤ 16
+empty_in_fischer number T b White Pawn = omega arith
+empty_in_fischer number T b White Knight = omega arith
+empty_in_fischer number T b White Bishop = omega arith
+empty_in_fischer number T b White Rook = omega arith
+empty_in_fischer number T b White Queen = omega arith
+empty_in_fischer number T b White King = omega arith
+empty_in_fischer number T b Black Pawn = omega arith
+empty_in_fischer number T b Black Knight = omega arith
+empty_in_fischer number T b Black Bishop = omega arith
+empty_in_fischer number T b Black Rook = omega arith
+empty_in_fischer number T b Black Queen = omega arith
+empty_in_fischer number T b Black King = omega arith
+
 few_in_crazyhouse : (T : List HalfMove) (b : ℕ) → IsLegal Crazyhouse T → (c : Colour) (k : Kind) →
     count_in (hand_of_side (position_after Crazyhouse T b) c) k ≤ 16
 few_in_crazyhouse T b legal White k = omega (arith, census_kept.crazyhouse T b k legal, most_in_two_sets k)
@@ -101,6 +118,7 @@ few_in_pair T b low high legal Black k = few_in_hand T b Black k low high legal
 
 few_after : (v : Variant) (T : List HalfMove) (b : ℕ) → 1 ≤ b → b ≤ 2 → IsLegal v T → (c : Colour) (k : Kind) → count_in (hand_of_side (position_after v T b) c) k ≤ 16
 few_after Chess T b low high legal c k = empty_in_chess T b c k
+few_after (Fischer number) T b low high legal c k = empty_in_fischer number T b c k
 few_after Crazyhouse T b low high legal c k = few_in_crazyhouse T b legal c k
 few_after Bughouse T b low high legal c k = few_in_pair T b low high legal c k
 
@@ -115,6 +133,7 @@ printed_one b one scores =
 number_of_one : (v : Variant) (b : Board) → map (λ (x : Board). x.number) (b ∷ []) ≡ board_numbers v → b.number ≡ 1
 number_of_one Chess b e = cc
 number_of_one Crazyhouse b e = cc
+number_of_one (Fischer number) b e = cc
 number_of_one Bughouse b e = absurd cc
 
 printed_boards : (v : Variant) (boards : List Board) → map (λ (b : Board). b.number) boards ≡ board_numbers v → All IsTrueScore boards → All HasPrintedHands boards

@@ -7,7 +7,7 @@ use Rattle.chess_model.specs.declared.moves.Move.{Move}
 use Rattle.chess_model.specs.declared.moves.MoveWord.{MoveWord}
 use Rattle.chess_model.specs.declared.variant.Terms.{Terms}
 use Rattle.chess_model.specs.declared.variant.Variant.{Variant}
-use Rattle.chess_model.specs.declared.variant.Variant.TheVariants.{Chess, Crazyhouse, Bughouse}
+use Rattle.chess_model.specs.declared.variant.Variant.TheVariants.{Chess, Crazyhouse, Bughouse, Fischer}
 use Rattle.fics_words.specs.declared.refusal.Refusal.{Refusal}
 use Rattle.fics_words.specs.declared.refusal.Refusal.TheVariants.{NotPlaying}
 use Rattle.game_board.specs.Acked.{acknowledged}
@@ -21,6 +21,7 @@ abbrev pub board_numbers : Variant → List ℕ
 board_numbers Bughouse = 1 ∷ 2 ∷ []
 board_numbers Chess = 1 ∷ []
 board_numbers Crazyhouse = 1 ∷ []
+board_numbers (Fischer number) = 1 ∷ []
 
 -- the boards at the start of a game
 abbrev pub new_boards : Terms → ℕ → List Board

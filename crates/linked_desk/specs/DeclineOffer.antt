@@ -9,7 +9,7 @@ use Rattle.linked_desk.specs.Desk.{GameState, seat_of}
 use Rattle.linked_desk.specs.Ends.{no_seat_cause, over_cause}
 use Rattle.linked_desk.specs.Offering.{decline_item, told, told_out_cause}
 
--- why who has that seat, or none, can't decline: there is no such offer, or the seat has told enough
+-- why who has that seat, or none, can't decline: there is no such offer, or the seat has made enough
 abbrev pub decline_causes : GameState → Option ℕ → List Cause
 decline_causes g None = []
 decline_causes g (Some seat) =
@@ -21,7 +21,7 @@ declined_by g moment None = g
 declined_by g moment (Some seat) = told (declining g.offers seat).after seat moment (decline_item g seat) g
 
 -- declines the earliest offer: refused where the session has no seat, where the game has ended, where no other seat has
--- an offer standing that this seat lacks, and where the seat has told enough
+-- an offer standing that this seat lacks, and where the seat has made enough
 abbrev pub decline_effect : GameState → ℕ → ℕ → Effect GameState DeskReply
 decline_effect g session moment = record {
   causes = no_seat_cause g session ∷ over_cause g ∷ decline_causes g (seat_of g session);

@@ -10,7 +10,7 @@ use Rattle.chess_model.specs.declared.man.Man.{Man}
 use Rattle.chess_model.specs.declared.moves.Move.{Move}
 use Rattle.chess_model.specs.declared.moves.Move.TheVariants.{Plain, Castle, Drop}
 use Rattle.chess_model.specs.declared.variant.Variant.{Variant}
-use Rattle.chess_model.specs.declared.variant.Variant.TheVariants.{Chess, Crazyhouse, Bughouse}
+use Rattle.chess_model.specs.declared.variant.Variant.TheVariants.{Chess, Crazyhouse, Bughouse, Fischer}
 use Rattle.chess_model.specs.Holdings.{handed_kind}
 use Rattle.chess_model.specs.Position.{hand_of_side}
 use Rattle.chess_model.specs.Tests.{has_drops}
@@ -48,6 +48,7 @@ abbrev pub changes_hands : Variant → Bool → Option Man → Bool
 changes_hands Chess drop man = false
 changes_hands Crazyhouse drop man = drop || is_some man
 changes_hands Bughouse drop man = drop
+changes_hands (Fischer number) drop man = false
 
 -- what is told of the hands of a board after a half-move there that captured this man: where they have changed, both
 -- hands as they stand now, and as which kind the man came
@@ -72,10 +73,10 @@ abbrev pub partner_hands_at : ℕ → GameState → ℕ → Option Man → Optio
 partner_hands_at desk g place man =
     option_and_then (λ b. partner_told desk b man) (slice_get g.boards (other_place place))
 
--- a knight is captured, a man is dropped, and neither: in chess, crazyhouse and bughouse
+-- a knight is captured, a man is dropped, and neither: in chess, crazyhouse, bughouse and Fischer random
 example_changes : map (λ v. changes_hands v false (Some (record { colour = White; kind = Knight; promoted = false })))
-    (Chess ∷ Crazyhouse ∷ Bughouse ∷ [])
-    ++ map (λ v. changes_hands v true None) (Chess ∷ Crazyhouse ∷ Bughouse ∷ [])
-    ++ map (λ v. changes_hands v false None) (Chess ∷ Crazyhouse ∷ Bughouse ∷ [])
-    ≡ false ∷ true ∷ false ∷ false ∷ true ∷ true ∷ false ∷ false ∷ false ∷ []
+    (Chess ∷ Crazyhouse ∷ Bughouse ∷ Fischer 0 ∷ [])
+    ++ map (λ v. changes_hands v true None) (Chess ∷ Crazyhouse ∷ Bughouse ∷ Fischer 0 ∷ [])
+    ++ map (λ v. changes_hands v false None) (Chess ∷ Crazyhouse ∷ Bughouse ∷ Fischer 0 ∷ [])
+    ≡ false ∷ true ∷ false ∷ false ∷ false ∷ true ∷ true ∷ false ∷ false ∷ false ∷ false ∷ false ∷ []
 example_changes = refl

@@ -16,7 +16,7 @@ use Rattle.linked_desk.specs.declared.acts.DeskReply.{DeskReply}
 use Rattle.linked_desk.specs.declared.acts.DeskReply.TheVariants.{Done}
 use Rattle.linked_desk.specs.Desk.{GameState, seat_of}
 use Rattle.linked_desk.specs.Ends.{ended_by, no_seat_cause, over_cause}
-use Rattle.linked_desk.specs.Offering.{agreed, end_without_winner, lacks_half_moves, offer_item, told, told_out_cause, with_offers}
+use Rattle.linked_desk.specs.Offering.{agreed, end_without_winner, lacks_half_moves, offer_item, told, told_out_cause, with_count, with_offers}
 use Rattle.linked_desk.specs.Seats.{place_of}
 
 -- two boards belong to the game
@@ -56,15 +56,16 @@ claimed boards seat Abort = None
 claimed boards seat Adjourn = None
 claimed boards seat (Takeback n) = None
 
--- why an offer of this seat is refused that claims no draw: the seat has it standing, or has told enough
+-- why an offer of this seat is refused that claims no draw: the seat has it standing, or has made enough
 abbrev pub again_causes : GameState → ℕ → Offer → List Cause
 again_causes g seat offer = (stands g.offers.standing seat offer, AlreadyOffered) ∷ told_out_cause g seat ∷ []
 
--- what such an offer does: it takes effect where every other seat has it standing, and else it stands and is told
+-- what such an offer does: it takes effect where every other seat has it standing, and else it stands and is told; it
+-- counts among those of its seat either way
 abbrev pub stood : ℕ → GameState → ℕ → ℕ → Offer → GameState
 stood desk g seat moment offer =
     let effect = offering g.offers seat offer in
-    if effect.reply then agreed desk (with_offers effect.after moment g) moment seat offer
+    if effect.reply then with_count seat (agreed desk (with_offers effect.after moment g) moment seat offer)
     else told effect.after seat moment (offer_item g seat offer) g
 
 abbrev pub offer_effect : ℕ → GameState → ℕ → ℕ → Offer → Effect GameState DeskReply
@@ -91,7 +92,7 @@ fitting_effect desk g None moment offer = record { causes = []; memory = true; r
 fitting_effect desk g (Some seat) moment offer = claim_effect desk g seat moment offer (claimed g.boards seat offer)
 
 -- an offer is refused where the session has no seat, where the game has ended, where it doesn't fit the desk, and then,
--- unless it claims a draw, where the seat has it standing and where it has told enough
+-- unless it claims a draw, where the seat has it standing and where it has made enough
 abbrev pub make_effect : ℕ → GameState → ℕ → ℕ → Offer → Effect GameState DeskReply
 make_effect desk g session moment offer =
     let effect = fitting_effect desk g (seat_of g session) moment offer in

@@ -2,7 +2,7 @@
 use Rattle.std.specs.Prelude.{ℕ, Bool, true, ◌∷◌, [], List, Option, None, slice_get}
 use Rattle.std.specs.Option.{option_map, option_and_then}
 use Rattle.chess_model.specs.declared.variant.Variant.{Variant}
-use Rattle.chess_model.specs.declared.variant.Variant.TheVariants.{Chess, Crazyhouse, Bughouse}
+use Rattle.chess_model.specs.declared.variant.Variant.TheVariants.{Chess, Crazyhouse, Bughouse, Fischer}
 use Rattle.chess_model.specs.declared.why.Why.{Why}
 use Rattle.chess_model.specs.declared.why.Why.TheVariants as why
 use Rattle.fics_words.specs.Effect.{Cause}
@@ -42,7 +42,7 @@ offer_item g seat offer =
 abbrev pub decline_item : GameState → ℕ → Option Item
 decline_item g seat = option_map (λ (p : Player). item.Talk (decline_text p.name)) (slice_get (seat_list g.seats) seat)
 
--- a seat tells an offer, or that it declines one, no more than so often
+-- a seat makes offers and declines them no more than so often in all
 abbrev pub told_out_cause : GameState → ℕ → Cause
 told_out_cause g seat = (is_told_out g.tally seat, FeedFull)
 
@@ -54,6 +54,10 @@ with_offers offers moment g = record g { offers = offers; last = moment_at g mom
 abbrev pub told : OfferBook → ℕ → ℕ → Option Item → GameState → GameState
 told offers seat moment x g =
     with_item (record g { offers = offers; tally = counted g.tally seat; last = moment_at g moment }) x
+
+-- the game where a seat has made one offer more of those that it may make
+abbrev pub with_count : ℕ → GameState → GameState
+with_count seat g = record g { tally = counted g.tally seat }
 
 -- how the game ends where a seat's act makes it end so, and nobody wins
 abbrev pub end_without_winner : ℕ → Why → Ended
@@ -68,6 +72,7 @@ lacks_half_moves (b ∷ boards) n = has_too_few b n
 abbrev pub back_by : Variant → Board → ℕ → ℕ → Board
 back_by Chess b n moment = take_back_after b n moment
 back_by Crazyhouse b n moment = take_back_after b n moment
+back_by (Fischer number) b n moment = take_back_after b n moment
 back_by Bughouse b n moment = b
 
 -- the boards after that

@@ -6,7 +6,7 @@ use Rattle.chess_model.specs.declared.man.Colour.{Colour}
 use Rattle.chess_model.specs.declared.man.Colour.TheVariants.{White, Black}
 use Rattle.chess_model.specs.declared.man.Kind.{Kind}
 use Rattle.chess_model.specs.declared.variant.Variant.{Variant}
-use Rattle.chess_model.specs.declared.variant.Variant.TheVariants.{Chess, Crazyhouse, Bughouse}
+use Rattle.chess_model.specs.declared.variant.Variant.TheVariants.{Chess, Crazyhouse, Bughouse, Fischer}
 use Rattle.chess_model.specs.Census.{men_of, one_set, captured}
 use Rattle.chess_model.specs.Holdings.{count_in}
 use Rattle.chess_model.specs.Position.{Position, hand_of_side}
@@ -14,10 +14,10 @@ use Rattle.game_board.specs.Board.{Board, position_of}
 use Rattle.style12_writer.specs.HoldingsLine.{most_of_a_kind}
 use Rattle.linked_desk.specs.Desk.{GameState, DeskState, boards_at}
 
--- in chess the men of a colour and kind on the board, and those captured, are those of one set
+-- in chess and in Fischer random the men of a colour and kind on the board, and those captured, are those of one set
 abbrev pub HasOneSet : Board → Type 0
 HasOneSet b =
-    (c : Colour) (k : Kind) → men_of c k (position_of b).men + captured Chess b.all b.number c k ≡ one_set k
+    (c : Colour) (k : Kind) → men_of c k (position_of b).men + captured b.terms.variant b.all b.number c k ≡ one_set k
 
 -- in crazyhouse the men of a kind, of both colours, on the board and in both hands are those of two
 abbrev pub HasTwoSets : Board → Type 0
@@ -40,6 +40,7 @@ ArePair _ = ⊥
 abbrev pub AreWhole : Variant → List Board → Type 0
 AreWhole Chess boards = All HasOneSet boards
 AreWhole Crazyhouse boards = All HasTwoSets boards
+AreWhole (Fischer number) boards = All HasOneSet boards
 AreWhole Bughouse boards = ArePair boards
 
 -- and so those of the game at a desk, if there is one

@@ -20,17 +20,17 @@ pub enum DeskAct {
     /// move; else nothing changes but the desk's moment. Refused with `NotPlaying`. Takes no memory.
     Acked { stamp: u32 },
     /// Offers something to all others at the desk. It takes effect where every other seat has it standing, and else it
-    /// stands and is told; an offer of a draw that may be claimed, in chess, ends the game at once. Refused with
-    /// `NotPlaying`, `GameOver`, `NotInVariant` for a takeback and for adjourning at a pair, `TooFewMoves` for a
-    /// takeback of 0 and of more half-moves than the board's list has, `NotRegistered` for adjourning where a player
-    /// has no account, and then, unless a draw is claimed, `AlreadyOffered` where the seat has this very offer
-    /// standing, `FeedFull` where the seat has told 256 offers and declines.
+    /// stands and is told; an offer of a draw that may be claimed, in chess and Fischer random, ends the game at once.
+    /// Refused with `NotPlaying`, `GameOver`, `NotInVariant` for a takeback and for adjourning at a pair, `TooFewMoves`
+    /// for a takeback of 0 and of more half-moves than the board's list has, `NotRegistered` for adjourning where a
+    /// player has no account, and then, unless a draw is claimed, `AlreadyOffered` where the seat has this very offer
+    /// standing, `FeedFull` where the seat has made 256 offers and declines.
     Make { offer: Offer },
     /// Accepts the earliest offer of another seat that the own one lacks. Refused with `NotPlaying`, `GameOver`, then
     /// `NoSuchOffer`.
     Accept,
     /// Declines the earliest offer of another seat that the own one lacks, for all seats. Refused with `NotPlaying`,
-    /// `GameOver`, `NoSuchOffer`, then `FeedFull` where the seat has told 256 offers and declines.
+    /// `GameOver`, `NoSuchOffer`, then `FeedFull` where the seat has made 256 offers and declines.
     Decline,
     /// Gives the game up. Refused with `NotPlaying`, then `GameOver`.
     Resign,

@@ -48,6 +48,7 @@ impl Boards {
             Variant::Bughouse => Boards::pair(alloc, first),
             Variant::Chess => Ok(Boards::single(first)),
             Variant::Crazyhouse => Ok(Boards::single(first)),
+            Variant::Fischer(_) => Ok(Boards::single(first)),
         }
     }
 
@@ -188,6 +189,9 @@ impl Boards {
                 let _ = self.first.take_back(n, moment);
             }
             Variant::Bughouse => {}
+            Variant::Fischer(_) => {
+                let _ = self.first.take_back(n, moment);
+            }
         }
     }
 

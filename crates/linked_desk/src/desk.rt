@@ -18,7 +18,8 @@ use style12_writer::{Item, ItemList};
 /// A desk of the hall, with the game that is played at it, if there is one.
 pub struct Desk {
     number: u8,
-    game: Option<Game>,
+    // apart, since who takes the desk's turn moves the desk, and a game has more than a kilobyte
+    game: Option<Box<Game>>,
 }
 
 // One call for who drops a desk: a derived destructor is proved again in each crate above, with those of its parts.
@@ -31,11 +32,12 @@ impl Drop for Desk {
 
 impl Model for Desk {
     ghost use Rattle.std.specs.Prelude.{◌≤◌};
+    ghost use Rattle.std.specs.Option.{option_map};
     ghost use Rattle.linked_desk.specs.Desk.{DeskState};
 
     ghost Value = { DeskState };
 
-    ghost view = { λ d. record { number = d.number; game = d.game } };
+    ghost view = { λ d. record { number = d.number; game = option_map (λ game. game.value) d.game } };
 
     ghost invariant = { λ d. record {
       low : 1 ≤ d.number;
@@ -77,6 +79,9 @@ impl Desk {
         ensures err { OnErr result (self.new ≡ self.old) }
     {
         let game = opened(alloc, self.number, serial, terms, seats, moment)?;
+        let Ok(game) = Box::new(alloc, game) else {
+            return Err(NoMemory);
+        };
         drop(self.game.replace(game));
         Ok(())
     }

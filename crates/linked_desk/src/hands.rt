@@ -92,6 +92,7 @@ fn has_drops(variant: Variant) -> bool
         Variant::Chess => false,
         Variant::Crazyhouse => true,
         Variant::Bughouse => true,
+        Variant::Fischer(_) => false,
     }
 }
 
@@ -103,6 +104,7 @@ fn changes_hands(variant: Variant, is_drop: bool, captured: Option<Man>) -> bool
         Variant::Chess => false,
         Variant::Crazyhouse => is_drop || captured.is_some(),
         Variant::Bughouse => is_drop,
+        Variant::Fischer(_) => false,
     }
 }
 

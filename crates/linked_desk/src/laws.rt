@@ -40,10 +40,10 @@ pub fn boards_are_known_by_their_games()
     ensures { (desk board : ℕ) → 1 ≤ board → board ≤ 2 → board_in (game_number desk board) ≡ board }
 {}
 
-/// No man of a game at a desk is made or lost: in chess the men of a colour and kind on the board, and those captured,
-/// are those of one set; in crazyhouse the men of a kind on the board and in both hands are those of two; and in
-/// bughouse those of a colour and kind on both boards and in the two hands of that colour are those of two. So no hand
-/// has more men of a kind than a holdings line has letters for.
+/// No man of a game at a desk is made or lost: in chess and Fischer random the men of a colour and kind on the board,
+/// and those captured, are those of one set; in crazyhouse the men of a kind on the board and in both hands are those
+/// of two; and in bughouse those of a colour and kind on both boards and in the two hands of that colour are those of
+/// two. So no hand has more men of a kind than a holdings line has letters for.
 pub fn men_stay_whole()
     ensures sets { (d : DeskState) → HasSoundGame d → HasWholeSets d }
     ensures hands { (d : DeskState) → HasSoundGame d → AllAt HasPrintedHands d }

@@ -143,6 +143,7 @@ impl Game {
         let mut offers = self.offers.copied();
         if offers.offer(seat, offer)? {
             self.agree(desk, offers, moment, seat, offer)?;
+            self.tally.count(seat);
             return Ok(DeskReply::Done);
         }
         let item = self.offer_item(seat, offer)?;

@@ -34,7 +34,7 @@ unheard lobby session to member other one two listed = record {
   nothing = λ text. ap (λ (c : Option Refusal). unless c lobby (tell_effect lobby session to text).after) (tell_refused lobby session to text member other one two listed);
 }
 
-none_where_done : {R : Type 0} (c : Option Refusal) (reply other : R) → answered c reply ≡ Ok other → c ≡ None
+pub none_where_done : {R : Type 0} (c : Option Refusal) (reply other : R) → answered c reply ≡ Ok other → c ≡ None
 none_where_done None reply other e = refl
 none_where_done (Some cause) reply other e = cc
 

@@ -1,12 +1,14 @@
 -- What carrying out a Start keeps.
 use Rattle.std.proofs.Common.{◌≡◌, ℕ, ◌+◌, ◌-◌, ◌<◌, Bool, true, false, not, cond, List, [], ◌∷◌, ◌++◌, Option, None, Some, length, map, filter, slice_get, refl, sym, ap, subst, ◌∙◌, arith}
-use Rattle.std.specs.Prelude.{All}
+use Rattle.std.specs.Prelude.{All, is_some}
 use Rattle.std.proofs.Math.ListN.{set}
 use Rattle.std.proofs.lemmas.Bool.{eqb-true}
 use Rattle.std.proofs.lemmas.List.{length-set}
 use Rattle.std.proofs.lemmas.List.Elements.{All-set, All-push, All-filter, All-weaker}
 use Rattle.std.proofs.lemmas.Option.{slice_get_within}
 use Rattle.chess_model.specs.declared.variant.Terms.{Terms}
+use Rattle.chess_model.specs.declared.variant.Variant.{Variant}
+use Rattle.chess_model.specs.declared.variant.Variant.TheVariants.{Chess, Crazyhouse, Bughouse, Fischer}
 use Rattle.fics_words.specs.Effect.{unless}
 use Rattle.fics_words.specs.Handle.{key_of}
 use Rattle.fics_words.specs.Seats.{plays_as, seat_list, seat_number}
@@ -21,7 +23,8 @@ use Rattle.lobby_state.specs.Keeps.{KeepsPlan}
 use Rattle.lobby_state.specs.Desks.{IsDesk}
 use Rattle.lobby_state.specs.Lobby.{LobbyState}
 use Rattle.lobby_state.specs.Places.{PlaceList, is_full}
-use Rattle.lobby_state.specs.Planned.{CanStart}
+use Rattle.lobby_state.specs.Pairing.{needs_partners}
+use Rattle.lobby_state.specs.Planned.{CanStart, FitsVariant}
 use Rattle.lobby_state.specs.Start.{in_seat, is_by_seated, is_settled, seated}
 use Rattle.lobby_state.specs.WellFormed.{IsWellFormed, IsBetweenMembers, IsSeatOf, IsStarted, HasSeats, sessions_of}
 use Rattle.lobby_state.proofs.First.{position-within, find-found}
@@ -83,7 +86,14 @@ HasSeats-in_seat games desk serial terms seats member (Some number) is_desk in_u
 
 IsStarted-later : (started : ℕ) (game : Option Game) → IsStarted started game → IsStarted (started + 1) game
 IsStarted-later started None h = tt
-IsStarted-later started (Some game) h = (h.0, omega (arith, h.1))
+IsStarted-later started (Some game) h = (h.0, omega (arith, h.1), h.2)
+
+-- as many boards as the variant wants
+boards_by : (variant : Variant) (seats : Seats) → FitsVariant variant seats → is_some seats.second ≡ needs_partners variant
+boards_by Bughouse seats h = h
+boards_by Chess seats h = h
+boards_by Crazyhouse seats h = h
+boards_by (Fischer n) seats h = h
 
 in_seat_session : (desk serial : ℕ) (number : Option ℕ) (m : Member) → (in_seat desk serial number m).session ≡ m.session
 in_seat_session desk serial None m = refl
@@ -115,7 +125,7 @@ formed_seated lobby desk serial terms seats can h =
     (map-map_same (λ m. key_of m.name) sit (λ m. ap key_of (in_seat_name desk serial (seat_number m.session (seat_list seats)) m)) lobby.members)
     (All-filter (λ c. not (is_settled lobby.members seats c)) (IsBetweenMembers (sessions_of lobby.members)) lobby.challenges h.challenges)
     (length-set lobby.games (desk - 1) (Some game) ∙ h.games)
-    (All-set (IsStarted serial) lobby.games (desk - 1) (Some game) (omega (arith, can.is_next), omega arith) rising)
+    (All-set (IsStarted serial) lobby.games (desk - 1) (Some game) (omega (arith, can.is_next), omega arith, boards_by terms.variant seats can.boards) rising)
     (All-map_each (HasSeats lobby.games) (HasSeats games) sit
     (λ m has. HasSeats-in_seat games desk serial terms seats m (seat_number m.session (seat_list seats)) can.is_desk in_use refl
     (All-weaker (IsSeatOf lobby.games m.session) (IsSeatOf games m.session) (λ p. IsSeatOf-started lobby.games (desk - 1) (Some game) m.session p can.is_free) m.places.rows has))

@@ -13,6 +13,11 @@ pub mod KeepsUnpost
 pub mod KeepsSought
 pub mod KeepsWho
 pub mod Broadcasting
+pub mod InOrder
+pub mod EachOnce
+pub mod GamesFound
+pub mod WaitingKept
+pub mod SettledOffers
 pub mod Naming
 pub mod KeepsShout
 pub mod KeepsTell
@@ -50,3 +55,4 @@ pub mod KeepingAway
 pub mod KeepsStart
 pub mod KeepsClear
 pub mod KeepsPlans
+pub mod Meeting

@@ -10,7 +10,7 @@ use Rattle.std.proofs.lemmas.List.Kept.{AllPairs-cons}
 use Rattle.std.proofs.lemmas.Option.{get_or_from_slice_get, slice_get_within}
 use Rattle.chess_model.specs.declared.variant.Terms.{Terms}
 use Rattle.chess_model.specs.declared.variant.Variant.{Variant}
-use Rattle.chess_model.specs.declared.variant.Variant.TheVariants.{Chess, Crazyhouse, Bughouse}
+use Rattle.chess_model.specs.declared.variant.Variant.TheVariants.{Chess, Crazyhouse, Bughouse, Fischer}
 use Rattle.fics_words.specs.Handle.{key_of}
 use Rattle.fics_words.specs.declared.account.Account.{Account}
 use Rattle.fics_words.specs.declared.seats.Seats.{Seats}
@@ -172,6 +172,18 @@ two_fit lobby Crazyhouse false offering accepting two here there apart = record 
   boards = refl;
   partners = tt;
 }
+two_fit lobby (Fischer number) true offering accepting two here there apart = record {
+  members = all_of_two (IsMember lobby) _ _ (member_there lobby offering here) (member_there lobby accepting there);
+  apart = two_apart lobby.accounts offering accepting apart;
+  boards = refl;
+  partners = tt;
+}
+two_fit lobby (Fischer number) false offering accepting two here there apart = record {
+  members = all_of_two (IsMember lobby) _ _ (member_there lobby accepting there) (member_there lobby offering here);
+  apart = two_apart lobby.accounts accepting offering (turned offering accepting apart);
+  boards = refl;
+  partners = tt;
+}
 
 -- four members: two, and the partner of each
 record AreFour (lobby : LobbyState) (offering accepting first second : Member) : Type 0 where
@@ -261,6 +273,7 @@ beside_linked lobby who (Some session) member is found =
 alone : (lobby : LobbyState) (variant : Variant) (member : Member) → needs_partners variant ≡ false → beside lobby variant member ≡ None
 alone lobby Chess member two = refl
 alone lobby Crazyhouse member two = refl
+alone lobby (Fischer number) member two = refl
 alone lobby Bughouse member two = cc
 
 -- a game at one board is of two who aren't partners in it, and need none
@@ -288,6 +301,10 @@ seats_fit lobby Crazyhouse white offering accepting None None one two away full 
     two_fit lobby Crazyhouse white offering accepting refl own other (members_apart lobby offering accepting own other opposed h)
 seats_fit lobby Crazyhouse white offering accepting None (Some second) one two away full own other opposed h = cc
 seats_fit lobby Crazyhouse white offering accepting (Some first) second one two away full own other opposed h = cc
+seats_fit lobby (Fischer number) white offering accepting None None one two away full own other opposed h =
+    two_fit lobby (Fischer number) white offering accepting refl own other (members_apart lobby offering accepting own other opposed h)
+seats_fit lobby (Fischer number) white offering accepting None (Some second) one two away full own other opposed h = cc
+seats_fit lobby (Fischer number) white offering accepting (Some first) second one two away full own other opposed h = cc
 seats_fit lobby Bughouse white offering accepting None second one two away full own other opposed h = cc
 seats_fit lobby Bughouse white offering accepting (Some first) None one two away full own other opposed h = cc
 seats_fit lobby Bughouse white offering accepting (Some first) (Some second) one two away full own other opposed h =

@@ -1,5 +1,5 @@
 -- The lines that the lobby writes are lines: they are printable and short.
-use Rattle.std.proofs.Common.{◌≡◌, ℕ, ◌+◌, ◌<◌, ◌≤◌, ◌^◌, Bool, true, List, ◌++◌, Option, None, Some, length, codes, decimal, refl, subst, inl, inr, arith, rules, tests, length-append, ◌&&◌, leb}
+use Rattle.std.proofs.Common.{◌≡◌, ℕ, ◌+◌, ◌%◌, ◌<◌, ◌≤◌, ◌^◌, Bool, true, List, ◌++◌, Option, None, Some, length, codes, decimal, refl, subst, inl, inr, arith, rules, tests, length-append, ◌&&◌, leb}
 use Rattle.std.specs.Prelude.{All}
 use Rattle.std.specs.Char.{IsAsciiAlphabetic}
 use Rattle.std.specs.List.{list_all}
@@ -12,7 +12,7 @@ use Rattle.chess_model.specs.declared.man.Colour.{Colour}
 use Rattle.chess_model.specs.declared.man.Colour.TheVariants.{White, Black}
 use Rattle.chess_model.specs.declared.variant.Terms.{Terms}
 use Rattle.chess_model.specs.declared.variant.Variant.{Variant}
-use Rattle.chess_model.specs.declared.variant.Variant.TheVariants.{Chess, Crazyhouse, Bughouse}
+use Rattle.chess_model.specs.declared.variant.Variant.TheVariants.{Chess, Crazyhouse, Bughouse, Fischer}
 use Rattle.chess_model.specs.VariantWord.{word_of}
 use Rattle.fics_words.specs.Handle.{IsHandle}
 use Rattle.fics_words.specs.Line.{IsLine, IsPrintable}
@@ -71,10 +71,18 @@ IsPrintable-letter byte (inr lower) = (omega (arith, lower), omega (arith, lower
 pub IsPrinted-handle : (name : List ℕ) → IsHandle name → IsPrinted 17 name
 IsPrinted-handle name h = record { short = h.1; shows = λ k d inside. IsPrintable-letter _ (h.2 k d inside) }
 
-IsPrinted-variant : (variant : Variant) → IsPrinted 10 (word_of variant)
-IsPrinted-variant Chess = IsPrinted-from_test 10 (word_of Chess) (omega arith) refl
-IsPrinted-variant Crazyhouse = IsPrinted-from_test 10 (word_of Crazyhouse) (omega arith) refl
-IsPrinted-variant Bughouse = IsPrinted-from_test 10 (word_of Bughouse) (omega arith) refl
+IsPrinted-array : (n : ℕ) → n < 960 → IsPrinted 3 (decimal n)
+IsPrinted-array n small = record {
+  short = length-decimal-le 3 n (omega arith) (omega (arith, small)) (omega (arith, small));
+  shows = (IsPrinted-decimal n (omega (arith, small))).shows;
+}
+
+IsPrinted-variant : (variant : Variant) → IsPrinted 11 (word_of variant)
+IsPrinted-variant Chess = IsPrinted-from_test 11 (word_of Chess) (omega arith) refl
+IsPrinted-variant Crazyhouse = IsPrinted-from_test 11 (word_of Crazyhouse) (omega arith) refl
+IsPrinted-variant Bughouse = IsPrinted-from_test 11 (word_of Bughouse) (omega arith) refl
+IsPrinted-variant (Fischer number) =
+    IsPrinted-append 8 3 _ _ (IsPrinted-from_test 8 (codes "fischer ") (omega arith) refl) (IsPrinted-array (number % 960) (omega arith))
 
 IsPrinted-colour : (colour : Option Colour) → IsPrinted 6 (colour_words colour)
 IsPrinted-colour None = IsPrinted-from_test 6 (colour_words None) (omega arith) refl
@@ -87,17 +95,17 @@ IsPrinted-blank = IsPrinted-from_test 1 (codes " ") (omega arith) refl
 IsPrinted-front : IsPrinted 11 (codes "Challenge: ")
 IsPrinted-front = IsPrinted-from_test 11 (codes "Challenge: ") (omega arith) refl
 
-pub IsPrinted-terms_words : (terms : Terms) → terms.minutes < 2 ^ 16 → terms.increment < 2 ^ 16 → IsPrinted 28 (terms_words terms)
+pub IsPrinted-terms_words : (terms : Terms) → terms.minutes < 2 ^ 16 → terms.increment < 2 ^ 16 → IsPrinted 29 (terms_words terms)
 IsPrinted-terms_words terms minutes increment =
     let join = IsPrinted-append in
-    join 22 6 _ _ (join 12 10 _ _ (join 11 1 _ _ (join 6 5 _ _ (join 5 1 _ _ (IsPrinted-decimal terms.minutes minutes) IsPrinted-blank)
+    join 23 6 _ _ (join 12 11 _ _ (join 11 1 _ _ (join 6 5 _ _ (join 5 1 _ _ (IsPrinted-decimal terms.minutes minutes) IsPrinted-blank)
     (IsPrinted-decimal terms.increment increment)) IsPrinted-blank) (IsPrinted-variant terms.variant)) (IsPrinted-colour terms.colour)
 
 pub IsPrinted-challenge_words : (name : List ℕ) (terms : Terms) → IsHandle name → terms.minutes < 2 ^ 16 → terms.increment < 2 ^ 16
-    → IsPrinted 57 (challenge_words name terms)
+    → IsPrinted 58 (challenge_words name terms)
 IsPrinted-challenge_words name terms h minutes increment =
     let join = IsPrinted-append in
-    join 29 28 _ _ (join 28 1 _ _ (join 11 17 _ _ IsPrinted-front (IsPrinted-handle name h)) IsPrinted-blank)
+    join 29 29 _ _ (join 28 1 _ _ (join 11 17 _ _ IsPrinted-front (IsPrinted-handle name h)) IsPrinted-blank)
     (IsPrinted-terms_words terms minutes increment)
 
 pub IsLine-challenge_words : (name : List ℕ) (terms : Terms) → IsHandle name → terms.minutes < 2 ^ 16 → terms.increment < 2 ^ 16
@@ -107,10 +115,10 @@ IsLine-challenge_words name terms h minutes increment =
     (omega (arith, printed.short), printed.shows)
 
 pub IsPrinted-sought_words : (name : List ℕ) (seek : Seek) → IsPrinted 17 name → seek.number < 2 ^ 16 → seek.terms.minutes < 2 ^ 16 → seek.terms.increment < 2 ^ 16
-    → IsPrinted 52 (sought_words name seek)
+    → IsPrinted 53 (sought_words name seek)
 IsPrinted-sought_words name seek h number minutes increment =
     let join = IsPrinted-append in
-    join 24 28 _ _ (join 23 1 _ _ (join 6 17 _ _ (join 5 1 _ _ (IsPrinted-decimal seek.number number) IsPrinted-blank) h) IsPrinted-blank)
+    join 24 29 _ _ (join 23 1 _ _ (join 6 17 _ _ (join 5 1 _ _ (IsPrinted-decimal seek.number number) IsPrinted-blank) h) IsPrinted-blank)
     (IsPrinted-terms_words seek.terms minutes increment)
 
 IsPrinted-seeking : IsPrinted 9 (codes " seeking ")
@@ -123,10 +131,10 @@ IsPrinted-respond : IsPrinted 13 (codes "\" to respond)")
 IsPrinted-respond = IsPrinted-from_test 13 (codes "\" to respond)") (omega arith) refl
 
 pub IsPrinted-seek_words : (name : List ℕ) (number : ℕ) (terms : Terms) → IsPrinted 17 name → number < 2 ^ 16 → terms.minutes < 2 ^ 16 → terms.increment < 2 ^ 16
-    → IsPrinted 80 (seek_words name number terms)
+    → IsPrinted 81 (seek_words name number terms)
 IsPrinted-seek_words name number terms h small minutes increment =
     let join = IsPrinted-append in
-    join 67 13 _ _ (join 62 5 _ _ (join 54 8 _ _ (join 26 28 _ _ (join 17 9 _ _ h IsPrinted-seeking) (IsPrinted-terms_words terms minutes increment))
+    join 68 13 _ _ (join 63 5 _ _ (join 55 8 _ _ (join 26 29 _ _ (join 17 9 _ _ h IsPrinted-seeking) (IsPrinted-terms_words terms minutes increment))
     IsPrinted-play) (IsPrinted-decimal number small)) IsPrinted-respond
 
 pub IsPrinted-channel_words : (channel : ℕ) → channel < 2 ^ 16 → IsPrinted 9 (channel_words channel)
@@ -184,14 +192,14 @@ IsPrinted-side FromOthers = IsPrinted-from_test 5 (side_words FromOthers) (omega
 IsPrinted-side ToOthers = IsPrinted-from_test 5 (side_words ToOthers) (omega arith) refl
 
 pub IsPrinted-pending_words : (side : Side) (name : List ℕ) (terms : Terms) → IsPrinted 17 name → terms.minutes < 2 ^ 16 → terms.increment < 2 ^ 16
-    → IsPrinted 51 (pending_words side name terms)
+    → IsPrinted 52 (pending_words side name terms)
 IsPrinted-pending_words side name terms h minutes increment =
     let join = IsPrinted-append in
-    join 23 28 _ _ (join 22 1 _ _ (join 5 17 _ _ (IsPrinted-side side) h) IsPrinted-blank) (IsPrinted-terms_words terms minutes increment)
+    join 23 29 _ _ (join 22 1 _ _ (join 5 17 _ _ (IsPrinted-side side) h) IsPrinted-blank) (IsPrinted-terms_words terms minutes increment)
 
 pub IsPrinted-board_words : (number : ℕ) (white black : List ℕ) (terms : Terms) → IsPrinted 17 white → IsPrinted 17 black → number < 2 ^ 16
-    → terms.minutes < 2 ^ 16 → terms.increment < 2 ^ 16 → IsPrinted 70 (board_words number white black terms)
+    → terms.minutes < 2 ^ 16 → terms.increment < 2 ^ 16 → IsPrinted 71 (board_words number white black terms)
 IsPrinted-board_words number white black terms w b small minutes increment =
     let join = IsPrinted-append in
-    join 42 28 _ _ (join 41 1 _ _ (join 24 17 _ _ (join 23 1 _ _ (join 6 17 _ _ (join 5 1 _ _ (IsPrinted-decimal number small) IsPrinted-blank) w)
+    join 42 29 _ _ (join 41 1 _ _ (join 24 17 _ _ (join 23 1 _ _ (join 6 17 _ _ (join 5 1 _ _ (IsPrinted-decimal number small) IsPrinted-blank) w)
     IsPrinted-blank) b) IsPrinted-blank) (IsPrinted-terms_words (record terms { colour = None }) minutes increment)

@@ -14,6 +14,9 @@ pub mod Sought
 pub mod Who
 pub mod Pending
 pub mod Games
+pub mod GamesFound
+pub mod WaitingLines
+pub mod SettledOffers
 pub mod Broadcast
 pub mod Said
 pub mod Shout

@@ -1,5 +1,5 @@
 -- What holds of a lobby at all times, from its opening on. This server's own.
-use Rattle.std.specs.Prelude.{◌≡◌, ◌≢◌, ℕ, ◌-◌, ◌≤◌, false, List, length, map, count_by, All, Contains, Option, None, Some, slice_get}
+use Rattle.std.specs.Prelude.{◌≡◌, ◌≢◌, ℕ, ◌-◌, ◌≤◌, false, List, length, map, count_by, All, Contains, Option, None, Some, is_some, slice_get}
 use Rattle.std.specs.List.{AllPairs}
 use Rattle.fics_words.specs.Handle.{key_of}
 use Rattle.fics_words.specs.declared.player.Player.{Player}
@@ -69,15 +69,18 @@ pub record IsSeatOf (games : List (Option Game)) (session : ℕ) (place : Place)
 abbrev pub HasSeats : List (Option Game) → Member → Type 0
 HasSeats games member = All (IsSeatOf games member.session) member.places.rows
 
--- the game, if there is one, has one of the serials that were given out
+-- the game, if there is one, has one of the serials that were given out, and a second board exactly where its variant
+-- is played by partners
 abbrev pub IsStarted : ℕ → Option Game → Type 0
 IsStarted started None = Unit {0}
-IsStarted started (Some game) = (1 ≤ game.serial) × (game.serial ≤ started)
+IsStarted started (Some game) =
+    (1 ≤ game.serial) × (game.serial ≤ started) × (is_some game.seats.second ≡ needs_partners game.terms.variant)
 
 -- each handle has at most one account, and there are at most 4,096; there are at most 256 members, of whom no two have
 -- one session, and no two one handle; each challenge is by one member to another; the seeks are by members; the
 -- requests and links of partners are of members, and nobody has two partners; there are 128 desks, and each game has a
--- serial that was given out; and each place of a member is a seat of its own in such a game
+-- serial that was given out, and two boards exactly in bughouse; and each place of a member is a seat of its own in such
+-- a game
 pub record IsWellFormed (lobby : LobbyState) : Type 0 where
   pub accounts : AreAccounts lobby.accounts
   pub hall : length lobby.members ≤ most_members

@@ -1,7 +1,8 @@
 -- Who: a member asks who is in the hall. This server's own.
-use Rattle.std.specs.Prelude.{◌≡◌, ℕ, Bool, true, List, [], ◌∷◌, length, is_none, unwrap_or, codes, refl}
+use Rattle.std.specs.Prelude.{◌≡◌, ℕ, Bool, true, false, if◌then◌else◌, List, [], ◌∷◌, map, is_none, codes, refl}
 use Rattle.std.specs.Cmp.Lexicographic.{slice_cmp}
-use Rattle.std.specs.List.{insert, position}
+use Rattle.std.specs.List.{AllPairs}
+use Rattle.std.specs.List.Sorted.{IsPermutation}
 use Rattle.std.specs.Ordering.{is_lt, nat_cmp}
 use Rattle.fics_words.specs.Effect.{Effect}
 use Rattle.fics_words.specs.Handle.{key_of}
@@ -15,9 +16,15 @@ use Rattle.lobby_state.specs.Lobby.{LobbyState, member_of}
 abbrev pub is_before : List ℕ → List ℕ → Bool
 is_before name other = is_lt (slice_cmp nat_cmp (key_of name) (key_of other))
 
+-- no handle stands behind one whose key comes later
+abbrev pub AreInOrder : List (List ℕ) → Type 0
+AreInOrder names = AllPairs (λ one another. is_before another one ≡ false) names
+
 -- handles in the order of their keys, with one more in its place
 abbrev pub with_name : List ℕ → List (List ℕ) → List (List ℕ)
-with_name name names = insert names (unwrap_or (position (is_before name) names) (length names)) name
+with_name name [] = name ∷ []
+with_name name (other ∷ names) =
+    if is_before name other then name ∷ other ∷ names else other ∷ with_name name names
 
 -- such a list with the handles of these members
 abbrev pub with_names : List (List ℕ) → List Member → List (List ℕ)
@@ -36,6 +43,11 @@ who_effect lobby session = record {
   reply = Lines (who_lines lobby);
   after = lobby;
 }
+
+-- the lines are the handles of these members, each member's once, as in a dictionary
+pub record ListsEach (members : List Member) (lines : List (List ℕ)) : Type 0 where
+  pub each : IsPermutation (map (λ member. member.name) members) lines
+  pub order : AllPairs (λ one another. is_before one another ≡ true) lines
 
 -- whether letters are capital doesn't count
 example_order : with_name (codes "bob") (with_name (codes "Carl") (with_name (codes "Bo") (with_name (codes "ann") [])))

@@ -88,5 +88,6 @@ fn has_board(number: u16, variant: Variant) -> bool
         Variant::Bughouse => true,
         Variant::Chess => false,
         Variant::Crazyhouse => false,
+        Variant::Fischer(_) => false,
     }
 }

@@ -69,8 +69,9 @@ pub use challenge::Challenge;
 pub use desk_in_use::DeskInUse;
 pub use game::{DESKS, Game};
 pub use laws::{
-    acts_keep, guests_have_the_least_name, in_use_tells_the_desks, lists_keep_away,
-    lobbies_are_well_formed, plans_keep,
+    acts_keep, games_lists_what_is_found, guests_have_the_least_name, in_use_tells_the_desks,
+    lists_keep_away, lobbies_are_well_formed, plans_keep, starts_settle_offers,
+    waiting_lines_are_given_in_order, who_lists_each_member_once,
 };
 pub use lobby::Lobby;
 pub use member::Member;

@@ -1,13 +1,17 @@
 //! Who: a member asks who is in the hall.
-ghost use Rattle.std.specs.Prelude.{◌≡◌, ◌<◌, ◌≤◌, [], IfOk, IfSome, OnOk, length, position, unwrap_or};
+ghost use Rattle.std.specs.Prelude.{◌≡◌, ◌≤◌, [], IfOk, OnOk, length, not};
+ghost use Rattle.std.specs.Cmp.Lexicographic.{slice_cmp};
+ghost use Rattle.std.specs.List.{insert};
+ghost use Rattle.std.specs.Ordering.{is_lt, nat_cmp};
 ghost use Rattle.fics_words.specs.Effect.{Takes};
-ghost use Rattle.lobby_state.specs.Who.{is_before, who_effect, who_lines, with_name, with_names};
+ghost use Rattle.fics_words.specs.Handle.{key_of};
+ghost use Rattle.lobby_state.specs.Who.{AreInOrder, who_effect, who_lines, with_name, with_names};
 
 use crate::acts::LobbyReply;
 use crate::member::Member;
 use crate::register::Register;
 use collections::Listed;
-use fics_words::{Fail, Handle, Line, NoMemory, Refusal};
+use fics_words::{Fail, Handle, HandleKey, Line, NoMemory, Refusal};
 use std::alloc::Global;
 
 impl Register {
@@ -35,45 +39,43 @@ impl Register {
 fn names_of(alloc: Global, members: &[Member]) -> Result<Vec<Handle>, NoMemory>
     ensures { IfOk result (λ names. names.items ≡ with_names [] members.now) }
 {
-    let mut names = Vec::new(alloc);
+    let mut names = Vec::with_capacity(alloc, members.len())?;
     for member in members {
         put_name(&mut names, member.name)?;
     }
     Ok(names)
 }
 
-/// Puts a handle among others in the order of their keys.
+/// Puts a handle among others that stand in the order of their keys.
 pub(crate) fn put_name(names: &mut Vec<Handle>, name: Handle) -> Result<(), NoMemory>
+    requires { AreInOrder names.old.items }
     ensures { OnOk result (names.new.items ≡ with_name name names.old.items) }
 {
-    names.insert(place_of(name, names.as_slice()), name)?;
+    let place = place_of(name, names.as_slice());
+    names.insert(place, name)?;
     Ok(())
 }
 
-/// Where the handle stands among others in the order of their keys.
+/// Where the handle belongs among others that stand in the order of their keys. It is found by halves, since a Who of a
+/// full hall asks this 256 times.
 fn place_of(name: Handle, names: &[Handle]) -> usize
-    ensures place { result ≡ unwrap_or (position (is_before name) names.now) (length names.now) }
+    requires { AreInOrder names.now }
     ensures within { result ≤ length names.now }
+    ensures place { insert names.now result name ≡ with_name name names.now }
 {
-    match first_behind(name, names) {
-        Some(place) => place,
-        None => names.len(),
-    }
+    let key = name.key();
+    names.partition_point(
+        |other: &Handle| -> bool
+            ensures { result ≡ not (is_lt (slice_cmp nat_cmp key (key_of other.now))) }
+        { !is_before(key, other) },
+    )
 }
 
-/// The place of the first of these handles that comes behind the one.
-fn first_behind(name: Handle, names: &[Handle]) -> Option<usize>
-    ensures place { result ≡ position (is_before name) names.now }
-    ensures within { IfSome result (λ place. place < length names.now) }
+/// Whether this key comes before that of the handle.
+fn is_before(key: HandleKey, other: &Handle) -> bool
+    ensures { result ≡ is_lt (slice_cmp nat_cmp key (key_of other.now)) }
 {
-    names.iter().position(|other| is_before(name, *other))
-}
-
-/// Whether the first handle's key comes before the second's.
-fn is_before(name: Handle, other: Handle) -> bool
-    ensures { result ≡ is_before name other }
-{
-    name.key().cmp(&other.key()).is_lt()
+    key.cmp(&other.key()).is_lt()
 }
 
 /// The handles as lines.

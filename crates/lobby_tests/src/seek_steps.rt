@@ -3,7 +3,8 @@
 ghost use Rattle.lobby_state.specs.Acts.{FitsLobby};
 
 use crate::steps::{
-    DONE, Step, acted, carried_out, hall, is_as_expected, is_start, lists_ahead, number_of,
+    DONE, Step, acted, are_terms, carried_out, hall, is_as_expected, is_start, lists_ahead,
+    number_of,
 };
 use chess_model::{Colour, Terms, Variant};
 use fics_words::{Fail, Line, NoMemory, Refusal};
@@ -82,7 +83,7 @@ fn answers(lobby: &mut Lobby, step: &Seeking) -> bool {
 
 /// Posts a seek, and says whether the answer is this number, or this refusal.
 pub fn posts(lobby: &mut Lobby, session: u32, terms: Terms, number: u16, refusal: u8) -> bool {
-    if terms.minutes > 600 || terms.increment > 600 {
+    if !are_terms(&terms) {
         return false;
     }
     is_posted(

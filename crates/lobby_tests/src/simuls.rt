@@ -249,6 +249,10 @@ const A_SIMUL_HAS_NO_GAME_OF_FOUR_STEPS: &[Giving] = &[
     Giving::Other(Step::Start(2, 1, 1, 2)),
     Giving::Other(Step::Start(3, 2, 2, 3)),
     Giving::Other(Step::Seated(2, 2, 1, 0)),
+    // against Dan, who is the other player of that board, and neither against its partner nor against Dan's
+    Giving::Board(2, *b"Ann", 20),
+    Giving::Board(2, *b"Cid", 20),
+    Giving::Other(Step::Seated(2, 2, 1, 0)),
     Giving::Board(2, *b"Dan", DONE),
     Giving::Other(Step::Seated(2, 2, 2, 2)),
     Giving::Other(Step::Seated(4, 1, 2, 3)),
@@ -279,6 +283,34 @@ const A_SIMUL_HAS_32_BOARDS_STEPS: &[Giving] = &[
     Giving::Other(Step::Seated(0, 32, 1, 0)),
 ];
 
+/// Zoe has 32 boards: her partner begins no game of four, since she would be seated in it, until one of them is gone.
+const A_PARTNER_HAS_32_BOARDS_STEPS: &[Giving] = &[
+    Giving::Other(Step::Enter(0, *b"Zoe", DONE)),
+    Giving::Other(Step::Enter(40, *b"Yan", DONE)),
+    Giving::Other(Step::Enter(41, *b"Xia", DONE)),
+    Giving::Other(Step::Enter(42, *b"Wes", DONE)),
+    Giving::Pair(0, *b"Yan", ASKED),
+    Giving::Pair(40, *b"Zoe", DONE),
+    Giving::Pair(41, *b"Wes", ASKED),
+    Giving::Pair(42, *b"Xia", DONE),
+    Giving::Open(0, DONE),
+    Giving::Plays32(0, *b"Zoe"),
+    // by her partner's challenge, and by one to her partner
+    Giving::Other(Step::Match(40, *b"Xia", PAIRS, DONE)),
+    Giving::Other(Step::Match(42, *b"Yan", PAIRS, DONE)),
+    Giving::Other(Step::Ask(41, None, 43)),
+    Giving::Other(Step::Ask(40, None, 43)),
+    Giving::Other(Step::Clear(0, 1, 1, true)),
+    Giving::Other(Step::Ask(40, None, DONE)),
+    // the serial is odd: Yan has White, so Zoe has Black of the second board, and her place comes behind the others
+    Giving::Other(Step::Start(41, 1, 33, 40)),
+    Giving::Other(Step::Seated(40, 1, 1, 0)),
+    Giving::Other(Step::Seated(42, 1, 1, 2)),
+    Giving::Other(Step::Seated(0, 32, 2, 0)),
+    Giving::Previous(0, DONE),
+    Giving::Other(Step::Seated(0, 32, 1, 3)),
+];
+
 /// A name, and the steps of a lobby of its own.
 const CASES: &[(&str, &[Giving])] = &[
     ("simuls_begin_and_end", SIMULS_BEGIN_AND_END_STEPS),
@@ -294,6 +326,7 @@ const CASES: &[(&str, &[Giving])] = &[
         A_SIMUL_HAS_NO_GAME_OF_FOUR_STEPS,
     ),
     ("a_simul_has_32_boards", A_SIMUL_HAS_32_BOARDS_STEPS),
+    ("a_partner_has_32_boards", A_PARTNER_HAS_32_BOARDS_STEPS),
 ];
 
 #[test]

@@ -1,6 +1,7 @@
 //! Steps of a lobby, each with its expected answer.
 
-ghost use Rattle.lobby_state.specs.Acts.{FitsLobby};
+ghost use Rattle.std.specs.Prelude.{IsTrue};
+ghost use Rattle.lobby_state.specs.Acts.{AreTerms, FitsLobby};
 
 use chess_model::{Colour, Terms, Variant};
 use fics_words::{Fail, Handle, HandleKey, Line, NoMemory, Refusal};
@@ -167,12 +168,27 @@ pub fn key_of(letters: &[u8]) -> Option<HandleKey> {
     }
 }
 
+/// Whether a game may have these terms.
+pub fn are_terms(terms: &Terms) -> bool
+    ensures { IsTrue result → AreTerms terms.now }
+{
+    if terms.minutes > 600 || terms.increment > 600 {
+        return false;
+    }
+    match terms.variant {
+        Variant::Chess => true,
+        Variant::Crazyhouse => true,
+        Variant::Bughouse => true,
+        Variant::Fischer(number) => number < 960,
+    }
+}
+
 /// Challenges the player with this handle.
 pub fn challenging(lobby: &mut Lobby, session: u32, to: &[u8], terms: Terms) -> u8 {
     let Some(to) = key_of(to) else {
         return STRANGE;
     };
-    if terms.minutes > 600 || terms.increment > 600 {
+    if !are_terms(&terms) {
         return STRANGE;
     }
     number_if_done(&acted(lobby, session, &LobbyAct::Match { to, terms }))

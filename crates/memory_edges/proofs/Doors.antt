@@ -6,10 +6,10 @@ use Rattle.std.proofs.lemmas.List.Elements.{Contains-append_cases, Contains-appe
 use Rattle.std.specs.List.{Contains, remove, slice_index_or}
 use Rattle.std.specs.declared.option.Option.{Option}
 use Rattle.std.specs.declared.option.Option.TheVariants.{Some}
-use Rattle.edge_traits.specs.Link.{Tale}
+use Rattle.edge_traits.specs.Link.{Handed, Tale}
 use Rattle.memory_edges.specs.Wire.{Wire}
 use Rattle.edge_traits.specs.Door.{IsNew}
-use Rattle.memory_edges.specs.MemDoor.{AreNew, told_by, numbered}
+use Rattle.memory_edges.specs.MemDoor.{AreNew, told_by, handed, numbered}
 
 -- the first of the links that are to come is given, and n are left
 pub record GivesFirst (links all : List Wire) (left n came : ℕ) (link : Wire) : Type 0 where
@@ -46,13 +46,13 @@ gives_first links all left n came link e fits is same new =
 
 -- none of the links has this number
 abbrev pub NoneOf : List Wire → ℕ → Type 0
-NoneOf links number = (link : Option Tale) → Contains (numbered links) (number, link) → ⊥
+NoneOf links number = (link : Handed) → Contains (numbered links) (number, link) → ⊥
 
 one_number : (w : Wire) (number : ℕ) → w.number ≢ number → NoneOf (w ∷ []) number
-one_number w number other link (zero, low, e) = other (ap (λ (x : ℕ × Option Tale). x.0) e)
+one_number w number other link (zero, low, e) = other (ap (λ (x : ℕ × Handed). x.0) e)
 one_number w number other link (suc k, low, e) = omega (arith, low)
 
-none_cases : (links : List Wire) (i number : ℕ) (w : Wire) (link : Option Tale) → w.number ≢ number → NoneOf (take i links) number → Contains (numbered (take i links)) (number, link) ⊎ Contains (numbered (w ∷ [])) (number, link) → ⊥
+none_cases : (links : List Wire) (i number : ℕ) (w : Wire) (link : Handed) → w.number ≢ number → NoneOf (take i links) number → Contains (numbered (take i links)) (number, link) ⊎ Contains (numbered (w ∷ [])) (number, link) → ⊥
 none_cases links i number w link other none (inl there) = none link there
 none_cases links i number w link other none (inr there) = one_number w number other link there
 
@@ -61,18 +61,18 @@ pub none_more : (links : List Wire) (i number : ℕ) (w : Wire) → i < length l
 none_more links i number w low is other none link there =
     let at : drop i links ≡ w ∷ drop (i + 1) links = drop_more links i w low ∙ ap (λ (x : Wire). x ∷ drop (i + 1) links) (sym is) in
     let up : take (i + 1) links ≡ take i links ++ w ∷ [] = take-add i 1 links ∙ ap (λ (x : List Wire). take i links ++ take 1 x) at in
-    let split : numbered (take (i + 1) links) ≡ numbered (take i links) ++ numbered (w ∷ []) = ap numbered up ∙ map-append (λ (x : Wire). (x.number, Some x.tale)) (take i links) (w ∷ []) in
-    let cases = Contains-append_cases (numbered (take i links)) (numbered (w ∷ [])) (number, link) (subst (λ (xs : List (ℕ × Option Tale)). Contains xs (number, link)) split there) in
+    let split : numbered (take (i + 1) links) ≡ numbered (take i links) ++ numbered (w ∷ []) = ap numbered up ∙ map-append (λ (x : Wire). (x.number, handed x)) (take i links) (w ∷ []) in
+    let cases = Contains-append_cases (numbered (take i links)) (numbered (w ∷ [])) (number, link) (subst (λ (xs : List (ℕ × Handed)). Contains xs (number, link)) split there) in
     none_cases links i number w link other none cases
 
 -- the link at a place is one of them, under its number
-pub found_at : (links : List Wire) (i number : ℕ) (w : Wire) → i < length links → w ≡ slice_index_or links i w → w.number ≡ number → Contains (numbered links) (number, Some w.tale)
+pub found_at : (links : List Wire) (i number : ℕ) (w : Wire) → i < length links → w ≡ slice_index_or links i w → w.number ≡ number → Contains (numbered links) (number, handed w)
 found_at links i number w low is same =
     let at : drop i links ≡ w ∷ drop (i + 1) links = drop_more links i w low ∙ ap (λ (x : Wire). x ∷ drop (i + 1) links) (sym is) in
     let split : links ≡ take i links ++ w ∷ drop (i + 1) links = sym (take-append-drop i links) ∙ ap (λ (x : List Wire). take i links ++ x) at in
-    let told : numbered links ≡ numbered (take i links) ++ numbered (w ∷ drop (i + 1) links) = ap numbered split ∙ map-append (λ (x : Wire). (x.number, Some x.tale)) (take i links) (w ∷ drop (i + 1) links) in
-    let first : Contains (numbered (w ∷ drop (i + 1) links)) (number, Some w.tale) = (0, omega arith, ap (λ (n : ℕ). (n, Some w.tale)) same) in
-    subst (λ (xs : List (ℕ × Option Tale)). Contains xs (number, Some w.tale)) (sym told) (Contains-append_right (numbered (take i links)) (numbered (w ∷ drop (i + 1) links)) (number, Some w.tale) first)
+    let told : numbered links ≡ numbered (take i links) ++ numbered (w ∷ drop (i + 1) links) = ap numbered split ∙ map-append (λ (x : Wire). (x.number, handed x)) (take i links) (w ∷ drop (i + 1) links) in
+    let first : Contains (numbered (w ∷ drop (i + 1) links)) (number, handed w) = (0, omega arith, ap (λ (n : ℕ). (n, handed w)) same) in
+    subst (λ (xs : List (ℕ × Handed)). Contains xs (number, handed w)) (sym told) (Contains-append_right (numbered (take i links)) (numbered (w ∷ drop (i + 1) links)) (number, handed w) first)
 
 -- the rest of the links, as a slice has it
 pub rest_of_links : (links : List Wire) (left : ℕ) → take (length links - left) (drop left links) ≡ drop left links

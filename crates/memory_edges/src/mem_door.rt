@@ -2,7 +2,7 @@
 
 ghost use Rattle.std.specs.Prelude.{◌≡◌, MatchOption, Contains, Some};
 ghost use Rattle.std.specs.declared.option.Option.{Option};
-ghost use Rattle.edge_traits.specs.Link.{Tale};
+ghost use Rattle.edge_traits.specs.Link.{Handed, Tale};
 ghost use Rattle.memory_edges.specs.MemDoor.{numbered};
 
 use crate::fault_plan::FaultPlan;
@@ -72,9 +72,9 @@ impl MemDoor {
 
     /// What the link of this number was written, once it came back; none exactly where it didn't.
     pub fn written(&self, number: u64) -> Option<&[u8]>
-        ensures { MatchOption result ((link : Option Tale) → Contains self.now.tale.back (number, link) → ⊥)
-            (λ bytes. (link : Tale) × Contains self.now.tale.back (number, Some link)
-            × (bytes.now ≡ link.written)) }
+        ensures { MatchOption result ((link : Handed) → Contains self.now.tale.back (number, link) → ⊥)
+            (λ bytes. (link : Handed) × (tale : Tale) × Contains self.now.tale.back (number, link)
+            × (link.tale ≡ Some tale) × (bytes.now ≡ tale.written)) }
     {
         written_in(&self.links.as_slice()[self.left..], number)
     }
@@ -82,8 +82,9 @@ impl MemDoor {
 
 /// What the first of the links with this number was written.
 fn written_in(links: &[MemLink], number: u64) -> Option<&[u8]>
-    ensures { MatchOption result ((link : Option Tale) → Contains (numbered links.now) (number, link) → ⊥)
-        (λ bytes. (link : Tale) × Contains (numbered links.now) (number, Some link) × (bytes.now ≡ link.written)) }
+    ensures { MatchOption result ((link : Handed) → Contains (numbered links.now) (number, link) → ⊥)
+        (λ bytes. (link : Handed) × (tale : Tale) × Contains (numbered links.now) (number, link)
+        × (link.tale ≡ Some tale) × (bytes.now ≡ tale.written)) }
 {
     for link in links {
         if link.number() == number {
@@ -126,7 +127,10 @@ impl Doorway for MemDoor {
 
     fn back(&mut self, number: u64, link: MemLink)
         requires { IfTold (Some self.old.tale) (IsOut number) }
-        ensures back { Goes (Some self.old.tale) (Some self.new.tale) (TakesBack number (Some link.tale)) }
+        ensures back { Goes (Some self.old.tale) (Some self.new.tale) (TakesBack number (record {
+          tale = Some link.tale;
+          faults = link.plan.faults;
+        })) }
         ensures faults { self.new.plan.faults ≡ self.old.plan.faults }
         ensures plan { self.new.plan ≡ self.old.plan }
     {

@@ -41,9 +41,9 @@ KeepsTrueScores parts =
     (number : ℕ) (desk : DeskState) (game : GameState) → slice_get parts number ≡ Some (ADesk desk)
     → desk.game ≡ Some game → All IsTrueScore game.boards
 
--- no man of the game at a desk is made or lost: in chess the men of a colour and kind on the board, and those captured,
--- are those of one set; in crazyhouse the men of a kind on the board and in both hands, and in bughouse those of a colour
--- and kind on both boards and in that colour's two hands, are those of two
+-- no man of the game at a desk is made or lost: in chess and Fischer random the men of a colour and kind on the board,
+-- and those captured, are those of one set; in crazyhouse the men of a kind on the board and in both hands, and in
+-- bughouse those of a colour and kind on both boards and in that colour's two hands, are those of two
 abbrev pub KeepsMen : List Part → Type 0
 KeepsMen parts =
     (number : ℕ) (desk : DeskState) → slice_get parts number ≡ Some (ADesk desk) → HasWholeSets desk

@@ -2,7 +2,7 @@
 use Rattle.std.proofs.Common.{◌≡◌, ◌≢◌, ℕ, ◌<◌, ◌*◌, suc, List, [], ◌∷◌, length, map, slice_index_or, refl, arith, Option, None, Some}
 use Rattle.std.specs.List.{AllPairs}
 use Rattle.chess_model.specs.declared.variant.Variant.{Variant}
-use Rattle.chess_model.specs.declared.variant.Variant.TheVariants.{Chess, Crazyhouse, Bughouse}
+use Rattle.chess_model.specs.declared.variant.Variant.TheVariants.{Chess, Crazyhouse, Bughouse, Fischer}
 use Rattle.fics_words.specs.declared.seats.Opponents.{Opponents}
 use Rattle.fics_words.specs.Seats.{seat_list}
 use Rattle.linked_desk.specs.Boards.{board_numbers}
@@ -28,5 +28,7 @@ pairs_for Chess first None fits = refl
 pairs_for Chess first (Some more) fits = cc
 pairs_for Crazyhouse first None fits = refl
 pairs_for Crazyhouse first (Some more) fits = cc
+pairs_for (Fischer number) first None fits = refl
+pairs_for (Fischer number) first (Some more) fits = cc
 pairs_for Bughouse first None fits = cc
 pairs_for Bughouse first (Some more) fits = refl

@@ -74,6 +74,7 @@ fn with_gain(v: Variant, hand: Hand, c: Colour, men: &Men, by: Colour, m: &Move)
         }
         Variant::Chess => hand,
         Variant::Bughouse => hand,
+        Variant::Fischer(_) => hand,
     }
 }
 

@@ -2,7 +2,7 @@ ghost use Rattle.std.specs.Prelude.{◌≡◌, ◌<◌, ◌↔◌, IsTrue, Optio
 ghost use Rattle.chess_model.specs.Placement.{man_at, IsHeldBy, IsHeldAs, home_rank, second_rank, last_rank, king_home, rook_home, king_end, rook_end};
 
 use crate::square::index_of;
-use chess_model::{Colour, Kind, Man, Square, Variant};
+use chess_model::{Colour, Kind, Man, Square, Variant, file_of_king, file_of_rook};
 
 /// The man on each square, by the square's number.
 pub(crate) type Men = [Option<Man>; 64];
@@ -62,18 +62,17 @@ pub(crate) fn last_rank_of(c: Colour) -> u8
 }
 
 /// The square on which the king of a colour begins.
-pub(crate) fn home_of_king(_v: Variant, c: Colour) -> Square
-    ensures { result ≡ king_home _v c }
+pub(crate) fn home_of_king(v: Variant, c: Colour) -> Square
+    ensures { result ≡ king_home v c }
 {
-    Square::on(4, home_rank_of(c))
+    Square::on(file_of_king(v), home_rank_of(c))
 }
 
 /// The square on which the rook for long or short castling begins.
-pub(crate) fn home_of_rook(_v: Variant, c: Colour, long: bool) -> Square
-    ensures { result ≡ rook_home _v c long }
+pub(crate) fn home_of_rook(v: Variant, c: Colour, long: bool) -> Square
+    ensures { result ≡ rook_home v c long }
 {
-    let file = if long { 0 } else { 7 };
-    Square::on(file, home_rank_of(c))
+    Square::on(file_of_rook(v, long), home_rank_of(c))
 }
 
 /// The square on which the king ends by castling.

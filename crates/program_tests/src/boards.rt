@@ -82,6 +82,22 @@ fn refuses_to_move_a_pinned_knight(rt: HostRuntime) -> Result<(), Fail> {
     Ok(())
 }
 
+/// White's rook on h1 is taken at home, the other one comes there, and nothing is left between it and the king: the
+/// board shows no right of White's to castle, and the word is refused.
+const SECOND_ROOK: (&[u8], &[u8]) = (
+    b"g4\nb6\na4\nBb7\nRa3\nBxh1\nRg3\nBd5\nNf3\ne6\nRg1\na6\nRh1\ng6\nBh3\nh6\nO-O\n",
+    b"<12> rn-qkbnr --pp-p-- pp--p-pp ---b---- P-----P- -----N-B -PPPPP-P -NBQK--R W -1 0 0 1 1 0 1 White Black 0 0 0 34 39 0 0 9 P/h7-h6 (0:00) h6 0\n\rrefused 3 CastleForbidden\n\r",
+);
+
+#[test]
+fn a_second_rook_at_home_brings_no_right_back(rt: HostRuntime) -> Result<(), Fail> {
+    let (words, end) = SECOND_ROOK;
+    let (status, written) = outcome(rt.alloc(), &board(words))?;
+    assert_eq!(rt; status, 0);
+    assert!(rt; written.as_slice().ends_with(end));
+    Ok(())
+}
+
 const BAD_LINES: &[Row] = &[
     Row(
         &["board"],

@@ -2,6 +2,7 @@
 
 use crate::replay_aliases::ALIASES;
 use crate::replay_clocks::CLOCKS;
+use crate::replay_fischer::ARRAYS;
 use crate::replay_houses::HOUSES;
 use crate::replay_lists::LISTS;
 use crate::replay_logins::SESSIONS;
@@ -9,7 +10,7 @@ use crate::replay_offers::OFFERED;
 use crate::replay_pairs::PAIRS;
 use crate::replay_refusals::ALONE;
 use crate::replay_seeks::SOUGHT;
-use crate::replay_simuls::THREE;
+use crate::replay_simuls::SIMULS;
 use crate::replay_stamps::STAMPED;
 use crate::replay_talk::TALK;
 use crate::replay_watching::OBSERVED;
@@ -24,7 +25,6 @@ const LONE: &[(&str, &str)] = &[
     ("lists", LISTS),
     ("a guest alone", ALONE),
     ("seeks", SOUGHT),
-    ("a simul", THREE),
     ("talk", TALK),
 ];
 
@@ -52,6 +52,11 @@ fn replays_crazyhouse(rt: HostRuntime) -> Result<(), Fail> {
 }
 
 #[test]
+fn replays_fischer_random(rt: HostRuntime) -> Result<(), Fail> {
+    expect_table(&rt, rt.alloc(), ARRAYS)
+}
+
+#[test]
 fn replays_sessions(rt: HostRuntime) -> Result<(), Fail> {
     expect_table(&rt, rt.alloc(), SESSIONS)
 }
@@ -74,6 +79,11 @@ fn replays_stamped_games(rt: HostRuntime) -> Result<(), Fail> {
 #[test]
 fn replays_watching(rt: HostRuntime) -> Result<(), Fail> {
     expect_table(&rt, rt.alloc(), OBSERVED)
+}
+
+#[test]
+fn replays_simuls(rt: HostRuntime) -> Result<(), Fail> {
+    expect_table(&rt, rt.alloc(), SIMULS)
 }
 
 #[test]

@@ -16,6 +16,8 @@ mod replay_clocks;
 #[cfg(test)]
 mod replay_ends;
 #[cfg(test)]
+mod replay_fischer;
+#[cfg(test)]
 mod replay_houses;
 #[cfg(test)]
 mod replay_lists;

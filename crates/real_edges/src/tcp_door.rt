@@ -13,16 +13,16 @@ const PAUSE_MILLIS: u64 = 100;
 /// How long it rests where the system can't give a connection, as for want of descriptors.
 const REST_MILLIS: u64 = 10;
 
-/// A door on a TCP port of an address. It listens from its first `next` on, answers Quiet after 100 ms without a
-/// connection and at least that often while connections come, and is closed after so many of them, where a count is
-/// given. A connection that is handed back is dropped. What comes isn't told.
+/// A door on a TCP port of an address. It listens from the moment when it is made, so whoever connects from then on
+/// waits for a `next`; where it can't listen, each `next` fails, unless no connection may come. It answers Quiet after
+/// 100 ms without a connection and at least that often while connections come, and is closed after so many of them,
+/// where a count is given. A connection that is handed back is dropped. What comes isn't told.
 #[derive(Drop)]
 pub struct TcpDoor<'a, R: Net<Listener = TcpListener, Stream = TcpStream> + Clock> {
     rt: &'a R,
-    bind: String,
-    port: u16,
     /// How many connections may still come; none for ever.
     left: Option<u64>,
+    /// None where the port of that address couldn't be had.
     listener: Option<TcpListener>,
     /// When the last Quiet was answered, by the system's clock.
     quiet: Duration,
@@ -32,34 +32,16 @@ pub struct TcpDoor<'a, R: Net<Listener = TcpListener, Stream = TcpStream> + Cloc
 impl<'a, R: Net<Listener = TcpListener, Stream = TcpStream> + Clock> TcpDoor<'a, R> {
     ghost use Rattle.std.specs.Prelude.{◌≡◌, ◌+◌, ◌-◌, ◌^◌, ◌≤◌, min};
 
-    /// A door on this port of this address, for so many connections, where a count is given.
-    pub fn new(rt: &'a R, bind: String, port: u16, count: Option<u64>) -> TcpDoor<'a, R> {
+    /// A door that listens on this port of this address, for so many connections, where a count is given. That it can't
+    /// listen there is told by its first `next`.
+    pub fn new(rt: &'a R, bind: &str, port: u16, count: Option<u64>) -> TcpDoor<'a, R> {
         TcpDoor {
             rt,
-            bind,
-            port,
             left: count,
-            listener: None,
-            quiet: Duration::ZERO,
+            listener: listen(rt, bind, port).ok(),
+            quiet: reading(rt),
             faults: 0,
         }
-    }
-
-    /// Begins to listen, where it doesn't yet.
-    fn listen(&mut self) -> io::Result<()>
-        ensures { self.new.faults ≡ self.old.faults }
-    {
-        if self.listener.is_none() {
-            let listener = TcpListener::bind(self.rt, (self.bind.as_str(), self.port))?;
-            self.listener = Some(with_pause(listener)?);
-            self.quiet = self.reading();
-        }
-        Ok(())
-    }
-
-    /// What the system's clock shows; nothing where it can't be read.
-    fn reading(&self) -> Duration {
-        self.rt.monotonic().unwrap_or(Duration::ZERO)
     }
 
     /// Answers Quiet.
@@ -67,7 +49,7 @@ impl<'a, R: Net<Listener = TcpListener, Stream = TcpStream> + Clock> TcpDoor<'a,
         ensures quiet { result ≡ Came.Quiet }
         ensures faults { self.new.faults ≡ self.old.faults }
     {
-        self.quiet = self.reading();
+        self.quiet = reading(self.rt);
         Came::Quiet
     }
 
@@ -83,7 +65,7 @@ impl<'a, R: Net<Listener = TcpListener, Stream = TcpStream> + Clock> TcpDoor<'a,
 
     /// Whether the last Quiet is long ago.
     fn is_quiet_due(&self) -> bool {
-        self.reading().saturating_sub(self.quiet) >= Duration::from_millis(PAUSE_MILLIS)
+        reading(self.rt).saturating_sub(self.quiet) >= Duration::from_millis(PAUSE_MILLIS)
     }
 }
 
@@ -100,15 +82,12 @@ impl<R: Net<Listener = TcpListener, Stream = TcpStream> + Clock> Doorway for Tcp
         if self.left == Some(0) {
             return Came::Closed;
         }
-        if self.listen().is_err() {
+        let Some(listener) = &self.listener else {
             return self.fail();
-        }
+        };
         if self.is_quiet_due() {
             return self.rest();
         }
-        let Some(listener) = &self.listener else {
-            return self.rest();
-        };
         match listener.accept() {
             Ok((stream, _)) => match TcpPeer::new(stream) {
                 Ok(peer) => {
@@ -129,6 +108,19 @@ impl<R: Net<Listener = TcpListener, Stream = TcpStream> + Clock> Doorway for Tcp
     fn back(&mut self, _number: u64, link: TcpPeer) {
         drop(link);
     }
+}
+
+/// A listener on this port of this address, which waits for a connection as long as the pause.
+fn listen<R>(rt: &R, bind: &str, port: u16) -> io::Result<TcpListener>
+where
+    R: Net<Listener = TcpListener, Stream = TcpStream>,
+{
+    with_pause(TcpListener::bind(rt, (bind, port))?)
+}
+
+/// What the system's clock shows; nothing where it can't be read.
+fn reading<R: Clock>(rt: &R) -> Duration {
+    rt.monotonic().unwrap_or(Duration::ZERO)
 }
 
 /// The same listener, which waits for a connection as long as the pause. The option is that of a stream's reads, and

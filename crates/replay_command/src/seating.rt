@@ -22,6 +22,7 @@ pub(crate) fn players(variant: Variant) -> u32
         Variant::Chess => 2,
         Variant::Crazyhouse => 2,
         Variant::Bughouse => 4,
+        Variant::Fischer(_) => 2,
     }
 }
 
@@ -38,6 +39,7 @@ pub(crate) fn seat(server: &mut OneServer, line: &SeatLine) -> Result<(), NoMemo
         Variant::Chess => seat_two(server, names, line.terms),
         Variant::Crazyhouse => seat_two(server, names, line.terms),
         Variant::Bughouse => seat_four(server, names, line.terms),
+        Variant::Fischer(_) => seat_two(server, names, line.terms),
     }
 }
 

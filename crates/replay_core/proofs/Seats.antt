@@ -1,16 +1,17 @@
 -- How the words of a seat line come apart, and when names are different.
-use Rattle.std.proofs.Common.{◌≡◌, ◌≢◌, ℕ, ◌^◌, ◌<◌, ◌≤◌, List, [], ◌∷◌, ◌++◌, length, take, get_or, refl, sym, ◌∙◌, ap, subst, arith, inl, inr}
+use Rattle.std.proofs.Common.{◌≡◌, ◌≢◌, ℕ, ◌%◌, ◌^◌, ◌<◌, ◌≤◌, List, [], ◌∷◌, ◌++◌, length, take, get_or, refl, sym, ◌∙◌, ap, subst, arith, inl, inr}
 use Rattle.std.specs.Prelude.{Option, decimal, codes, Any}
 use Rattle.std.specs.List.{AllByRecursion, join_with_byte}
 use Rattle.std.specs.Char.{IsAsciiAlphabetic}
-use Rattle.std.proofs.lemmas.List.{length-take, get_or-take, get_or_default}
+use Rattle.std.proofs.lemmas.Fmt.{decimal_injective}
+use Rattle.std.proofs.lemmas.List.{append_cancel_left, length-take, get_or-take, get_or_default}
 use Rattle.std.proofs.lemmas.List.Elements.{recursion_from_All}
 use Rattle.fics_words.specs.Handle.{IsHandle, key_of}
 use Rattle.chess_model.specs.declared.man.Colour.{Colour}
 use Rattle.chess_model.specs.declared.variant.Terms.{Terms}
 use Rattle.chess_model.specs.declared.variant.Variant.{Variant}
-use Rattle.chess_model.specs.declared.variant.Variant.TheVariants.{Chess, Crazyhouse, Bughouse}
-use Rattle.chess_model.specs.VariantWord.{word_of}
+use Rattle.chess_model.specs.declared.variant.Variant.TheVariants.{Chess, Crazyhouse, Bughouse, Fischer}
+use Rattle.chess_model.specs.VariantWord.{IsNumbered, word_of}
 use Rattle.replay_core.specs.declared.script.ScriptLine.{ScriptLine}
 use Rattle.replay_core.specs.declared.seat_line.SeatLine.{SeatLine}
 use Rattle.replay_core.specs.Script.{IsScriptLine, event_text, script_text}
@@ -62,16 +63,33 @@ not_before names place key le none k d lt e =
 
 -- ---- terms and seat lines
 
-pub one_variant : (v w : Variant) → word_of v ≡ word_of w → v ≡ w
-one_variant Chess Chess e = refl
-one_variant Chess Crazyhouse e = absurd cc
-one_variant Chess Bughouse e = absurd cc
-one_variant Crazyhouse Chess e = absurd cc
-one_variant Crazyhouse Crazyhouse e = refl
-one_variant Crazyhouse Bughouse e = absurd cc
-one_variant Bughouse Chess e = absurd cc
-one_variant Bughouse Crazyhouse e = absurd cc
-one_variant Bughouse Bughouse e = refl
+abbrev first_byte : List ℕ → ℕ
+first_byte word = get_or word 0 0
+
+-- the word of an array is fixed by the number, and no other variant's
+one_array : (m n : ℕ) → m < 960 → n < 960 → word_of (Fischer m) ≡ word_of (Fischer n) → m ≡ n
+one_array m n few less e =
+    let digits : decimal (m % 960) ≡ decimal (n % 960) = append_cancel_left (codes "fischer ") (decimal (m % 960)) (decimal (n % 960)) e in
+    let same : m % 960 ≡ n % 960 = decimal_injective (m % 960) (n % 960) (omega arith) (omega arith) digits in
+    omega (arith, few, less, same)
+
+pub one_variant : (v w : Variant) → IsNumbered v → IsNumbered w → word_of v ≡ word_of w → v ≡ w
+one_variant Chess Chess p q e = refl
+one_variant Chess Crazyhouse p q e = absurd cc
+one_variant Chess Bughouse p q e = absurd cc
+one_variant Chess (Fischer n) p q e = let first : 99 ≡ 102 = ap first_byte e in absurd (omega (arith, first))
+one_variant Crazyhouse Chess p q e = absurd cc
+one_variant Crazyhouse Crazyhouse p q e = refl
+one_variant Crazyhouse Bughouse p q e = absurd cc
+one_variant Crazyhouse (Fischer n) p q e = let first : 99 ≡ 102 = ap first_byte e in absurd (omega (arith, first))
+one_variant Bughouse Chess p q e = absurd cc
+one_variant Bughouse Crazyhouse p q e = absurd cc
+one_variant Bughouse Bughouse p q e = refl
+one_variant Bughouse (Fischer n) p q e = let first : 98 ≡ 102 = ap first_byte e in absurd (omega (arith, first))
+one_variant (Fischer m) Chess p q e = let first : 102 ≡ 99 = ap first_byte e in absurd (omega (arith, first))
+one_variant (Fischer m) Crazyhouse p q e = let first : 102 ≡ 99 = ap first_byte e in absurd (omega (arith, first))
+one_variant (Fischer m) Bughouse p q e = let first : 102 ≡ 98 = ap first_byte e in absurd (omega (arith, first))
+one_variant (Fischer m) (Fischer n) p q e = ap (λ (k : ℕ). Fischer k) (one_array m n p q e)
 
 same_terms : (a b : Terms) → a.minutes ≡ b.minutes → a.increment ≡ b.increment → a.variant ≡ b.variant → a.colour ≡ b.colour → a ≡ b
 same_terms a b minutes increment variant colour =
@@ -84,7 +102,7 @@ pub one_terms : (a b : Terms) → AreSeatTerms a → AreSeatTerms b → terms_te
 one_terms a b p q e =
     let minutes = one_number a.minutes b.minutes (decimal a.increment ++ blank ∷ word_of a.variant) (decimal b.increment ++ blank ∷ word_of b.variant) (omega (arith, p.minutes)) (omega (arith, q.minutes)) e in
     let increment = one_number a.increment b.increment (word_of a.variant) (word_of b.variant) (omega (arith, p.increment)) (omega (arith, q.increment)) minutes.1 in
-    let variant = one_variant a.variant b.variant increment.1 in
+    let variant = one_variant a.variant b.variant p.numbered q.numbered increment.1 in
     same_terms a b minutes.0 increment.0 variant (p.white ∙ sym q.white)
 
 pub terms_no_handle : (terms : Terms) → AreSeatTerms terms → NoHandle (terms_text terms)

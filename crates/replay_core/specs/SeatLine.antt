@@ -4,8 +4,8 @@ use Rattle.std.specs.List.{join_with_byte}
 use Rattle.chess_model.specs.declared.man.Colour.TheVariants.{White}
 use Rattle.chess_model.specs.declared.variant.Terms.{Terms}
 use Rattle.chess_model.specs.declared.variant.Variant.{Variant}
-use Rattle.chess_model.specs.declared.variant.Variant.TheVariants.{Chess, Crazyhouse, Bughouse}
-use Rattle.chess_model.specs.VariantWord.{word_of}
+use Rattle.chess_model.specs.declared.variant.Variant.TheVariants.{Chess, Crazyhouse, Bughouse, Fischer}
+use Rattle.chess_model.specs.VariantWord.{IsNumbered, word_of}
 use Rattle.fics_words.specs.Handle.{IsHandle, key_of}
 use Rattle.replay_core.specs.Words.{blank}
 use Rattle.replay_core.specs.declared.seat_line.SeatLine.{SeatLine}
@@ -15,15 +15,17 @@ abbrev pub players_of : Variant → ℕ
 players_of Chess = 2
 players_of Crazyhouse = 2
 players_of Bughouse = 4
+players_of (Fischer number) = 2
 
 -- no two names are one player's: they differ in more than the case of their letters
 abbrev pub AreDifferent : List (List ℕ) → Type 0
 AreDifferent names = AllPairs (λ one other. key_of one ≢ key_of other) names
 
--- minutes at the start and seconds for each move; the first player has White
+-- minutes at the start and seconds for each move; the number of an array is from 0 to 959; the first player has White
 pub record AreSeatTerms (terms : Terms) : Type 0 where
   pub minutes : terms.minutes ≤ 600
   pub increment : terms.increment ≤ 600
+  pub numbered : IsNumbered terms.variant
   pub white : terms.colour ≡ Some White
 
 -- players of these names may play so

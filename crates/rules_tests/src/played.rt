@@ -89,6 +89,36 @@ const ROWS: &[Row] = &[
         10,
         FORBIDDEN,
     ),
+    // Fischer random: king and rook exchange at once; the king stands on g already; a rook on f is in the way of the
+    // other one; castling would unmask the queen on a1
+    Row(Variant::Fischer(468), "O-O", 1, None),
+    Row(Variant::Fischer(96), "f1g3 a7a6 O-O", 3, None),
+    Row(Variant::Fischer(0), "O-O", 0, FORBIDDEN),
+    Row(
+        Variant::Fischer(681),
+        "a2a4 b7b5 a4b5 a7a6 b5a6 a8a6 c2c3 h7h6 d1c2 g7g6 O-O-O",
+        11,
+        None,
+    ),
+    Row(
+        Variant::Fischer(681),
+        "a2a4 b7b5 a4b5 a7a6 b5a6 a8a6 c2c3 h7h6 d1c2 a6a1 O-O-O",
+        10,
+        FORBIDDEN,
+    ),
+    // two squares stand for castling where the king's home is on file e, and for a step of the king elsewhere
+    Row(
+        Variant::Fischer(518),
+        "g1f3 g8f6 g2g3 g7g6 f1g2 f8g7 e1g1",
+        7,
+        None,
+    ),
+    Row(
+        Variant::Fischer(468),
+        "f1g1",
+        0,
+        Some(Rejection::CannotReach),
+    ),
     // two knights reach d2
     Row(
         CHESS,

@@ -14,6 +14,9 @@ seat zzz abcdefghijklmnopq 600 0 chess|zzz abcdefghijklmnopq|600|0|chess
 seat Ann Anna 0 0 chess|Ann Anna|0|0|chess
 seat seat chess 10 10 crazyhouse|seat chess|10|10|crazyhouse
 seat bughouse crazyhouse 1 1 chess|bughouse crazyhouse|1|1|chess
+seat Ann Ben 2 0 fischer 468|Ann Ben|2|0|fischer 468
+seat fischer Ben 5 5 fischer 0|fischer Ben|5|5|fischer 0
+seat Ann Ben 0 0 fischer 959|Ann Ben|0|0|fischer 959
 seat Ann Ben Cat Dan 2 0 bughouse|Ann Ben Cat Dan|2|0|bughouse
 seat abc abcd bcd abcdefghijklmnopq 600 600 bughouse|abc abcd bcd abcdefghijklmnopq|600|600|bughouse";
 
@@ -63,6 +66,19 @@ const BAD: &str = "\
 [Seat Ann Ben 5 0 chess]
 [seat Ann Ben 5 0 Chess]
 [seat Ann Ben 5 0 blitz]
+[seat Ann Ben 5 0 fischer]
+[seat Ann Ben 5 0 fischer ]
+[seat Ann Ben 5 0 fischer 960]
+[seat Ann Ben 5 0 fischer 66054]
+[seat Ann Ben 5 0 fischer 00]
+[seat Ann Ben 5 0 fischer 012]
+[seat Ann Ben 5 0 fischer -1]
+[seat Ann Ben 5 0 fischer +1]
+[seat Ann Ben 5 0 fischer  1]
+[seat Ann Ben 5 0 fischer 1 ]
+[seat Ann Ben 5 0 fischer1]
+[seat Ann Ben 5 0 Fischer 1]
+[seat Ann Ben Cat Dan 5 0 fischer 1]
 [seat Ann Ben 5 0 chess white]
 [0 1 > seat Ann Ben 5 0 chess]";
 
@@ -108,12 +124,32 @@ fn names_variants(rt: HostRuntime) {
         ("chess", Variant::Chess),
         ("crazyhouse", Variant::Crazyhouse),
         ("bughouse", Variant::Bughouse),
+        ("fischer 0", Variant::Fischer(0)),
+        ("fischer 9", Variant::Fischer(9)),
+        ("fischer 10", Variant::Fischer(10)),
+        ("fischer 99", Variant::Fischer(99)),
+        ("fischer 100", Variant::Fischer(100)),
+        ("fischer 518", Variant::Fischer(518)),
+        ("fischer 959", Variant::Fischer(959)),
     ];
     for (word, variant) in words {
         assert_eq!(rt; variant_word(variant).bytes(), word.as_bytes());
         assert_eq!(rt; read_variant(word.as_bytes()), Some(variant));
     }
-    for word in ["", "Chess", "chess ", "suicide", "bug"] {
+    for word in [
+        "",
+        "Chess",
+        "chess ",
+        "suicide",
+        "bug",
+        "fischer",
+        "fischer ",
+        "fischer 960",
+        "fischer 01",
+        "fischer 65536",
+        "fischer 5a",
+        "fischer\u{e9}",
+    ] {
         assert_eq!(rt; read_variant(word.as_bytes()), None, "{word}");
     }
 }
@@ -122,6 +158,9 @@ fn variant_of(word: &str) -> Variant {
     match word {
         "chess" => Variant::Chess,
         "crazyhouse" => Variant::Crazyhouse,
+        "fischer 0" => Variant::Fischer(0),
+        "fischer 468" => Variant::Fischer(468),
+        "fischer 959" => Variant::Fischer(959),
         _ => Variant::Bughouse,
     }
 }

@@ -3,7 +3,7 @@ use Rattle.std.proofs.Common.{◌≡◌, ◌≢◌, ℕ, ◌+◌, ◌-◌, ◌<�
 use Rattle.std.proofs.lemmas.Option.{slice_get_within}
 use Rattle.std.specs.declared.option.Option.{Option}
 use Rattle.atomic_table.specs.Seated.{TableId}
-use Rattle.edge_traits.specs.Link.{Tale}
+use Rattle.edge_traits.specs.Link.{Handed, IsFresh, Tale}
 use Rattle.edge_traits.specs.Door.{DoorTale, Goes, IfTold, IsOut, TakesBack}
 use Rattle.turn_table.specs.declared.view.Joined.{Joined}
 use Rattle.turn_table.specs.Views.{In, joined_number}
@@ -14,14 +14,17 @@ use Rattle.one_server.specs.Running.{Log}
 use Rattle.hall_core.specs.Passes.{IsJoined, PassState, divided, first_pass}
 use Rattle.link_core.specs.declared.link_end.LinkEnd.{LinkEnd}
 use Rattle.link_core.specs.declared.link_end.LinkEnd.TheVariants as link_end
-use Rattle.link_core.specs.Served.{IsServed}
+use Rattle.link_core.specs.Served.{WasServed}
 use Rattle.steward_core.specs.declared.turn.StewardEnd.{StewardEnd}
 use Rattle.steward_core.specs.declared.turn.StewardEnd.TheVariants as steward
 use Rattle.serve_core.specs.declared.settle.Supply.{Supply}
 use Rattle.serve_core.specs.declared.settle.Supply.TheVariants.{Enough, Short}
-use Rattle.serve_core.specs.Stewarding.{AreStewards, HasTurns, MadeTurn, asked, supply_then}
+use Rattle.serve_core.specs.Stewarding.{AreStewards, HasTurns, asked}
+use Rattle.serve_core.specs.Turns.{MadeTurn, supply_then}
 use Rattle.serve_core.specs.Working.{Due, IsPaid}
-use Rattle.serve_core.specs.Keeping.{CameAs, CameBack, Comes, HasServed, IsOwed, IsUnused, Kept, due_number, supply_after}
+use Rattle.serve_core.specs.Keeping.{Comes, IsOwed, Underway, due_number, supply_after}
+use Rattle.serve_core.specs.Serving.{IsUnused}
+use Rattle.serve_core.specs.Sessions.{CameAs, CameBack, HasServed}
 use Rattle.serve_core.proofs.Among.{in_last, in_cases, in_map_left, in_map_last, in_rest, in_map_rest, one_less, one_longer}
 use Rattle.serve_core.proofs.Telling.{told_then, told_and, told_as, came_stays, came_new, came_back_stays, came_count, came_out, back_came, back_stays, back_new, back_count, back_out}
 use Rattle.serve_core.proofs.Turning.{turn_all, turn_asked, turn_home, turn_number, turn_splits, turns_go, turns_more}
@@ -74,14 +77,15 @@ whole_then steward.Memory supply door old new turns turn e = absurd cc
 -- ---- sessions that were joined
 
 module _ (shows : ℕ → Bool) (number : ℕ) (calls : Log) where
-  pub served_then : (supply supply' : Supply) (door door' : Option DoorTale) (R : DoorTale → DoorTale → Type 0) → Goes door door' R
+  pub served_then : (lack lack' : Type 0) (door door' : Option DoorTale) (R : DoorTale → DoorTale → Type 0) → Goes door door' R
       → ((k : ℕ) (link : Option Tale) (old new : DoorTale) → R old new → CameAs k link old → CameAs k link new)
-      → ((k : ℕ) (link : Option Tale) (old new : DoorTale) → R old new → CameBack k link old → CameBack k link new)
-      → (supply ≡ Short → supply' ≡ Short) → HasServed shows supply door number calls → HasServed shows supply' door' number calls
-  served_then supply supply' door door' R goes came back short p = record {
+      → ((k : ℕ) (link : Handed) (old new : DoorTale) → R old new → CameBack k link old → CameBack k link new)
+      → (lack → lack') → HasServed shows lack door number calls → HasServed shows lack' door' number calls
+  served_then lack lack' door door' R goes came back short p = record {
     end = p.end;
     link = p.link;
     returned = p.returned;
+    fresh = p.fresh;
     served = p.served;
     short = λ e. short (p.short e);
     came = told_then door door' R (CameAs number p.link) (CameAs number p.link) (came number p.link) goes p.came;
@@ -90,7 +94,7 @@ module _ (shows : ℕ → Bool) (number : ℕ) (calls : Log) where
 
 module _ {C : Type 0} (shows : C → ℕ → Bool) (hall : TableId) (clock : C) where
   -- nothing came yet
-  pub kept_first : (door : Option DoorTale) (opening : List Part) (pass : PassState) → pass ≡ first_pass hall opening → IfTold door IsUnused → Kept shows hall clock Enough door pass []
+  pub kept_first : (door : Option DoorTale) (opening : List Part) (pass : PassState) → pass ≡ first_pass hall opening → IfTold door IsUnused → Underway shows hall clock Enough door pass []
   kept_first door opening pass is unused =
       let none : pass.joined ≡ [] = ap (λ (p : PassState). p.joined) is in
       let zero : pass.splits ≡ 0 = ap (λ (p : PassState). p.splits) is in
@@ -109,13 +113,14 @@ module _ {C : Type 0} (shows : C → ℕ → Bool) (hall : TableId) (clock : C) 
       }
 
   -- a link came, and has a pass
-  module _ (supply : Supply) (door door' : Option DoorTale) (pass : PassState) (waiting : List (Due C)) (d : Due C) (k : Kept shows hall clock supply door pass waiting) (goes : Goes door door' (Comes d.link))
-      (home : d.pass.home ≡ hall) (number : d.pass.number ≡ pass.splits + 1) (same : d.clock ≡ clock) where
+  module _ (supply : Supply) (door door' : Option DoorTale) (pass : PassState) (waiting : List (Due C)) (d : Due C) (k : Underway shows hall clock supply door pass waiting) (goes : Goes door door' (Comes d.link))
+      (home : d.pass.home ≡ hall) (number : d.pass.number ≡ pass.splits + 1) (same : d.clock ≡ clock) (fresh : IfTold d.link IsFresh) where
     owed_stays : (due : Due C) → IsOwed shows hall clock door due → IsOwed shows hall clock door' due
     owed_stays due p = record {
       home = p.home;
       number = p.number;
       same = p.same;
+      fresh = p.fresh;
       came = told_then door door' (Comes d.link) (CameAs due.pass.number due.link) (CameAs due.pass.number due.link) (came_stays d.link due.pass.number due.link) goes p.came;
     }
 
@@ -124,6 +129,7 @@ module _ {C : Type 0} (shows : C → ℕ → Bool) (hall : TableId) (clock : C) 
       home = home;
       number = λ e. omega (arith, e, number);
       same = same;
+      fresh = fresh;
       came = subst (λ n. IfTold door' (CameAs n d.link)) (sym number) (told_then door door' (Comes d.link) (λ tale. length tale.came ≡ pass.splits) (CameAs (pass.splits + 1) d.link) (came_new d.link pass.splits) goes k.came);
     }
 
@@ -139,12 +145,12 @@ module _ {C : Type 0} (shows : C → ℕ → Bool) (hall : TableId) (clock : C) 
     number_new : (m : ℕ) → m ≡ pass.splits + 1 → In m (map due_number (waiting ++ d ∷ []))
     number_new m e = subst (λ n. In n (map due_number (waiting ++ d ∷ []))) (number ∙ sym e) (in_map_last due_number d waiting [])
 
-    pub kept_came : Kept shows hall clock supply door' (divided pass) (waiting ++ d ∷ [])
+    pub kept_came : Underway shows hall clock supply door' (divided pass) (waiting ++ d ∷ [])
     kept_came = record {
       here = k.here;
       first = k.first;
       owed = λ due p. owed_came due (in_cases due waiting (d ∷ []) p);
-      served = λ j p. served_then (shows clock) j.number j.calls supply supply door door' (Comes d.link) goes (came_stays d.link) (came_back_stays d.link) (λ e. e) (k.served j p);
+      served = λ j p. served_then (shows clock) j.number j.calls (supply ≡ Short) (supply ≡ Short) door door' (Comes d.link) goes (came_stays d.link) (came_back_stays d.link) (λ e. e) (k.served j p);
       numbers = λ m low high. split_on m (pass.splits + 1) (λ e. inr (number_new m e)) (λ n. numbers_came m (k.numbers m low (omega (arith, high, n))));
       came = told_then door door' (Comes d.link) (λ tale. length tale.came ≡ pass.splits) (λ tale. length tale.came ≡ pass.splits + 1) (came_count d.link pass.splits) goes k.came;
       out = told_then door door' (Comes d.link) (λ tale. length tale.back + length waiting ≡ length tale.came) (λ tale. length tale.back + length (waiting ++ d ∷ []) ≡ length tale.came)
@@ -155,21 +161,21 @@ module _ {C : Type 0} (shows : C → ℕ → Bool) (hall : TableId) (clock : C) 
     }
 
   -- a Quiet, and a turn of the steward
-  pub kept_quiet : (supply : Supply) (end : StewardEnd) (door door' : Option DoorTale) (pass new : PassState) (waiting : List (Due C)) → Kept shows hall clock supply door pass waiting
-      → Goes door door' (λ before after. after ≡ record before { quiets = before.quiets + 1 }) → MadeTurn end pass new → Kept shows hall clock (supply_then end supply) door' new waiting
+  pub kept_quiet : (supply : Supply) (end : StewardEnd) (door door' : Option DoorTale) (pass new : PassState) (waiting : List (Due C)) → Underway shows hall clock supply door pass waiting
+      → Goes door door' (λ before after. after ≡ record before { quiets = before.quiets + 1 }) → MadeTurn end pass new → Underway shows hall clock (supply_then end supply) door' new waiting
   kept_quiet supply end door door' pass new waiting k goes turn =
       let R : DoorTale → DoorTale → Type 0 = λ before after. after ≡ record before { quiets = before.quiets + 1 } in
       let joined : new.joined ≡ pass.joined = ap (λ p. p.joined) turn.place in
       let splits = turn_splits end pass new turn in
       let came : (m : ℕ) (link : Option Tale) (a b : DoorTale) → R a b → CameAs m link a → CameAs m link b = λ m link a b e p. subst (λ (xs : List (Option Tale)). CameAs m link (record a { came = xs })) (sym (ap (λ (t : DoorTale). t.came) e)) p in
-      let back : (m : ℕ) (link : Option Tale) (a b : DoorTale) → R a b → CameBack m link a → CameBack m link b = λ m link a b e p. subst (λ (xs : List (ℕ × Option Tale)). CameBack m link (record a { back = xs })) (sym (ap (λ (t : DoorTale). t.back) e)) p in
+      let back : (m : ℕ) (link : Handed) (a b : DoorTale) → R a b → CameBack m link a → CameBack m link b = λ m link a b e p. subst (λ (xs : List (ℕ × Handed)). CameBack m link (record a { back = xs })) (sym (ap (λ (t : DoorTale). t.back) e)) p in
       record {
         here = turn_home end pass new turn ∙ k.here;
         first = turn_number end pass new turn ∙ k.first;
         owed = λ due p.
             let o = k.owed due p in
-            record { home = o.home; number = o.number; same = o.same; came = told_then door door' R (CameAs due.pass.number due.link) (CameAs due.pass.number due.link) (came due.pass.number due.link) goes o.came };
-        served = λ j p. served_then (shows clock) j.number j.calls supply (supply_then end supply) door door' R goes came back (then_short end supply) (k.served j (subst (λ (xs : List (Joined Timed Reply)). In j xs) joined p));
+            record { home = o.home; number = o.number; same = o.same; fresh = o.fresh; came = told_then door door' R (CameAs due.pass.number due.link) (CameAs due.pass.number due.link) (came due.pass.number due.link) goes o.came };
+        served = λ j p. served_then (shows clock) j.number j.calls (supply ≡ Short) (supply_then end supply ≡ Short) door door' R goes came back (then_short end supply) (k.served j (subst (λ (xs : List (Joined Timed Reply)). In j xs) joined p));
         numbers = λ m low high. subst (λ (xs : List (Joined Timed Reply)). In m (map joined_number xs) ⊎ In m (map due_number waiting)) (sym joined) (k.numbers m low (omega (arith, high, splits)));
         came = told_then door door' R (λ tale. length tale.came ≡ pass.splits) (λ tale. length tale.came ≡ new.splits) (λ a b e n. ap (λ (t : DoorTale). length t.came) e ∙ n ∙ sym splits) goes k.came;
         out = told_then door door' R (λ tale. length tale.back + length waiting ≡ length tale.came) (λ tale. length tale.back + length waiting ≡ length tale.came)
@@ -180,8 +186,8 @@ module _ {C : Type 0} (shows : C → ℕ → Bool) (hall : TableId) (clock : C) 
       }
 
   -- a worker has paid
-  module _ (supply : Supply) (end : LinkEnd) (door door' : Option DoorTale) (pass new given : PassState) (one two : List (Due C)) (d : Due C) (link : Option Tale)
-      (k : Kept shows hall clock supply door pass (one ++ d ∷ two)) (paid : IsPaid shows d end given link) where
+  module _ (supply : Supply) (end : LinkEnd) (door door' : Option DoorTale) (pass new given : PassState) (one two : List (Due C)) (d : Due C) (link : Handed)
+      (k : Underway shows hall clock supply door pass (one ++ d ∷ two)) (paid : IsPaid shows d end given link) where
     owes : IsOwed shows hall clock door d
     owes = k.owed d (in_last d one two)
 
@@ -207,25 +213,27 @@ module _ {C : Type 0} (shows : C → ℕ → Bool) (hall : TableId) (clock : C) 
         home = o.home;
         number = o.number;
         same = o.same;
+        fresh = o.fresh;
         came = told_then door door' (TakesBack given.number link) (CameAs due.pass.number due.link) (CameAs due.pass.number due.link) (back_came given.number link due.pass.number due.link) goes o.came;
       }
 
-      serves_new : HasServed (shows clock) (supply_after end supply) door' given.number given.made
+      serves_new : HasServed (shows clock) (supply_after end supply ≡ Short) door' given.number given.made
       serves_new = record {
         end = end;
         link = d.link;
         returned = link;
+        fresh = owes.fresh;
         served =
-            subst (λ (c : C). IsServed (shows c) true given.number end given.made d.link link) owes.same
-            (subst (λ n. IsServed (shows d.clock) true n end given.made d.link link) (sym paid.number) paid.served);
+            subst (λ (c : C). WasServed (shows c) true given.number end given.made (record { tale = d.link; faults = 0 }) link) owes.same
+            (subst (λ n. WasServed (shows d.clock) true n end given.made (record { tale = d.link; faults = 0 }) link) (sym paid.number) paid.served);
         short = now_short end supply;
         came = subst (λ n. IfTold door' (CameAs n d.link)) (sym paid.number) (told_then door door' (TakesBack given.number link) (CameAs d.pass.number d.link) (CameAs d.pass.number d.link) (back_came given.number link d.pass.number d.link) goes owes.came);
         back = told_then door door' (TakesBack given.number link) (CameAs d.pass.number d.link) (CameBack given.number link) (λ a b e p. back_new given.number link a b e) goes owes.came;
       }
 
-      served_still : (j : Joined Timed Reply) → In j pass.joined ⊎ In j (record { number = given.number; calls = given.made } ∷ []) → HasServed (shows clock) (supply_after end supply) door' j.number j.calls
-      served_still j (inl p) = served_then (shows clock) j.number j.calls supply (supply_after end supply) door door' (TakesBack given.number link) goes (back_came given.number link) (back_stays given.number link) (stays_short end supply) (k.served j p)
-      served_still j (inr (inl e)) = subst (λ (x : Joined Timed Reply). HasServed (shows clock) (supply_after end supply) door' x.number x.calls) (sym e) serves_new
+      served_still : (j : Joined Timed Reply) → In j pass.joined ⊎ In j (record { number = given.number; calls = given.made } ∷ []) → HasServed (shows clock) (supply_after end supply ≡ Short) door' j.number j.calls
+      served_still j (inl p) = served_then (shows clock) j.number j.calls (supply ≡ Short) (supply_after end supply ≡ Short) door door' (TakesBack given.number link) goes (back_came given.number link) (back_stays given.number link) (stays_short end supply) (k.served j p)
+      served_still j (inr (inl e)) = subst (λ (x : Joined Timed Reply). HasServed (shows clock) (supply_after end supply ≡ Short) door' x.number x.calls) (sym e) serves_new
       served_still j (inr (inr p)) = absurd p
 
       number_joined : (m : ℕ) → m ≡ given.number → In m (map joined_number new.joined)
@@ -241,7 +249,7 @@ module _ {C : Type 0} (shows : C → ℕ → Bool) (hall : TableId) (clock : C) 
       numbers_still m (inl p) = inl (subst (λ (xs : List (Joined Timed Reply)). In m (map joined_number xs)) (sym grown) (in_map_left joined_number m pass.joined (record { number = given.number; calls = given.made } ∷ []) p))
       numbers_still m (inr p) = numbers_cases m (in_map_rest due_number m d one two p)
 
-      pub kept_paid : Kept shows hall clock (supply_after end supply) door' new (one ++ two)
+      pub kept_paid : Underway shows hall clock (supply_after end supply) door' new (one ++ two)
       kept_paid =
           let splits : new.splits ≡ pass.splits = ap (λ (p : PassState). p.splits) joins.same in
           let made : new.made ≡ pass.made = ap (λ (p : PassState). p.made) joins.same in

@@ -6,3 +6,4 @@ pub mod Settling
 pub mod Ending
 pub mod Writing
 pub mod ServeEnds
+pub mod Returning

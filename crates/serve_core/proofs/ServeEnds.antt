@@ -14,7 +14,7 @@ use Rattle.job_words.specs.declared.job.JobFail.TheVariants as TheFail
 use Rattle.job_words.specs.Usage.{UsageEnds, usage_line}
 use Rattle.serve_core.specs.declared.end.ServeEnd.{ServeEnd}
 use Rattle.serve_core.specs.declared.end.ServeEnd.TheVariants.{Done, DoorFault, WriteFault, Memory, Spent}
-use Rattle.serve_core.specs.Serving.{IsWhole, status_of}
+use Rattle.serve_core.specs.Serving.{IsClean, status_of}
 
 pub is_write_fault : (end : ServeEnd) → status_of end ≡ 3 → end ≡ WriteFault
 is_write_fault Done e = absurd (omega (arith, e))
@@ -37,7 +37,7 @@ is_no_usage Memory e = omega (arith, e)
 is_no_usage DoorFault e = omega (arith, e)
 is_no_usage Spent e = omega (arith, e)
 
-pub is_whole : (end : ServeEnd) → (status_of end ≡ 0) ⊎ (status_of end ≡ 9) → IsWhole end
+pub is_whole : (end : ServeEnd) → (status_of end ≡ 0) ⊎ (status_of end ≡ 9) → IsClean end
 is_whole Done e = tt
 is_whole Spent e = tt
 is_whole WriteFault (inl e) = omega (arith, e)
@@ -54,7 +54,7 @@ is_listed Memory = (3, omega arith, refl)
 is_listed DoorFault = (4, omega arith, refl)
 is_listed Spent = (5, omega arith, refl)
 
-pub is_complete : (end : ServeEnd) → IsWhole end ⊎ (end ≡ Memory) → Contains (0 ∷ 6 ∷ 9 ∷ []) (status_of end)
+pub is_complete : (end : ServeEnd) → IsClean end ⊎ (end ≡ Memory) → Contains (0 ∷ 6 ∷ 9 ∷ []) (status_of end)
 is_complete Done p = (0, omega arith, refl)
 is_complete Memory p = (1, omega arith, refl)
 is_complete Spent p = (2, omega arith, refl)

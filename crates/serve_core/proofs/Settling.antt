@@ -4,32 +4,32 @@ use Rattle.std.proofs.Math.Seq.{drop-cons}
 use Rattle.std.specs.List.{slice_index_or}
 use Rattle.std.specs.declared.option.Option.{Option}
 use Rattle.atomic_table.specs.Seated.{TableId}
-use Rattle.edge_traits.specs.Link.{Tale}
+use Rattle.edge_traits.specs.Link.{Handed, IsFresh, Tale}
 use Rattle.edge_traits.specs.Door.{DoorTale, Goes, IfTold, IsOut, TakesBack}
 use Rattle.hall_core.specs.Passes.{IsJoined, PassState, divided, new_pass}
 use Rattle.link_core.specs.declared.link_end.LinkEnd.{LinkEnd}
 use Rattle.serve_core.specs.declared.settle.Supply.{Supply}
 use Rattle.serve_core.specs.Working.{Due, IsPaid}
-use Rattle.serve_core.specs.Keeping.{Comes, KeepsLeft, Kept, Stays, supply_after}
+use Rattle.serve_core.specs.Keeping.{Comes, KeepsLeft, SameHall, Underway, supply_after}
 use Rattle.serve_core.proofs.Keeping.{given_here, given_not_first, given_out, kept_came, kept_paid}
-use Rattle.serve_core.proofs.Telling.{goes_then}
+use Rattle.serve_core.proofs.Telling.{left_back, left_stays}
 
 -- the list around one that is taken out
 pub around : {T : Type 0} (items : List T) (i : ℕ) (d : T) → i < length items → d ≡ slice_index_or items i d → items ≡ take i items ++ d ∷ drop (suc i) items
 around items i d low is =
     sym (take-append-drop i items) ∙ ap (λ xs. take i items ++ xs) (drop-cons items i d low) ∙ ap (λ x. take i items ++ x ∷ drop (suc i) items) (sym is)
 
-pub stays_then : (start pass given new : PassState) → Stays start pass → IsJoined pass given new → Stays start new
+pub stays_then : (start pass given new : PassState) → SameHall start pass → IsJoined pass given new → SameHall start new
 stays_then start pass given new s j = (ap (λ (p : PassState). p.splits) j.same ∙ s.0, ap (λ (p : PassState). p.opening) j.same ∙ s.1)
 
-pub left_then : (start door door' : Option DoorTale) (number : ℕ) (link : Option Tale) → Goes start door KeepsLeft → Goes door door' (TakesBack number link) → Goes start door' KeepsLeft
-left_then start door door' number link p q = goes_then start door door' KeepsLeft (TakesBack number link) KeepsLeft (λ a b c e f. ap (λ (t : DoorTale). t.left) f ∙ e) p q
+pub left_then : (start door door' : Option DoorTale) (number : ℕ) (link : Handed) → Goes start door KeepsLeft → Goes door door' (TakesBack number link) → Goes start door' KeepsLeft
+left_then start door door' number link p q = left_stays start door door' p (left_back number link door door' q)
 
 module _ {C : Type 0} (shows : C → ℕ → Bool) (hall : TableId) (clock : C) where
-  module _ (supply : Supply) (end : LinkEnd) (door : Option DoorTale) (pass given : PassState) (items one two : List (Due C)) (d : Due C) (link : Option Tale)
-      (k : Kept shows hall clock supply door pass items) (is : items ≡ one ++ d ∷ two) (paid : IsPaid shows d end given link) where
-    kept_around : Kept shows hall clock supply door pass (one ++ d ∷ two)
-    kept_around = subst (λ (xs : List (Due C)). Kept shows hall clock supply door pass xs) is k
+  module _ (supply : Supply) (end : LinkEnd) (door : Option DoorTale) (pass given : PassState) (items one two : List (Due C)) (d : Due C) (link : Handed)
+      (k : Underway shows hall clock supply door pass items) (is : items ≡ one ++ d ∷ two) (paid : IsPaid shows d end given link) where
+    kept_around : Underway shows hall clock supply door pass (one ++ d ∷ two)
+    kept_around = subst (λ (xs : List (Due C)). Underway shows hall clock supply door pass xs) is k
 
     pub pays_here : given.home ≡ hall
     pays_here = given_here shows hall clock supply end door door pass pass given one two d link kept_around paid
@@ -40,20 +40,20 @@ module _ {C : Type 0} (shows : C → ℕ → Bool) (hall : TableId) (clock : C) 
     pub pays_out : IfTold door (IsOut given.number)
     pays_out = given_out shows hall clock supply end door door pass pass given one two d link kept_around paid
 
-    pub pays : (supply' : Supply) (door' : Option DoorTale) (new : PassState) (rest : List (Due C)) → IsJoined pass given new → Goes door door' (TakesBack given.number link) → rest ≡ one ++ two → supply' ≡ supply_after end supply → Kept shows hall clock supply' door' new rest
+    pub pays : (supply' : Supply) (door' : Option DoorTale) (new : PassState) (rest : List (Due C)) → IsJoined pass given new → Goes door door' (TakesBack given.number link) → rest ≡ one ++ two → supply' ≡ supply_after end supply → Underway shows hall clock supply' door' new rest
     pays supply' door' new rest joins goes r s =
-        subst (λ (x : Supply). Kept shows hall clock x door' new rest) (sym s)
-        (subst (λ (xs : List (Due C)). Kept shows hall clock (supply_after end supply) door' new xs) (sym r)
+        subst (λ (x : Supply). Underway shows hall clock x door' new rest) (sym s)
+        (subst (λ (xs : List (Due C)). Underway shows hall clock (supply_after end supply) door' new xs) (sym r)
         (kept_paid shows hall clock supply end door door' pass new given one two d link kept_around paid joins goes))
 
   -- a link that came, and its pass
-  module _ (supply : Supply) (before door : Option DoorTale) (pass mid given : PassState) (waiting : List (Due C)) (link : Option Tale) (k : Kept shows hall clock supply before pass waiting)
-      (goes : Goes before door (Comes link)) (counted : mid ≡ divided pass) (new : given ≡ new_pass pass) where
+  module _ (supply : Supply) (before door : Option DoorTale) (pass mid given : PassState) (waiting : List (Due C)) (link : Option Tale) (k : Underway shows hall clock supply before pass waiting)
+      (goes : Goes before door (Comes link)) (counted : mid ≡ divided pass) (new : given ≡ new_pass pass) (fresh : IfTold link IsFresh) where
     pub due_now : Due C
     due_now = record { pass = given; link = link; clock = clock }
 
-    pub attends : (items : List (Due C)) → items ≡ waiting ++ record { pass = given; link = link; clock = clock } ∷ [] → Kept shows hall clock supply door mid items
+    pub attends : (items : List (Due C)) → items ≡ waiting ++ record { pass = given; link = link; clock = clock } ∷ [] → Underway shows hall clock supply door mid items
     attends items is =
-        subst (λ (xs : List (Due C)). Kept shows hall clock supply door mid xs) (sym is)
-        (subst (λ (p : PassState). Kept shows hall clock supply door p (waiting ++ record { pass = given; link = link; clock = clock } ∷ [])) (sym counted)
-        (kept_came shows hall clock supply before door pass waiting (record { pass = given; link = link; clock = clock }) k goes (ap (λ (p : PassState). p.home) new ∙ k.here) (ap (λ (p : PassState). p.number) new) refl))
+        subst (λ (xs : List (Due C)). Underway shows hall clock supply door mid xs) (sym is)
+        (subst (λ (p : PassState). Underway shows hall clock supply door p (waiting ++ record { pass = given; link = link; clock = clock } ∷ [])) (sym counted)
+        (kept_came shows hall clock supply before door pass waiting (record { pass = given; link = link; clock = clock }) k goes (ap (λ (p : PassState). p.home) new ∙ k.here) (ap (λ (p : PassState). p.number) new) refl fresh))

@@ -9,7 +9,8 @@ use Rattle.steward_core.specs.declared.turn.StewardEnd.TheVariants.{Done, Memory
 use Rattle.steward_core.specs.Turn.{AreClears, AsksAndClears, IsPartOf, IsTurn, acts_of, clears, rows_told}
 use Rattle.std.specs.declared.option.Option.{Option}
 use Rattle.edge_traits.specs.Door.{DoorTale, Goes}
-use Rattle.serve_core.specs.Stewarding.{AreStewards, HasTurns, IsStewards, MadeTurn, asked, asks_once}
+use Rattle.serve_core.specs.Stewarding.{AreStewards, HasTurns, IsStewards, asked, asks_once}
+use Rattle.serve_core.specs.Turns.{MadeTurn}
 use Rattle.serve_core.proofs.Telling.{told_as, told_then}
 
 pub stewards_append : (one two : Log) → AreStewards one → AreStewards two → AreStewards (one ++ two)

@@ -1,5 +1,9 @@
-pub mod Working
-pub mod Stewarding
 pub mod Keeping
-pub mod Serving
+pub mod Laws
 pub mod ServeEnds
+pub mod Serving
+pub mod Sessions
+pub mod Stewarding
+pub mod Stopping
+pub mod Turns
+pub mod Working

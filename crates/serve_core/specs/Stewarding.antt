@@ -7,12 +7,9 @@ use Rattle.lobby_state.specs.declared.acts.PairAct.TheVariants.{Clear}
 use Rattle.one_server.specs.declared.act.Act.{Act}
 use Rattle.one_server.specs.declared.act.Act.TheVariants.{Lobby, Pair}
 use Rattle.one_server.specs.Running.{Log}
-use Rattle.hall_core.specs.Passes.{HasLooked, PassState, place_of, runs_of}
 use Rattle.steward_core.specs.declared.turn.StewardEnd.{StewardEnd}
 use Rattle.steward_core.specs.declared.turn.StewardEnd.TheVariants.{Done, Memory}
-use Rattle.steward_core.specs.Turn.{IsTurn, TakesTurn}
-use Rattle.serve_core.specs.declared.settle.Supply.{Supply}
-use Rattle.serve_core.specs.declared.settle.Supply.TheVariants.{Short}
+use Rattle.steward_core.specs.Turn.{IsTurn}
 
 -- an act that a steward makes: the question which desks are in use, or a Clear
 abbrev pub IsStewards : Act → Type 0
@@ -35,34 +32,23 @@ abbrev pub asked : Log → ℕ
 asked [] = 0
 asked (e ∷ es) = asks_once e.act.act + asked es
 
--- the first pass made a turn of the steward, at some moment
-pub record MadeTurn (end : StewardEnd) (old new : PassState) : Type 0 where
+-- the last entries are those of one turn, which made all its acts; but for those that ran out of memory, where memory
+-- may have run short
+pub record EndsWithTurn (lack : Type 0) (made : Log) : Type 0 where
+  pub end : StewardEnd
+  pub short : end ≡ Memory → lack
+  pub before : Log
+  pub entries : Log
   pub moment : ℕ
-  pub place : place_of new ≡ place_of old
-  pub turn : TakesTurn moment end (runs_of old) (runs_of new)
-
--- the last entries are those of one turn
-abbrev pub EndsWithTurn : StewardEnd → Log → Type 0
-EndsWithTurn end made = (before : Log) × (entries : Log) × (moment : ℕ) × (made ≡ before ++ entries) × IsTurn end moment entries
+  pub made_is : made ≡ before ++ entries
+  pub turn : IsTurn end moment entries
 
 -- the entries are those of so many turns, one after the other, in each of which every act was made
 abbrev pub AreTurns : ℕ → Log → Type 0
 AreTurns zero made = made ≡ []
-AreTurns (suc n) made = (before : Log) × (entries : Log) × (moment : ℕ) × AreTurns n before × IsTurn Done moment entries × (made ≡ before ++ entries)
+AreTurns (suc n) made = (before : Log) × (entries : Log) × (moment : ℕ) × AreTurns n before
+    × IsTurn Done moment entries × (made ≡ before ++ entries)
 
 -- all entries are those of such turns, of which there are as many as the door gave Quiets, and so many more
 abbrev pub HasTurns : ℕ → Option DoorTale → Log → Type 0
 HasTurns more door made = (n : ℕ) × AreTurns n made × IfTold door (λ tale. n ≡ tale.quiets + more)
-
--- whether memory ran out somewhere, once a turn ended like this
-abbrev pub supply_then : StewardEnd → Supply → Supply
-supply_then Done before = before
-supply_then Memory before = Short
-
--- the last turn was made, and then the pass looked at the history
-pub record TurnsLast (old : PassState) (before : Supply) (new : PassState) (after : Supply) : Type 0 where
-  pub end : StewardEnd
-  pub mid : PassState
-  pub made : MadeTurn end old mid
-  pub looked : HasLooked mid new
-  pub supply : after ≡ supply_then end before

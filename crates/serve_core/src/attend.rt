@@ -2,9 +2,8 @@
 
 ghost use Rattle.std.specs.Prelude.{◌≡◌, ◌<◌, ◌+◌, ◌^◌, OnSome, vec_len, vec_capacity};
 ghost use Rattle.std.specs.declared.option.Option.{Option};
-ghost use Rattle.edge_traits.specs.Door.{DoorTale};
-ghost use Rattle.edge_traits.specs.Door.{Goes};
-ghost use Rattle.serve_core.specs.Keeping.{Comes, Kept};
+ghost use Rattle.edge_traits.specs.Door.{DoorTale, Goes, IsNew};
+ghost use Rattle.serve_core.specs.Keeping.{Comes, KeepsLeft, Underway};
 
 use crate::place::Place;
 use crate::settle::Host;
@@ -31,16 +30,18 @@ where
     G: Gate + Sync,
     D: Doorway,
     D::Link: 's,
+    requires fresh { IsNew (D.Link.faults link) (D.Link.tale link) }
     requires few { host.old.pass.splits < 2 ^ 31 }
     requires kept { (before : Option DoorTale)
-        × Kept C.shows place.now.hall.now place.now.clock.now host.old.supply before host.old.pass
+        × Underway C.shows place.now.hall.now place.now.clock.now host.old.supply before host.old.pass
         host.old.waiting.items
         × Goes before (D.tale door.old) (Comes (D.Link.tale link)) }
     requires room { OnSome ended (vec_len host.old.waiting < vec_capacity host.old.waiting) }
-    ensures kept { Kept C.shows place.now.hall.now place.now.clock.now host.new.supply (D.tale door.new)
+    ensures kept { Underway C.shows place.now.hall.now place.now.clock.now host.new.supply (D.tale door.new)
         host.new.pass host.new.waiting.items }
     ensures counted { host.new.pass.splits ≡ host.old.pass.splits + 1 }
     ensures opening { host.new.pass.opening ≡ host.old.pass.opening }
+    ensures left { Goes (D.tale door.old) (D.tale door.new) KeepsLeft }
     ensures faults { D.faults door.new ≡ D.faults door.old }
 {
     let pass = place.hall.split(&mut host.pass);

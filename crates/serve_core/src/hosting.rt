@@ -1,9 +1,9 @@
 //! The door's thread: it takes links until no more come, and waits for the workers.
 
 ghost use Rattle.std.specs.Prelude.{◌≡◌, ◌≤◌, []};
-ghost use Rattle.edge_traits.specs.Door.{Goes};
-ghost use Rattle.serve_core.specs.Keeping.{KeepsLeft, Kept, Stays};
-ghost use Rattle.serve_core.specs.Serving.{Stopped};
+ghost use Rattle.edge_traits.specs.Door.{Goes, KeepsLinks};
+ghost use Rattle.serve_core.specs.Keeping.{KeepsLeft, SameHall, Underway};
+ghost use Rattle.serve_core.specs.Stopping.{Stopped};
 ghost use Rattle.serve_core.specs.declared.settle.Supply.TheVariants.{Enough};
 
 use crate::end::DoorEnd;
@@ -32,11 +32,12 @@ where
     C: Clock + Sync,
     G: Gate + Sync,
     D: Doorway,
-    requires kept { Kept C.shows place.now.hall.now place.now.clock.now Enough (D.tale door.old) pass [] }
+    requires kept { Underway C.shows place.now.hall.now place.now.clock.now Enough (D.tale door.old) pass [] }
     requires none { pass.splits ≡ 0 }
-    ensures kept { Kept C.shows place.now.hall.now place.now.clock.now result.supply (D.tale door.new)
+    ensures kept { Underway C.shows place.now.hall.now place.now.clock.now result.supply (D.tale door.new)
         result.pass [] }
     ensures opening { result.pass.opening ≡ pass.opening }
+    ensures links { Goes (D.tale door.old) (D.tale door.new) KeepsLinks }
     ensures stopped { Stopped result.end result.pass.splits (D.tale door.new) (D.faults door.old) (D.faults door.new) }
     ensures counted { D.faults door.old ≤ D.faults door.new }
 {
@@ -44,12 +45,13 @@ where
         thread::scope_env(),
         place.rt,
         |scope| -> (Hosted, &mut D)
-            requires kept { Kept C.shows place.now.hall.now place.now.clock.now Enough (D.tale door.now) pass [] }
+            requires kept { Underway C.shows place.now.hall.now place.now.clock.now Enough (D.tale door.now) pass [] }
             requires none { pass.splits ≡ 0 }
             ensures lent { result.1.ghost_name ≡ door.entry.ghost_name }
-            ensures kept { Kept C.shows place.entry.now.hall.now place.entry.now.clock.now result.0.supply
+            ensures kept { Underway C.shows place.entry.now.hall.now place.entry.now.clock.now result.0.supply
                 (D.tale result.1.now) result.0.pass [] }
             ensures opening { result.0.pass.opening ≡ pass.opening }
+            ensures links { Goes (D.tale door.entry.now) (D.tale result.1.now) KeepsLinks }
             ensures stopped { Stopped result.0.end result.0.pass.splits (D.tale result.1.now)
                 (D.faults door.entry.now) (D.faults result.1.now) }
             ensures counted { D.faults door.entry.now ≤ D.faults result.1.now }
@@ -75,11 +77,12 @@ where
     G: Gate + Sync,
     D: Doorway,
     D::Link: 's,
-    requires kept { Kept C.shows place.now.hall.now place.now.clock.now Enough (D.tale door.old) pass [] }
+    requires kept { Underway C.shows place.now.hall.now place.now.clock.now Enough (D.tale door.old) pass [] }
     requires none { pass.splits ≡ 0 }
-    ensures kept { Kept C.shows place.now.hall.now place.now.clock.now result.supply (D.tale door.new)
+    ensures kept { Underway C.shows place.now.hall.now place.now.clock.now result.supply (D.tale door.new)
         result.pass [] }
     ensures opening { result.pass.opening ≡ pass.opening }
+    ensures links { Goes (D.tale door.old) (D.tale door.new) KeepsLinks }
     ensures stopped { Stopped result.end result.pass.splits (D.tale door.new) (D.faults door.old) (D.faults door.new) }
     ensures counted { D.faults door.old ≤ D.faults door.new }
 {
@@ -112,11 +115,11 @@ where
     C: Clock,
     G: Gate,
     D: Doorway,
-    requires kept { Kept C.shows place.now.hall.now place.now.clock.now host.supply (D.tale door.old)
+    requires kept { Underway C.shows place.now.hall.now place.now.clock.now host.supply (D.tale door.old)
         host.pass host.waiting.items }
-    ensures kept { Kept C.shows place.now.hall.now place.now.clock.now result.supply (D.tale door.new)
+    ensures kept { Underway C.shows place.now.hall.now place.now.clock.now result.supply (D.tale door.new)
         result.pass [] }
-    ensures same { Stays host.pass result.pass }
+    ensures same { SameHall host.pass result.pass }
     ensures left { Goes (D.tale door.old) (D.tale door.new) KeepsLeft }
     ensures end { result.end ≡ end }
     ensures faults { D.faults door.new ≡ D.faults door.old }

@@ -10,6 +10,7 @@
 mod attend;
 mod end;
 mod hosting;
+mod laws;
 mod place;
 mod round;
 mod serve_call;
@@ -19,5 +20,6 @@ mod turn;
 mod worker;
 
 pub use end::ServeEnd;
+pub use laws::each_link_comes_back_as_its_own;
 pub use serve_call::serve;
 pub use serving::serve_lobby;

@@ -1,9 +1,10 @@
 //! One answer of the door, and what is done by it.
 
 ghost use Rattle.std.specs.Prelude.{◌≡◌, ◌≤◌, ◌<◌, ◌^◌, MatchOption};
-ghost use Rattle.serve_core.specs.Keeping.{Kept};
-ghost use Rattle.serve_core.specs.Stewarding.{MadeTurn, supply_then};
-ghost use Rattle.serve_core.specs.Serving.{Stopped};
+ghost use Rattle.edge_traits.specs.Door.{Goes, KeepsLinks};
+ghost use Rattle.serve_core.specs.Keeping.{Underway};
+ghost use Rattle.serve_core.specs.Stopping.{Stopped};
+ghost use Rattle.serve_core.specs.Turns.{MadeTurn, supply_then};
 ghost use Rattle.serve_core.specs.declared.end.DoorEnd.{DoorEnd};
 ghost use Rattle.serve_core.specs.declared.end.DoorEnd.TheVariants.{Spent};
 ghost use Rattle.steward_core.specs.declared.turn.StewardEnd.{StewardEnd};
@@ -39,12 +40,13 @@ where
     D::Link: 's,
     requires few { count < 2 ^ 31 }
     requires count { host.pass.splits ≡ count }
-    requires kept { Kept C.shows place.now.hall.now place.now.clock.now host.supply (D.tale door.old)
+    requires kept { Underway C.shows place.now.hall.now place.now.clock.now host.supply (D.tale door.old)
         host.pass host.waiting.items }
     ensures count { result.0.pass.splits ≡ result.1 }
-    ensures kept { Kept C.shows place.now.hall.now place.now.clock.now result.0.supply (D.tale door.new)
+    ensures kept { Underway C.shows place.now.hall.now place.now.clock.now result.0.supply (D.tale door.new)
         result.0.pass result.0.waiting.items }
     ensures opening { result.0.pass.opening ≡ host.pass.opening }
+    ensures links { Goes (D.tale door.old) (D.tale door.new) KeepsLinks }
     ensures counted { D.faults door.old ≤ D.faults door.new }
     ensures ends { MatchOption result.2 (result.1 < 2 ^ 31) (λ end. Stopped end result.1 (D.tale door.new)
         (D.faults door.old) (D.faults door.new)) }

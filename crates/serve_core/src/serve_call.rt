@@ -2,14 +2,13 @@
 
 ghost use Rattle.std.specs.Prelude.{◌≡◌, ◌⊎◌, ◌∷◌, [], IfSome, IfNone, IfErr, OnOk, Contains};
 ghost use Rattle.std.specs.Io.KnownBytes.{Appends, Keeps};
-ghost use Rattle.edge_traits.specs.Door.{IfTold};
+ghost use Rattle.edge_traits.specs.Door.{Goes, IfTold, KeepsLinks};
 ghost use Rattle.edge_traits.specs.Faults.{Rose};
 ghost use Rattle.edge_traits.specs.Sink.{AppendsFront};
 ghost use Rattle.job_words.specs.Jobs.{AsksToServe, OnUsage};
 ghost use Rattle.job_words.specs.Usage.{usage_line};
 ghost use Rattle.lobby_state.specs.Lobby.{opening};
-ghost use Rattle.serve_core.specs.Keeping.{IsUnused};
-ghost use Rattle.serve_core.specs.Serving.{HasServedAll, status_of, whole_text};
+ghost use Rattle.serve_core.specs.Serving.{HasServedAll, IsUnused, status_of, whole_text};
 ghost use Rattle.serve_core.specs.declared.end.ServeEnd.{ServeEnd};
 ghost use Rattle.one_server.specs.Whole.{opened};
 ghost use Rattle.serve_core.specs.ServeEnds.{EndsServing};
@@ -49,7 +48,11 @@ where
     requires door { IfTold (D.tale door.old) IsUnused }
     ensures hall { IfSome result.1 (λ h. h.1.home ≡ h.0) }
     ensures served { IfSome result.1 (λ h. AsksToServe words.now × (end : ServeEnd) × (result.0 ≡ status_of end)
-        × HasServedAll (C.shows clock.now) (opened opening) end (D.tale door.new) h.1) }
+        × HasServedAll (C.shows clock.now) (opened opening) end (D.tale door.new)
+        (record { written = K.written sink.old; faults = K.faults sink.old })
+        (record { written = K.written sink.new; faults = K.faults sink.new }) h.1) }
+    ensures links { Goes (D.tale door.old) (D.tale door.new) KeepsLinks }
+    ensures untouched { IfNone result.1 (D.tale door.new ≡ D.tale door.old) }
     ensures no_hall { IfNone result.1 (AsksToServe words.now → (result.0 ≡ 6)
         × Keeps (K.written sink.old) (K.written sink.new)) }
     ensures usage { result.0 ≡ 1 → ¬ (AsksToServe words.now)
@@ -103,7 +106,11 @@ where
     requires door { IfTold (D.tale door.old) IsUnused }
     ensures hall { IfSome result.1 (λ h. h.1.home ≡ h.0) }
     ensures served { IfSome result.1 (λ h. (end : ServeEnd) × (result.0 ≡ status_of end)
-        × HasServedAll (C.shows clock.now) (opened opening) end (D.tale door.new) h.1) }
+        × HasServedAll (C.shows clock.now) (opened opening) end (D.tale door.new)
+        (record { written = K.written sink.old; faults = K.faults sink.old })
+        (record { written = K.written sink.new; faults = K.faults sink.new }) h.1) }
+    ensures links { Goes (D.tale door.old) (D.tale door.new) KeepsLinks }
+    ensures untouched { IfNone result.1 (D.tale door.new ≡ D.tale door.old) }
     ensures no_hall { IfNone result.1 ((result.0 ≡ status_of ServeEnd.Memory)
         × Keeps (K.written sink.old) (K.written sink.new)) }
     ensures ends { (end : ServeEnd) × (result.0 ≡ status_of end) × EndsServing end (D.faults door.old)

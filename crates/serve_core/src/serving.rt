@@ -2,15 +2,15 @@
 
 ghost use Rattle.std.specs.Prelude.{◌≡◌, ◌≤◌, ◌⊎◌, ℕ, IfSome, IfNone, List, take};
 ghost use Rattle.std.specs.Io.KnownBytes.{Appends, Keeps};
-ghost use Rattle.edge_traits.specs.Door.{IfTold};
+ghost use Rattle.edge_traits.specs.Door.{Goes, IfTold, KeepsLinks};
 ghost use Rattle.edge_traits.specs.Faults.{Rose};
 ghost use Rattle.edge_traits.specs.Sink.{OnWriteFailed, Wrote};
 ghost use Rattle.one_server.specs.declared.part.Part.{Part};
-ghost use Rattle.one_server.specs.Whole.{IsOpening, opened};
+ghost use Rattle.one_server.specs.Whole.{IsOpening, IsWhole, opened};
 ghost use Rattle.hall_core.specs.Passes.{first_pass};
-ghost use Rattle.serve_core.specs.Keeping.{IsUnused};
-ghost use Rattle.serve_core.specs.Serving.{HasServedAll, IsWhole, closed_text, end_of, ready_text, whole_text};
-ghost use Rattle.serve_core.specs.Stewarding.{TurnsLast};
+ghost use Rattle.serve_core.specs.Serving.{HasServedAll, IsClean, IsUnused, closed_text, ready_text, whole_text};
+ghost use Rattle.serve_core.specs.Stopping.{end_of};
+ghost use Rattle.serve_core.specs.Turns.{TurnsLast};
 ghost use Rattle.serve_core.specs.declared.end.ServeEnd.{ServeEnd};
 
 use crate::end::{DoorEnd, ServeEnd};
@@ -21,7 +21,8 @@ use crate::settle::Supply;
 use crate::turn::turn;
 use edge_traits::{Clock, Doorway, Gate, Sent, Sink};
 use hall_core::{Hall, HallPass};
-use lobby_state::Lobby;
+use lobby_state::{Lobby, lobbies_are_well_formed};
+use one_server::every_state_agrees;
 use std::alloc::Global;
 use std::sync::Wait;
 use std::thread::Threads;
@@ -54,16 +55,21 @@ where
     requires opening { IsOpening lobby }
     requires door { IfTold (D.tale door.old) IsUnused }
     ensures hall { IfSome result.1 (λ h. h.1.home ≡ h.0) }
-    ensures served { IfSome result.1 (λ h. HasServedAll (C.shows clock.now) (opened lobby) result.0
-        (D.tale door.new) h.1) }
+    ensures served { IfSome result.1 (λ h. HasServedAll (C.shows clock.now) (opened lobby) result.0 (D.tale door.new)
+        (record { written = K.written sink.old; faults = K.faults sink.old })
+        (record { written = K.written sink.new; faults = K.faults sink.new }) h.1) }
+    ensures links { Goes (D.tale door.old) (D.tale door.new) KeepsLinks }
     ensures no_hall { IfNone result.1 ((result.0 ≡ ServeEnd.Memory) × Keeps (K.written sink.old) (K.written sink.new)) }
+    ensures untouched { IfNone result.1 (D.tale door.new ≡ D.tale door.old) }
     ensures door_fault { result.0 ≡ ServeEnd.DoorFault → Rose (D.faults door.old) (D.faults door.new) }
     ensures write_fault { result.0 ≡ ServeEnd.WriteFault → Rose (K.faults sink.old) (K.faults sink.new) }
-    ensures text { IsWhole result.0 → Appends (K.written sink.old) (K.written sink.new) whole_text }
+    ensures text { IsClean result.0 → Appends (K.written sink.old) (K.written sink.new) whole_text }
     ensures text_part { (n : ℕ) × Appends (K.written sink.old) (K.written sink.new) (take n whole_text) }
     ensures complete { ¬ (Rose (D.faults door.old) (D.faults door.new)) → ¬ (Rose (K.faults sink.old) (K.faults sink.new))
-        → IsWhole result.0 ⊎ (result.0 ≡ ServeEnd.Memory) }
+        → IsClean result.0 ⊎ (result.0 ≡ ServeEnd.Memory) }
 {
+    lobbies_are_well_formed(&lobby);
+    every_state_agrees();
     let Ok((hall, pass)) = Hall::open(alloc, lobby) else {
         return (ServeEnd::Memory, None);
     };
@@ -92,12 +98,16 @@ where
     K: Sink,
     G: Gate + Sync,
     requires first { (opening : List Part) × (pass ≡ first_pass place.now.hall.now opening) }
+    requires whole { IsWhole pass.opening }
     requires door { IfTold (D.tale door.old) IsUnused }
     ensures hall { result.0.home ≡ place.now.hall.now }
-    ensures served { HasServedAll (C.shows place.now.clock.now) pass.opening result.1 (D.tale door.new) result.0 }
+    ensures served { HasServedAll (C.shows place.now.clock.now) pass.opening result.1 (D.tale door.new)
+        (record { written = K.written sink.old; faults = K.faults sink.old })
+        (record { written = K.written sink.new; faults = K.faults sink.new }) result.0 }
+    ensures links { Goes (D.tale door.old) (D.tale door.new) KeepsLinks }
     ensures door_fault { result.1 ≡ ServeEnd.DoorFault → Rose (D.faults door.old) (D.faults door.new) }
     ensures write_fault { result.1 ≡ ServeEnd.WriteFault → Rose (K.faults sink.old) (K.faults sink.new) }
-    ensures text { IsWhole result.1 → Appends (K.written sink.old) (K.written sink.new) whole_text }
+    ensures text { IsClean result.1 → Appends (K.written sink.old) (K.written sink.new) whole_text }
     ensures text_part { (n : ℕ) × Appends (K.written sink.old) (K.written sink.new) (take n whole_text) }
 {
     match say_ready(sink) {

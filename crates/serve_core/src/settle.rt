@@ -4,7 +4,7 @@ ghost use Rattle.std.specs.Prelude.{◌≡◌, ◌≢◌, [], OnSome, vec_len, v
 ghost use Rattle.edge_traits.specs.Door.{Goes};
 ghost use Rattle.edge_traits.specs.Door.{IfTold, IsOut, TakesBack};
 ghost use Rattle.hall_core.specs.Passes.{IsJoined};
-ghost use Rattle.serve_core.specs.Keeping.{KeepsLeft, Kept, Stays, supply_after};
+ghost use Rattle.serve_core.specs.Keeping.{KeepsLeft, SameHall, Underway, supply_after};
 
 use crate::place::Place;
 use crate::worker::{Returned, Worker};
@@ -52,7 +52,10 @@ impl<L: Link + Drop, C: Clock> Host<L, C> {
         requires other_not_first { returned.pass.number ≢ 0 }
         requires out { IfTold (D.tale door.old) (IsOut returned.pass.number) }
         ensures joined { IsJoined self.old.pass returned.pass self.new.pass }
-        ensures back { Goes (D.tale door.old) (D.tale door.new) (TakesBack returned.pass.number (L.tale returned.link)) }
+        ensures back { Goes (D.tale door.old) (D.tale door.new) (TakesBack returned.pass.number (record {
+          tale = L.tale returned.link;
+          faults = L.faults returned.link;
+        })) }
         ensures waiting { self.new.waiting ≡ self.old.waiting }
         ensures supply { self.new.supply ≡ supply_after returned.end self.old.supply }
         ensures faults { D.faults door.new ≡ D.faults door.old }
@@ -70,11 +73,12 @@ impl<L: Link + Drop, C: Clock> Host<L, C> {
         T: Threads + Wait,
         G: Gate,
         D: Doorway<Link = L>,
-        requires { Kept C.shows place.now.hall.now place.now.clock.now self.old.supply (D.tale door.old) self.old.pass
-            self.old.waiting.items }
-        ensures kept { Kept C.shows place.now.hall.now place.now.clock.now self.new.supply (D.tale door.new)
+        requires { Underway C.shows place.now.hall.now place.now.clock.now self.old.supply (D.tale door.old)
+            self.old.pass self.old.waiting.items }
+        ensures kept { Underway C.shows place.now.hall.now place.now.clock.now self.new.supply (D.tale door.new)
             self.new.pass self.new.waiting.items }
-        ensures same { Stays self.old.pass self.new.pass }
+        ensures same { SameHall self.old.pass self.new.pass }
+        ensures left { Goes (D.tale door.old) (D.tale door.new) KeepsLeft }
         ensures faults { D.faults door.new ≡ D.faults door.old }
     {
         let mut next = 0;
@@ -95,11 +99,11 @@ impl<L: Link + Drop, C: Clock> Host<L, C> {
         T: Threads + Wait,
         G: Gate,
         D: Doorway<Link = L>,
-        requires { Kept C.shows place.now.hall.now place.now.clock.now self.old.supply (D.tale door.old) self.old.pass
-            self.old.waiting.items }
-        ensures kept { Kept C.shows place.now.hall.now place.now.clock.now self.new.supply (D.tale door.new)
+        requires { Underway C.shows place.now.hall.now place.now.clock.now self.old.supply (D.tale door.old)
+            self.old.pass self.old.waiting.items }
+        ensures kept { Underway C.shows place.now.hall.now place.now.clock.now self.new.supply (D.tale door.new)
             self.new.pass [] }
-        ensures same { Stays self.old.pass self.new.pass }
+        ensures same { SameHall self.old.pass self.new.pass }
         ensures left { Goes (D.tale door.old) (D.tale door.new) KeepsLeft }
         ensures faults { D.faults door.new ≡ D.faults door.old }
     {

@@ -1,7 +1,7 @@
 //! A turn of the steward, with the hall's first pass.
 
 ghost use Rattle.std.specs.Prelude.{◌≡◌, ◌≤◌, ◌^◌};
-ghost use Rattle.serve_core.specs.Stewarding.{MadeTurn};
+ghost use Rattle.serve_core.specs.Turns.{MadeTurn};
 
 use crate::place::Place;
 use edge_traits::{Clock, Gate};

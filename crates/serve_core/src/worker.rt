@@ -37,7 +37,7 @@ pub struct Worked<L: Drop, C> {
 impl<L: Link + Drop, C: Clock> Promise<Returned<L>> for Worked<L, C> {
     ghost kept_by = { λ p r. IsPaid C.shows
         (record { pass = p.pass.value; link = L.tale p.link.value; clock = p.clock.value })
-        r.end r.pass (L.tale r.link) };
+        r.end r.pass (record { tale = L.tale r.link; faults = L.faults r.link }) };
 }
 
 /// A worker that was started. Contracts see what it owes.
@@ -67,7 +67,10 @@ impl<L: Link + Drop, C: Clock> Worker<L, C> {
 
     /// Waits for the worker, and gives what it gives up.
     pub fn join<T: Threads>(self, rt: &T) -> Returned<L>
-        ensures { IsPaid C.shows self result.end result.pass (L.tale result.link) }
+        ensures { IsPaid C.shows self result.end result.pass (record {
+          tale = L.tale result.link;
+          faults = L.faults result.link;
+        }) }
     {
         let Worker { handle, ended } = self;
         drop(ended);
@@ -75,7 +78,7 @@ impl<L: Link + Drop, C: Clock> Worker<L, C> {
     }
 }
 
-/// Serves a link with a pass, to its end.
+/// Serves a link, which has counted no fault, with a pass, to its end.
 pub fn work<T: Threads + Wait, C: Clock, G: Gate, L: Link + Drop>(
     place: &Place<'_, T, C, G>,
     pass: HallPass,
@@ -83,8 +86,9 @@ pub fn work<T: Threads + Wait, C: Clock, G: Gate, L: Link + Drop>(
 ) -> Returned<L>
     requires here { pass.home ≡ place.now.hall.now }
     requires new { (pass.made ≡ []) × (pass.joined ≡ []) }
+    requires faults { L.faults link ≡ 0 }
     ensures { IsPaid C.shows (record { pass = pass; link = L.tale link; clock = place.now.clock.now })
-        result.end result.pass (L.tale result.link) }
+        result.end result.pass (record { tale = L.tale result.link; faults = L.faults result.link }) }
 {
     let mut seat = place.hall.seat(pass, place.gate, place.rt);
     let mut link = link;
@@ -96,8 +100,8 @@ pub fn work<T: Threads + Wait, C: Clock, G: Gate, L: Link + Drop>(
     }
 }
 
-/// Starts a worker for a link. Where no thread can be had, the link is served here, and what the worker would have
-/// given up is the answer.
+/// Starts a worker for a link, which has counted no fault. Where no thread can be had, the link is served here, and what
+/// the worker would have given up is the answer.
 pub fn start<'s, 'a: 's, E, T, C, G, L>(
     scope: &Scope<'s, E>,
     place: &'s Place<'a, T, C, G>,
@@ -112,13 +116,15 @@ where
     L: Link + Send + Drop + 's,
     requires here { pass.home ≡ place.now.hall.now }
     requires new { (pass.made ≡ []) × (pass.joined ≡ []) }
+    requires faults { L.faults link ≡ 0 }
     ensures started { IfOk result (λ w. w ≡ record {
       pass = pass;
       link = L.tale link;
       clock = place.now.clock.now;
     }) }
     ensures served { IfErr result (λ r. IsPaid C.shows
-        (record { pass = pass; link = L.tale link; clock = place.now.clock.now }) r.end r.pass (L.tale r.link)) }
+        (record { pass = pass; link = L.tale link; clock = place.now.clock.now }) r.end r.pass
+        (record { tale = L.tale r.link; faults = L.faults r.link })) }
 {
     let promise = Worked {
         pass: Snapshot::of(&pass),
@@ -131,8 +137,9 @@ where
     let job = move || -> Returned<L>
         requires here { pass.home ≡ place.now.hall.now }
         requires new { (pass.made ≡ []) × (pass.joined ≡ []) }
+        requires faults { L.faults link ≡ 0 }
         ensures { IsPaid C.shows (record { pass = pass; link = L.tale link; clock = place.entry.now.clock.now })
-            result.end result.pass (L.tale result.link) }
+            result.end result.pass (record { tale = L.tale result.link; faults = L.faults result.link }) }
     {
         let returned = work(place, pass, link);
         flag.store(true, Ordering::SeqCst);

@@ -10,6 +10,9 @@ const HOME: &str = "127.0.0.1";
 
 const PORT: u16 = 50_732;
 
+/// A port that two doors want.
+const TAKEN: u16 = 50_734;
+
 #[test]
 fn streams_and_a_clock(rt: HostRuntime) -> Result<(), Fail> {
     let mut source = StdSource::new(b"abc".as_slice());
@@ -29,8 +32,7 @@ fn streams_and_a_clock(rt: HostRuntime) -> Result<(), Fail> {
 
 #[test]
 fn a_door_on_a_port(rt: HostRuntime) -> Result<(), Fail> {
-    let mut door = TcpDoor::new(&rt, String::from_str(rt.alloc(), HOME)?, PORT, Some(1));
-    assert!(rt; matches!(door.next(), Came::Quiet));
+    let mut door = TcpDoor::new(&rt, HOME, PORT, Some(1));
     let mut client = TcpStream::connect(&rt, (HOME, PORT))?;
     let mut came = door.next();
     if matches!(came, Came::Quiet) {
@@ -52,5 +54,14 @@ fn a_door_on_a_port(rt: HostRuntime) -> Result<(), Fail> {
     assert!(rt; peer.read(&mut buf) == Heard::End);
     door.back(1, peer);
     assert!(rt; matches!(door.next(), Came::Closed));
+    Ok(())
+}
+
+#[test]
+fn a_port_that_is_taken(rt: HostRuntime) -> Result<(), Fail> {
+    let mut first = TcpDoor::new(&rt, HOME, TAKEN, None);
+    let mut second = TcpDoor::new(&rt, HOME, TAKEN, None);
+    assert!(rt; matches!(second.next(), Came::Failed));
+    assert!(rt; matches!(first.next(), Came::Quiet));
     Ok(())
 }

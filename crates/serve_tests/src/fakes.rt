@@ -3,7 +3,7 @@
 ghost use Rattle.std.specs.Prelude.{Some, IfOk};
 ghost use Rattle.edge_traits.specs.Door.{IsNew};
 ghost use Rattle.memory_edges.specs.MemDoor.{AreNew};
-ghost use Rattle.serve_core.specs.Keeping.{IsUnused};
+ghost use Rattle.serve_core.specs.Serving.{IsUnused};
 
 use edge_traits::{OpenGate, StillClock};
 use lobby_state::Lobby;

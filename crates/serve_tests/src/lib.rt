@@ -1,6 +1,6 @@
 //! Tests of the server and of its adapters: connections in memory and over TCP, each served to its end, faults of the
-//! door, the sink and a link, a door that waits for a greeting, and a worker that is held with a desk in its hands. What
-//! the clients are sent is written out by hand.
+//! door, the sink and a link, a door that waits for a greeting, a client that connects on `ready`, and a worker that is
+//! held with a desk in its hands. What the clients are sent is written out by hand.
 #![tactic(auto)]
 
 #[cfg(test)]
@@ -13,5 +13,7 @@ mod fakes;
 mod held_stage;
 #[cfg(test)]
 mod held_worker;
+#[cfg(test)]
+mod ready;
 #[cfg(test)]
 mod tcp;

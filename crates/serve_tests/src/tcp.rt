@@ -1,6 +1,6 @@
 //! Two guests over TCP, each in a thread of its own.
 
-use edge_traits::OpenGate;
+use edge_traits::{OpenGate, Sink};
 use lobby_state::Lobby;
 use memory_edges::MemSink;
 use real_edges::{TcpDoor, WallClock};
@@ -13,7 +13,7 @@ use std::test::Fail;
 use std::thread::{self, Threads};
 use std::time::{Clock, Duration};
 
-const HOME: &str = "127.0.0.1";
+pub const HOME: &str = "127.0.0.1";
 
 const PORT: u16 = 50_731;
 
@@ -22,17 +22,17 @@ const MOST_TRIES: u32 = 200;
 
 const REST_MILLIS: u64 = 50;
 
-/// Serves two connections.
-fn serve<T>(rt: &T, alloc: Global) -> Option<ServeEnd>
+/// Serves so many connections at this port.
+pub fn serve<T, K>(rt: &T, alloc: Global, port: u16, count: u64, sink: &mut K) -> Option<ServeEnd>
 where
     T: Net<Listener = TcpListener, Stream = TcpStream> + Clock + Threads + Wait + Sync,
+    K: Sink,
 {
-    let mut door = TcpDoor::new(rt, String::from_str(alloc, HOME).ok()?, PORT, Some(2));
+    let mut door = TcpDoor::new(rt, HOME, port, Some(count));
     let clock = WallClock::new(rt);
-    let mut sink = MemSink::new(alloc, Vec::new(alloc));
     let gate = OpenGate::new();
     let lobby = Lobby::new(alloc).ok()?;
-    let (end, _hall) = serve_lobby(rt, alloc, lobby, &mut door, &clock, &mut sink, &gate);
+    let (end, _hall) = serve_lobby(rt, alloc, lobby, &mut door, &clock, sink, &gate);
     Some(end)
 }
 
@@ -66,16 +66,17 @@ where
 }
 
 /// Whether the server took its leave.
-fn took_leave(heard: &[u8]) -> bool {
+pub fn took_leave(heard: &[u8]) -> bool {
     heard.ends_with(b"Goodbye.\n\r")
 }
 
 #[test]
 fn guests_over_tcp(rt: HostRuntime) -> Result<(), Fail> {
     let alloc = rt.alloc();
+    let mut sink = MemSink::new(alloc, Vec::new(alloc));
     let (end, (one, two)) = thread::join(
         &rt,
-        || serve(&rt, alloc),
+        || serve(&rt, alloc, PORT, 2, &mut sink),
         || thread::join(&rt, || guest(&rt, alloc), || guest(&rt, alloc)),
     );
     assert!(rt; end == Some(ServeEnd::Done));

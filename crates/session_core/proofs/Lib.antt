@@ -5,4 +5,7 @@ pub mod Passing
 pub mod MatchTerms
 pub mod Beginning
 pub mod OwnAnswers
+pub mod Rounds
+pub mod Endings
+pub mod Turning
 pub mod Quitting

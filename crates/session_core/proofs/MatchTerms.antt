@@ -27,6 +27,7 @@ use Rattle.command_words.specs.InChannel.{in_channel_from}
 use Rattle.command_words.specs.Commands.{arguments_of, asked, command_after, command_in, command_made, command_of, move_in, move_or}
 use Rattle.command_words.specs.NameList.{censor_from, noplay_from}
 use Rattle.command_words.specs.Match.{challenge, challenge_of, two_twelve}
+use Rattle.chess_model.specs.VariantWord.{IsNumbered}
 use Rattle.command_words.specs.Observe.{observe_from, observe_player, unobserve_from}
 use Rattle.command_words.specs.Partner.{partner_from, partner_of}
 use Rattle.command_words.specs.Play.{play_from}
@@ -46,11 +47,12 @@ use Rattle.command_words.proofs.TermParts.{are_read_as_spelled}
 use Rattle.session_core.specs.Stages.{FitsCommand}
 
 -- a time that was spelled is within its bounds, where the usual one is
-spelled_fits : (usual : UsualTime) (words : Words) (terms : Terms) → usual.minutes ≤ 600 → usual.increment ≤ 600 → SpellsTime usual words (time_of terms) → AreTerms terms
-spelled_fits usual words terms few short (inl s) = record { minutes = s.0; increment = s.1 }
-spelled_fits usual words terms few short (inr s) = record {
+spelled_fits : (usual : UsualTime) (words : Words) (terms : Terms) → usual.minutes ≤ 600 → usual.increment ≤ 600 → SpellsTime usual words (time_of terms) → IsNumbered terms.variant → AreTerms terms
+spelled_fits usual words terms few short (inl s) numbered = record { minutes = s.0; increment = s.1; numbered = numbered }
+spelled_fits usual words terms few short (inr s) numbered = record {
   minutes = subst (λ (n : ℕ). n ≤ 600) (sym (ap (λ (f : Variant → Option Colour → Terms). (f Chess None).minutes) (ap agreed s.1))) few;
   increment = subst (λ (n : ℕ). n ≤ 600) (sym (ap (λ (f : Variant → Option Colour → Terms). (f Chess None).increment) (ap agreed s.1))) short;
+  numbered = numbered;
 }
 
 -- what the answer of a reader asks for
@@ -61,7 +63,7 @@ FitsAnswer (Err cause) = Unit {0}
 challenge_fits : (name : Option (List ℕ)) (words : Words) (terms : Option Terms) → terms ≡ terms_of two_twelve words → FitsAnswer (challenge name terms)
 challenge_fits (Some name) words (Some terms) is =
     let s : Spells two_twelve words terms = (are_read_as_spelled two_twelve words terms).0 (sym is) in
-    spelled_fits two_twelve s.time terms (search rules) (search rules) s.spells_time
+    spelled_fits two_twelve s.time terms (search rules) (search rules) s.spells_time s.numbered
 challenge_fits (Some name) words None is = tt
 challenge_fits None words (Some terms) is = tt
 challenge_fits None words None is = tt
@@ -73,7 +75,7 @@ challenge_of_fits (name ∷ words) = challenge_fits (handle_of name) words (term
 seeking_fits : (words : Words) (terms : Option Terms) → terms ≡ terms_of five_nothing words → FitsAnswer (seeking terms)
 seeking_fits words (Some terms) is =
     let s : Spells five_nothing words terms = (are_read_as_spelled five_nothing words terms).0 (sym is) in
-    spelled_fits five_nothing s.time terms (search rules) (search rules) s.spells_time
+    spelled_fits five_nothing s.time terms (search rules) (search rules) s.spells_time s.numbered
 seeking_fits words None is = tt
 
 either_fits : (is : Bool) (a b : Result Command Refusal) → FitsAnswer a → FitsAnswer b → FitsAnswer (if is then a else b)

@@ -1,27 +1,16 @@
 -- A session leaves only where it was asked to quit.
-use Rattle.std.proofs.Common.{◌≡◌, ℕ, Bool, true, false, if◌then◌else◌, List, [], ◌∷◌, refl, sym, ap, ◌∙◌, Ok, Err, Result}
+use Rattle.std.proofs.Common.{◌≡◌, ℕ, Bool, true, false, if◌then◌else◌, List, [], ◌∷◌, ◌++◌, refl, sym, ap, subst, inl, inr, ◌∙◌, Result}
 use Rattle.std.specs.declared.option.Option.{Option}
 use Rattle.std.specs.declared.option.Option.TheVariants.{None, Some}
-use Rattle.chess_model.specs.declared.moves.MoveWord.{MoveWord}
 use Rattle.command_words.specs.declared.command.Command.{Command}
-use Rattle.command_words.specs.declared.command.Command.TheVariants as command
 use Rattle.command_words.specs.Commands.{command_in}
 use Rattle.command_words.specs.Texts.{handle_of}
-use Rattle.fics_words.specs.Handle.{key_of}
 use Rattle.fics_words.specs.declared.refusal.Refusal.{Refusal}
 use Rattle.fics_words.specs.declared.refusal.Refusal.TheVariants as refusal
 use Rattle.line_reader.specs.declared.incoming.Incoming.{Incoming}
 use Rattle.line_reader.specs.declared.incoming.Incoming.TheVariants as incoming
-use Rattle.linked_desk.specs.declared.acts.DeskAct.{DeskAct}
-use Rattle.linked_desk.specs.declared.acts.DeskAct.TheVariants as desk_act
-use Rattle.linked_desk.specs.declared.acts.DeskReply.TheVariants as desk_reply
 use Rattle.lobby_state.specs.declared.acts.LobbyReply.TheVariants as lobby_reply
-use Rattle.lobby_state.specs.declared.acts.LobbyAct.{LobbyAct}
-use Rattle.lobby_state.specs.declared.acts.LobbyAct.TheVariants as lobby_act
 use Rattle.simul_control.specs.declared.place.Place.{Place}
-use Rattle.offer_book.specs.declared.offer.Offer.TheVariants.{Draw, Abort, Takeback}
-use Rattle.lobby_state.specs.FindGame.{desk_of_game}
-use Rattle.one_server.specs.declared.act.Act.TheVariants as one_act
 use Rattle.one_server.specs.declared.reply.Reply.{Reply}
 use Rattle.one_server.specs.declared.reply.Reply.TheVariants as reply
 use Rattle.one_server.specs.Running.{Log}
@@ -30,18 +19,20 @@ use Rattle.session_core.specs.declared.input.Input.TheVariants.{Line, Quiet}
 use Rattle.session_core.specs.declared.standing.LinkMark.TheVariants.{Stamped}
 use Rattle.session_core.specs.declared.standing.Standing.{Standing}
 use Rattle.session_core.specs.declared.standing.Standing.TheVariants as standing
-use Rattle.session_core.specs.declared.reaction.Reaction.{Reaction}
-use Rattle.session_core.specs.declared.reaction.Reaction.TheVariants.{Accepting, Declining}
-use Rattle.session_core.specs.Course.{Course, Done, Asks, Writes, Follows}
+use Rattle.session_core.specs.Course.{Course, Done, Asks, Writes, Follows, timed}
 use Rattle.session_core.specs.Inputs.{ack_course, asked_course, asks_to_quit, input_course, is_greeting, is_quit, line_course, line_quits, past_line, quiet_course, refusing, stamp_on, text_course, text_quits}
 use Rattle.session_core.specs.Login.{admitted, entering, entering_named, is_guest, naming, password_of, proving}
-use Rattle.session_core.specs.OwnCommands.{set_alias, unset_alias, set_style}
-use Rattle.session_core.specs.Memory.{MemoryState, is_gone, is_out, present_in, told, is_full, observed_at, remark_place, without_observed}
-use Rattle.session_core.specs.Reactions.{in_lobby, says_no_offer}
-use Rattle.session_core.specs.Session.{acked_at, answered, at_present, command_course, given_up, moved, moving_at, reacting_at, round, says_over, to_desk, to_move, to_react, to_server, turns, visits, behind, finding, forgets, remark_of, to_observe, to_remark, unobserved, watched}
-use Rattle.session_core.specs.Texts.{refusal_line}
+use Rattle.session_core.specs.Memory.{MemoryState, is_gone, is_out, present_in, told}
+use Rattle.session_core.specs.Session.{acked_at, given_up, round, says_over, visits, behind, forgets}
 use Rattle.session_core.specs.Visits.{visits_in}
 use Rattle.session_core.specs.declared.visit.Visit.{Visit}
+use Rattle.session_core.specs.Laws.{places_by}
+use Rattle.session_core.proofs.Endings.{quits_past}
+use Rattle.session_core.proofs.Rounds.{ToRound, by_asked, told_keeps}
+use Rattle.histories.specs.declared.entry.Entry.{Entry}
+use Rattle.histories.specs.History.{entry}
+use Rattle.lobby_state.specs.Places.{PlaceList}
+use Rattle.one_server.specs.declared.act.Timed.{Timed}
 
 -- the session hasn't left at any end of the course
 NeverGone : Course → Type 0
@@ -56,13 +47,8 @@ never_followed (Writes put rest) session moment made text after never f = never_
 never_followed (Asks act rest) session moment [] text after never f = absurd f
 never_followed (Asks act rest) session moment (e ∷ made) text after never f = never_followed (rest e.reply) session moment made text after (never e.reply) f.1
 
-same_standing : (memory : MemoryState) (r : Reply) → (told memory r).standing ≡ memory.standing
-same_standing memory (reply.Lobby (lobby_reply.Places places)) = refl
-same_standing memory (reply.Lobby (lobby_reply.Waiting lines places)) = refl
-same_standing memory _ = refl
-
 stays : (memory : MemoryState) (r : Reply) → is_gone memory ≡ false → is_gone (told memory r) ≡ false
-stays memory r here = ap is_out (same_standing memory r) ∙ here
+stays memory r here = ap is_out (told_keeps memory r).stands ∙ here
 
 never_given_up : (visit : Visit) (over : Bool) (rest : Course) → NeverGone rest → NeverGone (given_up visit over rest)
 unfolding NeverGone
@@ -87,100 +73,25 @@ never_round : (memory : MemoryState) → is_gone memory ≡ false → NeverGone 
 unfolding NeverGone
 never_round memory here = λ r. never_visits (visits_in (told memory r)) (told memory r) (stays memory r here)
 
-never_present : (act : DeskAct) (place : Option Place) (memory : MemoryState) → is_gone memory ≡ false → NeverGone (at_present act place memory)
-unfolding NeverGone
-never_present act None memory here = never_round memory here
-never_present act (Some place) memory here = λ r. never_round memory here
-
-never_desk : (act : DeskAct) (memory : MemoryState) → is_gone memory ≡ false → NeverGone (to_desk act memory)
-unfolding NeverGone
-never_desk act memory here = λ r. never_present act (present_in (told memory r)) (told memory r) (stays memory r here)
-
 never_either : (t : Bool) (one other : Course) → NeverGone one → NeverGone other → NeverGone (if t then one else other)
 never_either true one other p q = p
 never_either false one other p q = q
 
-never_moved : (seat : ℕ) (r : Reply) (memory : MemoryState) → is_gone memory ≡ false → NeverGone (moved seat r memory)
-unfolding NeverGone
-never_moved seat r memory here =
-    never_either (turns r memory) (Asks (one_act.Lobby lobby_act.SimNext) (λ turned. round memory)) (round memory)
-    (λ turned. never_round memory here) (never_round memory here)
-
-never_moving : (word : MoveWord) (stamp : Option ℕ) (place : Option Place) (memory : MemoryState) → is_gone memory ≡ false → NeverGone (moving_at word stamp place memory)
-unfolding NeverGone
-never_moving word stamp None memory here = never_round memory here
-never_moving word stamp (Some place) memory here = λ r. never_moved place.seat r memory here
-
-never_move : (word : MoveWord) (stamp : Option ℕ) (memory : MemoryState) → is_gone memory ≡ false → NeverGone (to_move word stamp memory)
-unfolding NeverGone
-never_move word stamp memory here = λ r. never_moving word stamp (present_in (told memory r)) (told memory r) (stays memory r here)
-
-never_reacted : (reaction : Reaction) (none : Bool) (r : Reply) (memory : MemoryState) → is_gone memory ≡ false →
-    NeverGone (if none then to_server (in_lobby reaction None) memory else answered r memory)
-unfolding NeverGone
-never_reacted reaction true r memory here = λ s. never_round memory here
-never_reacted reaction false r memory here = never_round memory here
-
-never_reacting : (reaction : Reaction) (place : Option Place) (memory : MemoryState) → is_gone memory ≡ false → NeverGone (reacting_at reaction place memory)
-unfolding NeverGone
-never_reacting reaction None memory here = λ r. never_round memory here
-never_reacting reaction (Some place) memory here = λ r. never_reacted reaction (says_no_offer r) r memory here
-
-never_react : (reaction : Reaction) (name : Option (List ℕ)) (memory : MemoryState) → is_gone memory ≡ false → NeverGone (to_react reaction name memory)
-unfolding NeverGone
-never_react reaction None memory here = λ r. never_reacting reaction (present_in (told memory r)) (told memory r) (stays memory r here)
-never_react reaction (Some name) memory here = λ r. never_round memory here
-
-never_remark : (act : DeskAct) (memory : MemoryState) → is_gone memory ≡ false → NeverGone (to_remark act memory)
-unfolding NeverGone
-never_remark act memory here = λ r. never_present act (remark_place (told memory r)) (told memory r) (stays memory r here)
-
-stays_watching : (place : Place) (r : Reply) (memory : MemoryState) → is_gone memory ≡ false → is_gone (watched place r memory) ≡ false
-stays_watching place (reply.Desk (desk_reply.Items items over)) memory here = here
-stays_watching place _ memory here = here
-
-never_finding : (r : Reply) (memory : MemoryState) → is_gone memory ≡ false → NeverGone (finding r memory)
-unfolding NeverGone
-never_finding (reply.Lobby (lobby_reply.Found place)) memory here = λ s. never_round (watched place s memory) (stays_watching place s memory here)
-never_finding _ memory here = never_round memory here
-
-never_observe : (act : LobbyAct) (memory : MemoryState) → is_gone memory ≡ false → NeverGone (to_observe act memory)
-unfolding NeverGone
-never_observe act memory here =
-    never_either (is_full memory) (Writes (refusal_line refusal.ListFull) (round memory)) (Asks (one_act.Lobby act) (λ r. finding r memory))
-    (never_round memory here) (λ r. never_finding r memory here)
-
-never_unobserved : (place : Option Place) (memory : MemoryState) → is_gone memory ≡ false → NeverGone (unobserved place memory)
-unfolding NeverGone
-never_unobserved None memory here = never_round memory here
-never_unobserved (Some place) memory here = λ r. never_round (without_observed place.desk memory) here
-
-never_command : (asked : Command) (stamp : Option ℕ) (memory : MemoryState) → is_gone memory ≡ false → is_quit (Ok asked) ≡ false → NeverGone (command_course asked stamp memory)
-unfolding NeverGone
-never_command command.Nothing stamp memory here goes_on = never_round memory here
-never_command (command.Move word) stamp memory here goes_on = never_move word stamp memory here
-never_command (command.Accept name) stamp memory here goes_on = never_react Accepting name memory here
-never_command (command.Decline name) stamp memory here goes_on = never_react Declining name memory here
-never_command command.Draw stamp memory here goes_on = never_desk (desk_act.Make Draw) memory here
-never_command command.Abort stamp memory here goes_on = never_desk (desk_act.Make Abort) memory here
-never_command (command.Takeback number) stamp memory here goes_on = never_desk (desk_act.Make (Takeback number)) memory here
-never_command command.Resign stamp memory here goes_on = never_desk desk_act.Resign memory here
-never_command command.Flag stamp memory here goes_on = never_desk desk_act.Flag memory here
-never_command command.Refresh stamp memory here goes_on = never_desk desk_act.Show memory here
-never_command (command.Kibitz text) stamp memory here goes_on = never_remark (remark_of text memory) memory here
-never_command (command.ObserveGame number) stamp memory here goes_on = never_observe (lobby_act.FindGame number) memory here
-never_command (command.ObservePlayer name) stamp memory here goes_on = never_observe (lobby_act.Find (key_of name)) memory here
-never_command (command.Unobserve number) stamp memory here goes_on = never_unobserved (observed_at (desk_of_game number) memory) memory here
-never_command (command.Style style) stamp memory here goes_on = never_round (set_style style memory).memory here
-never_command (command.Alias name text) stamp memory here goes_on = never_round (set_alias name text memory).memory here
-never_command (command.Unalias name) stamp memory here goes_on = never_round (unset_alias name memory).memory here
-never_command command.Quit stamp memory here goes_on = absurd (let bad : true ≡ false = goes_on in cc)
-never_command _ stamp memory here goes_on = λ r. never_round memory here
+-- a course that comes to the round
+never_to_round : (before : MemoryState) (course : Course) (places : PlaceList) (front : Log) → ToRound before places front course → is_gone before ≡ false → NeverGone course
+unfolding ToRound NeverGone
+never_to_round before (Done memory) places front h here = absurd h
+never_to_round before (Writes text rest) places front h here = never_to_round before rest places front h here
+never_to_round before (Asks act rest) places front (inl h) here =
+    let at_round : NeverGone (round h.0) = never_round h.0 (ap is_out h.2.stands ∙ here) in
+    subst NeverGone (sym h.1) at_round
+never_to_round before (Asks act rest) places front (inr step) here = λ r.
+    let made : Entry Timed Reply = entry 0 (timed 0 act) r in
+    never_to_round before (rest r) (places_by places r) (front ++ made ∷ []) (step made refl).1 here
 
 never_asked : (asked : Result Command Refusal) (stamp : Option ℕ) (memory : MemoryState) → is_gone memory ≡ false → is_quit asked ≡ false → NeverGone (asked_course asked stamp memory)
-unfolding NeverGone
-never_asked (Ok asked) stamp memory here goes_on = never_command asked stamp memory here goes_on
-never_asked (Err cause) stamp memory here goes_on = never_round memory here
+never_asked asked stamp memory here goes_on =
+    never_to_round memory (asked_course asked stamp memory) memory.places [] (by_asked memory asked stamp memory memory.places [] refl (record { stands = refl; looks = refl }) goes_on) here
 
 password_in : (name : Option (List ℕ)) → is_out (password_of name) ≡ false
 password_in (Some name) = refl
@@ -243,14 +154,6 @@ never_line (incoming.Stamped text stamp) memory here goes_on = never_text text (
 never_line (incoming.Ack stamp) memory here goes_on = never_ack stamp memory.standing memory here
 never_line incoming.TooLong memory here goes_on = never_refusing refusal.TooLong memory.standing memory here
 never_line incoming.BadByte memory here goes_on = never_refusing refusal.BadByte memory.standing memory here
-
--- the greeting's mark doesn't count
-quits_past : (line : Incoming) (memory : MemoryState) → line_quits line (past_line memory) ≡ line_quits line memory
-quits_past (incoming.Plain text) memory = refl
-quits_past (incoming.Stamped text stamp) memory = refl
-quits_past (incoming.Ack stamp) memory = refl
-quits_past incoming.TooLong memory = refl
-quits_past incoming.BadByte memory = refl
 
 never_greeting : (t : Bool) (memory marked : MemoryState) (line : Incoming) → is_gone marked ≡ false → is_gone memory ≡ false → (if t then false else line_quits line memory) ≡ false
     → NeverGone (if t then Done marked else line_course line (past_line memory))

@@ -9,3 +9,4 @@ pub mod Session
 pub mod Inputs
 pub mod Stages
 pub mod Going
+pub mod Laws

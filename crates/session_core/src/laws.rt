@@ -8,7 +8,8 @@ ghost use Rattle.one_server.specs.Running.{Log};
 ghost use Rattle.session_core.specs.Course.{Course, Follows, memory_by, next_act, replies_of, text_by};
 ghost use Rattle.session_core.specs.declared.input.Input.{Input};
 ghost use Rattle.session_core.specs.Inputs.{asks_to_quit, input_course};
-ghost use Rattle.session_core.specs.Memory.{MemoryState, is_gone};
+ghost use Rattle.session_core.specs.Laws.{EndsWithRound, IsOfLogin, TurnsBehind, is_silent};
+ghost use Rattle.session_core.specs.Memory.{MemoryState, has_entered, is_gone};
 
 /// Who follows a course makes, after each reply, the act that the replies so far name, at the course's moment and under
 /// its own number, until they name none; the text is the one that the replies say, and so is what is remembered.
@@ -30,4 +31,25 @@ pub fn only_quit_leaves()
     ensures { (input : Input) (before after : MemoryState) (session moment : ℕ) (made : Log) (text : List ℕ)
         → Follows (input_course input before) session moment made text after → is_gone before ≡ false
         → is_gone after ≡ true → asks_to_quit input before ≡ true }
+{}
+
+/// Every input of a session that has entered, but one to which nothing is answered and one that asks to quit, ends with
+/// the round.
+pub fn inputs_end_with_the_round()
+    ensures { (input : Input) (before after : MemoryState) (session moment : ℕ) (made : Log) (text : List ℕ)
+        → Follows (input_course input before) session moment made text after → has_entered before ≡ true
+        → is_silent input before ≡ false → asks_to_quit input before ≡ false → EndsWithRound before made }
+{}
+
+/// A line of the login makes at most one act, and that asks to come in.
+pub fn the_login_makes_one_act()
+    ensures { (input : Input) (before after : MemoryState) (session moment : ℕ) (made : Log) (text : List ℕ)
+        → Follows (input_course input before) session moment made text after → has_entered before ≡ false
+        → IsOfLogin made }
+{}
+
+/// Behind each half-move that is accepted of who gives a simul stands that to its next place.
+pub fn givers_turn_behind_half_moves()
+    ensures { (input : Input) (before after : MemoryState) (session moment : ℕ) (made : Log) (text : List ℕ)
+        → Follows (input_course input before) session moment made text after → TurnsBehind before made }
 {}

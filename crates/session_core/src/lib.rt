@@ -35,7 +35,10 @@ mod watching;
 
 pub use framing::Framing;
 pub use input::{Input, Wrote};
-pub use laws::{courses, only_quit_leaves};
+pub use laws::{
+    courses, givers_turn_behind_half_moves, inputs_end_with_the_round, only_quit_leaves,
+    the_login_makes_one_act,
+};
 pub use session::Session;
 pub use standing::{LinkMark, Standing};
 pub use texts::put_refusal;

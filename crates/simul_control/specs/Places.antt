@@ -1,10 +1,10 @@
 -- The places of a player: the seats that it has at desks in use, which of them is the present one, and whether it gives
 -- a simul. This server's own.
-use Rattle.std.specs.Prelude.{◌≡◌, ℕ, ◌+◌, ◌-◌, ◌==◌, Bool, false, not, ◌||◌, cond, nat_le, nat_lt, List, [], ◌∷◌, ◌++◌, All, length, take, count_by, Option, None, Some, is_none, Result, Ok, Err}
-use Rattle.std.specs.List.{filter, position}
+use Rattle.std.specs.Prelude.{◌≡◌, ℕ, ◌+◌, ◌-◌, ◌==◌, Bool, false, not, ◌||◌, cond, nat_le, nat_lt, List, [], ◌∷◌, ◌++◌, All, length, take, count_by, None, Some, Result, Ok, Err}
+use Rattle.std.specs.List.{filter}
 use Rattle.fics_words.specs.Effect.{Effect, first_cause, state_of}
 use Rattle.fics_words.specs.declared.refusal.Refusal.{Refusal}
-use Rattle.fics_words.specs.declared.refusal.Refusal.TheVariants.{NotGiving, NotPlaying, Playing, SimulFull}
+use Rattle.fics_words.specs.declared.refusal.Refusal.TheVariants.{NotGiving, Playing, SimulFull}
 use Rattle.simul_control.specs.declared.place.Place.{Place}
 use Rattle.simul_control.specs.declared.way.Way.{Way}
 use Rattle.simul_control.specs.declared.way.Way.TheVariants.{Next, Previous}
@@ -70,25 +70,9 @@ without_desk desk places =
       rows = rows;
     }
 
--- the place is at this desk
-abbrev pub is_at : ℕ → Place → Bool
-is_at desk place = place.desk == desk
-
--- the places where that of this number is the present one, if there is a number
-abbrev pub with_present : Option ℕ → PlaceList → PlaceList
-with_present None places = places
-with_present (Some at) places = record places { at = at }
-
--- going to a desk: refused where no place is there; else the first place there is the present one
-abbrev pub going : ℕ → PlaceList → Effect PlaceList (Unit {0})
-going desk places =
-    let first = position (is_at desk) places.rows in
-    record {
-      causes = (is_none first, NotPlaying) ∷ [];
-      memory = false;
-      reply = tt;
-      after = with_present first places;
-    }
+-- the places where that of this number is the present one
+abbrev pub present_at : ℕ → PlaceList → PlaceList
+present_at at places = record places { at = at }
 
 -- the number of the next or the previous place in a circle of so many: the first follows the last
 abbrev pub turned_from : Way → ℕ → ℕ → ℕ

@@ -1,8 +1,7 @@
 //! The places of a player, in a field of fixed room.
 ghost use Rattle.std.specs.Prelude.{◌≡◌, ◌-◌, ◌<◌, ◌≤◌, IfSome, count_by, filter, length, slice_get};
-ghost use Rattle.std.specs.List.{position};
 ghost use Rattle.simul_control.specs.Desks.{IsDesk};
-ghost use Rattle.simul_control.specs.Places.{AreAtDesks, is_at, is_elsewhere, most_at_switch, turned_from};
+ghost use Rattle.simul_control.specs.Places.{AreAtDesks, is_elsewhere, most_at_switch, turned_from};
 
 use crate::place::Place;
 use crate::way::Way;
@@ -46,9 +45,8 @@ impl Model for Places {
 }
 
 impl Places {
-    ghost use Rattle.fics_words.specs.Effect.{state_of};
-    ghost use Rattle.simul_control.specs.Places.{Makes, adding, gives_nowhere, going, is_full, no_places, switching};
-    ghost use Rattle.simul_control.specs.Places.{turning, with_place, without_desk};
+    ghost use Rattle.simul_control.specs.Places.{Makes, adding, gives_nowhere, is_full, no_places, present_at};
+    ghost use Rattle.simul_control.specs.Places.{switching, turning, with_place, without_desk};
 
     /// No places, of a player that gives no simul.
     pub fn none() -> Places
@@ -136,16 +134,12 @@ impl Places {
         kept
     }
 
-    /// Makes the first place at this desk the present one. Refuses with `NotPlaying` where no place is there.
-    pub fn go(&mut self, desk: u8) -> Result<(), Refusal>
-        ensures makes { Makes (going desk self.old) self.old self.new result }
-        ensures after { self.new ≡ state_of self.old (going desk self.old) }
+    /// Makes the place of this number, from 0, the present one.
+    pub fn go(&mut self, at: usize)
+        requires { at < length self.old.rows }
+        ensures { self.new ≡ present_at at self.old }
     {
-        let Some(at) = first_at(self.rows(), desk) else {
-            return Err(Refusal::NotPlaying);
-        };
         self.at = at;
-        Ok(())
     }
 
     /// Turns to the next or the previous place, in a circle. Refuses with `NotGiving` where the player gives no simul,
@@ -196,14 +190,6 @@ fn count_elsewhere(rows: &[Place], desk: u8) -> usize
     ensures { result ≡ count_by (is_elsewhere desk) rows.now }
 {
     rows.iter().filter(|place| place.desk != desk).count()
-}
-
-/// The number of the first place among `rows` that is at the desk, from 0.
-fn first_at(rows: &[Place], desk: u8) -> Option<usize>
-    ensures first { result ≡ position (is_at desk) rows.now }
-    ensures within { IfSome result (λ at. at < length rows.now) }
-{
-    rows.iter().position(|place| place.desk == desk)
 }
 
 /// How many places a player may have as it begins a simul, and as it ends one.

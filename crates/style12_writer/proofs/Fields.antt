@@ -13,11 +13,12 @@ use Rattle.chess_model.specs.declared.man.Kind.{Kind}
 use Rattle.chess_model.specs.declared.man.Kind.TheVariants.{Pawn, Knight, Bishop, Rook, Queen, King}
 use Rattle.chess_model.specs.declared.man.Man.{Man}
 use Rattle.chess_model.specs.declared.face.Face.{Face}
+use Rattle.chess_model.specs.Material.{material_of}
 use Rattle.chess_model.specs.Placement.{man_at}
 use Rattle.chess_model.specs.Squares.{square_at}
 use Rattle.fics_words.specs.Handle.{IsHandle}
 use Rattle.move_writer.specs.Blanks.{HasNoBlank}
-use Rattle.style12_writer.specs.Board.{man_letter, square_letter, rank_text, ranks, castle_flags, material_of, colour_to_move, double_push, flag_text}
+use Rattle.style12_writer.specs.Board.{man_letter, square_letter, rank_text, ranks, castle_flags, colour_to_move, double_push, flag_text}
 use Rattle.style12_writer.specs.Clocks.{whole_seconds_of, two_digits_of, time_taken}
 use Rattle.style12_writer.specs.Line12.{cut_at_blanks, position_fields, game_fields, strength_fields, move_fields, fields_of, line12_text}
 use Rattle.style12_writer.specs.declared.view.BoardView.{BoardView}

@@ -1,9 +1,8 @@
 -- The fields of a style 12 line that show the position (FICS style 12).
-use Rattle.std.specs.Prelude.{◌≡◌, ℕ, ◌+◌, Bool, true, false, if◌then◌else◌, List, [], ◌∷◌, ◌++◌, map, slice_index_or, sum_by, Option, Some, None, codes, decimal, refl}
+use Rattle.std.specs.Prelude.{◌≡◌, ℕ, ◌+◌, Bool, true, false, List, [], ◌∷◌, ◌++◌, map, slice_index_or, Option, Some, None, codes, decimal, refl}
 use Rattle.chess_model.specs.declared.man.Colour.{Colour}
 use Rattle.chess_model.specs.declared.man.Colour.TheVariants.{White, Black}
 use Rattle.chess_model.specs.declared.man.Kind.{Kind}
-use Rattle.chess_model.specs.declared.man.Kind.TheVariants.{Pawn, Knight, Bishop, Rook, Queen, King}
 use Rattle.chess_model.specs.declared.man.Man.{Man}
 use Rattle.chess_model.specs.declared.variant.Variant.TheVariants.{Chess}
 use Rattle.chess_model.specs.Placement.{man_at, array_of}
@@ -52,34 +51,7 @@ castle_flags rights =
     ∷ flag_text (slice_index_or rights 3 false)
     ∷ []
 
--- what a man counts for in the material
-abbrev pub worth_of : Kind → ℕ
-worth_of Pawn = 1
-worth_of Knight = 3
-worth_of Bishop = 3
-worth_of Rook = 5
-worth_of Queen = 9
-worth_of King = 0
-
-abbrev pub is_of : Colour → Colour → Bool
-is_of White White = true
-is_of White Black = false
-is_of Black White = false
-is_of Black Black = true
-
--- what a square adds to a colour's material: the kind that stands there counts, so a promoted queen counts 9
-abbrev pub square_worth : Colour → Option Man → ℕ
-square_worth colour None = 0
-square_worth colour (Some man) = if is_of colour man.colour then worth_of man.kind else 0
-
--- the material strength of a colour
-abbrev pub material_of : Colour → List (Option Man) → ℕ
-material_of colour men = sum_by (square_worth colour) men
-
--- the start of a game, where each colour has eight pawns, four minor pieces, two rooks and a queen
-example_material : material_of White (array_of Chess) ∷ material_of Black (array_of Chess) ∷ [] ≡ 39 ∷ 39 ∷ []
-example_material = refl
-
+-- at the start of a game: the home ranks of both sides, and an empty one
 example_home_ranks : rank_text (array_of Chess) 7 ++ rank_text (array_of Chess) 6 ++ rank_text (array_of Chess) 4
     ++ rank_text (array_of Chess) 0 ≡ codes "rnbqkbnrpppppppp--------RNBQKBNR"
 unfolding rank_text

@@ -4,9 +4,10 @@ use Rattle.std.specs.Fmt.{signed_decimal}
 use Rattle.std.specs.List.{join_with_byte, slice_split}
 use Rattle.chess_model.specs.declared.man.Colour.TheVariants.{White, Black}
 use Rattle.chess_model.specs.declared.face.Face.{Face}
+use Rattle.chess_model.specs.Material.{material_of}
 use Rattle.style12_writer.specs.declared.view.BoardView.{BoardView}
 use Rattle.style12_writer.specs.declared.view.Viewer.{Viewer}
-use Rattle.style12_writer.specs.Board.{ranks, colour_to_move, double_push, castle_flags, flag_text, material_of}
+use Rattle.style12_writer.specs.Board.{ranks, colour_to_move, double_push, castle_flags, flag_text}
 use Rattle.style12_writer.specs.Clocks.{whole_seconds_of, time_taken}
 
 -- 'the string <12> to identify this line'

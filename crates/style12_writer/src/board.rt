@@ -2,13 +2,13 @@
 ghost use Rattle.std.specs.Prelude.{◌≡◌, ◌+◌, ◌<◌, ◌≤◌, ◌++◌, ◌∷◌, IsTrue, length};
 ghost use Rattle.std.specs.List.{list_all};
 ghost use Rattle.chess_model.specs.MoveText.{is_printable};
-ghost use Rattle.style12_writer.specs.Board.{square_letter, rank_text, ranks, colour_to_move, double_push, castle_flags, flag_text, square_worth, material_of};
+ghost use Rattle.style12_writer.specs.Board.{square_letter, rank_text, ranks, colour_to_move, double_push, castle_flags, flag_text};
 ghost use Rattle.style12_writer.specs.Line12.{position_fields};
 ghost use Rattle.style12_writer.specs.Room.{HasRoom};
 ghost use Rattle.style12_writer.specs.Spaced.{spaced};
 
 use crate::draft::Draft;
-use chess_model::{Colour, Face, Kind, Man};
+use chess_model::{Colour, Face, Man};
 use move_writer::letter;
 
 /// The numbers of the ranks from White's 8th down.
@@ -122,33 +122,4 @@ pub(crate) fn flag(is_so: bool) -> &'static [u8]
     ensures len { length result.now ≡ 1 }
 {
     if is_so { b"1" } else { b"0" }
-}
-
-/// The material strength of a colour: pawn 1, knight 3, bishop 3, rook 5, queen 9.
-pub(crate) fn material(colour: Colour, men: &[Option<Man>; 64]) -> u64
-    ensures total { result ≡ material_of colour men.now }
-    ensures most { result ≤ 576 }
-{
-    let mut total = 0;
-    for square in men {
-        total += worth(colour, *square);
-    }
-    total
-}
-
-/// What a square adds to a colour's material.
-fn worth(colour: Colour, square: Option<Man>) -> u64
-    ensures worth { result ≡ square_worth colour square }
-    ensures most { result ≤ 9 }
-{
-    match square {
-        Some(man) if man.colour == colour => match man.kind {
-            Kind::Pawn => 1,
-            Kind::Knight | Kind::Bishop => 3,
-            Kind::Rook => 5,
-            Kind::Queen => 9,
-            Kind::King => 0,
-        },
-        _ => 0,
-    }
 }

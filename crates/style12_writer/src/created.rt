@@ -1,14 +1,12 @@
 //! The line of a game's beginning.
-ghost use Rattle.std.specs.Prelude.{◌≡◌, ◌+◌, ◌≤◌, ◌++◌, IfOk, IsTrue, length};
-ghost use Rattle.std.specs.List.{list_all};
-ghost use Rattle.chess_model.specs.MoveText.{is_printable};
+ghost use Rattle.std.specs.Prelude.{◌≡◌, ◌+◌, ◌≤◌, ◌++◌, IfOk, length};
 ghost use Rattle.chess_model.specs.VariantWord.{word_of};
 ghost use Rattle.style12_writer.specs.CreatedLine.{created_text, terms_text};
 ghost use Rattle.style12_writer.specs.Room.{HasRoom};
 
 use crate::draft::Draft;
 use crate::game_line::put_game;
-use chess_model::{Terms, Variant};
+use chess_model::{Terms, Variant, variant_word};
 use fics_words::{Handle, Line};
 use memory::NoMemory;
 use std::alloc::Global;
@@ -46,22 +44,9 @@ fn put_terms(line: &mut Draft, terms: &Terms)
 
 /// Appends the name of a variant.
 fn put_variant(line: &mut Draft, variant: Variant)
-    requires room { HasRoom 10 line.old }
+    requires room { HasRoom 12 line.old }
     ensures text { line.new ≡ line.old ++ word_of variant }
-    ensures most { length line.new ≤ length line.old + 10 }
+    ensures most { length line.new ≤ length line.old + 12 }
 {
-    line.text(name_of(variant));
-}
-
-/// The name of a variant.
-fn name_of(variant: Variant) -> &'static [u8]
-    ensures text { result.now ≡ word_of variant }
-    ensures printable { IsTrue (list_all is_printable result.now) }
-    ensures most { length result.now ≤ 10 }
-{
-    match variant {
-        Variant::Chess => b"chess",
-        Variant::Crazyhouse => b"crazyhouse",
-        Variant::Bughouse => b"bughouse",
-    }
+    line.text(variant_word(variant).bytes());
 }

@@ -9,10 +9,10 @@ ghost use Rattle.style12_writer.specs.Line12.{game_number, white_name, black_nam
 ghost use Rattle.style12_writer.specs.Room.{HasRoom};
 ghost use Rattle.style12_writer.specs.Spaced.{spaced};
 
-use crate::board::{flag, material, put_position};
+use crate::board::{flag, put_position};
 use crate::draft::Draft;
 use crate::view::{BoardView, Viewer};
-use chess_model::Colour;
+use chess_model::{Colour, material_of};
 use fics_words::Line;
 use memory::NoMemory;
 use std::alloc::Global;
@@ -63,8 +63,8 @@ fn put_strengths(line: &mut Draft, v: &BoardView)
     ensures text { line.new ≡ line.old ++ spaced (strength_fields v.now) }
     ensures most { length line.new ≤ length line.old + 84 }
 {
-    line.number_field(material(Colour::White, &v.face.men));
-    line.number_field(material(Colour::Black, &v.face.men));
+    line.number_field(material_of(Colour::White, &v.face.men));
+    line.number_field(material_of(Colour::Black, &v.face.men));
     put_seconds(line, v.remaining[0]);
     put_seconds(line, v.remaining[1]);
 }

@@ -9,7 +9,7 @@ use Rattle.chess_model.specs.declared.man.Kind.TheVariants.{Pawn, Knight, Bishop
 use Rattle.chess_model.specs.declared.man.Man.{Man}
 use Rattle.chess_model.specs.declared.moves.Move.{Move}
 use Rattle.chess_model.specs.declared.moves.Move.TheVariants.{Plain, Castle, Drop}
-use Rattle.chess_model.specs.declared.variant.Variant.TheVariants.{Chess, Crazyhouse, Bughouse}
+use Rattle.chess_model.specs.declared.variant.Variant.TheVariants.{Chess, Crazyhouse, Bughouse, Fischer}
 use Rattle.chess_model.specs.declared.variant.Variant.{Variant}
 use Rattle.chess_model.specs.Placement.{man_at, IsHeldAs, IsHeldBy}
 use Rattle.chess_model.specs.Holdings.{count_in}
@@ -163,6 +163,7 @@ unfolding CanMove
 answer-move Chess p h = (h.0, h.2)
 answer-move Crazyhouse p h = (h.0, h.2)
 answer-move Bughouse p h = inl h
+answer-move (Fischer number) p h = (h.0, h.2)
 
 pub chess-answer : (p : Position) → CanDropAny p → HasAnswer Chess p
 unfolding CanDropAny
@@ -171,6 +172,10 @@ chess-answer p h = (Drop h.0 h.1, h.2)
 pub house-answer : (p : Position) → CanDropAny p → HasAnswer Crazyhouse p
 unfolding CanDropAny
 house-answer p h = (Drop h.0 h.1, h.2)
+
+pub fischer-answer : (number : ℕ) (p : Position) → CanDropAny p → HasAnswer (Fischer number) p
+unfolding CanDropAny
+fischer-answer number p h = (Drop h.0 h.1, h.2)
 
 pub pair-answer : (p : Position) → CanBeShielded p → HasAnswer Bughouse p
 unfolding CanBeShielded
@@ -184,6 +189,9 @@ some-move p (Drop k to) h = inr (k, to, h)
 
 pub chess-drop : (p : Position) → ¬ CanMove p → HasAnswer Chess p → CanDropAny p
 chess-drop p none h = elim (some-move p h.0 h.1) [ inl m ↦ absurd (none m) | inr d ↦ d ]
+
+pub fischer-drop : (number : ℕ) (p : Position) → ¬ CanMove p → HasAnswer (Fischer number) p → CanDropAny p
+fischer-drop number p none h = elim (some-move p h.0 h.1) [ inl m ↦ absurd (none m) | inr d ↦ d ]
 
 pub house-drop : (p : Position) → ¬ CanMove p → HasAnswer Crazyhouse p → CanDropAny p
 house-drop p none h = elim (some-move p h.0 h.1) [ inl m ↦ absurd (none m) | inr d ↦ d ]
@@ -219,5 +227,6 @@ told v p e true true s a = (s.0 refl, inl (a.0 refl))
 told v p e false true s a = (not_from_Decides false s refl, a.0 refl)
 told v p e false false s a = (not_from_Decides false s refl, not_from_Decides false a refl)
 told Chess p e true false s a = (s.0 refl, not_from_Decides false a refl, λ f. let g = sym e ∙ f in cc)
+told (Fischer number) p e true false s a = (s.0 refl, not_from_Decides false a refl, λ f. let g = sym e ∙ f in cc)
 told Crazyhouse p e true false s a = (s.0 refl, not_from_Decides false a refl, λ f. let g = sym e ∙ f in cc)
 told Bughouse p e true false s a = (s.0 refl, inr e)

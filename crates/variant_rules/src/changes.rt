@@ -248,6 +248,7 @@ fn with_gain(v: Variant, hand: Holdings, c: Colour, men: &Bits, by: Colour, m: &
         }
         Variant::Chess => hand,
         Variant::Bughouse => hand,
+        Variant::Fischer(_) => hand,
     }
 }
 

@@ -1,7 +1,7 @@
 ghost use Rattle.std.specs.Prelude.{◌≡◌, ◌<◌};
 ghost use Rattle.chess_model.specs.Placement.{home_rank, last_rank, king_home, rook_home, king_end, rook_end};
 
-use chess_model::{Colour, Square, Variant};
+use chess_model::{Colour, Square, Variant, file_of_king, file_of_rook};
 
 fn home_rank_of(c: Colour) -> u8
     ensures value { result ≡ home_rank c }
@@ -23,18 +23,17 @@ pub(crate) fn last_rank_of(c: Colour) -> u8
 }
 
 /// The square on which the king of a colour begins.
-pub(crate) fn home_of_king(_v: Variant, c: Colour) -> Square
-    ensures { result ≡ king_home _v c }
+pub(crate) fn home_of_king(v: Variant, c: Colour) -> Square
+    ensures { result ≡ king_home v c }
 {
-    Square::on(4, home_rank_of(c))
+    Square::on(file_of_king(v), home_rank_of(c))
 }
 
 /// The square on which the rook for long or short castling begins.
-pub(crate) fn home_of_rook(_v: Variant, c: Colour, long: bool) -> Square
-    ensures { result ≡ rook_home _v c long }
+pub(crate) fn home_of_rook(v: Variant, c: Colour, long: bool) -> Square
+    ensures { result ≡ rook_home v c long }
 {
-    let file = if long { 0 } else { 7 };
-    Square::on(file, home_rank_of(c))
+    Square::on(file_of_rook(v, long), home_rank_of(c))
 }
 
 /// The square on which the king ends by castling.

@@ -14,6 +14,7 @@ mod listing;
 mod make;
 mod position;
 mod rules;
+mod sets;
 mod shown;
 mod sights;
 mod state;

@@ -151,6 +151,7 @@ impl Position {
         ensures variant { self.new.variant ≡ self.old.variant }
         ensures stands { (T : List HalfMove) (b : ℕ) → Stands self.old T b
             → Stands self.new (T ++ record { board = b; what = m } ∷ []) b }
+        ensures after { self.new ≡ next self.old m }
         ensures undo { IsUndoOf result self.old self.new }
         ensures captured { captured_by result ≡ taken self.old.men m }
     {

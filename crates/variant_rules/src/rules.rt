@@ -148,6 +148,7 @@ pub(crate) fn has_drops(v: Variant) -> bool
         Variant::Chess => false,
         Variant::Crazyhouse => true,
         Variant::Bughouse => true,
+        Variant::Fischer(_) => false,
     }
 }
 

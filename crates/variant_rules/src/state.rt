@@ -25,6 +25,7 @@ fn state_by(v: Variant, in_check: bool, has_answer: bool) -> State
             Variant::Chess => State::Stalemate,
             Variant::Crazyhouse => State::Stalemate,
             Variant::Bughouse => State::Safe,
+            Variant::Fischer(_) => State::Stalemate,
         },
     }
 }
@@ -230,6 +231,7 @@ impl Position {
             Variant::Chess => self.can_drop_any(),
             Variant::Crazyhouse => self.can_drop_any(),
             Variant::Bughouse => self.can_be_shielded(),
+            Variant::Fischer(_) => self.can_drop_any(),
         }
     }
 

@@ -73,6 +73,18 @@ seek|seek 5 0 chess
 see 3 2 crazyhouse|seek 3 2 crazyhouse
 seek unrated w|seek 5 0 chess white
 seek 0 600 unrated bughouse black|seek 0 600 bughouse black
+seek fischer 0|seek 5 0 fischer 0
+seek 5 0 fischer 518|seek 5 0 fischer 518
+seek 3 2 unrated fischer   959 b|seek 3 2 fischer 959 black
+seek 5 0 fischer|refused 28
+seek 5 0 fischer 960|refused 28
+seek 5 0 fischer 65536|refused 28
+seek 5 0 fischer 05|refused 28
+seek 5 0 fischer +5|refused 28
+seek 5 0 fischer white|refused 28
+seek 5 0 fischer 5 6|refused 28
+seek 5 0 Fischer 5|refused 28
+seek fischer 5 chess|refused 28
 seek 5|refused 28
 seek 5 0 rated|refused 28
 seek 5 0 Chess|refused 28
@@ -177,6 +189,10 @@ m ann unrated crazyhouse b|match ann 2 12 crazyhouse black
 ma ann 600 600|match ann 600 600 chess
 match ann black|match ann 2 12 chess black
 match ann chess|match ann 2 12 chess
+match ben 2 12 fischer 0|match ben 2 12 fischer 0
+match ann fischer 468 w|match ann 2 12 fischer 468 white
+match ann fischer 7 3 0|refused 28
+match ann fischer unrated|refused 28
 match ann bughouse w|match ann 2 12 bughouse white
 match ann 1 0 bughouse|match ann 1 0 bughouse
 match ann unrated|match ann 2 12 chess

@@ -10,6 +10,6 @@ from_bytes-requires c =
     ∙ ap (λ white. board_words c.args.number white c.letters-black.result.now c.args.terms) c.letters-white.ensures.letters
     ∙ ap (λ black. board_words c.args.number c.args.opponents.white.name black c.args.terms) c.letters-black.ensures.letters in
     subst IsLine (sym words)
-    (IsLine-from_printed 70 _ (omega arith)
+    (IsLine-from_printed 71 _ (omega arith)
     (IsPrinted-board_words c.args.number c.args.opponents.white.name c.args.opponents.black.name c.args.terms
     (IsPrinted-handle _ c.letters-white.ensures.handle) (IsPrinted-handle _ c.letters-black.ensures.handle) (omega arith) (omega arith) (omega arith)))

@@ -1,5 +1,6 @@
 use Rattle.std.proofs.Common.{◌≡◌, ◌≤◌, ◌<◌, ◌^◌}
-use Rattle.serve_core.specs.Keeping.{Kept}
+use Rattle.edge_traits.specs.Door.{Goes, KeepsLinks}
+use Rattle.serve_core.specs.Keeping.{Underway}
 use Rattle.serve_core.proofs.hosting.take_links.Given as goal
 
 abbrev pub invariant-loop : goal.invariant-loop
@@ -7,7 +8,8 @@ invariant-loop g l = record {
   forever : (goal.iterator-loop g).can_next l.iterator' × (goal.iterator-loop g).is_finite l.iterator';
   count : l.host.pass.splits ≡ l.count;
   few : l.count < 2 ^ 31;
-  kept : Kept g.C.Clock.shows l.place.hall.now l.place.clock.now l.host.supply (g.D.Doorway.tale l.door) l.host.pass l.host.waiting.items;
+  kept : Underway g.C.Clock.shows l.place.hall.now l.place.clock.now l.host.supply (g.D.Doorway.tale l.door) l.host.pass l.host.waiting.items;
   opening : l.host.pass.opening ≡ l.fn.pass.opening;
+  links : Goes (g.D.Doorway.tale l.fn.door) (g.D.Doorway.tale l.door) KeepsLinks;
   counted : g.D.Doorway.faults l.fn.door ≤ g.D.Doorway.faults l.door;
 }

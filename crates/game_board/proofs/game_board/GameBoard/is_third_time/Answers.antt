@@ -1,7 +1,7 @@
 use Rattle.std.proofs.Common.{◌≡◌, ◌≢◌, ℕ, ◌<◌, true, List, length, sym, ap, subst, ◌∙◌, arith}
 use Rattle.std.specs.Prelude.{IsTrue, IfSome, IfNone}
 use Rattle.chess_model.specs.declared.variant.Variant.{Variant}
-use Rattle.chess_model.specs.declared.variant.Variant.TheVariants.{Chess, Crazyhouse, Bughouse}
+use Rattle.chess_model.specs.declared.variant.Variant.TheVariants.{Chess, Crazyhouse, Bughouse, Fischer}
 use Rattle.chess_model.specs.MoveList.{HalfMove}
 use Rattle.chess_model.specs.Position.{Position, position_after}
 use Rattle.chess_model.specs.Claims.{is_threefold, same_position}
@@ -17,6 +17,7 @@ not_pair : (v : Variant) → has_claims v ≡ true → v ≡ Bughouse → ⊥
 not_pair Chess h e = cc
 not_pair Crazyhouse h e = cc
 not_pair Bughouse h e = cc
+not_pair (Fischer number) h e = cc
 
 pub last_same-requires-clause-stands : goal.last_same-requires-clause-stands
 unfolding position_of

@@ -3,7 +3,7 @@ use Rattle.std.specs.Prelude.{slice_get}
 use Rattle.std.proofs.lemmas.Bool.{cases_eq}
 use Rattle.std.proofs.lemmas.Option.{slice_get-get_or}
 use Rattle.chess_model.specs.declared.variant.Variant.{Variant}
-use Rattle.chess_model.specs.declared.variant.Variant.TheVariants.{Chess, Crazyhouse, Bughouse}
+use Rattle.chess_model.specs.declared.variant.Variant.TheVariants.{Chess, Crazyhouse, Bughouse, Fischer}
 use Rattle.chess_model.specs.Position.{Position}
 use Rattle.chess_model.specs.Claims.{same_position}
 use Rattle.variant_rules.specs.Undos.{IsUndoOf}
@@ -20,6 +20,7 @@ not_pair : (v : Variant) → has_claims v ≡ true → v ≡ Bughouse → ⊥
 not_pair Chess h e = cc
 not_pair Crazyhouse h e = cc
 not_pair Bughouse h e = cc
+not_pair (Fischer number) h e = cc
 
 pub unmake-requires : goal.unmake-requires
 unmake-requires c =

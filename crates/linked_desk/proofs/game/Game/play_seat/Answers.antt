@@ -9,7 +9,7 @@ use Rattle.style12_writer.specs.declared.item.Item.TheVariants as item
 use Rattle.linked_desk.specs.Boards.{boards_after, reply_at, word_at}
 use Rattle.linked_desk.specs.Desk.{GameState, moment_at}
 use Rattle.linked_desk.specs.Playing.{captured_by, seat_word, with_cleared}
-use Rattle.linked_desk.specs.Seats.{colour_at, place_of}
+use Rattle.linked_desk.specs.Seats.{place_of}
 use Rattle.linked_desk.specs.Views.{feed_with, views_of}
 use Rattle.linked_desk.specs.Hands.{hands_at}
 use Rattle.linked_desk.proofs.Telling.{finished-moved, told_of}

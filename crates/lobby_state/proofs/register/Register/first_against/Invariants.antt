@@ -1,8 +1,8 @@
-use Rattle.std.proofs.Common.{◌≡◌, drop}
-use Rattle.std.specs.List.{find}
+use Rattle.std.proofs.Common.{◌≡◌, ℕ, ◌<◌, false, get_or}
 use Rattle.lobby_state.specs.GoBoard.{is_against}
+use Rattle.simul_control.specs.declared.place.Place.{Place}
 use Rattle.lobby_state.proofs.register.Register.first_against.Given as goal
 
-abbrev pub invariant-loop-place : goal.invariant-loop-place
-invariant-loop-place l =
-    find (is_against l.self l.player) (drop l.place-index l.rows) ≡ find (is_against l.self l.player) l.rows
+abbrev pub invariant-loop-at : goal.invariant-loop-at
+invariant-loop-at l =
+    (k : ℕ) (d : Place) → k < l.at → is_against l.self l.player (get_or l.rows k d) ≡ false

@@ -7,4 +7,4 @@ pub from_bytes-requires : goal.from_bytes-requires
 from_bytes-requires c =
     let name : IsPrinted 17 c.letters_of-letters.result.now = record { short = c.letters_of-letters.ensures.short; shows = c.letters_of-letters.ensures.shows } in
     subst IsLine (sym c.in_ok-text.ensures)
-    (IsLine-from_printed 51 _ (omega arith) (IsPrinted-pending_words c.args.side c.letters_of-letters.result.now c.args.challenge.terms name (omega arith) (omega arith)))
+    (IsLine-from_printed 52 _ (omega arith) (IsPrinted-pending_words c.args.side c.letters_of-letters.result.now c.args.challenge.terms name (omega arith) (omega arith)))

@@ -7,4 +7,4 @@ pub from_bytes-requires : goal.from_bytes-requires
 from_bytes-requires c =
     let name : IsPrinted 17 c.letters_of.result.now = record { short = c.letters_of.ensures.short; shows = c.letters_of.ensures.shows } in
     subst IsLine (sym c.in_ok-text.ensures)
-    (IsLine-from_printed 52 _ (omega arith) (IsPrinted-sought_words c.letters_of.result.now c.args.seek name (omega arith) (omega arith) (omega arith)))
+    (IsLine-from_printed 53 _ (omega arith) (IsPrinted-sought_words c.letters_of.result.now c.args.seek name (omega arith) (omega arith) (omega arith)))

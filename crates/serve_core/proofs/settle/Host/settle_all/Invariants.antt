@@ -1,12 +1,12 @@
 use Rattle.std.proofs.Common.{◌≡◌, vec_len}
 use Rattle.edge_traits.specs.Door.{Goes}
-use Rattle.serve_core.specs.Keeping.{KeepsLeft, Kept, Stays}
+use Rattle.serve_core.specs.Keeping.{KeepsLeft, Underway, SameHall}
 use Rattle.serve_core.proofs.settle.Host.settle_all.Given as goal
 
 abbrev pub invariant-loop-worker : goal.invariant-loop-worker
 invariant-loop-worker g l = record {
-  kept : Kept g.C.Clock.shows l.place.hall.now l.place.clock.now l.self.supply (g.D.Doorway.tale l.door) l.self.pass l.self.waiting.items;
-  same : Stays l.fn.self.pass l.self.pass;
+  kept : Underway g.C.Clock.shows l.place.hall.now l.place.clock.now l.self.supply (g.D.Doorway.tale l.door) l.self.pass l.self.waiting.items;
+  same : SameHall l.fn.self.pass l.self.pass;
   left : Goes (g.D.Doorway.tale l.fn.door) (g.D.Doorway.tale l.door) KeepsLeft;
   faults : g.D.Doorway.faults l.door ≡ g.D.Doorway.faults l.fn.door;
 }

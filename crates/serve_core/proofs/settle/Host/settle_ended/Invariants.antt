@@ -1,11 +1,13 @@
 use Rattle.std.proofs.Common.{◌≡◌, ◌-◌, vec_len}
-use Rattle.serve_core.specs.Keeping.{Kept, Stays}
+use Rattle.edge_traits.specs.Door.{Goes}
+use Rattle.serve_core.specs.Keeping.{KeepsLeft, SameHall, Underway}
 use Rattle.serve_core.proofs.settle.Host.settle_ended.Given as goal
 
 abbrev pub invariant-loop-next : goal.invariant-loop-next
 invariant-loop-next g l = record {
-  kept : Kept g.C.Clock.shows l.place.hall.now l.place.clock.now l.self.supply (g.D.Doorway.tale l.door) l.self.pass l.self.waiting.items;
-  same : Stays l.fn.self.pass l.self.pass;
+  kept : Underway g.C.Clock.shows l.place.hall.now l.place.clock.now l.self.supply (g.D.Doorway.tale l.door) l.self.pass l.self.waiting.items;
+  same : SameHall l.fn.self.pass l.self.pass;
+  left : Goes (g.D.Doorway.tale l.fn.door) (g.D.Doorway.tale l.door) KeepsLeft;
   faults : g.D.Doorway.faults l.door ≡ g.D.Doorway.faults l.fn.door;
 }
 

@@ -1,11 +1,11 @@
 use Rattle.std.proofs.Common.{◌≡◌, ◌↔◌, IsTrue, refl, sym, ap, subst, ◌∙◌}
 use Rattle.std.proofs.lemmas.Bool.{true≢false, true_from_ne_false}
 use Rattle.chess_model.specs.declared.variant.Variant.{Variant}
-use Rattle.chess_model.specs.declared.variant.Variant.TheVariants.{Chess, Crazyhouse, Bughouse}
+use Rattle.chess_model.specs.declared.variant.Variant.TheVariants.{Chess, Crazyhouse, Bughouse, Fischer}
 use Rattle.chess_model.specs.Position.{Position}
 use Rattle.chess_model.specs.Result.{HasAnswer}
 use Rattle.variant_rules.specs.States.{CanMove}
-use Rattle.variant_rules.proofs.StateLemmas.{answer-move, chess-answer, house-answer, pair-answer, chess-drop, house-drop, pair-shield, unshielded}
+use Rattle.variant_rules.proofs.StateLemmas.{answer-move, chess-answer, house-answer, pair-answer, fischer-answer, fischer-drop, chess-drop, house-drop, pair-shield, unshielded}
 use Rattle.variant_rules.proofs.position.Position.has_answer.Goals as goal
 
 pub returns-then-can_move : goal.returns-then-can_move
@@ -41,4 +41,15 @@ returns-in-Bughouse c =
       λ e. pair-answer p (c.can_be_shielded.ensures.some e),
       λ h. true_from_ne_false r (λ f. unshielded p (c.can_be_shielded.ensures.none f) (pair-shield p none h)),
     ) in
+    subst (λ (x : Variant). IsTrue r ↔ HasAnswer x p) (sym v) here
+
+pub returns-in-Fischer : goal.returns-in-Fischer
+returns-in-Fischer c =
+    let p = c.args.self.now in
+    let number = c.in-Fischer.field-0 in
+    let v : p.variant ≡ Fischer number = ap (λ (x : Position). x.variant) (sym c.self.view_is) ∙ c.in-Fischer.is in
+    let none : ¬ CanMove p = λ h. true≢false (sym (c.can_move.ensures.1 h) ∙ c.if-can_move.false) in
+    let r = c.can_drop_any-in-Fischer.result in
+    let here : IsTrue r ↔ HasAnswer (Fischer number) p =
+    (λ e. fischer-answer number p (c.can_drop_any-in-Fischer.ensures.0 e), λ h. c.can_drop_any-in-Fischer.ensures.1 (fischer-drop number p none h)) in
     subst (λ (x : Variant). IsTrue r ↔ HasAnswer x p) (sym v) here

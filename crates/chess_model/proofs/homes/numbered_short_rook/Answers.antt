@@ -1,0 +1,8 @@
+use Rattle.chess_model.proofs.HomeFiles.{short_rook_table, short_rook_table-within}
+use Rattle.chess_model.proofs.homes.numbered_short_rook.Goals as goal
+
+pub returns-clause-value : goal.returns-clause-value
+returns-clause-value c = short_rook_table c.args.number c.requires
+
+pub returns-clause-within : goal.returns-clause-within
+returns-clause-within c = short_rook_table-within c.args.number c.requires

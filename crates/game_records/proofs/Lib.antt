@@ -1,0 +1,10 @@
+pub mod Each
+pub mod Counts
+pub mod Played
+pub mod NumbersBack
+pub mod MovesBack
+pub mod ChargesBack
+pub mod HalvesBack
+pub mod NamesBack
+pub mod ReadBack
+pub mod KeysBack

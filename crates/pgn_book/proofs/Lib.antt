@@ -1,0 +1,9 @@
+pub mod Escapes
+pub mod Laying
+pub mod PiecesRead
+pub mod GamesTold
+pub mod ExportRead
+pub mod PiecesFound
+pub mod GamesFound
+pub mod Cuts
+pub mod LinesFit

@@ -1,0 +1,39 @@
+//! Laws of the grammar and of the export form.
+ghost use Rattle.pgn_book.specs.Examples.{ExportExamples, TextExamples};
+ghost use Rattle.pgn_book.specs.Games.{OneReading};
+ghost use Rattle.pgn_book.specs.Laws.{ExportsReadBack, LinesFit, ReaderReads, ReadsInPieces};
+
+/// The grammar reads at most one list of games in a text.
+pub fn texts_have_one_reading()
+    ensures { OneReading }
+{}
+
+/// The grammar reads in the export of a game exactly that game.
+pub fn exports_read_back()
+    ensures { ExportsReadBack }
+{}
+
+/// No line of the movetext of an export is longer than 79 bytes.
+pub fn exported_lines_fit()
+    ensures { LinesFit }
+{}
+
+/// Reading from left to right, a byte at a time, finds whole games exactly in the texts that the grammar reads.
+pub fn texts_are_read_from_left_to_right()
+    ensures { ReaderReads }
+{}
+
+/// A text is read alike however it is cut, and what begins with bytes behind which no reading goes on isn't read.
+pub fn texts_are_read_in_pieces()
+    ensures { ReadsInPieces }
+{}
+
+/// What is read in small texts.
+pub fn worked_texts()
+    ensures { TextExamples }
+{}
+
+/// What is written of small games.
+pub fn worked_exports()
+    ensures { ExportExamples }
+{}

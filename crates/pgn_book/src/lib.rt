@@ -1,0 +1,19 @@
+//! Games as PGN text.
+//!
+//! The contract: `export` writes exactly the text that `specs/Export.antt` defines of a game. The grammar of
+//! `specs/Lexing.antt` and `specs/Games.antt` reads at most one list of games in a text, and in the export of a game
+//! exactly that game. `specs/Reading.antt` reads a text a byte at a time, and finds exactly what the grammar reads,
+//! however the text is cut; no call of this crate reads yet.
+#![tactic(auto)]
+
+mod export_form;
+mod game;
+mod laws;
+mod page;
+
+pub use export_form::export;
+pub use game::{PgnGame, PgnResult, TagRow};
+pub use laws::{
+    exported_lines_fit, exports_read_back, texts_are_read_from_left_to_right,
+    texts_are_read_in_pieces, texts_have_one_reading, worked_exports, worked_texts,
+};

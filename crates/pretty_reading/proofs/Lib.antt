@@ -1,0 +1,4 @@
+pub mod Spelled
+pub mod Answered
+pub mod PawnOrigins
+pub mod ReadBack

@@ -1,0 +1,76 @@
+//! The keys of the store.
+
+use fics_words::{Handle, NoMemory};
+use game_records::{account_key, game_key, game_number};
+use std::alloc::Global;
+use std::test::Fail;
+
+/// A key, and the number of the game that it is the key of.
+type Row = (&'static [u8], Option<u64>);
+
+const ROWS: &[Row] = &[
+    (b"g\x00\x00\x00\x00\x00\x00\x00\x01", Some(1)),
+    (b"g\x00\x00\x00\x00\x00\x00\x01\x02", Some(258)),
+    (
+        b"g\xff\xff\xff\xff\xff\xff\xff\xff",
+        Some(18_446_744_073_709_551_615),
+    ),
+    (b"g\x00\x00\x00\x00\x00\x00\x00\x00", None),
+    (b"g\x00\x00\x00\x00\x00\x00\x01", None),
+    (b"g\x00\x00\x00\x00\x00\x00\x00\x00\x01", None),
+    (b"a\x00\x00\x00\x00\x00\x00\x00\x01", None),
+    (b"aann", None),
+    (b"", None),
+];
+
+/// The place of the first key that is read otherwise, if there is one.
+fn first_wrong() -> Option<usize> {
+    for (place, (key, number)) in ROWS.iter().enumerate() {
+        if game_number(key) != *number {
+            return Some(place);
+        }
+    }
+    None
+}
+
+#[test]
+fn numbers(rt: HostRuntime) -> Result<(), Fail> {
+    assert_eq!(rt; first_wrong(), None);
+    Ok(())
+}
+
+fn is_key(alloc: Global, number: u64, key: &[u8]) -> Result<bool, NoMemory> {
+    Ok(number != 0 && game_key(alloc, number)?.as_slice() == key)
+}
+
+/// The place of the first number that has another key, if there is one.
+fn first_miswritten(alloc: Global) -> Result<Option<usize>, NoMemory> {
+    for (place, (key, number)) in ROWS.iter().enumerate() {
+        if let Some(number) = number {
+            if !is_key(alloc, *number, key)? {
+                return Ok(Some(place));
+            }
+        }
+    }
+    Ok(None)
+}
+
+#[test]
+fn games(rt: HostRuntime) -> Result<(), Fail> {
+    assert_eq!(rt; first_miswritten(rt.alloc())?, None);
+    Ok(())
+}
+
+fn is_account_key(alloc: Global, name: &[u8], key: &[u8]) -> Result<bool, NoMemory> {
+    match Handle::read(name) {
+        Some(name) => Ok(account_key(alloc, name.key())?.as_slice() == key),
+        None => Ok(false),
+    }
+}
+
+#[test]
+fn accounts(rt: HostRuntime) -> Result<(), Fail> {
+    assert!(rt; is_account_key(rt.alloc(), b"Ann", b"aann")?);
+    assert!(rt; is_account_key(rt.alloc(), b"McDonald", b"amcdonald")?);
+    Ok(())
+}

@@ -1,0 +1,76 @@
+-- What follows for each link that came, where serving ended well.
+use Rattle.std.proofs.Common.{◌≡◌, ◌⊎◌, ℕ, ◌≤◌, Bool, true, List, ◌++◌, refl, sym, ap, subst, ◌∙◌, arith, inl, inr}
+use Rattle.std.specs.declared.option.Option.{Option}
+use Rattle.std.specs.declared.option.Option.TheVariants.{Some}
+use Rattle.edge_traits.specs.Door.{DoorTale}
+use Rattle.edge_traits.specs.Link.{Handed, IsFresh, Sign, Tale}
+use Rattle.edge_traits.specs.Door.{IfTold}
+use Rattle.one_server.specs.Running.{Log}
+use Rattle.link_core.specs.declared.link_end.LinkEnd.{LinkEnd}
+use Rattle.link_core.specs.declared.link_end.LinkEnd.TheVariants as end
+use Rattle.link_core.specs.Laws.{WasGreeted, telling}
+use Rattle.link_core.specs.Served.{WasServed}
+use Rattle.link_core.proofs.Owning.{faults_are_counted, is_greeted, keeps_its_signs, tells_on}
+use Rattle.serve_core.specs.declared.end.ServeEnd.{ServeEnd}
+use Rattle.serve_core.specs.declared.end.ServeEnd.TheVariants as ends
+use Rattle.serve_core.specs.Laws.{ComesBack, EachComesBack}
+use Rattle.serve_core.specs.Serving.{IsClean, MayBeShort}
+use Rattle.serve_core.specs.Sessions.{CameAs, CameBack, HasServed}
+
+never_short : (e : ServeEnd) → IsClean e → MayBeShort e → ⊥
+never_short ends.Done clean short = short
+never_short ends.Spent clean short = short
+never_short ends.WriteFault clean short = clean
+never_short ends.Memory clean short = clean
+never_short ends.DoorFault clean short = clean
+
+module _ (shows : ℕ → Bool) (session : ℕ) (calls : Log) (came back : Tale) (faults : ℕ) (fresh : IsFresh came) where
+  greeted_or_failed : (e : LinkEnd) → (e ≡ end.Memory → ⊥) → WasServed shows true session e calls (telling came 0) (telling back faults) → WasGreeted came back ⊎ (1 ≤ faults)
+  greeted_or_failed end.Memory never s = absurd (never refl)
+  greeted_or_failed end.WriteFault never s =
+      inr (omega (arith, faults_are_counted shows true session end.WriteFault calls (telling came 0) (telling back faults) s (inr refl)))
+  greeted_or_failed end.Quit never s = inl (is_greeted shows true session end.Quit calls came back 0 faults s (λ e. cc) never)
+  greeted_or_failed end.End never s = inl (is_greeted shows true session end.End calls came back 0 faults s (λ e. cc) never)
+  greeted_or_failed end.ReadFault never s = inl (is_greeted shows true session end.ReadFault calls came back 0 faults s (λ e. cc) never)
+  greeted_or_failed end.Spent never s = inl (is_greeted shows true session end.Spent calls came back 0 faults s (λ e. cc) never)
+
+  all_signs : (e : LinkEnd) → WasServed shows true session e calls (telling came 0) (telling back faults) → back.taken ++ back.left ≡ came.left
+  all_signs e s = keeps_its_signs shows true session e calls came back 0 faults s ∙ ap (λ (l : List Sign). l ++ came.left) fresh.0
+
+  comes_back : (door : DoorTale) (number : ℕ) (e : LinkEnd) → (e ≡ end.Memory → ⊥) → WasServed shows true session e calls (telling came 0) (telling back faults) → CameBack number (telling back faults) door → ComesBack door number came
+  comes_back door number e never s there = record {
+    link = back;
+    faults = faults;
+    back = there;
+    signs = all_signs e s;
+    greeted = greeted_or_failed e never s;
+  }
+
+-- the link came as the door tells, and comes back as it was handed back
+module _ (shows : ℕ → Bool) (lack : Type 0) (never : lack → ⊥) (door : DoorTale) (number : ℕ) (calls : Log) (came : Tale) (h : HasServed shows lack (Some door) number calls) (known : CameAs number (Some came) door) where
+  some_inside : (a b : Option Tale) → Some a ≡ Some b → a ≡ b
+  some_inside a b e = cc
+
+  link_is : h.link ≡ Some came
+  link_is = some_inside h.link (Some came) (sym h.came ∙ known)
+
+  was_fresh : IsFresh came
+  was_fresh = subst (λ (o : Option Tale). IfTold o IsFresh) link_is h.fresh
+
+  was_served : WasServed shows true number h.end calls (telling came 0) h.returned
+  was_served = subst (λ (o : Option Tale). WasServed shows true number h.end calls (record { tale = o; faults = 0 }) h.returned) link_is h.served
+
+  tells_back : (tale : Tale) × (h.returned.tale ≡ Some tale)
+  tells_back = tells_on shows true number h.end calls came h.returned.tale 0 h.returned.faults was_served
+
+  returned_is : h.returned ≡ telling tells_back.0 h.returned.faults
+  returned_is = ap (λ (o : Option Tale). record { tale = o; faults = h.returned.faults }) tells_back.1
+
+  pub comes_back_here : ComesBack door number came
+  comes_back_here =
+      comes_back shows number calls came tells_back.0 h.returned.faults was_fresh door number h.end (λ e. never (h.short e))
+      (subst (λ (r : Handed). WasServed shows true number h.end calls (telling came 0) r) returned_is was_served)
+      (subst (λ (r : Handed). CameBack number r door) returned_is h.back)
+
+pub each_comes_back : EachComesBack
+each_comes_back shows e door number calls came clean h known = comes_back_here shows (MayBeShort e) (never_short e clean) door number calls came h known

@@ -1,0 +1,30 @@
+-- Why no further link is taken, and how serving ends then.
+use Rattle.std.specs.Prelude.{◌≡◌, ℕ, ◌^◌, ◌<◌, []}
+use Rattle.std.specs.declared.option.Option.{Option}
+use Rattle.edge_traits.specs.Faults.{Rose}
+use Rattle.edge_traits.specs.Door.{DoorTale, IfTold}
+use Rattle.edge_traits.specs.declared.sink.Sent.{Sent}
+use Rattle.edge_traits.specs.declared.sink.Sent.TheVariants as sent
+use Rattle.serve_core.specs.declared.end.DoorEnd.{DoorEnd}
+use Rattle.serve_core.specs.declared.end.DoorEnd.TheVariants as door_end
+use Rattle.serve_core.specs.declared.end.ServeEnd.{ServeEnd}
+use Rattle.serve_core.specs.declared.end.ServeEnd.TheVariants.{Done, DoorFault, WriteFault, Memory, Spent}
+use Rattle.serve_core.specs.declared.settle.Supply.{Supply}
+use Rattle.serve_core.specs.declared.settle.Supply.TheVariants.{Short}
+
+-- why no further link is taken, of so many: the door is closed and has none left, where it tells; or it counted a
+-- fault; or 2^31 came
+abbrev pub Stopped : DoorEnd → ℕ → Option DoorTale → ℕ → ℕ → Type 0
+Stopped door_end.Closed count door before now = IfTold door (λ tale. tale.left ≡ []) × (count < 2 ^ 31)
+Stopped door_end.Failed count door before now = Rose before now × (count < 2 ^ 31)
+Stopped door_end.Spent count door before now = count ≡ 2 ^ 31
+
+-- how serving ends: by why no further link was taken, what became of the last write, and whether memory ran out. A
+-- fault of the door comes first, then one of the sink, then running out of memory
+abbrev pub end_of : DoorEnd → Sent → Supply → ServeEnd
+end_of door_end.Failed written supply = DoorFault
+end_of door sent.Failed supply = WriteFault
+end_of door sent.Memory supply = Memory
+end_of door written Short = Memory
+end_of door_end.Spent written supply = Spent
+end_of door_end.Closed written supply = Done
