@@ -8,6 +8,7 @@ use Rattle.line_answers.specs.Ends.{OnReadFault, OnWriteFault, status_of}
 use Rattle.line_answers.specs.Lines.{lines_of}
 use Rattle.job_words.specs.Jobs.{OnUsage}
 use Rattle.job_words.specs.Jobs as jobs
+use Rattle.job_words.specs.Usage.{UsageEnds}
 use Rattle.job_words.specs.declared.job.Job.{Job}
 use Rattle.job_words.specs.declared.job.Job.TheVariants as job
 use Rattle.job_words.specs.declared.job.JobFail.{JobFail}
@@ -48,6 +49,12 @@ status-listed WriteFault = (3, omega arith, refl)
 status-listed Memory = (4, omega arith, refl)
 status-listed BadLine = (5, omega arith, refl)
 status-listed Spent = (6, omega arith, refl)
+
+-- and those with which the usage line is written
+pub usage_listed : (written written' : Option (List ℕ)) (status : ℕ) → UsageEnds written written' status → Contains (0 ∷ 1 ∷ 2 ∷ 3 ∷ 6 ∷ 7 ∷ 9 ∷ []) status
+usage_listed written written' status (inl p) = subst (Contains (0 ∷ 1 ∷ 2 ∷ 3 ∷ 6 ∷ 7 ∷ 9 ∷ [])) (sym p.0) (1, omega arith, refl)
+usage_listed written written' status (inr (inl e, front)) = subst (Contains (0 ∷ 1 ∷ 2 ∷ 3 ∷ 6 ∷ 7 ∷ 9 ∷ [])) (sym e) (3, omega arith, refl)
+usage_listed written written' status (inr (inr e, front)) = subst (Contains (0 ∷ 1 ∷ 2 ∷ 3 ∷ 6 ∷ 7 ∷ 9 ∷ [])) (sym e) (4, omega arith, refl)
 
 -- a status has one end
 pub one_end : (end wanted : End) (status : ℕ) → status ≡ status_of end → status ≡ status_of wanted → end ≡ wanted

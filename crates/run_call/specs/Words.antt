@@ -1,5 +1,5 @@
 -- The words of a command that `run` runs, and what is written at most for others.
-use Rattle.std.specs.Prelude.{◌⊎◌, ℕ, List, Option, String}
+use Rattle.std.specs.Prelude.{ℕ, List, Option, String}
 use Rattle.std.specs.Io.KnownBytes.{Keeps}
 use Rattle.edge_traits.specs.Sink.{AppendsFront}
 use Rattle.job_words.specs.Usage.{usage_line}
