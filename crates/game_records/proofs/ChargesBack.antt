@@ -1,11 +1,11 @@
 -- Charges that were written are read again.
-use Rattle.std.proofs.Common.{◌≡◌, ℕ, ◌^◌, ◌<◌, ◌≤◌, List, [], ◌∷◌, ◌++◌, drop, refl, sym, ap, ◌∙◌, arith, append_assoc}
+use Rattle.std.proofs.Common.{◌≡◌, ℕ, ◌^◌, ◌<◌, List, [], ◌++◌, drop, refl, ap, ◌∙◌, arith, append_assoc}
 use Rattle.std.specs.Prelude.{Option, Some, None}
 use Rattle.clock_ledger.specs.declared.charges.Charge.{Charge}
-use Rattle.clock_ledger.specs.Charges.{IsChargeable, AreStamps}
+use Rattle.clock_ledger.specs.Charges.{AreStamps}
 use Rattle.game_records.specs.Numbers.{four_bytes, eight_bytes}
 use Rattle.game_records.specs.Bounds.{IsCharge}
-use Rattle.game_records.specs.Spelling.{stamps_text, charge_text}
+use Rattle.game_records.specs.Spelling.{charge_text}
 use Rattle.game_records.specs.Reading.{four_in, eight_in, charge_behind, charge_in, behind_charge}
 use Rattle.game_records.proofs.NumbersBack.{four-read, eight-read, eight-behind, sixteen-behind, twenty-behind, twenty_four-behind}
 

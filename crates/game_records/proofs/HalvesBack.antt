@@ -1,6 +1,6 @@
 -- Half-moves that were written are read again.
 use Rattle.std.proofs.Common.{◌≡◌, ℕ, zero, suc, ◌+◌, ◌-◌, ◌<◌, ◌≤◌, List, [], ◌∷◌, ◌++◌, length, drop, refl, sym, ap, subst, ◌∙◌, arith, append_assoc}
-use Rattle.std.specs.Prelude.{Option, Some, None}
+use Rattle.std.specs.Prelude.{Option}
 use Rattle.std.specs.List.{AllByRecursion}
 use Rattle.chess_model.specs.declared.moves.Move.{Move}
 use Rattle.chess_model.specs.declared.variant.Variant.{Variant}
@@ -94,3 +94,5 @@ halves_step v count i bytes h = less_one v (count - i) (count - (i + 1)) bytes (
 
 pub halves_end : (v : Variant) (count i : ℕ) (bytes : List ℕ) → count ≤ i → halves_in v (count - i) bytes ≡ []
 halves_end v count i bytes h = ap (λ (k : ℕ). halves_in v k bytes) (let e : count - i ≡ 0 = omega arith in e)
+
+pub ruleset each_half = (halves_step, halves_end)

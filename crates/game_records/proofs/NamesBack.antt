@@ -1,5 +1,5 @@
 -- Names that were written are read again.
-use Rattle.std.proofs.Common.{◌≡◌, ℕ, zero, suc, ◌+◌, ◌-◌, ◌<◌, ◌≤◌, List, [], ◌∷◌, ◌++◌, length, take, drop, refl, sym, ap, subst, ◌∙◌, arith, append_assoc}
+use Rattle.std.proofs.Common.{◌≡◌, ℕ, suc, ◌+◌, ◌-◌, ◌<◌, ◌≤◌, List, [], ◌∷◌, ◌++◌, length, refl, sym, ap, subst, ◌∙◌, arith, append_assoc}
 use Rattle.std.specs.List.{AllByRecursion}
 use Rattle.std.proofs.Math.Seq.{take-append_seam, drop-append_seam}
 use Rattle.fics_words.specs.Handle.{IsHandle}
@@ -58,3 +58,7 @@ no_handle done all count i rest h e bad each =
     let left = each-back IsHandle done (names_in (count - i) rest) (subst (AllByRecursion IsHandle) (sym e) each) in
     let next = subst (AllByRecursion IsHandle) (names_step count i rest h) left in
     bad next.0
+
+pub ruleset each_name = (names_step, names_end)
+
+pub ruleset behind_each = (behind_step, behind_end)

@@ -1,9 +1,8 @@
 -- A record that was written is read again.
-use Rattle.std.proofs.Common.{◌≡◌, ◌≢◌, ℕ, ◌+◌, ◌*◌, ◌^◌, ◌<◌, ◌≤◌, min, Bool, true, false, cond, List, [], ◌∷◌, ◌++◌, length, take, drop, refl, sym, ap, subst, ◌∙◌, arith}
+use Rattle.std.proofs.Common.{◌≡◌, ℕ, min, cond, List, ◌++◌, length, take, drop, refl, sym, ap, subst, ◌∙◌, arith}
 use Rattle.std.specs.Prelude.{nat_eq, slice_index, Option, Some, None, IfSome, IfNone}
 use Rattle.std.proofs.Math.Seq.{take-length}
 use Rattle.chess_model.specs.declared.man.Colour.{Colour}
-use Rattle.chess_model.specs.declared.variant.Terms.{Terms}
 use Rattle.chess_model.specs.declared.variant.Variant.{Variant}
 use Rattle.chess_model.specs.declared.variant.Variant.TheVariants.{Chess, Crazyhouse, Bughouse, Fischer}
 use Rattle.chess_model.specs.VariantWord.{IsNumbered}
@@ -15,7 +14,7 @@ use Rattle.game_records.specs.declared.records.Record.TheVariants as a
 use Rattle.game_records.specs.Numbers.{two_bytes}
 use Rattle.game_records.specs.Bounds.{seats, IsGame, IsSpellable, IsTyped}
 use Rattle.game_records.specs.Spelling.{name_text, names_text, halves_text, variant_text, account_text, game_text, spelling, IsSpelled}
-use Rattle.game_records.specs.Reading.{two_in, name_in, behind_name, names_in, behind_names, halves_in, counted_halves, variant_in, behind_variant, game_behind, game_in, account_in, record_in}
+use Rattle.game_records.specs.Reading.{two_in, behind_name, names_in, behind_names, halves_in, counted_halves, variant_in, behind_variant, game_behind, game_in, account_in, record_in}
 use Rattle.game_records.proofs.NumbersBack.{two-read, two-behind, two_two-behind}
 use Rattle.game_records.proofs.NamesBack.{name-read, name-behind, names-read, names-behind}
 use Rattle.game_records.proofs.HalvesBack.{halves-read}

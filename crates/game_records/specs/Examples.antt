@@ -1,14 +1,12 @@
 -- Records and keys that are written out.
-use Rattle.std.specs.Prelude.{◌≡◌, ℕ, List, [], ◌∷◌, ◌++◌, replicate, codes, Some, None, refl}
-use Rattle.chess_model.specs.declared.man.Kind.TheVariants.{Queen}
-use Rattle.chess_model.specs.declared.moves.Move.TheVariants.{Plain, Castle, Drop}
+use Rattle.std.specs.Prelude.{◌≡◌, ℕ, List, [], ◌∷◌, codes, None, refl}
+use Rattle.chess_model.specs.declared.moves.Move.TheVariants.{Plain}
 use Rattle.chess_model.specs.declared.variant.Variant.{Variant}
 use Rattle.chess_model.specs.declared.variant.Variant.TheVariants.{Chess, Bughouse, Fischer}
 use Rattle.game_records.specs.declared.stored_game.Half.{Half}
 use Rattle.game_records.specs.declared.stored_game.StoredGame.{StoredGame}
-use Rattle.game_records.specs.declared.records.Record.{Record}
 use Rattle.game_records.specs.declared.records.Record.TheVariants.{Account, Game}
-use Rattle.game_records.specs.Numbers.{two_bytes, four_bytes, eight_bytes}
+use Rattle.game_records.specs.Numbers.{two_bytes, eight_bytes}
 use Rattle.game_records.specs.Spelling.{spelling}
 use Rattle.game_records.specs.Keys.{account_key, game_key}
 

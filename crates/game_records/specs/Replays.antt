@@ -1,5 +1,5 @@
 -- When a stored game replays: it could have been played as it is written.
-use Rattle.std.specs.Prelude.{◌≡◌, ◌≢◌, ℕ, ◌+◌, ◌-◌, ◌<◌, ◌≤◌, ◌↔◌, false, IsSome, List, ◌∷◌, ◌++◌, map, length, bytes_eq, ⊤}
+use Rattle.std.specs.Prelude.{◌≡◌, ℕ, ◌+◌, ◌-◌, ◌<◌, ◌≤◌, ◌↔◌, false, IsSome, List, ◌∷◌, ◌++◌, map, length, bytes_eq, ⊤}
 use Rattle.std.specs.List.{IsDistinct}
 use Rattle.chess_model.specs.declared.variant.Terms.{Terms}
 use Rattle.chess_model.specs.declared.variant.Variant.{Variant}

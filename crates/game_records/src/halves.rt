@@ -66,7 +66,7 @@ pub(crate) fn counted_halves(
 }
 
 /// So many half-moves.
-#[tactic(auto, using(crate::proofs::HalvesBack::halves_step, crate::proofs::HalvesBack::halves_end, std::proofs::lemmas::Grind::common_steps))]
+#[tactic(auto, using(crate::proofs::HalvesBack::each_half, std::proofs::lemmas::Grind::common_steps))]
 fn halves_in(
     alloc: Global,
     variant: Variant,

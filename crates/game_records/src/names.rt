@@ -47,7 +47,7 @@ pub(crate) fn behind_name(bytes: &[u8]) -> &[u8]
 }
 
 /// So many names, where each is a handle.
-#[tactic(auto, using(crate::proofs::NamesBack::names_step, crate::proofs::NamesBack::names_end, std::proofs::lemmas::Grind::common_steps))]
+#[tactic(auto, using(crate::proofs::NamesBack::each_name, std::proofs::lemmas::Grind::common_steps))]
 pub(crate) fn names_in(
     alloc: Global,
     count: usize,
@@ -70,7 +70,7 @@ pub(crate) fn names_in(
 }
 
 /// The bytes behind the first so many names.
-#[tactic(auto, using(crate::proofs::NamesBack::behind_step, crate::proofs::NamesBack::behind_end, std::proofs::lemmas::Grind::common_steps))]
+#[tactic(auto, using(crate::proofs::NamesBack::behind_each, std::proofs::lemmas::Grind::common_steps))]
 pub(crate) fn behind_names(count: usize, bytes: &[u8]) -> &[u8]
     ensures { result.now ≡ behind_names count bytes.now }
 {

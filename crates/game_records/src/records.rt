@@ -20,7 +20,9 @@ const ACCOUNT: u8 = 0x41;
 /// What the store has under one key.
 #[derive(Drop)]
 pub enum Record {
+    /// A registered player.
     Account(Account),
+    /// A game that waits to be resumed.
     Game(StoredGame),
 }
 

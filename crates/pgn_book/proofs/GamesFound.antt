@@ -18,7 +18,11 @@ use Rattle.pgn_book.specs.declared.game.PgnGame.{PgnGame}
 use Rattle.pgn_book.specs.Bytes.{is_digit, is_name_byte}
 use Rattle.pgn_book.specs.Lexing.{Piece, Blank, Escape, Braces, Comment, Word, Glyph, Quoted, Sign, Opening, Closing, Within, is_skipped, is_sign, At, MayStand, behind, Lexes, at_start, unmarked}
 use Rattle.pgn_book.specs.Games.{result_text, is_result, position_of, Tag, IsTag, tag_pieces, all_tag_pieces, without_praise, IsPassed, IsMoveWord, Tells, TellMoves, IsGame, AreGames, Reads}
-use Rattle.pgn_book.specs.Reading.{Stage, Before, Tags, Opened, Named, Told, Moves, Row, Book, empty_row, no_book, noted, result_of, game_of, Taken, goes, fails, gives, staged, opened, closed, passed_over, quoted, named, from_word, move_read, with_move, moved, told, worded, signed, glyphed, took, Outcome, adding, is_before, all_told, state_at, Between, read_from, first_state}
+use Rattle.pgn_book.specs.declared.stage.Stage.{Stage}
+use Rattle.pgn_book.specs.declared.stage.Stage.TheVariants.{Before, Tags, Opened, Named, Told, Moves}
+use Rattle.pgn_book.specs.declared.row.Row.{Row}
+use Rattle.pgn_book.specs.declared.place.Place.TheVariants.{Between}
+use Rattle.pgn_book.specs.Reading.{Book, empty_row, no_book, noted, result_of, game_of, Taken, goes, fails, gives, staged, opened, closed, passed_over, quoted, named, from_word, move_read, with_move, moved, told, worded, signed, glyphed, took, Outcome, adding, is_before, all_told, state_at, read_from, first_state}
 use Rattle.pgn_book.specs.Laws.{ReaderReads}
 use Rattle.pgn_book.proofs.PiecesRead.{telling, lexed_read, start_read}
 use Rattle.pgn_book.proofs.GamesTold.{row_from, texts_of, row_told, reads_told}

@@ -15,7 +15,10 @@ use Rattle.pgn_book.specs.Bytes.{is_digit, is_name_byte}
 use Rattle.pgn_book.specs.Lexing.{Piece, Blank, Escape, Braces, Comment, Word, Glyph, Quoted, Sign, Opening, Closing, Within, at_start, unmarked}
 use Rattle.pgn_book.specs.Games.{result_text, is_result, position_of, Tag, IsTag, all_tag_pieces, first_text, row_of, without_praise, IsPassed, IsMoveWord, Tells, TellMoves, IsGame, AreGames, Reads, OneReading}
 use Rattle.pgn_book.specs.Reading as reader
-use Rattle.pgn_book.specs.Reading.{Stage, Before, Tags, Opened, Named, Told, Moves, Row, Book, empty_row, no_book, noted_as, noted, result_of, game_of, Taken, goes, fails, staged, passed_over, from_word, move_read, with_move, told, took, Outcome, adding, all_told, read_from, first_state}
+use Rattle.pgn_book.specs.declared.stage.Stage.{Stage}
+use Rattle.pgn_book.specs.declared.stage.Stage.TheVariants.{Before, Tags, Opened, Named, Told, Moves}
+use Rattle.pgn_book.specs.declared.row.Row.{Row}
+use Rattle.pgn_book.specs.Reading.{Book, empty_row, no_book, noted_as, noted, result_of, game_of, Taken, goes, fails, staged, passed_over, from_word, move_read, with_move, told, took, Outcome, adding, all_told, read_from, first_state}
 use Rattle.pgn_book.proofs.PiecesRead.{telling, lexed_read, start_read}
 
 abbrev book_at : Stage → Row → List Move → Book

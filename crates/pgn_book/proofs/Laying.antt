@@ -44,7 +44,7 @@ pub stands_at : (p : Position) (moves : List Move) → p.variant ≡ Chess → S
 stands_at p moves chess stands =
     stands.same ∙ ap (λ v. position_after v (map on_board moves) 1) chess
 
-map-end : (xs : List Move) (m : Move) → map on_board (xs ++ m ∷ []) ≡ map on_board xs ++ on_board m ∷ []
+pub map-end : (xs : List Move) (m : Move) → map on_board (xs ++ m ∷ []) ≡ map on_board xs ++ on_board m ∷ []
 map-end [] m = refl
 map-end (x ∷ xs) m = ap (λ (l : List HalfMove). on_board x ∷ l) (map-end xs m)
 

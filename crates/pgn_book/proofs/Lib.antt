@@ -1,5 +1,9 @@
 pub mod Escapes
 pub mod Laying
+pub mod Praise
+pub mod Resolving
+pub mod Walking
+pub mod ReaderSteps
 pub mod PiecesRead
 pub mod GamesTold
 pub mod ExportRead

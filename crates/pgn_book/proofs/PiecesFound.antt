@@ -7,7 +7,9 @@ use Rattle.move_reader.proofs.ByteMeanings.{below}
 use Rattle.pgn_book.specs.declared.game.PgnGame.{PgnGame}
 use Rattle.pgn_book.specs.Bytes.{is_among, is_space, is_word_byte, Every, StopsBefore}
 use Rattle.pgn_book.specs.Lexing.{Piece, Blank, Escape, Braces, Comment, Word, Glyph, Quoted, Sign, Opening, Closing, Within, escaped, escaped_byte, spelling, is_of_line, is_of_braces, is_of_text, is_sign, is_reserved, IsRestOfLine, IsWord, IsText, At, MayStand, behind, Lexes}
-use Rattle.pgn_book.specs.Reading.{Book, Taken, took, Outcome, adding, Place, Start, AfterOne, AfterTwo, Between, InLine, InBraces, InWord, InQuotes, InStroke, State, state_at, to_place, Step, silent, outside, opens, closes, nested, skipping, spaced, begun, begun_behind, piece_of, longer, word_ended, step, is_before, is_at_rest, resting, read_from}
+use Rattle.pgn_book.specs.declared.place.Place.{Place}
+use Rattle.pgn_book.specs.declared.place.Place.TheVariants.{Start, AfterOne, AfterTwo, Between, InLine, InBraces, InWord, InQuotes, InStroke}
+use Rattle.pgn_book.specs.Reading.{Book, Taken, took, Outcome, adding, State, state_at, to_place, Step, silent, outside, opens, closes, nested, skipping, spaced, begun, begun_behind, piece_of, longer, word_ended, step, is_before, is_at_rest, resting, read_from}
 use Rattle.pgn_book.proofs.PiecesRead.{each_among}
 
 -- what follows ends behind a whole game

@@ -4,5 +4,7 @@ pub mod Games
 pub mod Export
 pub mod Pages
 pub mod Reading
+pub mod Taking
+pub mod Reader
 pub mod Laws
 pub mod Examples

@@ -10,29 +10,17 @@ use Rattle.move_reader.specs.Reading.{reading}
 use Rattle.pgn_book.specs.declared.game.PgnResult.{PgnResult}
 use Rattle.pgn_book.specs.declared.game.PgnResult.TheVariants.{White, Black, Draw, Open}
 use Rattle.pgn_book.specs.declared.game.PgnGame.{PgnGame}
+use Rattle.pgn_book.specs.declared.game.TagRow.{TagRow}
+use Rattle.pgn_book.specs.declared.stage.Stage.{Stage}
+use Rattle.pgn_book.specs.declared.stage.Stage.TheVariants.{Before, Tags, Opened, Named, Told, Moves}
+use Rattle.pgn_book.specs.declared.row.Row.{Row}
+use Rattle.pgn_book.specs.declared.place.Place.{Place}
+use Rattle.pgn_book.specs.declared.place.Place.TheVariants.{Start, AfterOne, AfterTwo, Between, InLine, InBraces, InWord, InQuotes, InStroke}
 use Rattle.pgn_book.specs.Bytes.{is_among, is_space, is_digit, is_name_byte, is_word_byte}
 use Rattle.pgn_book.specs.Lexing.{Piece, Word, Glyph, Quoted, Sign, Opening, Closing, Within, is_sign, is_of_line, is_of_braces, is_of_text}
 use Rattle.pgn_book.specs.Games.{is_result, position_of, without_praise}
 
 -- ---- what has come of a game
-
--- before its first piece; behind a tag; behind `[`; behind a tag's name; behind its text; in the moves
-pub data Stage : Type 0 where
-  Before : Stage
-  Tags : Stage
-  Opened : Stage
-  Named : List ℕ → Stage
-  Told : Stage
-  Moves : Stage
-
--- the first text of each name
-pub record Row : Type 0 where
-  pub event : Option (List ℕ)
-  pub site : Option (List ℕ)
-  pub date : Option (List ℕ)
-  pub round : Option (List ℕ)
-  pub white : Option (List ℕ)
-  pub black : Option (List ℕ)
 
 pub record Book : Type 0 where
   pub stage : Stage
@@ -68,19 +56,23 @@ result_of word =
     else if bytes_eq word (codes "1/2-1/2") then Draw
     else Open
 
-abbrev pub game_of : Book → List ℕ → PgnGame
-game_of book word = record {
-  tags = record {
-    event = unwrap_or book.row.event (codes "?");
-    site = unwrap_or book.row.site (codes "?");
-    date = unwrap_or book.row.date (codes "????.??.??");
-    round = unwrap_or book.row.round (codes "?");
-    white = unwrap_or book.row.white (codes "?");
-    black = unwrap_or book.row.black (codes "?");
-  };
-  moves = book.moves;
-  result = result_of word;
+-- the texts of a game with that row
+abbrev pub tags_of : Row → TagRow
+tags_of row = record {
+  event = unwrap_or row.event (codes "?");
+  site = unwrap_or row.site (codes "?");
+  date = unwrap_or row.date (codes "????.??.??");
+  round = unwrap_or row.round (codes "?");
+  white = unwrap_or row.white (codes "?");
+  black = unwrap_or row.black (codes "?");
 }
+
+-- the game that a book and a result make
+abbrev pub game_with : Book → PgnResult → PgnGame
+game_with book result = record { tags = tags_of book.row; moves = book.moves; result = result }
+
+abbrev pub game_of : Book → List ℕ → PgnGame
+game_of book word = game_with book (result_of word)
 
 -- what a piece makes of it: maybe a game, and the book for the pieces behind it, unless the piece may not stand there
 pub record Taken : Type 0 where
@@ -209,20 +201,6 @@ all_told (Some book) (piece ∷ pieces) = adding (took book piece).given (all_to
 
 -- ---- pieces from bytes
 
--- where the next byte stands: before the first one; behind one or two of the mark of UTF-8; between pieces, perhaps at
--- the beginning of a line; in the rest of a line or in braces that are skipped; in a word, or in one behind `$`; in
--- quotes; behind a stroke in quotes
-pub data Place : Type 0 where
-  Start : Place
-  AfterOne : Place
-  AfterTwo : Place
-  Between : Bool → Place
-  InLine : Place
-  InBraces : Place
-  InWord : Bool → List ℕ → Place
-  InQuotes : List ℕ → Place
-  InStroke : List ℕ → Place
-
 pub record State : Type 0 where
   pub place : Place
   pub depth : ℕ
@@ -298,26 +276,43 @@ silent on = record { given = None; on = on }
 abbrev pub word_ended : Taken → ℕ → ℕ → Step
 word_ended taken depth b = record { given = taken.given; on = begun_behind depth taken.on b }
 
+-- the first byte of the text
+abbrev pub started : ℕ → Book → ℕ → Option State
+started depth book b = if b == 239 then Some (state_at AfterOne depth book) else begun true depth book b
+
+-- a byte in a line that is skipped, and in braces
+abbrev pub in_line : ℕ → Book → ℕ → Option State
+in_line depth book b =
+    if is_of_line b then Some (state_at InLine depth book) else Some (state_at (Between true) depth book)
+
+abbrev pub in_braces : ℕ → Book → ℕ → Option State
+in_braces depth book b =
+    if is_of_braces b then Some (state_at InBraces depth book) else Some (state_at (Between false) depth book)
+
+-- a byte in quotes, and behind a stroke in them
+abbrev pub in_quotes : List ℕ → ℕ → Book → ℕ → Option State
+in_quotes text depth book b =
+    if b == 34 then to_place (Between false) depth (took book (Quoted text)).on
+    else if b == 92 then Some (state_at (InStroke text) depth book)
+    else if is_of_text b then longer (InQuotes (text ++ b ∷ [])) text depth book
+    else None
+
+abbrev pub in_stroke : List ℕ → ℕ → Book → ℕ → Option State
+in_stroke text depth book b =
+    if is_among (34 ∷ 92 ∷ []) b then longer (InQuotes (text ++ b ∷ [])) text depth book else None
+
 abbrev pub step_in : Place → ℕ → Book → ℕ → Step
-step_in Start depth book b =
-    silent (if b == 239 then Some (state_at AfterOne depth book) else begun true depth book b)
+step_in Start depth book b = silent (started depth book b)
 step_in AfterOne depth book b = silent (if b == 187 then Some (state_at AfterTwo depth book) else None)
 step_in AfterTwo depth book b = silent (if b == 191 then Some (state_at (Between true) depth book) else None)
 step_in (Between fresh) depth book b = silent (begun fresh depth book b)
-step_in InLine depth book b =
-    silent (if is_of_line b then Some (state_at InLine depth book) else Some (state_at (Between true) depth book))
-step_in InBraces depth book b =
-    silent (if is_of_braces b then Some (state_at InBraces depth book) else Some (state_at (Between false) depth book))
+step_in InLine depth book b = silent (in_line depth book b)
+step_in InBraces depth book b = silent (in_braces depth book b)
 step_in (InWord glyph word) depth book b =
     if is_word_byte b then silent (longer (InWord glyph (word ++ b ∷ [])) word depth book)
     else word_ended (took book (piece_of glyph word)) depth b
-step_in (InQuotes text) depth book b =
-    silent (if b == 34 then to_place (Between false) depth (took book (Quoted text)).on
-    else if b == 92 then Some (state_at (InStroke text) depth book)
-    else if is_of_text b then longer (InQuotes (text ++ b ∷ [])) text depth book
-    else None)
-step_in (InStroke text) depth book b =
-    silent (if is_among (34 ∷ 92 ∷ []) b then longer (InQuotes (text ++ b ∷ [])) text depth book else None)
+step_in (InQuotes text) depth book b = silent (in_quotes text depth book b)
+step_in (InStroke text) depth book b = silent (in_stroke text depth book b)
 
 unfoldable pub step : State → ℕ → Step
 step s b = step_in s.place s.depth s.book b

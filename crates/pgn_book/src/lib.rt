@@ -3,13 +3,21 @@
 //! The contract: `export` writes exactly the text that `specs/Export.antt` defines of a game. The grammar of
 //! `specs/Lexing.antt` and `specs/Games.antt` reads at most one list of games in a text, and in the export of a game
 //! exactly that game. `specs/Reading.antt` reads a text a byte at a time, and finds exactly what the grammar reads,
-//! however the text is cut; no call of this crate reads yet.
+//! however the text is cut; `PgnReader` gives, a game a call, what it finds.
 #![tactic(auto)]
 
+mod book;
+mod bytes;
 mod export_form;
 mod game;
 mod laws;
 mod page;
+mod place;
+mod reader;
+mod row;
+mod stage;
+mod text;
+mod walk;
 
 pub use export_form::export;
 pub use game::{PgnGame, PgnResult, TagRow};
@@ -17,3 +25,4 @@ pub use laws::{
     exported_lines_fit, exports_read_back, texts_are_read_from_left_to_right,
     texts_are_read_in_pieces, texts_have_one_reading, worked_exports, worked_texts,
 };
+pub use reader::{PgnReader, PgnStep};

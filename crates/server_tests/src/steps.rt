@@ -1,5 +1,7 @@
 //! Steps of a server, each with its expected reply.
 
+ghost use Rattle.std.specs.Prelude.{IfOk};
+ghost use Rattle.chess_model.specs.VariantWord.{IsNumbered};
 ghost use Rattle.linked_desk.specs.Acts.{FitsDeskAct};
 ghost use Rattle.one_server.specs.Acts.{FitsAct};
 
@@ -228,7 +230,7 @@ fn challenging(
     let terms = Terms {
         minutes: 2,
         increment: 12,
-        variant,
+        variant: numbered(variant)?,
         colour: Some(Colour::White),
     };
     ran(
@@ -323,6 +325,23 @@ fn handle(name: &[u8; 3]) -> Result<Handle, Fail> {
     match Handle::read(name) {
         Some(handle) => Ok(handle),
         None => Err(Fail::Refused(Refusal::BadHandle)),
+    }
+}
+
+/// The variant, unless it is Fischer random from an array that there isn't.
+fn numbered(variant: Variant) -> Result<Variant, Fail>
+    ensures { IfOk result IsNumbered }
+{
+    match variant {
+        Variant::Chess => Ok(Variant::Chess),
+        Variant::Crazyhouse => Ok(Variant::Crazyhouse),
+        Variant::Bughouse => Ok(Variant::Bughouse),
+        Variant::Fischer(number) => {
+            if number >= 960 {
+                return Err(Fail::Refused(Refusal::BadArguments));
+            }
+            Ok(Variant::Fischer(number))
+        }
     }
 }
 

@@ -1,4 +1,4 @@
-use Rattle.std.proofs.Common.{◌≡◌, List, ℕ, drop, length, refl, rules, sym, ap, ◌∙◌, arith}
+use Rattle.std.proofs.Common.{List, ℕ, drop, length, rules, sym, ap, ◌∙◌, arith}
 use Rattle.std.specs.Prelude.{slice_index}
 use Rattle.game_records.specs.Reading.{eight_in}
 use Rattle.game_records.proofs.KeysBack.{key_length, key_first, key_number, is_key}

@@ -1,0 +1,13 @@
+//! Keepers over a file of SQLite: one that a server keeps its records with, and one that only reads them.
+//!
+//! Each meets the trait `Keeper`: it fails only where its count of faults rose, and the pairs that it loads ascend by
+//! key. What the file holds isn't told by either. The file has one table, which the command `sqlite3` reads and writes
+//! while no keeper holds the file.
+#![tactic(auto)]
+
+mod records;
+mod sqlite_keeper;
+mod store_reader;
+
+pub use sqlite_keeper::SqliteKeeper;
+pub use store_reader::StoreReader;

@@ -1,0 +1,165 @@
+//! The table of records, in SQL, over any store of SQLite; and counts of faults.
+
+ghost use Rattle.std.specs.Prelude.{◌≡◌, ◌≤◌, IsTrue, IfOk};
+ghost use Rattle.edge_traits.specs.Faults.{Rose};
+ghost use Rattle.edge_traits.specs.Keeper.{OnKeepFailed, OnLoadFailed};
+ghost use Rattle.edge_traits.specs.Pairs.{IsAscending, keys_order};
+
+use edge_traits::{KeeperFail, Kept, Pair};
+use sqlite::{Alter, Connection, Error, ErrorCode, Row, params};
+use sqlite_resolve::CompileError;
+use std::alloc::{AllocError, Global};
+use std::cmp::Ordering;
+
+/// The one table of a store.
+const TABLE: &str =
+    "CREATE TABLE records (key BLOB PRIMARY KEY NOT NULL, record BLOB NOT NULL) STRICT";
+
+/// Asks for a unique key, so that a table without one is refused.
+const PUT: &str =
+    "INSERT INTO records (key, record) VALUES (?1, ?2) ON CONFLICT (key) DO UPDATE SET record = excluded.record";
+
+const REMOVE: &str = "DELETE FROM records WHERE key = ?1";
+
+const LOAD: &str = "SELECT key, record FROM records ORDER BY key";
+
+/// What an error of SQLite is to a keeper: want of memory, or a fault.
+pub fn fail_of(error: Error) -> KeeperFail {
+    match error {
+        Error::SqliteFailure(ErrorCode::OutOfMemory) => KeeperFail::Memory,
+        _ => KeeperFail::Failed,
+    }
+}
+
+/// Makes the table where the database has none. A view or an index of that name is found at the first record.
+pub fn make_table<S: Alter>(conn: &mut Connection<S>) -> Result<(), KeeperFail> {
+    match conn.execute(TABLE, &[]) {
+        Ok(_) => Ok(()),
+        Err(Error::SqlInputError(CompileError::Exists)) => Ok(()),
+        Err(error) => Err(fail_of(error)),
+    }
+}
+
+/// The connection, with the table made where the database had none.
+pub fn with_table<S: Alter + Drop>(mut conn: Connection<S>) -> Result<Connection<S>, KeeperFail> {
+    match make_table(&mut conn) {
+        Ok(()) => Ok(conn),
+        Err(fail) => Err(fail),
+    }
+}
+
+/// Puts the record under the key, in place of the one that is there.
+pub fn put_record<S: Alter>(
+    conn: &mut Connection<S>,
+    key: &[u8],
+    bytes: &[u8],
+) -> Result<(), KeeperFail> {
+    match conn.execute(PUT, params![key, bytes]) {
+        Ok(_) => Ok(()),
+        Err(error) => Err(fail_of(error)),
+    }
+}
+
+/// Takes away the record under the key, if there is one.
+pub fn remove_record<S: Alter>(conn: &mut Connection<S>, key: &[u8]) -> Result<(), KeeperFail> {
+    match conn.execute(REMOVE, params![key]) {
+        Ok(_) => Ok(()),
+        Err(error) => Err(fail_of(error)),
+    }
+}
+
+/// All records with their keys, in ascending order of key; a fault where the table gives them in another order.
+pub fn all_pairs<S: Alter>(alloc: Global, conn: &mut Connection<S>) -> Result<Vec<Pair>, KeeperFail>
+    ensures ascending { IfOk result (λ pairs. IsAscending pairs.items) }
+{
+    match all_rows(conn) {
+        Ok(rows) => pairs_of(alloc, rows.as_slice()),
+        Err(fail) => Err(fail),
+    }
+}
+
+fn all_rows<S: Alter>(conn: &mut Connection<S>) -> Result<Vec<Row>, KeeperFail> {
+    match conn.query_all(LOAD, &[]) {
+        Ok(rows) => Ok(rows),
+        Err(error) => Err(fail_of(error)),
+    }
+}
+
+fn pairs_of(alloc: Global, rows: &[Row]) -> Result<Vec<Pair>, KeeperFail>
+    ensures ascending { IfOk result (λ pairs. IsAscending pairs.items) }
+{
+    let pairs = match read_rows(alloc, rows) {
+        Ok(pairs) => pairs,
+        Err(error) => return Err(fail_of(error)),
+    };
+    if is_ascending(pairs.as_slice()) {
+        Ok(pairs)
+    } else {
+        Err(KeeperFail::Failed)
+    }
+}
+
+fn read_rows(alloc: Global, rows: &[Row]) -> Result<Vec<Pair>, Error> {
+    let mut pairs = Vec::new(alloc);
+    for row in rows {
+        pairs.push(read_row(row)?)?;
+    }
+    Ok(pairs)
+}
+
+fn read_row(row: &Row) -> Result<Pair, Error> {
+    let key = row.get(0)?;
+    let bytes = row.get(1)?;
+    Ok(Pair { key, bytes })
+}
+
+/// Whether the keys strictly rise.
+fn is_ascending(pairs: &[Pair]) -> bool
+    ensures { IsTrue result → IsAscending pairs.now }
+{
+    for i in 1..pairs.len() {
+        let before = i - 1;
+        match key_order(&pairs[before], &pairs[i]) {
+            Ordering::Less => {}
+            _ => return false,
+        }
+    }
+    true
+}
+
+/// How the key of the first pair compares with that of the second.
+fn key_order(first: &Pair, second: &Pair) -> Ordering
+    ensures { result ≡ keys_order first.now.0 second.now.0 }
+{
+    first.key.as_slice().cmp(second.key.as_slice())
+}
+
+/// The answer to a change; counts the fault, if it was one.
+pub fn kept(faults: &mut u64, outcome: Result<(), KeeperFail>) -> Kept
+    ensures cause { OnKeepFailed result (Rose faults.old faults.new) }
+    ensures counted { faults.old ≤ faults.new }
+{
+    match outcome {
+        Ok(()) => Kept::Done,
+        Err(KeeperFail::Memory) => Kept::Memory,
+        Err(KeeperFail::Failed) => {
+            *faults = faults.saturating_add(1);
+            Kept::Failed
+        }
+    }
+}
+
+/// The answer to a load; counts the fault, if it was one.
+pub fn loaded(
+    faults: &mut u64,
+    outcome: Result<Vec<Pair>, KeeperFail>,
+) -> Result<Vec<Pair>, KeeperFail>
+    ensures same { result ≡ outcome }
+    ensures cause { OnLoadFailed result (Rose faults.old faults.new) }
+    ensures counted { faults.old ≤ faults.new }
+{
+    if let Err(KeeperFail::Failed) = &outcome {
+        *faults = faults.saturating_add(1);
+    }
+    outcome
+}

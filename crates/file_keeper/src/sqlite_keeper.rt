@@ -1,0 +1,167 @@
+//! The keeper of a server: a file of SQLite.
+
+ghost use Rattle.std.specs.Prelude.{◌≡◌, ◌≤◌, IfOk};
+ghost use Rattle.edge_traits.specs.Faults.{Rose};
+ghost use Rattle.edge_traits.specs.Keeper.{OnKeepFailed};
+ghost use Rattle.edge_traits.specs.Pairs.{IsAscending};
+
+use crate::records::{all_pairs, fail_of, kept, loaded, put_record, remove_record, with_table};
+use edge_traits::{Keeper, KeeperFail, Kept, Pair};
+use sqlite::{Connection, File, FileStore};
+
+type Store = Connection<FileStore<File>>;
+
+/// A keeper over the file at a path, and its log beside it, named as the file with `-wal` behind it.
+///
+/// The first call opens the file, which makes it where there is none, and the keeper then holds it: no other keeper and
+/// no `sqlite3` gets at it. A change that is answered Done has been given to the disk. Whatever fails, also for want of
+/// memory, the file is let go, and the next call opens it anew; a change that failed as the disk did may be found then.
+/// The file is refused where another holds it, where it isn't a database, and where a record or a key is no BLOB.
+#[derive(Drop)]
+pub struct SqliteKeeper {
+    rt: HostRuntime,
+    path: String,
+    store: Option<Store>,
+    faults: u64,
+}
+
+impl SqliteKeeper {
+    /// A keeper over the file at this path, which isn't opened yet.
+    pub fn new(rt: HostRuntime, path: String) -> SqliteKeeper
+        ensures { result.faults ≡ 0 }
+    {
+        SqliteKeeper {
+            rt,
+            path,
+            store: None,
+            faults: 0,
+        }
+    }
+
+    /// Copies the log into the file and lets the file go, if it is open; a program does so at its end, since the file
+    /// is whole by itself then. After another end the two belong together. The next call opens the file anew.
+    pub fn close(&mut self) -> Kept
+        ensures cause { OnKeepFailed result (Rose self.old.faults self.new.faults) }
+        ensures counted { self.old.faults ≤ self.new.faults }
+    {
+        let outcome = close_store(&mut self.store);
+        kept(&mut self.faults, outcome)
+    }
+}
+
+impl Keeper for SqliteKeeper {
+    ghost use Rattle.std.specs.Prelude.{None};
+
+    ghost table = { λ _. None };
+
+    ghost faults = { λ keeper. keeper.faults };
+
+    fn put(&mut self, key: &[u8], bytes: &[u8]) -> Kept {
+        let outcome = put_in(&self.rt, &self.path, &mut self.store, key, bytes);
+        kept(&mut self.faults, outcome)
+    }
+
+    fn remove(&mut self, key: &[u8]) -> Kept {
+        let outcome = remove_in(&self.rt, &self.path, &mut self.store, key);
+        kept(&mut self.faults, outcome)
+    }
+
+    fn load(&mut self) -> Result<Vec<Pair>, KeeperFail> {
+        let outcome = load_from(&self.rt, &self.path, &mut self.store);
+        loaded(&mut self.faults, outcome)
+    }
+}
+
+fn put_in(
+    rt: &HostRuntime,
+    path: &str,
+    store: &mut Option<Store>,
+    key: &[u8],
+    bytes: &[u8],
+) -> Result<(), KeeperFail> {
+    let mut conn = taken_or_opened(rt, path, store)?;
+    let outcome = put_record(&mut conn, key, bytes);
+    keep_open(store, conn, outcome)
+}
+
+fn remove_in(
+    rt: &HostRuntime,
+    path: &str,
+    store: &mut Option<Store>,
+    key: &[u8],
+) -> Result<(), KeeperFail> {
+    let mut conn = taken_or_opened(rt, path, store)?;
+    let outcome = remove_record(&mut conn, key);
+    keep_open(store, conn, outcome)
+}
+
+fn load_from(
+    rt: &HostRuntime,
+    path: &str,
+    store: &mut Option<Store>,
+) -> Result<Vec<Pair>, KeeperFail>
+    ensures ascending { IfOk result (λ pairs. IsAscending pairs.items) }
+{
+    let mut conn = taken_or_opened(rt, path, store)?;
+    let outcome = all_pairs(rt.alloc(), &mut conn);
+    keep_open_loaded(store, conn, outcome)
+}
+
+/// The store, taken out; opened where there is none.
+fn taken_or_opened(
+    rt: &HostRuntime,
+    path: &str,
+    store: &mut Option<Store>,
+) -> Result<Store, KeeperFail> {
+    match store.take() {
+        Some(conn) => Ok(conn),
+        None => open_store(rt, path),
+    }
+}
+
+fn open_store(rt: &HostRuntime, path: &str) -> Result<Store, KeeperFail> {
+    match Connection::open(rt, path) {
+        Ok(conn) => with_table(conn),
+        Err(error) => Err(fail_of(error)),
+    }
+}
+
+/// Puts the store back after a call that went well; else it is let go.
+fn keep_open(
+    store: &mut Option<Store>,
+    conn: Store,
+    outcome: Result<(), KeeperFail>,
+) -> Result<(), KeeperFail> {
+    if outcome.is_ok() {
+        drop(store.replace(conn));
+    }
+    outcome
+}
+
+/// The same after a load.
+fn keep_open_loaded(
+    store: &mut Option<Store>,
+    conn: Store,
+    outcome: Result<Vec<Pair>, KeeperFail>,
+) -> Result<Vec<Pair>, KeeperFail>
+    ensures { result ≡ outcome }
+{
+    if outcome.is_ok() {
+        drop(store.replace(conn));
+    }
+    outcome
+}
+
+fn close_store(store: &mut Option<Store>) -> Result<(), KeeperFail> {
+    match store.take() {
+        Some(conn) => close_conn(conn),
+        None => Ok(()),
+    }
+}
+
+fn close_conn(conn: Store) -> Result<(), KeeperFail> {
+    match conn.close() {
+        Ok(()) => Ok(()),
+        Err(error) => Err(fail_of(error)),
+    }
+}

@@ -1,0 +1,77 @@
+-- What a reader gives before and after a byte, and at the end.
+use Rattle.std.proofs.Common.{◌≡◌, ℕ, ◌+◌, Bool, true, false, List, [], ◌∷◌, ◌++◌, drop, Option, Some, None, refl, sym, ap, subst, ◌∙◌, append-nil, arith}
+use Rattle.std.specs.Prelude.{is_some}
+use Rattle.std.proofs.lemmas.List.{drop-drop}
+use Rattle.pgn_book.specs.declared.game.PgnGame.{PgnGame}
+use Rattle.pgn_book.specs.declared.book.Read.{Read}
+use Rattle.pgn_book.specs.declared.reader.PgnStep.{PgnStep}
+use Rattle.pgn_book.specs.declared.reader.PgnStep.TheVariants.{Game, More, Bad}
+use Rattle.pgn_book.specs.Reading.{State, Step, step, gone, with_given, read_from, adding, nothing_read}
+use Rattle.pgn_book.specs.Taking.{on_if, IsStep}
+use Rattle.pgn_book.specs.Reader.{Reader, line_if, line_from, GoesOn, IsRead, IsNext, IsLast}
+
+abbrev shown : Option State → ℕ → List ℕ → Reader
+shown on line rest = record { on = on; line = line; rest = rest }
+
+pub rest_on : (n : ℕ) (items : List ℕ) (on : Option State) (line : ℕ) (now : Reader) → shown on line (drop n items) ≡ now
+    → drop (n + 1) items ≡ drop 1 now.rest
+rest_on n items on line now view = sym (drop-drop 1 n items) ∙ ap (λ (r : Reader). drop 1 r.rest) view
+
+some_if : (on : Bool) (s : State) → is_some (on_if on s) ≡ on
+some_if true s = refl
+some_if false s = refl
+
+pub took_byte : (s t : State) (goes : Bool) (line byte : ℕ) (rest : List ℕ) (now new : Reader) (read : Read)
+    → on_if goes s ≡ now.on → line ≡ now.line → goes ≡ true → now.rest ≡ byte ∷ drop 1 now.rest → IsStep read t (step s byte)
+    → new.on ≡ on_if read.goes_on t → new.line ≡ line_if read.goes_on line byte → new.rest ≡ drop 1 now.rest → GoesOn now read.game new
+took_byte s t goes line byte rest now new read was lined h first st newon newline newrest =
+    let on : now.on ≡ Some s = sym was ∙ ap (λ (g : Bool). on_if g s) h in
+    let all : now.rest ≡ byte ∷ new.rest = first ∙ ap (λ (l : List ℕ). byte ∷ l) (sym newrest) in
+    let there : Option State = on_if read.goes_on t in
+    record {
+      games = λ more.
+          ap (λ (l : List ℕ). gone now.on (l ++ more)) all ∙ ap (λ (o : Option State). gone o (byte ∷ (new.rest ++ more))) on
+          ∙ ap (λ (x : Step). with_given x.given (gone x.on (new.rest ++ more))) st
+          ∙ ap (λ (o : Option State). with_given read.game (gone o (new.rest ++ more))) (sym newon);
+      read = λ more.
+          ap (λ (l : List ℕ). read_from now.on (l ++ more)) all ∙ ap (λ (o : Option State). read_from o (byte ∷ (new.rest ++ more))) on
+          ∙ ap (λ (x : Step). adding x.given (read_from x.on (new.rest ++ more))) st
+          ∙ ap (λ (o : Option State). adding read.game (read_from o (new.rest ++ more))) (sym newon);
+      line = λ more.
+          ap (λ (l : List ℕ). line_from now.line now.on (l ++ more)) all
+          ∙ ap (λ (o : Option State). line_from now.line o (byte ∷ (new.rest ++ more))) on
+          ∙ ap (λ (x : Step). line_from (line_if (is_some x.on) now.line byte) x.on (new.rest ++ more)) st
+          ∙ ap (λ (g : Bool). line_from (line_if g now.line byte) there (new.rest ++ more)) (some_if read.goes_on t)
+          ∙ ap (λ (n : ℕ). line_from (line_if read.goes_on n byte) there (new.rest ++ more)) (sym lined)
+          ∙ ap (λ (n : ℕ). line_from n there (new.rest ++ more)) (sym newline)
+          ∙ ap (λ (o : Option State). line_from new.line o (new.rest ++ more)) (sym newon);
+    }
+
+pub next_bad : (now loop new : Reader) (goes : Bool) (s : State) (line : ℕ) → GoesOn now None loop → loop.rest ≡ [] → new ≡ loop
+    → on_if goes s ≡ new.on → line ≡ new.line → goes ≡ false
+    → IsRead now new × (new.on ≡ None) × (line ≡ line_from now.line now.on now.rest) × (line ≡ new.line)
+next_bad now loop new goes s line inv empty e was lined h =
+    let on : new.on ≡ None = sym was ∙ ap (λ (g : Bool). on_if g s) h in
+    let goes_on : GoesOn now None new = subst (λ (r : Reader). GoesOn now None r) (sym e) inv in
+    let all : line_from now.line now.on now.rest ≡ new.line =
+    ap (line_from now.line now.on) (sym (append-nil now.rest)) ∙ goes_on.line []
+    ∙ ap (λ (o : Option State). line_from new.line o (new.rest ++ [])) on in
+    (record { goes_on = goes_on; all = ap (λ (r : Reader). r.rest) e ∙ empty }, on, lined ∙ sym all, lined)
+
+read_on : (now new : Reader) (given : Option PgnGame) → GoesOn now given new → read_from now.on now.rest ≡ adding given (read_from new.on new.rest)
+read_on now new given h =
+    ap (read_from now.on) (sym (append-nil now.rest)) ∙ h.read [] ∙ ap (λ (l : List ℕ). adding given (read_from new.on l)) (append-nil new.rest)
+
+pub next_last : (now new : Reader) (step : PgnStep) → IsNext now step new → (step ≡ More → ⊥) → IsLast now step new
+next_last now new (Game g) h other = read_on now new (Some g) h
+next_last now new More h other = absurd (other refl)
+next_last now new (Bad line) h other =
+    (read_on now new None h.0.goes_on ∙ ap (λ (o : Option State). read_from o new.rest) h.1, h.1, h.2, h.3)
+
+pub more_last : (now mid new : Reader) (step : PgnStep) → IsNext now More mid → IsLast mid step new → IsLast now step new
+more_last now mid new (Game g) h last = read_on now mid None h.0.goes_on ∙ last
+more_last now mid new More h last = read_on now mid None h.0.goes_on ∙ last
+more_last now mid new (Bad line) h last =
+    let lines : line_from now.line now.on now.rest ≡ line_from mid.line mid.on mid.rest =
+    ap (line_from now.line now.on) (sym (append-nil now.rest)) ∙ h.0.goes_on.line [] ∙ ap (line_from mid.line mid.on) (append-nil mid.rest) in
+    (read_on now mid None h.0.goes_on ∙ last.0, last.1, last.2 ∙ sym lines, last.3)

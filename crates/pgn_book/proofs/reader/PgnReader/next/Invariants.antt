@@ -1,0 +1,10 @@
+use Rattle.std.proofs.Common.{None, length}
+use Rattle.pgn_book.specs.Reader.{GoesOn}
+use Rattle.pgn_book.proofs.reader.PgnReader.next.Given as goal
+
+-- no game was in what was looked at so far
+abbrev pub invariant-loop-byte : goal.invariant-loop-byte
+invariant-loop-byte l = GoesOn l.fn.self None l.self
+
+abbrev pub decreases-loop-byte : goal.decreases-loop-byte
+decreases-loop-byte l = length l.self.rest

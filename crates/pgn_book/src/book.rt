@@ -1,0 +1,298 @@
+//! What has come of a game, a piece at a time.
+ghost use Rattle.std.specs.Prelude.{◌≡◌, true, [], ◌∷◌, ◌++◌, if◌then◌else◌, IfOk, IfSome, OnOk, Option, Some, None};
+ghost use Rattle.chess_model.specs.Allowed.{Allowed};
+ghost use Rattle.pgn_book.specs.declared.stage.Stage.TheVariants.{Moves};
+ghost use Rattle.pgn_book.specs.Games.{is_result, position_of, without_praise};
+ghost use Rattle.pgn_book.specs.Reading.{Book, game_of, game_with, glyphed, is_before, move_read, moved, named, no_book, opened, closed, passed_over, quoted, result_of, signed, told, worded};
+ghost use Rattle.pgn_book.specs.Taking.{IsTaken, IsTakenSilently};
+
+use crate::bytes::{are_digits, is_name, without_praise};
+use crate::game::{PgnGame, PgnResult};
+use crate::row::Row;
+use crate::stage::Stage;
+use crate::text::Text;
+use chess_model::{Move, Variant};
+use collections::Listed;
+use memory::NoMemory;
+use move_reader::read_word;
+use std::alloc::Global;
+use std::marker::Model;
+use std::mem;
+use variant_rules::Position;
+
+/// The most half-moves of a game.
+const MOST_MOVES: usize = 1_200;
+
+/// What was read with a piece or a byte: maybe a game, and whether a text goes on behind it.
+#[derive(Drop)]
+pub(crate) struct Read {
+    pub(crate) game: Option<PgnGame>,
+    pub(crate) goes_on: bool,
+}
+
+/// The tags and the moves so far, with the position after these.
+#[derive(Drop)]
+pub(crate) struct Book {
+    stage: Stage,
+    row: Row,
+    moves: Listed<Move>,
+    position: Position,
+}
+
+impl Model for Book {
+    ghost use Rattle.std.specs.Prelude.{◌≡◌, map};
+    ghost use Rattle.chess_model.specs.declared.variant.Variant.TheVariants.{Chess};
+    ghost use Rattle.chess_model.specs.Position.{Stands};
+    ghost use Rattle.pgn_book.specs.Games.{on_board};
+    ghost use Rattle.pgn_book.specs.Reading.{Book};
+
+    ghost Value = { Book };
+
+    ghost view = { λ book. record { stage = book.stage; row = book.row; moves = book.moves } };
+
+    ghost invariant = { λ book. (book.position.variant ≡ Chess) × Stands book.position (map on_board book.moves) 1 };
+}
+
+impl Book {
+    /// Before a game.
+    pub(crate) fn new(alloc: Global) -> Book
+        ensures { result ≡ no_book }
+    {
+        Book {
+            stage: Stage::Before,
+            row: Row::new(),
+            moves: Listed::new(alloc),
+            position: Position::start(Variant::Chess),
+        }
+    }
+
+    /// Whether nothing of a game has come.
+    pub(crate) fn is_before(&self) -> bool
+        ensures { result ≡ is_before self.now.stage }
+    {
+        match self.stage {
+            Stage::Before => true,
+            _ => false,
+        }
+    }
+
+    /// Takes a piece that is passed over.
+    pub(crate) fn pass_over(&mut self) -> bool
+        ensures { IsTakenSilently result self.new (passed_over self.old.stage self.old) }
+    {
+        match self.stage {
+            Stage::Before => {
+                self.stage = Stage::Moves;
+                true
+            },
+            Stage::Tags => {
+                self.stage = Stage::Moves;
+                true
+            },
+            Stage::Moves => true,
+            _ => false,
+        }
+    }
+
+    /// Takes a sign.
+    pub(crate) fn sign(&mut self, byte: u8) -> bool
+        ensures { IsTakenSilently result self.new (signed self.old byte) }
+    {
+        if byte == b'[' {
+            return self.open();
+        }
+        if byte == b']' {
+            return self.close();
+        }
+        self.pass_over()
+    }
+
+    /// Takes a text in quotes.
+    pub(crate) fn quote(&mut self, alloc: Global, text: &[u8]) -> Result<bool, NoMemory>
+        ensures { IfOk result (λ on. IsTakenSilently on self.new (quoted self.old.stage self.old text.now)) }
+    {
+        match mem::replace(&mut self.stage, Stage::Told) {
+            Stage::Named(name) => {
+                self.row.note(alloc, name.bytes(), text)?;
+                Ok(true)
+            },
+            _ => Ok(false),
+        }
+    }
+
+    /// Takes a word behind `$`.
+    pub(crate) fn glyph(&mut self, word: &[u8]) -> bool
+        ensures { IsTakenSilently result self.new (glyphed self.old word.now) }
+    {
+        if word.is_empty() {
+            return false;
+        }
+        if are_digits(word) {
+            return self.pass_over();
+        }
+        false
+    }
+
+    /// Takes a word.
+    pub(crate) fn word(&mut self, alloc: Global, word: Text) -> Result<Read, NoMemory>
+        ensures { IfOk result (λ read. IsTaken read self.new (worded self.old.stage self.old word)) }
+    {
+        match self.stage {
+            Stage::Before => self.tell(alloc, word.bytes()),
+            Stage::Tags => self.tell(alloc, word.bytes()),
+            Stage::Moves => self.tell(alloc, word.bytes()),
+            Stage::Opened => Ok(silent(self.name(word))),
+            _ => Ok(silent(false)),
+        }
+    }
+
+    fn open(&mut self) -> bool
+        ensures { IsTakenSilently result self.new (opened self.old.stage self.old) }
+    {
+        match self.stage {
+            Stage::Before => {
+                self.stage = Stage::Opened;
+                true
+            },
+            Stage::Tags => {
+                self.stage = Stage::Opened;
+                true
+            },
+            _ => false,
+        }
+    }
+
+    fn close(&mut self) -> bool
+        ensures { IsTakenSilently result self.new (closed self.old.stage self.old) }
+    {
+        match self.stage {
+            Stage::Told => {
+                self.stage = Stage::Tags;
+                true
+            },
+            _ => false,
+        }
+    }
+
+    /// Takes the name of a tag.
+    fn name(&mut self, word: Text) -> bool
+        ensures { IsTakenSilently result self.new (named self.old word) }
+    {
+        if !is_name(word.bytes()) {
+            return false;
+        }
+        if word.bytes() == b"FEN".as_slice() {
+            return false;
+        }
+        self.stage = Stage::Named(word);
+        true
+    }
+
+    /// Takes a number, a result or a move.
+    fn tell(&mut self, alloc: Global, word: &[u8]) -> Result<Read, NoMemory>
+        ensures { IfOk result (λ read. IsTaken read self.new (told self.old word.now)) }
+    {
+        if are_digits(word) {
+            return Ok(silent(self.pass_over()));
+        }
+        if let Some(result) = read_result(word) {
+            return self.end(alloc, result);
+        }
+        Ok(silent(self.play(word)?))
+    }
+
+    /// Ends the game with a result.
+    fn end(&mut self, alloc: Global, ending: PgnResult) -> Result<Read, NoMemory>
+        ensures game { IfOk result (λ read. read ≡ record { game = Some (game_with self.old ending); goes_on = true }) }
+        ensures emptied { OnOk result (self.new ≡ no_book) }
+    {
+        let tags = self.row.take(alloc)?;
+        let moves = self.moves.take();
+        self.position = Position::start(Variant::Chess);
+        self.stage = Stage::Before;
+        Ok(Read {
+            game: Some(PgnGame {
+                tags,
+                moves,
+                result: ending,
+            }),
+            goes_on: true,
+        })
+    }
+
+    /// Takes a move.
+    fn play(&mut self, word: &[u8]) -> Result<bool, NoMemory>
+        ensures { IfOk result (λ on. IsTakenSilently on self.new (moved self.old word.now)) }
+    {
+        if self.moves.len() >= MOST_MOVES {
+            return Ok(false);
+        }
+        match self.resolve(without_praise(word)) {
+            Some(m) => {
+                self.make(&m)?;
+                Ok(true)
+            },
+            None => Ok(false),
+        }
+    }
+
+    /// The allowed move that a text is read as.
+    fn resolve(&self, text: &[u8]) -> Option<Move>
+        ensures value { result ≡ move_read (position_of self.now.moves) text.now }
+        ensures allowed { IfSome result (λ m. Allowed (position_of self.now.moves) m) }
+    {
+        match read_word(text) {
+            Some(word) => match self.position.resolve(&word) {
+                Ok(m) => Some(m),
+                Err(_) => None,
+            },
+            None => None,
+        }
+    }
+
+    /// Makes an allowed move.
+    fn make(&mut self, m: &Move) -> Result<(), NoMemory>
+        requires { Allowed (position_of self.old.moves) m.now }
+        ensures { OnOk result (self.new ≡ record {
+          stage = Moves;
+          row = self.old.row;
+          moves = self.old.moves ++ m.now ∷ [];
+        }) }
+    {
+        let kept = *m;
+        self.moves.push(kept)?;
+        let made = *m;
+        self.position.make(made);
+        self.stage = Stage::Moves;
+        Ok(())
+    }
+}
+
+/// What gives no game.
+pub(crate) fn silent(goes_on: bool) -> Read
+    ensures { result ≡ record { game = None; goes_on = goes_on } }
+{
+    Read {
+        game: None,
+        goes_on,
+    }
+}
+
+/// The result that a word is.
+fn read_result(word: &[u8]) -> Option<PgnResult>
+    ensures { result ≡ (if is_result word.now then Some (result_of word.now) else None) }
+{
+    if word == b"1-0".as_slice() {
+        return Some(PgnResult::White);
+    }
+    if word == b"0-1".as_slice() {
+        return Some(PgnResult::Black);
+    }
+    if word == b"1/2-1/2".as_slice() {
+        return Some(PgnResult::Draw);
+    }
+    if word == b"*".as_slice() {
+        return Some(PgnResult::Open);
+    }
+    None
+}
