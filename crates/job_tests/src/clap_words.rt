@@ -39,6 +39,7 @@ fn command_line<'a>(alloc: Global) -> Result<Command<'a>, AllocError> {
     Command::new(alloc, "ficsd")
         .subcommand(Command::new(alloc, "board"))?
         .subcommand(Command::new(alloc, "replay"))?
+        .subcommand(Command::new(alloc, "tourney"))?
         .subcommand(serve_line(alloc)?)
 }
 

@@ -11,10 +11,14 @@ use std::test::Fail;
 const ROWS: &str = "\
 board => board
 replay => replay
+tourney => tourney
 Board => -
+Tourney => -
 board board => -
 board --port 5000 => -
 replay x => -
+tourney 4 => -
+tourney --port 5000 => -
 bored => -
 --help => -
 --version => -
@@ -75,6 +79,7 @@ fn spoken(alloc: Global, job: Result<Job, JobFail>) -> Result<String, Fail> {
     match job {
         Ok(Job::Board) => Ok(String::from_str(alloc, "board")?),
         Ok(Job::Replay) => Ok(String::from_str(alloc, "replay")?),
+        Ok(Job::Tourney) => Ok(String::from_str(alloc, "tourney")?),
         Ok(Job::Serve { port, bind, count }) => {
             let count = count_text(alloc, count)?;
             Ok(format!(in alloc; "serve {port} {bind} {count}")?)

@@ -5,7 +5,7 @@ use Rattle.std.specs.List.{position_or_len, before_first, after_first}
 use Rattle.std.specs.declared.alloc.Global.{Global}
 use Rattle.fics_words.specs.Number.{IsDecimal}
 use Rattle.job_words.specs.declared.job.Job.{Job}
-use Rattle.job_words.specs.declared.job.Job.TheVariants.{Board, Replay, Serve}
+use Rattle.job_words.specs.declared.job.Job.TheVariants.{Board, Replay, Tourney, Serve}
 use Rattle.job_words.specs.declared.job.JobFail.{JobFail}
 use Rattle.job_words.specs.declared.job.JobFail.TheVariants as fail
 use Rattle.job_words.specs.declared.options.ServeOption.{ServeOption}
@@ -137,6 +137,7 @@ pub record IsServe (words : List (List ℕ)) (port : ℕ) (bind : List ℕ) (cou
 abbrev pub TextsName : List (List ℕ) → Job → Type 0
 TextsName words Board = words ≡ codes "board" ∷ []
 TextsName words Replay = words ≡ codes "replay" ∷ []
+TextsName words Tourney = words ≡ codes "tourney" ∷ []
 TextsName words (Serve port bind count) =
     (options : List (List ℕ)) × (words ≡ codes "serve" ∷ options) × IsServe options port (string_bytes bind) count
 

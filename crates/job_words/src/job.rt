@@ -13,6 +13,8 @@ pub enum Job {
     Board,
     /// Reads a script of an evening, and writes its transcript.
     Replay,
+    /// Reads the lines of a round robin, and answers each.
+    Tourney,
     /// Serves players who connect.
     Serve {
         /// The port, from 1 on.

@@ -34,6 +34,9 @@ pub fn read_job(alloc: Global, words: &[String]) -> Result<Job, JobFail>
     if word == "replay" {
         return Ok(Job::Replay);
     }
+    if word == "tourney" {
+        return Ok(Job::Tourney);
+    }
     Err(JobFail::Usage)
 }
 

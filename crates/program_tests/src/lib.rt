@@ -45,3 +45,5 @@ mod replays;
 mod running;
 #[cfg(test)]
 mod serves;
+#[cfg(test)]
+mod tourneys;

@@ -30,6 +30,17 @@ pub(crate) fn board(input: &[u8]) -> Case<'_> {
     }
 }
 
+/// `tourney` over an input that is read whole.
+pub(crate) fn tourney(input: &[u8]) -> Case<'_> {
+    Case {
+        words: &["tourney"],
+        input,
+        cut: 4_096,
+        reads: &[],
+        writes: &[],
+    }
+}
+
 /// Runs the case; gives the status and what was written.
 pub(crate) fn outcome(alloc: Global, case: &Case<'_>) -> Result<(u8, Vec<u8>), Fail> {
     let mut words = Vec::new(alloc);

@@ -1,6 +1,6 @@
 -- How a run ends, by its status and the command that its words name.
-use Rattle.std.proofs.Common.{◌≡◌, ℕ, ◌^◌, ◌<◌, List, [], ◌∷◌, length, refl, sym, ap, subst, ◌∙◌, arith, inl, inr, None, Some}
-use Rattle.std.specs.Prelude.{◌⊎◌, ◌==◌, if◌then◌else◌, Option, IfSome, Contains, String, codes}
+use Rattle.std.proofs.Common.{◌≡◌, ℕ, ◌^◌, ◌<◌, List, [], ◌∷◌, length, refl, sym, ap, subst, ◌∙◌, arith, get_or, map, inl, inr, None, Some}
+use Rattle.std.specs.Prelude.{◌⊎◌, ◌==◌, if◌then◌else◌, Option, IfSome, Contains, String, string_bytes}
 use Rattle.std.specs.declared.alloc.Global.{Global}
 use Rattle.std.specs.Io.KnownBytes.{Keeps}
 use Rattle.std.proofs.KnownBytes.{Appends-nil}
@@ -8,6 +8,7 @@ use Rattle.line_answers.specs.Ends.{OnReadFault, OnWriteFault, status_of}
 use Rattle.line_answers.specs.Lines.{lines_of}
 use Rattle.job_words.specs.Jobs.{OnUsage}
 use Rattle.job_words.specs.Jobs as jobs
+use Rattle.job_words.specs.Usage.{UsageEnds}
 use Rattle.job_words.specs.declared.job.Job.{Job}
 use Rattle.job_words.specs.declared.job.Job.TheVariants as job
 use Rattle.job_words.specs.declared.job.JobFail.{JobFail}
@@ -17,10 +18,11 @@ use Rattle.run_call.specs.Words.{Does, IsCommand, Names}
 use Rattle.line_answers.specs.declared.end.End.{End}
 use Rattle.line_answers.specs.declared.end.End.TheVariants.{Done, ReadFault, WriteFault, Memory, BadLine, Spent}
 use Rattle.run_call.specs.declared.command.Command.{Command}
-use Rattle.run_call.specs.declared.command.Command.TheVariants.{Board, Replay}
+use Rattle.run_call.specs.declared.command.Command.TheVariants.{Board, Replay, Tourney}
 use Rattle.board_command.specs.Transcript.{board_lines}
 use Rattle.line_answers.proofs.Completeness.{is_complete}
 use Rattle.line_answers.proofs.LineCommandEnds.{AnswersPart-none}
+use Rattle.tourney_command.specs.Texts.{tourney_lines}
 use Rattle.replay_command.proofs.ReplayEnds.{ReplayEnds-none, is_complete-replayed}
 
 -- ---- statuses
@@ -48,6 +50,12 @@ status-listed Memory = (4, omega arith, refl)
 status-listed BadLine = (5, omega arith, refl)
 status-listed Spent = (6, omega arith, refl)
 
+-- and those with which the usage line is written
+pub usage_listed : (written written' : Option (List ℕ)) (status : ℕ) → UsageEnds written written' status → Contains (0 ∷ 1 ∷ 2 ∷ 3 ∷ 6 ∷ 7 ∷ 9 ∷ []) status
+usage_listed written written' status (inl p) = subst (Contains (0 ∷ 1 ∷ 2 ∷ 3 ∷ 6 ∷ 7 ∷ 9 ∷ [])) (sym p.0) (1, omega arith, refl)
+usage_listed written written' status (inr (inl e, front)) = subst (Contains (0 ∷ 1 ∷ 2 ∷ 3 ∷ 6 ∷ 7 ∷ 9 ∷ [])) (sym e) (3, omega arith, refl)
+usage_listed written written' status (inr (inr e, front)) = subst (Contains (0 ∷ 1 ∷ 2 ∷ 3 ∷ 6 ∷ 7 ∷ 9 ∷ [])) (sym e) (4, omega arith, refl)
+
 -- a status has one end
 pub one_end : (end wanted : End) (status : ℕ) → status ≡ status_of end → status ≡ status_of wanted → end ≡ wanted
 one_end end wanted status is told = sym (end_of-status end) ∙ ap end_of (sym is ∙ told) ∙ end_of-status wanted
@@ -55,20 +63,33 @@ one_end end wanted status is told = sym (end_of-status end) ∙ ap end_of (sym i
 -- ---- words
 
 -- words that name no job name no command
+none_named : (words : List (String Global)) (command : Command) → ((job : Job) → jobs.Names words job → ⊥) → Names words command → ⊥
+none_named words Board none h = none job.Board h
+none_named words Replay none h = none job.Replay h
+none_named words Tourney none h = none job.Tourney h
+
 pub on_fail : (fail : JobFail) (words : List (String Global)) → OnUsage fail ((job : Job) → jobs.Names words job → ⊥) → OnUsage fail (¬ (IsCommand words))
-on_fail fails.Usage words none = λ command. elim command [ inl h ↦ none job.Board h | inr h ↦ none job.Replay h ]
+on_fail fails.Usage words none = λ named. none_named words named.0 none named.1
 on_fail fails.Memory words none = tt
+
+-- the command that words name, by the first byte of the first word
+abbrev command_by : ℕ → Command
+command_by byte = if byte == 98 then Board else (if byte == 114 then Replay else Tourney)
+
+abbrev command_of : List (List ℕ) → Command
+command_of words = command_by (get_or (get_or words 0 []) 0 0)
+
+command_is : (words : List (String Global)) (command : Command) → Names words command → command_of (map string_bytes words) ≡ command
+command_is words Board n = ap command_of n
+command_is words Replay n = ap command_of n
+command_is words Tourney n = ap command_of n
 
 -- words name one command
 one_command : (words : List (String Global)) (command other : Command) → Names words command → Names words other → other ≡ command
-one_command words Board Board n m = refl
-one_command words Board Replay n m = absurd (let bad : codes "board" ∷ [] ≡ codes "replay" ∷ [] = sym n ∙ m in cc)
-one_command words Replay Board n m = absurd (let bad : codes "board" ∷ [] ≡ codes "replay" ∷ [] = sym m ∙ n in cc)
-one_command words Replay Replay n m = refl
+one_command words command other n m = sym (command_is words other m) ∙ command_is words command n
 
 pub is_command : (words : List (String Global)) (command : Command) → Names words command → IsCommand words
-is_command words Board n = inl n
-is_command words Replay n = inr n
+is_command words command n = (command, n)
 
 module _ (words : List (String Global)) (command : Command) (names : Names words command) (left left' written written' : Option (List ℕ)) (end : End) (ends : CommandEnds left left' written written' end command) where
   -- a status tells how the command ended
@@ -92,6 +113,7 @@ Keeps-same (Some bytes) = refl
 out_of_memory : (left written : Option (List ℕ)) (command : Command) → CommandEnds left left written written Memory command
 out_of_memory left written Board = AnswersPart-none board_lines left written
 out_of_memory left written Replay = ReplayEnds-none left written
+out_of_memory left written Tourney = AnswersPart-none tourney_lines left written
 
 pub memory_at_once : (words : List (String Global)) (left written : Option (List ℕ)) → WritesPart words left left written written Memory
 memory_at_once words left written = (λ command names. out_of_memory left written command, λ none. (Keeps-same left, (0, Appends-nil written)))
@@ -104,6 +126,7 @@ is_complete-command : (command : Command) (left left' written written' : Option 
     → IfSome left (λ text. length text < 2 ^ 40 → AreGood (lines_of text) command → (status_of end ≡ 0) ⊎ (status_of end ≡ 6))
 is_complete-command Board left left' written written' P Q end h p q no_read no_write = is_complete board_lines left left' written written' P Q end h p q no_read no_write
 is_complete-command Replay left left' written written' P Q end h p q no_read no_write = is_complete-replayed left left' written written' P Q end h p q no_read no_write
+is_complete-command Tourney left left' written written' P Q end h p q no_read no_write = is_complete tourney_lines left left' written written' P Q end h p q no_read no_write
 
 pub complete_at : (words : List (String Global)) (command other : Command) (left left' written written' : Option (List ℕ)) (P Q : Type 0) (end : End) (status : ℕ)
     → Names words command → Names words other → status ≡ status_of end → CommandEnds left left' written written' end command → OnReadFault end P → OnWriteFault end Q → ¬ P → ¬ Q

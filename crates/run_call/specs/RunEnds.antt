@@ -4,15 +4,19 @@ use Rattle.std.specs.declared.alloc.Global.{Global}
 use Rattle.board_command.specs.BoardEnds.{BoardEnds}
 use Rattle.replay_command.specs.ReplayEnds.{AreEvening, ReplayEnds}
 use Rattle.board_command.specs.Transcript.{bad_in}
+use Rattle.line_answers.specs.LineCommand as each
+use Rattle.tourney_command.specs.Texts.{tourney_lines}
+use Rattle.tourney_command.specs.TourneyEnds.{TourneyEnds}
 use Rattle.run_call.specs.Words.{IsCommand, Names, UsagePart}
 use Rattle.line_answers.specs.declared.end.End.{End}
 use Rattle.run_call.specs.declared.command.Command.{Command}
-use Rattle.run_call.specs.declared.command.Command.TheVariants.{Board, Replay}
+use Rattle.run_call.specs.declared.command.Command.TheVariants.{Board, Replay, Tourney}
 
 -- how a command ends
 abbrev pub CommandEnds : Option (List ℕ) → Option (List ℕ) → Option (List ℕ) → Option (List ℕ) → End → Command → Type 0
 CommandEnds left left' written written' end Board = BoardEnds left left' written written' end
 CommandEnds left left' written written' end Replay = ReplayEnds left left' written written' end
+CommandEnds left left' written written' end Tourney = TourneyEnds left left' written written' end
 
 -- a prefix of what would have been written, at a fault of writing or when out of memory: of a command's text, or of the
 -- usage line
@@ -26,3 +30,4 @@ WritesPart words left left' written written' end =
 abbrev pub AreGood : List (List ℕ) → Command → Type 0
 AreGood lines Board = bad_in lines ≡ None
 AreGood lines Replay = AreEvening lines
+AreGood lines Tourney = each.bad_in tourney_lines lines ≡ None

@@ -14,6 +14,8 @@ pub enum Command {
     Board,
     /// Reads a script of an evening, and writes its transcript.
     Replay,
+    /// Reads the lines of a round robin, and answers each.
+    Tourney,
 }
 
 /// Reads the words. Those of a job that isn't done here are `Usage` too.
@@ -24,6 +26,7 @@ pub(crate) fn read_command(alloc: Global, words: &[String]) -> Result<Command, J
     match read_job(alloc, words) {
         Ok(Job::Board) => Ok(Command::Board),
         Ok(Job::Replay) => Ok(Command::Replay),
+        Ok(Job::Tourney) => Ok(Command::Tourney),
         Ok(Job::Serve { .. }) => Err(JobFail::Usage),
         Err(fail) => Err(fail),
     }

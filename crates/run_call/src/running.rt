@@ -18,6 +18,7 @@ use job_words::{JobFail, tell_usage};
 use line_answers::{End, status};
 use replay_command::replay;
 use std::alloc::Global;
+use tourney_command::tourney;
 
 /// Runs the command that the words name, and gives the status with which the program ends: 0 where the input was
 /// read to its end, 1 where the words name no command, 2 at a fault of reading, 3 at a fault of writing, 6 for want
@@ -75,5 +76,6 @@ fn run_command<S: Source, K: Sink>(
     match command {
         Command::Board => board(alloc, source, sink),
         Command::Replay => replay(alloc, source, sink),
+        Command::Tourney => tourney(alloc, source, sink),
     }
 }

@@ -1,6 +1,6 @@
 use Rattle.std.proofs.Common.{[], ◌∷◌, sym, subst}
 use Rattle.std.specs.Prelude.{Contains}
-use Rattle.run_call.proofs.RunEnds.{complete_at, memory_at_once, status-listed}
+use Rattle.run_call.proofs.RunEnds.{complete_at, memory_at_once, status-listed, usage_listed}
 use Rattle.run_call.proofs.running.run.Goals as goal
 
 pub returns-in-Ok-clause-complete : goal.returns-in-Ok-clause-complete
@@ -12,3 +12,6 @@ returns-in-Ok-clause-statuses g c = subst (Contains (0 ∷ 1 ∷ 2 ∷ 3 ∷ 6 �
 
 pub returns-in-Err-Memory-clause-memory_part : goal.returns-in-Err-Memory-clause-memory_part
 returns-in-Err-Memory-clause-memory_part g c = λ told. memory_at_once _ _ _
+
+pub returns-in-Err-Usage-clause-statuses : goal.returns-in-Err-Usage-clause-statuses
+returns-in-Err-Usage-clause-statuses g c = usage_listed (g.K.Sink.written c.args.sink.now) (g.K.Sink.written c.tell_usage.new.sink) c.tell_usage.result c.tell_usage.ensures.ends
