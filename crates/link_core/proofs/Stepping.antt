@@ -206,7 +206,7 @@ module _ (shows : ℕ → Bool) (start : Stand) where
         moment = moment;
         shown = shown;
         begins = subst (λ (n : ℕ). Begins (input_course input now.memory) n moment b.entries) (same_number start.state now.state h.made h.grew) b.begins;
-        inside = b.inside;
+        remembers = b.remembers;
       })))
   stopped_there now new taken e input due h moment shown same (inr l) =
       stopped_broke now new taken e input due h l.part.entries l.part.grew same (inr (

@@ -7,9 +7,10 @@ use Rattle.histories.specs.History.{IsPrefix}
 use Rattle.one_server.specs.Running.{Log, Made, RunnerState}
 use Rattle.session_core.specs.declared.input.Input.{Input}
 use Rattle.session_core.specs.Course.{Begins, Follows, Passes}
-use Rattle.session_core.specs.Going.{any_entered, departing}
+use Rattle.session_core.specs.Going.{departing}
 use Rattle.session_core.specs.Inputs.{input_course}
-use Rattle.session_core.specs.Memory.{MemoryState, has_entered, is_gone, newcomer}
+use Rattle.session_core.specs.Memory.{MemoryState, is_gone, newcomer}
+use Rattle.session_core.specs.Remembering.{Remembers}
 use Rattle.session_core.specs.Session.{leaving}
 use Rattle.session_core.specs.Stages.{settled}
 use Rattle.session_core.specs.Texts.{opening_text}
@@ -75,8 +76,8 @@ pub record LeavesShort (shows : ℕ → Bool) (mark : Bool) (session : ℕ) (mem
   pub shown : IsShown shows moment
   pub passes : Passes mark (departing memory) session moment made
 
--- the first acts of the input that comes next, at a moment that the clock shows; the session remembers this then, and
--- has entered where it had, or where one of them was answered so
+-- the first acts of the input that comes next, at a moment that the clock shows; the session remembers this then, which
+-- is what it did and what those acts have told
 pub record BeginsNext (shows : ℕ → Bool) (session : ℕ) (inputs come : List Input) (memory there : MemoryState)
     (made : Log) : Type 0 where
   pub next : Input
@@ -85,7 +86,7 @@ pub record BeginsNext (shows : ℕ → Bool) (session : ℕ) (inputs come : List
   pub moment : ℕ
   pub shown : IsShown shows moment
   pub begins : Begins (input_course next memory) session moment made
-  pub inside : has_entered there ≡ (has_entered memory || any_entered made)
+  pub remembers : Remembers memory made there
 
 -- nothing was made behind the answered inputs, and the session remembers what it did; or the next input was begun
 abbrev pub IsMidway : (ℕ → Bool) → ℕ → List Input → List Input → MemoryState → MemoryState → Log → Type 0

@@ -1,23 +1,24 @@
 -- What a session begins with, and how its whole answer follows from what came of that.
-use Rattle.std.proofs.Common.{◌≡◌, ℕ, true, List, sym, inl, inr, Ok, Err, Result}
+use Rattle.std.proofs.Common.{◌≡◌, ℕ, true, List, [], sym, inl, inr, Ok, Err, Result}
 use Rattle.std.specs.Result.{OnOk}
 use Rattle.memory.specs.declared.NoMemory.{NoMemory}
 use Rattle.one_server.specs.Running.{IsKnown, RunnerState}
 use Rattle.session_core.specs.Course.{Course}
 use Rattle.session_core.specs.Going.{Answered, Broke, BrokeOff, Left, LeftInPart}
-use Rattle.session_core.specs.Memory.{MemoryState, has_entered, is_gone}
+use Rattle.session_core.specs.Memory.{MemoryState, is_gone}
+use Rattle.session_core.specs.Remembering.{Remembers}
 use Rattle.session_core.specs.Session.{leaving}
 use Rattle.session_core.specs.Stages.{Settles}
 use Rattle.session_core.proofs.Going.{answered_after, answered_left, broke_next, broke_unmade, made_none, on_begun}
 
 module _ (moment : ℕ) where
   -- it began to answer and ran out of memory
-  pub broke_begun : (course : Course) (old : RunnerState) (before after : MemoryState) → IsKnown old → has_entered after ≡ has_entered before → Broke course moment old before old after
+  pub broke_begun : (course : Course) (old : RunnerState) (before after : MemoryState) → IsKnown old → Remembers before [] after → Broke course moment old before old after
   broke_begun course old before after known is = inl (broke_unmade moment course old before old after (made_none old known) is)
 
   -- it went on
   pub broke_going : (course coming : Course) (old : RunnerState) (before there : MemoryState) (out out' : List ℕ) (new : RunnerState) (after : MemoryState) → IsKnown old → Settles course coming out out'
-      → has_entered there ≡ has_entered before → BrokeOff coming moment old there new after → Broke course moment old before new after
+      → Remembers before [] there → BrokeOff coming moment old there new after → Broke course moment old before new after
   broke_going course coming old before there out out' new after known s is b =
       inl (broke_next moment course coming old before out old there out' new after (on_begun moment course coming old before there out out' known s is) b)
 

@@ -1,19 +1,17 @@
 -- Going on in a course: by an act, by a text, and one step after the other.
-use Rattle.std.proofs.Common.{◌≡◌, ℕ, Bool, ◌||◌, List, [], ◌∷◌, ◌++◌, refl, sym, ap, subst, ◌∙◌, append_assoc, append-nil, Ok, Err, Result}
+use Rattle.std.proofs.Common.{◌≡◌, ℕ, List, [], ◌∷◌, ◌++◌, refl, sym, ap, subst, ◌∙◌, append_assoc, append-nil, Ok, Err, Result}
 use Rattle.std.specs.Result.{IfOk, OnErr, OnOk, result_and}
-use Rattle.std.proofs.Math.Bool.{or-false, or_assoc}
-use Rattle.std.proofs.lemmas.List.Folds.{list_any-append}
 use Rattle.memory.specs.declared.NoMemory.{NoMemory}
-use Rattle.histories.specs.declared.entry.Entry.{Entry}
 use Rattle.histories.specs.History.{entry}
-use Rattle.one_server.specs.declared.act.Timed.{Timed}
 use Rattle.one_server.specs.declared.act.Act.{Act}
 use Rattle.one_server.specs.declared.reply.Reply.{Reply}
 use Rattle.one_server.specs.Running.{IsKnown, Log, Made, Ran, RunnerState}
 use Rattle.session_core.specs.Course.{Course, Done, Asks, Writes, Follows, Begins, timed}
-use Rattle.session_core.specs.Going.{Answered, BrokeOff, Leads, Left, Went, WentOn, any_entered, is_entered}
-use Rattle.session_core.specs.Memory.{MemoryState, has_entered}
+use Rattle.session_core.specs.Going.{Answered, BrokeOff, Leads, Left, Went, WentOn}
+use Rattle.session_core.specs.Memory.{MemoryState}
+use Rattle.session_core.specs.Remembering.{Remembers}
 use Rattle.session_core.specs.Stages.{Settles, onto, settled}
+use Rattle.session_core.proofs.Remembering.{remembers_none, remembers_then}
 
 -- ---- entries
 
@@ -92,13 +90,6 @@ leads_settled (Writes put rest) session moment =
 leads_settled (Asks act rest) session moment = leads_same (Asks act rest) session moment
 leads_settled (Done memory) session moment = leads_same (Done memory) session moment
 
--- an entry of both, or of one of them
-inside_then : (before there : Bool) (one two : Log) → there ≡ (before || any_entered one) → (there || any_entered two) ≡ (before || any_entered (one ++ two))
-inside_then before there one two is =
-    ap (λ (b : Bool). b || any_entered two) is
-    ∙ or_assoc before (any_entered one) (any_entered two)
-    ∙ ap (λ (b : Bool). before || b) (sym (list_any-append (λ (e : Entry Timed Reply). is_entered e.reply) one two))
-
 -- ---- a session on its way
 
 module _ (moment : ℕ) where
@@ -165,19 +156,19 @@ module _ (moment : ℕ) where
       let w : Went course (Done memory) moment old out new out' = subst (λ (c : Course). Went course c moment old out new out') is p in
       record { entries = w.entries; text = w.put; grew = w.grew; follows = follows_leads course memory old.number moment w.entries w.put w.leads; appended = w.appended }
 
-  -- it has entered where it had, so far
+  -- it remembers what it did, so far
   pub on_none : (course : Course) (old : RunnerState) (memory : MemoryState) (out : List ℕ) → IsKnown old → WentOn course course moment old memory out old memory out
   unfolding went_none
-  on_none course old memory out known = record { went = went_none course old out known; inside = sym (or-false (has_entered memory)) }
+  on_none course old memory out known = record { went = went_none course old out known; remembers = remembers_none memory memory refl refl refl }
 
   -- an act was made, and what follows its reply was written or ran out of memory
   pub on_asked : {T : Type 0} (act : Act) (rest : Reply → Course) (reply : Reply) (result : Result T NoMemory) (coming : T → Course) (old : RunnerState) (before : MemoryState) (out : List ℕ) (new : RunnerState) (after : MemoryState) (out' : List ℕ)
-      → Ran old (timed moment act) reply new → IfOk result (λ next. Settles (rest reply) (coming next) out out') → has_entered after ≡ (has_entered before || is_entered reply)
+      → Ran old (timed moment act) reply new → IfOk result (λ next. Settles (rest reply) (coming next) out out') → Remembers before (entry old.number (timed moment act) reply ∷ []) after
       → IfOk result (λ next. WentOn (Asks act rest) (coming next) moment old before out new after out')
   unfolding went_on went_then went_ask went_settled
-  on_asked act rest reply (Ok next) coming old before out new after out' ran s inside =
-      record { went = went_on act rest reply (coming next) old out new out' ran s; inside = inside ∙ ap (λ (b : Bool). has_entered before || b) (sym (or-false (is_entered reply))) }
-  on_asked act rest reply (Err e) coming old before out new after out' ran s inside = tt
+  on_asked act rest reply (Ok next) coming old before out new after out' ran s remembers =
+      record { went = went_on act rest reply (coming next) old out new out' ran s; remembers = remembers }
+  on_asked act rest reply (Err e) coming old before out new after out' ran s remembers = tt
 
   -- and then the next
   pub on_then : (one two three : Course) (old : RunnerState) (before : MemoryState) (out : List ℕ) (mid : RunnerState) (there : MemoryState) (out' : List ℕ) (new : RunnerState) (after : MemoryState) (out'' : List ℕ)
@@ -185,7 +176,7 @@ module _ (moment : ℕ) where
   unfolding went_then
   on_then one two three old before out mid there out' new after out'' p q = record {
     went = went_then one two three old mid new out out' out'' p.went q.went;
-    inside = q.inside ∙ inside_then (has_entered before) (has_entered there) p.went.entries q.went.entries p.inside;
+    remembers = remembers_then before there after p.went.entries q.went.entries p.remembers q.remembers;
   }
 
   -- and then the next, from the same course in other words
@@ -225,23 +216,27 @@ module _ (moment : ℕ) where
     entries = w.went.entries;
     grew = w.went.grew;
     begins = subst (λ (l : Log). Begins course old.number moment l) (append-nil w.went.entries) (w.went.leads.part [] (begins_none rest old.number moment));
-    inside = w.inside;
+    remembers = w.remembers;
   }
 
   -- running out of memory of the next act
-  pub broke_unmade : (course : Course) (old : RunnerState) (before : MemoryState) (new : RunnerState) (after : MemoryState) → Made old [] new → has_entered after ≡ has_entered before
+  pub broke_unmade : (course : Course) (old : RunnerState) (before : MemoryState) (new : RunnerState) (after : MemoryState) → Made old [] new → Remembers before [] after
       → BrokeOff course moment old before new after
   broke_unmade course old before new after m is =
-      record { entries = []; grew = m; begins = begins_none course old.number moment; inside = is ∙ sym (or-false (has_entered before)) }
+      record { entries = []; grew = m; begins = begins_none course old.number moment; remembers = is }
+
+  pub broke_unasked : {T : Type 0} (result : Result T NoMemory) (course : Course) (old : RunnerState) (before : MemoryState) (new : RunnerState) → Made old [] new → OnErr result (BrokeOff course moment old before new before)
+  broke_unasked (Ok next) course old before new m = tt
+  broke_unasked (Err e) course old before new m = broke_unmade course old before new before m (remembers_none before before refl refl refl)
 
   -- running out of memory of what is written behind an act
   pub broke_asked : {T : Type 0} (act : Act) (rest : Reply → Course) (reply : Reply) (result : Result T NoMemory) (old : RunnerState) (before : MemoryState) (new : RunnerState) (after : MemoryState) → Ran old (timed moment act) reply new
-      → has_entered after ≡ (has_entered before || is_entered reply) → OnErr result (BrokeOff (Asks act rest) moment old before new after)
+      → Remembers before (entry old.number (timed moment act) reply ∷ []) after → OnErr result (BrokeOff (Asks act rest) moment old before new after)
   unfolding went_ask
-  broke_asked act rest reply (Ok next) old before new after ran inside = tt
-  broke_asked act rest reply (Err e) old before new after ran inside =
+  broke_asked act rest reply (Ok next) old before new after ran remembers = tt
+  broke_asked act rest reply (Err e) old before new after ran remembers =
       broke_there (Asks act rest) (rest reply) old before [] new after []
-      (record { went = went_ask act rest reply old [] new ran; inside = inside ∙ ap (λ (b : Bool). has_entered before || b) (sym (or-false (is_entered reply))) })
+      (record { went = went_ask act rest reply old [] new ran; remembers = remembers })
 
   -- running out of memory in what follows
   pub broke_next : (one two : Course) (old : RunnerState) (before : MemoryState) (out : List ℕ) (mid : RunnerState) (there : MemoryState) (out' : List ℕ) (new : RunnerState) (after : MemoryState)
@@ -250,7 +245,7 @@ module _ (moment : ℕ) where
     entries = p.went.entries ++ q.entries;
     grew = made_then old mid new p.went.entries q.entries p.went.grew q.grew;
     begins = p.went.leads.part q.entries (subst (λ (n : ℕ). Begins two n moment q.entries) (same_number old mid p.went.entries p.went.grew) q.begins);
-    inside = q.inside ∙ inside_then (has_entered before) (has_entered there) p.went.entries q.entries p.inside;
+    remembers = remembers_then before there after p.went.entries q.entries p.remembers q.remembers;
   }
 
   -- from the same course in other words
@@ -260,11 +255,11 @@ module _ (moment : ℕ) where
       broke_next one two old before out mid there out' new after (subst (λ (c : Course). WentOn one c moment old before out mid there out') is p) q
 
   -- the session began to answer
-  pub on_begun : (course coming : Course) (old : RunnerState) (before there : MemoryState) (out out' : List ℕ) → IsKnown old → Settles course coming out out' → has_entered there ≡ has_entered before
+  pub on_begun : (course coming : Course) (old : RunnerState) (before there : MemoryState) (out out' : List ℕ) → IsKnown old → Settles course coming out out' → Remembers before [] there
       → WentOn course coming moment old before out old there out'
   unfolding went_settled
   on_begun course coming old before there out out' known s is =
-      record { went = went_settled course coming old out out' known s; inside = is ∙ sym (or-false (has_entered before)) }
+      record { went = went_settled course coming old out out' known s; remembers = is }
 
   -- it followed what came first to the end
   pub answered_after : (course coming : Course) (old new : RunnerState) (out out' out'' : List ℕ) (after : MemoryState) → IsKnown old → Settles course coming out out'

@@ -1,3 +1,4 @@
+pub mod Remembering
 pub mod Going
 pub mod Following
 pub mod Lists

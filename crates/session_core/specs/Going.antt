@@ -1,12 +1,9 @@
 -- How far a session has come in its course, and what it has made and written on the way.
-use Rattle.std.specs.Prelude.{◌≡◌, ◌⊎◌, ℕ, Bool, true, false, ◌||◌, if◌then◌else◌, List, [], ◌++◌}
-use Rattle.std.specs.List.{list_any}
-use Rattle.lobby_state.specs.declared.acts.LobbyReply.TheVariants.{Entered}
-use Rattle.one_server.specs.declared.reply.Reply.{Reply}
-use Rattle.one_server.specs.declared.reply.Reply.TheVariants as reply
+use Rattle.std.specs.Prelude.{◌≡◌, ◌⊎◌, ℕ, true, if◌then◌else◌, List, [], ◌++◌}
 use Rattle.one_server.specs.Running.{Log, Made, RunnerState}
 use Rattle.session_core.specs.Course.{Course, Done, Follows, Begins, Passes}
 use Rattle.session_core.specs.Memory.{MemoryState, has_entered, is_gone}
+use Rattle.session_core.specs.Remembering.{Remembers}
 use Rattle.session_core.specs.Session.{leaving}
 use Rattle.session_core.specs.Stages.{settled}
 
@@ -54,28 +51,20 @@ pub record Left (course : Course) (moment : ℕ) (old new : RunnerState) (memory
   pub grew : Made old entries new
   pub follows : Follows course old.number moment entries [] memory
 
--- an entry says that the session has come in
-abbrev pub is_entered : Reply → Bool
-is_entered (reply.Lobby (Entered name)) = true
-is_entered _ = false
-
-abbrev pub any_entered : Log → Bool
-any_entered entries = list_any (λ e. is_entered e.reply) entries
-
--- the session went on, and has entered where it had, or where one of the acts that it made was answered so
+-- the session went on, and remembers what the acts that it made have told
 pub record WentOn (course rest : Course) (moment : ℕ) (old : RunnerState) (before : MemoryState) (out : List ℕ)
     (new : RunnerState) (after : MemoryState) (out_now : List ℕ) : Type 0 where
   pub went : Went course rest moment old out new out_now
-  pub inside : has_entered after ≡ (has_entered before || any_entered went.entries)
+  pub remembers : Remembers before went.entries after
 
--- an input ran out of memory: the session made the first acts of its course, and no others; it has entered where it
--- had, or where one of them was answered so
+-- an input ran out of memory: the session made the first acts of its course, and no others, and remembers what they
+-- have told
 pub record BrokeOff (course : Course) (moment : ℕ) (old : RunnerState) (before : MemoryState) (new : RunnerState)
     (after : MemoryState) : Type 0 where
   pub entries : Log
   pub grew : Made old entries new
   pub begins : Begins course old.number moment entries
-  pub inside : has_entered after ≡ (has_entered before || any_entered entries)
+  pub remembers : Remembers before entries after
 
 -- an input ran out of memory that was to quit: its course is that of leaving; the session made its acts but for those
 -- that ran out of memory, and is gone

@@ -7,6 +7,7 @@ pub mod OwnCommands
 pub mod Reactions
 pub mod Session
 pub mod Inputs
+pub mod Remembering
 pub mod Stages
 pub mod Going
 pub mod Laws

@@ -1,11 +1,16 @@
 -- The stages of a session: what stands between an act and its reply, and what follows. This server's own.
-use Rattle.std.specs.Prelude.{◌≡◌, ℕ, ◌+◌, ◌*◌, ◌≤◌, true, false, List, ◌++◌, length, Option, Some, IfSome}
+use Rattle.std.specs.Prelude.{◌≡◌, ℕ, ◌+◌, ◌*◌, ◌≤◌, Bool, ◌&&◌, true, false, List, ◌++◌, length, Option, Some, IfSome, Ok, Err, Result}
 use Rattle.clock_ledger.specs.Span.{IsStamp}
 use Rattle.command_words.specs.declared.command.Command.{Command}
 use Rattle.command_words.specs.declared.command.Command.TheVariants.{Kibitz, Match, Seek, Tell, TellChannel, Shout, Ptell}
 use Rattle.linked_desk.specs.Acts.{FitsDeskAct}
+use Rattle.linked_desk.specs.declared.acts.DeskAct.TheVariants as desk_act
+use Rattle.lobby_state.specs.declared.acts.LobbyAct.TheVariants as lobby_act
 use Rattle.lobby_state.specs.Acts.{AreTerms}
 use Rattle.lobby_state.specs.Desks.{IsDesk}
+use Rattle.memory.specs.declared.NoMemory.{NoMemory}
+use Rattle.one_server.specs.declared.act.Act.{Act}
+use Rattle.one_server.specs.declared.act.Act.TheVariants.{Lobby}
 use Rattle.one_server.specs.declared.reply.Reply.{Reply}
 use Rattle.one_server.specs.Acts.{FitsAct}
 use Rattle.session_core.specs.declared.first.First.{First}
@@ -17,10 +22,11 @@ use Rattle.session_core.specs.declared.stage.Stage.TheVariants as stage
 use Rattle.session_core.specs.declared.leaving_stage.LeavingStage.{LeavingStage}
 use Rattle.session_core.specs.declared.leaving_stage.LeavingStage.TheVariants as leaving_stage
 use Rattle.session_core.specs.Course.{Course, Done, Asks, Writes}
-use Rattle.session_core.specs.Memory.{MemoryState, departed, has_entered, is_gone, reader_in, told, without_observed}
-use Rattle.session_core.specs.Login.{entered_as}
-use Rattle.session_core.specs.Session.{acking, answered, behind, clear_at, finding, given_up, leave_games, leaving, placing, reacted, reacting, remarking}
-use Rattle.session_core.specs.Session.{moved, moving, round, rounding, says_over, shown, visits, watching}
+use Rattle.session_core.specs.Memory.{MemoryState, departed, has_entered, is_gone, reader_in, stands_at, told, without_observed}
+use Rattle.session_core.specs.Login.{admitted, entered_as}
+use Rattle.session_core.specs.Remembering.{asks_places}
+use Rattle.session_core.specs.Session.{acking, answered, at_game, at_place, behind, clear_at, finding, given_up, leave_games, leaving, placing, reacted, reacting, remarking}
+use Rattle.session_core.specs.Session.{moved, moving, round, rounding, says_over, shown, visits, watched, watching}
 use Rattle.session_core.specs.Texts.{news_text, waiting_text}
 use Rattle.session_core.specs.Visits.{visits_in}
 
@@ -38,7 +44,7 @@ continues (stage.Showing seat) memory reply = shown (Some seat) reply memory
 continues (stage.Remarking act) memory reply = remarking act (told memory reply)
 continues stage.Finding memory reply = finding reply memory
 continues (stage.Watching place) memory reply = watching place reply memory
-continues (stage.Unwatching desk) memory reply = answered reply (without_observed desk memory)
+continues (stage.Unwatching place) memory reply = answered reply (without_observed place.desk memory)
 continues stage.Rounding memory reply = Writes (waiting_text reply) (rounding (told memory reply))
 continues (stage.Visiting visit rest) memory reply =
     Writes (news_text (reader_in memory visit.seat) reply)
@@ -47,7 +53,27 @@ continues (stage.Clearing rest) memory reply = visits rest memory
 continues (stage.AwaitingPlace stamp) memory reply = acking stamp (told memory reply)
 continues stage.Acking memory reply = Done memory
 
--- and when it leaves
+-- the session had the memory to write what stands behind a reply
+abbrev pub is_done : {T : Type 0} → Result T NoMemory → Bool
+is_done (Ok next) = true
+is_done (Err cause) = false
+
+-- what the session remembers once it has that reply, and has written what stands behind it or ran out of memory: then
+-- a game that is over isn't forgotten, and is still left and given up in the end
+abbrev pub kept : Stage → Bool → MemoryState → Reply → MemoryState
+kept (stage.Entering name) done memory reply = stands_at (admitted name reply) memory
+kept (stage.Placing act) done memory reply = told memory reply
+kept (stage.Moving word stamp) done memory reply = told memory reply
+kept (stage.Reacting reaction) done memory reply = told memory reply
+kept (stage.Remarking act) done memory reply = told memory reply
+kept (stage.Watching place) done memory reply = watched place reply memory
+kept (stage.Unwatching place) done memory reply = without_observed place.desk memory
+kept stage.Rounding done memory reply = told memory reply
+kept (stage.Visiting visit rest) done memory reply = behind visit (done && says_over reply) memory
+kept (stage.AwaitingPlace stamp) done memory reply = told memory reply
+kept _ done memory reply = memory
+
+-- what follows when it leaves
 abbrev pub leaves : LeavingStage → MemoryState → Reply → Course
 leaves leaving_stage.Going memory reply = leave_games (visits_in (told memory reply)) (told memory reply)
 leaves (leaving_stage.Leaving visit rest) memory reply = Asks (clear_at visit) (λ cleared. leave_games rest memory)
@@ -71,7 +97,7 @@ acts_after (stage.Reacted reaction) = 131
 acts_after (stage.Remarking act) = 131
 acts_after stage.Finding = 131
 acts_after (stage.Watching place) = 130
-acts_after (stage.Unwatching desk) = 130
+acts_after (stage.Unwatching place) = 130
 acts_after (stage.Showing seat) = 130
 acts_after stage.Answering = 130
 acts_after stage.Rounding = 129
@@ -118,6 +144,24 @@ IsSet memory (stage.Visiting visit rest) = (has_entered memory ≡ true) × IsDe
 IsSet memory (stage.AwaitingPlace stamp) = (has_entered memory ≡ true) × IsStamp stamp
 IsSet memory _ = has_entered memory ≡ true
 
+-- the act at which the session stands is one that the stage is for
+abbrev pub Suits : Act → Stage → Type 0
+Suits act (stage.Placing deed) = act ≡ Lobby lobby_act.Where
+Suits act (stage.Moving word stamp) = act ≡ Lobby lobby_act.Where
+Suits act (stage.Reacting reaction) = act ≡ Lobby lobby_act.Where
+Suits act (stage.Remarking deed) = act ≡ Lobby lobby_act.Where
+Suits act (stage.Watching place) = act ≡ at_place place desk_act.Watch
+Suits act (stage.Unwatching place) = act ≡ at_place place desk_act.Unwatch
+Suits act stage.Rounding = act ≡ Lobby lobby_act.Fetch
+Suits act (stage.Visiting visit rest) = act ≡ at_game visit desk_act.Fetch
+Suits act (stage.AwaitingPlace stamp) = act ≡ Lobby lobby_act.Where
+Suits act _ = asks_places act ≡ false
+
+-- an act may be made at its stage, by a session that remembers this
+abbrev pub IsPosed : MemoryState → Next Stage → Type 0
+IsPosed memory (Ask act at) = FitsAct act × IsSet memory at × Suits act at
+IsPosed memory End = Unit {0}
+
 abbrev pub LeavesDesk : LeavingStage → Type 0
 LeavesDesk (leaving_stage.Leaving visit rest) = IsDesk visit.desk
 LeavesDesk _ = Unit {0}
@@ -135,7 +179,7 @@ first_course (first.Going next) memory = course_of continues next memory
 -- and it may be made, by a session that has entered where it leaves
 abbrev pub IsPrepared : MemoryState → First → Type 0
 IsPrepared memory first.Leaving = has_entered memory ≡ true
-IsPrepared memory (first.Going next) = IsReady (IsSet memory) next
+IsPrepared memory (first.Going next) = IsPosed memory next
 
 -- where nothing more is to be made, the session has left
 abbrev pub HasGone : {S : Type 0} → Next S → MemoryState → Type 0

@@ -36,6 +36,8 @@ pub(crate) fn begin(
         out.old.items out.new.items) }
     ensures ready { IfOk result (IsPrepared memory.new) }
     ensures inside { has_entered memory.new ≡ has_entered memory.old }
+    ensures places { memory.new.places ≡ memory.old.places }
+    ensures looks { memory.new.observed ≡ memory.old.observed }
 {
     match input {
         Input::Quiet => Ok(begin_quiet(memory)),
@@ -66,6 +68,8 @@ fn begin_line(
         (first_course first memory.new) out.old.items out.new.items) }
     ensures ready { IfOk result (IsPrepared memory.new) }
     ensures inside { has_entered memory.new ≡ has_entered memory.old }
+    ensures places { memory.new.places ≡ memory.old.places }
+    ensures looks { memory.new.observed ≡ memory.old.observed }
 {
     if is_greeting(memory.link(), &line) {
         memory.mark(LinkMark::Stamped);
@@ -87,6 +91,8 @@ fn answer_line(
         out.old.items out.new.items) }
     ensures ready { IfOk result (IsPrepared memory.new) }
     ensures inside { has_entered memory.new ≡ has_entered memory.old }
+    ensures places { memory.new.places ≡ memory.old.places }
+    ensures looks { memory.new.observed ≡ memory.old.observed }
 {
     match line {
         Incoming::Plain(text) => answer_text(alloc, memory, &text, None, out),
@@ -113,6 +119,8 @@ fn answer_text(
         (first_course first memory.new) out.old.items out.new.items) }
     ensures ready { IfOk result (IsPrepared memory.new) }
     ensures inside { has_entered memory.new ≡ has_entered memory.old }
+    ensures places { memory.new.places ≡ memory.old.places }
+    ensures looks { memory.new.observed ≡ memory.old.observed }
 {
     match memory.standing() {
         Standing::Login => take_name(memory, text.bytes(), out),
@@ -137,6 +145,8 @@ fn read_text(
         (first_course first memory.new) out.old.items out.new.items) }
     ensures ready { IfOk result (IsPrepared memory.new) }
     ensures inside { has_entered memory.new ≡ true }
+    ensures places { memory.new.places ≡ memory.old.places }
+    ensures looks { memory.new.observed ≡ memory.old.observed }
 {
     match read_command(alloc, text, memory.aliases()) {
         Ok(command) => begin_command(memory, command, stamp, out),
@@ -166,6 +176,8 @@ fn refuse(cause: Refusal, memory: &mut Memory, out: &mut Vec<u8>) -> Result<Firs
         (first_course first memory.new) out.old.items out.new.items) }
     ensures ready { IfOk result (IsPrepared memory.new) }
     ensures inside { has_entered memory.new ≡ has_entered memory.old }
+    ensures places { memory.new.places ≡ memory.old.places }
+    ensures looks { memory.new.observed ≡ memory.old.observed }
 {
     match memory.standing() {
         Standing::In(_) => {

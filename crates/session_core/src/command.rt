@@ -1,8 +1,9 @@
 //! How a session begins to carry out a command.
-ghost use Rattle.std.specs.Prelude.{◌≡◌, IfOk, true};
+ghost use Rattle.std.specs.Prelude.{◌≡◌, IfOk, false, true};
 ghost use Rattle.one_server.specs.Acts.{FitsAct};
 ghost use Rattle.linked_desk.specs.Acts.{FitsDeskAct};
 ghost use Rattle.session_core.specs.Memory.{MemoryState, has_entered};
+ghost use Rattle.session_core.specs.Remembering.{asks_places};
 ghost use Rattle.session_core.specs.Session.{command_course, setting, to_desk, to_react, to_server, listing};
 ghost use Rattle.session_core.specs.Stages.{FitsCommand, FitsStamp, IsPrepared, Settles, first_course};
 
@@ -35,6 +36,8 @@ pub(crate) fn begin_command(
         (first_course first memory.new) out.old.items out.new.items) }
     ensures ready { IfOk result (IsPrepared memory.new) }
     ensures inside { has_entered memory.new ≡ true }
+    ensures places { memory.new.places ≡ memory.old.places }
+    ensures looks { memory.new.observed ≡ memory.old.observed }
 {
     let first = match command {
         Command::Nothing => First::Going(ask_round()),
@@ -137,7 +140,8 @@ fn list(which: WhichList, name: HandleKey, on: bool) -> Act
 
 /// An act whose reply is printed.
 fn to_server(act: Act) -> First
-    requires { FitsAct act }
+    requires fits { FitsAct act }
+    requires asks { asks_places act ≡ false }
     ensures goes { (memory : MemoryState) → first_course result memory ≡ to_server act memory }
     ensures ready { (memory : MemoryState) → has_entered memory ≡ true → IsPrepared memory result }
 {

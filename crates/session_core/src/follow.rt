@@ -3,7 +3,7 @@ ghost use Rattle.std.specs.Prelude.{◌≡◌, ◌≤◌, ◌<◌, ◌^◌, IfOk
 ghost use Rattle.one_server.specs.Acts.{FitsAct};
 ghost use Rattle.session_core.specs.Course.{Asks};
 ghost use Rattle.session_core.specs.Going.{Answered, BrokeOff, WentOn};
-ghost use Rattle.session_core.specs.Stages.{IsReady, IsSet, acts_after, acts_left, continues, course_of};
+ghost use Rattle.session_core.specs.Stages.{IsPosed, IsSet, Suits, acts_after, acts_left, continues, course_of};
 
 use crate::next::Next;
 use crate::session_memory::Memory;
@@ -13,7 +13,8 @@ use one_server::{Act, Runner};
 use std::alloc::Global;
 
 /// Makes the acts of a course, all at `moment`, in milliseconds and at most 2^48, and appends what it writes. After
-/// running out of memory the acts that were answered stay made: they are the first ones of the course.
+/// running out of memory the acts that were answered stay made, and what they have told is remembered: they are the
+/// first ones of the course.
 pub(crate) fn follow<R: Runner>(
     alloc: Global,
     r: &mut R,
@@ -23,7 +24,7 @@ pub(crate) fn follow<R: Runner>(
     out: &mut Vec<u8>,
 ) -> Result<(), NoMemory>
     requires moment { moment ≤ 2 ^ 48 }
-    requires ready { IsReady (IsSet memory.old) first }
+    requires ready { IsPosed memory.old first }
     ensures home { R.home r.new ≡ R.home r.old }
     ensures followed { OnOk result (Answered (course_of continues first memory.old) (λ text. text) moment
         (R.state r.old) out.old.items (R.state r.new) out.new.items memory.new) }
@@ -54,13 +55,14 @@ fn ask<R: Runner>(
     requires moment { moment ≤ 2 ^ 48 }
     requires fits { FitsAct act }
     requires set { IsSet memory.old stage }
+    requires suits { Suits act stage }
     ensures home { R.home r.new ≡ R.home r.old }
     ensures went { IfOk result (λ next. WentOn (Asks act (continues stage memory.old))
         (course_of continues next memory.new) moment (R.state r.old) memory.old out.old.items
         (R.state r.new) memory.new out.new.items) }
     ensures broke { OnErr result (BrokeOff (Asks act (continues stage memory.old)) moment (R.state r.old) memory.old
         (R.state r.new) memory.new) }
-    ensures ready { IfOk result (IsReady (IsSet memory.new)) }
+    ensures ready { IfOk result (IsPosed memory.new) }
     ensures fewer { IfOk result (λ next. acts_left acts_after next ≤ acts_after stage) }
 {
     let reply = r.run(alloc, moment, act)?;

@@ -1,10 +1,10 @@
 //! How a session comes in.
 ghost use Rattle.std.specs.Prelude.{◌≡◌, IfOk, None, Some, false};
 ghost use Rattle.command_words.specs.Texts.{handle_of};
-ghost use Rattle.session_core.specs.Going.{is_entered};
+ghost use Rattle.session_core.specs.Remembering.{is_entered};
 ghost use Rattle.session_core.specs.Login.{admitted, entered_as, entering_named, is_guest, naming};
 ghost use Rattle.session_core.specs.Login.{password_of, proving, turned_away};
-ghost use Rattle.session_core.specs.Memory.{has_entered, is_in};
+ghost use Rattle.session_core.specs.Memory.{has_entered, is_in, stands_at};
 ghost use Rattle.session_core.specs.Stages.{IsPrepared, Settles, continues, course_of, first_course};
 
 use crate::first::First;
@@ -29,6 +29,8 @@ pub(crate) fn take_name(
         out.old.items out.new.items) }
     ensures ready { IfOk result (IsPrepared memory.new) }
     ensures outside { has_entered memory.new ≡ false }
+    ensures places { memory.new.places ≡ memory.old.places }
+    ensures looks { memory.new.observed ≡ memory.old.observed }
 {
     let [_, ..] = text else {
         return Ok(First::Going(Next::End));
@@ -50,6 +52,8 @@ fn take_handle(
         out.old.items out.new.items) }
     ensures ready { IfOk result (IsPrepared memory.new) }
     ensures outside { has_entered memory.new ≡ false }
+    ensures places { memory.new.places ≡ memory.old.places }
+    ensures looks { memory.new.observed ≡ memory.old.observed }
 {
     match name {
         Some(name) => Ok(First::Going(ask_to_enter(&Some(name), None))),
@@ -98,6 +102,8 @@ pub(crate) fn turn_away(
         out.old.items out.new.items) }
     ensures ready { IfOk result (IsPrepared memory.new) }
     ensures outside { has_entered memory.new ≡ false }
+    ensures places { memory.new.places ≡ memory.old.places }
+    ensures looks { memory.new.observed ≡ memory.old.observed }
 {
     memory.stand(Standing::Login);
     put_refusal(cause, out)?;
@@ -114,6 +120,7 @@ pub(crate) fn entered(
     ensures settles { IfOk result (λ next. Settles (entered_as name reply.now memory.old)
         (course_of continues next memory.new) out.old.items out.new.items) }
     ensures end { IfOk result (λ next. next ≡ Next.End) }
+    ensures after { memory.new ≡ stands_at (admitted name reply.now) memory.old }
     ensures inside { has_entered memory.new ≡ is_entered reply.now }
 {
     memory.stand(admitted(name, reply));

@@ -3,7 +3,7 @@ ghost use Rattle.std.specs.Prelude.{◌≡◌, ◌≤◌, IfOk, true};
 ghost use Rattle.one_server.specs.Replies.{IsReply};
 ghost use Rattle.session_core.specs.Memory.{MemoryState, has_entered, told};
 ghost use Rattle.session_core.specs.Session.{is_accepted, moved, moving, to_move, turns};
-ghost use Rattle.session_core.specs.Stages.{FitsStamp, IsPrepared, IsReady, IsSet, Settles, acts_after, acts_left};
+ghost use Rattle.session_core.specs.Stages.{FitsStamp, IsPosed, IsPrepared, Settles, acts_after, acts_left};
 ghost use Rattle.session_core.specs.Stages.{continues, course_of, first_course};
 
 use crate::first::First;
@@ -39,8 +39,9 @@ pub(crate) fn moving(
     requires stamp { FitsStamp stamp }
     ensures settles { IfOk result (λ next. Settles (moving word stamp (told memory.old reply.now))
         (course_of continues next memory.new) out.old.items out.new.items) }
-    ensures ready { IfOk result (IsReady (IsSet memory.new)) }
+    ensures ready { IfOk result (IsPosed memory.new) }
     ensures fewer { IfOk result (λ next. acts_left acts_after next ≤ 132) }
+    ensures after { memory.new ≡ told memory.old reply.now }
     ensures stands { memory.new.standing ≡ memory.old.standing }
 {
     memory.note(reply);
@@ -64,8 +65,9 @@ pub(crate) fn moved(
     requires fits { IsReply reply.now }
     ensures settles { IfOk result (λ next. Settles (moved seat reply.now memory.old)
         (course_of continues next memory.new) out.old.items out.new.items) }
-    ensures ready { IfOk result (IsReady (IsSet memory.new)) }
+    ensures ready { IfOk result (IsPosed memory.new) }
     ensures fewer { IfOk result (λ next. acts_left acts_after next ≤ 131) }
+    ensures after { memory.new ≡ memory.old }
     ensures stands { memory.new.standing ≡ memory.old.standing }
 {
     put_shown(&memory.reader(Some(seat)), reply, out)?;

@@ -17,6 +17,8 @@ pub(crate) fn set_alias(
     ensures memory { OnOk result (memory.new ≡ (set_alias name.now text.now memory.old).memory) }
     ensures line { OnOk result (out.new.items ≡ out.old.items ++ (set_alias name.now text.now memory.old).line) }
     ensures stands { memory.new.standing ≡ memory.old.standing }
+    ensures places { memory.new.places ≡ memory.old.places }
+    ensures looks { memory.new.observed ≡ memory.old.observed }
 {
     match memory.set_alias(name.bytes(), text.bytes()) {
         Ok(()) => put_done(out)?,
@@ -35,6 +37,8 @@ pub(crate) fn unset_alias(
     ensures memory { OnOk result (memory.new ≡ (unset_alias name.now memory.old).memory) }
     ensures line { OnOk result (out.new.items ≡ out.old.items ++ (unset_alias name.now memory.old).line) }
     ensures stands { memory.new.standing ≡ memory.old.standing }
+    ensures places { memory.new.places ≡ memory.old.places }
+    ensures looks { memory.new.observed ≡ memory.old.observed }
 {
     put_own(memory.unset_alias(name.bytes()), out)
 }
@@ -48,6 +52,8 @@ pub(crate) fn set_style(
     ensures memory { OnOk result (memory.new ≡ (set_style style memory.old).memory) }
     ensures line { OnOk result (out.new.items ≡ out.old.items ++ (set_style style memory.old).line) }
     ensures stands { memory.new.standing ≡ memory.old.standing }
+    ensures places { memory.new.places ≡ memory.old.places }
+    ensures looks { memory.new.observed ≡ memory.old.observed }
 {
     memory.print_in(style);
     put_done(out)

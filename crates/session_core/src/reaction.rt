@@ -1,7 +1,8 @@
 //! What a session does about an offer that it doesn't name.
-ghost use Rattle.std.specs.Prelude.{◌≡◌};
+ghost use Rattle.std.specs.Prelude.{◌≡◌, false};
 ghost use Rattle.linked_desk.specs.Acts.{FitsDeskAct};
 ghost use Rattle.one_server.specs.Acts.{FitsAct};
+ghost use Rattle.session_core.specs.Remembering.{asks_places};
 ghost use Rattle.session_core.specs.Reactions.{in_lobby, is_no_offer, of_desk, says_no_offer};
 
 use fics_words::{HandleKey, Refusal};
@@ -31,6 +32,7 @@ pub(crate) fn of_desk(reaction: Reaction) -> DeskAct
 pub(crate) fn in_lobby(reaction: Reaction, name: Option<HandleKey>) -> Act
     ensures value { result ≡ in_lobby reaction name }
     ensures fits { FitsAct result }
+    ensures asks { asks_places result ≡ false }
 {
     match reaction {
         Reaction::Accepting => Act::Pair(PairAct::Accept(name)),

@@ -68,8 +68,8 @@ impl Session {
     /// Makes the acts of the session's course for this input, all at `moment`, in milliseconds and at most 2^48, and
     /// gives what it writes: to a line the answer and the prompt of where the session then stands; to a Quiet what is
     /// new, if anything is. A line that asks to quit makes the acts of leaving. After running out of memory the acts
-    /// that were answered stay made, and the session can only leave: they are the first ones of the course, or those of
-    /// leaving but for some that ran out of memory.
+    /// that were answered stay made, and the session can only leave: they are the first ones of the course, and the
+    /// session remembers what they have told; or they are those of leaving but for some that ran out of memory.
     pub fn take<R: Runner>(
         &mut self,
         r: &mut R,

@@ -1,15 +1,16 @@
 //! The stages of a session: all that it decides between an act and its reply.
-ghost use Rattle.std.specs.Prelude.{◌≡◌, ◌≤◌, ◌*◌, ◌+◌, ◌||◌, true, IfOk, Some, length};
+ghost use Rattle.std.specs.Prelude.{◌≡◌, ◌≤◌, ◌*◌, ◌+◌, ◌&&◌, ◌||◌, true, IfOk, Some, length};
 ghost use Rattle.clock_ledger.specs.Span.{IsStamp};
 ghost use Rattle.linked_desk.specs.Acts.{FitsDeskAct};
 ghost use Rattle.lobby_state.specs.Desks.{IsDesk};
 ghost use Rattle.one_server.specs.Replies.{IsReply};
 ghost use Rattle.session_core.specs.Course.{Writes};
-ghost use Rattle.session_core.specs.Going.{is_entered};
+ghost use Rattle.session_core.specs.Remembering.{is_entered};
 ghost use Rattle.session_core.specs.Memory.{MemoryState, has_entered, told, reader_in, without_observed};
 ghost use Rattle.session_core.specs.Session.{acking, answered, at_place, clear_at, given_up, at_game, behind, forgets};
 ghost use Rattle.session_core.specs.Session.{placing, reacted, reacting, rounding, says_over, visits, remarking, shown};
-ghost use Rattle.session_core.specs.Stages.{IsSet, IsReady, Settles, acts_after, acts_left, continues, course_of};
+ghost use Rattle.session_core.specs.Stages.{IsPosed, IsSet, Settles, acts_after, acts_left, continues};
+ghost use Rattle.session_core.specs.Stages.{course_of, is_done, kept};
 ghost use Rattle.session_core.specs.Texts.{news_text, waiting_text};
 
 use crate::login::entered;
@@ -54,8 +55,8 @@ pub(crate) enum Stage {
     Finding,
     /// The session has asked to look on at the game of this place.
     Watching(Place),
-    /// The session looks on no longer at the game of this desk.
-    Unwatching(u8),
+    /// The session looks on no longer at the game of this place.
+    Unwatching(Place),
     /// The lobby is asked for what is new.
     Rounding,
     /// A game is asked for its news, and these games come next.
@@ -80,8 +81,9 @@ impl Stage {
         requires fits { IsReply reply.now }
         ensures settles { IfOk result (λ next. Settles (continues self memory.old reply.now)
             (course_of continues next memory.new) out.old.items out.new.items) }
-        ensures ready { IfOk result (IsReady (IsSet memory.new)) }
+        ensures ready { IfOk result (IsPosed memory.new) }
         ensures fewer { IfOk result (λ next. acts_left acts_after next ≤ acts_after self) }
+        ensures after { memory.new ≡ kept self (is_done result) memory.old reply.now }
         ensures inside { has_entered memory.new ≡ (has_entered memory.old || is_entered reply.now) }
     {
         match self {
@@ -98,7 +100,7 @@ impl Stage {
             Stage::Remarking(act) => remarked(act, memory, reply, out),
             Stage::Finding => found(memory, reply, out),
             Stage::Watching(place) => watched(place, memory, reply, out),
-            Stage::Unwatching(desk) => unwatched(desk, memory, reply, out),
+            Stage::Unwatching(place) => unwatched(place.desk, memory, reply, out),
             Stage::Visiting(visit, rest) => visited(&visit, rest, memory, reply, out),
             Stage::Clearing(rest) => Ok(visit_next(rest)),
             Stage::AwaitingPlace(stamp) => Ok(acking(stamp, memory, reply)),
@@ -118,8 +120,9 @@ fn placed(
     requires act { FitsDeskAct act }
     ensures settles { IfOk result (λ next. Settles (placing act (told memory.old reply.now))
         (course_of continues next memory.new) out.old.items out.new.items) }
-    ensures ready { IfOk result (IsReady (IsSet memory.new)) }
+    ensures ready { IfOk result (IsPosed memory.new) }
     ensures fewer { IfOk result (λ next. acts_left acts_after next ≤ 131) }
+    ensures after { memory.new ≡ told memory.old reply.now }
     ensures stands { memory.new.standing ≡ memory.old.standing }
 {
     memory.note(reply);
@@ -142,8 +145,9 @@ fn remarked(
     requires act { FitsDeskAct act }
     ensures settles { IfOk result (λ next. Settles (remarking act (told memory.old reply.now))
         (course_of continues next memory.new) out.old.items out.new.items) }
-    ensures ready { IfOk result (IsReady (IsSet memory.new)) }
+    ensures ready { IfOk result (IsPosed memory.new) }
     ensures fewer { IfOk result (λ next. acts_left acts_after next ≤ 131) }
+    ensures after { memory.new ≡ told memory.old reply.now }
     ensures stands { memory.new.standing ≡ memory.old.standing }
 {
     memory.note(reply);
@@ -165,8 +169,9 @@ fn shown(
     requires fits { IsReply reply.now }
     ensures settles { IfOk result (λ next. Settles (shown (Some seat) reply.now memory.old)
         (course_of continues next memory.new) out.old.items out.new.items) }
-    ensures ready { IfOk result (IsReady (IsSet memory.new)) }
+    ensures ready { IfOk result (IsPosed memory.new) }
     ensures fewer { IfOk result (λ next. acts_left acts_after next ≤ 130) }
+    ensures after { memory.new ≡ memory.old }
     ensures stands { memory.new.standing ≡ memory.old.standing }
 {
     put_shown(&memory.reader(Some(seat)), reply, out)?;
@@ -183,8 +188,9 @@ fn unwatched(
     requires inside { has_entered memory.old ≡ true }
     ensures settles { IfOk result (λ next. Settles (answered reply.now (without_observed desk memory.old))
         (course_of continues next memory.new) out.old.items out.new.items) }
-    ensures ready { IfOk result (IsReady (IsSet memory.new)) }
+    ensures ready { IfOk result (IsPosed memory.new) }
     ensures fewer { IfOk result (λ next. acts_left acts_after next ≤ 130) }
+    ensures after { memory.new ≡ without_observed desk memory.old }
     ensures stands { memory.new.standing ≡ memory.old.standing }
 {
     memory.unobserve(desk);
@@ -195,8 +201,9 @@ fn unwatched(
 fn reacting(reaction: Reaction, memory: &mut Memory, reply: &Reply) -> Next<Stage>
     requires inside { has_entered memory.old ≡ true }
     ensures goes { course_of continues result memory.new ≡ reacting reaction (told memory.old reply.now) }
-    ensures ready { IsReady (IsSet memory.new) result }
+    ensures ready { IsPosed memory.new result }
     ensures fewer { acts_left acts_after result ≤ 132 }
+    ensures after { memory.new ≡ told memory.old reply.now }
     ensures stands { memory.new.standing ≡ memory.old.standing }
 {
     memory.note(reply);
@@ -220,8 +227,9 @@ fn reacted(
     requires inside { has_entered memory.old ≡ true }
     ensures settles { IfOk result (λ next. Settles (reacted reaction reply.now memory.old)
         (course_of continues next memory.new) out.old.items out.new.items) }
-    ensures ready { IfOk result (IsReady (IsSet memory.new)) }
+    ensures ready { IfOk result (IsPosed memory.new) }
     ensures fewer { IfOk result (λ next. acts_left acts_after next ≤ 131) }
+    ensures after { memory.new ≡ memory.old }
     ensures stands { memory.new.standing ≡ memory.old.standing }
 {
     if says_no_offer(reply) {
@@ -239,8 +247,9 @@ pub(crate) fn answered(
     requires inside { has_entered memory.old ≡ true }
     ensures settles { IfOk result (λ next. Settles (answered reply.now memory.old)
         (course_of continues next memory.new) out.old.items out.new.items) }
-    ensures ready { IfOk result (IsReady (IsSet memory.new)) }
+    ensures ready { IfOk result (IsPosed memory.new) }
     ensures fewer { IfOk result (λ next. acts_left acts_after next ≤ 130) }
+    ensures after { memory.new ≡ memory.old }
     ensures stands { memory.new.standing ≡ memory.old.standing }
 {
     put_reply(reply, out)?;
@@ -253,8 +262,9 @@ fn rounded(memory: &mut Memory, reply: &Reply, out: &mut Vec<u8>) -> Result<Next
     ensures settles { IfOk result
         (λ next. Settles (Writes (waiting_text reply.now) (rounding (told memory.old reply.now)))
         (course_of continues next memory.new) out.old.items out.new.items) }
-    ensures ready { IfOk result (IsReady (IsSet memory.new)) }
+    ensures ready { IfOk result (IsPosed memory.new) }
     ensures fewer { IfOk result (λ next. acts_left acts_after next ≤ 129) }
+    ensures after { memory.new ≡ told memory.old reply.now }
     ensures stands { memory.new.standing ≡ memory.old.standing }
 {
     memory.note(reply);
@@ -277,8 +287,9 @@ fn visited(
         (Writes (news_text (reader_in memory.old visit.now.seat) reply.now)
         (given_up visit.now (says_over reply.now) (visits rest (behind visit.now (says_over reply.now) memory.old))))
         (course_of continues next memory.new) out.old.items out.new.items) }
-    ensures ready { IfOk result (IsReady (IsSet memory.new)) }
+    ensures ready { IfOk result (IsPosed memory.new) }
     ensures fewer { IfOk result (λ next. acts_left acts_after next ≤ 2 * length rest + 1) }
+    ensures after { memory.new ≡ behind visit.now (is_done result && says_over reply.now) memory.old }
     ensures stands { memory.new.standing ≡ memory.old.standing }
 {
     put_news(&memory.reader(visit.seat), reply, out)?;
@@ -294,8 +305,9 @@ fn acking(stamp: u32, memory: &mut Memory, reply: &Reply) -> Next<Stage>
     requires inside { has_entered memory.old ≡ true }
     requires stamp { IsStamp stamp }
     ensures goes { course_of continues result memory.new ≡ acking stamp (told memory.old reply.now) }
-    ensures ready { IsReady (IsSet memory.new) result }
+    ensures ready { IsPosed memory.new result }
     ensures fewer { acts_left acts_after result ≤ 1 }
+    ensures after { memory.new ≡ told memory.old reply.now }
     ensures stands { memory.new.standing ≡ memory.old.standing }
 {
     memory.note(reply);
@@ -333,7 +345,7 @@ fn forget(memory: &mut Memory, visit: &Visit)
 /// The visit of the first of these games, or the end.
 fn visit_next(rest: Rest) -> Next<Stage>
     ensures goes { (memory : MemoryState) → course_of continues result memory ≡ visits rest memory }
-    ensures ready { (memory : MemoryState) → has_entered memory ≡ true → IsReady (IsSet memory) result }
+    ensures ready { (memory : MemoryState) → has_entered memory ≡ true → IsPosed memory result }
     ensures fewer { acts_left acts_after result ≤ 2 * length rest }
 {
     match rest.pop() {

@@ -1,12 +1,13 @@
 //! How a session begins to look on at a game, ceases to, and says something about one.
-ghost use Rattle.std.specs.Prelude.{◌≡◌, ◌≤◌, IfOk, length, true};
+ghost use Rattle.std.specs.Prelude.{◌≡◌, ◌≤◌, IfOk, false, length, true};
 ghost use Rattle.lobby_state.specs.Acts.{FitsLobby};
 ghost use Rattle.lobby_state.specs.Desks.{IsDesk};
 ghost use Rattle.one_server.specs.Replies.{IsReply};
 ghost use Rattle.session_core.specs.Memory.{has_entered};
+ghost use Rattle.session_core.specs.Remembering.{asks_places};
 ghost use Rattle.session_core.specs.Session.{finding, remark_of, remark_text, to_observe, to_remark, to_unobserve};
 ghost use Rattle.session_core.specs.Session.{watched, watching};
-ghost use Rattle.session_core.specs.Stages.{IsPrepared, IsReady, IsSet, Settles, acts_after, acts_left, continues};
+ghost use Rattle.session_core.specs.Stages.{IsPosed, IsPrepared, Settles, acts_after, acts_left, continues};
 ghost use Rattle.session_core.specs.Stages.{course_of, first_course};
 
 use crate::first::First;
@@ -24,6 +25,7 @@ use one_server::{Act, Reply};
 /// where it looks on at 32 games.
 pub(crate) fn observe(memory: &Memory, act: LobbyAct, out: &mut Vec<u8>) -> Result<First, NoMemory>
     requires fits { FitsLobby act }
+    requires asks { asks_places (Act.Lobby act) ≡ false }
     requires inside { has_entered memory.now ≡ true }
     ensures settles { IfOk result (λ first. Settles (to_observe act memory.now)
         (first_course first memory.now) out.old.items out.new.items) }
@@ -49,7 +51,7 @@ pub(crate) fn unobserve(memory: &Memory, number: u16, out: &mut Vec<u8>) -> Resu
         put_refusal(Refusal::NotWatching, out)?;
         return Ok(First::Going(ask_round()));
     };
-    let stage = Stage::Unwatching(place.desk);
+    let stage = Stage::Unwatching(place);
     Ok(First::Going(Next::Ask(at_place(&place, DeskAct::Unwatch), stage)))
 }
 
@@ -90,8 +92,9 @@ pub(crate) fn found(
     requires fits { IsReply reply.now }
     ensures settles { IfOk result (λ next. Settles (finding reply.now memory.old)
         (course_of continues next memory.new) out.old.items out.new.items) }
-    ensures ready { IfOk result (IsReady (IsSet memory.new)) }
+    ensures ready { IfOk result (IsPosed memory.new) }
     ensures fewer { IfOk result (λ next. acts_left acts_after next ≤ 131) }
+    ensures after { memory.new ≡ memory.old }
     ensures stands { memory.new.standing ≡ memory.old.standing }
 {
     match reply {
@@ -102,7 +105,8 @@ pub(crate) fn found(
     }
 }
 
-/// The desk has answered whether the session looks on: what it shows is printed, and the round comes.
+/// The desk has answered whether the session looks on, which it remembers also where what it shows runs out of memory:
+/// that is printed, and the round comes.
 pub(crate) fn watched(
     place: Place,
     memory: &mut Memory,
@@ -114,12 +118,14 @@ pub(crate) fn watched(
     requires desk { IsDesk place.desk }
     ensures settles { IfOk result (λ next. Settles (watching place reply.now memory.old)
         (course_of continues next memory.new) out.old.items out.new.items) }
-    ensures ready { IfOk result (IsReady (IsSet memory.new)) }
+    ensures ready { IfOk result (IsPosed memory.new) }
     ensures fewer { IfOk result (λ next. acts_left acts_after next ≤ 130) }
+    ensures after { memory.new ≡ watched place reply.now memory.old }
     ensures stands { memory.new.standing ≡ memory.old.standing }
 {
-    put_shown(&memory.reader(None), reply, out)?;
+    let reader = memory.reader(None);
     look_on(place, memory, reply);
+    put_shown(&reader, reply, out)?;
     Ok(ask_round())
 }
 

@@ -1,11 +1,11 @@
 use Rattle.std.proofs.Common.{◌≡◌}
 use Rattle.session_core.specs.Going.{WentOn}
-use Rattle.session_core.specs.Stages.{IsReady, IsSet, acts_after, acts_left, continues, course_of}
+use Rattle.session_core.specs.Stages.{IsPosed, acts_after, acts_left, continues, course_of}
 use Rattle.session_core.proofs.follow.follow.Given as goal
 
 abbrev pub invariant-loop-next : goal.invariant-loop-next
 invariant-loop-next g l = record {
-  ready : IsReady (IsSet l.memory) l.next;
+  ready : IsPosed l.memory l.next;
   home : g.R.Runner.home l.r ≡ g.R.Runner.home l.fn.r;
   went : WentOn (course_of continues l.fn.first l.fn.memory) (course_of continues l.next l.memory) l.moment (g.R.Runner.state l.fn.r) l.fn.memory l.fn.out.items (g.R.Runner.state l.r) l.memory l.out.items;
 }

@@ -4,11 +4,13 @@ use Rattle.session_core.specs.Stages.{Settles, continues, course_of, first_cours
 use Rattle.session_core.specs.declared.first.First.{First}
 use Rattle.session_core.proofs.Beginning.{answered_going, answered_leaving, broke_begun, broke_going, broke_leaving}
 use Rattle.std.proofs.Common.{subst}
+use Rattle.session_core.proofs.Remembering.{remembers_none}
 use Rattle.session_core.proofs.taking.take.Goals as goal
 
 pub returns-in_err-first-clause-so_far : goal.returns-in_err-first-clause-so_far
 returns-in_err-first-clause-so_far g c =
-    broke_begun c.args.moment (input_course c.args.input c.args.memory.now) (g.R.Runner.state c.args.r.now) c.args.memory.now c.begin.new.memory c.session-session.ensures.known c.begin.ensures.inside
+    broke_begun c.args.moment (input_course c.args.input c.args.memory.now) (g.R.Runner.state c.args.r.now) c.args.memory.now c.begin.new.memory c.session-session.ensures.known
+    (remembers_none c.args.memory.now c.begin.new.memory c.begin.ensures.inside c.begin.ensures.places c.begin.ensures.looks)
 
 pub returns-in-Leaving-clause-answered : goal.returns-in-Leaving-clause-answered
 returns-in-Leaving-clause-answered g c =
@@ -36,4 +38,4 @@ returns-in-Going-clause-so_far g c =
     broke_going c.args.moment (input_course c.args.input c.args.memory.now) (course_of continues c.in-Going.next c.begin.new.memory) (g.R.Runner.state c.args.r.now) c.args.memory.now c.begin.new.memory
     c.args.out.now.items c.begin.new.out.items (g.R.Runner.state c.follow.new.r) c.follow.new.memory c.session-session.ensures.known
     (subst (λ (f : First). Settles (input_course c.args.input c.args.memory.now) (first_course f c.begin.new.memory) c.args.out.now.items c.begin.new.out.items) c.in-Going.is c.in_ok-first.ensures.settles)
-    c.begin.ensures.inside c.follow.ensures.so_far
+    (remembers_none c.args.memory.now c.begin.new.memory c.begin.ensures.inside c.begin.ensures.places c.begin.ensures.looks) c.follow.ensures.so_far
