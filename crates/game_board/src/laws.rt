@@ -74,11 +74,11 @@ pub fn a_fallen_clock_stays_fallen()
         → has_fallen (learnt b m) c moment ≡ has_fallen b c moment }
 {}
 
-/// The list of a board is a true score of its game from the start on, whatever half-moves are put on it with charges of
-/// another day, whatever words are played and whatever half-moves are taken back, at moments that don't fall, and whatever
-/// clients acknowledge it: its half-moves are legal, the charges of those that were made on the board follow from the
-/// moments at which they were made and those since which their players were thinking, the clocks follow from all charges,
-/// and what it keeps of the clients' own times are stamps.
+/// The list of a board is a true score of its game from the start on, whatever half-moves are put on it with charges
+/// of another day, whatever words are played and whatever half-moves are taken back, at moments that don't fall, and
+/// whatever clients acknowledge it: its half-moves are legal, the charges of those that were made on the board follow
+/// from the moments at which they were made and those since which their players were thinking, the clocks follow from
+/// all charges, and what it keeps of the clients' own times are stamps.
 pub fn scores_are_true()
     ensures start { (number : ℕ) (terms : Terms) (moment : ℕ) → IsTrueScore (new_board number terms moment) }
     ensures play { (b : Board) (c : Colour) (word : MoveWord) (moment : ℕ) (stamp : Option ℕ) → IsTrueScore b
