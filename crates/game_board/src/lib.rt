@@ -14,9 +14,11 @@ mod claims;
 mod clocks;
 mod game_board;
 mod laws;
+mod lay;
 mod learn;
 mod played;
 mod put;
+mod rewind;
 mod sameness;
 mod take_back;
 

@@ -47,9 +47,7 @@ impl GameBoard {
         ensures captured { result ≡ Ok (captured self.old half.what) }
         ensures after { self.new ≡ with_put self.old half }
     {
-        let captured = self.add(&half);
-        self.resumed = self.list.len() as u16;
-        Ok(captured)
+        Ok(self.lay(half))
     }
 
     /// Adds an allowed half-move with its charge, and gives the man that it captures.
