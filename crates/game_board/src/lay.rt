@@ -12,8 +12,8 @@ use chess_model::Man;
 
 impl GameBoard {
     /// Lays an allowed half-move on the board with the charge that it has, if it has one, and gives the man that it
-    /// captures. It counts as played, and as one that came with its charge, like all before it. Whether a charge belongs
-    /// there isn't asked, so a half-move that is only tried out may have none. Takes no memory.
+    /// captures. It counts as played, and as one that came with its charge, like all before it. Whether a charge
+    /// belongs there isn't asked, so a half-move that is only tried out may have none. Takes no memory.
     pub fn lay(&mut self, half: Played) -> Option<Man>
         requires allowed { Allowed (position_of self.old) half.what }
         requires room { self.old.played < 1200 }

@@ -7,8 +7,8 @@ use clock_ledger::ClockLedger;
 use variant_rules::Position;
 
 impl GameBoard {
-    /// Goes back to the start: the board is a new one whose first player is thinking since the same moment as the player
-    /// to move now, with no half-move on it and none played. It keeps its room, and takes no memory.
+    /// Goes back to the start: the board is a new one whose first player is thinking since the same moment as the
+    /// player to move now, with no half-move on it and none played. It keeps its room, and takes no memory.
     pub fn rewind(&mut self)
         ensures { self.new ≡ rewound self.old }
     {
