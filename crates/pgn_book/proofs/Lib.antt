@@ -11,4 +11,5 @@ pub mod ExportRead
 pub mod PiecesFound
 pub mod GamesFound
 pub mod Cuts
+pub mod SoundStates
 pub mod LinesFit

@@ -6,5 +6,6 @@ pub mod Pages
 pub mod Reading
 pub mod Taking
 pub mod Reader
+pub mod Sound
 pub mod Laws
 pub mod Examples

@@ -3,6 +3,7 @@ use Rattle.std.specs.Prelude.{◌≡◌, ◌≢◌, ℕ, ◌+◌, Bool, true, fa
 use Rattle.pgn_book.specs.declared.game.PgnGame.{PgnGame}
 use Rattle.pgn_book.specs.declared.reader.PgnStep.{PgnStep}
 use Rattle.pgn_book.specs.declared.reader.PgnStep.TheVariants.{Game, More, Bad}
+use Rattle.pgn_book.specs.Export.{IsExportable}
 use Rattle.pgn_book.specs.Reading.{State, step, first_state, read_from, adding, nothing_read, gone, with_given, is_at_rest}
 
 -- the state, unless no text goes on so; its line; and what was fed and not yet read
@@ -41,6 +42,12 @@ pub record GoesOn (old : Reader) (given : Option PgnGame) (new : Reader) : Type 
   pub read : (more : List ℕ) → read_from old.on (old.rest ++ more) ≡ adding given (read_from new.on (new.rest ++ more))
   pub line : (more : List ℕ) → line_from old.line old.on (old.rest ++ more)
       ≡ line_from new.line new.on (new.rest ++ more)
+
+-- a game that is given may be exported
+abbrev pub MayBeExported : PgnStep → Type 0
+MayBeExported (Game g) = IsExportable g
+MayBeExported More = Unit {0}
+MayBeExported (Bad line) = Unit {0}
 
 -- all that was fed was read, and no game was in it
 pub record IsRead (old new : Reader) : Type 0 where

@@ -1,7 +1,7 @@
 //! Laws of the grammar and of the export form.
 ghost use Rattle.pgn_book.specs.Examples.{ExportExamples, TextExamples};
 ghost use Rattle.pgn_book.specs.Games.{OneReading};
-ghost use Rattle.pgn_book.specs.Laws.{ExportsReadBack, LinesFit, ReaderReads, ReadsInPieces};
+ghost use Rattle.pgn_book.specs.Laws.{ExportsReadBack, LinesFit, ReaderReads, ReadsExportable, ReadsInPieces};
 
 /// The grammar reads at most one list of games in a text.
 pub fn texts_have_one_reading()
@@ -26,6 +26,11 @@ pub fn texts_are_read_from_left_to_right()
 /// A text is read alike however it is cut, and what begins with bytes behind which no reading goes on isn't read.
 pub fn texts_are_read_in_pieces()
     ensures { ReadsInPieces }
+{}
+
+/// Each game that the grammar reads may be exported.
+pub fn games_that_are_read_can_be_exported()
+    ensures { ReadsExportable }
 {}
 
 /// What is read in small texts.
