@@ -2,6 +2,7 @@ pub mod Completeness
 pub mod Feeding
 pub mod HandlerLines
 pub mod LineCommandEnds
+pub mod MachineEnds
 pub mod Parts
 pub mod Pieces
 pub mod PlayedSteps

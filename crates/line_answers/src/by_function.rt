@@ -5,7 +5,7 @@ ghost use Rattle.edge_traits.specs.Faults.{Rose};
 ghost use Rattle.line_answers.specs.Ends.{OnReadFault, OnWriteFault};
 ghost use Rattle.line_answers.specs.LineCommandEnds.{LineCommandEnds};
 
-use crate::answering::answer_lines;
+use crate::by_lines::answer_lines;
 use crate::end::End;
 use crate::line_handler::LineHandler;
 use edge_traits::{Sink, Source};
