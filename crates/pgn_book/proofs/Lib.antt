@@ -12,4 +12,6 @@ pub mod PiecesFound
 pub mod GamesFound
 pub mod Cuts
 pub mod SoundStates
+pub mod LinesLeft
+pub mod WholeRuns
 pub mod LinesFit

@@ -7,5 +7,7 @@ pub mod Reading
 pub mod Taking
 pub mod Reader
 pub mod Sound
+pub mod BadLines
+pub mod Runs
 pub mod Laws
 pub mod Examples

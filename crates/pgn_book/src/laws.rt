@@ -1,6 +1,7 @@
 //! Laws of the grammar and of the export form.
 ghost use Rattle.pgn_book.specs.Examples.{ExportExamples, TextExamples};
 ghost use Rattle.pgn_book.specs.Games.{OneReading};
+ghost use Rattle.pgn_book.specs.Runs.{RunsReadTheText};
 ghost use Rattle.pgn_book.specs.Laws.{ExportsReadBack, LinesFit, ReaderReads, ReadsExportable, ReadsInPieces};
 
 /// The grammar reads at most one list of games in a text.
@@ -26,6 +27,12 @@ pub fn texts_are_read_from_left_to_right()
 /// A text is read alike however it is cut, and what begins with bytes behind which no reading goes on isn't read.
 pub fn texts_are_read_in_pieces()
     ensures { ReadsInPieces }
+{}
+
+/// However a text is cut and games are asked for, a reader gives exactly the games that the grammar reads in it, or the
+/// line on which it leaves the grammar.
+pub fn runs_read_the_text()
+    ensures { RunsReadTheText }
 {}
 
 /// Each game that the grammar reads may be exported.

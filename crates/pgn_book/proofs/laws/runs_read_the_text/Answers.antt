@@ -1,0 +1,5 @@
+use Rattle.pgn_book.proofs.WholeRuns.{runs_read}
+use Rattle.pgn_book.proofs.laws.runs_read_the_text.Goals as goal
+
+pub returns : goal.returns
+returns c = runs_read
