@@ -7,7 +7,7 @@ use Rattle.pgn_book.specs.Games.{Reads}
 use Rattle.pgn_book.specs.Reading.{State, Outcome, adding, nothing_read, read_from, first_state, Gone, with_given, gone, adding_all}
 use Rattle.pgn_book.specs.Reader.{Reader, fresh_reader, line_from, GoesOn, IsRead, IsNext, IsLast}
 use Rattle.pgn_book.specs.BadLines.{IsLeftOn}
-use Rattle.pgn_book.specs.Runs.{outcome_of, begun_with, with_games, HasGiven, Call, Feed, Next, Makes, MakeAll, Ends, text_of, game_in, games_of, RunsReadTheText}
+use Rattle.pgn_book.specs.Runs.{outcome_of, begun_with, with_games, HasGiven, EndsSo, Call, Feed, Next, Makes, MakeAll, Ends, text_of, game_in, games_of, RunsReadTheText}
 use Rattle.pgn_book.proofs.GamesFound.{reader_reads}
 use Rattle.pgn_book.proofs.LinesLeft.{left_on}
 
@@ -79,11 +79,6 @@ begun_is text games r h =
 
 line_is : (text : List ℕ) (games : List PgnGame) (r : Reader) → HasGiven text games r → line_from 1 (Some first_state) text ≡ line_from r.line r.on r.rest
 line_is text games r h = ap (line_from 1 (Some first_state)) (sym (append-nil text)) ∙ h.line [] ∙ ap (line_from r.line r.on) (append-nil r.rest)
-
--- how a text ends from a reader on
-pub record EndsSo (text : List ℕ) (games : List PgnGame) (r : Reader) : Type 0 where
-  pub read : outcome_of text ≡ adding_all games (read_from r.on r.rest)
-  pub line : line_from 1 (Some first_state) text ≡ line_from r.line r.on r.rest
 
 pub begins_end : (text : List ℕ) (games : List PgnGame) (r : Reader) → HasGiven text games r → EndsSo text games r
 begins_end text games r h = record { read = outcome_is text games r h; line = line_is text games r h }

@@ -29,6 +29,11 @@ pub record HasGiven (text : List ℕ) (games : List PgnGame) (r : Reader) : Type
   pub read : (more : List ℕ) → outcome_of (text ++ more) ≡ adding_all games (read_from r.on (r.rest ++ more))
   pub line : (more : List ℕ) → line_from 1 (Some first_state) (text ++ more) ≡ line_from r.line r.on (r.rest ++ more)
 
+-- the same at the end of the text: behind these games come those that the reader gives of the rest
+pub record EndsSo (text : List ℕ) (games : List PgnGame) (r : Reader) : Type 0 where
+  pub read : outcome_of text ≡ adding_all games (read_from r.on r.rest)
+  pub line : line_from 1 (Some first_state) text ≡ line_from r.line r.on r.rest
+
 -- ---- calls
 
 -- a call and its answer

@@ -52,7 +52,7 @@ impl Model for PgnReader {
 
 impl PgnReader {
     ghost use Rattle.pgn_book.specs.Export.{IsExportable};
-    ghost use Rattle.pgn_book.specs.Reader.{GoesOn, IsLast, IsNext, MayBeExported, Reader, fresh_reader, rests};
+    ghost use Rattle.pgn_book.specs.Reader.{GoesOn, IsLast, IsNext, LeavesFewer, MayBeExported, Reader, fresh_reader, rests};
 
     /// A reader before the first byte.
     pub fn new(alloc: Global) -> Result<PgnReader, NoMemory>
@@ -82,6 +82,7 @@ impl PgnReader {
     pub fn next(&mut self) -> Result<PgnStep, NoMemory>
         ensures next { IfOk result (λ step. IsNext self.old step self.new) }
         ensures exportable { IfOk result MayBeExported }
+        ensures fewer { IfOk result (λ step. LeavesFewer self.old step self.new) }
     {
         while let Some(byte) = self.peek() {
             if let Some(game) = self.take(byte)? {
@@ -100,6 +101,7 @@ impl PgnReader {
     pub fn finish(&mut self) -> Result<PgnStep, NoMemory>
         ensures last { IfOk result (λ step. IsLast self.old step self.new) }
         ensures exportable { IfOk result MayBeExported }
+        ensures fewer { IfOk result (λ step. LeavesFewer self.old step self.new) }
     {
         match self.next()? {
             PgnStep::More => self.end(),
@@ -112,6 +114,7 @@ impl PgnReader {
         requires all { self.old.rest ≡ [] }
         ensures last { IfOk result (λ step. IsLast self.old step self.new) }
         ensures exportable { IfOk result MayBeExported }
+        ensures fewer { IfOk result (λ step. LeavesFewer self.old step self.new) }
     {
         if !self.goes_on {
             return Ok(PgnStep::Bad(self.line));
