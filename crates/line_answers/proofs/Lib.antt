@@ -1,3 +1,4 @@
+pub mod ClosingEnds
 pub mod Completeness
 pub mod Feeding
 pub mod HandlerLines

@@ -12,7 +12,7 @@ use Rattle.line_answers.specs.declared.end.End.TheVariants.{Done, ReadFault, Wri
 use Rattle.line_answers.proofs.Pieces.{Grows, Grows-lines_of, Grows-whole_lines}
 
 -- the lines of a beginning of the bytes are a beginning of their lines
-lines_grow : (ended whole : Bool) (before rest : List ℕ) → (whole ≡ true → (ended ≡ true) × (rest ≡ [])) → Grows (lines_come whole before) (lines_come ended (before ++ rest))
+pub lines_grow : (ended whole : Bool) (before rest : List ℕ) → (whole ≡ true → (ended ≡ true) × (rest ≡ [])) → Grows (lines_come whole before) (lines_come ended (before ++ rest))
 lines_grow false false before rest at_end = Grows-whole_lines before rest
 lines_grow true false before rest at_end = Grows-lines_of before rest
 lines_grow ended true before rest at_end =

@@ -1,4 +1,6 @@
 -- What the contracts of this crate cite.
+pub mod ClosingCommand
+pub mod ClosingCommandEnds
 pub mod Ends
 pub mod FeederEnds
 pub mod Feeding

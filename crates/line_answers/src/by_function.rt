@@ -37,8 +37,8 @@ pub trait LineAnswerer: Drop {
 
 /// A command as a handler of lines, which contracts see as the command.
 #[derive(Drop)]
-struct ByFunction<A: LineAnswerer> {
-    answerer: A,
+pub(crate) struct ByFunction<A: LineAnswerer> {
+    pub(crate) answerer: A,
 }
 
 impl<A: LineAnswerer> Model for ByFunction<A> {

@@ -9,12 +9,14 @@
 //! A command that answers lines is a `LineHandler`: it says, as a relation, which lines bring it where and which text is
 //! due for them. A machine, which is a feeder, cuts the bytes into lines and has each answered: `answer_lines`. Where a
 //! command is a `LineAnswerer`, a function from where it stands and a line to its answer, `answer_each` writes the text
-//! that this function makes of the lines.
+//! that this function makes of the lines; a `ClosingAnswerer` has a text for the input's end too, which
+//! `answer_each_and_close` writes behind the last line.
 #![tactic(auto)]
 
 mod answering;
 mod by_function;
 mod by_lines;
+mod closing;
 mod end;
 mod feeder;
 mod laws;
@@ -25,6 +27,7 @@ mod stop;
 pub use answering::{answer_pieces, send};
 pub use by_function::{LineAnswerer, answer_each};
 pub use by_lines::answer_lines;
+pub use closing::{ClosingAnswerer, answer_each_and_close};
 pub use end::{End, status};
 pub use feeder::Feeder;
 pub use laws::lines;

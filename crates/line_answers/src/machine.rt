@@ -18,7 +18,7 @@ const MOST_BYTES: usize = 1_023;
 /// which it keeps one byte more than a line that is answered may have.
 #[derive(Drop)]
 pub struct Machine<T: LineHandler> {
-    handler: T,
+    pub(crate) handler: T,
     number: u64,
     kept: Vec<u8>,
 }
