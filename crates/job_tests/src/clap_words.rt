@@ -40,6 +40,7 @@ fn command_line<'a>(alloc: Global) -> Result<Command<'a>, AllocError> {
         .subcommand(Command::new(alloc, "board"))?
         .subcommand(Command::new(alloc, "replay"))?
         .subcommand(Command::new(alloc, "tourney"))?
+        .subcommand(Command::new(alloc, "tidy"))?
         .subcommand(serve_line(alloc)?)
 }
 

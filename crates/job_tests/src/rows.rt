@@ -12,12 +12,14 @@ const ROWS: &str = "\
 board => board
 replay => replay
 tourney => tourney
+tidy => tidy
 Board => -
 Tourney => -
 board board => -
 board --port 5000 => -
 replay x => -
 tourney 4 => -
+tidy games.pgn => -
 tourney --port 5000 => -
 bored => -
 --help => -
@@ -80,6 +82,7 @@ fn spoken(alloc: Global, job: Result<Job, JobFail>) -> Result<String, Fail> {
         Ok(Job::Board) => Ok(String::from_str(alloc, "board")?),
         Ok(Job::Replay) => Ok(String::from_str(alloc, "replay")?),
         Ok(Job::Tourney) => Ok(String::from_str(alloc, "tourney")?),
+        Ok(Job::Tidy) => Ok(String::from_str(alloc, "tidy")?),
         Ok(Job::Serve { port, bind, count }) => {
             let count = count_text(alloc, count)?;
             Ok(format!(in alloc; "serve {port} {bind} {count}")?)

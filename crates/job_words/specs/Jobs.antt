@@ -5,7 +5,7 @@ use Rattle.std.specs.List.{position_or_len, before_first, after_first}
 use Rattle.std.specs.declared.alloc.Global.{Global}
 use Rattle.fics_words.specs.Number.{IsDecimal}
 use Rattle.job_words.specs.declared.job.Job.{Job}
-use Rattle.job_words.specs.declared.job.Job.TheVariants.{Board, Replay, Tourney, Serve}
+use Rattle.job_words.specs.declared.job.Job.TheVariants.{Board, Replay, Tourney, Tidy, Serve}
 use Rattle.job_words.specs.declared.job.JobFail.{JobFail}
 use Rattle.job_words.specs.declared.job.JobFail.TheVariants as fail
 use Rattle.job_words.specs.declared.options.ServeOption.{ServeOption}
@@ -138,6 +138,7 @@ abbrev pub TextsName : List (List ℕ) → Job → Type 0
 TextsName words Board = words ≡ codes "board" ∷ []
 TextsName words Replay = words ≡ codes "replay" ∷ []
 TextsName words Tourney = words ≡ codes "tourney" ∷ []
+TextsName words Tidy = words ≡ codes "tidy" ∷ []
 TextsName words (Serve port bind count) =
     (options : List (List ℕ)) × (words ≡ codes "serve" ∷ options) × IsServe options port (string_bytes bind) count
 

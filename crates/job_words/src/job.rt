@@ -15,6 +15,8 @@ pub enum Job {
     Replay,
     /// Reads the lines of a round robin, and answers each.
     Tourney,
+    /// Reads PGN text, and writes its games in the export form.
+    Tidy,
     /// Serves players who connect.
     Serve {
         /// The port, from 1 on.

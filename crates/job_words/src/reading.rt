@@ -37,6 +37,9 @@ pub fn read_job(alloc: Global, words: &[String]) -> Result<Job, JobFail>
     if word == "tourney" {
         return Ok(Job::Tourney);
     }
+    if word == "tidy" {
+        return Ok(Job::Tidy);
+    }
     Err(JobFail::Usage)
 }
 

@@ -46,4 +46,6 @@ mod running;
 #[cfg(test)]
 mod serves;
 #[cfg(test)]
+mod tidies;
+#[cfg(test)]
 mod tourneys;

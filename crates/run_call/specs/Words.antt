@@ -7,13 +7,14 @@ use Rattle.std.specs.declared.alloc.Global.{Global}
 use Rattle.job_words.specs.Jobs as jobs
 use Rattle.job_words.specs.declared.job.Job.TheVariants as job
 use Rattle.run_call.specs.declared.command.Command.{Command}
-use Rattle.run_call.specs.declared.command.Command.TheVariants.{Board, Replay, Tourney}
+use Rattle.run_call.specs.declared.command.Command.TheVariants.{Board, Replay, Tourney, Tidy}
 
 -- the words name this command
 abbrev pub Names : List (String Global) → Command → Type 0
 Names words Board = jobs.Names words job.Board
 Names words Replay = jobs.Names words job.Replay
 Names words Tourney = jobs.Names words job.Tourney
+Names words Tidy = jobs.Names words job.Tidy
 
 -- the words name a command
 abbrev pub IsCommand : List (String Global) → Type 0

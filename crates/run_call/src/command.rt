@@ -16,6 +16,8 @@ pub enum Command {
     Replay,
     /// Reads the lines of a round robin, and answers each.
     Tourney,
+    /// Reads PGN text, and writes its games in the export form.
+    Tidy,
 }
 
 /// Reads the words. Those of a job that isn't done here are `Usage` too.
@@ -27,6 +29,7 @@ pub(crate) fn read_command(alloc: Global, words: &[String]) -> Result<Command, J
         Ok(Job::Board) => Ok(Command::Board),
         Ok(Job::Replay) => Ok(Command::Replay),
         Ok(Job::Tourney) => Ok(Command::Tourney),
+        Ok(Job::Tidy) => Ok(Command::Tidy),
         Ok(Job::Serve { .. }) => Err(JobFail::Usage),
         Err(fail) => Err(fail),
     }

@@ -34,3 +34,10 @@ returns-then-eq-4-clause-job c =
     ap (map string_bytes) c.in-Some.ensures.cases.0
     ∙ ap (λ (w : List ℕ). w ∷ map string_bytes c.in-Some.rest.now) (sym c.as_str-word.ensures.value ∙ text)
     ∙ ap (λ (r : List (List ℕ)). codes "tourney" ∷ r) (no_words c.in-Some.rest.now (sym c.is_empty.ensures ∙ c.if-not-is_empty.false))
+
+pub returns-then-eq-5-clause-job : goal.returns-then-eq-5-clause-job
+returns-then-eq-5-clause-job c =
+    let text = (bytes_eq-Decides c.as_str-word.result.now (codes "tidy")).0 (sym c.eq-5.ensures ∙ c.if-eq-5.true) in
+    ap (map string_bytes) c.in-Some.ensures.cases.0
+    ∙ ap (λ (w : List ℕ). w ∷ map string_bytes c.in-Some.rest.now) (sym c.as_str-word.ensures.value ∙ text)
+    ∙ ap (λ (r : List (List ℕ)). codes "tidy" ∷ r) (no_words c.in-Some.rest.now (sym c.is_empty.ensures ∙ c.if-not-is_empty.false))
