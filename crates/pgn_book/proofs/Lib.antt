@@ -14,4 +14,5 @@ pub mod Cuts
 pub mod SoundStates
 pub mod LinesLeft
 pub mod WholeRuns
+pub mod StoredPlayed
 pub mod LinesFit

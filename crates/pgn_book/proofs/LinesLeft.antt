@@ -1,5 +1,5 @@
 -- The line on which the reader leaves a text is the last one that its beginnings reach.
-use Rattle.std.proofs.Common.{arith, ◌≡◌, ◌≢◌, ◌⊎◌, inl, inr, ℕ, zero, suc, ◌+◌, ◌-◌, ◌<◌, ◌≤◌, min, Bool, true, false, ◌&&◌, not, cond, nat_eq, nat_lt, List, [], ◌∷◌, ◌++◌, length, replicate, filter, Option, Some, None, refl, sym, ap, subst, ◌∙◌, append_assoc, append-nil}
+use Rattle.std.proofs.Common.{arith, ◌≡◌, ◌⊎◌, inl, inr, ℕ, zero, suc, ◌+◌, ◌-◌, ◌<◌, ◌≤◌, min, Bool, true, false, ◌&&◌, cond, nat_eq, nat_lt, List, [], ◌∷◌, ◌++◌, length, filter, Option, Some, None, refl, sym, ap, subst, ◌∙◌, append_assoc, append-nil}
 use Rattle.std.specs.Prelude.{◌==◌, is_some}
 use Rattle.std.proofs.lemmas.Bool.{eqb-true, ltb-false, false_from_ne_true}
 use Rattle.move_reader.proofs.ByteMeanings.{below}
@@ -12,7 +12,7 @@ use Rattle.pgn_book.specs.declared.stage.Stage.{Stage}
 use Rattle.pgn_book.specs.declared.stage.Stage.TheVariants.{Before, Tags, Opened, Named, Told, Moves}
 use Rattle.pgn_book.specs.Bytes.{is_word_byte}
 use Rattle.pgn_book.specs.Games.{Reads}
-use Rattle.pgn_book.specs.Reading.{Book, took, Outcome, adding, State, Step, state_at, begun_behind, piece_of, step, read_from, first_state, Gone, with_given, gone, gone_both, adding_all}
+use Rattle.pgn_book.specs.Reading.{Book, took, Outcome, adding, State, state_at, begun_behind, piece_of, step, read_from, first_state, Gone, with_given, gone, adding_all}
 use Rattle.pgn_book.specs.Reader.{line_behind, line_if, line_from}
 use Rattle.pgn_book.specs.BadLines.{IsBeginning, is_feed, line_of_end, IsLeftOn}
 use Rattle.pgn_book.specs.Sound.{IsSound, IsSoundPlace, IsSoundIf}
@@ -205,6 +205,7 @@ line_start s t e = by s.place s.depth s.book e
     behind : (depth : ℕ) (on : Option Book) → begun_behind depth on 10 ≡ Some t → IsLineStart t.place
     behind depth None h = no_state t h
     behind depth (Some book) h = started_at (state_at (Between true) depth book) t h tt
+
     by : (place : Place) (depth : ℕ) (book : Book) → (step (state_at place depth book) 10).on ≡ Some t → IsLineStart t.place
     by Start depth book h = started_at (state_at (Between true) depth book) t h tt
     by AfterOne depth book h = no_state t h
@@ -331,6 +332,7 @@ left_on text unread =
         let stops : (step to.at b).on ≡ None = subst (Stops to.at) e to.stops in
         ap (λ (x : Gone). x.on) (reads_in_pieces.goes_on (Some first_state) to.part (b ∷ [])) ∙ ap (λ (on : Option State). (gone on (b ∷ [])).on) to.on
         ∙ on_given (step to.at b).given (gone (step to.at b).on []) ∙ ap (λ (on : Option State). (gone on []).on) stops
+
     by : (to : GoesTo first_state 1 text) (other behind : List ℕ) → IsBeginning other → Cut to.part to.rest other behind → line_of_end other ≤ line_of_end to.part
     by to other behind begins (shorter more e) =
         let parts : feeds to.part ≡ feeds other + feeds more = ap feeds e ∙ feeds-both other more in

@@ -1,5 +1,5 @@
 -- What every state of the reader keeps, and that the games it gives may be exported.
-use Rattle.std.proofs.Common.{arith, ◌≡◌, ◌≢◌, ◌⊎◌, inl, inr, ℕ, ◌+◌, ◌-◌, ◌<◌, ◌≤◌, Bool, true, false, ◌&&◌, not, cond, nat_eq, nat_lt, List, [], ◌∷◌, ◌++◌, length, map, Option, Some, None, Result, Ok, Err, refl, sym, ap, subst, ◌∙◌, length-append}
+use Rattle.std.proofs.Common.{arith, ◌≡◌, ◌⊎◌, inl, inr, ℕ, ◌+◌, ◌-◌, ◌<◌, Bool, true, false, ◌&&◌, not, cond, nat_eq, nat_lt, List, [], ◌∷◌, ◌++◌, length, map, Option, Some, None, refl, sym, ap, subst, ◌∙◌, length-append}
 use Rattle.std.specs.Prelude.{◌==◌, bytes_eq, codes, unwrap_or, MatchResult, IfSome}
 use Rattle.std.specs.List.{list_all, AllByRecursion}
 use Rattle.std.proofs.lemmas.Bool.{eqb-true, and_parts}
@@ -15,18 +15,16 @@ use Rattle.chess_model.proofs.LegalLists.{legal_lists}
 use Rattle.chess_model.proofs.WordsDecide.{word_answer-holds}
 use Rattle.pretty_reading.specs.ReadsBack.{IsReadAs}
 use Rattle.pgn_book.specs.declared.game.PgnGame.{PgnGame}
-use Rattle.pgn_book.specs.declared.game.PgnResult.{PgnResult}
 use Rattle.pgn_book.specs.declared.book.Read.{Read}
 use Rattle.pgn_book.specs.declared.place.Place.{Place}
 use Rattle.pgn_book.specs.declared.place.Place.TheVariants.{Start, AfterOne, AfterTwo, Between, InLine, InBraces, InWord, InQuotes, InStroke}
-use Rattle.pgn_book.specs.declared.row.Row.{Row}
 use Rattle.pgn_book.specs.declared.stage.Stage.{Stage}
 use Rattle.pgn_book.specs.declared.stage.Stage.TheVariants.{Before, Tags, Opened, Named, Told, Moves}
 use Rattle.pgn_book.specs.Bytes.{is_among, is_space, is_digit, is_name_byte, is_word_byte}
-use Rattle.pgn_book.specs.Lexing.{Piece, Word, Glyph, Quoted, Sign, Opening, Closing, Within, IsText, is_sign, is_of_line, is_of_braces, is_of_text}
+use Rattle.pgn_book.specs.Lexing.{IsText, is_sign, is_of_line, is_of_braces, is_of_text}
 use Rattle.pgn_book.specs.Games.{is_result, on_board, position_of, without_praise}
 use Rattle.pgn_book.specs.Export.{IsExportable}
-use Rattle.pgn_book.specs.Reading.{Book, empty_row, no_book, noted, noted_as, game_of, Taken, goes, fails, gives, staged, opened, closed, passed_over, quoted, named, move_read, with_move, moved, told, worded, signed, glyphed, took, Outcome, adding, State, Step, state_at, to_place, outside, opens, closes, nested, skipping, spaced, begun, begun_behind, piece_of, longer, silent, word_ended, started, ended_in, in_line, in_braces, in_quotes, in_stroke, step, step_in, is_at_rest, resting, finished_in, read_from, first_state, Gone, with_given, gone}
+use Rattle.pgn_book.specs.Reading.{Book, no_book, noted, noted_as, game_of, Taken, goes, fails, gives, staged, opened, closed, passed_over, quoted, named, move_read, with_move, moved, told, worded, signed, glyphed, took, Outcome, adding, State, Step, state_at, to_place, outside, opens, closes, nested, skipping, spaced, begun, begun_behind, piece_of, longer, silent, word_ended, started, ended_in, in_line, in_braces, in_quotes, in_stroke, step, step_in, resting, finished_in, read_from, first_state, Gone, with_given, gone}
 use Rattle.pgn_book.specs.Taking.{on_if, IsStep, between}
 use Rattle.pgn_book.specs.Sound.{IsTextIfTold, IsSoundBook, IsSoundPlace, IsSound, IsSoundIf}
 use Rattle.pgn_book.specs.Laws.{ReadsExportable}

@@ -1,13 +1,13 @@
 -- What a run of calls gives is what the grammar reads in the text that was fed.
-use Rattle.std.proofs.Common.{◌≡◌, ◌≢◌, ℕ, Bool, true, false, List, [], ◌∷◌, ◌++◌, Option, Some, None, refl, sym, ap, subst, ◌∙◌, append_assoc, append-nil}
+use Rattle.std.proofs.Common.{◌≡◌, ◌≢◌, ℕ, true, false, List, [], ◌∷◌, ◌++◌, Option, Some, None, refl, sym, ap, subst, ◌∙◌, append_assoc, append-nil}
 use Rattle.pgn_book.specs.declared.game.PgnGame.{PgnGame}
 use Rattle.pgn_book.specs.declared.reader.PgnStep.{PgnStep}
 use Rattle.pgn_book.specs.declared.reader.PgnStep.TheVariants.{Game, More, Bad}
 use Rattle.pgn_book.specs.Games.{Reads}
 use Rattle.pgn_book.specs.Reading.{State, Outcome, adding, nothing_read, read_from, first_state, Gone, with_given, gone, adding_all}
-use Rattle.pgn_book.specs.Reader.{Reader, fresh_reader, line_from, GoesOn, IsRead, IsNext, IsLast}
+use Rattle.pgn_book.specs.Reader.{Reader, fresh_reader, line_from, GoesOn, IsNext, IsLast}
 use Rattle.pgn_book.specs.BadLines.{IsLeftOn}
-use Rattle.pgn_book.specs.Runs.{outcome_of, begun_with, with_games, HasGiven, EndsSo, Call, Feed, Next, Makes, MakeAll, Ends, text_of, game_in, games_of, RunsReadTheText}
+use Rattle.pgn_book.specs.Runs.{outcome_of, begun_with, with_games, HasGiven, EndsSo, Call, Feed, Next, MakeAll, Ends, text_of, game_in, games_of, RunsReadTheText}
 use Rattle.pgn_book.proofs.GamesFound.{reader_reads}
 use Rattle.pgn_book.proofs.LinesLeft.{left_on}
 

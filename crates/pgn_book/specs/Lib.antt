@@ -9,5 +9,6 @@ pub mod Reader
 pub mod Sound
 pub mod BadLines
 pub mod Runs
+pub mod Stored
 pub mod Laws
 pub mod Examples

@@ -1,6 +1,6 @@
 use Rattle.std.proofs.Common.{subst}
 use Rattle.pgn_book.specs.declared.reader.PgnStep.{PgnStep}
-use Rattle.pgn_book.specs.Reader.{Reader, IsNext, IsLast, LeavesFewer}
+use Rattle.pgn_book.specs.Reader.{IsNext, IsLast, LeavesFewer}
 use Rattle.pgn_book.proofs.Walking.{ok_from}
 use Rattle.pgn_book.proofs.ReaderSteps.{next_last, more_last, fewer_last}
 use Rattle.pgn_book.proofs.reader.PgnReader.finish.Goals as goal

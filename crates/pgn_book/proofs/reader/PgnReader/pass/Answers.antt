@@ -1,6 +1,5 @@
-use Rattle.std.proofs.Common.{◌≡◌, ◌+◌, ℕ, List, Option, drop, ap}
+use Rattle.std.proofs.Common.{◌≡◌, ◌+◌, drop, ap}
 use Rattle.pgn_book.specs.Reader.{Reader}
-use Rattle.pgn_book.specs.Reading.{State}
 use Rattle.pgn_book.specs.Taking.{on_if}
 use Rattle.pgn_book.proofs.ReaderSteps.{rest_on}
 use Rattle.pgn_book.proofs.reader.PgnReader.pass.Goals as goal
