@@ -3,9 +3,10 @@ use Rattle.std.proofs.Common.{◌≡◌, ℕ, true, false, List, [], ◌++◌, r
 use Rattle.std.specs.Prelude.{Bool, Option}
 use Rattle.std.specs.Option.{option_map_or}
 use Rattle.std.specs.Io.KnownBytes.{Appends}
+use Rattle.std.proofs.KnownBytes.{Appends-nil, Consumes-nil}
 use Rattle.edge_traits.specs.Sink.{AppendsFront}
 use Rattle.line_answers.specs.ClosingCommand.{IsClosedWith, closing_feeding, closing_text, text_come}
-use Rattle.line_answers.specs.ClosingCommandEnds.{ClosingCommandEnds}
+use Rattle.line_answers.specs.ClosingCommandEnds.{AnswersOrClosesPart, ClosingCommandEnds}
 use Rattle.line_answers.specs.FeederEnds.{FeederEnds, IsBegun}
 use Rattle.line_answers.specs.Feeding.{IsDueFor}
 use Rattle.line_answers.specs.HandlerEnds.{AreAnswered}
@@ -21,6 +22,15 @@ use Rattle.line_answers.proofs.MachineEnds.{lines_grow}
 use Rattle.line_answers.proofs.PlayedSteps.{IsPlayed-state, IsPlayed-text}
 
 module _ {S : Type 0} (command : LineCommand S) (closing : S → List ℕ) where
+  -- running out of memory before the first read
+  pub AnswersOrClosesPart-none : (left written : Option (List ℕ)) → AnswersOrClosesPart command closing left left written written
+  AnswersOrClosesPart-none left written = record {
+    taken = [];
+    ended = false;
+    came = (Consumes-nil left, λ e. absurd (let bad : false ≡ true = e in cc));
+    text = (0, Appends-nil written);
+  }
+
   -- the text of lines that are all good, with the text at the end
   closed_text : (lines : List (List ℕ)) (stands : S) (text : List ℕ) → IsPlayed command lines stands text → text_of command lines ++ closing (last_state command lines) ≡ text ++ closing stands
   closed_text lines stands text p =

@@ -2,6 +2,8 @@
 use Rattle.std.specs.Prelude.{◌≡◌, ℕ, List, None, Option, String}
 use Rattle.std.specs.declared.alloc.Global.{Global}
 use Rattle.board_command.specs.BoardEnds.{BoardEnds}
+use Rattle.bot_command.specs.BotEnds.{BotEnds}
+use Rattle.bot_command.specs.BotLines.{bot_lines}
 use Rattle.replay_command.specs.ReplayEnds.{AreEvening, ReplayEnds}
 use Rattle.board_command.specs.Transcript.{bad_in}
 use Rattle.line_answers.specs.LineCommand as each
@@ -14,7 +16,7 @@ use Rattle.tourney_command.specs.TourneyEnds.{TourneyEnds}
 use Rattle.run_call.specs.Words.{IsCommand, Names, UsagePart}
 use Rattle.line_answers.specs.declared.end.End.{End}
 use Rattle.run_call.specs.declared.command.Command.{Command}
-use Rattle.run_call.specs.declared.command.Command.TheVariants.{Board, Replay, Tourney, Tidy}
+use Rattle.run_call.specs.declared.command.Command.TheVariants.{Board, Replay, Tourney, Tidy, Bot}
 
 -- how a command ends
 abbrev pub CommandEnds : Option (List ℕ) → Option (List ℕ) → Option (List ℕ) → Option (List ℕ) → End → Command → Type 0
@@ -22,6 +24,7 @@ CommandEnds left left' written written' end Board = BoardEnds left left' written
 CommandEnds left left' written written' end Replay = ReplayEnds left left' written written' end
 CommandEnds left left' written written' end Tourney = TourneyEnds left left' written written' end
 CommandEnds left left' written written' end Tidy = TidyEnds left left' written written' end
+CommandEnds left left' written written' end (Bot depth) = BotEnds depth left left' written written' end
 
 -- a prefix of what would have been written, at a fault of writing or when out of memory: of a command's text, or of the
 -- usage line
@@ -38,3 +41,4 @@ IsGood text Board = bad_in (lines_of text) ≡ None
 IsGood text Replay = AreEvening (lines_of text)
 IsGood text Tourney = each.bad_in tourney_lines (lines_of text) ≡ None
 IsGood text Tidy = (games : List PgnGame) × Reads text games
+IsGood text (Bot depth) = each.bad_in (bot_lines depth) (lines_of text) ≡ None

@@ -6,12 +6,13 @@ ghost use Rattle.edge_traits.specs.Faults.{Rose};
 ghost use Rattle.line_answers.specs.Ends.{OnReadFault, OnWriteFault};
 ghost use Rattle.run_call.specs.RunEnds.{CommandEnds, IsGood, WritesPart};
 ghost use Rattle.job_words.specs.Usage.{usage_line};
-ghost use Rattle.run_call.specs.Words.{Does, IsCommand, Names};
+ghost use Rattle.run_call.specs.Words.{Does, IsCommand, IsWithin, Names};
 ghost use Rattle.line_answers.specs.declared.end.End.{End};
 ghost use Rattle.run_call.specs.declared.command.Command.{Command};
 
 use crate::command::{Command, read_command};
 use board_command::board;
+use bot_command::bot;
 use edge_traits::{Keeper, Sink, Source};
 use job_words::{JobFail, tell_usage};
 use line_answers::{End, status};
@@ -68,6 +69,7 @@ fn run_command<S: Source, K: Sink>(
     source: &mut S,
     sink: &mut K,
 ) -> End
+    requires { IsWithin command }
     ensures ends { CommandEnds (S.left source.old) (S.left source.new) (K.written sink.old)
         (K.written sink.new) result command }
     ensures read_cause { OnReadFault result (Rose (S.faults source.old) (S.faults source.new)) }
@@ -78,5 +80,6 @@ fn run_command<S: Source, K: Sink>(
         Command::Replay => replay(alloc, source, sink),
         Command::Tourney => tourney(alloc, source, sink),
         Command::Tidy => tidy(alloc, source, sink),
+        Command::Bot { depth } => bot(alloc, depth, source, sink),
     }
 }
