@@ -14,5 +14,6 @@ pub mod Cuts
 pub mod SoundStates
 pub mod LinesLeft
 pub mod WholeRuns
+pub mod WholeGames
 pub mod StoredPlayed
 pub mod LinesFit

@@ -1,8 +1,9 @@
 -- Runs of a reader: its calls with their answers, one after another, and what they have to do with the text that was fed.
-use Rattle.std.specs.Prelude.{◌≡◌, ◌≢◌, ℕ, List, [], ◌∷◌, ◌++◌, Some, None}
+use Rattle.std.specs.Prelude.{◌≡◌, ◌≢◌, ℕ, true, List, [], ◌∷◌, ◌++◌, Some, None}
 use Rattle.pgn_book.specs.declared.game.PgnGame.{PgnGame}
 use Rattle.pgn_book.specs.declared.reader.PgnStep.{PgnStep}
 use Rattle.pgn_book.specs.declared.reader.PgnStep.TheVariants.{Game, More, Bad}
+use Rattle.pgn_book.specs.Bytes.{is_space}
 use Rattle.pgn_book.specs.Games.{Reads}
 use Rattle.pgn_book.specs.Reading.{Outcome, Gone, first_state, read_from, gone, adding_all}
 use Rattle.pgn_book.specs.Reader.{Reader, fresh_reader, line_from, IsNext, IsLast}
@@ -16,6 +17,22 @@ outcome_of text = read_from (Some first_state) text
 -- the games that are whole in a text behind which more may come, and the state behind it, unless no text goes on so
 abbrev pub begun_with : List ℕ → Gone
 begun_with text = gone (Some first_state) text
+
+-- these games are whole in the text: they are read in a beginning of it, and no beginning that is read and ends before
+-- white space has others, or more
+pub record AreWhole (text : List ℕ) (games : List PgnGame) : Type 0 where
+  pub front : List ℕ
+  pub rest : List ℕ
+  pub split : text ≡ front ++ rest
+  pub read : Reads front games
+  pub all : (other : List ℕ) (b : ℕ) (behind : List ℕ) (fewer : List PgnGame) → text ≡ other ++ b ∷ behind → is_space b ≡ true
+      → Reads other fewer → (more : List PgnGame) × (games ≡ fewer ++ more)
+
+-- whatever becomes of a text, the games that are whole in it are told; where it is read, they are those that it has
+pub record WholeGamesAreTold : Type 0 where
+  pub ended : (text : List ℕ) → AreWhole text (outcome_of text).games
+  pub begun : (text : List ℕ) → AreWhole text (begun_with text).games
+  pub read : (text : List ℕ) (games : List PgnGame) → Reads text games → (outcome_of text).games ≡ games
 
 -- ---- a reader between two calls
 

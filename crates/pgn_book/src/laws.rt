@@ -1,7 +1,7 @@
 //! Laws of the grammar and of the export form.
 ghost use Rattle.pgn_book.specs.Examples.{ExportExamples, TextExamples};
 ghost use Rattle.pgn_book.specs.Games.{OneReading};
-ghost use Rattle.pgn_book.specs.Runs.{RunsReadTheText};
+ghost use Rattle.pgn_book.specs.Runs.{RunsReadTheText, WholeGamesAreTold};
 ghost use Rattle.pgn_book.specs.Laws.{ExportsReadBack, LinesFit, ReaderReads, ReadsExportable, ReadsInPieces};
 
 /// The grammar reads at most one list of games in a text.
@@ -33,6 +33,11 @@ pub fn texts_are_read_in_pieces()
 /// line on which it leaves the grammar.
 pub fn runs_read_the_text()
     ensures { RunsReadTheText }
+{}
+
+/// The games that are told of a text, read or not, are those that are whole in it.
+pub fn whole_games_are_told()
+    ensures { WholeGamesAreTold }
 {}
 
 /// Each game that the grammar reads may be exported.
