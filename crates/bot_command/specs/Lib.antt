@@ -2,3 +2,4 @@
 pub mod BotEnds
 pub mod BotLines
 pub mod Game
+pub mod Inputs

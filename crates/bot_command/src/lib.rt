@@ -8,6 +8,8 @@
 
 mod answering;
 mod game;
+mod laws;
 mod reading;
 
 pub use answering::bot;
+pub use laws::inputs;

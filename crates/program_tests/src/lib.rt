@@ -6,6 +6,8 @@ mod board_ends;
 #[cfg(test)]
 mod boards;
 #[cfg(test)]
+mod bots;
+#[cfg(test)]
 mod evenings;
 #[cfg(test)]
 mod known_games;
