@@ -2,8 +2,8 @@
 """Games a second and peak memory of `ficsd tidy` beside `pgn-extract`, and whether each reads what the other writes.
 
 Usage: bench.py [PROGRAM]. PROGRAM is the one that `./ficsd` builds where none is named. The commands `pgn-extract` and
-`stockfish` are Debian's (`apt-get install pgn-extract stockfish`). 1,000 games are played at random, by a fixed seed, over
-the lists of allowed half-moves that Stockfish gives, with comments, glyphs and variations strewn in; `pgn-extract`
+`stockfish` are Debian's (`apt-get install pgn-extract stockfish`). 1,000 games are played at random, by a fixed seed,
+over the lists of allowed half-moves that Stockfish gives, with comments, glyphs and variations strewn in; `pgn-extract`
 writes them in its own way. It ends with 1 where something came otherwise than it should.
 """
 
@@ -19,6 +19,8 @@ from measure import machine, peak_of, program_of
 
 EXTRACT = "/usr/games/pgn-extract"
 STOCKFISH = "/usr/games/stockfish"
+# the seven tags, no comments, glyphs and variations, and lines of at most 79 bytes
+PLAIN = ["-7", "-C", "-N", "-V", "-w79"]
 GAMES = 1_000
 LARGE = 100_000_000
 RESULTS = ["1-0", "0-1", "1/2-1/2", "*"]
@@ -43,7 +45,7 @@ class Moves:
 
 
 def spelled(move, kings):
-    """A half-move in long algebraic form, which `pgn-extract` reads; `kings` has the squares of kings that haven't moved."""
+    """A half-move in long algebraic form, which `pgn-extract` reads; `kings` has the homes of kings that stand there."""
     if move[:2] in kings:
         kings.discard(move[:2])
         if move in ("e1g1", "e8g8"):
@@ -54,8 +56,8 @@ def spelled(move, kings):
 
 
 def random_game(chance, moves, number):
-    """The text of a game of up to 160 half-moves with what annotators put between them; no mate and no stalemate ends it,
-    so that any result may stand behind it."""
+    """The text of a game of up to 160 half-moves with what annotators put between them; no mate and no stalemate ends
+    it, so that any result may stand behind it."""
     played, kings, told = [], {"e1", "e8"}, []
     for _ in range(chance.randint(1, 160)):
         allowed = moves.behind(played)
@@ -69,8 +71,8 @@ def random_game(chance, moves, number):
         told.append(words + chance.choice([[], [], [], [], ["$14"], ["{a (comment)}"], [f"({other} {{better}})"]]))
         played.append(move)
     result = chance.choice(RESULTS)
-    tags = [f'[Event "Random \\"games\\""]', f'[Round "{number}"]', '[White "Ann"]', '[Black "Ben"]', f'[Result "{result}"]']
-    return "\n".join(tags) + "\n\n" + " ".join(sum(told, []) + [result]) + "\n\n"
+    tags = f'[Event "Random \\"games\\""]\n[Round "{number}"]\n[White "Ann"]\n[Black "Ben"]\n[Result "{result}"]\n\n'
+    return tags + " ".join(sum(told, []) + [result]) + "\n\n"
 
 
 def extracted(text, *options):
@@ -112,7 +114,7 @@ def main():
     played = "".join(random_game(chance, moves, number) for number in range(1, GAMES + 1)).encode()
     outside, complaints = extracted(played, "-w75")
     says("pgn-extract reads the games that were played", complaints == [] and outside.count(b"[Event ") == GAMES)
-    plain, _ = extracted(played, "-7", "-C", "-N", "-V", "-w79")
+    plain, _ = extracted(played, *PLAIN)
     ours, status = tidied(outside)
     says("tidy reads what pgn-extract writes", status == 0 and ours.count(b"[Event ") == GAMES)
     says("tidy writes an export as it is", tidied(ours) == (ours, 0))
@@ -128,9 +130,10 @@ def main():
         print(machine())
         print(f"{'program':<14}{'MB':>8}{'games':>10}{'seconds':>10}{'games/s':>10}{'MB/s':>8}{'peak MiB':>10}")
         size, games = copies * len(outside) / 1e6, copies * GAMES
-        for name, words in (("tidy", [PROGRAM, "tidy"]), ("pgn-extract", [EXTRACT, "-s", "-7", "-C", "-N", "-V", "-w79"])):
+        for name, words in (("tidy", [PROGRAM, "tidy"]), ("pgn-extract", [EXTRACT, "-s", *PLAIN])):
             seconds, peak = measured(words, large.name)
-            print(f"{name:<14}{size:>8.0f}{games:>10}{seconds:>10.1f}{games / seconds:>10.0f}{size / seconds:>8.1f}{peak:>10.1f}")
+            print(f"{name:<14}{size:>8.0f}{games:>10}{seconds:>10.1f}{games / seconds:>10.0f}"
+                  f"{size / seconds:>8.1f}{peak:>10.1f}")
     sys.exit(1 if wrong else 0)
 
 

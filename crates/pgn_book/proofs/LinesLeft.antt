@@ -14,7 +14,7 @@ use Rattle.pgn_book.specs.Bytes.{is_word_byte}
 use Rattle.pgn_book.specs.Games.{Reads}
 use Rattle.pgn_book.specs.Reading.{Book, took, Outcome, adding, State, state_at, begun_behind, piece_of, step, read_from, first_state, Gone, with_given, gone, adding_all}
 use Rattle.pgn_book.specs.Reader.{line_behind, line_if, line_from}
-use Rattle.pgn_book.specs.BadLines.{IsBeginning, is_feed, line_of_end, IsLeftOn}
+use Rattle.pgn_book.specs.BadLines.{IsBeginning, is_feed, line_of_end, IsLeftOn, OneLine}
 use Rattle.pgn_book.specs.Sound.{IsSound, IsSoundPlace, IsSoundIf}
 use Rattle.pgn_book.proofs.Cuts.{reads_in_pieces}
 use Rattle.pgn_book.proofs.GamesFound.{reader_reads}
@@ -342,3 +342,9 @@ left_on text unread =
         ap (λ (l : List ℕ). l ++ begins.more) e ∙ append_assoc to.part (b ∷ more) begins.more ∙ sym (append_assoc to.part (b ∷ []) (more ++ begins.more)) in
         absurd (reads_in_pieces.lost (to.part ++ b ∷ []) (more ++ begins.more) begins.games (lost to b (more ++ behind) g)
         (subst (λ (t : List ℕ). Reads t begins.games) text_is begins.read))
+
+pub one_line : OneLine
+one_line text one other h g =
+    let low : one ≤ other = subst (λ (n : ℕ). n ≤ other) (sym h.on_it) (g.last h.front h.rest h.split h.begins) in
+    let high : other ≤ one = subst (λ (n : ℕ). n ≤ one) (sym g.on_it) (h.last g.front g.rest g.split g.begins) in
+    omega (arith, low, high)

@@ -1,6 +1,6 @@
 -- The games that are told of a text are those that are whole in it.
-use Rattle.std.proofs.Common.{◌≡◌, ◌⊎◌, inl, inr, ℕ, Bool, true, false, ◌&&◌, not, cond, nat_eq, nat_lt, List, [], ◌∷◌, ◌++◌, length, Option, Some, None, refl, sym, ap, subst, ◌∙◌, append_assoc, append-nil}
-use Rattle.std.specs.Prelude.{◌==◌, bytes_eq, codes}
+use Rattle.std.proofs.Common.{◌≡◌, ◌⊎◌, inl, inr, ℕ, Bool, true, false, ◌&&◌, not, cond, nat_lt, List, [], ◌∷◌, ◌++◌, length, Option, Some, None, refl, sym, ap, subst, ◌∙◌, append_assoc, append-nil}
+use Rattle.std.specs.Prelude.{bytes_eq, codes}
 use Rattle.std.specs.List.{list_all}
 use Rattle.chess_model.specs.declared.moves.Move.{Move}
 use Rattle.pgn_book.specs.declared.game.PgnGame.{PgnGame}
@@ -8,11 +8,11 @@ use Rattle.pgn_book.specs.declared.place.Place.{Place}
 use Rattle.pgn_book.specs.declared.place.Place.TheVariants.{Start, AfterOne, AfterTwo, Between, InLine, InBraces, InWord, InQuotes, InStroke}
 use Rattle.pgn_book.specs.declared.stage.Stage.{Stage}
 use Rattle.pgn_book.specs.declared.stage.Stage.TheVariants.{Before, Tags, Opened, Named, Told, Moves}
-use Rattle.pgn_book.specs.Bytes.{is_among, is_space, spaces, is_digit, is_name_byte, is_word_byte}
+use Rattle.pgn_book.specs.Bytes.{is_space, spaces, is_digit, is_name_byte, is_word_byte}
 use Rattle.pgn_book.specs.Games.{Reads, is_result, position_of, without_praise}
-use Rattle.pgn_book.specs.Reading.{Book, no_book, game_of, Taken, goes, fails, gives, staged, passed_over, named, move_read, with_move, moved, told, worded, glyphed, took, Outcome, adding, State, Step, state_at, begun_behind, piece_of, longer, silent, word_ended, step, step_in, is_at_rest, resting, finished_in, read_from, first_state, Gone, with_given, gone, gone_both, adding_all}
+use Rattle.pgn_book.specs.Reading.{Book, no_book, game_of, Taken, goes, fails, gives, staged, passed_over, move_read, with_move, moved, told, worded, glyphed, took, Outcome, adding, State, state_at, piece_of, longer, silent, word_ended, step, step_in, resting, finished_in, read_from, first_state, Gone, with_given, gone, gone_both, adding_all}
 use Rattle.pgn_book.specs.Sound.{IsSound, IsSoundPlace, IsSoundIf}
-use Rattle.pgn_book.specs.Runs.{outcome_of, begun_with, AreWhole, WholeGamesAreTold}
+use Rattle.pgn_book.specs.Runs.{outcome_of, begun_with, WholeGamesAreTold}
 use Rattle.pgn_book.proofs.Cuts.{reads_in_pieces}
 use Rattle.pgn_book.proofs.GamesFound.{reader_reads}
 use Rattle.pgn_book.proofs.PiecesRead.{each_among}
@@ -308,18 +308,22 @@ begun_all : (text other : List ℕ) (b : ℕ) (behind : List ℕ) (fewer : List 
 begun_all text other b behind fewer e space read =
     let front : List ℕ = other ++ b ∷ [] in
     let given : (begun_with front).games ≡ fewer = given_behind other b fewer (begun_with other).on space (reader_reads.complete other fewer read) refl in
-    let more : List PgnGame = (gone (begun_with front).on behind).games in
-    (more, ap (λ (t : List ℕ). (begun_with t).games) (behind_text text other b behind e)
-        ∙ ap (λ (x : Gone). x.games) (reads_in_pieces.goes_on (Some first_state) front behind) ∙ ap (λ (l : List PgnGame). l ++ more) given)
+    let more : List PgnGame = (gone (begun_with front).on behind).games in (
+      more,
+      ap (λ (t : List ℕ). (begun_with t).games) (behind_text text other b behind e)
+          ∙ ap (λ (x : Gone). x.games) (reads_in_pieces.goes_on (Some first_state) front behind) ∙ ap (λ (l : List PgnGame). l ++ more) given,
+    )
 
 ended_all : (text other : List ℕ) (b : ℕ) (behind : List ℕ) (fewer : List PgnGame) → text ≡ other ++ b ∷ behind → is_space b ≡ true → Reads other fewer →
     (more : List PgnGame) × ((outcome_of text).games ≡ fewer ++ more)
 ended_all text other b behind fewer e space read =
     let front : List ℕ = other ++ b ∷ [] in
     let given : (begun_with front).games ≡ fewer = given_behind other b fewer (begun_with other).on space (reader_reads.complete other fewer read) refl in
-    let more : List PgnGame = (read_from (begun_with front).on behind).games in
-    (more, ap (λ (t : List ℕ). (outcome_of t).games) (behind_text text other b behind e)
-        ∙ ap (λ (o : Outcome). o.games) (reads_in_pieces.read (Some first_state) front behind) ∙ ap (λ (l : List PgnGame). l ++ more) given)
+    let more : List PgnGame = (read_from (begun_with front).on behind).games in (
+      more,
+      ap (λ (t : List ℕ). (outcome_of t).games) (behind_text text other b behind e)
+          ∙ ap (λ (o : Outcome). o.games) (reads_in_pieces.read (Some first_state) front behind) ∙ ap (λ (l : List PgnGame). l ++ more) given,
+    )
 
 pub whole_told : WholeGamesAreTold
 whole_told = record {

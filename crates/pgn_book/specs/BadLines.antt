@@ -26,3 +26,7 @@ pub record IsLeftOn (text : List ℕ) (line : ℕ) : Type 0 where
   pub begins : IsBeginning front
   pub on_it : line ≡ line_of_end front
   pub last : (other behind : List ℕ) → text ≡ other ++ behind → IsBeginning other → line_of_end other ≤ line
+
+-- a text leaves the grammar on one line
+abbrev pub OneLine : Type 0
+OneLine = (text : List ℕ) (one other : ℕ) → IsLeftOn text one → IsLeftOn text other → one ≡ other

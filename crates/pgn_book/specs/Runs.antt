@@ -1,4 +1,5 @@
--- Runs of a reader: its calls with their answers, one after another, and what they have to do with the text that was fed.
+-- Runs of a reader: its calls with their answers, one after another, and what they have to do with the text that was
+-- fed.
 use Rattle.std.specs.Prelude.{◌≡◌, ◌≢◌, ℕ, true, List, [], ◌∷◌, ◌++◌, Some, None}
 use Rattle.pgn_book.specs.declared.game.PgnGame.{PgnGame}
 use Rattle.pgn_book.specs.declared.reader.PgnStep.{PgnStep}
@@ -25,8 +26,8 @@ pub record AreWhole (text : List ℕ) (games : List PgnGame) : Type 0 where
   pub rest : List ℕ
   pub split : text ≡ front ++ rest
   pub read : Reads front games
-  pub all : (other : List ℕ) (b : ℕ) (behind : List ℕ) (fewer : List PgnGame) → text ≡ other ++ b ∷ behind → is_space b ≡ true
-      → Reads other fewer → (more : List PgnGame) × (games ≡ fewer ++ more)
+  pub all : (other : List ℕ) (b : ℕ) (behind : List ℕ) (fewer : List PgnGame) → text ≡ other ++ b ∷ behind
+      → is_space b ≡ true → Reads other fewer → (more : List PgnGame) × (games ≡ fewer ++ more)
 
 -- whatever becomes of a text, the games that are whole in it are told; where it is read, they are those that it has
 pub record WholeGamesAreTold : Type 0 where
@@ -99,11 +100,13 @@ games_of (Next step ∷ calls) = game_in step ++ games_of calls
 -- the line on which the text leaves the grammar. `next` gives More where no further game is whole in what was fed and a
 -- text may go on so, and Bad where none does, whatever follows
 pub record RunsReadTheText : Type 0 where
-  pub whole : (calls : List Call) (fed : Reader) (games : List PgnGame) → MakeAll fresh_reader calls fed → Ends fed games More →
-      Reads (text_of calls) (games_of calls ++ games)
-  pub bad : (calls : List Call) (fed : Reader) (games : List PgnGame) (line : ℕ) → MakeAll fresh_reader calls fed → Ends fed games (Bad line) →
-      IsLeftOn (text_of calls) line × ((outcome_of (text_of calls)).games ≡ games_of calls ++ games)
-  pub no_more : (calls : List Call) (fed new : Reader) → MakeAll fresh_reader calls fed → IsNext fed More new →
-      ((begun_with (text_of calls)).games ≡ games_of calls) × ((begun_with (text_of calls)).on ≢ None)
-  pub lost : (calls : List Call) (fed new : Reader) (line : ℕ) → MakeAll fresh_reader calls fed → IsNext fed (Bad line) new →
-      (more : List ℕ) → IsLeftOn (text_of calls ++ more) line × ((outcome_of (text_of calls ++ more)).games ≡ games_of calls)
+  pub whole : (calls : List Call) (fed : Reader) (games : List PgnGame) → MakeAll fresh_reader calls fed
+      → Ends fed games More → Reads (text_of calls) (games_of calls ++ games)
+  pub bad : (calls : List Call) (fed : Reader) (games : List PgnGame) (line : ℕ) → MakeAll fresh_reader calls fed
+      → Ends fed games (Bad line)
+      → IsLeftOn (text_of calls) line × ((outcome_of (text_of calls)).games ≡ games_of calls ++ games)
+  pub no_more : (calls : List Call) (fed new : Reader) → MakeAll fresh_reader calls fed → IsNext fed More new
+      → ((begun_with (text_of calls)).games ≡ games_of calls) × ((begun_with (text_of calls)).on ≢ None)
+  pub lost : (calls : List Call) (fed new : Reader) (line : ℕ) → MakeAll fresh_reader calls fed
+      → IsNext fed (Bad line) new → (more : List ℕ) → IsLeftOn (text_of calls ++ more) line
+      × ((outcome_of (text_of calls ++ more)).games ≡ games_of calls)

@@ -1,6 +1,7 @@
 //! Laws of the grammar and of the export form.
 ghost use Rattle.pgn_book.specs.Examples.{ExportExamples, TextExamples};
 ghost use Rattle.pgn_book.specs.Games.{OneReading};
+ghost use Rattle.pgn_book.specs.BadLines.{OneLine};
 ghost use Rattle.pgn_book.specs.Runs.{RunsReadTheText, WholeGamesAreTold};
 ghost use Rattle.pgn_book.specs.Laws.{ExportsReadBack, LinesFit, ReaderReads, ReadsExportable, ReadsInPieces};
 
@@ -32,7 +33,8 @@ pub fn texts_are_read_in_pieces()
 /// However a text is cut and games are asked for, a reader gives exactly the games that the grammar reads in it, or the
 /// line on which it leaves the grammar.
 pub fn runs_read_the_text()
-    ensures { RunsReadTheText }
+    ensures runs { RunsReadTheText }
+    ensures one_line { OneLine }
 {}
 
 /// The games that are told of a text, read or not, are those that are whole in it.

@@ -3,9 +3,9 @@
 //! The contract: `export` writes exactly the text that `specs/Export.antt` defines of a game. The grammar of
 //! `specs/Lexing.antt` and `specs/Games.antt` reads at most one list of games in a text, and in the export of a game
 //! exactly that game. `specs/Reading.antt` reads a text a byte at a time, and finds exactly what the grammar reads,
-//! however the text is cut; `PgnReader` gives, a game a call, what it finds, and each of these games may be exported. Over
-//! a whole run of its calls these are the games that the grammar reads in the text that was fed, or else it tells the
-//! line on which the text leaves the grammar: the last line that a beginning reaches with which a text that is read
+//! however the text is cut; `PgnReader` gives, a game a call, what it finds, and each of these games may be exported.
+//! Over a whole run of its calls these are the games that the grammar reads in the text that was fed, or else it tells
+//! the line on which the text leaves the grammar: the last line that a beginning reaches with which a text that is read
 //! begins. `of_stored` makes the game that PGN text can tell of a stored one, exactly where that is chess and replays.
 #![tactic(auto)]
 

@@ -77,8 +77,8 @@ impl PgnReader {
         Ok(())
     }
 
-    /// The next whole game of what was fed; `More` exactly where there is none and nothing is outside the grammar;
-    /// `Bad`, from then on, where something is. Out of memory, nothing is promised of the reader.
+    /// The next whole game of what was fed, which may be exported; `More` exactly where there is none and nothing is
+    /// outside the grammar; `Bad`, from then on, where something is. Out of memory, nothing is promised of the reader.
     pub fn next(&mut self) -> Result<PgnStep, NoMemory>
         ensures next { IfOk result (λ step. IsNext self.old step self.new) }
         ensures exportable { IfOk result MayBeExported }
@@ -96,8 +96,9 @@ impl PgnReader {
         Ok(PgnStep::Bad(self.line))
     }
 
-    /// At the end of the text, the next game; `More` exactly where nothing of a game is left; `Bad`, from then on,
-    /// where something is, or something is outside the grammar. Out of memory, nothing is promised of the reader.
+    /// At the end of the text, the next game, which may be exported; `More` exactly where nothing of a game is left;
+    /// `Bad`, from then on, where something is, or something is outside the grammar. Out of memory, nothing is promised
+    /// of the reader.
     pub fn finish(&mut self) -> Result<PgnStep, NoMemory>
         ensures last { IfOk result (λ step. IsLast self.old step self.new) }
         ensures exportable { IfOk result MayBeExported }

@@ -1,8 +1,10 @@
 //! Stored games, by the bytes of their records, and their exports, both written out by hand.
 
+ghost use Rattle.pgn_book.specs.Export.{IsExportable};
+
 use game_records::{Record, StoredGame, read_record};
 use memory::NoMemory;
-use pgn_book::{export, of_stored};
+use pgn_book::{PgnGame, export, of_stored};
 use std::alloc::Global;
 use std::test::Fail;
 
@@ -80,16 +82,18 @@ const TAGS: &str = "\
 fn first_wrong(alloc: Global) -> Result<Option<usize>, NoMemory> {
     for (place, (parts, movetext)) in ROWS.iter().enumerate() {
         let bytes = joined(alloc, parts)?;
-        match read_record(alloc, bytes.as_slice())? {
-            Some(Record::Game(game)) => {
-                if !is_exported(alloc, &game, *movetext)? {
-                    return Ok(Some(place));
-                }
-            }
-            _ => return Ok(Some(place)),
+        if !is_as_said(alloc, bytes.as_slice(), *movetext)? {
+            return Ok(Some(place));
         }
     }
     Ok(None)
+}
+
+fn is_as_said(alloc: Global, bytes: &[u8], movetext: Option<&str>) -> Result<bool, NoMemory> {
+    match read_record(alloc, bytes)? {
+        Some(Record::Game(game)) => is_exported(alloc, &game, movetext),
+        _ => Ok(false),
+    }
 }
 
 fn joined(alloc: Global, parts: &[&[u8]]) -> Result<Vec<u8>, NoMemory> {
@@ -105,15 +109,20 @@ fn is_exported(
     game: &StoredGame,
     movetext: Option<&str>,
 ) -> Result<bool, NoMemory> {
-    let made = of_stored(alloc, game)?;
-    match (made, movetext) {
-        (None, None) => Ok(true),
-        (Some(game), Some(movetext)) => {
-            let text = export(alloc, &game)?;
-            are_lines(alloc, text.as_slice(), movetext)
-        }
-        _ => Ok(false),
+    match of_stored(alloc, game)? {
+        Some(made) => is_text(alloc, &made, movetext),
+        None => Ok(movetext.is_none()),
     }
+}
+
+fn is_text(alloc: Global, made: &PgnGame, movetext: Option<&str>) -> Result<bool, NoMemory>
+    requires { IsExportable made.now }
+{
+    let Some(movetext) = movetext else {
+        return Ok(false);
+    };
+    let text = export(alloc, made)?;
+    are_lines(alloc, text.as_slice(), movetext)
 }
 
 /// Whether these are the lines of the tags, the movetext and the empty line behind it.

@@ -1,5 +1,5 @@
-//! PGN text that `run` tidies over the fakes. The exports are written out by hand from the export form; the lines of the
-//! long game were broken by another program at 79 bytes.
+//! PGN text that `run` tidies over the fakes. The exports are written out by hand from the export form; the lines of
+//! the long game were broken by another program at 79 bytes.
 
 use crate::running::{Case, Row, expect, expect_tables};
 use std::alloc::Global;

@@ -34,8 +34,8 @@ WritesPart words left left' written written' end =
     ((command : Command) → Names words command → CommandEnds left left' written written' end command)
     × (¬ (IsCommand words) → UsagePart left left' written written')
 
--- the input is in the command's grammar: none of its lines is bad, or they are those of an evening, or games are read in
--- its text
+-- the input is in the command's grammar: none of its lines is bad, or they are those of an evening, or games are read
+-- in its text
 abbrev pub IsGood : List ℕ → Command → Type 0
 IsGood text Board = bad_in (lines_of text) ≡ None
 IsGood text Replay = AreEvening (lines_of text)

@@ -14,8 +14,8 @@ use Rattle.pgn_book.specs.Runs.{HasGiven, begun_with, outcome_of}
 abbrev pub exports : List PgnGame → List ℕ
 exports games = flat_map export_text games
 
--- these bytes have come of an input that goes on so: the reader gave the games that are whole in them, and their exports
--- are due
+-- these bytes have come of an input that goes on so: the reader gave the games that are whole in them, and their
+-- exports are due
 pub record HasTidied (taken : List ℕ) (r : Reader) (due : List ℕ) : Type 0 where
   pub given : HasGiven taken (begun_with taken).games r
   pub all : r.rest ≡ []
