@@ -1,5 +1,5 @@
 -- What the lines of `bot` say, as a player reads them: a variant, and half-moves from its start.
-use Rattle.std.specs.Prelude.{◌≡◌, ◌≢◌, ℕ, ◌<◌, ◌≤◌, Bool, true, false, List, [], ◌∷◌, length, Some, None, ⊤}
+use Rattle.std.specs.Prelude.{◌≡◌, ◌≢◌, ℕ, ◌-◌, ◌<◌, ◌≤◌, Bool, true, false, List, [], ◌∷◌, length, filter, take, All, Some, None, ⊤}
 use Rattle.chess_model.specs.declared.moves.Move.{Move}
 use Rattle.chess_model.specs.declared.moves.MoveWord.{MoveWord}
 use Rattle.chess_model.specs.declared.variant.Variant.{Variant}
@@ -44,3 +44,13 @@ Give depth [] state = state ≡ None
 Give depth (first ∷ lines) state =
     (game : BotGame) × (state ≡ Some game) × Names depth first game.variant
     × Follow (new_game game.variant) lines game.moves
+
+-- the line of this number, counted from 1, is the first one that isn't a line of a game: those before it give a game, and
+-- with it they give none
+pub record IsFirstBad (depth : ℕ) (lines : List (List ℕ)) (number : ℕ) : Type 0 where
+  pub counted : 1 ≤ number
+  pub there : number ≤ length lines
+  pub game : BotState
+  pub before : Give depth (filter is_written (take (number - 1) lines)) game
+  pub none : All (λ line. length line ≤ 1023) lines → (state : BotState)
+      → Give depth (filter is_written (take number lines)) state → ⊥
