@@ -8,10 +8,9 @@ use Rattle.pgn_book.specs.declared.game.TagRow.{TagRow}
 use Rattle.pgn_book.specs.declared.game.PgnGame.{PgnGame}
 use Rattle.pgn_book.specs.Lexing.{escaped}
 use Rattle.pgn_book.specs.Export.{laid, export_text}
-use Rattle.pgn_book.specs.Reading.{Outcome, read_from, first_state}
-
-abbrev pub read : List ℕ → Outcome
-read text = read_from (Some first_state) text
+use Rattle.pgn_book.specs.Reading.{first_state}
+use Rattle.pgn_book.specs.Reader.{line_from}
+use Rattle.pgn_book.specs.Runs.{outcome_of}
 
 -- the tags of which only the event is told
 abbrev pub only_event : List ℕ → TagRow
@@ -33,26 +32,29 @@ two_knights_out = Plain 12 28 None ∷ Plain 52 36 None ∷ Plain 6 21 None ∷ 
 
 pub record TextExamples : Type 0 where
   -- numbers, comments, glyphs, variations and praise are passed over
-  pub comments : read (codes "1.e4 e5 {open} 2. Nf3 $1 (2. f4) Nc6!? *")
+  pub comments : outcome_of (codes "1.e4 e5 {open} 2. Nf3 $1 (2. f4) Nc6!? *")
       ≡ record {
         games = game (codes "?") two_knights_out Open ∷ [];
         whole = true;
       }
   -- a move that isn't allowed is outside the grammar, and so is a position to begin with
-  pub illegal : (read (codes "1. e4 e5 2. Ke3 *")).whole ≡ false
-  pub set_up : (read (codes "[FEN \"8/8/8/8/8/8/8/8 w - - 0 1\"] *")).whole ≡ false
+  pub illegal : (outcome_of (codes "1. e4 e5 2. Ke3 *")).whole ≡ false
+  pub set_up : (outcome_of (codes "[FEN \"8/8/8/8/8/8/8/8 w - - 0 1\"] *")).whole ≡ false
   -- of tags of one name the first counts, and strokes stand before quotes and strokes
-  pub tags : read (codes "[Event \"a \\\"b\\\" \\\\\"] ; c [\n[Event \"d\"]{e}[Mode \"\"] 1/2-1/2 1-0")
+  pub tags : outcome_of (codes "[Event \"a \\\"b\\\" \\\\\"] ; c [\n[Event \"d\"]{e}[Mode \"\"] 1/2-1/2 1-0")
       ≡ record { games = game (codes "a \"b\" \\") [] Draw ∷ game (codes "?") [] White ∷ []; whole = true }
   -- a line that begins with a percent sign is skipped, and another percent sign is outside the grammar
-  pub percent : read (codes "%x [\n0-1") ≡ record { games = game (codes "?") [] Black ∷ []; whole = true }
-  pub late_percent : (read (codes "0-1 %x")).whole ≡ false
+  pub percent : outcome_of (codes "%x [\n0-1") ≡ record { games = game (codes "?") [] Black ∷ []; whole = true }
+  pub late_percent : (outcome_of (codes "0-1 %x")).whole ≡ false
   -- what has begun has to be ended
-  pub no_result : (read (codes "1. e4")).whole ≡ false
-  pub open_braces : (read (codes "* {a")).whole ≡ false
-  pub open_variation : (read (codes "(a *")).whole ≡ false
-  pub praised_result : (read (codes "1-0!")).whole ≡ false
-  pub nothing : read (codes " \n") ≡ record { games = []; whole = true }
+  pub no_result : (outcome_of (codes "1. e4")).whole ≡ false
+  pub open_braces : (outcome_of (codes "* {a")).whole ≡ false
+  pub open_variation : (outcome_of (codes "(a *")).whole ≡ false
+  pub praised_result : (outcome_of (codes "1-0!")).whole ≡ false
+  -- the games before the line on which a text leaves the grammar are told
+  pub before : outcome_of (codes "*\nd4\ne4 *") ≡ record { games = game (codes "?") [] Open ∷ []; whole = false }
+  pub line : line_from 1 (Some first_state) (codes "*\nd4\ne4 *") ≡ 3
+  pub nothing : outcome_of (codes " \n") ≡ record { games = []; whole = true }
 
 -- Ann and Ben haven't moved
 abbrev pub ann_and_ben : PgnGame

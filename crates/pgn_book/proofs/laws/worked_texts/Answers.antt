@@ -18,5 +18,7 @@ returns c = record {
   open_braces = refl;
   open_variation = refl;
   praised_result = refl;
+  before = refl;
+  line = refl;
   nothing = refl;
 }
