@@ -8,8 +8,8 @@ use Rattle.line_answers.specs.Lines.{lines_come, lines_of}
 use Rattle.bot_command.specs.BotLines.{BotState, bot_answer, bot_lines}
 use Rattle.bot_command.specs.Inputs.{Give, is_written}
 
--- the input has ended, its lines give a game, and the bot's answer in the position of that game was written, and nothing
--- else
+-- the input has ended, its lines give a game, and the bot's answer in the position of that game was written, and
+-- nothing else
 pub record AnswersGame (depth : ℕ) (left left' written written' : Option (List ℕ)) : Type 0 where
   pub taken : List ℕ
   pub game : BotState

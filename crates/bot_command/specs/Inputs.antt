@@ -45,8 +45,8 @@ Give depth (first ∷ lines) state =
     (game : BotGame) × (state ≡ Some game) × Names depth first game.variant
     × Follow (new_game game.variant) lines game.moves
 
--- the line of this number, counted from 1, is the first one that isn't a line of a game: those before it give a game, and
--- with it they give none
+-- the line of this number, counted from 1, is the first one that isn't a line of a game: those before it give a game,
+-- and with it they give none
 pub record IsFirstBad (depth : ℕ) (lines : List (List ℕ)) (number : ℕ) : Type 0 where
   pub counted : 1 ≤ number
   pub there : number ≤ length lines

@@ -82,10 +82,12 @@ impl<const DEPTH: u8> ClosingAnswerer for BotBoard<DEPTH> {
     }
 }
 
-/// Reads the source to its end, and writes what the bot answers, `depth` half-moves ahead, in the position of its lines.
+/// Reads the source to its end, and writes what the bot answers, `depth` half-moves ahead, in the position that its lines
+/// give.
 pub fn bot<S: Source, K: Sink>(alloc: Global, depth: u8, source: &mut S, sink: &mut K) -> End
     requires { depth ≤ 4 }
-    ensures ends { BotEnds depth (S.left source.old) (S.left source.new) (K.written sink.old) (K.written sink.new) result }
+    ensures ends { BotEnds depth (S.left source.old) (S.left source.new) (K.written sink.old) (K.written sink.new)
+        result }
     ensures read_cause { OnReadFault result (Rose (S.faults source.old) (S.faults source.new)) }
     ensures write_cause { OnWriteFault result (Rose (K.faults sink.old) (K.faults sink.new)) }
 {
@@ -99,7 +101,8 @@ pub fn bot<S: Source, K: Sink>(alloc: Global, depth: u8, source: &mut S, sink: &
 }
 
 fn bot_at<const DEPTH: u8, S: Source, K: Sink>(alloc: Global, source: &mut S, sink: &mut K) -> End
-    ensures ends { BotEnds DEPTH (S.left source.old) (S.left source.new) (K.written sink.old) (K.written sink.new) result }
+    ensures ends { BotEnds DEPTH (S.left source.old) (S.left source.new) (K.written sink.old) (K.written sink.new)
+        result }
     ensures read_cause { OnReadFault result (Rose (S.faults source.old) (S.faults source.new)) }
     ensures write_cause { OnWriteFault result (Rose (K.faults sink.old) (K.faults sink.new)) }
 {

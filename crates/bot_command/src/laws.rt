@@ -23,12 +23,12 @@ pub fn inputs()
 
 /// What is written at each end: the answer in the position of the input, the number of its first bad line, or nothing.
 pub fn bot_texts()
-    ensures answered { (depth : ℕ) (left after written now : Option (List ℕ)) → BotEnds depth left after written now End.Done
-        → AnswersGame depth left after written now }
-    ensures bad_line { (depth : ℕ) (left after written now : Option (List ℕ)) → BotEnds depth left after written now End.BadLine
-        → TellsBadLine depth left after written now }
+    ensures answered { (depth : ℕ) (left after written now : Option (List ℕ))
+        → BotEnds depth left after written now End.Done → AnswersGame depth left after written now }
+    ensures bad_line { (depth : ℕ) (left after written now : Option (List ℕ))
+        → BotEnds depth left after written now End.BadLine → TellsBadLine depth left after written now }
     ensures read_fault { (depth : ℕ) (left after written now : Option (List ℕ))
         → BotEnds depth left after written now End.ReadFault → WritesNothing written now }
-    ensures spent { (depth : ℕ) (left after written now : Option (List ℕ)) → BotEnds depth left after written now End.Spent
-        → WritesNothing written now }
+    ensures spent { (depth : ℕ) (left after written now : Option (List ℕ))
+        → BotEnds depth left after written now End.Spent → WritesNothing written now }
 {}

@@ -1,7 +1,8 @@
 //! The reading of the words.
 
 ghost use Rattle.std.specs.Prelude.{◌∷◌, ℕ, List, Option, IfOk, IfErr, IfSome, IfNone, codes, map, string_bytes};
-ghost use Rattle.job_words.specs.Jobs.{AreOptions, Chosen, GivenValue, IsBot, IsServe, Names, OnUsage, Tells, TextsName};
+ghost use Rattle.job_words.specs.Jobs.{AreOptions, Chosen, GivenValue, IsBot, IsServe};
+ghost use Rattle.job_words.specs.Jobs.{Names, OnUsage, Tells, TextsName};
 ghost use Rattle.job_words.specs.declared.job.Job.{Job};
 
 use crate::chosen::Values;

@@ -34,7 +34,8 @@ pub record IsStopped {S : Type 0} (feeding : Feeding S) (left left' written writ
   pub bad : feeding.refused ended taken due
   pub text : Appends written written' due
 
--- a prefix of what is due for a beginning of the bytes was written; the input's end belongs to it only where it has come
+-- a prefix of what is due for a beginning of the bytes was written; the input's end belongs to it only where it has
+-- come
 pub record FrontIsWritten {S : Type 0} (feeding : Feeding S) (ended : Bool) (taken : List ℕ)
     (written written' : Option (List ℕ)) : Type 0 where
   pub before : List ℕ

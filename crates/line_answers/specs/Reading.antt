@@ -64,7 +64,8 @@ AfterAnswer feeding taken stands written written' (Ok u) = IsAnswered feeding ta
 AfterAnswer feeding taken stands written written' (Err end) = IsRefusedOr feeding false taken written written' end
 
 -- the input was answered, what is due was written, and the feeder was closed
-pub record IsFinished {S : Type 0} (feeding : Feeding S) (taken : List ℕ) (written written' : Option (List ℕ)) : Type 0 where
+pub record IsFinished {S : Type 0} (feeding : Feeding S) (taken : List ℕ)
+    (written written' : Option (List ℕ)) : Type 0 where
   pub stands : S
   pub text : List ℕ
   pub wrote : Appends written written' text

@@ -69,7 +69,12 @@ const BAD_LINES: &[Answer] = &[
     // no word, a word that no man can follow, one for two men, and a drop where there are none
     Answer("1", "chess\nhello\n", 7, "bad line 2\n"),
     Answer("1", "\n\nchess\n\ne4\n\nKe3\n", 7, "bad line 7\n"),
-    Answer("1", "chess\nNf3\ne6\nNc3\ne5\nNd4\nh6\nNb5\n", 7, "bad line 8\n"),
+    Answer(
+        "1",
+        "chess\nNf3\ne6\nNc3\ne5\nNd4\nh6\nNb5\n",
+        7,
+        "bad line 8\n",
+    ),
     Answer("1", "chess\nP@e4\n", 7, "bad line 2\n"),
     Answer("1", "chess\ne5", 7, "bad line 2\n"),
     // a line behind the end of the game
@@ -95,7 +100,15 @@ const CUTS_AND_FAULTS: &[Row] = &[
         0,
         &["d8h4 100000\n"],
     ),
-    Row(&["bot", "1"], b"chess\nKe3\ne4", 1, &[], &[], 7, &["bad line 2\n"]),
+    Row(
+        &["bot", "1"],
+        b"chess\nKe3\ne4",
+        1,
+        &[],
+        &[],
+        7,
+        &["bad line 2\n"],
+    ),
     Row(&["bot", "1"], b"chess\nf3\n", 6, &[1], &[], 2, &[]),
     Row(&["bot", "1"], b"chess\nf3\n", 6, &[2], &[], 2, &[]),
     Row(&["bot", "1"], b"chess\n", 6, &[], &[0], 3, &[]),
