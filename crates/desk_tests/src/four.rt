@@ -4,7 +4,7 @@ ghost use Rattle.fics_words.specs.Handle.{key_of};
 ghost use Rattle.fics_words.specs.Seats.{seat_list};
 ghost use Rattle.linked_desk.specs.Seating.{AllDiffer, names_of, sessions_of};
 
-use crate::table::{ANN, BEN, SERIAL, player};
+use crate::table::{ANN, Accounts, BEN, SERIAL, player};
 use chess_model::{Terms, Variant};
 use fics_words::{Opponents, Player, Seats};
 use linked_desk::Desk;
@@ -22,7 +22,7 @@ pub const FOUR: &[u32] = &[ANN, BEN, CAT, DAN];
 
 /// Desk 1 with an untimed game of bughouse that began at moment 0: Ann and Ben have White and Black of the first board,
 /// Cat and Dan those of the second.
-pub fn desk_with_pair(rt: &impl Abort, alloc: Global) -> Desk {
+pub fn desk_with_pair(rt: &impl Abort, alloc: Global, accounts: Accounts) -> Desk {
     let mut desk = Desk::vacant(1);
     let terms = Terms {
         minutes: 0,
@@ -30,21 +30,21 @@ pub fn desk_with_pair(rt: &impl Abort, alloc: Global) -> Desk {
         variant: Variant::Bughouse,
         colour: None,
     };
-    let seats = four_seats(rt);
+    let seats = four_seats(rt, accounts);
     let started = desk.start(alloc, SERIAL, terms, &seats, 0);
     assert!(rt; started.is_ok(), "there is memory");
     desk
 }
 
-fn four_seats(rt: &impl Abort) -> Seats
+fn four_seats(rt: &impl Abort, accounts: Accounts) -> Seats
     ensures sessions { AllDiffer (sessions_of result) }
     ensures names { AllDiffer (names_of result) }
     ensures four { length (seat_list result) ≡ 4 }
 {
-    let ann = player(rt, ANN, "Ann");
-    let ben = player(rt, BEN, "Ben");
-    let cat = player(rt, CAT, "Cat");
-    let dan = player(rt, DAN, "Dan");
+    let ann = player(rt, accounts, ANN, "Ann");
+    let ben = player(rt, accounts, BEN, "Ben");
+    let cat = player(rt, accounts, CAT, "Cat");
+    let dan = player(rt, accounts, DAN, "Dan");
     differ(rt, &ann, &ben);
     differ(rt, &ann, &cat);
     differ(rt, &ann, &dan);

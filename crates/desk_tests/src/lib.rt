@@ -3,11 +3,15 @@
 #![tactic(auto)]
 
 #[cfg(test)]
+mod adjourned;
+#[cfg(test)]
 mod finished;
 #[cfg(test)]
 mod four;
 #[cfg(test)]
 mod hands;
+#[cfg(test)]
+mod leaving;
 #[cfg(test)]
 mod offers;
 #[cfg(test)]

@@ -8,7 +8,7 @@ use crate::four::desk_with_pair;
 use chess_model::{Kind, MoveWord, Square, Terms, Variant};
 use clock_ledger::STAMP_CYCLE;
 use fics_words::{Fail, Handle, Opponents, Player, Refusal, Seats};
-use linked_desk::{Desk, DeskAct, DeskReply, Ended};
+use linked_desk::{Desk, DeskAct, DeskReply, Ended, Offer};
 use std::alloc::Global;
 use std::process::Abort;
 
@@ -31,6 +31,8 @@ pub enum Does {
     Stamped(&'static str, u32),
     /// Its client acknowledges the board with this stamp.
     Acked(u32),
+    Make(Offer),
+    Accept,
     Resign,
     Flag,
     Fetch,
@@ -52,30 +54,50 @@ pub enum Given {
 #[derive(Clone, Copy)]
 pub struct Step(pub u32, pub u32, pub Does, pub Given);
 
-pub fn player(rt: &impl Abort, session: u32, name: &str) -> Player {
+/// Which players have accounts.
+#[derive(Clone, Copy)]
+pub enum Accounts {
+    Nobody,
+    Everybody,
+    /// All but Ben.
+    NotBen,
+}
+
+/// The player of that session, whose account is there or not.
+pub fn player(rt: &impl Abort, accounts: Accounts, session: u32, name: &str) -> Player {
     Player {
         session,
         name: Handle::read(name.as_bytes()).expect(rt, "a handle"),
-        registered: false,
+        registered: has_account(accounts, session),
+    }
+}
+
+fn has_account(accounts: Accounts, session: u32) -> bool {
+    match accounts {
+        Accounts::Nobody => false,
+        Accounts::Everybody => true,
+        Accounts::NotBen => session != BEN,
     }
 }
 
 /// Desk 1 with a game of chess between Ann and Ben that began at moment 0.
 pub fn desk_with_game(rt: &impl Abort, alloc: Global, minutes: u16, increment: u16) -> Desk {
-    desk_with(rt, alloc, minutes, increment, Variant::Chess)
+    desk_with(rt, alloc, Accounts::Nobody, minutes, increment, Variant::Chess)
 }
 
-/// Desk 1 with an untimed game of crazyhouse between Ann and Ben that began at moment 0.
-fn desk_with_house(rt: &impl Abort, alloc: Global) -> Desk {
-    desk_with(rt, alloc, 0, 0, Variant::Crazyhouse)
-}
-
-fn desk_with(rt: &impl Abort, alloc: Global, minutes: u16, increment: u16, variant: Variant) -> Desk
+fn desk_with(
+    rt: &impl Abort,
+    alloc: Global,
+    accounts: Accounts,
+    minutes: u16,
+    increment: u16,
+    variant: Variant,
+) -> Desk
     requires pairs { length (board_numbers variant) ≡ 1 }
 {
     let mut desk = Desk::vacant(1);
-    let white = player(rt, ANN, "Ann");
-    let black = player(rt, BEN, "Ben");
+    let white = player(rt, accounts, ANN, "Ann");
+    let black = player(rt, accounts, BEN, "Ben");
     assert!(rt; white.session != black.session, "two sessions");
     assert!(rt; white.name.key() != black.name.key(), "two names");
     let terms = Terms {
@@ -103,6 +125,16 @@ pub enum Opening {
     House,
     /// An untimed game of bughouse of four.
     Pair,
+    /// A game of chess between Ann and Ben, who have accounts, with these minutes and this increment.
+    Members(u16, u16),
+    /// An untimed game of crazyhouse between the same.
+    MembersHouse,
+    /// An untimed game of chess where Ben has no account.
+    NotBen,
+    /// An untimed game of bughouse of four who have accounts.
+    PairOfMembers,
+    /// The same where Ben has none.
+    PairNotBen,
 }
 
 /// The desk with that, begun at moment 0.
@@ -110,8 +142,22 @@ pub fn desk_of(rt: &impl Abort, alloc: Global, opening: Opening) -> Desk {
     match opening {
         Opening::Vacant => Desk::vacant(128),
         Opening::Chess(minutes, increment) => desk_with_game(rt, alloc, minutes, increment),
-        Opening::House => desk_with_house(rt, alloc),
-        Opening::Pair => desk_with_pair(rt, alloc),
+        Opening::House => desk_with(rt, alloc, Accounts::Nobody, 0, 0, Variant::Crazyhouse),
+        Opening::Pair => desk_with_pair(rt, alloc, Accounts::Nobody),
+        Opening::Members(minutes, increment) => desk_with(
+            rt,
+            alloc,
+            Accounts::Everybody,
+            minutes,
+            increment,
+            Variant::Chess,
+        ),
+        Opening::MembersHouse => {
+            desk_with(rt, alloc, Accounts::Everybody, 0, 0, Variant::Crazyhouse)
+        }
+        Opening::NotBen => desk_with(rt, alloc, Accounts::NotBen, 0, 0, Variant::Chess),
+        Opening::PairOfMembers => desk_with_pair(rt, alloc, Accounts::Everybody),
+        Opening::PairNotBen => desk_with_pair(rt, alloc, Accounts::NotBen),
     }
 }
 
@@ -181,6 +227,8 @@ fn act_of(does: Does) -> Option<DeskAct>
         Does::Acked(stamp) => Some(DeskAct::Acked {
             stamp: stamp_of(stamp)?,
         }),
+        Does::Make(offer) => Some(DeskAct::Make { offer }),
+        Does::Accept => Some(DeskAct::Accept),
         Does::Resign => Some(DeskAct::Resign),
         Does::Flag => Some(DeskAct::Flag),
         Does::Fetch => Some(DeskAct::Fetch),
