@@ -4,6 +4,7 @@ pub mod Halved
 pub mod Linking
 pub mod OneMore
 pub mod Pairs
+pub mod Replayed
 pub mod SoundHalves
 pub mod StaySound
 pub mod Stepped

@@ -1,9 +1,14 @@
 //! What holds of the boards of a game, as calls that do nothing: what they ensure are the laws.
-ghost use Rattle.linked_boards.specs.Laws.{BoardsStaySound, HalvesAreTheBoards};
+ghost use Rattle.linked_boards.specs.Laws.{AreReplayed, BoardsStaySound, HalvesAreTheBoards};
 
 /// A record of the half-moves of boards has what these have, with their charges, and keeps the bounds of records.
 pub fn halves_are_the_boards()
     ensures { HalvesAreTheBoards }
+{}
+
+/// Half-moves are played again exactly where they could have been played, and the boards have these and no others.
+pub fn boards_are_replayed()
+    ensures { AreReplayed }
 {}
 
 /// The boards of a game are sound from the start on, whatever is played while no board is at an end, whatever clients
