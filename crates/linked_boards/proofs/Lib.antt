@@ -1,10 +1,12 @@
 pub mod BackSound
 pub mod BoardLists
+pub mod GoingOn
 pub mod Halved
 pub mod Linking
 pub mod OneMore
 pub mod Pairs
 pub mod Replayed
 pub mod SoundHalves
+pub mod StartGoesOn
 pub mod StaySound
 pub mod Stepped

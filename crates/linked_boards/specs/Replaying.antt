@@ -1,6 +1,6 @@
 -- A game that is played again from its half-moves, each with the charge that it had: as where an adjourned game is
 -- resumed (FIDE Laws, Guidelines I: it goes on with the position and the times at which it was left).
-use Rattle.std.specs.Prelude.{◌≡◌, ℕ, ◌-◌, Bool, true, false, ◌&&◌, not, if◌then◌else◌, List, [], ◌∷◌, Option, Some, None}
+use Rattle.std.specs.Prelude.{ℕ, ◌-◌, Bool, true, false, ◌&&◌, not, if◌then◌else◌, List, [], ◌∷◌, Option, Some, None}
 use Rattle.chess_model.specs.declared.variant.Terms.{Terms}
 use Rattle.chess_model.specs.Holdings.{other_board}
 use Rattle.chess_model.specs.Result.{result, is_end}

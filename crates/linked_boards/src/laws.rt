@@ -1,5 +1,5 @@
 //! What holds of the boards of a game, as calls that do nothing: what they ensure are the laws.
-ghost use Rattle.linked_boards.specs.Laws.{AreReplayed, BoardsStaySound, HalvesAreTheBoards};
+ghost use Rattle.linked_boards.specs.Laws.{AreReplayed, BoardsStaySound, EndsComeByMoves, HalvesAreTheBoards};
 
 /// A record of the half-moves of boards has what these have, with their charges, and keeps the bounds of records.
 pub fn halves_are_the_boards()
@@ -16,4 +16,10 @@ pub fn boards_are_replayed()
 /// both, and their half-moves can be played again.
 pub fn boards_stay_sound()
     ensures { BoardsStaySound }
+{}
+
+/// A board ends by a half-move of its own: new boards go on, what is learnt of the partner's board ends nothing, and a
+/// board from which half-moves were taken back goes on.
+pub fn ends_come_by_moves()
+    ensures { EndsComeByMoves }
 {}

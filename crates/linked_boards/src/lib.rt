@@ -13,4 +13,4 @@ mod linked;
 mod replay;
 
 pub use boards::{Boards, other_place};
-pub use laws::{boards_are_replayed, boards_stay_sound, halves_are_the_boards};
+pub use laws::{boards_are_replayed, boards_stay_sound, ends_come_by_moves, halves_are_the_boards};
