@@ -6,6 +6,7 @@ pub mod Linking
 pub mod OneMore
 pub mod Pairs
 pub mod Replayed
+pub mod Restored
 pub mod SoundHalves
 pub mod StartGoesOn
 pub mod StaySound

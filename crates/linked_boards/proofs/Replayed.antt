@@ -290,7 +290,7 @@ takes_each t moment before (h ∷ halves) boards at each played =
     (subst (CanBePlayed t) (sym (append_assoc before (h ∷ []) halves)) played) in
     subst (λ (b : Bool). IsSome (if b then played_on (boards_put boards (h.board - 1) (played_of h)) halves else None)) (sym takes) rest
 
-some_is : (o : Option (List Board)) → IsSome o → (boards : List Board) × (o ≡ Some boards)
+pub some_is : (o : Option (List Board)) → IsSome o → (boards : List Board) × (o ≡ Some boards)
 some_is None e = absurd cc
 some_is (Some boards) e = (boards, refl)
 

@@ -6,7 +6,8 @@ pub fn halves_are_the_boards()
     ensures { HalvesAreTheBoards }
 {}
 
-/// Half-moves are played again exactly where they could have been played, and the boards have these and no others.
+/// Half-moves are played again exactly where they could have been played, and the boards have these and no others: so a
+/// game is resumed on the boards with which it was left.
 pub fn boards_are_replayed()
     ensures { AreReplayed }
 {}
