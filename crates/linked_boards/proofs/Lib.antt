@@ -1,5 +1,6 @@
 pub mod BackSound
 pub mod BoardLists
+pub mod Distinct
 pub mod GoingOn
 pub mod Halved
 pub mod Linking
@@ -11,3 +12,4 @@ pub mod SoundHalves
 pub mod StartGoesOn
 pub mod StaySound
 pub mod Stepped
+pub mod StoredReplays

@@ -1,14 +1,12 @@
 -- The boards of a game that is resumed are those with which it was left.
-use Rattle.std.proofs.Common.{◌≡◌, ℕ, zero, suc, List, [], ◌∷◌, map, length, Option, Some, None, refl, sym, ap, ◌∙◌}
+use Rattle.std.proofs.Common.{◌≡◌, ℕ, suc, List, [], ◌∷◌, map, length, Option, Some, None, refl, sym, ap, ◌∙◌}
 use Rattle.std.specs.Prelude.{IfSome, slice_get}
 use Rattle.std.specs.List.{AllByRecursion}
 use Rattle.chess_model.specs.declared.variant.Terms.{Terms}
-use Rattle.game_board.specs.declared.played.Played.{Played}
 use Rattle.game_board.specs.Board.{Board}
 use Rattle.game_records.specs.declared.stored_game.Half.{Half}
 use Rattle.game_records.specs.Bounds.{IsHalf}
 use Rattle.game_records.specs.Replays.{half_moves}
-use Rattle.linked_boards.specs.Boards.{board_numbers}
 use Rattle.linked_boards.specs.Halves.{halves_of, list_on}
 use Rattle.linked_boards.specs.Laws.{AreOf, IsFresh}
 use Rattle.linked_boards.specs.Replaying.{replayed, resumed_at}
