@@ -1,4 +1,5 @@
 pub mod Acknowledged
+pub mod AtStart
 pub mod Charged
 pub mod Fallen
 pub mod Grown

@@ -331,3 +331,10 @@ IsTrueScore-learnt b m pair s allowed = record {
   alone = λ h. absurd (h pair);
   clocks = λ c timed. clocks-sum (learnt b m) c timed;
 }
+
+-- where no half-move came with its charge, each charge is told by the board's own moments
+pub charged_here : (b : Board) (s : IsTrueScore b) → b.resumed ≡ 0 → (k : ℕ) (p : Played) → slice_get b.list k ≡ Some p →
+    IfSome p.charge (λ c. slice_get s.since k ≡ Some c.begin) × IfSome p.charge (λ c. slice_get s.moments (k + 1) ≡ Some c.end)
+charged_here b s none k p at =
+    let own : b.resumed ≤ k = omega (arith, none) in
+    ((s.charged k p at).begins own, (s.charged k p at).ends own)

@@ -21,8 +21,8 @@ pub record Board : Type 0 where
   pub kept : Option ℕ
   -- how many half-moves were played on the board
   pub played : ℕ
-  -- how many half-moves of the list, the first ones, came with their charges, as where an adjourned game is resumed; the
-  -- others were made on this board
+  -- how many half-moves of the list, the first ones, came with their charges, as where an adjourned game is resumed;
+  -- the others were made on this board
   pub resumed : ℕ
   -- the half-moves of all boards of the game in their order, those of the partner's board as this one learnt of them
   pub all : List HalfMove

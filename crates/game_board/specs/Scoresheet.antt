@@ -1,8 +1,8 @@
 -- What the list of a board tells of the game, as a score sheet does: half-moves that were allowed, with times that
 -- follow one another (FIDE 6.2: a clock runs while its player is to move; that the first half-move of each colour is
--- free is FICS's, and so is that half-moves may be taken back, after which the player to move thinks anew). A game that
--- was adjourned goes on with the times that were used (FIDE Laws, Guidelines I), and the player to move is thinking since
--- it was resumed.
+-- free is FICS's, and so is that half-moves may be taken back, after which the player to move thinks anew). A game
+-- that was adjourned goes on with the times that were used (FIDE Laws, Guidelines I), and the player to move is
+-- thinking since it was resumed.
 use Rattle.std.specs.Prelude.{◌≡◌, ◌≢◌, ℕ, ◌+◌, ◌*◌, ◌≤◌, ◌↔◌, pos, ◌-ℤ◌, IsTrue, IfSome, IsSome, List, length, map, Some, slice_get}
 use Rattle.std.specs.List.{sum_by}
 use Rattle.chess_model.specs.declared.man.Colour.{Colour}
@@ -21,12 +21,12 @@ use Rattle.game_board.specs.Charges.{charges_of, is_timed, remaining_of}
 abbrev pub DontFall : List ℕ → Type 0
 DontFall moments = (k i j : ℕ) → slice_get moments k ≡ Some i → slice_get moments (k + 1) ≡ Some j → i ≤ j
 
--- what is charged for the k-th half-move, counted from 0, where `moments` are the moment of the start and then that of
--- each half-move, and `since` those since which the player of each half-move was thinking. The first `resumed` half-moves
--- were made on another day, before the game was adjourned, and each came with the charge that it had then. Such a charge
--- promises that it stands where one belongs, doesn't end before it begins and has stamps for the client's times, so that
--- its amount comes off the clock as that of every other charge; its moments are those of the other day, and where they
--- lie beside the moments of this board isn't said
+-- what is charged for the k-th half-move, counted from 0, where `moments` are the moment of the start and then that
+-- of each half-move, and `since` those since which the player of each half-move was thinking. The first `resumed`
+-- half-moves were made on another day, before the game was adjourned, and each came with the charge that it had then.
+-- Such a charge promises that it stands where one belongs, doesn't end before it begins and has stamps for the
+-- client's times, so that its amount comes off the clock as that of every other charge; its moments are those of the
+-- other day, and where they lie beside the moments of this board isn't said
 pub record IsCharged (terms : Terms) (resumed : ℕ) (since moments : List ℕ) (k : ℕ) (p : Played) : Type 0 where
   -- a charge stands exactly where the game is timed and the half-move isn't the first of its colour
   pub stands : IsSome p.charge ↔ (IsTrue (is_timed terms) × (2 ≤ k))

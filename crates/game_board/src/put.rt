@@ -39,18 +39,16 @@ impl GameBoard {
         self.is_timed() && self.has_moved(self.to_move())
     }
 
-    /// Puts a half-move that the board takes on it, with its own charge, and gives the man that it captures. It counts
-    /// as played, and as one that came with its charge, like all before it; the player to move is thinking since the same
-    /// moment as before. Takes no memory.
+    /// Puts a half-move that the board takes on it, with its own charge, and gives the man that it captures. It
+    /// counts as played, and as one that came with its charge, like all before it; the player to move is thinking
+    /// since the same moment as before. Takes no memory.
     pub fn put(&mut self, half: Played) -> Result<Option<Man>, NoMemory>
         requires takes { IsTrue (takes_played self.old half) }
         requires sound { IfSome half.charge IsChargeable }
         ensures captured { result ≡ Ok (captured self.old half.what) }
         ensures after { self.new ≡ with_put self.old half }
     {
-        let captured = self.add(&half);
-        self.resumed = self.list.len() as u16;
-        Ok(captured)
+        Ok(self.lay(half))
     }
 
     /// Adds an allowed half-move with its charge, and gives the man that it captures.

@@ -15,6 +15,8 @@ mod clocks;
 #[cfg(test)]
 mod counted;
 #[cfg(test)]
+mod laid;
+#[cfg(test)]
 mod played;
 #[cfg(test)]
 mod playing;

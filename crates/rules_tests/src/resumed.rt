@@ -26,13 +26,13 @@ enum Step {
 
 /// What a board shows: how many half-moves stand, how many were played and how many of those that stand came with their
 /// charges, the moment from which its clock runs, and the milliseconds on White's clock and on Black's.
-struct Shown {
-    stand: usize,
-    played: u16,
-    resumed: u16,
-    begin: u64,
-    white: i64,
-    black: i64,
+pub struct Shown {
+    pub stand: usize,
+    pub played: u16,
+    pub resumed: u16,
+    pub begin: u64,
+    pub white: i64,
+    pub black: i64,
 }
 
 use Step::{Backs, Plays, Puts, Shows};
@@ -160,7 +160,7 @@ const CASES: &[Case] = &[
 ];
 
 /// A half-move between two squares with its charge, if there are such squares.
-fn half_move(
+pub fn half_move(
     from: u8,
     to: u8,
     span: Option<(u64, u64)>,
@@ -210,13 +210,18 @@ fn has_clocks(board: &GameBoard, shown: &Shown) -> bool {
     remaining(board, Colour::White) == shown.white && remaining(board, Colour::Black) == shown.black
 }
 
+/// Whether a board shows this.
+pub fn shows(board: &GameBoard, shown: &Shown) -> bool {
+    has_counts(board, shown) && has_clocks(board, shown)
+}
+
 /// Whether the board takes or shows a step as it has to.
 fn holds(board: &mut GameBoard, step: &Step) -> Result<bool, Fail> {
     match step {
         Puts(from, to, span, client) => is_put(board, half_move(*from, *to, *span, *client)),
         Plays(word, moment) => Ok(play_next(board, *moment, word, None).is_ok()),
         Backs(many, moment) => Ok(take_back(board, *many, *moment) == Ok(())),
-        Shows(shown) => Ok(has_counts(board, shown) && has_clocks(board, shown)),
+        Shows(shown) => Ok(shows(board, shown)),
     }
 }
 

@@ -6,8 +6,8 @@ use std::alloc::Global;
 use std::test::Fail;
 use style12_writer::{continued_line, created_line};
 
-/// The number of a game, its players, its minutes, increment and variant, and the lines that tell that it begins and that
-/// it goes on.
+/// The number of a game, its players, its minutes, increment and variant, and the lines that tell that it begins and
+/// that it goes on.
 struct Row {
     game: u16,
     white: &'static str,
@@ -60,7 +60,12 @@ const ROWS: &[Row] = &[
 ];
 
 /// The two lines of a row's game.
-fn lines(alloc: Global, row: &Row, white: &Handle, black: &Handle) -> Result<(Line, Line), NoMemory> {
+fn lines(
+    alloc: Global,
+    row: &Row,
+    white: &Handle,
+    black: &Handle,
+) -> Result<(Line, Line), NoMemory> {
     let begins = created_line(alloc, row.game, white, black, &row.terms)?;
     let goes_on = continued_line(alloc, row.game, white, black, &row.terms)?;
     Ok((begins, goes_on))
