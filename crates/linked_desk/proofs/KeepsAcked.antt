@@ -9,11 +9,12 @@ use Rattle.game_board.specs.Board.{Board, to_move}
 use Rattle.game_board.specs.Scoresheet.{IsTrueScore}
 use Rattle.game_board.proofs.Scoresheet.{IsTrueScore-acknowledged}
 use Rattle.linked_desk.specs.Acked.{acked_by, acked_effect}
-use Rattle.linked_desk.specs.Boards.{latest, boards_acked}
+use Rattle.linked_boards.specs.Boards.{latest, boards_acked}
 use Rattle.linked_desk.specs.Desk.{GameState, seat_of, moment_at}
 use Rattle.linked_desk.specs.Seats.{place_of, colour_at}
-use Rattle.linked_desk.specs.Sound.{AreSame, IsSound}
-use Rattle.linked_desk.proofs.BoardLists.{latest-changed_at, map-changed_at, All-changed_at, length-changed_at}
+use Rattle.linked_boards.specs.Sound.{AreSame}
+use Rattle.linked_desk.specs.Sound.{IsSound}
+use Rattle.linked_boards.proofs.BoardLists.{latest-changed_at, map-changed_at, All-changed_at, length-changed_at}
 use Rattle.linked_desk.proofs.Keeps.{Keeps}
 
 -- what a board and the board with a stamp kept have alike, the acknowledged board has

@@ -15,18 +15,18 @@ use Rattle.game_board.specs.Learn.{partner_position}
 use Rattle.game_board.specs.Play.{play_after}
 use Rattle.game_board.specs.Scoresheet.{IsTrueScore}
 use Rattle.game_board.proofs.Scoresheet.{IsTrueScore-play_after}
-use Rattle.linked_desk.specs.Boards.{word_at, reply_at, latest, boards_after, changed_at, other_place, told_answer}
+use Rattle.linked_boards.specs.Boards.{word_at, reply_at, latest, boards_after, changed_at, other_place, told_answer}
 use Rattle.linked_desk.specs.Desk.{GameState, seat_of, moment_at, occupant}
 use Rattle.linked_desk.specs.Hands.{hands_at, partner_hands_at}
 use Rattle.linked_desk.specs.Playing.{seat_word, captured_by, with_cleared, with_hands, with_partner_hands, moved_by, move_effect}
 use Rattle.linked_desk.specs.Seats.{place_of, colour_at}
 use Rattle.linked_desk.specs.Sound.{IsSound}
 use Rattle.linked_desk.specs.Views.{views_of, with_board_item}
-use Rattle.linked_desk.proofs.BoardLists.{begin-latest, latest-changed_at, map-changed_at, All-at, All-changed_at, AreSame-at, else-changed_at, length-changed_at}
+use Rattle.linked_boards.proofs.BoardLists.{begin-latest, latest-changed_at, map-changed_at, All-at, All-changed_at, AreSame-at, else-changed_at, length-changed_at}
 use Rattle.linked_desk.proofs.Finishing.{IsSound-finished, occupant-finished}
 use Rattle.linked_desk.proofs.Holding.{names_hands_at, names_partner_hands_at}
 use Rattle.linked_desk.proofs.Keeps.{Keeps, IsSound-with_view, IsSound-with_item, occupant-with_view, occupant-with_item}
-use Rattle.linked_desk.proofs.Pairs.{all_at, allowed_there, number_at, numbers_linked, same_told, told_score, together_after, word_played}
+use Rattle.linked_boards.proofs.Pairs.{all_at, allowed_there, number_at, numbers_linked, same_told, told_score, together_after, word_played}
 
 -- who is to move thinks from no later moment than that of the act
 begin-played : (b : Board) (moment : ℕ) (stamp : Option ℕ) (answer : Result Move Refusal) → b.begin ≤ moment → (play_after b moment stamp answer).begin ≤ moment

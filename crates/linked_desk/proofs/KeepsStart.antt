@@ -10,11 +10,12 @@ use Rattle.chess_model.specs.MoveList.{HalfMove}
 use Rattle.game_board.specs.Board.{Board, new_board}
 use Rattle.game_board.specs.Scoresheet.{IsTrueScore}
 use Rattle.game_board.proofs.Scoresheet.{IsTrueScore-new_board}
-use Rattle.linked_desk.specs.Boards.{board_numbers, new_boards, latest}
+use Rattle.linked_boards.specs.Boards.{board_numbers, new_boards, latest}
 use Rattle.linked_desk.specs.Hands.{first_hands}
 use Rattle.linked_desk.specs.Seating.{HasPairsFor, created_item, board_item, first_items, opening_items, opened}
 use Rattle.linked_desk.specs.Seats.{pairs_of}
-use Rattle.linked_desk.specs.Sound.{AreSame, NamesWinner, IsSound}
+use Rattle.linked_boards.specs.Sound.{AreSame}
+use Rattle.linked_desk.specs.Sound.{NamesWinner, IsSound}
 use Rattle.linked_desk.specs.Views.{each_board}
 use Rattle.linked_desk.proofs.Holding.{names_first}
 use Rattle.linked_desk.proofs.Keeps.{All-each_board}

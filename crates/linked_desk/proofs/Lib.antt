@@ -1,4 +1,3 @@
-pub mod BoardLists
 pub mod ClearedOffers
 pub mod Counting
 pub mod Finishing
@@ -19,9 +18,7 @@ pub mod KeepsResign
 pub mod KeepsShow
 pub mod KeepsStart
 pub mod KeepsWatch
-pub mod Linking
 pub mod Opening
-pub mod Pairs
 pub mod SeatNumbers
 pub mod Telling
 pub mod WholeSets

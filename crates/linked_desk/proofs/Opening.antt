@@ -8,7 +8,7 @@ use Rattle.fics_words.specs.declared.seats.Opponents.{Opponents}
 use Rattle.fics_words.specs.declared.seats.Seats.{Seats}
 use Rattle.fics_words.specs.Seats.{seat_list}
 use Rattle.game_board.specs.Board.{new_board}
-use Rattle.linked_desk.specs.Boards.{board_numbers, new_boards}
+use Rattle.linked_boards.specs.Boards.{board_numbers, new_boards}
 use Rattle.linked_desk.specs.Seating.{HasPairsFor, announcement, announcements, created_item, opening_items, shown_items}
 use Rattle.linked_desk.specs.Seats.{pairs_of}
 use Rattle.linked_desk.specs.Views.{each_board}

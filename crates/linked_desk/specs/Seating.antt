@@ -12,7 +12,7 @@ use Rattle.style12_writer.specs.CreatedLine.{created_text}
 use Rattle.game_board.specs.Board.{Board}
 use Rattle.offer_book.specs.Offers.{no_offers}
 use Rattle.observer_feed.specs.declared.cursor.Cursor.{Cursor}
-use Rattle.linked_desk.specs.Boards.{board_numbers, new_boards}
+use Rattle.linked_boards.specs.Boards.{board_numbers, new_boards}
 use Rattle.linked_desk.specs.Desk.{GameState, DeskState, game_number}
 use Rattle.linked_desk.specs.Hands.{first_hands}
 use Rattle.linked_desk.specs.Seats.{pairs_of}

@@ -1,5 +1,5 @@
 -- What holds of the game at a desk in every state.
-use Rattle.std.specs.Prelude.{◌≡◌, ◌*◌, ◌≤◌, ◌↔◌, IsSome, IsTrue, IfSome, All, List, [], ◌∷◌, length, map, Option, Result, Ok, Err}
+use Rattle.std.specs.Prelude.{◌≡◌, ◌*◌, ◌≤◌, ◌↔◌, IsSome, IsTrue, IfSome, All, length, map, Option, Result, Ok, Err}
 use Rattle.chess_model.specs.declared.man.Colour.{Colour}
 use Rattle.chess_model.specs.declared.why.Why.{Why}
 use Rattle.fics_words.specs.Seats.{seat_list}
@@ -11,7 +11,8 @@ use Rattle.game_board.specs.Board.{Board}
 use Rattle.game_board.specs.Scoresheet.{IsTrueScore}
 use Rattle.linked_desk.specs.declared.acts.DeskReply.{DeskReply}
 use Rattle.linked_desk.specs.declared.acts.DeskReply.TheVariants.{Done, Items}
-use Rattle.linked_desk.specs.Boards.{board_numbers, latest}
+use Rattle.linked_boards.specs.Boards.{board_numbers, latest}
+use Rattle.linked_boards.specs.Sound.{AreSame}
 use Rattle.linked_desk.specs.Desk.{GameState, DeskState}
 
 -- a winner is named exactly where a game that ends so is won by somebody
@@ -22,11 +23,6 @@ Names why winner = IsSome winner ↔ IsTrue (is_decisive why)
 abbrev pub NamesWinner : Item → Type 0
 NamesWinner (End view why winner own) = Names why winner
 NamesWinner _ = Unit {0}
-
--- all items are the same
-abbrev pub AreSame : {T : Type 0} → List T → Type 0
-AreSame [] = Unit {0}
-AreSame (x ∷ xs) = All (λ y. y ≡ x) xs
 
 pub record IsSound (g : GameState) : Type 0 where
   -- there are as many boards as the variant wants, with their numbers, and two players sit at each

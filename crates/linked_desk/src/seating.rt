@@ -6,7 +6,6 @@ ghost use Rattle.observer_feed.specs.Feed.{empty_feed, is_viewer};
 ghost use Rattle.linked_desk.specs.Seating.{AllDiffer, HasPairsFor, announcement, announcements, first_items, from_start, opened, sessions_of, shown_items};
 ghost use Rattle.linked_desk.specs.Seats.{pairs_of};
 
-use crate::boards::Boards;
 use crate::game::{Game, ROOM_TO_END};
 use crate::hands::first_hands;
 use crate::tally::Tally;
@@ -14,6 +13,7 @@ use crate::views::{game_number, view_of};
 use chess_model::Terms;
 use fics_words::{NoMemory, Opponents, Seats};
 use game_board::GameBoard;
+use linked_boards::Boards;
 use observer_feed::{Feed, Told};
 use offer_book::Offers;
 use std::alloc::Global;

@@ -18,9 +18,9 @@ use Rattle.game_board.specs.Board.{Board, position_of}
 use Rattle.game_board.specs.Learn.{partner_position}
 use Rattle.game_board.specs.Scoresheet.{IsTrueScore}
 use Rattle.game_board.proofs.Scoresheet.{IsTrueScore-learnt, allowed_by_answer}
-use Rattle.linked_desk.specs.Boards.{board_numbers, boards_after, changed_at, other_place, told_answer, word_at}
-use Rattle.linked_desk.specs.Sound.{AreSame}
-use Rattle.linked_desk.proofs.BoardLists.{nothing-changed_at}
+use Rattle.linked_boards.specs.Boards.{board_numbers, boards_after, changed_at, other_place, told_answer, word_at}
+use Rattle.linked_boards.specs.Sound.{AreSame}
+use Rattle.linked_boards.proofs.BoardLists.{nothing-changed_at}
 
 -- the numbers of two boards, which are those of a pair
 pub numbers_of_two : (v : Variant) (b c : Board) → map (λ (x : Board). x.number) (b ∷ c ∷ []) ≡ board_numbers v → (v ≡ Bughouse) × (b.number ≡ 1) × (c.number ≡ 2)
@@ -88,7 +88,7 @@ abbrev on : ℕ → Move → HalfMove
 on number m = record { board = number; what = m }
 
 -- a list and another that is the same, each with the same half-move behind it
-same_two : (T U : List HalfMove) (m : Move) (here there : ℕ) → AreSame (T ∷ U ∷ []) → there ≡ here → AreSame ((T ++ on here m ∷ []) ∷ (U ++ on there m ∷ []) ∷ [])
+pub same_two : (T U : List HalfMove) (m : Move) (here there : ℕ) → AreSame (T ∷ U ∷ []) → there ≡ here → AreSame ((T ++ on here m ∷ []) ∷ (U ++ on there m ∷ []) ∷ [])
 same_two T U m here there same number =
     let is : U ≡ T = All-head (λ (x : List HalfMove). x ≡ T) U [] same in
     let P : List HalfMove → Type 0 = λ x. x ≡ T ++ on here m ∷ [] in
