@@ -1,6 +1,8 @@
+pub mod Causes
 pub mod ClearedOffers
 pub mod Counting
 pub mod Finishing
+pub mod GoesOnAgain
 pub mod Holding
 pub mod Keeps
 pub mod KeepsAcceptOffer
@@ -13,12 +15,16 @@ pub mod KeepsLeave
 pub mod KeepsMake
 pub mod KeepsMove
 pub mod KeepsRemark
+pub mod KeepsRestored
 pub mod KeepsOffers
 pub mod KeepsResign
 pub mod KeepsShow
 pub mod KeepsStart
 pub mod KeepsWatch
 pub mod Opening
+pub mod Restored
+pub mod Resuming
 pub mod SeatNumbers
+pub mod Shelved
 pub mod Telling
 pub mod WholeSets

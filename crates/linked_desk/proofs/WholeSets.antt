@@ -150,16 +150,16 @@ printed_boards v (b ∷ c ∷ d ∷ more) numbers scores = absurd (never_three v
 whole_game : (game : Option GameState) → IfSome game IsSound → IfSome game (λ (g : GameState). AreWhole g.terms.variant g.boards)
 whole_game None s = tt
 whole_game (Some g) s =
-    whole_boards g.terms.variant g.boards s.numbers
-    (All-weaker (λ (b : Board). b.terms ≡ g.terms) (λ (b : Board). b.terms.variant ≡ g.terms.variant) (λ b e. ap (λ (t : Terms). t.variant) e) g.boards s.terms)
-    s.scores s.together
+    whole_boards g.terms.variant g.boards s.boards.numbers
+    (All-weaker (λ (b : Board). b.terms ≡ g.terms) (λ (b : Board). b.terms.variant ≡ g.terms.variant) (λ b e. ap (λ (t : Terms). t.variant) e) g.boards s.boards.terms)
+    s.boards.scores s.boards.together
 
 pub whole_at : (d : DeskState) → HasSoundGame d → HasWholeSets d
 whole_at d s = whole_game d.game s
 
 printed_game : (number : ℕ) (game : Option GameState) → IfSome game IsSound → AllAt HasPrintedHands (record { number = number; game = game })
 printed_game number None s = All-nil HasPrintedHands
-printed_game number (Some g) s = printed_boards g.terms.variant g.boards s.numbers s.scores
+printed_game number (Some g) s = printed_boards g.terms.variant g.boards s.boards.numbers s.boards.scores
 
 pub printed_at : (d : DeskState) → HasSoundGame d → AllAt HasPrintedHands d
 printed_at d s = printed_game d.number d.game s
