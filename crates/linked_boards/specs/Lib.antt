@@ -1,0 +1,9 @@
+pub mod Boards
+pub mod Claims
+pub mod Examples
+pub mod Halves
+pub mod Laws
+pub mod Linked
+pub mod Replaying
+pub mod Sound
+pub mod TakenBack
