@@ -28,7 +28,13 @@ const ROWS: &[(Game, Kept, Option<Kept>)] = &[
         None,
     ),
     (
-        Game(2, Bughouse, &["2d2d4", "1e2e4", "1e7e5", "2d7d5", "1g1f3+", "2c2c4+", "2d5c4+"]),
+        Game(
+            2,
+            Bughouse,
+            &[
+                "2d2d4", "1e2e4", "1e7e5", "2d7d5", "1g1f3+", "2c2c4+", "2d5c4+",
+            ],
+        ),
         Kept(3, 119_000, 120_000),
         Some(Kept(4, 119_000, 119_000)),
     ),
@@ -100,7 +106,10 @@ fn is_resumed(
 #[test]
 fn boards_are_as_they_were(rt: HostRuntime) -> Result<(), Fail> {
     for (place, (game, first, second)) in ROWS.iter().enumerate() {
-        assert!(rt; is_resumed(rt.alloc(), *game, *first, *second)?, "row {place}");
+        assert!(rt;
+            is_resumed(rt.alloc(), *game, *first, *second)?,
+            "row {place}"
+        );
     }
     Ok(())
 }

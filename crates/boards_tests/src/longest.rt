@@ -12,13 +12,20 @@ use std::test::Fail;
 const AROUND: Halves = &["1g1f3", "1g8f6", "1f3g1", "1f6g8"];
 
 /// And so on both boards.
-const BOTH: Halves = &["1g1f3", "2g1f3", "1g8f6", "2g8f6", "1f3g1", "2f3g1", "1f6g8", "2f6g8"];
+const BOTH: Halves = &[
+    "1g1f3", "2g1f3", "1g8f6", "2g8f6", "1f3g1", "2f3g1", "1f6g8", "2f6g8",
+];
 
 /// A game, how often its half-moves are made, those behind them, and whether it is played again.
 const ROWS: &[(Game, u16, Halves, bool)] = &[
     (Game(0, Chess, AROUND), 300, &[], true),
     (Game(0, Chess, AROUND), 300, &["1e2e4"], false),
-    (Game(0, Chess, AROUND), 299, &["1g1f3", "1g8f6", "1f3g1", "1e7e5"], true),
+    (
+        Game(0, Chess, AROUND),
+        299,
+        &["1g1f3", "1g8f6", "1f3g1", "1e7e5"],
+        true,
+    ),
     (Game(0, Bughouse, BOTH), 300, &[], true),
     (Game(0, Bughouse, BOTH), 300, &["2e2e4"], false),
     (Game(0, Bughouse, AROUND), 300, &["2e2e4"], true),
@@ -35,7 +42,10 @@ fn is_replayed(alloc: Global, game: Game, times: u16, behind: Halves) -> Result<
 #[test]
 fn a_board_has_1_200_half_moves(rt: HostRuntime) -> Result<(), Fail> {
     for (place, (game, times, behind, expected)) in ROWS.iter().enumerate() {
-        assert!(rt; is_replayed(rt.alloc(), *game, *times, behind)? == *expected, "row {place}");
+        assert!(rt;
+            is_replayed(rt.alloc(), *game, *times, behind)? == *expected,
+            "row {place}"
+        );
     }
     Ok(())
 }

@@ -39,7 +39,10 @@ fn is_replayed(
 #[test]
 fn a_pair_is_played_by_four(rt: HostRuntime) -> Result<(), Fail> {
     for (place, (minutes, variant, names, expected)) in ROWS.iter().enumerate() {
-        assert!(rt; is_replayed(rt.alloc(), *minutes, *variant, names)? == *expected, "row {place}");
+        assert!(rt;
+            is_replayed(rt.alloc(), *minutes, *variant, names)? == *expected,
+            "row {place}"
+        );
     }
     Ok(())
 }

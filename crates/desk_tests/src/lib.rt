@@ -11,6 +11,8 @@ mod four;
 #[cfg(test)]
 mod hands;
 #[cfg(test)]
+mod kept;
+#[cfg(test)]
 mod leaving;
 #[cfg(test)]
 mod offers;
@@ -20,8 +22,6 @@ mod pair_ends;
 mod pair_hands;
 #[cfg(test)]
 mod played;
-#[cfg(test)]
-mod kept;
 #[cfg(test)]
 mod refused;
 #[cfg(test)]

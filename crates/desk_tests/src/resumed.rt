@@ -5,9 +5,7 @@ ghost use Rattle.linked_desk.specs.Seating.{AllDiffer, HasPairsFor, names_of, se
 use crate::four::{CAT, DAN};
 use crate::kept::resumes;
 use crate::stages::{Stage, first_wrong_at};
-use crate::table::{
-    ANN, BEN, Does, Given, Opening, Sitting, Step, desk_with, who_sits,
-};
+use crate::table::{ANN, BEN, Does, Given, Opening, Sitting, Step, desk_with, who_sits};
 use chess_model::Colour;
 use fics_words::{NoMemory, Refusal};
 use linked_desk::{Desk, Ended, Offer, Why};

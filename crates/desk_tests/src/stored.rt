@@ -203,10 +203,7 @@ const CASES: &[Case] = &[
         name: "a_charge",
         opening: Opening::Members(2, 12),
         made: CHARGED,
-        comes: Comes::Game(&[
-            Stage::Outcome(None, 2),
-            Stage::Clocks([131_000, 120_000]),
-        ]),
+        comes: Comes::Game(&[Stage::Outcome(None, 2), Stage::Clocks([131_000, 120_000])]),
     },
     Case {
         name: "a_half_move_that_is_not_allowed",
@@ -321,12 +318,7 @@ fn comes_so(
     is_so(alloc, desk, case.comes, replays)
 }
 
-fn is_so(
-    alloc: Global,
-    desk: &mut Desk,
-    comes: Comes,
-    replays: bool,
-) -> Result<bool, NoMemory> {
+fn is_so(alloc: Global, desk: &mut Desk, comes: Comes, replays: bool) -> Result<bool, NoMemory> {
     match comes {
         Comes::Nothing => Ok(!replays && desk.serial().is_none()),
         Comes::Game(stages) => Ok(replays && first_wrong_at(alloc, desk, stages)?.is_none()),
