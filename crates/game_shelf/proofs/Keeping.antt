@@ -1,21 +1,20 @@
 -- What holds of every shelf is kept by each change of it.
-use Rattle.std.proofs.Common.{◌≡◌, ◌⊎◌, ℕ, ◌+◌, ◌^◌, ◌<◌, ◌≤◌, Bool, true, false, not, cond, List, [], ◌∷◌, ◌++◌, length, refl, sym, ap, subst, ◌∙◌, inl, inr, arith}
+use Rattle.std.proofs.Common.{◌≡◌, ℕ, ◌+◌, ◌^◌, ◌<◌, ◌≤◌, Bool, true, false, not, cond, List, [], ◌∷◌, ◌++◌, length, refl, ap, inl, inr, arith}
 use Rattle.std.specs.Prelude.{◌==◌, nat_lt, All}
-use Rattle.std.specs.List.{filter, list_any}
+use Rattle.std.specs.List.{filter}
 use Rattle.std.proofs.lemmas.Bool.{eqb-false}
 use Rattle.std.proofs.lemmas.List.Elements.{All-nil, All-cons, All-head, All-tail, All-append, All-filter, All-push, All-weaker}
 use Rattle.std.proofs.lemmas.List.Sums.{count_by-le-length, length-filter}
 use Rattle.game_records.specs.Replays.{Replays}
 use Rattle.game_records.specs.declared.stored_game.StoredGame.{StoredGame}
-use Rattle.fics_words.specs.declared.seats.Seats.{Seats}
 use Rattle.game_shelf.specs.declared.order.Order.{Order}
 use Rattle.game_shelf.specs.declared.request.Request.{Request}
 use Rattle.game_shelf.specs.declared.shelved.Shelved.{Shelved}
-use Rattle.game_shelf.specs.Facts.{AreOnce, IsShelf, OrdersRise}
-use Rattle.game_shelf.specs.Numbers.{RiseAbove, first_gap, has_number, is_above, is_below, is_used, next_number, with_game, without_game}
-use Rattle.game_shelf.specs.Shelf.{ShelfState, asked, asks, empty, game_order, is_request, most_stored, ordered, removal_order, saved, shelved, taken_off, with_request, with_stored}
+use Rattle.game_shelf.specs.Facts.{IsShelf, OrdersRise}
+use Rattle.game_shelf.specs.Numbers.{RiseAbove, has_number, is_above, is_below, is_used, next_number, with_game, without_game}
+use Rattle.game_shelf.specs.Shelf.{ShelfState, asked, asks, empty, game_order, most_stored, ordered, removal_order, saved, shelved, taken_off, with_request, with_stored}
 use Rattle.game_shelf.proofs.Requests.{AreOnce-filter, AreOnce-push, is_used-with, is_used-without}
-use Rattle.game_shelf.proofs.Rising.{RiseAbove-filter, RiseAbove-with, before_or_behind, first_gap-above, first_gap-within, next_number-least, unused_on, with_game-behind, with_game-before}
+use Rattle.game_shelf.proofs.Rising.{RiseAbove-filter, RiseAbove-with, before_or_behind, first_gap-within, next_number-least, unused_on, with_game-behind, with_game-before}
 
 OrdersRise-weaker : (low lower made : ℕ) (orders : List Order) → lower ≤ low → OrdersRise low made orders → OrdersRise lower made orders
 OrdersRise-weaker low lower made [] h rise = let top : low ≤ made = rise in omega (arith, top, h)
@@ -170,11 +169,11 @@ IsShelf-asked shelf by game there is =
     elim (asks shelf by game) as (λ t. asks shelf by game ≡ t → IsShelf (record shelf { requests = with_request t shelf.requests new })) [
       | true ↦ λ _. is
       | false ↦ λ none. record {
-          room = is.room;
-          numbers = is.numbers;
-          replay = is.replay;
-          orders = is.orders;
-          requests = All-push (λ request. is_used shelf.games request.game ≡ true) shelf.requests new is.requests there;
-          once = AreOnce-push shelf.requests new none is.once;
-        }
+        room = is.room;
+        numbers = is.numbers;
+        replay = is.replay;
+        orders = is.orders;
+        requests = All-push (λ request. is_used shelf.games request.game ≡ true) shelf.requests new is.requests there;
+        once = AreOnce-push shelf.requests new none is.once;
+      }
     ] refl

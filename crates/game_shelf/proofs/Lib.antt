@@ -4,3 +4,6 @@ pub mod Rising
 pub mod Requests
 pub mod Keeping
 pub mod Held
+pub mod Finding
+pub mod Meaning
+pub mod Leading

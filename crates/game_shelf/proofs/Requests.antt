@@ -1,9 +1,8 @@
 -- Requests of which none stands twice: some go, and one comes; and whether the games that they are for are there.
-use Rattle.std.proofs.Common.{◌≡◌, ◌⊎◌, ℕ, ◌^◌, ◌<◌, Bool, true, false, not, cond, List, [], ◌∷◌, ◌++◌, refl, sym, ap, subst, ◌∙◌, inl, inr, arith}
-use Rattle.std.specs.Prelude.{◌==◌, ◌&&◌, ◌||◌, All}
+use Rattle.std.proofs.Common.{◌≡◌, ℕ, Bool, true, false, not, cond, List, [], ◌∷◌, ◌++◌, refl, sym, ap, subst, ◌∙◌, inl, inr}
+use Rattle.std.specs.Prelude.{◌==◌, ◌&&◌, ◌||◌}
 use Rattle.std.specs.List.{filter, list_any}
-use Rattle.std.proofs.lemmas.Bool.{eqb-true, eqb-false, eq-eqb, ne_eqb, cases_lt}
-use Rattle.std.proofs.lemmas.List.Elements.{All-nil, All-cons, All-head, All-tail}
+use Rattle.std.proofs.lemmas.Bool.{eqb-true, eqb-false, eq-eqb, ne_eqb}
 use Rattle.std.proofs.lemmas.List.Folds.{list_any-append}
 use Rattle.game_shelf.specs.declared.request.Request.{Request}
 use Rattle.game_shelf.specs.declared.shelved.Shelved.{Shelved}
@@ -52,8 +51,7 @@ pub AreOnce-push : (xs : List Request) (new : Request) → list_any (is_request 
 AreOnce-push [] new none once = (refl, tt)
 AreOnce-push (x ∷ xs) new none once =
     let both = neither (is_request new.by new.game x) (list_any (is_request new.by new.game) xs) none in
-    let apart : is_request x.by x.game new ≡ false = is_request-turned x new ∙ both.0 in
-    (
+    let apart : is_request x.by x.game new ≡ false = is_request-turned x new ∙ both.0 in (
       list_any-append (is_request x.by x.game) xs (new ∷ [])
           ∙ or_false (list_any (is_request x.by x.game) xs) (list_any (is_request x.by x.game) (new ∷ [])) once.0
           (or_false (is_request x.by x.game new) false apart refl),

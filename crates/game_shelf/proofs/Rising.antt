@@ -1,11 +1,11 @@
 -- Rows of games whose numbers rise: one comes, some go, where a number stands, and which is the first that is left out.
-use Rattle.std.proofs.Common.{◌≡◌, ◌⊎◌, ℕ, zero, suc, ◌+◌, ◌^◌, ◌<◌, ◌≤◌, Bool, true, false, not, cond, List, [], ◌∷◌, ◌++◌, Option, None, Some, length, take, drop, get_or, slice_get, refl, sym, ap, subst, ◌∙◌, inl, inr, arith}
-use Rattle.std.specs.Prelude.{◌==◌, ◌||◌, nat_lt}
+use Rattle.std.proofs.Common.{◌≡◌, ◌⊎◌, ℕ, zero, suc, ◌+◌, ◌^◌, ◌<◌, ◌≤◌, Bool, true, false, cond, List, [], ◌∷◌, ◌++◌, Option, None, Some, length, take, drop, get_or, slice_get, refl, sym, ap, subst, ◌∙◌, inl, inr, arith}
+use Rattle.std.specs.Prelude.{◌==◌, ◌||◌}
 use Rattle.std.specs.List.{AllWithin, filter, find}
 use Rattle.std.specs.List.Sorted.{IsNonDecreasingBy}
 use Rattle.std.proofs.lemmas.Bool.{eqb-true, eqb-false, eq-eqb, ne_eqb, lt-ltb, le-ltb, cases_lt}
 use Rattle.game_shelf.specs.declared.shelved.Shelved.{Shelved}
-use Rattle.game_shelf.specs.Numbers.{AreInOrder, IsLeastUnused, RiseAbove, first_gap, has_number, is_above, is_below, is_used, next_number, with_game, without_game}
+use Rattle.game_shelf.specs.Numbers.{AreInOrder, IsLeastUnused, RiseAbove, first_gap, has_number, is_above, is_below, is_used, next_number, with_game}
 
 or_false : (a b : Bool) → a ≡ false → b ≡ false → a || b ≡ false
 or_false a b h k = ap (λ (t : Bool). t || b) h ∙ k
@@ -79,9 +79,9 @@ pub with_game-behind : (new row : Shelved) (games : List Shelved) → row.number
     → with_game new (row ∷ games) ≡ row ∷ with_game new games
 with_game-behind new row games h =
     ap (λ (t : Bool). cond t (row ∷ filter (is_below new.number) games) (filter (is_below new.number) games) ++ new ∷ filter (is_above new.number) (row ∷ games))
-        (lt-ltb row.number new.number h)
+    (lt-ltb row.number new.number h)
     ∙ ap (λ (t : Bool). row ∷ (filter (is_below new.number) games ++ new ∷ cond t (row ∷ filter (is_above new.number) games) (filter (is_above new.number) games)))
-        (le-ltb new.number row.number (omega arith))
+    (le-ltb new.number row.number (omega arith))
 
 -- none of a row that begins at a number or above it is below it
 none_at : (n : ℕ) (row : Shelved) (games : List Shelved) → n ≤ row.number → RiseAbove row.number games → filter (is_below n) (row ∷ games) ≡ []
@@ -174,6 +174,7 @@ found_at n low (row ∷ games) rise =
       λ e. ap (λ (t : Bool). cond t (Some row) (find (has_number n) games)) differ ∙ found.0 e,
       λ e. ap (λ (t : Bool). cond t (Some row) (find (has_number n) games)) differ ∙ found.1 e,
     )
+
     here : (n : ℕ) (row : Shelved) (games : List Shelved) → n ≤ row.number → RiseAbove row.number games → FoundAt n (row ∷ games) (Some row)
     here n row games h rise = (
       λ e. ap (λ (t : Bool). cond t (Some row) (find (has_number n) games)) (eq-eqb row.number n e),
@@ -209,7 +210,7 @@ partition_place p (row ∷ games) zero short pass fail =
 partition_place p (row ∷ games) (suc i) short pass fail =
     sym (ap (λ (t : Bool). length (cond t (row ∷ filter p games) (filter p games))) (pass zero row (omega arith) (omega arith))
     ∙ ap suc (sym (partition_place p games i (omega arith) (λ k d a b. pass (suc k) d (omega arith) (omega arith))
-        (λ k d a b. fail (suc k) d (omega arith) (omega arith)))))
+    (λ k d a b. fail (suc k) d (omega arith) (omega arith)))))
 
 pub first_gap-above : (games : List Shelved) (n : ℕ) → n ≤ first_gap n games
 first_gap-above [] n = omega arith

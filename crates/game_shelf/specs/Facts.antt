@@ -1,5 +1,5 @@
 -- What holds of a shelf at all times. This server's own.
-use Rattle.std.specs.Prelude.{◌≡◌, ℕ, ◌<◌, ◌≤◌, ◌^◌, Bool, true, false, List, [], ◌∷◌, length, All}
+use Rattle.std.specs.Prelude.{◌≡◌, ℕ, ◌<◌, ◌≤◌, ◌^◌, true, false, List, [], ◌∷◌, length, All}
 use Rattle.std.specs.List.{list_any}
 use Rattle.game_records.specs.Replays.{Replays}
 use Rattle.game_shelf.specs.declared.order.Order.{Order}

@@ -4,3 +4,5 @@ pub mod Players
 pub mod Shelf
 pub mod Facts
 pub mod Held
+pub mod Wanted
+pub mod Laws

@@ -1,5 +1,5 @@
 -- Who plays in a stored game. This server's own.
-use Rattle.std.specs.Prelude.{◌≡◌, ℕ, ◌≤◌, ◌&&◌, Bool, true, List, Contains, Option, Some, bytes_eq}
+use Rattle.std.specs.Prelude.{◌≡◌, ℕ, ◌≤◌, ◌&&◌, Bool, true, List, Contains, Option, bytes_eq}
 use Rattle.std.specs.List.{find, list_any}
 use Rattle.fics_words.specs.Handle.{key_of}
 use Rattle.game_records.specs.declared.stored_game.StoredGame.{StoredGame}

@@ -13,6 +13,7 @@ mod asking;
 mod cells;
 mod changes;
 mod game_shelf;
+mod laws;
 mod order;
 mod rack;
 mod request;
@@ -24,6 +25,10 @@ pub use asking::Asking;
 pub use cells::Cells;
 pub use game_records::{Half, StoredGame};
 pub use game_shelf::{GameShelf, has_player};
+pub use laws::{
+    games_are_found, orders_lead, requests_stand, saved_orders_are_the_first, shelves_are_sound,
+    the_least_is_found,
+};
 pub use order::Order;
 pub use request::Request;
 pub use saving::{GameSaving, Saving};

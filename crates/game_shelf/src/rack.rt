@@ -71,7 +71,11 @@ impl Rack {
         ensures { option_copied result ≡ find (has_number number) self.now }
     {
         let row = self.games.get(self.place(number))?;
-        if row.number == number { Some(row) } else { None }
+        if row.number == number {
+            Some(row)
+        } else {
+            None
+        }
     }
 
     /// Puts a game at its place, and takes no memory.

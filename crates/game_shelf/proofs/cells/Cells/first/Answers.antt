@@ -1,4 +1,4 @@
-use Rattle.std.proofs.Common.{◌≡◌, ◌+◌, ◌∷◌, ◌++◌, List, [], take, drop, sym, ap, ◌∙◌, rules}
+use Rattle.std.proofs.Common.{◌≡◌, ◌∷◌, ◌++◌, [], take, drop, sym, ap, ◌∙◌, rules}
 use Rattle.game_shelf.proofs.Lists.{take_step, drop_step}
 use Rattle.game_shelf.proofs.cells.Cells.first.Goals as goal
 

@@ -1,11 +1,8 @@
-use Rattle.std.proofs.Common.{◌≡◌, ℕ, ◌+◌, ◌<◌, ◌∷◌, ◌++◌, [], false, true, List, length, not, sym, ap, subst, ◌∙◌, refl, arith, rules}
-use Rattle.std.specs.Prelude.{◌==◌, nat_lt}
-use Rattle.game_shelf.specs.declared.order.Order.{Order}
-use Rattle.game_shelf.specs.declared.request.Request.{Request}
+use Rattle.std.proofs.Common.{◌≡◌, ◌<◌, false, List, length, sym, subst}
 use Rattle.game_shelf.specs.declared.shelved.Shelved.{Shelved}
 use Rattle.game_shelf.specs.Facts.{IsShelf}
-use Rattle.game_shelf.specs.Numbers.{is_used, next_number, with_game, without_game}
-use Rattle.game_shelf.specs.Shelf.{ShelfState, most_stored, is_by_seated, ordered, shelved, taken_off, asked, game_order, removal_order}
+use Rattle.game_shelf.specs.Numbers.{is_used}
+use Rattle.game_shelf.specs.Shelf.{ShelfState, most_stored}
 use Rattle.game_shelf.proofs.Keeping.{IsShelf-with_stored}
 use Rattle.game_shelf.proofs.game_shelf.GameShelf.add.Goals as goal
 
@@ -21,4 +18,4 @@ invariant_of-self c =
     let room = subst (λ (s : ShelfState). length s.games < most_stored) (sym c.self.view_is) c.requires.room in
     subst (λ (games : List Shelved). IsShelf (record shelf { games = games })) (sym c.insert.ensures)
     (IsShelf-with_stored shelf c.args.number c.args.game c.requires.positive c.ranges.number.fits unused room c.requires.replays
-        c.self.invariant)
+    c.self.invariant)

@@ -1,11 +1,8 @@
-use Rattle.std.proofs.Common.{◌≡◌, ℕ, ◌+◌, ◌<◌, ◌∷◌, ◌++◌, [], false, true, List, length, not, sym, ap, subst, ◌∙◌, refl, arith, rules}
-use Rattle.std.specs.Prelude.{◌==◌, nat_lt}
-use Rattle.game_shelf.specs.declared.order.Order.{Order}
+use Rattle.std.proofs.Common.{List, not, sym, subst}
+use Rattle.std.specs.Prelude.{◌==◌}
 use Rattle.game_shelf.specs.declared.request.Request.{Request}
-use Rattle.game_shelf.specs.declared.shelved.Shelved.{Shelved}
 use Rattle.game_shelf.specs.Facts.{IsShelf}
-use Rattle.game_shelf.specs.Numbers.{is_used, next_number, with_game, without_game}
-use Rattle.game_shelf.specs.Shelf.{ShelfState, most_stored, is_by_seated, ordered, shelved, taken_off, asked, game_order, removal_order}
+use Rattle.game_shelf.specs.Shelf.{ShelfState}
 use Rattle.game_shelf.proofs.Keeping.{IsShelf-fewer}
 use Rattle.game_shelf.proofs.game_shelf.GameShelf.forget.Goals as goal
 

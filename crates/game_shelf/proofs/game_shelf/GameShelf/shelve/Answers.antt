@@ -1,11 +1,9 @@
-use Rattle.std.proofs.Common.{◌≡◌, ℕ, ◌+◌, ◌<◌, ◌∷◌, ◌++◌, [], false, true, List, length, not, sym, ap, subst, ◌∙◌, refl, arith, rules}
-use Rattle.std.specs.Prelude.{◌==◌, nat_lt}
+use Rattle.std.proofs.Common.{◌≡◌, ℕ, ◌+◌, ◌<◌, ◌∷◌, ◌++◌, [], List, length, sym, ap, subst, ◌∙◌}
 use Rattle.game_shelf.specs.declared.order.Order.{Order}
-use Rattle.game_shelf.specs.declared.request.Request.{Request}
 use Rattle.game_shelf.specs.declared.shelved.Shelved.{Shelved}
 use Rattle.game_shelf.specs.Facts.{IsShelf}
-use Rattle.game_shelf.specs.Numbers.{is_used, next_number, with_game, without_game}
-use Rattle.game_shelf.specs.Shelf.{ShelfState, most_stored, is_by_seated, ordered, shelved, taken_off, asked, game_order, removal_order}
+use Rattle.game_shelf.specs.Numbers.{is_used, next_number, with_game}
+use Rattle.game_shelf.specs.Shelf.{ShelfState, most_stored, game_order}
 use Rattle.game_shelf.proofs.Held.{order_behind}
 use Rattle.game_shelf.proofs.Keeping.{IsShelf-shelved}
 use Rattle.game_shelf.proofs.Rising.{next_number-least}
@@ -30,7 +28,7 @@ invariant_of-self c =
     order_behind shelf.orders c.order.inside.cell c.append.new.self (game_order shelf game) c.order.invariant (c.order.view_is ∙ order) c.append.ensures in
     let games : c.insert.new.self ≡ with_game (record { number = next_number shelf.games; game = game }) shelf.games =
     c.insert.ensures
-        ∙ ap (λ (n : ℕ). with_game (record { number = n; game = game }) shelf.games) c.next_number-number.ensures.number in
+    ∙ ap (λ (n : ℕ). with_game (record { number = n; game = game }) shelf.games) c.next_number-number.ensures.number in
     let place = subst (λ (s : ShelfState). length s.games < most_stored) (sym c.self.view_is) c.requires.place in
     subst (λ (rows : List Shelved). IsShelf (record shelf { games = rows; orders = c.append.new.self; made = shelf.made + 1 })) (sym games)
     (subst (λ (rows : List Order). IsShelf (record shelf {

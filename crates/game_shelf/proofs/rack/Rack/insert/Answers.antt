@@ -1,9 +1,9 @@
-use Rattle.std.proofs.Common.{◌≡◌, ℕ, ◌+◌, ◌^◌, ◌<◌, ◌≤◌, ◌++◌, ◌∷◌, Bool, true, false, cond, Result, Ok, Err, List, length, take, drop, sym, ap, subst, ◌∙◌, arith, rules}
+use Rattle.std.proofs.Common.{◌≡◌, ℕ, ◌+◌, ◌<◌, ◌≤◌, ◌++◌, ◌∷◌, true, false, cond, Result, Ok, Err, List, length, drop, sym, ap, subst, ◌∙◌, arith, rules}
 use Rattle.std.specs.List.{filter, insert}
 use Rattle.std.specs.Result.{IsOk, is_ok}
-use Rattle.std.specs.Vec.{vec_len, vec_capacity}
+use Rattle.std.specs.Vec.{vec_len}
 use Rattle.game_shelf.specs.declared.shelved.Shelved.{Shelved}
-use Rattle.game_shelf.specs.Numbers.{is_above, is_below, is_used, AreInOrder, with_game}
+use Rattle.game_shelf.specs.Numbers.{is_below, is_used, AreInOrder, with_game}
 use Rattle.game_shelf.proofs.Rising.{RiseAbove-with, take-place, drop-place}
 use Rattle.game_shelf.proofs.rack.Rack.insert.Goals as goal
 
@@ -33,7 +33,7 @@ returns c =
     let unused = subst (λ (l : List Shelved). is_used l c.args.number ≡ false) (sym c.self.view_is) c.requires.unused in
     went_in c.insert-room.result _ _ _ ok c.insert-room.ensures.items
     ∙ at_place c.self.inside.games.items new c.place-place.result c.self.invariant.order unused
-        (c.place-place.ensures.place ∙ ap (λ (l : List Shelved). length (filter (is_below c.args.number) l)) (sym c.self.view_is))
+    (c.place-place.ensures.place ∙ ap (λ (l : List Shelved). length (filter (is_below c.args.number) l)) (sym c.self.view_is))
     ∙ ap (with_game new) c.self.view_is
 
 pub invariant_of-self : goal.invariant_of-self

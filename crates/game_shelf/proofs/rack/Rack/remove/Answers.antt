@@ -1,6 +1,5 @@
-use Rattle.std.proofs.Common.{◌≡◌, ◌≤◌, List, not, sym, ap, subst, ◌∙◌, arith}
-use Rattle.std.specs.Vec.{vec_len, vec_capacity}
-use Rattle.game_shelf.specs.Numbers.{AreInOrder, has_number, without_game}
+use Rattle.std.proofs.Common.{◌≤◌, not, sym, subst, arith}
+use Rattle.game_shelf.specs.Numbers.{AreInOrder, has_number}
 use Rattle.game_shelf.proofs.Rising.{RiseAbove-filter}
 use Rattle.game_shelf.proofs.rack.Rack.remove.Goals as goal
 
