@@ -4,7 +4,7 @@ use Rattle.std.specs.Prelude.{All, is_some}
 use Rattle.std.proofs.Math.ListN.{set}
 use Rattle.std.proofs.lemmas.Bool.{eqb-true}
 use Rattle.std.proofs.lemmas.List.{length-set}
-use Rattle.std.proofs.lemmas.List.Elements.{All-set, All-push, All-filter, All-weaker}
+use Rattle.std.proofs.lemmas.List.Elements.{All-set, All-push, All-weaker}
 use Rattle.std.proofs.lemmas.Option.{slice_get_within}
 use Rattle.chess_model.specs.declared.variant.Terms.{Terms}
 use Rattle.chess_model.specs.declared.variant.Variant.{Variant}
@@ -26,7 +26,8 @@ use Rattle.lobby_state.specs.Places.{PlaceList, is_full}
 use Rattle.lobby_state.specs.Pairing.{needs_partners}
 use Rattle.lobby_state.specs.Planned.{CanStart, FitsVariant}
 use Rattle.lobby_state.specs.Start.{in_seat, is_by_seated, is_settled, seated}
-use Rattle.lobby_state.specs.WellFormed.{IsWellFormed, IsBetweenMembers, IsSeatOf, IsStarted, HasSeats, sessions_of}
+use Rattle.lobby_state.specs.WellFormed.{IsWellFormed, IsSeatOf, IsStarted, HasSeats, sessions_of}
+use Rattle.lobby_state.proofs.ChallengeRows.{AreChallengesOf-filter}
 use Rattle.lobby_state.proofs.First.{position-within, find-found}
 use Rattle.lobby_state.proofs.Lists.{map-map_same, All-map_each, find-passes, get-set_same, get-set_other, get_inside}
 use Rattle.lobby_state.proofs.WellFormed.{kept, seeks_gone}
@@ -123,7 +124,7 @@ formed_seated lobby desk serial terms seats can h =
     (kept lobby (map sit lobby.members) (filter (λ c. not (is_settled lobby.members seats c)) lobby.challenges) games serial
     (map-map_same (λ m. m.session) sit (λ m. in_seat_session desk serial (seat_number m.session (seat_list seats)) m) lobby.members)
     (map-map_same (λ m. key_of m.name) sit (λ m. ap key_of (in_seat_name desk serial (seat_number m.session (seat_list seats)) m)) lobby.members)
-    (All-filter (λ c. not (is_settled lobby.members seats c)) (IsBetweenMembers (sessions_of lobby.members)) lobby.challenges h.challenges)
+    (AreChallengesOf-filter (sessions_of lobby.members) (λ c. not (is_settled lobby.members seats c)) lobby.challenges h.challenges)
     (length-set lobby.games (desk - 1) (Some game) ∙ h.games)
     (All-set (IsStarted serial) lobby.games (desk - 1) (Some game) (omega (arith, can.is_next), omega arith, boards_by terms.variant seats can.boards) rising)
     (All-map_each (HasSeats lobby.games) (HasSeats games) sit

@@ -10,7 +10,7 @@ use Rattle.login_handles.specs.Accounts.{account_of}
 use Rattle.partner_link.specs.Partners.{PartnerLists, partner_of, without}
 use Rattle.seek_match.specs.declared.seek.Seek.{Seek}
 use Rattle.seek_match.specs.Seeks.{is_by}
-use Rattle.lobby_state.specs.declared.challenge.Challenge.{Challenge}
+use Rattle.seek_match.specs.declared.challenge.Challenge.{Challenge}
 use Rattle.lobby_state.specs.declared.game.Game.{Game}
 use Rattle.lobby_state.specs.declared.member.Member.{Member}
 use Rattle.lobby_state.specs.Desks.{desks}
@@ -37,10 +37,6 @@ most_members = 256
 -- the most accounts
 abbrev pub most_accounts : ℕ
 most_accounts = 4096
-
--- the most lines that wait for a member
-abbrev pub most_lines : ℕ
-most_lines = 512
 
 -- the most games that are ever started, which keeps serials below 2^64
 abbrev pub most_games : ℕ

@@ -5,7 +5,6 @@ use Rattle.fics_words.specs.Handle.{key_of}
 use Rattle.fics_words.specs.declared.player.Player.{Player}
 use Rattle.fics_words.specs.Seats.{seat_list}
 use Rattle.login_handles.specs.Accounts.{AreAccounts}
-use Rattle.lobby_state.specs.declared.challenge.Challenge.{Challenge}
 use Rattle.lobby_state.specs.declared.game.Game.{Game}
 use Rattle.lobby_state.specs.declared.member.Member.{Member}
 use Rattle.simul_control.specs.declared.place.Place.{Place}
@@ -15,7 +14,9 @@ use Rattle.lobby_state.specs.Pairing.{needs_partners}
 use Rattle.partner_link.specs.declared.pairs.PartnerLink.{PartnerLink}
 use Rattle.partner_link.specs.declared.pairs.PartnerRequest.{PartnerRequest}
 use Rattle.partner_link.specs.Partners.{AreLinks, PartnerLists}
+use Rattle.seek_match.specs.declared.challenge.Challenge.{Challenge}
 use Rattle.seek_match.specs.declared.seek.Seek.{Seek}
+use Rattle.seek_match.specs.Matches.{AreChallenges}
 use Rattle.seek_match.specs.Seeks.{AreSeeks, is_by, most_seeks}
 
 -- the sessions of the members
@@ -27,6 +28,11 @@ pub record IsBetweenMembers (sessions : List ℕ) (challenge : Challenge) : Type
   pub from : Contains sessions challenge.from
   pub to : Contains sessions challenge.to
   pub differ : challenge.from ≢ challenge.to
+
+-- nobody has two challenges to one player, and each is by one member to another
+pub record AreChallengesOf (sessions : List ℕ) (challenges : List Challenge) : Type 0 where
+  pub pairs : AreChallenges challenges
+  pub members : All (IsBetweenMembers sessions) challenges
 
 -- the seek is by a member, and of a game that two can play
 pub record IsByMember (sessions : List ℕ) (seek : Seek) : Type 0 where
@@ -77,16 +83,16 @@ IsStarted started (Some game) =
     (1 ≤ game.serial) × (game.serial ≤ started) × (is_some game.seats.second ≡ needs_partners game.terms.variant)
 
 -- each handle has at most one account, and there are at most 4,096; there are at most 256 members, of whom no two have
--- one session, and no two one handle; each challenge is by one member to another; the seeks are by members; the
--- requests and links of partners are of members, and nobody has two partners; there are 128 desks, and each game has a
--- serial that was given out, and two boards exactly in bughouse; and each place of a member is a seat of its own in such
--- a game
+-- one session, and no two one handle; each challenge is by one member to another, and nobody has two to one player; the
+-- seeks are by members; the requests and links of partners are of members, and nobody has two partners; there are 128
+-- desks, and each game has a serial that was given out, and two boards exactly in bughouse; and each place of a member is
+-- a seat of its own in such a game
 pub record IsWellFormed (lobby : LobbyState) : Type 0 where
   pub accounts : AreAccounts lobby.accounts
   pub hall : length lobby.members ≤ most_members
   pub sessions : AllPairs (λ one another. one.session ≢ another.session) lobby.members
   pub handles : AllPairs (λ one another. key_of one.name ≢ key_of another.name) lobby.members
-  pub challenges : All (IsBetweenMembers (sessions_of lobby.members)) lobby.challenges
+  pub challenges : AreChallengesOf (sessions_of lobby.members) lobby.challenges
   pub seeks : AreSeeksOf (sessions_of lobby.members) lobby.seeks
   pub partners : ArePartnersOf (sessions_of lobby.members) lobby.partners
   pub games : length lobby.games ≡ desks

@@ -5,7 +5,7 @@ ghost use Rattle.lobby_state.specs.Bye.{bye_effect};
 ghost use Rattle.lobby_state.specs.Lobby.{is_session};
 
 use crate::acts::LobbyReply;
-use crate::challenge::Without;
+use crate::challenges::Without;
 use crate::member::Member;
 use crate::register::Register;
 use crate::seeks::ByAnother;
@@ -30,7 +30,7 @@ impl Register {
         ensures { Takes (bye_effect self.old session) self.old self.new (Ok result) }
     {
         self.members.retain(&OfAnother(session));
-        self.challenges.retain(&Without(session));
+        self.challenges.keep(&Without(session));
         self.seeks.keep(&ByAnother(session));
         self.channels.forget(session);
         self.partners.forget(session);

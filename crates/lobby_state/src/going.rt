@@ -4,7 +4,7 @@ ghost use Rattle.fics_words.specs.Effect.{Takes};
 ghost use Rattle.lobby_state.specs.Going.{going_effect, leaving};
 
 use crate::acts::LobbyReply;
-use crate::challenge::Without;
+use crate::challenges::Without;
 use crate::member::{Member, OfSession, change_first};
 use crate::register::Register;
 use crate::seeks::ByAnother;
@@ -30,7 +30,7 @@ impl Register {
     {
         let places = self.places(session);
         change_first(&mut self.members, &OfSession(session), &Leave);
-        self.challenges.retain(&Without(session));
+        self.challenges.keep(&Without(session));
         self.seeks.keep(&ByAnother(session));
         self.partners.forget(session);
         LobbyReply::Places(places)
