@@ -24,7 +24,7 @@ pub AreChallengesOf-more : (sessions more : List ℕ) (challenges : List Challen
 AreChallengesOf-more sessions more challenges step h = record {
   pairs = h.pairs;
   members = All-weaker (IsBetweenMembers sessions) (IsBetweenMembers more)
-      (λ c b. record { from = step c.from b.from; to = step c.to b.to; differ = b.differ }) challenges h.members;
+      (λ c b. record { from = step c.from b.from; to = step c.to b.to; differ = b.differ; terms = b.terms }) challenges h.members;
 }
 
 -- a member goes with its challenges
@@ -42,6 +42,7 @@ AreChallengesOf-without sessions session challenges h =
             from = Contains-filter stays sessions c.from (ap not parts.0) b.from;
             to = Contains-filter stays sessions c.to (ap not parts.1) b.to;
             differ = b.differ;
+            terms = b.terms;
           }) challenges h.members;
     }
 

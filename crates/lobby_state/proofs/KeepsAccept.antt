@@ -50,7 +50,7 @@ planned_by lobby session name (Some accepting) None (Some offering) slot first s
 planned_by lobby session name (Some accepting) (Some offer) (Some offering) None first second third found a b away full c h = cc
 planned_by lobby session name (Some accepting) (Some offer) (Some offering) (Some slot) first second third found a b away full c h =
     let is_offer = offer_of-is lobby session name offer second h.challenges in
-    planned_where lobby session offer.from accepting offer.terms offering slot first third
+    planned_where lobby session offer.from accepting offer.terms offering slot is_offer.1.terms first third
     (λ same. is_offer.1.differ (same ∙ sym is_offer.0)) away full found h
 
 pub keeps_accept : (lobby : LobbyState) (session : ℕ) (name : Option (List ℕ)) → KeepsPlanned lobby (accept_effect lobby session name)
