@@ -4,9 +4,8 @@ use Rattle.std.specs.Prelude.{Contains}
 use Rattle.std.proofs.lemmas.Bool.{not-true, or_parts}
 use Rattle.std.proofs.lemmas.List.Elements.{All-filter, All-push, All-weaker}
 use Rattle.seek_match.specs.declared.challenge.Challenge.{Challenge}
-use Rattle.seek_match.specs.Matches.{is_between, with_challenge, without_between}
+use Rattle.seek_match.specs.Matches.{concerns, is_between, with_challenge, without_between, without_challenges_of}
 use Rattle.seek_match.proofs.Pairs.{AreChallenges-filter, AreChallenges-with}
-use Rattle.lobby_state.specs.Lobby.{concerns}
 use Rattle.lobby_state.specs.WellFormed.{AreChallengesOf, IsBetweenMembers}
 use Rattle.lobby_state.proofs.Lists.{All-filter_passing, Contains-filter}
 
@@ -29,7 +28,7 @@ AreChallengesOf-more sessions more challenges step h = record {
 
 -- a member goes with its challenges
 pub AreChallengesOf-without : (sessions : List ℕ) (session : ℕ) (challenges : List Challenge) → AreChallengesOf sessions challenges
-    → AreChallengesOf (filter (λ s. not (eqb s session)) sessions) (filter (λ c. not (concerns session c)) challenges)
+    → AreChallengesOf (filter (λ s. not (eqb s session)) sessions) (without_challenges_of session challenges)
 AreChallengesOf-without sessions session challenges h =
     let stays : ℕ → Bool = λ s. not (eqb s session) in
     let others : Challenge → Bool = λ c. not (concerns session c) in

@@ -7,7 +7,7 @@ use Rattle.std.proofs.lemmas.List.Elements.{All-append, All-cons, All-drop, All-
 use Rattle.std.proofs.lemmas.List.Sums.{sum_by-cons, sum_by-insert}
 use Rattle.chess_model.specs.declared.variant.Terms.{Terms}
 use Rattle.seek_match.specs.declared.seek.Seek.{Seek}
-use Rattle.seek_match.specs.Seeks.{is_by, next_number, posting}
+use Rattle.seek_match.specs.Seeks.{is_by, next_number, posting, without_seeks_of}
 use Rattle.seek_match.proofs.Rising.{RiseAbove-filter, RiseAbove-insert, first_gap-above, first_gap-within}
 use Rattle.lobby_state.specs.Pairing.{needs_partners}
 use Rattle.lobby_state.specs.Terms.{AreTerms}
@@ -62,7 +62,7 @@ AreSeeksOf-more sessions more seeks step h = record {
 
 -- a member goes with its seeks
 pub AreSeeksOf-without : (sessions : List ℕ) (session : ℕ) (seeks : List Seek) → AreSeeksOf sessions seeks
-    → AreSeeksOf (filter (λ s. not (eqb s session)) sessions) (filter (λ seek. not (is_by session None seek)) seeks)
+    → AreSeeksOf (filter (λ s. not (eqb s session)) sessions) (without_seeks_of session seeks)
 AreSeeksOf-without sessions session seeks h =
     let stays : ℕ → Bool = λ s. not (eqb s session) in
     let left = AreSeeksOf-filter sessions (λ seek. not (is_by session None seek)) seeks h in

@@ -1,24 +1,11 @@
-//! Which challenges stay.
+//! Which challenges stay as a game starts.
 ghost use Rattle.std.specs.Prelude.{◌≡◌, not};
-ghost use Rattle.lobby_state.specs.Lobby.{concerns};
 ghost use Rattle.lobby_state.specs.Start.{concerns_bound, is_between, is_bound, is_giver, is_settled};
 
 use crate::member::{Member, OfSession};
 use collections::{Predicate, find};
 use fics_words::Seats;
 use seek_match::Challenge;
-
-/// A challenge that isn't by this session nor to it.
-#[derive(Clone, Copy)]
-pub(crate) struct Without(pub(crate) u32);
-
-impl Predicate<Challenge> for Without {
-    ghost passes = { λ test challenge. not (concerns test.0 challenge) };
-
-    fn passes(&self, challenge: &Challenge) -> bool {
-        !(challenge.from == self.0 || challenge.to == self.0)
-    }
-}
 
 /// A challenge that stays as the game of these seats starts.
 #[derive(Clone, Copy)]

@@ -1,5 +1,5 @@
 -- Challenges: games that a player offers to one other. This server's own.
-use Rattle.std.specs.Prelude.{◌≡◌, ℕ, ◌==◌, Bool, false, not, ◌&&◌, List, [], ◌∷◌, ◌++◌, Option, None, Some}
+use Rattle.std.specs.Prelude.{◌≡◌, ℕ, ◌==◌, Bool, false, not, ◌&&◌, ◌||◌, List, [], ◌∷◌, ◌++◌, Option, None, Some}
 use Rattle.std.specs.List.{filter, find, list_any}
 use Rattle.seek_match.specs.declared.challenge.Challenge.{Challenge}
 
@@ -23,6 +23,14 @@ challenge_by challenges from = find (λ challenge. challenge.from == from) chall
 -- the challenges without that by the first player to the second
 abbrev pub without_between : ℕ → ℕ → List Challenge → List Challenge
 without_between from to challenges = filter (λ challenge. not (is_between from to challenge)) challenges
+
+-- the challenge is by this player or to it
+abbrev pub concerns : ℕ → Challenge → Bool
+concerns who challenge = (challenge.from == who) || (challenge.to == who)
+
+-- the challenges without those by this player and to it
+abbrev pub without_challenges_of : ℕ → List Challenge → List Challenge
+without_challenges_of who challenges = filter (λ challenge. not (concerns who challenge)) challenges
 
 -- the two challenges are by the same player to the same player
 abbrev pub is_same_pair : Challenge → Challenge → Bool

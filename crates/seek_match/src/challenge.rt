@@ -1,6 +1,6 @@
 //! A challenge, and between whom it is.
 ghost use Rattle.std.specs.Prelude.{◌≡◌, ◌==◌, Ok, not};
-ghost use Rattle.seek_match.specs.Matches.{is_between, is_to};
+ghost use Rattle.seek_match.specs.Matches.{concerns, is_between, is_to};
 
 use chess_model::Terms;
 use collections::Predicate;
@@ -59,6 +59,18 @@ impl Predicate<Challenge> for ByPlayer {
 
     fn passes(&self, challenge: &Challenge) -> bool {
         challenge.from == self.0
+    }
+}
+
+/// A challenge that is neither by this player nor to it.
+#[derive(Clone, Copy)]
+pub(crate) struct WithoutPlayer(pub(crate) u32);
+
+impl Predicate<Challenge> for WithoutPlayer {
+    ghost passes = { λ test challenge. not (concerns test.0 challenge) };
+
+    fn passes(&self, challenge: &Challenge) -> bool {
+        !(challenge.from == self.0 || challenge.to == self.0)
     }
 }
 

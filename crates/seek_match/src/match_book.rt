@@ -3,7 +3,7 @@ ghost use Rattle.std.specs.Prelude.{◌≡◌};
 ghost use Rattle.std.specs.List.{filter, list_any};
 ghost use Rattle.seek_match.specs.Matches.{is_between};
 
-use crate::challenge::{ByPlayer, Challenge, NotBetween, ToPlayer};
+use crate::challenge::{ByPlayer, Challenge, NotBetween, ToPlayer, WithoutPlayer};
 use collections::{Predicate, Reserved, find};
 use fics_words::{Duplicate, NoMemory};
 use std::alloc::Global;
@@ -31,7 +31,7 @@ impl Model for MatchBook {
 impl MatchBook {
     ghost use Rattle.std.specs.Prelude.{◌≡◌, OnErr, OnOk, [], not};
     ghost use Rattle.std.specs.List.{filter, list_any};
-    ghost use Rattle.seek_match.specs.Matches.{AreChallenges, challenge_by, challenge_to, is_between, with_challenge, without_between};
+    ghost use Rattle.seek_match.specs.Matches.{AreChallenges, challenge_by, challenge_to, is_between, with_challenge, without_between, without_challenges_of};
 
     /// No challenges; takes no memory.
     pub fn new(alloc: Global) -> MatchBook
@@ -80,6 +80,13 @@ impl MatchBook {
         let found = has_between(self.rows.as_slice(), from, to);
         keep_challenges(&mut self.rows, &NotBetween { from, to });
         found
+    }
+
+    /// Takes away every challenge by this player and to it. It takes no memory and is never refused.
+    pub fn forget(&mut self, who: u32)
+        ensures { self.new ≡ without_challenges_of who self.old }
+    {
+        self.keep(&WithoutPlayer(who));
     }
 
     /// Keeps the challenges that pass `test`, in their order. It takes no memory and is never refused.
