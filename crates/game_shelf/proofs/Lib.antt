@@ -1,0 +1,6 @@
+-- Lemmas of this crate.
+pub mod Lists
+pub mod Rising
+pub mod Requests
+pub mod Keeping
+pub mod Held

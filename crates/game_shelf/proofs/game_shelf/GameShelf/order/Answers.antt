@@ -1,0 +1,25 @@
+use Rattle.std.proofs.Common.{◌≡◌, ℕ, ◌+◌, ◌<◌, ◌∷◌, ◌++◌, [], false, true, List, length, not, sym, ap, subst, ◌∙◌, refl, arith, rules}
+use Rattle.std.specs.Prelude.{◌==◌, nat_lt}
+use Rattle.game_shelf.specs.declared.order.Order.{Order}
+use Rattle.game_shelf.specs.declared.request.Request.{Request}
+use Rattle.game_shelf.specs.declared.shelved.Shelved.{Shelved}
+use Rattle.game_shelf.specs.Facts.{IsShelf}
+use Rattle.game_shelf.specs.Numbers.{is_used, next_number, with_game, without_game}
+use Rattle.game_shelf.specs.Shelf.{ShelfState, most_stored, is_by_seated, ordered, shelved, taken_off, asked, game_order, removal_order}
+use Rattle.game_shelf.proofs.Held.{order_behind}
+use Rattle.game_shelf.proofs.Keeping.{IsShelf-ordered}
+use Rattle.game_shelf.proofs.game_shelf.GameShelf.order.Goals as goal
+
+pub invariant_of-self : goal.invariant_of-self
+invariant_of-self c =
+    let shelf : ShelfState = record {
+      games = c.self.inside.games;
+      orders = c.self.inside.orders;
+      made = c.self.inside.made;
+      requests = c.self.inside.requests;
+    } in
+    let next : c.args.saving.number ≡ shelf.made + 1 = subst (λ (s : ShelfState). c.args.saving.number ≡ s.made + 1) (sym c.self.view_is) c.requires.next in
+    let same : c.append.new.self ≡ shelf.orders ++ c.args.saving ∷ [] =
+    order_behind shelf.orders c.saving.inside.cell c.append.new.self c.args.saving c.saving.invariant c.saving.view_is c.append.ensures in
+    subst (λ (orders : List Order). IsShelf (record shelf { orders = orders; made = shelf.made + 1 })) (sym same)
+    (IsShelf-ordered shelf c.args.saving next c.self.invariant)

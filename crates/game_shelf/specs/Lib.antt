@@ -1,0 +1,6 @@
+-- What the contracts of this crate cite.
+pub mod Numbers
+pub mod Players
+pub mod Shelf
+pub mod Facts
+pub mod Held
