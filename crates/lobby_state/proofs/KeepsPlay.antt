@@ -28,7 +28,7 @@ planned_by lobby session number (Some accepting) (Some seek) (Some offering) (So
     let by = find-has (IsByMember (sessions_of lobby.members)) (has_number number) lobby.seeks seek h.seeks.members second in
     let together = alone_together lobby offering accepting seek.terms by.for_two in
     let theirs : offering.session ≡ seek.by = eqb-true _ _ (find-passes (is_session seek.by) lobby.members offering third) in
-    planned_where lobby session seek.by accepting seek.terms offering slot first third
+    planned_where lobby session seek.by accepting seek.terms offering slot by.terms first third
     (λ same. eqb-false offering.session session c (theirs ∙ same)) together.0 together.1 found h
 
 pub keeps_play : (lobby : LobbyState) (session number : ℕ) → KeepsPlanned lobby (play_effect lobby session number)

@@ -2,6 +2,7 @@ pub mod First
 pub mod Words
 pub mod Lists
 pub mod SeekRows
+pub mod ChallengeRows
 pub mod PartnerRows
 pub mod Causes
 pub mod WellFormed

@@ -24,6 +24,7 @@ use Rattle.lobby_state.specs.Lobby.{LobbyState, free_slot, gives, is_session, me
 use Rattle.lobby_state.specs.Pairing.{are_partners, beside, lack_partner, member_at, needs_partners, paired}
 use Rattle.lobby_state.specs.Planned.{AreApart, FitsVariant, IsMember, IsPlanned, SitCrosswise}
 use Rattle.lobby_state.specs.Starting.{has_white, opponents_of, player_of, second_board, start_plan}
+use Rattle.lobby_state.specs.Terms.{AreTerms}
 use Rattle.lobby_state.specs.WellFormed.{IsWellFormed}
 use Rattle.lobby_state.proofs.First.{position-within, find-found}
 use Rattle.lobby_state.proofs.Lists.{find-contained, find-passes, get_inside}
@@ -316,11 +317,11 @@ seats_fit lobby Bughouse white offering accepting (Some first) (Some second) one
 
 -- the plan of a game where the two and a free desk are there, and partners where they are needed
 pub planned_where : (lobby : LobbyState) (session from : ℕ) (accepting : Member) (terms : Terms) (offering : Member) (slot : ℕ)
-    → member_of lobby session ≡ Some accepting → member_of lobby from ≡ Some offering → from ≢ session
+    → AreTerms terms → member_of lobby session ≡ Some accepting → member_of lobby from ≡ Some offering → from ≢ session
     → are_partners lobby (paired offering accepting terms) ≡ false → lack_partner lobby (paired offering accepting terms) ≡ false
     → free_slot lobby ≡ Some slot → IsWellFormed lobby
     → IsPlanned lobby (start_plan lobby (Some (paired offering accepting terms)) (Some slot))
-planned_where lobby session from accepting terms offering slot first third differ away full found h =
+planned_where lobby session from accepting terms offering slot bounds first third differ away full found h =
     let own = found_there lobby session accepting first in
     let theirs = found_there lobby from offering third in
     let opposed : offering.session ≢ accepting.session = λ same. differ (sym theirs.0 ∙ same ∙ own.0) in
@@ -334,6 +335,7 @@ planned_where lobby session from accepting terms offering slot first third diffe
       is_desk = (omega arith, omega (arith, long));
       is_free = ap (slice_get lobby.games) back ∙ free-is lobby.games slot found;
       is_next = refl;
+      are_terms = bounds;
       members = fit.members;
       apart = fit.apart;
       boards = fit.boards;

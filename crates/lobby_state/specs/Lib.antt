@@ -4,6 +4,7 @@ pub mod Places
 pub mod Lobby
 pub mod Enter
 pub mod Registration
+pub mod Terms
 pub mod TermsText
 pub mod NameList
 pub mod Pairing

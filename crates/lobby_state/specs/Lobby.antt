@@ -1,6 +1,6 @@
 -- A lobby: who is registered and who is in the hall, which challenges and seeks stand, who asks whom to be its partner
 -- and who are partners, and which desks are in use. This server's own.
-use Rattle.std.specs.Prelude.{ℕ, ◌-◌, ◌^◌, ◌==◌, Bool, not, ◌&&◌, ◌||◌, List, [], length, replicate, Option, None, Some, is_none, is_some, bytes_eq, filter, slice_get}
+use Rattle.std.specs.Prelude.{ℕ, ◌-◌, ◌^◌, ◌==◌, Bool, not, ◌&&◌, List, [], length, replicate, Option, None, Some, is_none, is_some, bytes_eq, slice_get}
 use Rattle.std.specs.List.{find, position}
 use Rattle.channel_feed.specs.declared.channels.Membership.{Membership}
 use Rattle.channel_feed.specs.Channels.{without_player}
@@ -9,8 +9,9 @@ use Rattle.fics_words.specs.declared.account.Account.{Account}
 use Rattle.login_handles.specs.Accounts.{account_of}
 use Rattle.partner_link.specs.Partners.{PartnerLists, partner_of, without}
 use Rattle.seek_match.specs.declared.seek.Seek.{Seek}
-use Rattle.seek_match.specs.Seeks.{is_by}
-use Rattle.lobby_state.specs.declared.challenge.Challenge.{Challenge}
+use Rattle.seek_match.specs.Matches.{without_challenges_of}
+use Rattle.seek_match.specs.Seeks.{without_seeks_of}
+use Rattle.seek_match.specs.declared.challenge.Challenge.{Challenge}
 use Rattle.lobby_state.specs.declared.game.Game.{Game}
 use Rattle.lobby_state.specs.declared.member.Member.{Member}
 use Rattle.lobby_state.specs.Desks.{desks}
@@ -37,10 +38,6 @@ most_members = 256
 -- the most accounts
 abbrev pub most_accounts : ℕ
 most_accounts = 4096
-
--- the most lines that wait for a member
-abbrev pub most_lines : ℕ
-most_lines = 512
 
 -- the most games that are ever started, which keeps serials below 2^64
 abbrev pub most_games : ℕ
@@ -121,10 +118,6 @@ places_of lobby session = places_in (member_of lobby session)
 abbrev pub waiting_of : LobbyState → ℕ → List (List ℕ)
 waiting_of lobby session = lines_in (member_of lobby session)
 
--- the challenge is by this session or to it
-abbrev pub concerns : ℕ → Challenge → Bool
-concerns session challenge = (challenge.from == session) || (challenge.to == session)
-
 -- where the least free desk stands in the list of desks; its number is one more
 abbrev pub free_slot : LobbyState → Option ℕ
 free_slot lobby = position is_none lobby.games
@@ -141,12 +134,11 @@ game_at lobby desk = game_in (slice_get lobby.games (desk - 1))
 -- the lobby without the challenges by this session and to it
 abbrev pub without_challenges : ℕ → LobbyState → LobbyState
 without_challenges session lobby =
-    record lobby { challenges = filter (λ challenge. not (concerns session challenge)) lobby.challenges }
+    record lobby { challenges = without_challenges_of session lobby.challenges }
 
 -- the lobby without the seeks by this session
 abbrev pub without_seeks : ℕ → LobbyState → LobbyState
-without_seeks session lobby =
-    record lobby { seeks = filter (λ seek. not (is_by session None seek)) lobby.seeks }
+without_seeks session lobby = record lobby { seeks = without_seeks_of session lobby.seeks }
 
 -- the lobby where this session is in no channel
 abbrev pub without_channels : ℕ → LobbyState → LobbyState

@@ -13,6 +13,7 @@ use Rattle.lobby_state.specs.declared.acts.Plan.{Plan}
 use Rattle.lobby_state.specs.declared.acts.Plan.TheVariants.{Start, Clear}
 use Rattle.lobby_state.specs.Desks.{IsDesk}
 use Rattle.lobby_state.specs.Lobby.{LobbyState, partner_in}
+use Rattle.lobby_state.specs.Terms.{AreTerms}
 use Rattle.lobby_state.specs.WellFormed.{sessions_of}
 
 -- no two of the players are one, by their sessions or by their handles
@@ -40,11 +41,13 @@ SitCrosswise lobby first None = Unit {0}
 SitCrosswise lobby first (Some second) = HasPartner lobby first.white second.black × HasPartner lobby first.black second.white
 
 -- a game on these terms can start at this desk under this serial with these players: the desk is free, the serial is
--- the next one, the players are members, as many as the variant has, and apart, and partners have opposite colours
+-- the next one, the terms are within their bounds, the players are members, as many as the variant has, and apart, and
+-- partners have opposite colours
 pub record CanStart (lobby : LobbyState) (desk serial : ℕ) (terms : Terms) (seats : Seats) : Type 0 where
   pub is_desk : IsDesk desk
   pub is_free : slice_get lobby.games (desk - 1) ≡ Some None
   pub is_next : serial ≡ lobby.started + 1
+  pub are_terms : AreTerms terms
   pub members : All (IsMember lobby) (seat_list seats)
   pub apart : AreApart seats
   pub boards : FitsVariant terms.variant seats

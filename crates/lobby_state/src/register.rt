@@ -3,28 +3,26 @@ ghost use Rattle.std.specs.Prelude.{◌≡◌, IfOk, option_copied};
 ghost use Rattle.lobby_state.specs.Desks.{IsDesk};
 ghost use Rattle.lobby_state.specs.Lobby.{holder_of, opening, member_of, named, places_of, waiting_of, free_slot, game_at, partner_in};
 
-use crate::challenge::Challenge;
 use crate::game::{Game, no_games};
 use crate::member::{Member, Members, Named, OfSession, WithHandle};
 use channel_feed::Channels;
-use collections::{Listed, Reserved, find};
-use fics_words::{Duplicate, HandleKey, Line, NoMemory};
+use collections::{Listed, find};
+use fics_words::{HandleKey, Line, NoMemory};
 use login_handles::Accounts;
 use partner_link::Partners;
-use seek_match::SeekBook;
+use seek_match::{MatchBook, SeekBook};
 use simul_control::Places;
 use std::alloc::Global;
 use std::marker::Model;
 
 /// Who is registered and who is in the hall, which challenges and seeks stand, who is in which channel, who are partners,
-/// and which desks are in
-/// use: the acts are carried out here, one file an act. That they leave it well-formed, `Lobby` knows.
+/// and which desks are in use: the acts are carried out here, one file an act. That they leave it well-formed, `Lobby` knows.
 #[derive(Drop)]
 pub(crate) struct Register {
     pub(crate) alloc: Global,
     pub(crate) accounts: Accounts,
     pub(crate) members: Members,
-    pub(crate) challenges: Reserved<Challenge>,
+    pub(crate) challenges: MatchBook,
     pub(crate) seeks: SeekBook,
     pub(crate) channels: Channels,
     pub(crate) partners: Partners,
@@ -44,7 +42,7 @@ impl Model for Register {
     ghost view = { λ register. record {
       accounts = register.accounts;
       members = register.members;
-      challenges = register.challenges.items;
+      challenges = register.challenges;
       seeks = register.seeks;
       channels = register.channels;
       partners = register.partners;
@@ -66,7 +64,7 @@ impl Register {
             alloc,
             accounts: Accounts::new(alloc),
             members,
-            challenges: Reserved::new(alloc),
+            challenges: MatchBook::new(alloc),
             seeks: SeekBook::new(alloc),
             channels: Channels::new(alloc),
             partners: Partners::new(alloc),
@@ -90,7 +88,7 @@ impl Register {
         ensures { result.now ≡ waiting_of self.now session }
     {
         match self.member(session) {
-            Some(member) => member.waiting.as_slice(),
+            Some(member) => member.waiting.lines(),
             None => &[],
         }
     }
@@ -100,7 +98,7 @@ impl Register {
         ensures { IfOk result (λ lines. lines ≡ waiting_of self.now session) }
     {
         match self.member(session) {
-            Some(member) => member.waiting.duplicate(),
+            Some(member) => member.waiting.copy(),
             None => Ok(Listed::new(self.alloc)),
         }
     }
