@@ -9,6 +9,7 @@ use Rattle.lobby_state.specs.Keeps.{KeepsPlanned}
 use Rattle.lobby_state.specs.Lobby.{LobbyState, free_slot, member_of, named}
 use Rattle.lobby_state.specs.Pairing.{are_partners, lack_partner, pairing_of}
 use Rattle.lobby_state.specs.Planned.{IsPlanned}
+use Rattle.lobby_state.specs.ShelfRoom.{is_shelf_full}
 use Rattle.lobby_state.specs.Starting.{start_plan}
 use Rattle.lobby_state.specs.WellFormed.{AreChallengesOf, IsWellFormed, IsBetweenMembers, sessions_of}
 use Rattle.lobby_state.proofs.Lists.{find-passes}
@@ -42,20 +43,20 @@ planned_by : (lobby : LobbyState) (session : ℕ) (name : Option (List ℕ)) (ac
     (slot : Option ℕ) → member_of lobby session ≡ accepting → offer_of lobby session name ≡ offer → offering_in lobby offer ≡ offering
     → free_slot lobby ≡ slot → is_none accepting ≡ false → is_none offering ≡ false
     → holds (are_partners lobby) (pairing_of offering accepting (terms_in offer)) ≡ false
-    → holds (lack_partner lobby) (pairing_of offering accepting (terms_in offer)) ≡ false → is_none slot ≡ false → IsWellFormed lobby
+    → holds (lack_partner lobby) (pairing_of offering accepting (terms_in offer)) ≡ false → is_none slot ≡ false → is_shelf_full lobby ≡ false → IsWellFormed lobby
     → IsPlanned lobby (start_plan lobby (pairing_of offering accepting (terms_in offer)) slot)
-planned_by lobby session name None offer offering slot first second third found a b away full c h = cc
-planned_by lobby session name (Some accepting) offer None slot first second third found a b away full c h = cc
-planned_by lobby session name (Some accepting) None (Some offering) slot first second third found a b away full c h = cc
-planned_by lobby session name (Some accepting) (Some offer) (Some offering) None first second third found a b away full c h = cc
-planned_by lobby session name (Some accepting) (Some offer) (Some offering) (Some slot) first second third found a b away full c h =
+planned_by lobby session name None offer offering slot first second third found a b away full c room h = cc
+planned_by lobby session name (Some accepting) offer None slot first second third found a b away full c room h = cc
+planned_by lobby session name (Some accepting) None (Some offering) slot first second third found a b away full c room h = cc
+planned_by lobby session name (Some accepting) (Some offer) (Some offering) None first second third found a b away full c room h = cc
+planned_by lobby session name (Some accepting) (Some offer) (Some offering) (Some slot) first second third found a b away full c room h =
     let is_offer = offer_of-is lobby session name offer second h.challenges in
     planned_where lobby session offer.from accepting offer.terms offering slot is_offer.1.terms first third
-    (λ same. is_offer.1.differ (same ∙ sym is_offer.0)) away full found h
+    (λ same. is_offer.1.differ (same ∙ sym is_offer.0)) away full found room h
 
 pub keeps_accept : (lobby : LobbyState) (session : ℕ) (name : Option (List ℕ)) → KeepsPlanned lobby (accept_effect lobby session name)
 keeps_accept lobby session name = record {
   planned = λ allowed h.
       planned_by lobby session name (member_of lobby session) (offer_of lobby session name) (offering_in lobby (offer_of lobby session name)) (free_slot lobby)
-      refl refl refl refl allowed.0 allowed.1.0 allowed.1.1.0 allowed.1.1.1.1.0 (or_parts _ _ allowed.1.1.1.1.1.1.1.0).0 h;
+      refl refl refl refl allowed.0 allowed.1.0 allowed.1.1.0 allowed.1.1.1.1.0 (or_parts _ _ allowed.1.1.1.1.1.1.1.0).0 allowed.1.1.1.1.1.1.1.1.0 h;
 }

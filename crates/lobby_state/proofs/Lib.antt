@@ -49,6 +49,7 @@ pub mod KeepsInUse
 pub mod Listing
 pub mod Copying
 pub mod KeepsActs
+pub mod DesksUsed
 pub mod Starts
 pub mod KeepsAccept
 pub mod KeepsPlay

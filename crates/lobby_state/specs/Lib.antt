@@ -39,6 +39,7 @@ pub mod Going
 pub mod Bye
 pub mod InUse
 pub mod Told
+pub mod ShelfRoom
 pub mod Starting
 pub mod Accept
 pub mod Play

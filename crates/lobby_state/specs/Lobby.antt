@@ -6,6 +6,7 @@ use Rattle.channel_feed.specs.declared.channels.Membership.{Membership}
 use Rattle.channel_feed.specs.Channels.{without_player}
 use Rattle.fics_words.specs.Handle.{key_of}
 use Rattle.fics_words.specs.declared.account.Account.{Account}
+use Rattle.game_shelf.specs.Shelf.{ShelfState, empty}
 use Rattle.login_handles.specs.Accounts.{account_of}
 use Rattle.partner_link.specs.Partners.{PartnerLists, partner_of, without}
 use Rattle.seek_match.specs.declared.seek.Seek.{Seek}
@@ -19,8 +20,9 @@ use Rattle.lobby_state.specs.Places.{PlaceList, no_places}
 
 -- the accounts in the order in which they were made; the members in the order in which they entered; the challenges in
 -- the order in which they were made; the seeks in the order of their numbers; who is in which channel, in the order of
--- joining; the requests and links of partners; for each desk from 1 on the game for which it is in use; and how many games
--- were started, which is the last serial
+-- joining; the requests and links of partners; the shelf with the adjourned games, the save orders and the requests to
+-- resume; for each desk from 1 on the game for which it is in use; and how many games were started, which is the last
+-- serial
 pub record LobbyState : Type 0 where
   pub accounts : List Account
   pub members : List Member
@@ -28,6 +30,7 @@ pub record LobbyState : Type 0 where
   pub seeks : List Seek
   pub channels : List Membership
   pub partners : PartnerLists
+  pub shelf : ShelfState
   pub games : List (Option Game)
   pub started : ℕ
 
@@ -52,6 +55,7 @@ opening = record {
   seeks = [];
   channels = [];
   partners = record { requests = []; links = [] };
+  shelf = empty;
   games = replicate desks None;
   started = 0;
 }

@@ -46,6 +46,7 @@ mod register;
 mod registration;
 mod said;
 mod seeks;
+mod shelf_room;
 mod shout;
 mod sim_next;
 mod sim_open;

@@ -8,6 +8,7 @@ use crate::member::{Member, Members, Named, OfSession, WithHandle};
 use channel_feed::Channels;
 use collections::{Listed, find};
 use fics_words::{HandleKey, Line, NoMemory};
+use game_shelf::GameShelf;
 use login_handles::Accounts;
 use partner_link::Partners;
 use seek_match::{MatchBook, SeekBook};
@@ -16,7 +17,7 @@ use std::alloc::Global;
 use std::marker::Model;
 
 /// Who is registered and who is in the hall, which challenges and seeks stand, who is in which channel, who are partners,
-/// and which desks are in use: the acts are carried out here, one file an act. That they leave it well-formed, `Lobby` knows.
+/// which adjourned games lie on the shelf, and which desks are in use: the acts are carried out here, one file an act. That they leave it well-formed, `Lobby` knows.
 #[derive(Drop)]
 pub(crate) struct Register {
     pub(crate) alloc: Global,
@@ -26,6 +27,7 @@ pub(crate) struct Register {
     pub(crate) seeks: SeekBook,
     pub(crate) channels: Channels,
     pub(crate) partners: Partners,
+    pub(crate) shelf: GameShelf,
     /// The game of each desk from 1 on, where it is in use.
     pub(crate) games: Listed<Option<Game>>,
     /// How many games were started, which is the last serial.
@@ -46,6 +48,7 @@ impl Model for Register {
       seeks = register.seeks;
       channels = register.channels;
       partners = register.partners;
+      shelf = register.shelf;
       games = register.games;
       started = register.started;
     } };
@@ -60,6 +63,7 @@ impl Register {
     {
         let members = Members::new(alloc)?;
         let games = no_games(alloc)?;
+        let shelf = GameShelf::new(alloc)?;
         Ok(Register {
             alloc,
             accounts: Accounts::new(alloc),
@@ -68,6 +72,7 @@ impl Register {
             seeks: SeekBook::new(alloc),
             channels: Channels::new(alloc),
             partners: Partners::new(alloc),
+            shelf,
             games,
             started: 0,
         })
