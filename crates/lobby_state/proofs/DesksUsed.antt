@@ -1,5 +1,5 @@
 -- How many desks are in use, once one of them is taken or freed.
-use Rattle.std.proofs.Common.{◌≡◌, ℕ, ◌+◌, ◌≤◌, zero, suc, Bool, cond, List, [], ◌∷◌, Option, None, Some, is_some, slice_get, sym, ap, ◌∙◌, arith}
+use Rattle.std.proofs.Common.{◌≡◌, ℕ, ◌+◌, ◌≤◌, zero, suc, cond, List, [], ◌∷◌, Option, None, Some, is_some, slice_get, ap, ◌∙◌, arith}
 use Rattle.std.proofs.Math.ListN.{set}
 use Rattle.std.proofs.lemmas.List.Sums.{sum_by-cons}
 use Rattle.lobby_state.specs.declared.game.Game.{Game}
