@@ -1,8 +1,8 @@
 -- A game between an offering and an accepting member can start, and in bughouse one of them and their partners.
 use Rattle.std.proofs.Common.{◌≡◌, ◌≢◌, ℕ, ◌+◌, ◌-◌, ◌<◌, zero, suc, Bool, true, false, ◌&&◌, ◌||◌, List, [], ◌∷◌, Option, None, Some, is_none, length, get_or, slice_get, refl, sym, ap, subst, ◌∙◌, inl, inr, arith}
-use Rattle.std.specs.Prelude.{All}
+use Rattle.std.specs.Prelude.{All, nat_le}
 use Rattle.std.specs.List.{AllPairs, find, position, position_or_len}
-use Rattle.std.proofs.lemmas.Bool.{cases_lt, eqb-true, eqb-false}
+use Rattle.std.proofs.lemmas.Bool.{cases_lt, eqb-true, eqb-false, leb-false}
 use Rattle.std.proofs.lemmas.Bool.Decides.{eqb_tells}
 use Rattle.std.proofs.lemmas.List.Elements.{All-nil, All-cons}
 use Rattle.std.proofs.lemmas.List.Folds.{find_at}
@@ -20,10 +20,12 @@ use Rattle.partner_link.proofs.Links.{partner_of-other, partner_of-partner_of}
 use Rattle.lobby_state.specs.declared.game.Game.{Game}
 use Rattle.lobby_state.specs.declared.member.Member.{Member}
 use Rattle.lobby_state.specs.Change.{holds}
-use Rattle.lobby_state.specs.Lobby.{LobbyState, free_slot, gives, is_session, member_of, partner_in}
+use Rattle.lobby_state.specs.Lobby.{LobbyState, free_slot, most_games, gives, is_session, member_of, partner_in}
 use Rattle.lobby_state.specs.Pairing.{are_partners, beside, lack_partner, member_at, needs_partners, paired}
 use Rattle.lobby_state.specs.Planned.{AreApart, FitsVariant, IsMember, IsPlanned, SitCrosswise}
 use Rattle.lobby_state.specs.Starting.{has_white, opponents_of, player_of, second_board, start_plan}
+use Rattle.lobby_state.specs.ShelfRoom.{is_shelf_full, places_taken}
+use Rattle.lobby_state.specs.Terms.{AreTerms}
 use Rattle.lobby_state.specs.WellFormed.{IsWellFormed}
 use Rattle.lobby_state.proofs.First.{position-within, find-found}
 use Rattle.lobby_state.proofs.Lists.{find-contained, find-passes, get_inside}
@@ -33,7 +35,7 @@ none_there None e = refl
 none_there (Some x) e = cc
 
 -- the slot that was found is free
-free-is : (games : List (Option Game)) (slot : ℕ) → position is_none games ≡ Some slot → slice_get games slot ≡ Some None
+pub free-is : (games : List (Option Game)) (slot : ℕ) → position is_none games ≡ Some slot → slice_get games slot ≡ Some None
 free-is games slot e =
     let item = get_inside games slot (position-within is_none games slot e) in
     let passes = find-passes is_none games item.0 (find-found is_none games slot e ∙ item.1) in
@@ -70,10 +72,10 @@ inside_some a b e = cc
 -- ---- members who are found and differ
 
 -- the member is the one of its session
-abbrev IsThere : LobbyState → Member → Type 0
+abbrev pub IsThere : LobbyState → Member → Type 0
 IsThere lobby member = member_of lobby member.session ≡ Some member
 
-found_there : (lobby : LobbyState) (session : ℕ) (member : Member) → member_of lobby session ≡ Some member → (member.session ≡ session) × IsThere lobby member
+pub found_there : (lobby : LobbyState) (session : ℕ) (member : Member) → member_of lobby session ≡ Some member → (member.session ≡ session) × IsThere lobby member
 found_there lobby session member found =
     let own : member.session ≡ session = eqb-true _ _ (find-passes (is_session session) lobby.members member found) in
     (own, subst (λ (s : ℕ). member_of lobby s ≡ Some member) (sym own) found)
@@ -82,14 +84,14 @@ member_there : (lobby : LobbyState) (member : Member) → IsThere lobby member �
 member_there lobby member there = find-contained (λ (m : Member). m.session) (is_session member.session) lobby.members member there
 
 -- two members are two players
-record Apart (one another : Member) : Type 0 where
-  sessions : one.session ≢ another.session
-  handles : key_of one.name ≢ key_of another.name
+pub record Apart (one another : Member) : Type 0 where
+  pub sessions : one.session ≢ another.session
+  pub handles : key_of one.name ≢ key_of another.name
 
 turned : (one another : Member) → Apart one another → Apart another one
 turned one another apart = record { sessions = λ e. apart.sessions (sym e); handles = λ e. apart.handles (sym e) }
 
-members_apart : (lobby : LobbyState) (one another : Member) → IsThere lobby one → IsThere lobby another → one.session ≢ another.session
+pub members_apart : (lobby : LobbyState) (one another : Member) → IsThere lobby one → IsThere lobby another → one.session ≢ another.session
     → IsWellFormed lobby → Apart one another
 members_apart lobby one another here there differ h = record {
   sessions = differ;
@@ -98,22 +100,22 @@ members_apart lobby one another here there differ h = record {
 
 -- ---- lists of two and of four
 
-pairs_of_two : {X : Type 0} (R : X → X → Type 0) (a b : X) → R a b → AllPairs R (a ∷ b ∷ [])
+pub pairs_of_two : {X : Type 0} (R : X → X → Type 0) (a b : X) → R a b → AllPairs R (a ∷ b ∷ [])
 pairs_of_two R a b ab zero zero d before inside = absurd (omega arith)
 pairs_of_two R a b ab zero (suc zero) d before inside = ab
 pairs_of_two R a b ab zero (suc (suc j)) d before inside = absurd (omega arith)
 pairs_of_two R a b ab (suc i) j d before inside = absurd (omega arith)
 
-pairs_of_four : {X : Type 0} (R : X → X → Type 0) (a b c d : X) → R a b → R a c → R a d → R b c → R b d → R c d → AllPairs R (a ∷ b ∷ c ∷ d ∷ [])
+pub pairs_of_four : {X : Type 0} (R : X → X → Type 0) (a b c d : X) → R a b → R a c → R a d → R b c → R b d → R c d → AllPairs R (a ∷ b ∷ c ∷ d ∷ [])
 pairs_of_four R a b c d ab ac ad bc bd cd =
     AllPairs-cons R a (b ∷ c ∷ d ∷ [])
     (All-cons (R a) b (c ∷ d ∷ []) ab (All-cons (R a) c (d ∷ []) ac (All-cons (R a) d [] ad (All-nil (R a)))))
     (AllPairs-cons R b (c ∷ d ∷ []) (All-cons (R b) c (d ∷ []) bc (All-cons (R b) d [] bd (All-nil (R b)))) (pairs_of_two R c d cd))
 
-all_of_two : {X : Type 0} (P : X → Type 0) (a b : X) → P a → P b → All P (a ∷ b ∷ [])
+pub all_of_two : {X : Type 0} (P : X → Type 0) (a b : X) → P a → P b → All P (a ∷ b ∷ [])
 all_of_two P a b ha hb = All-cons P a (b ∷ []) ha (All-cons P b [] hb (All-nil P))
 
-all_of_four : {X : Type 0} (P : X → Type 0) (a b c d : X) → P a → P b → P c → P d → All P (a ∷ b ∷ c ∷ d ∷ [])
+pub all_of_four : {X : Type 0} (P : X → Type 0) (a b c d : X) → P a → P b → P c → P d → All P (a ∷ b ∷ c ∷ d ∷ [])
 all_of_four P a b c d ha hb hc hd = All-cons P a (b ∷ c ∷ d ∷ []) ha (All-cons P b (c ∷ d ∷ []) hb (all_of_two P c d hc hd))
 
 -- ---- the seats of two and of four members
@@ -316,11 +318,11 @@ seats_fit lobby Bughouse white offering accepting (Some first) (Some second) one
 
 -- the plan of a game where the two and a free desk are there, and partners where they are needed
 pub planned_where : (lobby : LobbyState) (session from : ℕ) (accepting : Member) (terms : Terms) (offering : Member) (slot : ℕ)
-    → member_of lobby session ≡ Some accepting → member_of lobby from ≡ Some offering → from ≢ session
+    → AreTerms terms → member_of lobby session ≡ Some accepting → member_of lobby from ≡ Some offering → from ≢ session
     → are_partners lobby (paired offering accepting terms) ≡ false → lack_partner lobby (paired offering accepting terms) ≡ false
-    → free_slot lobby ≡ Some slot → IsWellFormed lobby
+    → free_slot lobby ≡ Some slot → nat_le most_games lobby.started ≡ false → is_shelf_full lobby ≡ false → IsWellFormed lobby
     → IsPlanned lobby (start_plan lobby (Some (paired offering accepting terms)) (Some slot))
-planned_where lobby session from accepting terms offering slot first third differ away full found h =
+planned_where lobby session from accepting terms offering slot bounds first third differ away full found few room h =
     let own = found_there lobby session accepting first in
     let theirs = found_there lobby from offering third in
     let opposed : offering.session ≢ accepting.session = λ same. differ (sym theirs.0 ∙ same ∙ own.0) in
@@ -334,6 +336,9 @@ planned_where lobby session from accepting terms offering slot first third diffe
       is_desk = (omega arith, omega (arith, long));
       is_free = ap (slice_get lobby.games) back ∙ free-is lobby.games slot found;
       is_next = refl;
+      few = leb-false most_games lobby.started few;
+      room = leb-false 10000 (places_taken lobby) room;
+      are_terms = bounds;
       members = fit.members;
       apart = fit.apart;
       boards = fit.boards;

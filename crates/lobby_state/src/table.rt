@@ -1,23 +1,29 @@
 //! Which act is carried out by which function.
-ghost use Rattle.std.specs.Prelude.{◌≡◌, ◌<◌, IfOk, IfSome, IsOk, length};
+ghost use Rattle.std.specs.Prelude.{◌≡◌, ◌+◌, ◌<◌, ◌^◌, IfOk, IfSome, IsOk, length};
 ghost use Rattle.fics_words.specs.Effect.{Takes};
 ghost use Rattle.lobby_state.specs.Acts.{FitsLobby, LobbyNeedsNoMemory, lobby_effect};
 ghost use Rattle.lobby_state.specs.Desks.{IsDesk};
 ghost use Rattle.lobby_state.specs.Told.{lists_told};
-ghost use Rattle.lobby_state.specs.Plans.{committed, desk_of, plan_of};
+ghost use Rattle.lobby_state.specs.Planned.{IsPlanned};
+ghost use Rattle.lobby_state.specs.Plans.{committed, plan_of};
+ghost use Rattle.lobby_state.specs.Reserve.{IsReady, shelved_in};
+ghost use Rattle.lobby_state.specs.WellFormed.{IsWellFormed};
 
 use crate::acts::{LobbyAct, LobbyReply, PairAct, Plan};
 use crate::desk_in_use::DeskInUse;
 use crate::register::Register;
+use crate::reserve::Ready;
 use crate::told::ReplyLists;
 use collections::Listed;
 use fics_words::{Fail, Line, NoMemory, Refusal};
+use game_shelf::Order;
 
 impl Register {
     /// Carries out an act that needs the lobby alone.
     pub(crate) fn act(&mut self, session: u32, act: &LobbyAct) -> Result<LobbyReply, Fail>
         requires fits { FitsLobby act.now }
         requires numbers { length self.old.seeks < 65535 }
+        requires count { self.old.shelf.made + 1 < 2 ^ 64 }
         ensures { Takes (lobby_effect self.old session act.now) self.old self.new result }
     {
         match act {
@@ -52,6 +58,9 @@ impl Register {
             LobbyAct::Going => Ok(self.going(session)),
             LobbyAct::Bye => Ok(self.bye(session)),
             LobbyAct::InUse => self.in_use(),
+            LobbyAct::Stored => self.stored(session),
+            LobbyAct::Orders => self.orders(),
+            LobbyAct::Saved { upto } => Ok(self.saved(*upto)),
         }
     }
 
@@ -62,7 +71,12 @@ impl Register {
     {
         let lines = self.lines_ahead(session, act)?;
         let desks = self.desks_ahead(session, act)?;
-        Ok(ReplyLists { lines, desks })
+        let orders = self.orders_ahead(session, act)?;
+        Ok(ReplyLists {
+            lines,
+            desks,
+            orders,
+        })
     }
 
     /// A copy of the lines that an act will answer.
@@ -78,6 +92,7 @@ impl Register {
             LobbyAct::Pending => self.pending_lines(session),
             LobbyAct::Games => self.games_lines(),
             LobbyAct::InChannel { channel } => self.in_channel_lines(*channel),
+            LobbyAct::Stored => self.stored_lines(session),
             _ => Ok(Listed::new(self.alloc)),
         }
     }
@@ -94,6 +109,18 @@ impl Register {
         }
     }
 
+    /// A copy of the save orders that an act will answer.
+    fn orders_ahead(&self, session: u32, act: &LobbyAct) -> Result<Listed<Order>, NoMemory>
+        ensures orders { IfOk result (λ orders.
+            orders ≡ (lists_told (lobby_effect self.now session act.now).reply).orders) }
+        ensures sure { LobbyNeedsNoMemory act.now → IsOk result }
+    {
+        match act {
+            LobbyAct::Orders => self.orders_copy(),
+            _ => Ok(Listed::new(self.alloc)),
+        }
+    }
+
     /// What an act that needs the lobby and a desk is to do, by the lobby alone.
     pub(crate) fn plan(&self, session: u32, act: &PairAct) -> Result<Plan, Refusal>
         ensures { result ≡ plan_of self.now session act.now }
@@ -101,6 +128,7 @@ impl Register {
         match act {
             PairAct::Accept(name) => self.accept_plan(session, *name),
             PairAct::Play(number) => self.play_plan(session, *number),
+            PairAct::Resume(name) => self.resume_plan(session, *name),
             PairAct::Clear { desk, serial } => Ok(Plan::Clear {
                 by: session,
                 desk: *desk,
@@ -110,9 +138,11 @@ impl Register {
     }
 
     /// Carries out the lobby's share of a plan. `cleared` says of a Clear whether the desk is vacant from now on.
-    pub(crate) fn commit(&mut self, plan: &Plan, cleared: bool)
-        requires { IfSome (desk_of plan.now) IsDesk }
-        ensures { self.new ≡ committed self.old plan.now cleared }
+    pub(crate) fn commit(&mut self, plan: &Plan, ready: Ready, cleared: bool)
+        requires formed { IsWellFormed self.old }
+        requires planned { IsPlanned self.old plan.now }
+        requires ready { IsReady self.old plan.now ready }
+        ensures { self.new ≡ committed self.old plan.now (shelved_in ready) cleared }
     {
         match plan {
             Plan::Start {
@@ -123,11 +153,22 @@ impl Register {
             } => self.start(*desk, *serial, *terms, seats),
             Plan::Clear { by, desk, .. } => {
                 if cleared {
-                    self.clear(*desk);
+                    self.put_away(*desk, ready);
                 } else {
                     self.free(*by, *desk);
                 }
             }
+            Plan::Resume {
+                desk,
+                serial,
+                number,
+                terms,
+                seats,
+            } => {
+                self.take_off(*number, ready);
+                self.start(*desk, *serial, *terms, seats);
+            }
+            Plan::Ask { from, to, number } => self.ask(*from, *to, *number, ready),
         }
     }
 }

@@ -1,7 +1,8 @@
 //! Steps of a lobby, each with its expected answer.
 
 ghost use Rattle.std.specs.Prelude.{IsTrue};
-ghost use Rattle.lobby_state.specs.Acts.{AreTerms, FitsLobby};
+ghost use Rattle.lobby_state.specs.Acts.{FitsLobby};
+ghost use Rattle.lobby_state.specs.Terms.{AreTerms};
 
 use chess_model::{Colour, Terms, Variant};
 use fics_words::{Fail, Handle, HandleKey, Line, NoMemory, Refusal};
@@ -243,7 +244,10 @@ pub fn carried_out(lobby: &mut Lobby, session: u32, act: &PairAct, cleared: bool
     let Ok(plan) = lobby.plan(session, act) else {
         return None;
     };
-    lobby.commit(&plan, cleared);
+    let Ok(ready) = lobby.reserve(&plan, None) else {
+        return None;
+    };
+    lobby.commit(&plan, ready, cleared);
     Some(plan)
 }
 
