@@ -2,8 +2,10 @@ pub mod First
 pub mod Words
 pub mod Lists
 pub mod SeekRows
+pub mod ChallengeRows
 pub mod PartnerRows
 pub mod Causes
+pub mod ShelfRows
 pub mod WellFormed
 pub mod KeepsEnter
 pub mod KeepsRegistration
@@ -45,9 +47,13 @@ pub mod KeepsGoing
 pub mod KeepsBye
 pub mod RowsInUse
 pub mod KeepsInUse
+pub mod KeepsStored
+pub mod KeepsOrders
+pub mod KeepsSaved
 pub mod Listing
 pub mod Copying
 pub mod KeepsActs
+pub mod DesksUsed
 pub mod Starts
 pub mod KeepsAccept
 pub mod KeepsPlay

@@ -1,11 +1,9 @@
 -- All lobby acts in one table: what each does, by the lobby before, the session and the act. This server's own.
 use Rattle.std.specs.Prelude.{ℕ, ◌≤◌, length, Result}
-use Rattle.chess_model.specs.VariantWord.{IsNumbered}
-use Rattle.chess_model.specs.declared.variant.Terms.{Terms}
 use Rattle.fics_words.specs.declared.refusal.Refusal.{Refusal}
 use Rattle.fics_words.specs.Effect.{Effect, answer_of, state_of}
 use Rattle.lobby_state.specs.declared.acts.LobbyAct.{LobbyAct}
-use Rattle.lobby_state.specs.declared.acts.LobbyAct.TheVariants.{Enter, Register, Match, Unpost, Sought, Who, Where, Fetch, Going, Bye, InUse, Var, Tell, Shout, Decline, Withdraw, Post, Channel, TellChannel, InChannel, Partner, Ptell, List, Pending, Games, Find, FindGame, SimOpen, SimNext, SimPrev, GoBoard}
+use Rattle.lobby_state.specs.declared.acts.LobbyAct.TheVariants.{Enter, Register, Match, Unpost, Sought, Who, Where, Fetch, Going, Bye, InUse, Var, Tell, Shout, Decline, Withdraw, Post, Channel, TellChannel, InChannel, Partner, Ptell, List, Pending, Games, Find, FindGame, SimOpen, SimNext, SimPrev, GoBoard, Stored, Orders, Saved}
 use Rattle.lobby_state.specs.declared.acts.LobbyReply.{LobbyReply}
 use Rattle.lobby_state.specs.Bye.{bye_effect}
 use Rattle.lobby_state.specs.Channel.{channel_effect}
@@ -23,7 +21,10 @@ use Rattle.lobby_state.specs.InUse.{in_use_effect}
 use Rattle.lobby_state.specs.Lobby.{LobbyState}
 use Rattle.lobby_state.specs.Match.{match_effect}
 use Rattle.lobby_state.specs.NameList.{list_effect}
+use Rattle.lobby_state.specs.Orders.{orders_effect}
 use Rattle.lobby_state.specs.Pending.{pending_effect}
+use Rattle.lobby_state.specs.Saved.{saved_effect}
+use Rattle.lobby_state.specs.Stored.{stored_effect}
 use Rattle.lobby_state.specs.Post.{post_effect}
 use Rattle.lobby_state.specs.Registration.{registration_effect}
 use Rattle.lobby_state.specs.SimNext.{sim_next_effect}
@@ -35,6 +36,7 @@ use Rattle.lobby_state.specs.Where.{where_effect}
 use Rattle.lobby_state.specs.Who.{who_effect}
 use Rattle.lobby_state.specs.Shout.{shout_effect}
 use Rattle.lobby_state.specs.Tell.{tell_effect}
+use Rattle.lobby_state.specs.Terms.{AreTerms}
 use Rattle.lobby_state.specs.Var.{var_effect}
 use Rattle.lobby_state.specs.Withdraw.{withdraw_effect}
 use Rattle.lobby_state.specs.Partner.{partner_effect}
@@ -73,6 +75,9 @@ lobby_effect lobby session Fetch = fetch_effect lobby session
 lobby_effect lobby session Going = going_effect lobby session
 lobby_effect lobby session Bye = bye_effect lobby session
 lobby_effect lobby session InUse = in_use_effect lobby
+lobby_effect lobby session Stored = stored_effect lobby session
+lobby_effect lobby session Orders = orders_effect lobby
+lobby_effect lobby session (Saved upto) = saved_effect lobby upto
 
 -- the answer to a lobby act
 abbrev pub lobby_answer : LobbyState → ℕ → LobbyAct → Result LobbyReply Refusal
@@ -81,12 +86,6 @@ lobby_answer lobby session act = answer_of (lobby_effect lobby session act)
 -- the lobby after a lobby act
 abbrev pub lobby_after : LobbyState → ℕ → LobbyAct → LobbyState
 lobby_after lobby session act = state_of lobby (lobby_effect lobby session act)
-
--- at most ten hours at the start, at most ten minutes for a half-move, and an array of Fischer random that there is
-pub record AreTerms (terms : Terms) : Type 0 where
-  pub minutes : terms.minutes ≤ 600
-  pub increment : terms.increment ≤ 600
-  pub numbered : IsNumbered terms.variant
 
 -- the conditions on the numbers of an act, and a text that a member says to others has at most 800 bytes
 abbrev pub FitsLobby : LobbyAct → Type 0

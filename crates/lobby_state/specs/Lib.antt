@@ -4,6 +4,7 @@ pub mod Places
 pub mod Lobby
 pub mod Enter
 pub mod Registration
+pub mod Terms
 pub mod TermsText
 pub mod NameList
 pub mod Pairing
@@ -37,7 +38,11 @@ pub mod GoBoard
 pub mod Going
 pub mod Bye
 pub mod InUse
+pub mod Stored
+pub mod Orders
+pub mod Saved
 pub mod Told
+pub mod ShelfRoom
 pub mod Starting
 pub mod Accept
 pub mod Play

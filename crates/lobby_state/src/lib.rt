@@ -1,5 +1,6 @@
-//! The lobby: who is registered and who is in the hall, which challenges stand, who are partners, and which desks are in
-//! use for which game.
+//! The lobby: who is registered and who is in the hall, which seeks and challenges stand, who is in which channel, who are
+//! partners, which adjourned games lie on the shelf, and which desks are in use for which game. The lists of each kind are
+//! kept by crates of their own; here stands what the acts of members do to them all.
 //!
 //! The contract: what an act does, by the lobby before, the session and the act, stands in one record of its own file
 //! in `specs/`: why it is refused, what it replies, and what stands afterwards. A refusal and running out of memory
@@ -14,7 +15,7 @@ mod accept;
 mod acts;
 mod broadcast;
 mod bye;
-mod challenge;
+mod challenges;
 mod channel;
 mod clear;
 mod decline;
@@ -29,11 +30,13 @@ mod go_board;
 mod going;
 mod in_channel;
 mod in_use;
+mod inbox;
 mod laws;
 mod lobby;
 mod matching;
 mod member;
 mod name_list;
+mod orders;
 mod own_places;
 mod pairing;
 mod partner;
@@ -44,7 +47,9 @@ mod ptell;
 mod register;
 mod registration;
 mod said;
+mod saved;
 mod seeks;
+mod shelf_room;
 mod shout;
 mod sim_next;
 mod sim_open;
@@ -52,6 +57,7 @@ mod sim_prev;
 mod sought;
 mod start;
 mod starting;
+mod stored;
 mod table;
 mod tell;
 mod tell_channel;
@@ -65,9 +71,9 @@ mod who;
 mod withdraw;
 
 pub use acts::{LobbyAct, LobbyReply, PairAct, Plan};
-pub use challenge::Challenge;
 pub use desk_in_use::DeskInUse;
 pub use game::{DESKS, Game};
+pub use inbox::Inbox;
 pub use laws::{
     acts_keep, games_lists_what_is_found, guests_have_the_least_name, in_use_tells_the_desks,
     lists_keep_away, lobbies_are_well_formed, plans_keep, starts_settle_offers,
