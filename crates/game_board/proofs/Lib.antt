@@ -1,9 +1,11 @@
 pub mod Acknowledged
+pub mod AtStart
 pub mod Charged
 pub mod Fallen
 pub mod Grown
 pub mod LastPlayed
 pub mod Legal
+pub mod ScorePut
 pub mod ScoreTakenBack
 pub mod Scoresheet
 pub mod Sides

@@ -10,6 +10,7 @@ pub mod Holds
 pub mod Learn
 pub mod Play
 pub mod Put
+pub mod Rewind
 pub mod Scoresheet
 pub mod Steps
 pub mod TakeBack

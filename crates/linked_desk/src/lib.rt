@@ -5,12 +5,14 @@
 //! (`specs/Acts.antt`), which says by the old desk, the session, the moment, the serial and the act alone why the act
 //! is refused, what it replies and what stands afterwards. A refusal changes nothing, and a player can always leave,
 //! since leaving takes no memory.
+//!
+//! A game that was adjourned is kept as `shelve` gives it, which always replays, and goes on at a desk by `restore`,
+//! which plays it again: boards, hands and clocks are as they were (`specs/ShelfLaws.antt`).
 #![tactic(auto)]
 
 mod accept_offer;
 mod acked;
 mod acts;
-mod boards;
 mod decline_offer;
 mod desk;
 mod ended;
@@ -22,16 +24,19 @@ mod game;
 mod hands;
 mod laws;
 mod leave;
-mod linked;
 mod make;
+mod occasion;
 mod offer_laws;
 mod offering;
 mod playing;
 mod present;
 mod remark;
 mod resign;
+mod restore;
 mod seating;
 mod seats;
+mod shelf_laws;
+mod shelve;
 mod show;
 mod sight;
 mod tally;
@@ -49,5 +54,6 @@ pub use observer_feed::Cursor;
 pub use offer_book::Offer;
 pub use offer_laws::half_moves_clear_offers;
 pub use seats::colour_at;
+pub use shelf_laws::{resuming_restores, shelved_games_replay};
 pub use sight::viewer_of;
 pub use style12_writer::{BoardView, Item, ItemList};

@@ -15,11 +15,15 @@ mod clocks;
 #[cfg(test)]
 mod counted;
 #[cfg(test)]
+mod laid;
+#[cfg(test)]
 mod played;
 #[cfg(test)]
 mod playing;
 #[cfg(test)]
 mod puts;
+#[cfg(test)]
+mod resumed;
 #[cfg(test)]
 mod stamped;
 #[cfg(test)]

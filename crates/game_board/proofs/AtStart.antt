@@ -1,0 +1,104 @@
+-- A board without half-moves keeps what every board keeps.
+use Rattle.std.proofs.Common.{◌≡◌, ℕ, ◌≤◌, ◌^◌, List, [], None, refl, sym, subst, arith}
+use Rattle.chess_model.specs.declared.man.Colour.TheVariants.{White, Black}
+use Rattle.chess_model.specs.declared.variant.Terms.{Terms}
+use Rattle.chess_model.specs.Position.{Position, Stands}
+use Rattle.clock_ledger.specs.Clock.{Ledger}
+use Rattle.game_board.specs.declared.game_board.GameBoard.TheInside.{Inside}
+use Rattle.game_board.specs.declared.played.Made.{Made}
+use Rattle.game_board.specs.declared.played.Played.{Played}
+use Rattle.game_board.specs.declared.played.Step.{Step}
+use Rattle.game_board.specs.Charges.{clock_of}
+use Rattle.game_board.specs.Holds.{HoldsBoard}
+use Rattle.game_board.proofs.Legal.{IsLegal-empty}
+use Rattle.game_board.proofs.Steps.{AreSteps-empty}
+
+-- the fields of a board without half-moves
+abbrev empty_board : ℕ → Terms → Position → ℕ → Inside
+empty_board number terms position begin = record {
+  number = number;
+  terms = terms;
+  position = position;
+  list = [];
+  steps = [];
+  white = clock_of terms White [];
+  black = clock_of terms Black [];
+  begin = begin;
+  kept = None;
+  played = 0;
+  resumed = 0;
+  all = [];
+}
+
+HoldsBoard-empty : (number : ℕ) (terms : Terms) (position : Position) (begin : ℕ) → 1 ≤ number → number ≤ 2 → position.variant ≡ terms.variant → Stands position [] number →
+    begin ≤ 2 ^ 48 → HoldsBoard (empty_board number terms position begin)
+HoldsBoard-empty number terms position begin first second variant stands moment = record {
+  stands = stands;
+  first = first;
+  second = second;
+  variant = variant;
+  legal = IsLegal-empty terms.variant;
+  own = refl;
+  alone = λ h. refl;
+  others = omega arith;
+  white = refl;
+  black = refl;
+  sound = λ k d h. absurd (omega arith);
+  kept = tt;
+  each = refl;
+  shown = refl;
+  steps = λ h. AreSteps-empty terms.variant number;
+  counted = omega arith;
+  most = omega arith;
+  resumed = omega arith;
+  moment = moment;
+}
+
+pub HoldsBoard-at_start : (number : ℕ) (terms : Terms) (position : Position) (list : List Played) (steps : List Step) (white black : Ledger) (begin : ℕ) (all : List Made) →
+    1 ≤ number → number ≤ 2 → position.variant ≡ terms.variant → Stands position [] number → list ≡ [] → steps ≡ [] → white ≡ clock_of terms White [] → black ≡ clock_of terms Black [] →
+    begin ≤ 2 ^ 48 → all ≡ [] →
+    HoldsBoard (record {
+      number = number;
+      terms = terms;
+      position = position;
+      list = list;
+      steps = steps;
+      white = white;
+      black = black;
+      begin = begin;
+      kept = None;
+      played = 0;
+      resumed = 0;
+      all = all;
+    })
+HoldsBoard-at_start number terms position list steps white black begin all first second variant stands l s w b moment a =
+    let same : empty_board number terms position begin
+    ≡ record {
+      number = number;
+      terms = terms;
+      position = position;
+      list = list;
+      steps = steps;
+      white = white;
+      black = black;
+      begin = begin;
+      kept = None;
+      played = 0;
+      resumed = 0;
+      all = all;
+    } =
+    λ i. record {
+      number = number;
+      terms = terms;
+      position = position;
+      list = sym l i;
+      steps = sym s i;
+      white = sym w i;
+      black = sym b i;
+      begin = begin;
+      kept = None;
+      played = 0;
+      resumed = 0;
+      all = sym a i;
+    } in
+    subst HoldsBoard same (HoldsBoard-empty number terms position begin first second variant stands moment)
