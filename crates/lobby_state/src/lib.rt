@@ -46,6 +46,10 @@ mod post;
 mod ptell;
 mod register;
 mod registration;
+mod reserve;
+mod resume;
+mod resumed;
+
 mod said;
 mod saved;
 mod seeks;
@@ -80,6 +84,7 @@ pub use laws::{
     waiting_lines_are_given_in_order, who_lists_each_member_once,
 };
 pub use lobby::Lobby;
+pub use reserve::Ready;
 pub use member::Member;
 pub use name_list::WhichList;
 pub use said::said_line;
