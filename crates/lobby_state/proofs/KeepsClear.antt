@@ -129,7 +129,7 @@ same_number one another e = cc
 own_by : (lobby : LobbyState) (session desk serial : ℕ) (game : Option StoredGame) (is_cleared : Bool) (number : ℕ) (before : Option Game) → desk ≡ number
     → slice_get lobby.games (number - 1) ≡ Some before
     → slice_get (committed lobby (Clear session desk serial) game is_cleared).games (number - 1)
-        ≡ Some (game_after (Clear session desk serial) is_cleared before)
+    ≡ Some (game_after (Clear session desk serial) is_cleared before)
 own_by lobby session desk serial game true number before same there =
     ap (λ games. slice_get games (number - 1)) (games-put_away lobby desk game)
     ∙ subst (λ (n : ℕ). slice_get (set lobby.games (n - 1) None) (number - 1) ≡ Some None) (sym same)

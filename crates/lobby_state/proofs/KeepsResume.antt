@@ -1,7 +1,7 @@
 -- What a Resume keeps: its plan can be carried out.
-use Rattle.std.proofs.Common.{◌≡◌, ◌≢◌, ◌⊎◌, ℕ, ◌+◌, ◌-◌, ◌<◌, ◌≤◌, zero, suc, Bool, true, false, ◌&&◌, ◌||◌, cond, List, [], ◌∷◌, Option, None, Some, is_none, bytes_eq, length, map, get_or, slice_get, refl, sym, ap, subst, ◌∙◌, inl, inr, arith}
-use Rattle.std.specs.Prelude.{All, Contains, ◌==◌, nat_le}
-use Rattle.std.specs.List.{AllByRecursion, AllPairs, IsDistinct, find, list_all, list_any}
+use Rattle.std.proofs.Common.{◌≡◌, ◌≢◌, ◌⊎◌, ℕ, ◌+◌, ◌-◌, ◌<◌, zero, suc, Bool, true, false, ◌&&◌, ◌||◌, cond, List, [], ◌∷◌, Option, None, Some, is_none, bytes_eq, length, map, get_or, slice_get, refl, sym, ap, subst, ◌∙◌, inl, inr, arith}
+use Rattle.std.specs.Prelude.{All, Contains, nat_le}
+use Rattle.std.specs.List.{AllPairs, IsDistinct, find, list_all, list_any}
 use Rattle.std.proofs.lemmas.Bool.{eq-eqb, ne_eqb, eqb-true, eqb-false, leb-false, or_parts}
 use Rattle.std.proofs.lemmas.List.{map-id}
 use Rattle.std.proofs.lemmas.Slice.Eq.{bytes_eq-Decides}
@@ -15,24 +15,23 @@ use Rattle.fics_words.specs.declared.account.Account.{Account}
 use Rattle.fics_words.specs.declared.player.Player.{Player}
 use Rattle.game_records.specs.Bounds.{seats}
 use Rattle.game_records.specs.Replays.{AreFour, Replays}
-use Rattle.game_records.specs.declared.stored_game.StoredGame.{StoredGame}
-use Rattle.game_shelf.specs.Numbers.{RiseAbove, game_in, has_number, is_used, stored_game}
-use Rattle.game_shelf.specs.Players.{has_player, is_of_both, least_of}
+use Rattle.game_shelf.specs.Numbers.{RiseAbove, game_in, has_number, stored_game}
+use Rattle.game_shelf.specs.Players.{is_of_both, least_of}
 use Rattle.game_shelf.specs.Shelf.{asks}
 use Rattle.game_shelf.specs.declared.shelved.Shelved.{Shelved}
 use Rattle.game_shelf.proofs.Rising.{rises_at}
 use Rattle.lobby_state.specs.declared.member.Member.{Member}
 use Rattle.lobby_state.specs.Change.{holds}
 use Rattle.lobby_state.specs.Keeps.{KeepsPlanned}
-use Rattle.lobby_state.specs.Lobby.{LobbyState, free_slot, has_handle, holder_of, is_named, is_session, member_of, most_games, named}
+use Rattle.lobby_state.specs.Lobby.{LobbyState, free_slot, has_handle, is_named, is_session, member_of, most_games, named}
 use Rattle.lobby_state.specs.Pairing.{needs_partners}
-use Rattle.lobby_state.specs.Planned.{AreApart, CanAsk, CanResume, FitsVariant, IsMember, IsPlanned}
-use Rattle.lobby_state.specs.Resume.{Resuming, as_they_sat, asking, going_on, has_asked_for, meant, playing_as, resume_at, resume_effect, resuming, resuming_causes, resuming_of, resuming_plan, seated_as, would_start}
+use Rattle.lobby_state.specs.Planned.{AreApart, CanAsk, FitsVariant, IsMember, IsPlanned}
+use Rattle.lobby_state.specs.Resume.{Resuming, as_they_sat, asking, going_on, has_asked_for, meant, playing_as, resume_at, resume_effect, resuming_causes, resuming_of, resuming_plan, seated_as, would_start}
 use Rattle.lobby_state.specs.WellFormed.{IsWellFormed, sessions_of}
 use Rattle.lobby_state.proofs.First.{position-within}
 use Rattle.lobby_state.proofs.KeepsResumed.{used-stored}
 use Rattle.lobby_state.proofs.Lists.{find-contained, find-passes, find-step}
-use Rattle.lobby_state.proofs.Starts.{Apart, all_of_four, all_of_two, free-is, found_there, members_apart, pairs_of_four, pairs_of_two}
+use Rattle.lobby_state.proofs.Starts.{all_of_four, all_of_two, free-is, pairs_of_four, pairs_of_two}
 use Rattle.lobby_state.proofs.WellFormed.{find-has}
 
 same_key : (one other : List ℕ) → bytes_eq one other ≡ true → one ≡ other
@@ -54,7 +53,7 @@ stored_at low (first ∷ games) row zero rise inside e =
 stored_at low (first ∷ games) row (suc k) rise inside e =
     let above = rises_at first.number games k row rise.2 (omega arith) in
     ap (λ t. game_in (cond t (Some first) (find (has_number row.number) games)))
-        (ne_eqb first.number row.number (lesser first.number _ row.number above (ap (λ (r : Shelved). r.number) e)))
+    (ne_eqb first.number row.number (lesser first.number _ row.number above (ap (λ (r : Shelved). r.number) e)))
     ∙ stored_at first.number games row k rise.2 (omega arith) e
 
 contained_stored : (low : ℕ) (games : List Shelved) (row : Shelved) → RiseAbove low games → Contains games row → stored_game games row.number ≡ Some row.game
@@ -114,7 +113,7 @@ here_by lobby session caller number name first h =
       | inl own ↦
           let same = same_key (key_of name) (key_of caller.name) own in
           let found = some_found (is_session session) (has_handle (key_of name)) lobby.members caller first
-              (subst (λ (key : List ℕ). bytes_eq (key_of caller.name) key ≡ true) (sym same) (own_key (key_of caller.name))) in
+          (subst (λ (key : List ℕ). bytes_eq (key_of caller.name) key ≡ true) (sym same) (own_key (key_of caller.name))) in
           record { member = found.0; found = found.1 }
       | inr asked ↦ named_here lobby number name (playing_as lobby name) refl asked
     ]
@@ -157,7 +156,7 @@ seats_apart : (lobby : LobbyState) (one other : List ℕ) → IsHere lobby one �
 seats_apart lobby one other here there differ h = λ same.
     let members : here.member ≡ there.member =
     one_member (λ m. m.session) lobby.members (has_handle (key_of one)) (has_handle (key_of other)) here.member there.member here.found there.found h.sessions
-        (sym (seat_session lobby one here) ∙ same ∙ seat_session lobby other there) in
+    (sym (seat_session lobby one here) ∙ same ∙ seat_session lobby other there) in
     let first = same_key (key_of here.member.name) (key_of one) (find-passes (has_handle (key_of one)) lobby.members here.member here.found) in
     let second = same_key (key_of there.member.name) (key_of other) (find-passes (has_handle (key_of other)) lobby.members there.member there.found) in
     differ (sym first ∙ ap (λ (m : Member). key_of m.name) members ∙ second)
@@ -331,7 +330,7 @@ can_resume lobby session key r slot are starts found few h =
     let both = both_pass _ _ (find-passes (is_of_both (key_of r.caller.name) key) lobby.shelf.games r.row are.row) in
     let here = all_here lobby session r.caller r.row.number game.names are.caller starts in
     let fit = fit_by lobby game.terms.variant game.names (key_of r.caller.name) key replays.spelled.players replays.players
-        (keys_differ lobby session key r are h) both.0 both.1 here h in
+    (keys_differ lobby session key r are h) both.0 both.1 here h in
     let within : slot < length lobby.games = position-within is_none lobby.games slot found in
     let back : slot + 1 - 1 ≡ slot = omega arith in
     let long = h.games in

@@ -1,5 +1,5 @@
 -- What the plans of a Resume keep.
-use Rattle.std.proofs.Common.{◌≡◌, ◌≢◌, ℕ, ◌+◌, ◌-◌, ◌<◌, ◌≤◌, zero, suc, Bool, true, false, not, cond, eqb, List, [], ◌∷◌, ◌++◌, Option, None, Some, length, filter, slice_get, refl, sym, ap, subst, ◌∙◌, arith}
+use Rattle.std.proofs.Common.{◌≡◌, ℕ, ◌+◌, ◌-◌, ◌≤◌, zero, suc, Bool, true, false, not, cond, eqb, List, [], ◌∷◌, None, Some, length, refl, sym, ap, ◌∙◌, arith}
 use Rattle.std.specs.Prelude.{All, Contains, ◌||◌}
 use Rattle.std.specs.List.{find}
 use Rattle.std.proofs.lemmas.List.Elements.{All-filter, All-push}
@@ -132,8 +132,8 @@ pub lines-put : (line : List ℕ) (lines : List (List ℕ)) (p : Member → Bool
 lines-put line lines p [] e = refl
 lines-put line lines p (member ∷ members) e =
     elim (p member) as (λ b. lines ≡ with_one_more line (lines_in (cond b (Some member) (find p members)))
-        → cond b (with_lines lines member ∷ members) (member ∷ change_first p (with_lines lines) members)
-            ≡ cond b (with_line line member ∷ members) (member ∷ change_first p (with_line line) members)) [
+    → cond b (with_lines lines member ∷ members) (member ∷ change_first p (with_lines lines) members)
+    ≡ cond b (with_line line member ∷ members) (member ∷ change_first p (with_line line) members)) [
       | true ↦ λ own. ap (λ ls. with_lines ls member ∷ members) own
       | false ↦ λ later. ap (λ ms. member ∷ ms) (lines-put line lines p members later)
     ] e

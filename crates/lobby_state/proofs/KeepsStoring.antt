@@ -1,5 +1,5 @@
 -- What the loading of a stored game keeps.
-use Rattle.std.proofs.Common.{◌≡◌, ℕ, ◌+◌, ◌^◌, ◌<◌, false, Result, Ok, Err, length, sym, subst, arith}
+use Rattle.std.proofs.Common.{◌≡◌, ℕ, ◌^◌, ◌<◌, false, Result, Ok, Err, sym, subst, arith}
 use Rattle.std.proofs.lemmas.Bool.{leb-false}
 use Rattle.fics_words.specs.Effect.{Takes}
 use Rattle.fics_words.specs.declared.fail.Fail.{Fail}

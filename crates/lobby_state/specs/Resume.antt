@@ -1,6 +1,6 @@
 -- Resume: a member asks to go on with the adjourned game of least number that it and the named player both play in, and
 -- the game starts where all its other players have asked before. This server's own, and the command is FICS's.
-use Rattle.std.specs.Prelude.{ℕ, ◌+◌, Bool, true, false, ◌&&◌, ◌||◌, cond, List, [], ◌∷◌, Option, None, Some, is_none, bytes_eq, slice_index_or}
+use Rattle.std.specs.Prelude.{ℕ, ◌+◌, Bool, false, ◌&&◌, ◌||◌, cond, List, [], ◌∷◌, Option, None, Some, is_none, bytes_eq, slice_index_or}
 use Rattle.std.specs.List.{list_all, list_any}
 use Rattle.chess_model.specs.declared.variant.Variant.{Variant}
 use Rattle.chess_model.specs.declared.variant.Variant.TheVariants.{Bughouse}

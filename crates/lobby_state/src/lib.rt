@@ -49,7 +49,6 @@ mod registration;
 mod reserve;
 mod resume;
 mod resumed;
-
 mod said;
 mod saved;
 mod seeks;
@@ -84,9 +83,9 @@ pub use laws::{
     waiting_lines_are_given_in_order, who_lists_each_member_once,
 };
 pub use lobby::Lobby;
-pub use reserve::Ready;
 pub use member::Member;
 pub use name_list::WhichList;
+pub use reserve::Ready;
 pub use said::said_line;
 pub use simul_control::{Place, Places};
 pub use told::ReplyLists;

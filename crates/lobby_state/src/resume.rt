@@ -67,10 +67,7 @@ impl Register {
         ensures { result ≡ would_start self.now caller.now row.now }
     {
         let own = caller.name.key();
-        row.game
-            .names
-            .iter()
-            .all(|name| name.key() == own || self.has_asked_for(row.number, *name))
+        row.game.names.iter().all(|name| name.key() == own || self.has_asked_for(row.number, *name))
     }
 
     /// Whether the player of this name is there and asks to resume the game of that number.

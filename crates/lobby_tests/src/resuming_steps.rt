@@ -1,6 +1,5 @@
 //! Steps of adjourned games, each with its expected answer. No game of these steps has a half-move.
-ghost use Rattle.std.specs.Prelude.{IfOk, IfSome, IsTrue, ◌∷◌, [], bytes_eq, map};
-ghost use Rattle.std.specs.List.{IsDistinct};
+ghost use Rattle.std.specs.Prelude.{◌≡◌, IfOk, IfSome, IsTrue, bytes_eq, false};
 ghost use Rattle.fics_words.specs.Handle.{key_of};
 ghost use Rattle.game_records.specs.Replays.{Replays};
 
@@ -162,7 +161,12 @@ fn four_of(
     three: Handle,
     four: Handle,
 ) -> Result<StoredGame, NoMemory>
-    requires { IsDistinct bytes_eq (map key_of (one ∷ two ∷ three ∷ four ∷ [])) }
+    requires one_two { bytes_eq (key_of one) (key_of two) ≡ false }
+    requires one_three { bytes_eq (key_of one) (key_of three) ≡ false }
+    requires one_four { bytes_eq (key_of one) (key_of four) ≡ false }
+    requires two_three { bytes_eq (key_of two) (key_of three) ≡ false }
+    requires two_four { bytes_eq (key_of two) (key_of four) ≡ false }
+    requires three_four { bytes_eq (key_of three) (key_of four) ≡ false }
     ensures { IfOk result Replays }
 {
     played_by_steps();
@@ -180,7 +184,12 @@ fn four_of(
 
 /// Whether the four are four players.
 fn are_apart(one: Handle, two: Handle, three: Handle, four: Handle) -> bool
-    ensures { IsTrue result → IsDistinct bytes_eq (map key_of (one ∷ two ∷ three ∷ four ∷ [])) }
+    ensures one_two { IsTrue result → bytes_eq (key_of one) (key_of two) ≡ false }
+    ensures one_three { IsTrue result → bytes_eq (key_of one) (key_of three) ≡ false }
+    ensures one_four { IsTrue result → bytes_eq (key_of one) (key_of four) ≡ false }
+    ensures two_three { IsTrue result → bytes_eq (key_of two) (key_of three) ≡ false }
+    ensures two_four { IsTrue result → bytes_eq (key_of two) (key_of four) ≡ false }
+    ensures three_four { IsTrue result → bytes_eq (key_of three) (key_of four) ≡ false }
 {
     let [a, b, c, d] = [one.key(), two.key(), three.key(), four.key()];
     a != b && a != c && a != d && b != c && b != d && c != d
@@ -215,8 +224,8 @@ fn putting(lobby: &mut Lobby, number: u64, game: StoredGame) -> u8
 }
 
 fn fills(alloc: Global, lobby: &mut Lobby, last: u64) -> bool {
-    for number in 1..last + 1 {
-        if adding(alloc, lobby, number, b"Yan", b"Zoe") != DONE {
+    for number in 0..last {
+        if adding(alloc, lobby, number + 1, b"Yan", b"Zoe") != DONE {
             return false;
         }
     }
@@ -313,8 +322,8 @@ fn shelves(lobby: &mut Lobby, session: u32, desk: u8, serial: u64, game: StoredG
 
 /// Whether so many sessions come in, and each makes an account.
 fn registers(lobby: &mut Lobby, count: u32) -> bool {
-    for n in 1..count + 1 {
-        if entering(lobby, n, &numbered(n)) != DONE || registering(lobby, n, 1) != DONE {
+    for n in 0..count {
+        if entering(lobby, n + 1, &numbered(n)) != DONE || registering(lobby, n + 1, 1) != DONE {
             return false;
         }
     }
@@ -338,8 +347,8 @@ fn are_numbered(orders: &[Order], count: usize, first: u64) -> bool {
     if orders.len() != count {
         return false;
     }
-    for place in 0..orders.len() {
-        if orders[place].number != first + place as u64 {
+    for (place, order) in orders.iter().enumerate() {
+        if order.number < first || order.number - first != place as u64 {
             return false;
         }
     }

@@ -3,7 +3,6 @@ use Rattle.channel_feed.specs.Waiting.{with_line as with_one_more}
 use Rattle.game_shelf.specs.Shelf.{ShelfState}
 use Rattle.game_shelf.specs.declared.request.Request.{Request}
 use Rattle.lobby_state.specs.declared.member.Member.{Member}
-use Rattle.lobby_state.specs.declared.reserve.Ready.{Ready}
 use Rattle.lobby_state.specs.declared.reserve.Ready.TheVariants.{Asking}
 use Rattle.lobby_state.specs.Change.{change_first}
 use Rattle.lobby_state.specs.Lobby.{LobbyState, is_session, waiting_of}

@@ -1,4 +1,4 @@
-use Rattle.std.proofs.Common.{sym, subst, ap, ◌∙◌, arith}
+use Rattle.std.proofs.Common.{sym, subst, arith}
 use Rattle.fics_words.specs.Line.{IsLine}
 use Rattle.lobby_state.proofs.Words.{IsLine-from_printed, IsPrinted, IsPrinted-resume_words}
 use Rattle.lobby_state.proofs.register.Register.ask_line.Goals as goal

@@ -1,4 +1,4 @@
-use Rattle.std.proofs.Common.{sym, subst}
+use Rattle.std.proofs.Common.{subst}
 use Rattle.lobby_state.specs.declared.acts.Plan.{Plan}
 use Rattle.lobby_state.specs.Planned.{IsPlanned}
 use Rattle.lobby_state.proofs.KeepsResumed.{used-positive, used-stored}
