@@ -1,5 +1,5 @@
 -- A Resume that is answered Started restores the stored game that is meant.
-use Rattle.std.proofs.Common.{◌≡◌, ℕ, ◌+◌, ◌≤◌, ◌<◌, ◌^◌, Bool, true, false, List, [], ◌∷◌, All, length, set, refl, ap, sym, subst, ◌∙◌, arith, length-set}
+use Rattle.std.proofs.Common.{◌≡◌, ℕ, ◌≤◌, ◌<◌, ◌^◌, Bool, true, false, List, [], ◌∷◌, All, length, set, refl, ap, sym, subst, ◌∙◌, arith, length-set}
 use Rattle.std.specs.List.{slice_get}
 use Rattle.std.specs.Option.{option_map}
 use Rattle.std.specs.Prelude.{IfSome, cond, unwrap_or}
@@ -13,12 +13,10 @@ use Rattle.chess_model.specs.MoveList.{HalfMove}
 use Rattle.chess_model.specs.Position.{position_after}
 use Rattle.fics_words.specs.Effect.{answered, first_cause}
 use Rattle.fics_words.specs.declared.refusal.Refusal.{Refusal}
-use Rattle.fics_words.specs.declared.seats.Seats.{Seats}
 use Rattle.game_board.specs.Board.{Board, position_of}
 use Rattle.game_records.specs.declared.stored_game.Half.{Half}
 use Rattle.game_records.specs.declared.stored_game.StoredGame.{StoredGame}
 use Rattle.game_records.specs.Replays.{half_moves, position_on}
-use Rattle.game_shelf.specs.Numbers.{stored_game}
 use Rattle.game_shelf.specs.declared.shelved.Shelved.{Shelved}
 use Rattle.game_shelf.proofs.Meaning.{games-found}
 use Rattle.histories.specs.Core.{reply, after}
@@ -28,7 +26,6 @@ use Rattle.linked_boards.specs.Halves.{halves_of, list_on}
 use Rattle.linked_boards.specs.Sound.{AreSoundBoards}
 use Rattle.linked_boards.proofs.SoundHalves.{all_of, each_of}
 use Rattle.linked_desk.specs.Desk.{GameState, DeskState, Occupant, occupant, occupant_of}
-use Rattle.linked_desk.specs.Restore.{restored}
 use Rattle.linked_desk.specs.ShelfLaws.{IsOnAgain}
 use Rattle.linked_desk.specs.Sound.{HasSoundGame, IsSound}
 use Rattle.linked_desk.proofs.KeepsRestored.{players_restored, sound_restored}
@@ -37,26 +34,24 @@ use Rattle.lobby_state.specs.declared.acts.Plan.{Plan}
 use Rattle.lobby_state.specs.declared.acts.Plan.TheVariants.{Start, Clear, Resume, Ask}
 use Rattle.lobby_state.specs.declared.acts.PairAct.TheVariants.{Resume as ToResume}
 use Rattle.lobby_state.specs.declared.member.Member.{Member}
-use Rattle.lobby_state.specs.Desks.{IsDesk}
 use Rattle.lobby_state.specs.Lobby.{LobbyState, free_slot, member_of, named}
 use Rattle.lobby_state.specs.Planned.{IsPlanned}
 use Rattle.lobby_state.specs.Plans.{committed, desk_of, plan_of}
 use Rattle.lobby_state.specs.Resume.{Resuming, asking, going_on, meant, resume_at, resume_effect, resuming_of, resuming_plan, would_start}
 use Rattle.lobby_state.specs.WellFormed.{IsWellFormed}
-use Rattle.lobby_state.proofs.KeepsPlans.{plan_of-is, desk_of-is}
+use Rattle.lobby_state.proofs.KeepsPlans.{plan_of-is}
 use Rattle.one_server.specs.declared.act.Timed.{Timed}
 use Rattle.one_server.specs.declared.part.Part.{Part}
 use Rattle.one_server.specs.declared.part.Part.TheVariants.{Lobby as TheLobby, Desk as ADesk}
 use Rattle.one_server.specs.declared.reply.PairReply.{PairReply}
 use Rattle.one_server.specs.declared.reply.PairReply.TheVariants.{Started, Kept, Freed, Cleared}
-use Rattle.one_server.specs.declared.reply.Reply.{Reply}
 use Rattle.one_server.specs.declared.reply.Reply.TheVariants.{Pair as PairReplied}
 use Rattle.one_server.specs.Acts.{planned_desk}
 use Rattle.one_server.specs.CarryingProof.{carried_by}
 use Rattle.one_server.specs.Clearing.{clear_reply}
 use Rattle.one_server.specs.Desks.{has_ended, is_left}
 use Rattle.one_server.specs.House.{house, pair_desk, pair_lobby, pair_reply}
-use Rattle.one_server.specs.Plans.{alone_reply, plan_desk, plan_lobby, plan_reply}
+use Rattle.one_server.specs.Plans.{alone_reply}
 use Rattle.one_server.specs.ResumedGames.{IsRestored, IsResumed, ResumesAsLeft, resuming}
 use Rattle.one_server.specs.Resuming.{CanResumeAt, resume_desk, with_game}
 use Rattle.one_server.specs.Whole.{IsWhole}

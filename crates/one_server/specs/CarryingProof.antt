@@ -90,4 +90,3 @@ carried_by lobby (Resume own serial stored terms seats) number desk formed o lis
       pairs = subst (λ (t : Terms). HasPairsFor t seats) planned.its_terms (pairs_for terms.variant seats.first seats.second planned.boards);
     }
 carried_by lobby (Ask from to stored) number desk formed o listed planned = tt
-

@@ -56,10 +56,12 @@ fn kept_at(alloc: Global, desk: &Desk) -> Result<Option<StoredGame>, NoMemory>
     ensures { IfOk result (λ game. game ≡ kept_at desk.now) }
 {
     match desk.ended() {
-        Some(Ended {
-            why: Why::Adjourned,
-            ..
-        }) => Ok(Some(desk.shelve(alloc)?)),
+        Some(
+            Ended {
+                why: Why::Adjourned,
+                ..
+            },
+        ) => Ok(Some(desk.shelve(alloc)?)),
         _ => Ok(None),
     }
 }

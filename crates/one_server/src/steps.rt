@@ -103,9 +103,7 @@ pub fn pair_step(
             by,
             desk: number,
             serial,
-        } => Ok(Reply::Pair(clear_step(
-            alloc, lobby, desk, *by, *number, *serial,
-        )?)),
+        } => Ok(Reply::Pair(clear_step(alloc, lobby, desk, *by, *number, *serial)?)),
         Plan::Ask { .. } => Ok(Reply::Pair(alone_step(lobby, plan)?)),
     }
 }
