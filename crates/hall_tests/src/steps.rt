@@ -30,6 +30,8 @@ pub enum Said {
     Found,
     /// So many desks.
     Desks(usize),
+    /// So many save orders.
+    Orders(usize),
     /// So many places.
     Places(usize),
     /// So many lines and so many places.
@@ -222,6 +224,7 @@ fn of_lobby(answer: &LobbyReply) -> Said {
         LobbyReply::Places(places) => Said::Places(places.rows().len()),
         LobbyReply::Waiting { lines, places } => Said::Waiting(lines.len(), places.rows().len()),
         LobbyReply::Desks(desks) => Said::Desks(desks.len()),
+        LobbyReply::Orders(orders) => Said::Orders(orders.len()),
     }
 }
 
@@ -236,6 +239,7 @@ fn of_desk(answer: &DeskReply) -> Said {
 pub fn of_pair(answer: PairReply) -> Said {
     match answer {
         PairReply::Started => Said::Started,
+        PairReply::Asked => Said::Asked,
         PairReply::Kept => Said::Kept,
         PairReply::Freed => Said::Freed,
         PairReply::Cleared => Said::Cleared,

@@ -9,6 +9,7 @@ use crate::replay_logins::SESSIONS;
 use crate::replay_offers::OFFERED;
 use crate::replay_pairs::PAIRS;
 use crate::replay_refusals::ALONE;
+use crate::replay_resuming::ADJOURNED;
 use crate::replay_seeks::SOUGHT;
 use crate::replay_simuls::SIMULS;
 use crate::replay_stamps::STAMPED;
@@ -84,6 +85,11 @@ fn replays_watching(rt: HostRuntime) -> Result<(), Fail> {
 #[test]
 fn replays_simuls(rt: HostRuntime) -> Result<(), Fail> {
     expect_table(&rt, rt.alloc(), SIMULS)
+}
+
+#[test]
+fn replays_adjourned_games(rt: HostRuntime) -> Result<(), Fail> {
+    expect_table(&rt, rt.alloc(), ADJOURNED)
 }
 
 #[test]

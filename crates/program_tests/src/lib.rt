@@ -32,6 +32,8 @@ mod replay_pairs;
 #[cfg(test)]
 mod replay_refusals;
 #[cfg(test)]
+mod replay_resuming;
+#[cfg(test)]
 mod replay_seeks;
 #[cfg(test)]
 mod replay_simuls;

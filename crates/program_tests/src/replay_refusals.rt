@@ -44,6 +44,9 @@ pub(crate) const ALONE: &str = "\
 0 1 > simnext
   1|refused 42 NotGiving
   1|fics%\x20
+0 1 > resume nobody
+  1|refused 32 NoSuchPlayer
+  1|fics%\x20
 0 1 > unalias x
   1|refused 52 NotOnList
   1|fics%\x20

@@ -12,4 +12,6 @@ mod limits;
 #[cfg(test)]
 mod refusals;
 #[cfg(test)]
+mod resuming;
+#[cfg(test)]
 mod steps;

@@ -7,7 +7,7 @@ ghost use Rattle.one_server.specs.Acts.{FitsAct};
 
 use chess_model::{Colour, Kind, MoveWord, Square, Terms, Variant};
 use fics_words::{Fail, Handle, NoMemory, Refusal};
-use linked_desk::{DeskAct, DeskReply};
+use linked_desk::{DeskAct, DeskReply, Offer};
 use lobby_state::{Lobby, LobbyAct, LobbyReply, PairAct};
 use one_server::{Act, OneServer, PairReply, Reply};
 use std::alloc::Global;
@@ -35,6 +35,8 @@ pub enum Said {
     Waiting(usize, usize),
     /// So many desks in use.
     Desks(usize),
+    /// So many save orders.
+    Orders(usize),
     /// So many items, and whether nothing more will come.
     Items(usize, bool),
     Started,
@@ -59,6 +61,12 @@ pub enum Does {
     Going,
     Bye,
     Accept(Option<[u8; 3]>),
+    /// Asks this player to resume, or resumes.
+    Resume([u8; 3]),
+    Stored,
+    Orders,
+    /// The orders up to that number are saved.
+    Saved(u64),
     /// Clears desk 1 of the game of that serial.
     Clear(u64),
     /// Moves from a square to another, in the game of that serial.
@@ -69,6 +77,8 @@ pub enum Does {
     Castle(u64),
     /// Drops a pawn on a square.
     Drop(u64, u8),
+    Adjourn(u64),
+    AcceptOffer(u64),
     Resign(u64),
     Flag(u64),
     Items(u64),
@@ -136,6 +146,7 @@ fn replied(server: &mut OneServer, session: u32, moment: u32, does: Does) -> Res
         Does::Register(password) => registering(server, session, password),
         Does::Match(to, variant) => challenging(server, session, &to, variant),
         Does::Accept(name) => accepting(server, session, moment, name),
+        Does::Resume(name) => resuming(server, session, moment, &name),
         Does::Clear(serial) => clearing(server, session, serial),
         _ => visiting(server, session, moment, does),
     }
@@ -148,6 +159,15 @@ fn visiting(server: &mut OneServer, session: u32, moment: u32, does: Does) -> Re
         Does::Going => ran(server, session, 0, Act::Lobby(LobbyAct::Going)),
         Does::Bye => ran(server, session, 0, Act::Lobby(LobbyAct::Bye)),
         Does::InUse => ran(server, session, 0, Act::Lobby(LobbyAct::InUse)),
+        _ => storing(server, session, moment, does),
+    }
+}
+
+fn storing(server: &mut OneServer, session: u32, moment: u32, does: Does) -> Result<Said, Fail> {
+    match does {
+        Does::Stored => ran(server, session, 0, Act::Lobby(LobbyAct::Stored)),
+        Does::Orders => ran(server, session, 0, Act::Lobby(LobbyAct::Orders)),
+        Does::Saved(upto) => ran(server, session, 0, Act::Lobby(LobbyAct::Saved { upto })),
         _ => at_desk(server, session, moment, does),
     }
 }
@@ -163,6 +183,8 @@ fn ran(server: &mut OneServer, session: u32, moment: u32, act: Act) -> Result<Sa
 
 fn at_desk(server: &mut OneServer, session: u32, moment: u32, does: Does) -> Result<Said, Fail> {
     match does {
+        Does::Adjourn(serial) => adjourning(server, session, moment, serial),
+        Does::AcceptOffer(serial) => playing(server, session, moment, serial, DeskAct::Accept),
         Does::Resign(serial) => playing(server, session, moment, serial, DeskAct::Resign),
         Does::Flag(serial) => playing(server, session, moment, serial, DeskAct::Flag),
         Does::Items(serial) => playing(server, session, moment, serial, DeskAct::Fetch),
@@ -254,6 +276,16 @@ fn accepting(
     ran(server, session, moment, Act::Pair(PairAct::Accept(key)))
 }
 
+fn resuming(
+    server: &mut OneServer,
+    session: u32,
+    moment: u32,
+    name: &[u8; 3],
+) -> Result<Said, Fail> {
+    let key = handle(name)?.key();
+    ran(server, session, moment, Act::Pair(PairAct::Resume(key)))
+}
+
 fn clearing(server: &mut OneServer, session: u32, serial: u64) -> Result<Said, Fail> {
     ran(
         server,
@@ -280,6 +312,18 @@ fn playing(
     ran(server, session, moment, act)
 }
 
+fn adjourning(
+    server: &mut OneServer,
+    session: u32,
+    moment: u32,
+    serial: u64,
+) -> Result<Said, Fail> {
+    let act = DeskAct::Make {
+        offer: Offer::Adjourn,
+    };
+    playing(server, session, moment, serial, act)
+}
+
 fn in_short(reply: &Reply) -> Said {
     match reply {
         Reply::Refused(cause) => Said::Refused(cause.number()),
@@ -302,6 +346,7 @@ fn of_lobby(answer: &LobbyReply) -> Said {
         LobbyReply::Places(places) => Said::Places(places.rows().len()),
         LobbyReply::Waiting { lines, places } => Said::Waiting(lines.len(), places.rows().len()),
         LobbyReply::Desks(desks) => Said::Desks(desks.len()),
+        LobbyReply::Orders(orders) => Said::Orders(orders.len()),
     }
 }
 
@@ -315,6 +360,7 @@ fn of_desk(answer: &DeskReply) -> Said {
 fn of_pair(answer: PairReply) -> Said {
     match answer {
         PairReply::Started => Said::Started,
+        PairReply::Asked => Said::Asked,
         PairReply::Kept => Said::Kept,
         PairReply::Freed => Said::Freed,
         PairReply::Cleared => Said::Cleared,

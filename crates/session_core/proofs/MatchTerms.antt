@@ -31,6 +31,7 @@ use Rattle.chess_model.specs.VariantWord.{IsNumbered}
 use Rattle.command_words.specs.Observe.{observe_from, observe_player, unobserve_from}
 use Rattle.command_words.specs.Partner.{partner_from, partner_of}
 use Rattle.command_words.specs.Play.{play_from}
+use Rattle.command_words.specs.Resume.{resume_from}
 use Rattle.command_words.specs.Seek.{five_nothing, seeking}
 use Rattle.command_words.specs.Numbers.{channel_number, is_no_channel, number_of}
 use Rattle.command_words.specs.Set.{is_on, set_to, setting_of}
@@ -206,9 +207,14 @@ go_board_fits : (name : Option (List ℕ)) → FitsAnswer (go_board_from name)
 go_board_fits None = tt
 go_board_fits (Some name) = tt
 
+resume_fits : (name : Option (List ℕ)) → FitsAnswer (resume_from name)
+resume_fits None = tt
+resume_fits (Some name) = tt
+
 arguments_fit : (v : Verb) (rest : List ℕ) → FitsAnswer (arguments_of v rest)
 arguments_fit verb.Abort rest = alone_fits command.Abort rest tt
 arguments_fit verb.Accept rest = accept_fits rest
+arguments_fit verb.Adjourn rest = alone_fits command.Adjourn rest tt
 arguments_fit verb.Alias rest =
     either_fits (is_alias_name (first_word rest) && is_text (rest_of rest)) (Ok (command.Alias (first_word rest) (rest_of rest))) (Err BadArguments) tt tt
 arguments_fit verb.Decline rest = decline_fits rest
@@ -229,6 +235,7 @@ arguments_fit verb.Play rest = play_fits (number_of 65535 rest)
 arguments_fit verb.Quit rest = alone_fits command.Quit rest tt
 arguments_fit verb.Register rest = either_fits (is_text rest) (Ok (command.Register rest)) (Err BadArguments) tt tt
 arguments_fit verb.Resign rest = alone_fits command.Resign rest tt
+arguments_fit verb.Resume rest = resume_fits (handle_of rest)
 arguments_fit verb.Takeback rest = takeback_fits rest
 arguments_fit verb.Unalias rest = either_fits (is_alias_name rest) (Ok (command.Unalias rest)) (Err BadArguments) tt tt
 arguments_fit verb.Seek rest = seeking_fits (words_of rest) (terms_of five_nothing (words_of rest)) refl
@@ -237,6 +244,7 @@ arguments_fit verb.SimNext rest = alone_fits command.SimNext rest tt
 arguments_fit verb.SimPrev rest = alone_fits command.SimPrev rest tt
 arguments_fit verb.GoBoard rest = go_board_fits (handle_of rest)
 arguments_fit verb.Sought rest = alone_fits command.Sought rest tt
+arguments_fit verb.Stored rest = alone_fits command.Stored rest tt
 arguments_fit verb.Unseek rest = unseek_fits rest
 arguments_fit verb.AddCensor rest = censor_fits true (handle_of rest)
 arguments_fit verb.DropCensor rest = censor_fits false (handle_of rest)

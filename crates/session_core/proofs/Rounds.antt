@@ -25,7 +25,7 @@ use Rattle.lobby_state.specs.declared.acts.LobbyAct.{LobbyAct}
 use Rattle.lobby_state.specs.declared.acts.LobbyAct.TheVariants as lobby_act
 use Rattle.lobby_state.specs.declared.acts.LobbyReply.TheVariants as lobby_reply
 use Rattle.lobby_state.proofs.Lists.{All-filter_passing, Contains-filter}
-use Rattle.offer_book.specs.declared.offer.Offer.TheVariants.{Draw, Abort, Takeback}
+use Rattle.offer_book.specs.declared.offer.Offer.TheVariants.{Draw, Abort, Adjourn, Takeback}
 use Rattle.one_server.specs.declared.act.Act.{Act}
 use Rattle.one_server.specs.declared.act.Act.TheVariants as one_act
 use Rattle.one_server.specs.declared.act.Timed.{Timed}
@@ -284,6 +284,7 @@ module _ (before : MemoryState) where
   by_command (command.Decline name) stamp memory places front known s goes_on = by_react Declining name memory places front s
   by_command command.Draw stamp memory places front known s goes_on = by_desk (desk_act.Make Draw) memory places front (λ _. refl) s
   by_command command.Abort stamp memory places front known s goes_on = by_desk (desk_act.Make Abort) memory places front (λ _. refl) s
+  by_command command.Adjourn stamp memory places front known s goes_on = by_desk (desk_act.Make Adjourn) memory places front (λ _. refl) s
   by_command (command.Takeback number) stamp memory places front known s goes_on = by_desk (desk_act.Make (Takeback number)) memory places front (λ _. refl) s
   by_command command.Resign stamp memory places front known s goes_on = by_desk desk_act.Resign memory places front (λ _. refl) s
   by_command command.Flag stamp memory places front known s goes_on = by_desk desk_act.Flag memory places front (λ _. refl) s

@@ -20,7 +20,7 @@ use Rattle.lobby_state.specs.declared.name_list.WhichList.{WhichList}
 use Rattle.lobby_state.specs.declared.name_list.WhichList.TheVariants.{Censor, Noplay}
 use Rattle.lobby_state.specs.declared.var.Var.{Var}
 use Rattle.lobby_state.specs.declared.var.Var.TheVariants.{Open, Shout, Seek}
-use Rattle.offer_book.specs.declared.offer.Offer.TheVariants.{Draw, Abort, Takeback}
+use Rattle.offer_book.specs.declared.offer.Offer.TheVariants.{Draw, Abort, Adjourn, Takeback}
 use Rattle.lobby_state.specs.FindGame.{desk_of_game}
 use Rattle.lobby_state.specs.Said.{said}
 use Rattle.one_server.specs.declared.act.Act.{Act}
@@ -266,6 +266,7 @@ command_course (command.SetShout on) stamp memory = to_server (setting Shout on)
 command_course (command.SetSeek on) stamp memory = to_server (setting Seek on) memory
 command_course command.Draw stamp memory = to_desk (desk_act.Make Draw) memory
 command_course command.Abort stamp memory = to_desk (desk_act.Make Abort) memory
+command_course command.Adjourn stamp memory = to_desk (desk_act.Make Adjourn) memory
 command_course (command.Takeback number) stamp memory = to_desk (desk_act.Make (Takeback number)) memory
 command_course command.Resign stamp memory = to_desk desk_act.Resign memory
 command_course command.Flag stamp memory = to_desk desk_act.Flag memory
@@ -278,6 +279,8 @@ command_course command.SimOpen stamp memory = to_server (Lobby lobby_act.SimOpen
 command_course command.SimNext stamp memory = to_server (Lobby lobby_act.SimNext) memory
 command_course command.SimPrev stamp memory = to_server (Lobby lobby_act.SimPrev) memory
 command_course (command.GoBoard name) stamp memory = to_server (Lobby (lobby_act.GoBoard (key_of name))) memory
+command_course command.Stored stamp memory = to_server (Lobby lobby_act.Stored) memory
+command_course (command.Resume name) stamp memory = to_server (Pair (pair_act.Resume (key_of name))) memory
 command_course (command.Style style) stamp memory = by_itself (set_style style memory)
 command_course (command.Register password) stamp memory =
     to_server (Lobby (lobby_act.Register (sha256 password))) memory

@@ -8,6 +8,7 @@ use Rattle.fics_words.specs.Refusal.{number_of, name_of}
 use Rattle.linked_desk.specs.declared.acts.DeskReply.TheVariants.{Items}
 use Rattle.linked_desk.specs.Sight.{board_in, sight}
 use Rattle.lobby_state.specs.declared.acts.LobbyReply.TheVariants.{Asked, Done, Entered, Told, Number, Lines, Waiting}
+use Rattle.one_server.specs.declared.reply.PairReply.TheVariants as pair
 use Rattle.one_server.specs.declared.reply.Reply.{Reply}
 use Rattle.one_server.specs.declared.reply.Reply.TheVariants as reply
 use Rattle.session_core.specs.declared.reader.Reader.{Reader}
@@ -78,6 +79,7 @@ abbrev pub reply_text : Reply → List ℕ
 reply_text (reply.Refused cause) = refusal_line cause
 reply_text (reply.Lobby Done) = done_line
 reply_text (reply.Lobby Asked) = asked_line
+reply_text (reply.Pair pair.Asked) = asked_line
 reply_text (reply.Lobby (Entered name)) = entered_line name
 reply_text (reply.Lobby (Told count)) = told_line count
 reply_text (reply.Lobby (Number number)) = number_line number

@@ -85,6 +85,9 @@ pub(crate) fn begin_command(
         Command::Abort => to_desk(DeskAct::Make {
             offer: Offer::Abort,
         }),
+        Command::Adjourn => to_desk(DeskAct::Make {
+            offer: Offer::Adjourn,
+        }),
         Command::Takeback(number) => to_desk(DeskAct::Make {
             offer: Offer::Takeback(number),
         }),
@@ -103,6 +106,8 @@ pub(crate) fn begin_command(
         Command::SimNext => to_server(Act::Lobby(LobbyAct::SimNext)),
         Command::SimPrev => to_server(Act::Lobby(LobbyAct::SimPrev)),
         Command::GoBoard(name) => to_server(Act::Lobby(LobbyAct::GoBoard { name: name.key() })),
+        Command::Stored => to_server(Act::Lobby(LobbyAct::Stored)),
+        Command::Resume(name) => to_server(Act::Pair(PairAct::Resume(name.key()))),
         Command::Style(style) => {
             set_style(memory, style, out)?;
             return Ok(First::Going(ask_round()));

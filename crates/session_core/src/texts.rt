@@ -12,7 +12,7 @@ use command_words::Style;
 use fics_words::{Handle, Line, NoMemory, Refusal, write_number};
 use linked_desk::{DeskReply, viewer_of};
 use lobby_state::LobbyReply;
-use one_server::Reply;
+use one_server::{PairReply, Reply};
 use style12_writer::{BoardView, Item, board1, end_line, line_b1, line12};
 
 /// The end of a line.
@@ -46,6 +46,7 @@ pub(crate) fn put_reply(reply: &Reply, out: &mut Vec<u8>) -> Result<(), NoMemory
         Reply::Refused(cause) => put_refusal(*cause, out),
         Reply::Lobby(LobbyReply::Done) => put_done(out),
         Reply::Lobby(LobbyReply::Asked) => put_asked(out),
+        Reply::Pair(PairReply::Asked) => put_asked(out),
         Reply::Lobby(LobbyReply::Entered(name)) => put_entered(*name, out),
         Reply::Lobby(LobbyReply::Number(number)) => put_number(*number, out),
         Reply::Lobby(LobbyReply::Lines(lines)) => put_list(lines.as_slice(), out),

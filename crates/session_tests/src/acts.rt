@@ -11,6 +11,12 @@ const AT_DESK: &[Asked] = &[Asked::Where, Asked::Move, Asked::Lines, Asked::News
 
 const FLAG: &[Asked] = &[Asked::Where, Asked::Flag, Asked::Lines, Asked::News];
 
+const OFFER: &[Asked] = &[Asked::Where, Asked::Offer, Asked::Lines, Asked::News];
+
+const STORED: &[Asked] = &[Asked::Stored, Asked::Lines, Asked::News];
+
+const RESUME: &[Asked] = &[Asked::Resume, Asked::Lines, Asked::News];
+
 const RESIGN: &[Asked] = &[
     Asked::Where,
     Asked::Resign,
@@ -24,6 +30,9 @@ const STEPS: &[Step] = &[
     Step(1, 2_000, Comes::Line(b"e2e4"), AT_DESK),
     Step(2, 3_000, Comes::Quiet, &[Asked::Lines, Asked::News]),
     Step(2, 3_500, Comes::Ack(7), &[Asked::Where, Asked::Acked]),
+    Step(1, 3_500, Comes::Line(b"adjourn"), OFFER),
+    Step(1, 3_500, Comes::Line(b"stored"), STORED),
+    Step(1, 3_500, Comes::Line(b"resume Ben"), RESUME),
     Step(2, 3_500, Comes::TooLong, &[Asked::Lines, Asked::News]),
     Step(1, 4_000, Comes::Line(b"flag"), FLAG),
     Step(2, 5_000, Comes::Line(b"resign"), RESIGN),

@@ -22,6 +22,8 @@ pub enum Asked {
     Bye,
     Accept,
     Decline,
+    Resume,
+    Stored,
     SimOpen,
     SimNext,
     SimPrev,
@@ -225,6 +227,7 @@ fn in_short(act: &Act) -> Asked {
         Act::Desk { act, .. } => at_desk(act),
         Act::Pair(PairAct::Clear { .. }) => Asked::Clear,
         Act::Pair(PairAct::Accept(_)) => Asked::Accept,
+        Act::Pair(PairAct::Resume(_)) => Asked::Resume,
         Act::Pair(_) => Asked::Other,
     }
 }
@@ -236,6 +239,7 @@ fn in_lobby(act: &LobbyAct) -> Asked {
         LobbyAct::Going => Asked::Going,
         LobbyAct::Bye => Asked::Bye,
         LobbyAct::Decline { .. } => Asked::Decline,
+        LobbyAct::Stored => Asked::Stored,
         _ => of_a_simul(act),
     }
 }
