@@ -182,14 +182,8 @@ const CASES: &[(&str, &[Resuming])] = &[
         "a_request_goes_with_its_member",
         A_REQUEST_GOES_WITH_ITS_MEMBER_STEPS,
     ),
-    (
-        "requests_go_with_a_start",
-        REQUESTS_GO_WITH_A_START_STEPS,
-    ),
-    (
-        "the_least_number_is_given",
-        THE_LEAST_NUMBER_IS_GIVEN_STEPS,
-    ),
+    ("requests_go_with_a_start", REQUESTS_GO_WITH_A_START_STEPS),
+    ("the_least_number_is_given", THE_LEAST_NUMBER_IS_GIVEN_STEPS),
     ("refusals", REFUSALS_STEPS),
     ("a_full_queue", A_FULL_QUEUE_STEPS),
     ("a_full_shelf", A_FULL_SHELF_STEPS),

@@ -251,9 +251,13 @@ fn with_resume(lobby: &mut Lobby, session: u32, letters: &[u8]) -> Option<Plan> 
 /// Whether the session asks for the game of that number.
 fn is_ask(plan: &Option<Plan>, session: u32, number: u64) -> bool {
     match plan {
-        Some(Plan::Ask {
-            from, number: game, ..
-        }) => *from == session && *game == number,
+        Some(
+            Plan::Ask {
+                from,
+                number: game,
+                ..
+            },
+        ) => *from == session && *game == number,
         _ => false,
     }
 }
@@ -270,10 +274,7 @@ fn is_resume(plan: &Option<Plan>, number: u64, desk: u8, serial: u64, white: u32
                 ..
             },
         ) => {
-            *game == number
-                && *at == desk
-                && *under == serial
-                && seats.first.white.session == white
+            *game == number && *at == desk && *under == serial && seats.first.white.session == white
         }
         _ => false,
     }

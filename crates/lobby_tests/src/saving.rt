@@ -24,6 +24,9 @@ const SIXTEEN_AT_A_TIME_STEPS: &[Resuming] = &[
 
 #[test]
 fn saving(rt: HostRuntime) -> Result<(), Fail> {
-    assert_eq!(rt; first_unlike_anew(rt.alloc(), SIXTEEN_AT_A_TIME_STEPS)?, None);
+    assert_eq!(rt;
+        first_unlike_anew(rt.alloc(), SIXTEEN_AT_A_TIME_STEPS)?,
+        None
+    );
     Ok(())
 }

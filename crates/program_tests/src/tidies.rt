@@ -108,13 +108,7 @@ const BAD_LINES: &[Row] = &[
         &[],
         &[],
         7,
-        &[
-            NO_TAGS,
-            "*\n\n",
-            NO_TAGS,
-            "1. d4 *\n\n",
-            "bad line 5\n",
-        ],
+        &[NO_TAGS, "*\n\n", NO_TAGS, "1. d4 *\n\n", "bad line 5\n"],
     ),
     // the end in a game and in a comment, and the mark of UTF-8 without its end
     Row(
@@ -140,15 +134,7 @@ const BAD_LINES: &[Row] = &[
 
 /// Where a read or a write fails, and words that name no command.
 const FAULTS: &[Row] = &[
-    Row(
-        &["tidy"],
-        b"* \nd4 *",
-        4,
-        &[1],
-        &[],
-        2,
-        &[NO_TAGS, "*\n\n"],
-    ),
+    Row(&["tidy"], b"* \nd4 *", 4, &[1], &[], 2, &[NO_TAGS, "*\n\n"]),
     Row(
         &["tidy"],
         b"* \nd4 * ",
