@@ -10,19 +10,24 @@ use std::test::Fail;
 
 /// What a record begins with before the names: an untimed game of chess, and one of 5 minutes.
 const UNTIMED: &[u8] = b"\x01\x47\x00\x00\x00\x00\x00";
+
 const TIMED: &[u8] = b"\x01\x47\x00\x00\x05\x00\x00";
 
 const NAMES: &[u8] = b"\x03Ann\x03Ben";
 
 /// e2e4, e7e5 and g1f3 without charges, and the last one with a charge of 1,500 milliseconds.
 const E4: &[u8] = b"\x18\xE0\x00";
+
 const E5: &[u8] = b"\x69\x20\x00";
+
 const NF3: &[u8] = b"\x0C\xA8\x00";
+
 const NF3_CHARGED: &[u8] =
     b"\x0C\xA8\x01\x00\x00\x00\x00\x00\x00\x03\xE8\x00\x00\x00\x00\x00\x00\x09\xC4";
 
 /// The quickest mate: f2f3, e7e5, g2g4, d8h4; and a2a3 behind it.
 const MATE: &[u8] = b"\x1A\xA8\x00\x69\x20\x00\x1C\xF0\x00\x76\xF8\x00";
+
 const A3: &[u8] = b"\x10\x80\x00";
 
 /// The parts of a record, and the movetext of its export, if there is one.
@@ -104,11 +109,7 @@ fn joined(alloc: Global, parts: &[&[u8]]) -> Result<Vec<u8>, NoMemory> {
     Ok(bytes)
 }
 
-fn is_exported(
-    alloc: Global,
-    game: &StoredGame,
-    movetext: Option<&str>,
-) -> Result<bool, NoMemory> {
+fn is_exported(alloc: Global, game: &StoredGame, movetext: Option<&str>) -> Result<bool, NoMemory> {
     match of_stored(alloc, game)? {
         Some(made) => is_text(alloc, &made, movetext),
         None => Ok(movetext.is_none()),
