@@ -1,4 +1,5 @@
--- The evening that a number makes: which session's line comes when, and what each makes of the server. This server's own.
+-- The evening that a number makes: which session's line comes when, and what each makes of the server. This server's
+-- own.
 use Rattle.std.specs.Prelude.{◌≡◌, ℕ, zero, suc, ◌+◌, ◌-◌, List, [], ◌∷◌, ◌++◌, Some, codes, replicate, slice_get, slice_set}
 use Rattle.histories.specs.History.{Legal}
 use Rattle.one_server.specs.House.{house}

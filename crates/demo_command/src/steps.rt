@@ -54,7 +54,8 @@ impl Demo {
     ghost use Rattle.std.specs.Prelude.{◌≡◌, ◌+◌, ◌*◌, ◌≤◌, ◌^◌, ◌∷◌, [], IfOk, OnOk};
     ghost use Rattle.replay_core.specs.Script.{IsScriptEvent};
     ghost use Rattle.replay_core.specs.declared.script.ScriptEvent.TheVariants.{Plain};
-    ghost use Rattle.demo_command.specs.Demo.{Comes, Connects, Enters, Go, Goes, demo_steps, entering, quitting, start, turning, Turns};
+    ghost use Rattle.demo_command.specs.Demo.{Comes, Connects, Enters, Go, Goes, Turns};
+    ghost use Rattle.demo_command.specs.Demo.{demo_steps, entering, quitting, start, turning};
     ghost use Rattle.demo_command.specs.Said.{AreWords};
 
     /// A demo of the number, before its first step.

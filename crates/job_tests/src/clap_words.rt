@@ -20,6 +20,10 @@ pub(crate) fn clap_reading(alloc: Global, words: &[String]) -> Result<String, Fa
             if name == "serve" {
                 return serve_text(alloc, options);
             }
+            if name == "bot" {
+                let depth = options.get_str("depth").ok_or("a depth")?;
+                return Ok(format!(in alloc; "bot {depth}")?);
+            }
             Ok(String::from_str(alloc, name)?)
         }
         None => Ok(String::from_str(alloc, "-")?),
@@ -40,7 +44,17 @@ fn command_line<'a>(alloc: Global) -> Result<Command<'a>, AllocError> {
         .subcommand(Command::new(alloc, "board"))?
         .subcommand(Command::new(alloc, "replay"))?
         .subcommand(Command::new(alloc, "tourney"))?
+        .subcommand(Command::new(alloc, "tidy"))?
+        .subcommand(bot_line(alloc)?)?
         .subcommand(serve_line(alloc)?)
+}
+
+/// The word behind `bot`.
+fn bot_line<'a>(alloc: Global) -> Result<Command<'a>, AllocError> {
+    let depth = Arg::new(alloc, "depth")
+        .required(true)
+        .value_parser(ValueParser::Unsigned(0, 4));
+    Command::new(alloc, "bot").arg(depth)
 }
 
 /// The options of `serve`.

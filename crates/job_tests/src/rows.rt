@@ -12,13 +12,26 @@ const ROWS: &str = "\
 board => board
 replay => replay
 tourney => tourney
+tidy => tidy
+bot 0 => bot 0
+bot 4 => bot 4
 Board => -
 Tourney => -
 board board => -
 board --port 5000 => -
 replay x => -
 tourney 4 => -
+tidy games.pgn => -
 tourney --port 5000 => -
+bot => -
+bot 5 => -
+bot -1 => -
+bot x => -
+bot 1 2 => -
+bot --depth 1 => -
+bot --depth=1 => -
+Bot 1 => -
+bot1 => -
 bored => -
 --help => -
 --version => -
@@ -68,6 +81,9 @@ serve --port 5000 --store x => -
 
 /// Texts that the other reader takes for numbers or for the end of the options, and this program doesn't.
 const STRICT: &str = "\
+bot 04 => -
+bot +4 => -
+bot -- 4 => -
 serve --port 05000 => -
 serve --port +5000 => -
 serve --port 5000 --count 01 => -
@@ -80,6 +96,8 @@ fn spoken(alloc: Global, job: Result<Job, JobFail>) -> Result<String, Fail> {
         Ok(Job::Board) => Ok(String::from_str(alloc, "board")?),
         Ok(Job::Replay) => Ok(String::from_str(alloc, "replay")?),
         Ok(Job::Tourney) => Ok(String::from_str(alloc, "tourney")?),
+        Ok(Job::Tidy) => Ok(String::from_str(alloc, "tidy")?),
+        Ok(Job::Bot { depth }) => Ok(format!(in alloc; "bot {depth}")?),
         Ok(Job::Serve { port, bind, count }) => {
             let count = count_text(alloc, count)?;
             Ok(format!(in alloc; "serve {port} {bind} {count}")?)

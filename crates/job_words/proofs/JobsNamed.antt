@@ -1,9 +1,9 @@
 -- Where texts name no job.
 use Rattle.std.proofs.Common.{◌≡◌, ◌≢◌, ℕ, List, [], ◌∷◌, Option, Result, Ok, Err, arith, get_or, sym, ap, subst}
-use Rattle.std.specs.Prelude.{IfErr, codes, string_bytes}
-use Rattle.job_words.specs.Jobs.{AreOptions, Chosen, GivenValue, IsCount, IsPort, IsServe, OnUsage, Tells, TextsName}
+use Rattle.std.specs.Prelude.{IfErr, codes, reverse, string_bytes}
+use Rattle.job_words.specs.Jobs.{AreOptions, Chosen, GivenValue, IsBot, IsCount, IsPort, IsServe, OnUsage, Tells, TextsName}
 use Rattle.job_words.specs.declared.job.Job.{Job}
-use Rattle.job_words.specs.declared.job.Job.TheVariants.{Board, Replay, Tourney, Serve}
+use Rattle.job_words.specs.declared.job.Job.TheVariants.{Board, Replay, Tourney, Tidy, Bot, Serve}
 use Rattle.job_words.specs.declared.job.JobFail.{JobFail}
 use Rattle.job_words.specs.declared.job.JobFail.TheVariants as fail
 use Rattle.job_words.proofs.OptionsRead.{one_options, one_choice}
@@ -12,19 +12,25 @@ pub no_texts : (job : Job) → TextsName [] job → ⊥
 no_texts Board e = absurd (let bad : [] ≡ codes "board" ∷ [] = e in cc)
 no_texts Replay e = absurd (let bad : [] ≡ codes "replay" ∷ [] = e in cc)
 no_texts Tourney e = absurd (let bad : [] ≡ codes "tourney" ∷ [] = e in cc)
+no_texts Tidy e = absurd (let bad : [] ≡ codes "tidy" ∷ [] = e in cc)
+no_texts (Bot depth) h = absurd (let bad : [] ≡ codes "bot" ∷ h.0 = h.1 in cc)
 no_texts (Serve port bind count) h = absurd (let bad : [] ≡ codes "serve" ∷ h.0 = h.1 in cc)
 
-pub no_word : (word : List ℕ) (rest : List (List ℕ)) → word ≢ codes "serve" → word ≢ codes "board" → word ≢ codes "replay" → word ≢ codes "tourney" → (job : Job) → TextsName (word ∷ rest) job → ⊥
-no_word word rest serve board replay tourney Board e = board (let same : word ∷ rest ≡ codes "board" ∷ [] = e in cc)
-no_word word rest serve board replay tourney Replay e = replay (let same : word ∷ rest ≡ codes "replay" ∷ [] = e in cc)
-no_word word rest serve board replay tourney Tourney e = tourney (let same : word ∷ rest ≡ codes "tourney" ∷ [] = e in cc)
-no_word word rest serve board replay tourney (Serve port bind count) h = serve (let same : word ∷ rest ≡ codes "serve" ∷ h.0 = h.1 in cc)
+pub no_word : (word : List ℕ) (rest : List (List ℕ)) → word ≢ codes "serve" → word ≢ codes "bot" → word ≢ codes "board" → word ≢ codes "replay" → word ≢ codes "tourney" → word ≢ codes "tidy" → (job : Job) → TextsName (word ∷ rest) job → ⊥
+no_word word rest serve bot board replay tourney tidy Board e = board (let same : word ∷ rest ≡ codes "board" ∷ [] = e in cc)
+no_word word rest serve bot board replay tourney tidy Replay e = replay (let same : word ∷ rest ≡ codes "replay" ∷ [] = e in cc)
+no_word word rest serve bot board replay tourney tidy Tourney e = tourney (let same : word ∷ rest ≡ codes "tourney" ∷ [] = e in cc)
+no_word word rest serve bot board replay tourney tidy Tidy e = tidy (let same : word ∷ rest ≡ codes "tidy" ∷ [] = e in cc)
+no_word word rest serve bot board replay tourney tidy (Bot depth) h = bot (let same : word ∷ rest ≡ codes "bot" ∷ h.0 = h.1 in cc)
+no_word word rest serve bot board replay tourney tidy (Serve port bind count) h = serve (let same : word ∷ rest ≡ codes "serve" ∷ h.0 = h.1 in cc)
 
-pub more_words : (word : List ℕ) (rest : List (List ℕ)) → word ≢ codes "serve" → rest ≢ [] → (job : Job) → TextsName (word ∷ rest) job → ⊥
-more_words word rest serve some Board e = some (let same : word ∷ rest ≡ codes "board" ∷ [] = e in cc)
-more_words word rest serve some Replay e = some (let same : word ∷ rest ≡ codes "replay" ∷ [] = e in cc)
-more_words word rest serve some Tourney e = some (let same : word ∷ rest ≡ codes "tourney" ∷ [] = e in cc)
-more_words word rest serve some (Serve port bind count) h = serve (let same : word ∷ rest ≡ codes "serve" ∷ h.0 = h.1 in cc)
+pub more_words : (word : List ℕ) (rest : List (List ℕ)) → word ≢ codes "serve" → word ≢ codes "bot" → rest ≢ [] → (job : Job) → TextsName (word ∷ rest) job → ⊥
+more_words word rest serve bot some Board e = some (let same : word ∷ rest ≡ codes "board" ∷ [] = e in cc)
+more_words word rest serve bot some Replay e = some (let same : word ∷ rest ≡ codes "replay" ∷ [] = e in cc)
+more_words word rest serve bot some Tourney e = some (let same : word ∷ rest ≡ codes "tourney" ∷ [] = e in cc)
+more_words word rest serve bot some Tidy e = some (let same : word ∷ rest ≡ codes "tidy" ∷ [] = e in cc)
+more_words word rest serve bot some (Bot depth) h = bot (let same : word ∷ rest ≡ codes "bot" ∷ h.0 = h.1 in cc)
+more_words word rest serve bot some (Serve port bind count) h = serve (let same : word ∷ rest ≡ codes "serve" ∷ h.0 = h.1 in cc)
 
 first_byte : List (List ℕ) → ℕ
 first_byte words = get_or (get_or words 0 []) 0 0
@@ -34,9 +40,26 @@ unfolding first_byte
 no_serve rest none Board e = let bad : 115 ≡ 98 = ap first_byte e in absurd (omega (arith, bad))
 no_serve rest none Replay e = let bad : 115 ≡ 114 = ap first_byte e in absurd (omega (arith, bad))
 no_serve rest none Tourney e = let bad : 115 ≡ 116 = ap first_byte e in absurd (omega (arith, bad))
+no_serve rest none Tidy e = let bad : 115 ≡ 116 = ap first_byte e in absurd (omega (arith, bad))
+no_serve rest none (Bot depth) h = let bad : 115 ≡ 98 = ap first_byte h.1 in absurd (omega (arith, bad))
 no_serve rest none (Serve port bind count) h =
     let same : rest ≡ h.0 = let both : codes "serve" ∷ rest ≡ codes "serve" ∷ h.0 = h.1 in cc in
     none port (string_bytes bind) count (subst (λ (w : List (List ℕ)). IsServe w port (string_bytes bind) count) (sym same) h.2)
+
+-- the last byte of the first word
+last_byte : List (List ℕ) → ℕ
+last_byte words = get_or (reverse (get_or words 0 [])) 0 0
+
+pub no_bot : (rest : List (List ℕ)) → ((depth : ℕ) → IsBot rest depth → ⊥) → (job : Job) → TextsName (codes "bot" ∷ rest) job → ⊥
+unfolding last_byte
+no_bot rest none Board e = let bad : 116 ≡ 100 = ap last_byte e in absurd (omega (arith, bad))
+no_bot rest none Replay e = let bad : 116 ≡ 121 = ap last_byte e in absurd (omega (arith, bad))
+no_bot rest none Tourney e = let bad : 116 ≡ 121 = ap last_byte e in absurd (omega (arith, bad))
+no_bot rest none Tidy e = let bad : 116 ≡ 121 = ap last_byte e in absurd (omega (arith, bad))
+no_bot rest none (Bot depth) h =
+    let same : rest ≡ h.0 = let both : codes "bot" ∷ rest ≡ codes "bot" ∷ h.0 = h.1 in cc in
+    none depth (subst (λ (w : List (List ℕ)). IsBot w depth) (sym same) h.2)
+no_bot rest none (Serve port bind count) h = let bad : 116 ≡ 101 = ap last_byte h.1 in absurd (omega (arith, bad))
 
 -- the options that the words give, and no others
 module _ (words : List (List ℕ)) (given : List GivenValue) (values : Chosen) (options : AreOptions words given) (tells : Tells given values) where

@@ -5,7 +5,7 @@ use Rattle.std.specs.List.{position_or_len, before_first, after_first}
 use Rattle.std.specs.declared.alloc.Global.{Global}
 use Rattle.fics_words.specs.Number.{IsDecimal}
 use Rattle.job_words.specs.declared.job.Job.{Job}
-use Rattle.job_words.specs.declared.job.Job.TheVariants.{Board, Replay, Tourney, Serve}
+use Rattle.job_words.specs.declared.job.Job.TheVariants.{Board, Replay, Tourney, Tidy, Bot, Serve}
 use Rattle.job_words.specs.declared.job.JobFail.{JobFail}
 use Rattle.job_words.specs.declared.job.JobFail.TheVariants as fail
 use Rattle.job_words.specs.declared.options.ServeOption.{ServeOption}
@@ -121,7 +121,15 @@ IsCount None (Some n) = ⊥
 IsCount (Some text) None = ⊥
 IsCount (Some text) (Some n) = NumberFrom1 (2 ^ 31) text n
 
+-- the bot looks 4 half-moves ahead at most
+abbrev pub IsDepth : List ℕ → ℕ → Type 0
+IsDepth text depth = IsDecimal 4 text depth
+
 -- ---- jobs
+
+-- the word behind `bot`: how many half-moves it looks ahead
+abbrev pub IsBot : List (List ℕ) → ℕ → Type 0
+IsBot words depth = (text : List ℕ) × (words ≡ text ∷ []) × IsDepth text depth
 
 -- the words behind `serve`: its options in any order, each at most once
 pub record IsServe (words : List (List ℕ)) (port : ℕ) (bind : List ℕ) (count : Option ℕ) : Type 0 where
@@ -138,6 +146,8 @@ abbrev pub TextsName : List (List ℕ) → Job → Type 0
 TextsName words Board = words ≡ codes "board" ∷ []
 TextsName words Replay = words ≡ codes "replay" ∷ []
 TextsName words Tourney = words ≡ codes "tourney" ∷ []
+TextsName words Tidy = words ≡ codes "tidy" ∷ []
+TextsName words (Bot depth) = (more : List (List ℕ)) × (words ≡ codes "bot" ∷ more) × IsBot more depth
 TextsName words (Serve port bind count) =
     (options : List (List ℕ)) × (words ≡ codes "serve" ∷ options) × IsServe options port (string_bytes bind) count
 

@@ -15,6 +15,13 @@ pub enum Job {
     Replay,
     /// Reads the lines of a round robin, and answers each.
     Tourney,
+    /// Reads PGN text, and writes its games in the export form.
+    Tidy,
+    /// Answers the position that lines of half-moves make with its best move.
+    Bot {
+        /// How many half-moves are looked ahead, from 0 to 4.
+        depth: u8,
+    },
     /// Serves players who connect.
     Serve {
         /// The port, from 1 on.

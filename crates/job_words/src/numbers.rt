@@ -1,7 +1,7 @@
-//! The numbers among the values of options.
+//! The numbers among the words.
 
 ghost use Rattle.std.specs.Prelude.{ℕ, Option, IfSome, IfNone, Some, option_copied};
-ghost use Rattle.job_words.specs.Jobs.{IsCount, IsPort, NumberFrom1};
+ghost use Rattle.job_words.specs.Jobs.{IsCount, IsDepth, IsPort, NumberFrom1};
 
 use fics_words::read_number;
 
@@ -10,6 +10,18 @@ const MOST_PORT: u64 = 65_535;
 
 /// The most connections of one run: 2^31.
 const MOST_COUNT: u64 = 2_147_483_648;
+
+/// The most half-moves that the bot looks ahead.
+const MOST_DEPTH: u64 = 4;
+
+/// Reads how many half-moves the bot looks ahead: 0 to 4.
+pub(crate) fn read_depth(text: &str) -> Option<u8>
+    ensures some { IfSome result (IsDepth text.now) }
+    ensures none { IfNone result ((depth : ℕ) → IsDepth text.now depth → ⊥) }
+{
+    let number = read_number(text.as_bytes(), MOST_DEPTH)?;
+    Some(number as u8)
+}
 
 /// Reads the port, which has to be there: 1 to 65,535.
 pub(crate) fn read_port(text: Option<&str>) -> Option<u16>

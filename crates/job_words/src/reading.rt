@@ -1,12 +1,12 @@
 //! The reading of the words.
 
 ghost use Rattle.std.specs.Prelude.{◌∷◌, ℕ, List, Option, IfOk, IfErr, IfSome, IfNone, codes, map, string_bytes};
-ghost use Rattle.job_words.specs.Jobs.{AreOptions, Chosen, GivenValue, IsServe, Names, OnUsage, Tells, TextsName};
+ghost use Rattle.job_words.specs.Jobs.{AreOptions, Chosen, GivenValue, IsBot, IsServe, Names, OnUsage, Tells, TextsName};
 ghost use Rattle.job_words.specs.declared.job.Job.{Job};
 
 use crate::chosen::Values;
 use crate::job::{Job, JobFail};
-use crate::numbers::{read_count, read_port};
+use crate::numbers::{read_count, read_depth, read_port};
 use crate::options::{Given, first_option};
 use std::alloc::Global;
 
@@ -25,6 +25,9 @@ pub fn read_job(alloc: Global, words: &[String]) -> Result<Job, JobFail>
     if word == "serve" {
         return read_serve(alloc, rest);
     }
+    if word == "bot" {
+        return read_bot(rest);
+    }
     if !rest.is_empty() {
         return Err(JobFail::Usage);
     }
@@ -37,7 +40,24 @@ pub fn read_job(alloc: Global, words: &[String]) -> Result<Job, JobFail>
     if word == "tourney" {
         return Ok(Job::Tourney);
     }
+    if word == "tidy" {
+        return Ok(Job::Tidy);
+    }
     Err(JobFail::Usage)
+}
+
+/// Reads the word behind `bot`.
+fn read_bot(words: &[String]) -> Result<Job, JobFail>
+    ensures job { IfOk result (TextsName (codes "bot" ∷ map string_bytes words.now)) }
+    ensures usage { IfErr result (λ fail. OnUsage fail ((depth : ℕ) → IsBot (map string_bytes words.now) depth → ⊥)) }
+{
+    let [word] = words else {
+        return Err(JobFail::Usage);
+    };
+    let Some(depth) = read_depth(word.as_str()) else {
+        return Err(JobFail::Usage);
+    };
+    Ok(Job::Bot { depth })
 }
 
 /// Reads the options of `serve`.

@@ -2,6 +2,7 @@
 use Rattle.std.proofs.Common.{◌≡◌, ℕ, ◌+◌, ◌^◌, ◌<◌, true, false, Bool, List, [], ◌∷◌, ◌++◌, length, refl, sym, ap, subst, ◌∙◌, arith, Some, None, append-nil, inl, inr, length-append}
 use Rattle.std.specs.Prelude.{◌⊎◌, Option, IfSome}
 use Rattle.std.specs.Option.{option_map_or}
+use Rattle.line_answers.specs.ClosingCommandEnds.{ClosingCommandEnds}
 use Rattle.line_answers.specs.Ends.{OnReadFault, OnWriteFault, status_of}
 use Rattle.line_answers.specs.LineCommand.{LineCommand, bad_in, first_bad, line_answer}
 use Rattle.line_answers.specs.LineCommandEnds.{LineCommandEnds, StopsAtBadLine, Spends}
@@ -56,3 +57,15 @@ module _ {S : Type 0} (command : LineCommand S) where
   is_complete (Some text) left' written written' P Q Memory h p q no_read no_write = λ short good. inr refl
   is_complete (Some text) left' written written' P Q BadLine h p q no_read no_write = λ short good. absurd (never_bad text left' written written' good h)
   is_complete (Some text) left' written written' P Q Spent h p q no_read no_write = λ short good. absurd (never_spent text left' written written' short h)
+
+  -- and where a text is written at the input's end
+  pub is_complete-closing : (closing : S → List ℕ) (left left' written written' : Option (List ℕ)) (P Q : Type 0) (end : End) → ClosingCommandEnds command closing left left' written written' end
+      → OnReadFault end P → OnWriteFault end Q → ¬ P → ¬ Q
+      → IfSome left (λ text. length text < 2 ^ 40 → bad_in command (lines_of text) ≡ None → (status_of end ≡ 0) ⊎ (status_of end ≡ 6))
+  is_complete-closing closing None left' written written' P Q end h p q no_read no_write = tt
+  is_complete-closing closing (Some text) left' written written' P Q Done h p q no_read no_write = λ short good. inl refl
+  is_complete-closing closing (Some text) left' written written' P Q ReadFault h p q no_read no_write = absurd (no_read p)
+  is_complete-closing closing (Some text) left' written written' P Q WriteFault h p q no_read no_write = absurd (no_write q)
+  is_complete-closing closing (Some text) left' written written' P Q Memory h p q no_read no_write = λ short good. inr refl
+  is_complete-closing closing (Some text) left' written written' P Q BadLine h p q no_read no_write = λ short good. absurd (never_bad text left' written written' good h)
+  is_complete-closing closing (Some text) left' written written' P Q Spent h p q no_read no_write = λ short good. absurd (never_spent text left' written written' short h)

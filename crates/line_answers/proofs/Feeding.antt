@@ -5,12 +5,14 @@ use Rattle.std.proofs.lemmas.Bool.{leb-true, leb-false}
 use Rattle.std.proofs.lemmas.List.{take_all, length-take-le}
 use Rattle.std.proofs.Math.Seq.{take-suc}
 use Rattle.line_answers.specs.Handling.{Reaching, IsOutsideAt, HasBadLine, AreLines, AfterAnswering, Takes, bad_line}
-use Rattle.line_answers.specs.Lines.{is_kept, but_last, last_of, last_line, whole_lines}
+use Rattle.line_answers.specs.Feeding.{AfterFeeding}
+use Rattle.line_answers.specs.Lines.{is_kept, but_last, last_of, last_line, lines_of, whole_lines}
+use Rattle.line_answers.specs.MachineFeeding.{line_feeding}
 use Rattle.line_answers.specs.Standing.{Standing}
 use Rattle.line_answers.specs.Progress.{Progress, IsLineAnswered, AfterLine, AfterFeed, AfterStop, OnBadLine}
 use Rattle.line_answers.specs.declared.stop.Stop.{Stop}
 use Rattle.line_answers.specs.declared.stop.Stop.TheVariants.{BadLine, Memory}
-use Rattle.line_answers.proofs.Pieces.{lines_of-dropped, whole_lines-push, last_line-push, whole_lines-feed, last_line-feed, Grows-whole_lines}
+use Rattle.line_answers.proofs.Pieces.{lines_of-dropped, lines_of-split, whole_lines-push, last_line-push, whole_lines-feed, last_line-feed, Grows-whole_lines}
 
 -- a prefix of a prefix
 pub take-front : (n : ℕ) (xs ys : List ℕ) → take n (take n xs ++ ys) ≡ take n (xs ++ ys)
@@ -171,6 +173,18 @@ AfterFeed-line reached ending taken b old new base out out' (Ok u) k e p h = Pro
 AfterFeed-line reached ending taken b old new base out out' (Err BadLine) k e p h =
     HasBadLine-last reached ending taken old base out out' p h.0 h.1 (whole_lines (taken ++ b ∷ [])) (whole_lines-feed taken b k e)
 AfterFeed-line reached ending taken b old new base out out' (Err Memory) k e p h = tt
+
+-- the machine after the input's end, which ends the last line
+pub AfterFeeding-last : {S A : Type 0} (reached : Reaching S) (closed : S → S → Type 0) (ending taken : List ℕ) (old new : Standing S) (base out out' : List ℕ) (r : Result A Stop)
+    → Progress reached taken old (base ++ out) → AfterLine reached ending old out new out' r → AfterFeeding (line_feeding reached closed ending) true taken new (base ++ out') r
+AfterFeeding-last reached closed ending taken old new base out out' (Ok u) p h =
+    let turned = h.answer_line (last_line taken) p.kept in
+    let text : (base ++ out) ++ turned.0 ≡ base ++ out' = append_assoc base out turned.0 ∙ ap (λ l. base ++ l) (sym turned.1) in
+    subst (λ (lines : List (List ℕ)). reached lines new.handler (base ++ out')) (sym (lines_of-split taken))
+    (subst (λ (due : List ℕ). reached (whole_lines taken ++ last_line taken ∷ []) new.handler due) text (turned.2 (whole_lines taken) (base ++ out) p.good))
+AfterFeeding-last reached closed ending taken old new base out out' (Err BadLine) p h =
+    HasBadLine-last reached ending taken old base out out' p h.0 h.1 (lines_of taken) (lines_of-split taken)
+AfterFeeding-last reached closed ending taken old new base out out' (Err Memory) p h = tt
 
 -- a stop in mid-piece holds of the whole piece
 pub AfterStop-more : {S : Type 0} (reached : Reaching S) (ending taken more whole written : List ℕ) (stop : Stop) → taken ++ more ≡ whole

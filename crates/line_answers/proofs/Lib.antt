@@ -1,7 +1,9 @@
+pub mod ClosingEnds
 pub mod Completeness
 pub mod Feeding
 pub mod HandlerLines
 pub mod LineCommandEnds
+pub mod MachineEnds
 pub mod Parts
 pub mod Pieces
 pub mod PlayedSteps

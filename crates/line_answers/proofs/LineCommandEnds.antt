@@ -16,7 +16,7 @@ use Rattle.line_answers.specs.declared.end.End.TheVariants.{Done, ReadFault, Wri
 use Rattle.line_answers.proofs.PlayedSteps.{IsPlayed-text}
 
 -- a prefix of the first part of a text is a prefix of the text
-AppendsFront-more : (written new : Option (List ℕ)) (due more all : List ℕ) → all ≡ due ++ more → AppendsFront written new due → AppendsFront written new all
+pub AppendsFront-more : (written new : Option (List ℕ)) (due more all : List ℕ) → all ≡ due ++ more → AppendsFront written new due → AppendsFront written new all
 AppendsFront-more written new due more all is front =
     let first = length (take front.0 due) in
     let same : take front.0 due ≡ take first all =
@@ -58,7 +58,7 @@ module _ {S : Type 0} (command : LineCommand S) where
   bad_at_bad lines due h = ap (bad_in command) h.parts ∙ h.good.good (h.line ∷ h.rest) ∙ bad-answer_line command (length h.before + 1) h.stands h.line h.rest None (refused lines due h)
 
   -- what is due for a prefix of lines is a prefix of their text
-  front_of_due : (lines : List (List ℕ)) (written written' : Option (List ℕ)) (before rest : List (List ℕ)) (due : List ℕ) → lines ≡ before ++ rest
+  pub front_of_due : (lines : List (List ℕ)) (written written' : Option (List ℕ)) (before rest : List (List ℕ)) (due : List ℕ) → lines ≡ before ++ rest
       → IsDue (IsPlayed command) command.ending before due → AppendsFront written written' due → AppendsFront written written' (text_of command lines)
   front_of_due lines written written' before rest due is (inl (s, p)) front =
       AppendsFront-more written written' due (answers command (length before + 1) s rest) (text_of command lines) (ap (text_of command) is ∙ p.text rest) front

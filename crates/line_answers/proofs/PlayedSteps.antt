@@ -3,7 +3,7 @@ use Rattle.std.proofs.Common.{◌≡◌, ℕ, ◌<◌, ◌≤◌, Bool, cond, Li
 use Rattle.std.specs.Prelude.{Option, Result, IfOk}
 use Rattle.std.proofs.lemmas.Bool.{le-ltb}
 use Rattle.line_answers.specs.Handling.{AfterAnswering}
-use Rattle.line_answers.specs.LineCommand.{IsAnswer, IsPlayed, LineCommand, line_answer, text_of}
+use Rattle.line_answers.specs.LineCommand.{IsAnswer, IsPlayed, LineCommand, last_state, line_answer, text_of}
 use Rattle.line_answers.specs.PlayedLines.{IsPlayed-answer_line, IsOutside-refused}
 
 module _ {S : Type 0} (command : LineCommand S) where
@@ -14,11 +14,15 @@ module _ {S : Type 0} (command : LineCommand S) where
 
   -- before the first line
   pub IsPlayed-none : IsPlayed command [] command.start []
-  IsPlayed-none = record { text = λ more. refl; good = λ more. refl }
+  IsPlayed-none = record { text = λ more. refl; good = λ more. refl; state = λ more. refl }
 
   -- and what is due for them is their text
   pub IsPlayed-text : (lines : List (List ℕ)) (state : S) (due : List ℕ) → IsPlayed command lines state due → text_of command lines ≡ due
   IsPlayed-text lines state due p = ap (text_of command) (sym (append-nil lines)) ∙ p.text [] ∙ append-nil due
+
+  -- and they bring the command here
+  pub IsPlayed-state : (lines : List (List ℕ)) (state : S) (due : List ℕ) → IsPlayed command lines state due → last_state command lines ≡ state
+  IsPlayed-state lines state due p = ap (last_state command) (sym (append-nil lines)) ∙ p.state []
 
   -- what the answer of a line does, as a step of the relation
   AfterAnswering-made : (old : S) (line out : List ℕ) (new : S) (out' : List ℕ) (made : Bool) (t : Option (S × List ℕ)) → line_answer command old line ≡ t

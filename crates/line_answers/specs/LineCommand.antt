@@ -28,6 +28,16 @@ first_bad command n s [] = None
 first_bad command n s (line ∷ lines) =
     option_map_or (λ p. first_bad command (n + 1) p.0 lines) (line_answer command s line) (Some n)
 
+-- where lines bring the command from here; a line outside the grammar, and what follows it, leaves it where it stands
+abbrev pub state_after : {S : Type 0} → LineCommand S → S → List (List ℕ) → S
+state_after command s [] = s
+state_after command s (line ∷ lines) =
+    option_map_or (λ p. state_after command p.0 lines) (line_answer command s line) s
+
+-- where the lines of an input bring the command
+abbrev pub last_state : {S : Type 0} → LineCommand S → List (List ℕ) → S
+last_state command lines = state_after command command.start lines
+
 -- what is written for the lines of an input; lines are counted from 1
 abbrev pub text_of : {S : Type 0} → LineCommand S → List (List ℕ) → List ℕ
 text_of command lines = answers command 1 command.start lines
@@ -37,10 +47,11 @@ abbrev pub bad_in : {S : Type 0} → LineCommand S → List (List ℕ) → Optio
 bad_in command lines = first_bad command 1 command.start lines
 
 -- the lines are good, bring the command from its start to here, and this text is due for them: whatever lines follow, the
--- answers of these are made from here, and their text goes on behind that text
+-- answers of these are made from here, bring it on from here, and their text goes on behind that text
 pub record IsPlayed {S : Type 0} (command : LineCommand S) (lines : List (List ℕ)) (s : S) (due : List ℕ) : Type 0 where
   pub text : (more : List (List ℕ)) → text_of command (lines ++ more) ≡ due ++ answers command (length lines + 1) s more
   pub good : (more : List (List ℕ)) → bad_in command (lines ++ more) ≡ first_bad command (length lines + 1) s more
+  pub state : (more : List (List ℕ)) → last_state command (lines ++ more) ≡ state_after command s more
 
 -- the answer of a line was made: the command stands where the function says and the line's text was appended, or the line
 -- is outside the grammar and nothing was

@@ -4,7 +4,7 @@ use Rattle.std.specs.Prelude.{Option, nat_lt}
 use Rattle.std.specs.Option.{option_map_or}
 use Rattle.std.proofs.lemmas.Bool.{lt-ltb, ltb-true, ltb-false}
 use Rattle.line_answers.specs.Handling.{AreLines, IsOutside, bad_line}
-use Rattle.line_answers.specs.LineCommand.{LineCommand, line_answer, answers, first_bad, text_of, bad_in, IsPlayed}
+use Rattle.line_answers.specs.LineCommand.{LineCommand, line_answer, answers, first_bad, state_after, last_state, text_of, bad_in, IsPlayed}
 
 module _ {S : Type 0} (command : LineCommand S) where
   -- a long line has no answer
@@ -21,6 +21,10 @@ module _ {S : Type 0} (command : LineCommand S) where
       → first_bad command n state (line ∷ lines) ≡ option_map_or (λ p. first_bad command (n + 1) p.0 lines) t (Some n)
   bad-answer_line n state line lines t e = ap (λ (x : Option (S × List ℕ)). option_map_or (λ p. first_bad command (n + 1) p.0 lines) x (Some n)) e
 
+  state-answer_line : (state : S) (line : List ℕ) (lines : List (List ℕ)) (t : Option (S × List ℕ)) → line_answer command state line ≡ t
+      → state_after command state (line ∷ lines) ≡ option_map_or (λ p. state_after command p.0 lines) t state
+  state-answer_line state line lines t e = ap (λ (x : Option (S × List ℕ)). option_map_or (λ p. state_after command p.0 lines) x state) e
+
   -- a good line behind good lines
   pub IsPlayed-answer_line : (lines : List (List ℕ)) (state next : S) (due line text : List ℕ) → line_answer command state line ≡ Some (next, text)
       → IsPlayed command lines state due → IsPlayed command (lines ++ line ∷ []) next (due ++ text)
@@ -36,6 +40,8 @@ module _ {S : Type 0} (command : LineCommand S) where
             ap (bad_in command) (append_assoc lines (line ∷ []) more) ∙ p.good (line ∷ more)
             ∙ bad-answer_line (length lines + 1) state line more (Some (next, text)) e
             ∙ ap (λ n. first_bad command n next more) number;
+        state = λ more.
+            ap (last_state command) (append_assoc lines (line ∷ []) more) ∙ p.state (line ∷ more) ∙ state-answer_line state line more (Some (next, text)) e;
       }
 
   -- played lines have none outside the grammar
@@ -54,6 +60,7 @@ module _ {S : Type 0} (command : LineCommand S) where
     due : List ℕ
     text : (more : List (List ℕ)) → answers command n state (lines ++ more) ≡ due ++ answers command (n + length lines) next more
     good : (more : List (List ℕ)) → first_bad command n state (lines ++ more) ≡ first_bad command (n + length lines) next more
+    after : (more : List (List ℕ)) → state_after command state (lines ++ more) ≡ state_after command next more
 
   GoesOn-cons : (n : ℕ) (state : S) (line : List ℕ) (lines more : List (List ℕ)) (t : Option (S × List ℕ)) → line_answer command state line ≡ t
       → option_map_or (λ p. first_bad command (n + 1) p.0 (lines ++ more)) t (Some n) ≡ None
@@ -71,12 +78,13 @@ module _ {S : Type 0} (command : LineCommand S) where
             ∙ ap (λ k. (p.1 ++ later.due) ++ answers command k later.next behind) number;
         good = λ behind.
             bad-answer_line n state line (lines ++ behind) (Some p) e ∙ later.good behind ∙ ap (λ k. first_bad command k later.next behind) number;
+        after = λ behind. state-answer_line state line (lines ++ behind) (Some p) e ∙ later.after behind;
       }
 
   GoesOn-front : (n : ℕ) (state : S) (lines more : List (List ℕ)) → first_bad command n state (lines ++ more) ≡ None → GoesOn n state lines
   GoesOn-front n state [] more good =
       let number : n ≡ n + length {A = List ℕ} [] = omega arith in
-      record { next = state; due = []; text = λ behind. ap (λ k. answers command k state behind) number; good = λ behind. ap (λ k. first_bad command k state behind) number }
+      record { next = state; due = []; text = λ behind. ap (λ k. answers command k state behind) number; good = λ behind. ap (λ k. first_bad command k state behind) number; after = λ behind. refl }
   GoesOn-front n state (line ∷ lines) more good = GoesOn-cons n state line lines more (line_answer command state line) refl good (λ p is. GoesOn-front (n + 1) p.0 lines more is)
 
   -- lines before good lines are played
@@ -89,6 +97,7 @@ module _ {S : Type 0} (command : LineCommand S) where
         record {
           text = λ behind. played.text behind ∙ ap (λ k. played.due ++ answers command k played.next behind) number;
           good = λ behind. played.good behind ∙ ap (λ k. first_bad command k played.next behind) number;
+          state = played.after;
         },
       )
 

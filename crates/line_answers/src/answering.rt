@@ -1,17 +1,16 @@
-//! The reading of the lines of a command: reads the input to its end, and has its lines answered as they come.
+//! The reading of the input of a feeder: reads it to its end, feeds what comes, and writes what is due for it.
 
-ghost use Rattle.std.specs.Prelude.{◌≢◌, ◌≤◌, ◌<◌, ◌+◌, ◌-◌, ◌^◌, [], ◌++◌, ℕ, List, length, IfErr};
+ghost use Rattle.std.specs.Prelude.{◌≢◌, ◌≤◌, [], ◌++◌, ℕ, List, true, false, IfErr};
 ghost use Rattle.std.specs.declared.option.Option.{Option};
 ghost use Rattle.std.specs.Io.KnownBytes.{Appends};
 ghost use Rattle.edge_traits.specs.Faults.{Rose};
 ghost use Rattle.line_answers.specs.Ends.{OnReadFault, OnWriteFault};
-ghost use Rattle.line_answers.specs.HandlerEnds.{HandlerEnds};
-ghost use Rattle.line_answers.specs.Progress.{Progress};
-ghost use Rattle.line_answers.specs.Reading.{AfterAnswer, AfterFinish, AfterSend, AfterSendAndClose, AfterSendLast};
+ghost use Rattle.line_answers.specs.FeederEnds.{FeederEnds};
+ghost use Rattle.line_answers.specs.Feeding.{CanBeFed};
+ghost use Rattle.line_answers.specs.Reading.{AfterAnswer, AfterFinish, AfterSend, AfterSendLast};
 
 use crate::end::End;
-use crate::line_handler::LineHandler;
-use crate::machine::Machine;
+use crate::feeder::Feeder;
 use crate::stop::Stop;
 use edge_traits::{Got, Sent, Sink, Source};
 use std::alloc::Global;
@@ -19,34 +18,33 @@ use std::alloc::Global;
 /// The most reads of one run: 2^40.
 const MOST_READS: u64 = 1_099_511_627_776;
 
-/// Reads the source to its end, has its lines answered by the handler, and writes what is due for them: one write a
-/// read. At the end of the input the handler is closed.
-pub fn answer_lines<S: Source, K: Sink, T: LineHandler>(
+/// Reads the source to its end, feeds what it gives, and writes what is due for it: one write a read. At the end of the
+/// input the feeder is closed, and what it gives then is written.
+pub fn answer_pieces<S: Source, K: Sink, F: Feeder>(
     alloc: Global,
-    handler: T,
+    mut feeder: F,
     source: &mut S,
     sink: &mut K,
 ) -> End
-    requires { T.reached [] handler [] }
-    ensures ends { HandlerEnds T.reached T.closed T.ending (S.left source.old) (S.left source.new) (K.written sink.old)
+    requires { F.feeding.fed false [] feeder [] }
+    ensures ends { FeederEnds F.feeding (S.left source.old) (S.left source.new) (K.written sink.old)
         (K.written sink.new) result }
     ensures read_cause { OnReadFault result (Rose (S.faults source.old) (S.faults source.new)) }
     ensures write_cause { OnWriteFault result (Rose (K.faults sink.old) (K.faults sink.new)) }
 {
-    let mut machine = Machine::new(alloc, handler);
     let mut out = Vec::new(alloc);
-    answer_reads(&mut machine, &mut out, source, sink)
+    answer_reads(&mut feeder, &mut out, source, sink)
 }
 
-/// Reads the source to its end, with a machine that was fed nothing yet.
-fn answer_reads<S: Source, K: Sink, T: LineHandler>(
-    machine: &mut Machine<T>,
+/// Reads the source to its end, with a feeder that was fed nothing yet.
+fn answer_reads<S: Source, K: Sink, F: Feeder>(
+    feeder: &mut F,
     out: &mut Vec<u8>,
     source: &mut S,
     sink: &mut K,
 ) -> End
-    requires { Progress T.reached [] machine.old [] }
-    ensures ends { HandlerEnds T.reached T.closed T.ending (S.left source.old) (S.left source.new) (K.written sink.old)
+    requires { F.feeding.fed false [] feeder.old [] }
+    ensures ends { FeederEnds F.feeding (S.left source.old) (S.left source.new) (K.written sink.old)
         (K.written sink.new) result }
     ensures read_cause { OnReadFault result (Rose (S.faults source.old) (S.faults source.new)) }
     ensures write_cause { OnWriteFault result (Rose (K.faults sink.old) (K.faults sink.new)) }
@@ -55,11 +53,11 @@ fn answer_reads<S: Source, K: Sink, T: LineHandler>(
     'reads: for _ in 0..MOST_READS {
         match source.read(&mut buf) {
             Got::Bytes(n) => {
-                if let Err(end) = answer(machine, &buf[..n], out, sink) {
+                if let Err(end) = answer(feeder, &buf[..n], out, sink) {
                     return end;
                 }
             }
-            Got::End => return finish(machine, out, sink),
+            Got::End => return finish(feeder, out, sink),
             Got::Failed => return End::ReadFault,
         }
     }
@@ -67,58 +65,57 @@ fn answer_reads<S: Source, K: Sink, T: LineHandler>(
 }
 
 /// Feeds what one read gave, and writes what is due for it.
-fn answer<K: Sink, T: LineHandler>(
-    machine: &mut Machine<T>,
+fn answer<K: Sink, F: Feeder>(
+    feeder: &mut F,
     piece: &[u8],
     out: &mut Vec<u8>,
     sink: &mut K,
 ) -> Result<(), End>
-    requires { machine.old.number + length piece.now < 2 ^ 64 }
+    requires { CanBeFed F.feeding feeder.old piece.now }
     ensures answered { (taken text : List ℕ) (written : Option (List ℕ)) → Appends written (K.written sink.old) text
-        → Progress T.reached taken machine.old text
-        → AfterAnswer T.reached T.ending (taken ++ piece.now) machine.new written (K.written sink.new) result }
+        → F.feeding.fed false taken feeder.old text
+        → AfterAnswer F.feeding (taken ++ piece.now) feeder.new written (K.written sink.new) result }
     ensures cause { IfErr result (λ end. OnWriteFault end (Rose (K.faults sink.old) (K.faults sink.new))) }
     ensures counted { K.faults sink.old ≤ K.faults sink.new }
 {
     out.clear();
-    match machine.feed(piece, out) {
+    match feeder.feed(piece, out) {
         Ok(()) => send(out.as_slice(), sink),
         Err(Stop::BadLine) => Err(send_last(out.as_slice(), sink, End::BadLine)),
         Err(Stop::Memory) => Err(End::Memory),
     }
 }
 
-/// Answers the last line, behind which there is no line feed, and closes the handler.
-fn finish<K: Sink, T: LineHandler>(machine: &mut Machine<T>, out: &mut Vec<u8>, sink: &mut K) -> End
-    requires { machine.old.number < 2 ^ 64 - 1 }
+/// Makes the feeder take the input's end, writes what is due for it, and closes the feeder.
+fn finish<K: Sink, F: Feeder>(feeder: &mut F, out: &mut Vec<u8>, sink: &mut K) -> End
+    requires { CanBeFed F.feeding feeder.old [] }
     ensures finished { (taken text : List ℕ) (written : Option (List ℕ)) → Appends written (K.written sink.old) text
-        → Progress T.reached taken machine.old text
-        → AfterFinish T.reached T.closed T.ending taken written (K.written sink.new) result }
+        → F.feeding.fed false taken feeder.old text
+        → AfterFinish F.feeding taken written (K.written sink.new) result }
     ensures cause { OnWriteFault result (Rose (K.faults sink.old) (K.faults sink.new)) }
 {
     out.clear();
-    match machine.end_line(out) {
-        Ok(()) => send_and_close(machine, out.as_slice(), sink),
+    match feeder.finish(out) {
+        Ok(()) => send_and_close(feeder, out, sink),
         Err(Stop::BadLine) => send_last(out.as_slice(), sink, End::BadLine),
         Err(Stop::Memory) => End::Memory,
     }
 }
 
-/// Writes the last bytes, and then closes the handler: so running out of memory in closing loses no answer.
-fn send_and_close<K: Sink, T: LineHandler>(
-    machine: &mut Machine<T>,
-    bytes: &[u8],
-    sink: &mut K,
-) -> End
-    ensures sent { AfterSendAndClose T.closed (K.written sink.old)
-        (K.written sink.new) bytes.now machine.old.handler machine.new.handler result }
+/// Writes the last answers, and only then closes the feeder, so running out of memory in closing loses no answer; then
+/// writes what it gives in closing.
+fn send_and_close<K: Sink, F: Feeder>(feeder: &mut F, out: &mut Vec<u8>, sink: &mut K) -> End
+    ensures finished { (taken text : List ℕ) (written : Option (List ℕ)) → Appends written (K.written sink.old) text
+        → F.feeding.fed true taken feeder.old (text ++ out.old.items)
+        → AfterFinish F.feeding taken written (K.written sink.new) result }
     ensures cause { OnWriteFault result (Rose (K.faults sink.old) (K.faults sink.new)) }
 {
-    if let Err(fault) = send(bytes, sink) {
+    if let Err(fault) = send(out.as_slice(), sink) {
         return fault;
     }
-    match machine.close() {
-        Ok(()) => End::Done,
+    out.clear();
+    match feeder.close(out) {
+        Ok(()) => send_last(out.as_slice(), sink, End::Done),
         Err(_) => End::Memory,
     }
 }

@@ -5,7 +5,7 @@ ghost use Rattle.edge_traits.specs.Faults.{Rose};
 ghost use Rattle.line_answers.specs.Ends.{OnReadFault, OnWriteFault};
 ghost use Rattle.line_answers.specs.LineCommandEnds.{LineCommandEnds};
 
-use crate::answering::answer_lines;
+use crate::by_lines::answer_lines;
 use crate::end::End;
 use crate::line_handler::LineHandler;
 use edge_traits::{Sink, Source};
@@ -37,8 +37,8 @@ pub trait LineAnswerer: Drop {
 
 /// A command as a handler of lines, which contracts see as the command.
 #[derive(Drop)]
-struct ByFunction<A: LineAnswerer> {
-    answerer: A,
+pub(crate) struct ByFunction<A: LineAnswerer> {
+    pub(crate) answerer: A,
 }
 
 impl<A: LineAnswerer> Model for ByFunction<A> {

@@ -4,6 +4,7 @@ ghost use Rattle.std.specs.Prelude.{◌≡◌, ◌≤◌, [], ◌∷◌, ◌++�
 ghost use Rattle.line_answers.specs.Handling.{bad_line};
 ghost use Rattle.line_answers.specs.Progress.{OnBadLine};
 
+use crate::feeder::Feeder;
 use crate::line_handler::LineHandler;
 use crate::stop::Stop;
 use fics_words::{NoMemory, write_number};
@@ -17,7 +18,7 @@ const MOST_BYTES: usize = 1_023;
 /// which it keeps one byte more than a line that is answered may have.
 #[derive(Drop)]
 pub struct Machine<T: LineHandler> {
-    handler: T,
+    pub(crate) handler: T,
     number: u64,
     kept: Vec<u8>,
 }
@@ -54,7 +55,7 @@ impl<T: LineHandler> Machine<T> {
     }
 
     /// Feeds bytes, and appends to `out` what is written for the lines that end in them.
-    pub fn feed(&mut self, piece: &[u8], out: &mut Vec<u8>) -> Result<(), Stop>
+    fn feed_bytes(&mut self, piece: &[u8], out: &mut Vec<u8>) -> Result<(), Stop>
         requires { self.old.number + length piece.now < 2 ^ 64 }
         ensures { (taken base : List ℕ) → Progress T.reached taken self.old (base ++ out.old.items)
             → AfterFeed T.reached T.ending (taken ++ piece.now) self.new (base ++ out.new.items) result }
@@ -82,7 +83,7 @@ impl<T: LineHandler> Machine<T> {
     }
 
     /// Ends the line: makes its answer, and appends what is written for it.
-    pub fn end_line(&mut self, out: &mut Vec<u8>) -> Result<(), Stop>
+    fn end_line(&mut self, out: &mut Vec<u8>) -> Result<(), Stop>
         requires { self.old.number < 2 ^ 64 - 1 }
         ensures line { AfterLine T.reached T.ending self.old out.old.items self.new out.new.items result }
         ensures count { OnOk result (self.new.number ≤ self.old.number + 1) }
@@ -101,11 +102,22 @@ impl<T: LineHandler> Machine<T> {
         self.kept.clear();
         Ok(())
     }
+}
 
-    /// Closes the handler at the input's end.
-    pub fn close(&mut self) -> Result<(), NoMemory>
-        ensures { OnOk result (T.closed self.old.handler self.new.handler) }
-    {
+impl<T: LineHandler> Feeder for Machine<T> {
+    ghost use Rattle.line_answers.specs.MachineFeeding.{line_feeding};
+
+    ghost feeding = { line_feeding T.reached T.closed T.ending };
+
+    fn feed(&mut self, piece: &[u8], out: &mut Vec<u8>) -> Result<(), Stop> {
+        self.feed_bytes(piece, out)
+    }
+
+    fn finish(&mut self, out: &mut Vec<u8>) -> Result<(), Stop> {
+        self.end_line(out)
+    }
+
+    fn close(&mut self, _out: &mut Vec<u8>) -> Result<(), NoMemory> {
         self.handler.close()
     }
 }
@@ -123,7 +135,7 @@ fn keep(byte: u8, kept: &mut Vec<u8>) -> Result<(), NoMemory>
 }
 
 /// Appends that the line of this number is outside the grammar.
-fn refuse_line(number: u64, ending: &[u8], out: &mut Vec<u8>) -> Stop
+pub fn refuse_line(number: u64, ending: &[u8], out: &mut Vec<u8>) -> Stop
     ensures { OnBadLine result (out.new.items ≡ out.old.items ++ bad_line ending.now number) }
 {
     let Ok(()) = write_bad_line(number, ending, out) else {

@@ -176,7 +176,7 @@ read_found p text m (Some word) e h = record { word = word; read = e; answered =
     by (Ok x) f = let same : x ≡ m = cc in ap Ok same
     by (Err x) f = absurd (let g : None ≡ Some m = f in cc)
 
-move_found : (p : Position) (text : List ℕ) (m : Move) → move_read p text ≡ Some m → IsReadAs p text m
+pub move_found : (p : Position) (text : List ℕ) (m : Move) → move_read p text ≡ Some m → IsReadAs p text m
 unfolding move_read
 move_found p text m h = read_found p text m (reading text) refl h
 

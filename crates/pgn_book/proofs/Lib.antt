@@ -11,4 +11,9 @@ pub mod ExportRead
 pub mod PiecesFound
 pub mod GamesFound
 pub mod Cuts
+pub mod SoundStates
+pub mod LinesLeft
+pub mod WholeRuns
+pub mod WholeGames
+pub mod StoredPlayed
 pub mod LinesFit

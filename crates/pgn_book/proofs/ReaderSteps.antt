@@ -1,5 +1,5 @@
 -- What a reader gives before and after a byte, and at the end.
-use Rattle.std.proofs.Common.{◌≡◌, ℕ, ◌+◌, Bool, true, false, List, [], ◌∷◌, ◌++◌, drop, Option, Some, None, refl, sym, ap, subst, ◌∙◌, append-nil}
+use Rattle.std.proofs.Common.{arith, ◌≡◌, ℕ, ◌+◌, Bool, true, false, List, [], ◌∷◌, ◌++◌, drop, Option, Some, None, refl, sym, ap, subst, ◌∙◌, append-nil}
 use Rattle.std.specs.Prelude.{is_some}
 use Rattle.std.proofs.lemmas.List.{drop-drop}
 use Rattle.pgn_book.specs.declared.game.PgnGame.{PgnGame}
@@ -8,7 +8,7 @@ use Rattle.pgn_book.specs.declared.reader.PgnStep.{PgnStep}
 use Rattle.pgn_book.specs.declared.reader.PgnStep.TheVariants.{Game, More, Bad}
 use Rattle.pgn_book.specs.Reading.{State, Step, step, gone, with_given, read_from, adding}
 use Rattle.pgn_book.specs.Taking.{on_if, IsStep}
-use Rattle.pgn_book.specs.Reader.{Reader, line_if, line_from, GoesOn, IsRead, IsNext, IsLast}
+use Rattle.pgn_book.specs.Reader.{Reader, line_if, line_from, GoesOn, IsRead, IsNext, IsLast, LeavesFewer}
 
 abbrev shown : Option State → ℕ → List ℕ → Reader
 shown on line rest = record { on = on; line = line; rest = rest }
@@ -81,3 +81,8 @@ more_last now mid new (Game g) h last = record {
 more_last now mid new More h last = read_on now mid None h.0.goes_on ∙ last
 more_last now mid new (Bad line) h last =
     (read_on now mid None h.0.goes_on ∙ last.0, last.1, last.2 ∙ sym (lines_on now mid None h.0.goes_on), last.3)
+
+pub fewer_last : (now mid new : Reader) (step : PgnStep) → LeavesFewer now More mid → LeavesFewer mid step new → LeavesFewer now step new
+fewer_last now mid new (Game g) h last = omega (arith, h, last)
+fewer_last now mid new More h last = omega (arith, h, last)
+fewer_last now mid new (Bad line) h last = tt

@@ -28,6 +28,10 @@ pub record ReadsInPieces : Type 0 where
   pub lost : (front rest : List ℕ) (games : List PgnGame) → (gone (Some first_state) front).on ≡ None
       → Reads (front ++ rest) games → ⊥
 
+-- each game that is read may be exported
+abbrev pub ReadsExportable : Type 0
+ReadsExportable = (text : List ℕ) (games : List PgnGame) → Reads text games → AllByRecursion IsExportable games
+
 -- the lines of a text
 abbrev pub lines_of : List ℕ → List (List ℕ)
 lines_of text = slice_split (λ b. b == 10) text

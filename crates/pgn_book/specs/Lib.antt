@@ -6,5 +6,9 @@ pub mod Pages
 pub mod Reading
 pub mod Taking
 pub mod Reader
+pub mod Sound
+pub mod BadLines
+pub mod Runs
+pub mod Stored
 pub mod Laws
 pub mod Examples

@@ -1,8 +1,11 @@
 -- The reader of PGN text: what is kept between calls, and what each call gives.
-use Rattle.std.specs.Prelude.{◌≡◌, ◌≢◌, ℕ, ◌+◌, Bool, true, false, ◌==◌, ◌&&◌, nat_lt, if◌then◌else◌, List, [], ◌∷◌, ◌++◌, Option, Some, None, is_some}
+use Rattle.std.specs.Prelude.{◌≡◌, ◌≢◌, ℕ, ◌+◌, ◌*◌, ◌<◌, ◌≤◌, Bool, true, false, ◌==◌, ◌&&◌, nat_lt, if◌then◌else◌, List, [], ◌∷◌, ◌++◌, length, Option, Some, None, is_some}
 use Rattle.pgn_book.specs.declared.game.PgnGame.{PgnGame}
+use Rattle.pgn_book.specs.declared.place.Place.{Place}
+use Rattle.pgn_book.specs.declared.place.Place.TheVariants.{InWord}
 use Rattle.pgn_book.specs.declared.reader.PgnStep.{PgnStep}
 use Rattle.pgn_book.specs.declared.reader.PgnStep.TheVariants.{Game, More, Bad}
+use Rattle.pgn_book.specs.Export.{IsExportable}
 use Rattle.pgn_book.specs.Reading.{State, step, first_state, read_from, adding, nothing_read, gone, with_given, is_at_rest}
 
 -- the state, unless no text goes on so; its line; and what was fed and not yet read
@@ -41,6 +44,30 @@ pub record GoesOn (old : Reader) (given : Option PgnGame) (new : Reader) : Type 
   pub read : (more : List ℕ) → read_from old.on (old.rest ++ more) ≡ adding given (read_from new.on (new.rest ++ more))
   pub line : (more : List ℕ) → line_from old.line old.on (old.rest ++ more)
       ≡ line_from new.line new.on (new.rest ++ more)
+
+-- 1 where a word has begun, which may be the result of a game
+abbrev pub words_begun : Place → ℕ
+words_begun (InWord glyph word) = 1
+words_begun place = 0
+
+abbrev pub words_open : Option State → ℕ
+words_open None = 0
+words_open (Some s) = words_begun s.place
+
+-- no more games than so many are left in what was fed: it falls with each that is given, and doesn't rise where none is
+abbrev pub most_left : Reader → ℕ
+most_left r = 2 * length r.rest + words_open r.on
+
+abbrev pub LeavesFewer : Reader → PgnStep → Reader → Type 0
+LeavesFewer old (Game g) new = most_left new < most_left old
+LeavesFewer old More new = most_left new ≤ most_left old
+LeavesFewer old (Bad line) new = Unit {0}
+
+-- a game that is given may be exported
+abbrev pub MayBeExported : PgnStep → Type 0
+MayBeExported (Game g) = IsExportable g
+MayBeExported More = Unit {0}
+MayBeExported (Bad line) = Unit {0}
 
 -- all that was fed was read, and no game was in it
 pub record IsRead (old new : Reader) : Type 0 where

@@ -334,6 +334,17 @@ finished_in (InWord glyph word) depth book =
     adding (took book (piece_of glyph word)).given (resting depth (took book (piece_of glyph word)).on)
 finished_in _ depth book = nothing_read
 
+-- what the end of the text makes of a state: maybe a game, and the state behind it, unless the text may not end there
+abbrev pub ended_in : Place → ℕ → Book → Step
+ended_in Start depth book = silent (Some (state_at (Between false) depth book))
+ended_in (Between fresh) depth book = silent (Some (state_at (Between false) depth book))
+ended_in InLine depth book = silent (Some (state_at (Between false) depth book))
+ended_in (InWord glyph word) depth book = record {
+  given = (took book (piece_of glyph word)).given;
+  on = to_place (Between false) depth (took book (piece_of glyph word)).on;
+}
+ended_in _ depth book = silent None
+
 -- the games of what follows, and whether it ends behind a whole game
 abbrev pub read_from : Option State → List ℕ → Outcome
 read_from None text = nothing_read

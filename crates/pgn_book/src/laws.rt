@@ -1,7 +1,9 @@
 //! Laws of the grammar and of the export form.
 ghost use Rattle.pgn_book.specs.Examples.{ExportExamples, TextExamples};
 ghost use Rattle.pgn_book.specs.Games.{OneReading};
-ghost use Rattle.pgn_book.specs.Laws.{ExportsReadBack, LinesFit, ReaderReads, ReadsInPieces};
+ghost use Rattle.pgn_book.specs.BadLines.{OneLine};
+ghost use Rattle.pgn_book.specs.Runs.{RunsReadTheText, WholeGamesAreTold};
+ghost use Rattle.pgn_book.specs.Laws.{ExportsReadBack, LinesFit, ReaderReads, ReadsExportable, ReadsInPieces};
 
 /// The grammar reads at most one list of games in a text.
 pub fn texts_have_one_reading()
@@ -26,6 +28,23 @@ pub fn texts_are_read_from_left_to_right()
 /// A text is read alike however it is cut, and what begins with bytes behind which no reading goes on isn't read.
 pub fn texts_are_read_in_pieces()
     ensures { ReadsInPieces }
+{}
+
+/// However a text is cut and games are asked for, a reader gives exactly the games that the grammar reads in it, or the
+/// line on which it leaves the grammar.
+pub fn runs_read_the_text()
+    ensures runs { RunsReadTheText }
+    ensures one_line { OneLine }
+{}
+
+/// The games that are told of a text, read or not, are those that are whole in it.
+pub fn whole_games_are_told()
+    ensures { WholeGamesAreTold }
+{}
+
+/// Each game that the grammar reads may be exported.
+pub fn games_that_are_read_can_be_exported()
+    ensures { ReadsExportable }
 {}
 
 /// What is read in small texts.

@@ -2,6 +2,7 @@
 ghost use Rattle.std.specs.Prelude.{◌≡◌, [], ◌∷◌, ◌++◌, drop, IfOk, OnOk, OnErr, IfSome, IfNone};
 ghost use Rattle.pgn_book.specs.Reader.{line_if};
 
+use crate::book::Read;
 use crate::game::PgnGame;
 use crate::walk::Walk;
 use memory::NoMemory;
@@ -34,6 +35,7 @@ pub struct PgnReader {
 impl Model for PgnReader {
     ghost use Rattle.std.specs.Prelude.{◌≤◌, drop, vec_len};
     ghost use Rattle.pgn_book.specs.Reader.{Reader};
+    ghost use Rattle.pgn_book.specs.Sound.{IsSoundIf};
     ghost use Rattle.pgn_book.specs.Taking.{on_if};
 
     ghost Value = { Reader };
@@ -44,11 +46,13 @@ impl Model for PgnReader {
       rest = drop reader.looked_at reader.fed.items;
     } };
 
-    ghost invariant = { λ reader. reader.looked_at ≤ vec_len reader.fed };
+    ghost invariant = { λ reader. (reader.looked_at ≤ vec_len reader.fed)
+        × IsSoundIf (on_if reader.goes_on reader.walk) };
 }
 
 impl PgnReader {
-    ghost use Rattle.pgn_book.specs.Reader.{GoesOn, IsLast, IsNext, Reader, fresh_reader, rests};
+    ghost use Rattle.pgn_book.specs.Export.{IsExportable};
+    ghost use Rattle.pgn_book.specs.Reader.{GoesOn, IsLast, IsNext, LeavesFewer, MayBeExported, Reader, fresh_reader, rests};
 
     /// A reader before the first byte.
     pub fn new(alloc: Global) -> Result<PgnReader, NoMemory>
@@ -73,10 +77,12 @@ impl PgnReader {
         Ok(())
     }
 
-    /// The next whole game of what was fed; `More` exactly where there is none and nothing is outside the grammar;
-    /// `Bad`, from then on, where something is. Out of memory, nothing is promised of the reader.
+    /// The next whole game of what was fed, which may be exported; `More` exactly where there is none and nothing is
+    /// outside the grammar; `Bad`, from then on, where something is. Out of memory, nothing is promised of the reader.
     pub fn next(&mut self) -> Result<PgnStep, NoMemory>
-        ensures { IfOk result (λ step. IsNext self.old step self.new) }
+        ensures next { IfOk result (λ step. IsNext self.old step self.new) }
+        ensures exportable { IfOk result MayBeExported }
+        ensures fewer { IfOk result (λ step. LeavesFewer self.old step self.new) }
     {
         while let Some(byte) = self.peek() {
             if let Some(game) = self.take(byte)? {
@@ -90,10 +96,13 @@ impl PgnReader {
         Ok(PgnStep::Bad(self.line))
     }
 
-    /// At the end of the text, the next game; `More` exactly where nothing of a game is left; `Bad`, from then on,
-    /// where something is, or something is outside the grammar. Out of memory, nothing is promised of the reader.
+    /// At the end of the text, the next game, which may be exported; `More` exactly where nothing of a game is left;
+    /// `Bad`, from then on, where something is, or something is outside the grammar. Out of memory, nothing is promised
+    /// of the reader.
     pub fn finish(&mut self) -> Result<PgnStep, NoMemory>
-        ensures { IfOk result (λ step. IsLast self.old step self.new) }
+        ensures last { IfOk result (λ step. IsLast self.old step self.new) }
+        ensures exportable { IfOk result MayBeExported }
+        ensures fewer { IfOk result (λ step. LeavesFewer self.old step self.new) }
     {
         match self.next()? {
             PgnStep::More => self.end(),
@@ -104,15 +113,18 @@ impl PgnReader {
     /// Takes the end of the text.
     fn end(&mut self) -> Result<PgnStep, NoMemory>
         requires all { self.old.rest ≡ [] }
-        ensures { IfOk result (λ step. IsLast self.old step self.new) }
+        ensures last { IfOk result (λ step. IsLast self.old step self.new) }
+        ensures exportable { IfOk result MayBeExported }
+        ensures fewer { IfOk result (λ step. LeavesFewer self.old step self.new) }
     {
         if !self.goes_on {
             return Ok(PgnStep::Bad(self.line));
         }
-        let read = self.walk.finish(self.alloc)?;
+        self.goes_on = false;
+        let Read { game, goes_on } = self.walk.finish(self.alloc)?;
         self.walk.rest();
-        self.goes_on = read.goes_on;
-        if let Some(game) = read.game {
+        self.goes_on = goes_on;
+        if let Some(game) = game {
             return Ok(PgnStep::Game(game));
         }
         if self.is_at_rest() {
@@ -140,17 +152,27 @@ impl PgnReader {
     fn take(&mut self, byte: u8) -> Result<Option<PgnGame>, NoMemory>
         requires { self.old.rest ≡ byte ∷ drop 1 self.old.rest }
         ensures goes_on { IfOk result (λ given. GoesOn self.old given self.new) }
+        ensures exportable { IfOk result (λ given. IfSome given IsExportable) }
         ensures rest { OnOk result (self.new.rest ≡ drop 1 self.old.rest) }
     {
-        self.looked_at += 1;
+        self.pass(byte);
         if !self.goes_on {
             return Ok(None);
         }
+        self.goes_on = false;
         let read = self.walk.step(self.alloc, byte)?;
         self.goes_on = read.goes_on;
         let line = line_behind(read.goes_on, self.line, byte);
         self.line = line;
         Ok(read.game)
+    }
+
+    /// Passes over the next byte.
+    fn pass(&mut self, byte: u8)
+        requires { self.old.rest ≡ byte ∷ drop 1 self.old.rest }
+        ensures { self.new ≡ record self.old { rest = drop 1 self.old.rest } }
+    {
+        self.looked_at += 1;
     }
 
     /// Forgets the bytes that were looked at.

@@ -132,7 +132,7 @@ fn take_out(slot: &mut Option<Listed<u8>>, alloc: Global) -> Listed<u8>
 }
 
 /// A list of these bytes.
-fn copied(alloc: Global, bytes: &[u8]) -> Result<Listed<u8>, NoMemory>
+pub(crate) fn copied(alloc: Global, bytes: &[u8]) -> Result<Listed<u8>, NoMemory>
     ensures { IfOk result (λ list. list ≡ bytes.now) }
 {
     let mut list = Listed::new(alloc);

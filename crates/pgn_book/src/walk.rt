@@ -1,6 +1,6 @@
 //! Reading PGN text a byte at a time.
 ghost use Rattle.std.specs.Prelude.{◌≡◌, ◌==◌, ◌∷◌, ◌++◌, [], if◌then◌else◌, IfOk, OnOk, Option, Some, None};
-ghost use Rattle.pgn_book.specs.Reading.{State, adding, begun, closes, first_state, in_braces, in_line, in_quotes, in_stroke, is_at_rest, longer, nested, opens, outside, piece_of, read_from, skipping, started, state_at, step, step_in, took};
+ghost use Rattle.pgn_book.specs.Reading.{State, adding, begun, closes, ended_in, first_state, in_braces, in_line, in_quotes, in_stroke, is_at_rest, longer, nested, opens, outside, piece_of, read_from, skipping, started, state_at, step, step_in, took};
 ghost use Rattle.pgn_book.specs.declared.place.Place.TheVariants.{InWord, InQuotes};
 ghost use Rattle.pgn_book.specs.Taking.{IsStep, IsTaken, between, on_if};
 
@@ -65,6 +65,8 @@ impl Walk {
     pub(crate) fn finish(&mut self, alloc: Global) -> Result<Read, NoMemory>
         ensures read { IfOk result (λ read. read_from (Some self.old) []
             ≡ adding read.game (read_from (on_if read.goes_on (between self.new)) [])) }
+        ensures ended { IfOk result (λ read. IsStep read (between self.new)
+            (ended_in self.old.place self.old.depth self.old.book)) }
     {
         match mem::replace(&mut self.place, Place::Between { fresh: false }) {
             Place::Start => Ok(silent(true)),

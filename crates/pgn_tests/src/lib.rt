@@ -1,7 +1,10 @@
-//! Tests of the reader of PGN text: a table of texts with what stands in them, written out by hand from the grammar.
+//! Tests of PGN text: a table of texts with what stands in them, and one of stored games with their exports, both written
+//! out by hand.
 #![tactic(auto)]
 
 #[cfg(test)]
 mod reading;
+#[cfg(test)]
+mod stored;
 #[cfg(test)]
 mod telling;

@@ -6,6 +6,8 @@ mod board_ends;
 #[cfg(test)]
 mod boards;
 #[cfg(test)]
+mod bots;
+#[cfg(test)]
 mod evenings;
 #[cfg(test)]
 mod known_games;
@@ -45,5 +47,7 @@ mod replays;
 mod running;
 #[cfg(test)]
 mod serves;
+#[cfg(test)]
+mod tidies;
 #[cfg(test)]
 mod tourneys;

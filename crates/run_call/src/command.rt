@@ -2,7 +2,7 @@
 
 ghost use Rattle.std.specs.Prelude.{IfOk, IfErr};
 ghost use Rattle.job_words.specs.Jobs.{OnUsage};
-ghost use Rattle.run_call.specs.Words.{IsCommand, Names};
+ghost use Rattle.run_call.specs.Words.{IsCommand, IsWithin, Names};
 
 use job_words::{Job, JobFail, read_job};
 use std::alloc::Global;
@@ -16,17 +16,27 @@ pub enum Command {
     Replay,
     /// Reads the lines of a round robin, and answers each.
     Tourney,
+    /// Reads PGN text, and writes its games in the export form.
+    Tidy,
+    /// Answers the position that lines of half-moves make with its best move.
+    Bot {
+        /// How many half-moves are looked ahead, from 0 to 4.
+        depth: u8,
+    },
 }
 
 /// Reads the words. Those of a job that isn't done here are `Usage` too.
 pub(crate) fn read_command(alloc: Global, words: &[String]) -> Result<Command, JobFail>
     ensures command { IfOk result (Names words.now) }
+    ensures within { IfOk result IsWithin }
     ensures usage { IfErr result (λ fail. OnUsage fail (¬ (IsCommand words.now))) }
 {
     match read_job(alloc, words) {
         Ok(Job::Board) => Ok(Command::Board),
         Ok(Job::Replay) => Ok(Command::Replay),
         Ok(Job::Tourney) => Ok(Command::Tourney),
+        Ok(Job::Tidy) => Ok(Command::Tidy),
+        Ok(Job::Bot { depth }) => Ok(Command::Bot { depth }),
         Ok(Job::Serve { .. }) => Err(JobFail::Usage),
         Err(fail) => Err(fail),
     }

@@ -2,7 +2,9 @@
 //!
 //! The contract: what is written is what the words' command says of the lines of the bytes read. For `board` it is
 //! the answer that each line makes of a game; for `replay` it is the transcript of the one evening that has these
-//! lines, whose acts are one legal history; for `tourney` it is the answer that each line makes of a round robin.
+//! lines, whose acts are one legal history; for `tourney` it is the answer that each line makes of a round robin; for
+//! `tidy` it is the exports of the games that the grammar of PGN text reads in these bytes; for `bot` it is the best
+//! move of the position that the lines make, and its value.
 //! Each status comes where it is stated to come, and a fault of reading or writing is told only where the object
 //! outside counted one.
 #![tactic(auto)]

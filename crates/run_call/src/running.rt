@@ -4,20 +4,21 @@ ghost use Rattle.std.specs.Prelude.{◌≡◌, ◌⊎◌, ◌<◌, ◌^◌, [], 
 ghost use Rattle.std.specs.Io.KnownBytes.{Appends, Keeps};
 ghost use Rattle.edge_traits.specs.Faults.{Rose};
 ghost use Rattle.line_answers.specs.Ends.{OnReadFault, OnWriteFault};
-ghost use Rattle.line_answers.specs.Lines.{lines_of};
-ghost use Rattle.run_call.specs.RunEnds.{AreGood, CommandEnds, WritesPart};
+ghost use Rattle.run_call.specs.RunEnds.{CommandEnds, IsGood, WritesPart};
 ghost use Rattle.job_words.specs.Usage.{usage_line};
-ghost use Rattle.run_call.specs.Words.{Does, IsCommand, Names};
+ghost use Rattle.run_call.specs.Words.{Does, IsCommand, IsWithin, Names};
 ghost use Rattle.line_answers.specs.declared.end.End.{End};
 ghost use Rattle.run_call.specs.declared.command.Command.{Command};
 
 use crate::command::{Command, read_command};
 use board_command::board;
+use bot_command::bot;
 use edge_traits::{Keeper, Sink, Source};
 use job_words::{JobFail, tell_usage};
 use line_answers::{End, status};
 use replay_command::replay;
 use std::alloc::Global;
+use tidy_command::tidy;
 use tourney_command::tourney;
 
 /// Runs the command that the words name, and gives the status with which the program ends: 0 where the input was
@@ -49,7 +50,7 @@ pub fn run<S: Source, K: Sink, P: Keeper>(
         (CommandEnds (S.left source.old) (S.left source.new) (K.written sink.old) (K.written sink.new) End.Spent) }
     ensures complete { (command : Command) → Names words.now command → ¬ (Rose (S.faults source.old) (S.faults source.new))
         → ¬ (Rose (K.faults sink.old) (K.faults sink.new))
-        → IfSome (S.left source.old) (λ text. length text < 2 ^ 40 → AreGood (lines_of text) command → (result ≡ 0)
+        → IfSome (S.left source.old) (λ text. length text < 2 ^ 40 → IsGood text command → (result ≡ 0)
         ⊎ (result ≡ 6)) }
     ensures statuses { Contains (0 ∷ 1 ∷ 2 ∷ 3 ∷ 6 ∷ 7 ∷ 9 ∷ []) result }
     ensures keeper_stays { keeper.new ≡ keeper.old }
@@ -68,6 +69,7 @@ fn run_command<S: Source, K: Sink>(
     source: &mut S,
     sink: &mut K,
 ) -> End
+    requires { IsWithin command }
     ensures ends { CommandEnds (S.left source.old) (S.left source.new) (K.written sink.old)
         (K.written sink.new) result command }
     ensures read_cause { OnReadFault result (Rose (S.faults source.old) (S.faults source.new)) }
@@ -77,5 +79,7 @@ fn run_command<S: Source, K: Sink>(
         Command::Board => board(alloc, source, sink),
         Command::Replay => replay(alloc, source, sink),
         Command::Tourney => tourney(alloc, source, sink),
+        Command::Tidy => tidy(alloc, source, sink),
+        Command::Bot { depth } => bot(alloc, depth, source, sink),
     }
 }

@@ -1,7 +1,7 @@
-use Rattle.std.proofs.Common.{◌++◌, take, refl, ◌∙◌, arith}
+use Rattle.std.proofs.Common.{[], ◌++◌, take, refl, ◌∙◌, arith}
 use Rattle.std.proofs.lemmas.List.{length-take-le}
 use Rattle.std.proofs.KnownBytes.{Keeps-refl}
-use Rattle.line_answers.proofs.Rounds.{Reading-start, Reading-next, number-small, HandlerEnds-refused, HandlerEnds-finished, OnReadFault-refused, OnReadFault-finished, OnWriteFault-since, Rose-since, AreAnswered-so_far, AreSpent-reads}
+use Rattle.line_answers.proofs.Rounds.{Reading-start, Reading-next, can_be_fed, FeederEnds-refused, FeederEnds-finished, OnReadFault-refused, OnReadFault-finished, OnWriteFault-since, Rose-since, IsBegun-so_far, IsSpent-reads}
 use Rattle.line_answers.proofs.answering.answer_reads.Goals as goal
 
 pub reads-init : goal.reads-init
@@ -9,7 +9,7 @@ reads-init g c =
     let left = g.S.Source.left c.args.source.now in
     let written = g.K.Sink.written c.args.sink.now in
     record {
-      reading = Reading-start g.T.LineHandler.reached c.args.machine.now left written c.requires;
+      reading = Reading-start g.F.Feeder.feeding c.args.feeder.now left written c.requires;
       read_count = omega arith;
       write_count = omega arith;
       room = refl;
@@ -18,49 +18,44 @@ reads-init g c =
 pub answer-requires : goal.answer-requires
 answer-requires g c =
     let i = c.reads.invariant in
-    let small = number-small g.T.LineHandler.reached _ _ _ _ c.reads.machine c.reads.counter (omega arith) i.reading in
     let piece = length-take-le c.in-Bytes.n c.read.new.buf c.in-Bytes.ensures.took.1 in
-    omega (arith, small, piece, c.in-Bytes.ensures.took.1, i.room, c.read.auto.buf)
+    can_be_fed g.F.Feeder.feeding _ _ _ _ c.reads.feeder c.reads.counter (take c.in-Bytes.n c.read.new.buf) (omega arith)
+    (omega (arith, piece, c.in-Bytes.ensures.took.1, i.room, c.read.auto.buf)) i.reading
 
 pub returns-in-Err-clause-ends : goal.returns-in-Err-clause-ends
 returns-in-Err-clause-ends g c =
-    let h = g.T.LineHandler in
     let r = c.reads.invariant.reading in
     let w = g.K.Sink.written in
-    HandlerEnds-refused h.reached h.closed h.ending _ _ (g.S.Source.left c.read.new.self) _ _ (w c.answer.new.sink) c.reads.machine c.answer.new.machine c.reads.counter r c.in-Bytes.n c.read.new.buf c.in-Bytes.ensures.took c.in-Err.end
-    (c.in-Err.ensures.answered r.taken r.text (w c.args.sink.now) r.wrote r.progress)
+    FeederEnds-refused g.F.Feeder.feeding _ _ (g.S.Source.left c.read.new.self) _ _ (w c.answer.new.sink) c.reads.feeder c.answer.new.feeder c.reads.counter r c.in-Bytes.n c.read.new.buf c.in-Bytes.ensures.took c.in-Err.end
+    (c.in-Err.ensures.answered r.taken r.text (w c.args.sink.now) r.wrote r.fed)
 
 pub returns-in-Err-clause-read_cause : goal.returns-in-Err-clause-read_cause
 returns-in-Err-clause-read_cause g c =
     let r = c.reads.invariant.reading in
     let w = g.K.Sink.written in
-    OnReadFault-refused g.T.LineHandler.reached g.T.LineHandler.ending (r.taken ++ take c.in-Bytes.n c.read.new.buf) (w c.args.sink.now) (w c.answer.new.sink) _ c.in-Err.end
-    (c.in-Err.ensures.answered r.taken r.text (w c.args.sink.now) r.wrote r.progress)
+    OnReadFault-refused g.F.Feeder.feeding _ (r.taken ++ take c.in-Bytes.n c.read.new.buf) (w c.args.sink.now) (w c.answer.new.sink) _ c.in-Err.end
+    (c.in-Err.ensures.answered r.taken r.text (w c.args.sink.now) r.wrote r.fed)
 
 pub returns-in-Err-clause-write_cause : goal.returns-in-Err-clause-write_cause
 returns-in-Err-clause-write_cause g c =
     OnWriteFault-since _ _ _ c.in-Err.end c.reads.invariant.write_count c.in-Err.ensures.cause
 
 pub finish-requires : goal.finish-requires
-finish-requires g c =
-    let small = number-small g.T.LineHandler.reached _ _ _ _ c.reads.machine c.reads.counter (omega arith) c.reads.invariant.reading in
-    omega (arith, small)
+finish-requires g c = can_be_fed g.F.Feeder.feeding _ _ _ _ c.reads.feeder c.reads.counter [] (omega arith) (omega arith) c.reads.invariant.reading
 
 pub returns-in-End-clause-ends : goal.returns-in-End-clause-ends
 returns-in-End-clause-ends g c =
-    let h = g.T.LineHandler in
     let r = c.reads.invariant.reading in
     let w = g.K.Sink.written in
-    HandlerEnds-finished h.reached _ _ (g.S.Source.left c.read.new.self) _ _ c.reads.machine c.reads.counter r c.in-End.ensures.took.0 h.closed h.ending (w c.finish.new.sink) c.finish.result c.in-End.ensures.took.1
-    (c.finish.ensures.finished r.taken r.text (w c.args.sink.now) r.wrote r.progress)
+    FeederEnds-finished g.F.Feeder.feeding _ _ (g.S.Source.left c.read.new.self) _ _ c.reads.feeder c.reads.counter r c.in-End.ensures.took.0 (w c.finish.new.sink) c.finish.result c.in-End.ensures.took.1
+    (c.finish.ensures.finished r.taken r.text (w c.args.sink.now) r.wrote r.fed)
 
 pub returns-in-End-clause-read_cause : goal.returns-in-End-clause-read_cause
 returns-in-End-clause-read_cause g c =
-    let h = g.T.LineHandler in
     let r = c.reads.invariant.reading in
     let w = g.K.Sink.written in
-    OnReadFault-finished h.reached h.closed h.ending r.taken (w c.args.sink.now) (w c.finish.new.sink) _ c.finish.result
-    (c.finish.ensures.finished r.taken r.text (w c.args.sink.now) r.wrote r.progress)
+    OnReadFault-finished g.F.Feeder.feeding r.taken (w c.args.sink.now) (w c.finish.new.sink) _ c.finish.result
+    (c.finish.ensures.finished r.taken r.text (w c.args.sink.now) r.wrote r.fed)
 
 pub returns-in-End-clause-write_cause : goal.returns-in-End-clause-write_cause
 returns-in-End-clause-write_cause g c =
@@ -68,7 +63,7 @@ returns-in-End-clause-write_cause g c =
 
 pub returns-in-Failed-clause-ends : goal.returns-in-Failed-clause-ends
 returns-in-Failed-clause-ends g c =
-    AreAnswered-so_far g.T.LineHandler.reached _ _ (g.S.Source.left c.read.new.self) _ _ c.reads.machine c.reads.counter c.reads.invariant.reading c.in-Failed.ensures.took
+    IsBegun-so_far g.F.Feeder.feeding _ _ (g.S.Source.left c.read.new.self) _ _ c.reads.feeder c.reads.counter c.reads.invariant.reading c.in-Failed.ensures.took
 
 pub returns-in-Failed-clause-read_cause : goal.returns-in-Failed-clause-read_cause
 returns-in-Failed-clause-read_cause g c =
@@ -76,13 +71,12 @@ returns-in-Failed-clause-read_cause g c =
 
 pub reads-preserved : goal.reads-preserved
 reads-preserved g c =
-    let h = g.T.LineHandler in
     let i = c.reads.invariant in
     let r = i.reading in
     let w = g.K.Sink.written in
     record {
-      reading = Reading-next h.reached h.closed h.ending _ _ (g.S.Source.left c.read.new.self) _ _ (w c.answer.new.sink) c.reads.machine c.answer.new.machine c.reads.counter r c.in-Bytes.n c.read.new.buf c.in-Bytes.ensures.took (c.read.auto.buf ∙ i.room)
-          (c.in_default.ensures.answered r.taken r.text (w c.args.sink.now) r.wrote r.progress);
+      reading = Reading-next g.F.Feeder.feeding _ _ (g.S.Source.left c.read.new.self) _ _ (w c.answer.new.sink) c.reads.feeder c.answer.new.feeder c.reads.counter r c.in-Bytes.n c.read.new.buf c.in-Bytes.ensures.took (c.read.auto.buf ∙ i.room)
+          (c.in_default.ensures.answered r.taken r.text (w c.args.sink.now) r.wrote r.fed);
       read_count = omega (arith, i.read_count, c.in-Bytes.ensures.counted);
       write_count = omega (arith, i.write_count, c.in_default.ensures.counted);
       room = c.read.auto.buf ∙ i.room;
@@ -91,4 +85,4 @@ reads-preserved g c =
 pub returns-clause-ends : goal.returns-clause-ends
 returns-clause-ends g c =
     let left = g.S.Source.left c.reads.source in
-    AreSpent-reads g.T.LineHandler.reached _ _ left _ _ c.reads.machine c.reads.counter c.reads.invariant.reading (Keeps-refl left) (omega arith)
+    IsSpent-reads g.F.Feeder.feeding _ _ left _ _ c.reads.feeder c.reads.counter c.reads.invariant.reading (Keeps-refl left) (omega arith)

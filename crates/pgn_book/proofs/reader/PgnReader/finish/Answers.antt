@@ -1,15 +1,21 @@
 use Rattle.std.proofs.Common.{subst}
 use Rattle.pgn_book.specs.declared.reader.PgnStep.{PgnStep}
-use Rattle.pgn_book.specs.Reader.{IsNext, IsLast}
+use Rattle.pgn_book.specs.Reader.{IsNext, IsLast, LeavesFewer}
 use Rattle.pgn_book.proofs.Walking.{ok_from}
-use Rattle.pgn_book.proofs.ReaderSteps.{next_last, more_last}
+use Rattle.pgn_book.proofs.ReaderSteps.{next_last, more_last, fewer_last}
 use Rattle.pgn_book.proofs.reader.PgnReader.finish.Goals as goal
 
-pub returns-in-More : goal.returns-in-More
-returns-in-More c =
+pub returns-in-More-clause-last : goal.returns-in-More-clause-last
+returns-in-More-clause-last c =
     ok_from (λ step. IsLast c.next.new.self step c.end.new.self) (λ step. IsLast c.args.self.now step _)
-    (λ step h. more_last c.args.self.now c.next.new.self c.end.new.self step (subst (λ (s : PgnStep). IsNext c.args.self.now s c.next.new.self) c.in-More.is c.in_ok-step.ensures) h)
-    c.end.result c.end.ensures
+    (λ step h. more_last c.args.self.now c.next.new.self c.end.new.self step (subst (λ (s : PgnStep). IsNext c.args.self.now s c.next.new.self) c.in-More.is c.in_ok-step.ensures.next) h)
+    c.end.result c.end.ensures.last
 
-pub returns-in_default : goal.returns-in_default
-returns-in_default c = next_last c.args.self.now c.next.new.self c.in_ok-step.step c.in_ok-step.ensures c.in_default.not-More
+pub returns-in_default-clause-last : goal.returns-in_default-clause-last
+returns-in_default-clause-last c = next_last c.args.self.now c.next.new.self c.in_ok-step.step c.in_ok-step.ensures.next c.in_default.not-More
+
+pub returns-in-More-clause-fewer : goal.returns-in-More-clause-fewer
+returns-in-More-clause-fewer c =
+    ok_from (λ step. LeavesFewer c.next.new.self step c.end.new.self) (λ step. LeavesFewer c.args.self.now step _)
+    (λ step h. fewer_last c.args.self.now c.next.new.self c.end.new.self step (subst (λ (s : PgnStep). LeavesFewer c.args.self.now s c.next.new.self) c.in-More.is c.in_ok-step.ensures.fewer) h)
+    c.end.result c.end.ensures.fewer

@@ -3,7 +3,7 @@ use Rattle.std.proofs.lemmas.List.{take_all}
 use Rattle.std.proofs.lemmas.Result.{err_from_is_err_and}
 use Rattle.line_answers.specs.Progress.{Progress}
 use Rattle.line_answers.proofs.Feeding.{AfterStop-more, front_at, whole_at}
-use Rattle.line_answers.proofs.machine.Machine.feed.Goals as goal
+use Rattle.line_answers.proofs.machine.Machine.feed_bytes.Goals as goal
 
 pub returns-in_err-feed_byte : goal.returns-in_err-feed_byte
 returns-in_err-feed_byte g c = λ taken base p.

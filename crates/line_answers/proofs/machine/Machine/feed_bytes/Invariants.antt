@@ -1,6 +1,6 @@
 use Rattle.std.proofs.Common.{◌≤◌, ◌+◌, ◌++◌, ℕ, List, take}
 use Rattle.line_answers.specs.Progress.{Progress}
-use Rattle.line_answers.proofs.machine.Machine.feed.Given as goal
+use Rattle.line_answers.proofs.machine.Machine.feed_bytes.Given as goal
 
 abbrev pub invariant-loop-byte : goal.invariant-loop-byte
 invariant-loop-byte g l = record {

@@ -1,0 +1,5 @@
+-- What the contracts of this crate cite.
+pub mod BotEnds
+pub mod BotLines
+pub mod Game
+pub mod Inputs
