@@ -1,7 +1,9 @@
 -- The summary as it is put together and written.
-use Rattle.std.proofs.Common.{◌≡◌, ℕ, List, ◌++◌, length, count_by, codes, append_assoc, ap, subst, ◌∙◌, Option, Err}
+use Rattle.std.specs.Prelude.{◌⊎◌}
+use Rattle.std.proofs.Common.{inl, inr, refl, ◌≡◌, ℕ, List, ◌++◌, length, count_by, codes, append_assoc, ap, subst, ◌∙◌, Option, Err}
 use Rattle.std.proofs.KnownBytes.{Appends-nil}
 use Rattle.edge_traits.specs.Sink.{AppendsFront}
+use Rattle.line_answers.specs.Ends.{OnReadFault, OnWriteFault, status_of}
 use Rattle.line_answers.specs.Reading.{AfterSend}
 use Rattle.line_answers.specs.declared.end.End.{End}
 use Rattle.line_answers.specs.declared.end.End.TheVariants.{Done, ReadFault, WriteFault, Memory, BadLine, Spent}
@@ -57,3 +59,22 @@ not_sent A number written written' text WriteFault told sent = part_told number 
 not_sent A number written written' text Memory told sent = part_told number written written' text told sent
 not_sent A number written written' text BadLine told sent = sent
 not_sent A number written written' text Spent told sent = sent
+
+-- where no write fails the summary is written, or memory runs out
+pub told_or_cut : (number : ℕ) (written written' : Option (List ℕ)) (Q : Type 0) (end : End) → DemoEnds number written written' end → OnWriteFault end Q → ¬ Q
+    → (status_of end ≡ 0) ⊎ (status_of end ≡ 6)
+told_or_cut number written written' Q Done h q no_write = inl refl
+told_or_cut number written written' Q ReadFault h q no_write = absurd h
+told_or_cut number written written' Q WriteFault h q no_write = absurd (no_write q)
+told_or_cut number written written' Q Memory h q no_write = inr refl
+told_or_cut number written written' Q BadLine h q no_write = absurd h
+told_or_cut number written written' Q Spent h q no_write = absurd h
+
+-- no read fails, since none is made
+pub reads_nothing : (number : ℕ) (written written' : Option (List ℕ)) (P : Type 0) (end : End) → DemoEnds number written written' end → OnReadFault end P
+reads_nothing number written written' P Done h = tt
+reads_nothing number written written' P ReadFault h = absurd h
+reads_nothing number written written' P WriteFault h = tt
+reads_nothing number written written' P Memory h = tt
+reads_nothing number written written' P BadLine h = tt
+reads_nothing number written written' P Spent h = tt
