@@ -6,6 +6,7 @@
 use crate::running::{Case, Row, expect_tables, outcome};
 use std::alloc::Global;
 use std::process::Abort;
+use std::str;
 use std::test::Fail;
 
 /// What the lines of a summary begin with.
@@ -96,7 +97,7 @@ fn a_number_makes_one_evening(rt: HostRuntime) -> Result<(), Fail> {
 fn summaries_are_six_counts(rt: HostRuntime) -> Result<(), Fail> {
     for number in ["0", "7"] {
         let bytes = summary(rt.alloc(), number)?;
-        let text = std::str::from_utf8(bytes.as_slice()).map_err(|_| "text")?;
+        let text = str::from_utf8(bytes.as_slice())?;
         assert_eq!(&rt; first_wrong(text), None, "{text}");
     }
     Ok(())
