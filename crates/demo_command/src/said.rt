@@ -7,6 +7,7 @@ ghost use Rattle.demo_command.specs.Said.{AreWords, IsSaid, letters_of, moving, 
 ghost use Rattle.demo_command.specs.Turns.{moves_of};
 
 use crate::names::name_in;
+use crate::steps::SESSIONS;
 use crate::turns::moves_of;
 use crate::wish::Wish;
 use chess_model::Move;
@@ -91,7 +92,7 @@ fn naming(
     requires back { AreWords back.now }
     ensures { IfOk result (IsSaid (naming front.now back.now draws.old server.now.log) draws.new) }
 {
-    let session = 1 + draws.draw(40) as u32;
+    let session = 1 + draws.draw(u64::from(SESSIONS)) as u32;
     let name = name_in(session, server.history());
     let bytes = name_text(alloc, front, name, back)?;
     Ok(ScriptEvent::Plain(Line::from_bytes(bytes)))

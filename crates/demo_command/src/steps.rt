@@ -17,10 +17,16 @@ use std::alloc::Global;
 use std::marker::Model;
 
 /// The sessions of a demo.
-const SESSIONS: u32 = 40;
+pub(crate) const SESSIONS: u32 = 40;
 
 /// How often a session is drawn.
 const TURNS: u64 = 4_000;
+
+/// A turn comes less than so many milliseconds after the one before.
+const WAIT: u64 = 2_000;
+
+/// The numbers of wishes are below this.
+const WISHES: u64 = 32;
 
 /// One server, its sessions, the draws, and the moment in milliseconds. Contracts see the server, what the sessions
 /// remember, the number at which the draws stand, and the moment.
@@ -131,9 +137,9 @@ impl Demo {
         ensures gone { OnOk result (Goes Turns self.old self.new) }
         ensures moment { OnOk result (self.new.moment ≤ self.old.moment + 2000) }
     {
-        self.moment += self.draws.draw(2_000);
+        self.moment += self.draws.draw(WAIT);
         let session = 1 + self.draws.draw(u64::from(SESSIONS)) as u32;
-        let wish = wish_of(self.draws.draw(32));
+        let wish = wish_of(self.draws.draw(WISHES));
         let event = said_by(self.alloc, wish, session, &self.server, &mut self.draws)?;
         self.take(session, event)
     }

@@ -4,6 +4,7 @@ ghost use Rattle.std.specs.Prelude.{◌≡◌, ◌++◌, OnOk};
 ghost use Rattle.demo_command.specs.Summary.{count_line, summary_of};
 
 use crate::counts::{games, half_moves, refusals};
+use crate::steps::SESSIONS;
 use fics_words::{NoMemory, write_number};
 use histories::Entry;
 use one_server::{Reply, Timed};
@@ -12,7 +13,7 @@ use one_server::{Reply, Timed};
 pub(crate) fn put_summary(log: &[Entry<Timed, Reply>], out: &mut Vec<u8>) -> Result<(), NoMemory>
     ensures { OnOk result (out.new.items ≡ out.old.items ++ summary_of log.now) }
 {
-    put_count(b"sessions ", 40, out)?;
+    put_count(b"sessions ", SESSIONS as usize, out)?;
     put_count(b"entries ", log.len(), out)?;
     put_count(b"games ", games(log), out)?;
     put_count(b"moves ", half_moves(log), out)?;

@@ -7,19 +7,33 @@ ghost use Rattle.demo_command.specs.Said.{wish_of};
 /// make.
 #[derive(Clone, Copy)]
 pub enum Wish {
+    /// To post a seek of chess.
     SeekChess,
+    /// To post a seek of crazyhouse.
     SeekCrazyhouse,
+    /// To take the seek of a number.
     Play,
+    /// To say something in a channel.
     Tell,
+    /// To join that channel.
     Join,
+    /// To look on at a game.
     Observe,
+    /// To have another as a partner.
     Partner,
+    /// To play another at bughouse.
     MatchPairs,
+    /// To accept what is offered.
     Accept,
+    /// To draw.
     Draw,
+    /// To take a half-move back.
     TakeBack,
+    /// To call the opponent's flag.
     Flag,
+    /// To say something to all at a game.
     Kibitz,
+    /// To make a half-move.
     Move,
 }
 
