@@ -24,6 +24,10 @@ pub(crate) fn clap_reading(alloc: Global, words: &[String]) -> Result<String, Fa
                 let depth = options.get_str("depth").ok_or("a depth")?;
                 return Ok(format!(in alloc; "bot {depth}")?);
             }
+            if name == "demo" {
+                let number = options.get_str("number").ok_or("a number")?;
+                return Ok(format!(in alloc; "demo {number}")?);
+            }
             Ok(String::from_str(alloc, name)?)
         }
         None => Ok(String::from_str(alloc, "-")?),
@@ -46,6 +50,7 @@ fn command_line<'a>(alloc: Global) -> Result<Command<'a>, AllocError> {
         .subcommand(Command::new(alloc, "tourney"))?
         .subcommand(Command::new(alloc, "tidy"))?
         .subcommand(bot_line(alloc)?)?
+        .subcommand(demo_line(alloc)?)?
         .subcommand(serve_line(alloc)?)
 }
 
@@ -55,6 +60,14 @@ fn bot_line<'a>(alloc: Global) -> Result<Command<'a>, AllocError> {
         .required(true)
         .value_parser(ValueParser::Unsigned(0, 4));
     Command::new(alloc, "bot").arg(depth)
+}
+
+/// The word behind `demo`.
+fn demo_line<'a>(alloc: Global) -> Result<Command<'a>, AllocError> {
+    let number = Arg::new(alloc, "number")
+        .required(true)
+        .value_parser(ValueParser::Unsigned(0, 999_999));
+    Command::new(alloc, "demo").arg(number)
 }
 
 /// The options of `serve`.

@@ -15,6 +15,9 @@ tourney => tourney
 tidy => tidy
 bot 0 => bot 0
 bot 4 => bot 4
+demo 0 => demo 0
+demo 7 => demo 7
+demo 999999 => demo 999999
 Board => -
 Tourney => -
 board board => -
@@ -74,7 +77,15 @@ serve --count 0 --port 5000 => -
 serve --count 5 --count 5 --port 5000 => -
 serve --port 5000 serve => -
 serve board => -
-demo 7 => -
+demo => -
+demo 1000000 => -
+demo -1 => -
+demo x => -
+demo 7 8 => -
+demo --number 7 => -
+demo --number=7 => -
+Demo 7 => -
+demo7 => -
 check --store x => -
 serve --port 5000 --store x => -
 ";
@@ -84,6 +95,9 @@ const STRICT: &str = "\
 bot 04 => -
 bot +4 => -
 bot -- 4 => -
+demo 07 => -
+demo +7 => -
+demo -- 7 => -
 serve --port 05000 => -
 serve --port +5000 => -
 serve --port 5000 --count 01 => -
@@ -98,6 +112,7 @@ fn spoken(alloc: Global, job: Result<Job, JobFail>) -> Result<String, Fail> {
         Ok(Job::Tourney) => Ok(String::from_str(alloc, "tourney")?),
         Ok(Job::Tidy) => Ok(String::from_str(alloc, "tidy")?),
         Ok(Job::Bot { depth }) => Ok(format!(in alloc; "bot {depth}")?),
+        Ok(Job::Demo { number }) => Ok(format!(in alloc; "demo {number}")?),
         Ok(Job::Serve { port, bind, count }) => {
             let count = count_text(alloc, count)?;
             Ok(format!(in alloc; "serve {port} {bind} {count}")?)

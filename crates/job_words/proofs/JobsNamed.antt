@@ -1,9 +1,9 @@
 -- Where texts name no job.
 use Rattle.std.proofs.Common.{◌≡◌, ◌≢◌, ℕ, List, [], ◌∷◌, Option, Result, Ok, Err, arith, get_or, sym, ap, subst}
 use Rattle.std.specs.Prelude.{IfErr, codes, reverse, string_bytes}
-use Rattle.job_words.specs.Jobs.{AreOptions, Chosen, GivenValue, IsBot, IsCount, IsPort, IsServe, OnUsage, Tells, TextsName}
+use Rattle.job_words.specs.Jobs.{AreOptions, Chosen, GivenValue, IsBot, IsDemo, IsCount, IsPort, IsServe, OnUsage, Tells, TextsName}
 use Rattle.job_words.specs.declared.job.Job.{Job}
-use Rattle.job_words.specs.declared.job.Job.TheVariants.{Board, Replay, Tourney, Tidy, Bot, Serve}
+use Rattle.job_words.specs.declared.job.Job.TheVariants.{Board, Replay, Tourney, Tidy, Bot, Demo, Serve}
 use Rattle.job_words.specs.declared.job.JobFail.{JobFail}
 use Rattle.job_words.specs.declared.job.JobFail.TheVariants as fail
 use Rattle.job_words.proofs.OptionsRead.{one_options, one_choice}
@@ -14,23 +14,26 @@ no_texts Replay e = absurd (let bad : [] ≡ codes "replay" ∷ [] = e in cc)
 no_texts Tourney e = absurd (let bad : [] ≡ codes "tourney" ∷ [] = e in cc)
 no_texts Tidy e = absurd (let bad : [] ≡ codes "tidy" ∷ [] = e in cc)
 no_texts (Bot depth) h = absurd (let bad : [] ≡ codes "bot" ∷ h.0 = h.1 in cc)
+no_texts (Demo number) h = absurd (let bad : [] ≡ codes "demo" ∷ h.0 = h.1 in cc)
 no_texts (Serve port bind count) h = absurd (let bad : [] ≡ codes "serve" ∷ h.0 = h.1 in cc)
 
-pub no_word : (word : List ℕ) (rest : List (List ℕ)) → word ≢ codes "serve" → word ≢ codes "bot" → word ≢ codes "board" → word ≢ codes "replay" → word ≢ codes "tourney" → word ≢ codes "tidy" → (job : Job) → TextsName (word ∷ rest) job → ⊥
-no_word word rest serve bot board replay tourney tidy Board e = board (let same : word ∷ rest ≡ codes "board" ∷ [] = e in cc)
-no_word word rest serve bot board replay tourney tidy Replay e = replay (let same : word ∷ rest ≡ codes "replay" ∷ [] = e in cc)
-no_word word rest serve bot board replay tourney tidy Tourney e = tourney (let same : word ∷ rest ≡ codes "tourney" ∷ [] = e in cc)
-no_word word rest serve bot board replay tourney tidy Tidy e = tidy (let same : word ∷ rest ≡ codes "tidy" ∷ [] = e in cc)
-no_word word rest serve bot board replay tourney tidy (Bot depth) h = bot (let same : word ∷ rest ≡ codes "bot" ∷ h.0 = h.1 in cc)
-no_word word rest serve bot board replay tourney tidy (Serve port bind count) h = serve (let same : word ∷ rest ≡ codes "serve" ∷ h.0 = h.1 in cc)
+pub no_word : (word : List ℕ) (rest : List (List ℕ)) → word ≢ codes "serve" → word ≢ codes "bot" → word ≢ codes "demo" → word ≢ codes "board" → word ≢ codes "replay" → word ≢ codes "tourney" → word ≢ codes "tidy" → (job : Job) → TextsName (word ∷ rest) job → ⊥
+no_word word rest serve bot demo board replay tourney tidy Board e = board (let same : word ∷ rest ≡ codes "board" ∷ [] = e in cc)
+no_word word rest serve bot demo board replay tourney tidy Replay e = replay (let same : word ∷ rest ≡ codes "replay" ∷ [] = e in cc)
+no_word word rest serve bot demo board replay tourney tidy Tourney e = tourney (let same : word ∷ rest ≡ codes "tourney" ∷ [] = e in cc)
+no_word word rest serve bot demo board replay tourney tidy Tidy e = tidy (let same : word ∷ rest ≡ codes "tidy" ∷ [] = e in cc)
+no_word word rest serve bot demo board replay tourney tidy (Bot depth) h = bot (let same : word ∷ rest ≡ codes "bot" ∷ h.0 = h.1 in cc)
+no_word word rest serve bot demo board replay tourney tidy (Demo number) h = demo (let same : word ∷ rest ≡ codes "demo" ∷ h.0 = h.1 in cc)
+no_word word rest serve bot demo board replay tourney tidy (Serve port bind count) h = serve (let same : word ∷ rest ≡ codes "serve" ∷ h.0 = h.1 in cc)
 
-pub more_words : (word : List ℕ) (rest : List (List ℕ)) → word ≢ codes "serve" → word ≢ codes "bot" → rest ≢ [] → (job : Job) → TextsName (word ∷ rest) job → ⊥
-more_words word rest serve bot some Board e = some (let same : word ∷ rest ≡ codes "board" ∷ [] = e in cc)
-more_words word rest serve bot some Replay e = some (let same : word ∷ rest ≡ codes "replay" ∷ [] = e in cc)
-more_words word rest serve bot some Tourney e = some (let same : word ∷ rest ≡ codes "tourney" ∷ [] = e in cc)
-more_words word rest serve bot some Tidy e = some (let same : word ∷ rest ≡ codes "tidy" ∷ [] = e in cc)
-more_words word rest serve bot some (Bot depth) h = bot (let same : word ∷ rest ≡ codes "bot" ∷ h.0 = h.1 in cc)
-more_words word rest serve bot some (Serve port bind count) h = serve (let same : word ∷ rest ≡ codes "serve" ∷ h.0 = h.1 in cc)
+pub more_words : (word : List ℕ) (rest : List (List ℕ)) → word ≢ codes "serve" → word ≢ codes "bot" → word ≢ codes "demo" → rest ≢ [] → (job : Job) → TextsName (word ∷ rest) job → ⊥
+more_words word rest serve bot demo some Board e = some (let same : word ∷ rest ≡ codes "board" ∷ [] = e in cc)
+more_words word rest serve bot demo some Replay e = some (let same : word ∷ rest ≡ codes "replay" ∷ [] = e in cc)
+more_words word rest serve bot demo some Tourney e = some (let same : word ∷ rest ≡ codes "tourney" ∷ [] = e in cc)
+more_words word rest serve bot demo some Tidy e = some (let same : word ∷ rest ≡ codes "tidy" ∷ [] = e in cc)
+more_words word rest serve bot demo some (Bot depth) h = bot (let same : word ∷ rest ≡ codes "bot" ∷ h.0 = h.1 in cc)
+more_words word rest serve bot demo some (Demo number) h = demo (let same : word ∷ rest ≡ codes "demo" ∷ h.0 = h.1 in cc)
+more_words word rest serve bot demo some (Serve port bind count) h = serve (let same : word ∷ rest ≡ codes "serve" ∷ h.0 = h.1 in cc)
 
 first_byte : List (List ℕ) → ℕ
 first_byte words = get_or (get_or words 0 []) 0 0
@@ -42,6 +45,7 @@ no_serve rest none Replay e = let bad : 115 ≡ 114 = ap first_byte e in absurd 
 no_serve rest none Tourney e = let bad : 115 ≡ 116 = ap first_byte e in absurd (omega (arith, bad))
 no_serve rest none Tidy e = let bad : 115 ≡ 116 = ap first_byte e in absurd (omega (arith, bad))
 no_serve rest none (Bot depth) h = let bad : 115 ≡ 98 = ap first_byte h.1 in absurd (omega (arith, bad))
+no_serve rest none (Demo number) h = let bad : 115 ≡ 100 = ap first_byte h.1 in absurd (omega (arith, bad))
 no_serve rest none (Serve port bind count) h =
     let same : rest ≡ h.0 = let both : codes "serve" ∷ rest ≡ codes "serve" ∷ h.0 = h.1 in cc in
     none port (string_bytes bind) count (subst (λ (w : List (List ℕ)). IsServe w port (string_bytes bind) count) (sym same) h.2)
@@ -59,7 +63,20 @@ no_bot rest none Tidy e = let bad : 116 ≡ 121 = ap last_byte e in absurd (omeg
 no_bot rest none (Bot depth) h =
     let same : rest ≡ h.0 = let both : codes "bot" ∷ rest ≡ codes "bot" ∷ h.0 = h.1 in cc in
     none depth (subst (λ (w : List (List ℕ)). IsBot w depth) (sym same) h.2)
+no_bot rest none (Demo number) h = let bad : 116 ≡ 111 = ap last_byte h.1 in absurd (omega (arith, bad))
 no_bot rest none (Serve port bind count) h = let bad : 116 ≡ 101 = ap last_byte h.1 in absurd (omega (arith, bad))
+
+pub no_demo : (rest : List (List ℕ)) → ((number : ℕ) → IsDemo rest number → ⊥) → (job : Job) → TextsName (codes "demo" ∷ rest) job → ⊥
+unfolding first_byte
+no_demo rest none Board e = let bad : 100 ≡ 98 = ap first_byte e in absurd (omega (arith, bad))
+no_demo rest none Replay e = let bad : 100 ≡ 114 = ap first_byte e in absurd (omega (arith, bad))
+no_demo rest none Tourney e = let bad : 100 ≡ 116 = ap first_byte e in absurd (omega (arith, bad))
+no_demo rest none Tidy e = let bad : 100 ≡ 116 = ap first_byte e in absurd (omega (arith, bad))
+no_demo rest none (Bot depth) h = let bad : 100 ≡ 98 = ap first_byte h.1 in absurd (omega (arith, bad))
+no_demo rest none (Demo number) h =
+    let same : rest ≡ h.0 = let both : codes "demo" ∷ rest ≡ codes "demo" ∷ h.0 = h.1 in cc in
+    none number (subst (λ (w : List (List ℕ)). IsDemo w number) (sym same) h.2)
+no_demo rest none (Serve port bind count) h = let bad : 100 ≡ 115 = ap first_byte h.1 in absurd (omega (arith, bad))
 
 -- the options that the words give, and no others
 module _ (words : List (List ℕ)) (given : List GivenValue) (values : Chosen) (options : AreOptions words given) (tells : Tells given values) where

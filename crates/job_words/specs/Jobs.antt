@@ -5,7 +5,7 @@ use Rattle.std.specs.List.{position_or_len, before_first, after_first}
 use Rattle.std.specs.declared.alloc.Global.{Global}
 use Rattle.fics_words.specs.Number.{IsDecimal}
 use Rattle.job_words.specs.declared.job.Job.{Job}
-use Rattle.job_words.specs.declared.job.Job.TheVariants.{Board, Replay, Tourney, Tidy, Bot, Serve}
+use Rattle.job_words.specs.declared.job.Job.TheVariants.{Board, Replay, Tourney, Tidy, Bot, Demo, Serve}
 use Rattle.job_words.specs.declared.job.JobFail.{JobFail}
 use Rattle.job_words.specs.declared.job.JobFail.TheVariants as fail
 use Rattle.job_words.specs.declared.options.ServeOption.{ServeOption}
@@ -125,11 +125,19 @@ IsCount (Some text) (Some n) = NumberFrom1 (2 ^ 31) text n
 abbrev pub IsDepth : List ℕ → ℕ → Type 0
 IsDepth text depth = IsDecimal 4 text depth
 
+-- an evening is made from a number of at most six digits
+abbrev pub IsDemoNumber : List ℕ → ℕ → Type 0
+IsDemoNumber text number = IsDecimal 999999 text number
+
 -- ---- jobs
 
 -- the word behind `bot`: how many half-moves it looks ahead
 abbrev pub IsBot : List (List ℕ) → ℕ → Type 0
 IsBot words depth = (text : List ℕ) × (words ≡ text ∷ []) × IsDepth text depth
+
+-- the word behind `demo`: the number from which the evening is made
+abbrev pub IsDemo : List (List ℕ) → ℕ → Type 0
+IsDemo words number = (text : List ℕ) × (words ≡ text ∷ []) × IsDemoNumber text number
 
 -- the words behind `serve`: its options in any order, each at most once
 pub record IsServe (words : List (List ℕ)) (port : ℕ) (bind : List ℕ) (count : Option ℕ) : Type 0 where
@@ -148,6 +156,7 @@ TextsName words Replay = words ≡ codes "replay" ∷ []
 TextsName words Tourney = words ≡ codes "tourney" ∷ []
 TextsName words Tidy = words ≡ codes "tidy" ∷ []
 TextsName words (Bot depth) = (more : List (List ℕ)) × (words ≡ codes "bot" ∷ more) × IsBot more depth
+TextsName words (Demo number) = (more : List (List ℕ)) × (words ≡ codes "demo" ∷ more) × IsDemo more number
 TextsName words (Serve port bind count) =
     (options : List (List ℕ)) × (words ≡ codes "serve" ∷ options) × IsServe options port (string_bytes bind) count
 

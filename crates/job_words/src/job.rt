@@ -22,6 +22,11 @@ pub enum Job {
         /// How many half-moves are looked ahead, from 0 to 4.
         depth: u8,
     },
+    /// Makes an evening from a number, and tells its counts.
+    Demo {
+        /// The number, from 0 to 999,999.
+        number: u32,
+    },
     /// Serves players who connect.
     Serve {
         /// The port, from 1 on.

@@ -1,7 +1,7 @@
 //! The numbers among the words.
 
 ghost use Rattle.std.specs.Prelude.{ℕ, Option, IfSome, IfNone, Some, option_copied};
-ghost use Rattle.job_words.specs.Jobs.{IsCount, IsDepth, IsPort, NumberFrom1};
+ghost use Rattle.job_words.specs.Jobs.{IsCount, IsDemoNumber, IsDepth, IsPort, NumberFrom1};
 
 use fics_words::read_number;
 
@@ -21,6 +21,18 @@ pub(crate) fn read_depth(text: &str) -> Option<u8>
 {
     let number = read_number(text.as_bytes(), MOST_DEPTH)?;
     Some(number as u8)
+}
+
+/// The highest number from which an evening is made.
+const MOST_DEMO: u64 = 999_999;
+
+/// Reads the number from which an evening is made: 0 to 999,999.
+pub(crate) fn read_demo_number(text: &str) -> Option<u32>
+    ensures some { IfSome result (IsDemoNumber text.now) }
+    ensures none { IfNone result ((number : ℕ) → IsDemoNumber text.now number → ⊥) }
+{
+    let number = read_number(text.as_bytes(), MOST_DEMO)?;
+    Some(number as u32)
 }
 
 /// Reads the port, which has to be there: 1 to 65,535.

@@ -1,13 +1,13 @@
 //! The reading of the words.
 
 ghost use Rattle.std.specs.Prelude.{◌∷◌, ℕ, List, Option, IfOk, IfErr, IfSome, IfNone, codes, map, string_bytes};
-ghost use Rattle.job_words.specs.Jobs.{AreOptions, Chosen, GivenValue, IsBot, IsServe};
+ghost use Rattle.job_words.specs.Jobs.{AreOptions, Chosen, GivenValue, IsBot, IsDemo, IsServe};
 ghost use Rattle.job_words.specs.Jobs.{Names, OnUsage, Tells, TextsName};
 ghost use Rattle.job_words.specs.declared.job.Job.{Job};
 
 use crate::chosen::Values;
 use crate::job::{Job, JobFail};
-use crate::numbers::{read_count, read_depth, read_port};
+use crate::numbers::{read_count, read_demo_number, read_depth, read_port};
 use crate::options::{Given, first_option};
 use std::alloc::Global;
 
@@ -28,6 +28,9 @@ pub fn read_job(alloc: Global, words: &[String]) -> Result<Job, JobFail>
     }
     if word == "bot" {
         return read_bot(rest);
+    }
+    if word == "demo" {
+        return read_demo(rest);
     }
     if !rest.is_empty() {
         return Err(JobFail::Usage);
@@ -59,6 +62,20 @@ fn read_bot(words: &[String]) -> Result<Job, JobFail>
         return Err(JobFail::Usage);
     };
     Ok(Job::Bot { depth })
+}
+
+/// Reads the word behind `demo`.
+fn read_demo(words: &[String]) -> Result<Job, JobFail>
+    ensures job { IfOk result (TextsName (codes "demo" ∷ map string_bytes words.now)) }
+    ensures usage { IfErr result (λ fail. OnUsage fail ((number : ℕ) → IsDemo (map string_bytes words.now) number → ⊥)) }
+{
+    let [word] = words else {
+        return Err(JobFail::Usage);
+    };
+    let Some(number) = read_demo_number(word.as_str()) else {
+        return Err(JobFail::Usage);
+    };
+    Ok(Job::Demo { number })
 }
 
 /// Reads the options of `serve`.

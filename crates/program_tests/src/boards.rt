@@ -191,7 +191,7 @@ const CALLS: &[Row] = &[
         1,
         &[USAGE],
     ),
-    Row(&["demo", "7"], b"e2e4\n", 1, &[], &[], 1, &[USAGE]),
+    Row(&["demo", "07"], b"e2e4\n", 1, &[], &[], 1, &[USAGE]),
     Row(
         &["check", "--store", "x"],
         b"e2e4\n",

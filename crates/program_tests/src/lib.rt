@@ -8,6 +8,8 @@ mod boards;
 #[cfg(test)]
 mod bots;
 #[cfg(test)]
+mod demos;
+#[cfg(test)]
 mod evenings;
 #[cfg(test)]
 mod known_games;

@@ -34,7 +34,7 @@ pub(crate) fn answer_event(
 }
 
 /// Lets a session do what the event asks for: connect, leave, or take what comes from its player.
-fn do_event(
+pub fn do_event(
     alloc: Global,
     server: &mut OneServer,
     line: &ScriptLine,

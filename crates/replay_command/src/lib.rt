@@ -11,5 +11,6 @@ mod replaying;
 mod seating;
 mod tagged;
 
+pub use answering::do_event;
 pub use evening_laws::{evening_examples, lines_of_evenings, one_evening};
 pub use replaying::replay;

@@ -1,5 +1,6 @@
 -- What the contracts of this crate cite.
 pub mod Attendance
+pub mod Draws
 pub mod Order
 pub mod Script
 pub mod SeatLine

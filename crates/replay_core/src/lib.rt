@@ -11,14 +11,17 @@
 //!   from it, nothing comes from it once it has left, and moments never fall. `Attendance` is told one line after
 //! another,
 //!   and says of the next whether it may come.
+//! - Beside scripts stand `Draws`, the numbers from which an evening is made: a sequence that its seed fixes.
 #![tactic(auto)]
 
+mod draws;
 mod laws;
 mod order;
 mod script;
 mod seat_line;
 mod words;
 
+pub use draws::{Draws, draws_begin};
 pub use fics_words::{Duplicate, NoMemory};
 pub use laws::{one_reading, order_by_steps, order_of_two};
 pub use order::Attendance;

@@ -4,7 +4,8 @@ use Rattle.std.specs.Prelude.{◌⊎◌, ◌==◌, if◌then◌else◌, Option, 
 use Rattle.std.specs.declared.alloc.Global.{Global}
 use Rattle.std.specs.Io.KnownBytes.{Keeps}
 use Rattle.std.proofs.KnownBytes.{Appends-nil}
-use Rattle.std.proofs.lemmas.Fmt.{decimal_digit}
+use Rattle.std.proofs.lemmas.Fmt.{decimal_digit, decimal_is_IsNumeral}
+use Rattle.std.specs.Str.Parse.{digits_value}
 use Rattle.line_answers.specs.Ends.{OnReadFault, OnWriteFault, status_of}
 use Rattle.job_words.specs.Jobs.{OnUsage}
 use Rattle.job_words.specs.Jobs as jobs
@@ -18,9 +19,11 @@ use Rattle.run_call.specs.Words.{Does, IsCommand, IsWithin, Names}
 use Rattle.line_answers.specs.declared.end.End.{End}
 use Rattle.line_answers.specs.declared.end.End.TheVariants.{Done, ReadFault, WriteFault, Memory, BadLine, Spent}
 use Rattle.run_call.specs.declared.command.Command.{Command}
-use Rattle.run_call.specs.declared.command.Command.TheVariants.{Board, Replay, Tourney, Tidy, Bot}
+use Rattle.run_call.specs.declared.command.Command.TheVariants.{Board, Replay, Tourney, Tidy, Bot, Demo}
 use Rattle.board_command.specs.Transcript.{board_lines}
 use Rattle.bot_command.specs.BotLines.{bot_answer, bot_lines}
+use Rattle.demo_command.specs.DemoEnds.{DemoEnds}
+use Rattle.demo_command.proofs.Told.{nothing_told, told_or_cut}
 use Rattle.line_answers.proofs.ClosingEnds.{AnswersOrClosesPart-none}
 use Rattle.line_answers.proofs.Completeness.{is_complete, is_complete-closing}
 use Rattle.line_answers.proofs.LineCommandEnds.{AnswersPart-none}
@@ -73,6 +76,7 @@ none_named words Replay none h = none job.Replay h
 none_named words Tourney none h = none job.Tourney h
 none_named words Tidy none h = none job.Tidy h
 none_named words (Bot depth) none h = none (job.Bot depth) h
+none_named words (Demo number) none h = none (job.Demo number) h
 
 pub on_fail : (fail : JobFail) (words : List (String Global)) → OnUsage fail ((job : Job) → jobs.Names words job → ⊥) → OnUsage fail (¬ (IsCommand words))
 on_fail fails.Usage words none = λ named. none_named words named.0 none named.1
@@ -88,9 +92,13 @@ digit_is text n is =
     let same : 48 + n - 48 ≡ n = omega arith in
     ap (λ l. get_or l 0 0 - 48) (is.0 ∙ decimal_digit n (omega (arith, is.1))) ∙ same
 
+-- the number that a decimal spells
+number_is : (text : List ℕ) (n : ℕ) → jobs.IsDemoNumber text n → digits_value 10 text ≡ n
+number_is text n is = ap (digits_value 10) is.0 ∙ (decimal_is_IsNumeral n (omega (arith, is.1))).1
+
 -- the command that words name, by the third byte of the first word and by the second word
 abbrev command_by : ℕ → List ℕ → Command
-command_by byte text = if byte == 97 then Board else if byte == 112 then Replay else if byte == 117 then Tourney else if byte == 100 then Tidy else Bot (digit_of text)
+command_by byte text = if byte == 97 then Board else if byte == 112 then Replay else if byte == 117 then Tourney else if byte == 100 then Tidy else if byte == 109 then Demo (digits_value 10 text) else Bot (digit_of text)
 
 abbrev command_of : List (List ℕ) → Command
 command_of words = command_by (get_or (get_or words 0 []) 2 0) (get_or words 1 [])
@@ -101,6 +109,7 @@ command_is words Replay n = ap command_of n
 command_is words Tourney n = ap command_of n
 command_is words Tidy n = ap command_of n
 command_is words (Bot depth) n = ap command_of n.1 ∙ ap (λ (more : List (List ℕ)). Bot (digit_of (get_or more 0 []))) n.2.1 ∙ ap (λ k. Bot k) (digit_is n.2.0 depth n.2.2)
+command_is words (Demo number) n = ap command_of n.1 ∙ ap (λ (more : List (List ℕ)). Demo (digits_value 10 (get_or more 0 []))) n.2.1 ∙ ap (λ k. Demo k) (number_is n.2.0 number n.2.2)
 
 -- how far the bot looks ahead
 pub is_within : (words : List (String Global)) (command : Command) → Names words command → IsWithin command
@@ -109,6 +118,7 @@ is_within words Replay n = tt
 is_within words Tourney n = tt
 is_within words Tidy n = tt
 is_within words (Bot depth) n = n.2.2.1
+is_within words (Demo number) n = tt
 
 -- words name one command
 one_command : (words : List (String Global)) (command other : Command) → Names words command → Names words other → other ≡ command
@@ -132,7 +142,7 @@ module _ (words : List (String Global)) (command : Command) (names : Names words
   )
 
 -- running out of memory before anything was read or written
-Keeps-same : (left : Option (List ℕ)) → Keeps left left
+pub Keeps-same : (left : Option (List ℕ)) → Keeps left left
 Keeps-same None = tt
 Keeps-same (Some bytes) = refl
 
@@ -142,11 +152,18 @@ out_of_memory left written Replay = ReplayEnds-none left written
 out_of_memory left written Tourney = AnswersPart-none tourney_lines left written
 out_of_memory left written Tidy = cut_at_once left written
 out_of_memory left written (Bot depth) = AnswersOrClosesPart-none (bot_lines depth) (bot_answer depth) left written
+out_of_memory left written (Demo number) = (Keeps-same left, nothing_told number written)
 
 pub memory_at_once : (words : List (String Global)) (left written : Option (List ℕ)) → WritesPart words left left written written Memory
 memory_at_once words left written = (λ command names. out_of_memory left written command, λ none. (Keeps-same left, (0, Appends-nil written)))
 
 -- ---- runs without faults
+
+-- a demo, whatever the input
+is_complete-demo : (number : ℕ) (left written written' : Option (List ℕ)) (P Q : Type 0) (end : End) → DemoEnds number written written' end → OnWriteFault end Q → ¬ Q
+    → IfSome left (λ text. length text < 2 ^ 40 → IsGood text (Demo number) → (status_of end ≡ 0) ⊎ (status_of end ≡ 6))
+is_complete-demo number None written written' P Q end h q no_write = tt
+is_complete-demo number (Some text) written written' P Q end h q no_write = λ short good. told_or_cut number written written' Q end h q no_write
 
 -- what the status is where nothing goes wrong, for each command
 is_complete-command : (command : Command) (left left' written written' : Option (List ℕ)) (P Q : Type 0) (end : End) → CommandEnds left left' written written' end command
@@ -158,6 +175,7 @@ is_complete-command Tourney left left' written written' P Q end h p q no_read no
 is_complete-command Tidy left left' written written' P Q end h p q no_read no_write = is_complete-tidied left left' written written' P Q end h p q no_read no_write
 is_complete-command (Bot depth) left left' written written' P Q end h p q no_read no_write =
     is_complete-closing (bot_lines depth) (bot_answer depth) left left' written written' P Q end h p q no_read no_write
+is_complete-command (Demo number) left left' written written' P Q end h p q no_read no_write = is_complete-demo number left written written' P Q end h.1 q no_write
 
 pub complete_at : (words : List (String Global)) (command other : Command) (left left' written written' : Option (List ℕ)) (P Q : Type 0) (end : End) (status : ℕ)
     → Names words command → Names words other → status ≡ status_of end → CommandEnds left left' written written' end command → OnReadFault end P → OnWriteFault end Q → ¬ P → ¬ Q

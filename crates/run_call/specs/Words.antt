@@ -7,7 +7,7 @@ use Rattle.std.specs.declared.alloc.Global.{Global}
 use Rattle.job_words.specs.Jobs as jobs
 use Rattle.job_words.specs.declared.job.Job.TheVariants as job
 use Rattle.run_call.specs.declared.command.Command.{Command}
-use Rattle.run_call.specs.declared.command.Command.TheVariants.{Board, Replay, Tourney, Tidy, Bot}
+use Rattle.run_call.specs.declared.command.Command.TheVariants.{Board, Replay, Tourney, Tidy, Bot, Demo}
 
 -- the words name this command
 abbrev pub Names : List (String Global) → Command → Type 0
@@ -16,6 +16,7 @@ Names words Replay = jobs.Names words job.Replay
 Names words Tourney = jobs.Names words job.Tourney
 Names words Tidy = jobs.Names words job.Tidy
 Names words (Bot depth) = jobs.Names words (job.Bot depth)
+Names words (Demo number) = jobs.Names words (job.Demo number)
 
 -- the bot looks 4 half-moves ahead at most
 abbrev pub IsWithin : Command → Type 0
@@ -24,6 +25,7 @@ IsWithin Replay = ⊤
 IsWithin Tourney = ⊤
 IsWithin Tidy = ⊤
 IsWithin (Bot depth) = depth ≤ 4
+IsWithin (Demo number) = ⊤
 
 -- the words name a command
 abbrev pub IsCommand : List (String Global) → Type 0

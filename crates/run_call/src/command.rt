@@ -23,6 +23,11 @@ pub enum Command {
         /// How many half-moves are looked ahead, from 0 to 4.
         depth: u8,
     },
+    /// Makes an evening from a number, and tells its counts; reads nothing.
+    Demo {
+        /// The number, from 0 to 999,999.
+        number: u32,
+    },
 }
 
 /// Reads the words. Those of a job that isn't done here are `Usage` too.
@@ -37,6 +42,7 @@ pub(crate) fn read_command(alloc: Global, words: &[String]) -> Result<Command, J
         Ok(Job::Tourney) => Ok(Command::Tourney),
         Ok(Job::Tidy) => Ok(Command::Tidy),
         Ok(Job::Bot { depth }) => Ok(Command::Bot { depth }),
+        Ok(Job::Demo { number }) => Ok(Command::Demo { number }),
         Ok(Job::Serve { .. }) => Err(JobFail::Usage),
         Err(fail) => Err(fail),
     }

@@ -13,6 +13,7 @@ ghost use Rattle.run_call.specs.declared.command.Command.{Command};
 use crate::command::{Command, read_command};
 use board_command::board;
 use bot_command::bot;
+use demo_command::demo;
 use edge_traits::{Keeper, Sink, Source};
 use job_words::{JobFail, tell_usage};
 use line_answers::{End, status};
@@ -81,5 +82,6 @@ fn run_command<S: Source, K: Sink>(
         Command::Tourney => tourney(alloc, source, sink),
         Command::Tidy => tidy(alloc, source, sink),
         Command::Bot { depth } => bot(alloc, depth, source, sink),
+        Command::Demo { number } => demo(alloc, number, sink),
     }
 }
