@@ -11,7 +11,12 @@ use std::test::Fail;
 
 /// What the lines of a summary begin with.
 const WORDS: &[&str] = &[
-    "sessions ", "entries ", "games ", "moves ", "refused ", "stored ",
+    "sessions ",
+    "entries ",
+    "games ",
+    "moves ",
+    "refused ",
+    "stored ",
 ];
 
 /// The least and the most of each count.
