@@ -11,6 +11,7 @@ from .typed import Typed
 from .wire import Lines, Parts, unsealed
 
 ACKNOWLEDGED = b"\x029"
+SEAL_GREETINGS = (b"TIMESTAMP|", b"TIMESEAL2|")
 BLOCK_START, BLOCK_BREAK, BLOCK_END = "\x15", "\x16", "\x17"
 AT_BOARD = ("draw", "abort", "adjourn", "takeback")
 
@@ -115,7 +116,7 @@ class Session:
         for line in self.lines.of(piece):
             plain = unsealed(line)
             if self.is_sealed is None:
-                self.is_sealed = plain is not None and plain.startswith(b"TIMESTAMP|")
+                self.is_sealed = plain is not None and plain.startswith(SEAL_GREETINGS)
                 if self.is_sealed:
                     continue
             if self.is_sealed and plain is not None:

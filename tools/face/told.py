@@ -104,7 +104,10 @@ class Told:
         return lines
 
     def on_hands(self, match, line):
-        return [line]
+        """FICS's line in crazyhouse doesn't name the man that came last: eboard skips one that does."""
+        game = self.session.games.get(int(match["game"]))
+        is_crazyhouse = game and game.terms.kind == "crazyhouse"
+        return [line.partition(" <- ")[0] if is_crazyhouse else line]
 
     def on_end(self, match, line):
         number, reason = int(match["game"]), match["reason"]

@@ -15,7 +15,8 @@ LISTS = {"channel": "channel", "censor": "censor", "noplay": "noplay"}
 FORWARDED_VARIABLES = ("open", "shout")
 ON = {"on": "1", "true": "1", "yes": "1", "off": "0", "false": "0", "no": "0"}
 BOARD_LINES = ("<12>", "<b1>")
-WITHOUT_MEANING = ("r", "rated", "m", "manual", "a", "auto", "f", "formula", "blitz", "standard", "lightning", "untimed")
+WITHOUT_MEANING = ("r", "rated", "m", "manual", "a", "auto", "f", "formula",
+                   "blitz", "standard", "lightning", "untimed")
 ZONE = "UTC"
 
 
@@ -116,6 +117,15 @@ class Typed:
 
     def do_plain(self, name, rest):
         self.ask([f"{name} {rest}".strip()], self.answer(name))
+
+    def do_leave(self, name, rest):
+        self.ask(["quit"], self.answer("quit"))
+
+    def do_alias(self, name, rest):
+        """An alias is the server's, but for the sign before the lines that a client sends by itself."""
+        if rest.startswith("$ "):
+            return self.local(texts.DONE["alias"])
+        return self.do_plain(name, rest)
 
     def do_say(self, name, rest):
         self.local(texts.SAYS[name].format((rest.split() or [self.session.name])[0]))
