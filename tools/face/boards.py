@@ -81,6 +81,7 @@ class Game:
     def __init__(self, number, white, black, terms):
         self.number, self.white, self.black, self.terms = number, white, black, terms
         self.boards = []
+        self.hands = ""  # the line of the men in hand, where one was told
 
     def add(self, board):
         """Puts a board behind those before it; one that was told again or taken back to replaces what came later."""
@@ -95,7 +96,9 @@ class Game:
         if len(self.boards) == 1 and other:
             places = [it.position for it in other.boards]
             if self.boards[0].position in places:
+                is_last = self.boards[0].position == places[-1]
                 self.boards = other.boards[: places.index(self.boards[0].position) + 1]
+                self.hands = other.hands if is_last else self.hands
 
     def other_player(self, name):
         """Who plays against that one."""

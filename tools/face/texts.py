@@ -293,7 +293,7 @@ TOLD = {
 # the reason of an end: the server's, FICS's
 ENDS = {
     "aborted": "Game aborted by mutual agreement",
-    "adjourned": "Game adjourned by mutual agreement",
+    "adjourned": "Game adjourned",
     "drawn by stalemate": "Game drawn by stalemate",
     "drawn by agreement": "Game drawn by mutual agreement",
     "drawn by the 50 move rule": "Game drawn by the 50 move rule",

@@ -57,8 +57,15 @@ class Told:
         self.session = session
 
     def all(self, lines):
-        """The lines that the client is sent for these."""
-        return [it for line in lines for it in self.one(line)]
+        """The lines that the client is sent for these. FICS tells the men in hand behind each board of a variant that
+        has them; the server does where they have changed."""
+        told = []
+        for line, following in zip(lines, lines[1:] + [""]):
+            told += self.one(line)
+            game = self.session.games.get(Board(line).game) if line.startswith("<12>") else None
+            if game and game.hands and not following.startswith("<b1>"):
+                told.append(game.hands)
+        return told
 
     def one(self, line):
         """The lines that the client is sent for this one."""
@@ -104,10 +111,12 @@ class Told:
         return lines
 
     def on_hands(self, match, line):
-        """FICS's line in crazyhouse doesn't name the man that came last: eboard skips one that does."""
+        """The line doesn't name the man that came last in crazyhouse: eboard skips one that does."""
         game = self.session.games.get(int(match["game"]))
-        is_crazyhouse = game and game.terms.kind == "crazyhouse"
-        return [line.partition(" <- ")[0] if is_crazyhouse else line]
+        if not game:
+            return [line]
+        game.hands = line.partition(" <- ")[0]
+        return [game.hands if game.terms.kind == "crazyhouse" else line]
 
     def on_end(self, match, line):
         number, reason = int(match["game"]), match["reason"]

@@ -301,7 +301,7 @@ class Typed:
                     game = self.session.game_of(Board(line))
                     shown = self.session.told.one(line)
                     game.begin_with(self.session.hall.games.get(game.number))
-                    lines += self.observed(game) + shown
+                    lines += self.observed(game) + shown + ([game.hands] if game.hands else [])
             return lines or answers[1]
         asks = ["games", f"observe {rest}".strip()]
         return self.session.ask(Observation(self.tag, self.code, asks, render, self.session))
