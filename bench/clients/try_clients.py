@@ -166,9 +166,20 @@ def try_crowd(port, pairs):
     return [wrong for it in crowd for wrong in it.wrong]
 
 
+def start_bot(link, name):
+    """Challenges that one until it has accepted: its program may still be starting."""
+    for _ in range(12):
+        link.say(f"match {name} 1 0")
+        try:
+            return link.until(r"^\{Game \d+ .* Creating ", 10)
+        except TimeoutError:
+            link.say(f"withdraw {name}")
+    raise TimeoutError(f"{name} accepts no challenge")
+
+
 def play_bot(link, name):
     """One game of random moves against that one: the line of its end."""
-    link.say(f"match {name} 1 0")
+    start_bot(link, name)
     words, board = [], None
     while True:
         match = link.until(r"^<12> |^refused \d+|" + END, GAME_SECONDS)

@@ -6,15 +6,17 @@ TICKS_FROM = 2  # the first half-move of each colour is free
 LETTERS = {"untimed": "u", "lightning": "l", "blitz": "b", "standard": "s", "crazyhouse": "z", "bughouse": "B",
            "wild/fr": "w"}
 VARIANTS = {"crazyhouse": "crazyhouse", "bughouse": "bughouse", "fischer": "wild/fr"}
-TERMS = re.compile(r"(\d+) (\d+) (chess|crazyhouse|bughouse|fischer \d+)(?: (white|black))?")
+TERMS = r"\d+ \d+ (?:chess|crazyhouse|bughouse|fischer \d+)(?: (?:white|black))?"
 
 
 class Terms:
-    """Minutes, seconds of increment, variant and, where it is asked for, a colour."""
+    """Minutes, seconds of increment, variant and, where it is asked for, a colour, of a text that `TERMS` fits."""
 
     def __init__(self, text):
-        minutes, increment, self.variant, self.colour = TERMS.fullmatch(text).groups()
+        minutes, increment, *words = text.split()
         self.minutes, self.increment = int(minutes), int(increment)
+        self.colour = words.pop() if words[-1] in ("white", "black") else None
+        self.variant = " ".join(words)
 
     @property
     def kind(self):
@@ -81,6 +83,8 @@ class Game:
     def __init__(self, number, white, black, terms):
         self.number, self.white, self.black, self.terms = number, white, black, terms
         self.boards = []
+        self.role = "watched"  # or mine, or partner's
+        self.opening = []  # lines that are due before the first board
         self.hands = ""  # the line of the men in hand, where one was told
 
     def add(self, board):

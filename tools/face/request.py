@@ -1,7 +1,7 @@
 """Lines that were typed, with the answers that are due to them."""
 
 from .boards import Board
-from .told import kind_of
+from .told import is_board, kind_of
 
 
 class Request:
@@ -42,6 +42,6 @@ class Observation(Request):
             self.session.learn_games(lines[:n])
             return n
         n = 0
-        while n < len(lines) and lines[n].startswith("<12>") and Board(lines[n]).game not in self.session.games:
+        while n < len(lines) and is_board(lines[n]) and Board(lines[n]).game not in self.session.games:
             n += 1
         return n or super().own(lines)

@@ -4,7 +4,7 @@ import re
 from collections import deque
 
 from . import texts
-from .boards import Game, Terms
+from .boards import TERMS, Game, Terms
 from .request import Poll
 from .told import Told
 from .typed import Typed
@@ -73,7 +73,7 @@ class Seeks:
         """Takes the server's list, and tells what is new in it and what is gone."""
         before, self.known = self.known, {}
         for line in lines:
-            match = re.fullmatch(r"(\d+) (\w+) (.+)", line)
+            match = re.fullmatch(rf"(\d+) (\w+) ({TERMS})", line)
             if match:
                 self.known[int(match[1])] = match[2], Terms(match[3])
         told = []
@@ -95,6 +95,7 @@ class Session:
         self.hall, self.to_client, self.to_server = hall, to_client, to_server
         self.name, self.typed_name = "", ""
         self.stage = "greeting"  # then name, asked, password, return, in
+        self.with_password = False
         self.ahead, self.held = deque(), []
         self.is_sealed = None
         self.lines, self.parts = Lines(), Parts()
@@ -263,7 +264,7 @@ class Session:
             if (white, black) != (board.white, board.black):
                 terms = Terms(f"{board.minutes} {board.increment} chess")
             game = Game(board.game, board.white, board.black, terms)
-            game.role, game.opening = "mine" if self.name in (board.white, board.black) else "watched", []
+            game.role = "mine" if self.name in (board.white, board.black) else "watched"
             self.begin(game)
         return game
 
@@ -281,6 +282,6 @@ class Session:
         """Takes the server's list of games."""
         self.listed = {}
         for line in lines:
-            match = re.fullmatch(r"(\d+) (\w+) (\w+) (.+)", line)
+            match = re.fullmatch(rf"(\d+) (\w+) (\w+) ({TERMS})", line)
             if match:
                 self.listed[int(match[1])] = match[2], match[3], Terms(match[4])

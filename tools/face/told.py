@@ -3,23 +3,24 @@
 import re
 
 from . import texts
-from .boards import Board, Game, Terms
+from .boards import TERMS, Board, Game, Terms
 
 HANDLE = r"(?P<who>[A-Za-z]+)"
+OFFERED = f"(?P<terms>{TERMS})"
 # the first pattern that fits is the line's; a line that none fits goes on as it is
 PATTERNS = tuple((name, re.compile(pattern)) for name, pattern in (
     ("as_it_is", HANDLE + r"(?: \(your partner\))? tells you: .*|" + HANDLE.replace("who", "in") + r"\(\d+\): .*"),
     ("as_it_is", HANDLE + r" shouts: .*"),
     ("kibitz", HANDLE + r" kibitzes: (?P<text>.*)"),
-    ("board", r"<12> .*"),
+    ("board", r"<12>(?: \S+){30}"),
     ("hands", r"<b1> game (?P<game>\d+) .*"),
     ("creating", r"\{Game (?P<game>\d+) \((?P<white>\w+) vs\. (?P<black>\w+)\) (?P<how>Creating|Continuing) "
-                 r"(?P<terms>.+) match\.\}"),
+                 + OFFERED + r" match\.\}"),
     ("end", r"\{Game (?P<game>\d+) \((?P<white>\w+) vs\. (?P<black>\w+)\) (?P<reason>.+)\} (?P<result>\S+)"),
-    ("challenge", r"Challenge: " + HANDLE + r" (?P<terms>.+)"),
+    ("challenge", r"Challenge: " + HANDLE + " " + OFFERED),
     ("declined", HANDLE + r" declines your challenge\."),
     ("declines", HANDLE + r" declines\."),
-    ("seek", HANDLE + r' seeking (?P<terms>.+) \("play (?P<n>\d+)" to respond\)'),
+    ("seek", HANDLE + " seeking " + OFFERED + r' \("play (?P<n>\d+)" to respond\)'),
     ("offer", HANDLE + r" offers (?:a (?P<draw>draw)|to (?P<end>abort|adjourn)|to take back (?P<n>\d+))\."),
     ("taken_back", r"(?P<n>\d+) taken back\."),
     ("resumes", HANDLE + r" asks to resume\."),
@@ -37,6 +38,11 @@ def kind_of(line):
         if match:
             return name, match
     return None
+
+
+def is_board(line):
+    """Whether it is a board line."""
+    return (kind_of(line) or [""])[0] == "board"
 
 
 def offer_text(giver, taker, terms):
@@ -62,7 +68,7 @@ class Told:
         told = []
         for line, following in zip(lines, lines[1:] + [""]):
             told += self.one(line)
-            game = self.session.games.get(Board(line).game) if line.startswith("<12>") else None
+            game = self.session.games.get(Board(line).game) if is_board(line) else None
             if game and game.hands and not following.startswith("<b1>"):
                 told.append(game.hands)
         return told

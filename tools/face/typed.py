@@ -5,9 +5,9 @@ import re
 import time
 
 from . import texts
-from .boards import Board, Terms, rows
+from .boards import TERMS, Board, Terms, rows
 from .request import Observation, Request
-from .told import offer_text
+from .told import is_board, offer_text
 
 MOVE = re.compile(r"[a-h][1-8]-?[a-h][1-8](=?[QRBNqrbn])?|[KQRBN]?[a-h]?[1-8]?x?[a-h][1-8](=?[QRBNqrbn])?[+#]?"
                   r"|[PNBRQpnbrq]@[a-h][1-8][+#]?|[oO0]-[oO0](-[oO0])?[+#]?")
@@ -207,16 +207,13 @@ class Typed:
         others = words[2:] if words and words[0].isdigit() else words
         colour = others[-1] if others and others[-1] in ("white", "black") else ""
         variant = " ".join(others[:-1] if colour else others) or "chess"
-        try:
-            return Terms(f"{times} {variant} {colour}".strip())
-        except AttributeError:
-            return Terms(f"{usual} chess")
+        text = f"{times} {variant} {colour}".strip()
+        return Terms(text if re.fullmatch(TERMS, text) else f"{usual} chess")
 
     def do_match(self, name, rest):
         who, _, words = rest.partition(" ")
         said = self.terms_of(words.split())
         offer = offer_text(self.session.name, who, self.shown_terms(said, "2 12"))
-        self.last_match = who, said
 
         def done(lines):
             return texts.DONE["match"].format(offer=offer).split("\n") + self.session.offers.add(
@@ -236,7 +233,10 @@ class Typed:
         terms = self.shown_terms(said, "5 0")
 
         def done(lines):
-            n = int(re.fullmatch(r"Your seek is (\d+)\.", lines[0])[1])
+            told = re.fullmatch(r"Your seek is (\d+)\.", lines[0] if lines else "")
+            if not told:
+                return lines
+            n = int(told[1])
             self.session.seeks.known[n] = self.session.name, terms
             shown = self.session.is_set("seekinfo") and self.session.is_set("showownseek")
             return (self.session.seeks.row("<sn>", n) if shown else []) + [texts.DONE["seek"].format(n=n)]
@@ -297,7 +297,7 @@ class Typed:
         def render(answers):
             lines = self.refusal(answers[1], typed) or []
             for line in answers[1]:
-                if line.startswith("<12>"):
+                if is_board(line):
                     game = self.session.game_of(Board(line))
                     shown = self.session.told.one(line)
                     game.begin_with(self.session.hall.games.get(game.number))
@@ -370,6 +370,9 @@ class Typed:
     def do_decline(self, name, rest):
         offer = self.chosen_offer(rest) or (not rest and self.session.offers.first(
             lambda it: it.giver != self.session.name))
+        first = self.session.offers.first(lambda it: it.at_board and it.giver != self.session.name)
+        if offer and offer.at_board and offer is not first:
+            return self.local(texts.DONE["decline later"].format(who=first.giver, kind=first.kind))
         said = rest
         if offer:
             said = "" if offer.at_board else offer.giver
@@ -379,7 +382,7 @@ class Typed:
                 return lines
             key = "decline match" if offer.kind == "match" else "decline"
             return [texts.DONE[key].format(who=offer.giver, kind=offer.kind)]
-        self.ask([f"decline {said}".strip()], self.dropping(offer, "decline", done))
+        return self.ask([f"decline {said}".strip()], self.dropping(offer, "decline", done))
 
     def dropping(self, offer, key, done):
         """The answer to what takes an offer away, whether it still stood or not."""
@@ -402,7 +405,7 @@ class Typed:
         def done(lines):
             told = []
             for line in lines:
-                match = re.fullmatch(r"(from|to) (\w+) (.+)", line)
+                match = re.fullmatch(rf"(from|to) (\w+) ({TERMS})", line)
                 if match:
                     told.append(self.pending_row(match[1] == "from", match[2], Terms(match[3])))
             return told or [texts.NO_PENDING]
@@ -471,7 +474,7 @@ class Typed:
             return texts.STORED.format(n=n, side=side, who=who, **terms.fields())
 
         def render(answers):
-            found = [re.fullmatch(r"\d+ (\w+) (\w+) (\d.*)", it) for it in answers[0]]
+            found = [re.fullmatch(rf"\d+ (\w+) (\w+)(?: \w+ \w+)? ({TERMS})", it) for it in answers[0]]
             lines = [row(n, it) for n, it in enumerate(filter(None, found), 1)]
             if not lines:
                 return [texts.NO_STORED.format(me=me)]
