@@ -1,7 +1,5 @@
 """Games as they are told: terms, board lines, and what is known of the half-moves of a game."""
 
-import re
-
 TICKS_FROM = 2  # the first half-move of each colour is free
 LETTERS = {"untimed": "u", "lightning": "l", "blitz": "b", "standard": "s", "crazyhouse": "z", "bughouse": "B",
            "wild/fr": "w"}

@@ -109,7 +109,7 @@ COMMANDS = (
     ("seek", "see", 155, "seek"),
     ("set", "set", 109, "set"),
     ("shout", "sh", 110, "plain"),
-    ("showlist", "sho", 111, "showlist"),
+    ("showlist", "show", 111, "showlist"),
     ("simopen", "simo", 120, "plain"),
     ("simnext", "simn", 118, "plain"),
     ("simprev", "simpr", 122, "plain"),
