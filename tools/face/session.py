@@ -1,0 +1,287 @@
+"""One link: its login, what its client has set, and the answers that are due to it, in their order."""
+
+import re
+from collections import deque
+
+from . import texts
+from .boards import TERMS, Game, Terms
+from .request import Poll
+from .told import Told
+from .typed import Typed
+from .wire import Lines, Parts, unsealed
+
+ACKNOWLEDGED = b"\x029"
+SEAL_GREETINGS = (b"TIMESTAMP|", b"TIMESEAL2|")
+BLOCK_START, BLOCK_BREAK, BLOCK_END = "\x15", "\x16", "\x17"
+AT_BOARD = ("draw", "abort", "adjourn", "takeback")
+
+
+class Offer:
+    """A standing offer."""
+
+    def __init__(self, index, kind, giver, taker, text):
+        self.index, self.kind, self.giver, self.taker, self.text = index, kind, giver, taker, text
+        self.at_board = kind in AT_BOARD
+
+
+class Offers:
+    """The standing offers that a session knows of, and their lines for clients that asked for them."""
+
+    def __init__(self, session):
+        self.session, self.standing, self.last = session, [], 0
+
+    def line(self, offer):
+        """The line of an offer: from another, or to another."""
+        own = offer.giver == self.session.name
+        return f"<p{'t' if own else 'f'}> {offer.index} w={offer.taker if own else offer.giver} " \
+               f"t={offer.kind} p={offer.text}"
+
+    def shown(self, lines):
+        return lines if self.session.is_set("pendinfo") else []
+
+    def add(self, kind, giver, taker, text):
+        """The lines for a new offer, in whose place an earlier one of its kind between the two is gone."""
+        gone = self.drop(lambda it: (it.kind, it.giver, it.taker) == (kind, giver, taker))
+        self.last += 1
+        self.standing.append(Offer(self.last, kind, giver, taker, text))
+        return gone + self.shown([self.line(self.standing[-1])])
+
+    def drop(self, goes):
+        """The lines for offers that are gone."""
+        gone = [it for it in self.standing if goes(it)]
+        self.standing = [it for it in self.standing if it not in gone]
+        return self.shown([f"<pr> {it.index}" for it in gone])
+
+    def first(self, fits):
+        return next((it for it in self.standing if fits(it)), None)
+
+
+class Seeks:
+    """The seeks that a session knows of."""
+
+    def __init__(self, session):
+        self.session, self.known = session, {}
+
+    def row(self, mark, n):
+        """A seek's line for clients that draw them."""
+        who, terms = self.known[n]
+        colour = terms.colour[0].upper() if terms.colour else "?"
+        return [f"{mark} {n} w={who} ti=00 rt=0P t={terms.minutes} i={terms.increment} r=u tp={terms.kind} "
+                f"c={colour} rr=0-9999 a=t f=f"]
+
+    def learn(self, lines):
+        """Takes the server's list, and tells what is new in it and what is gone."""
+        before, self.known = self.known, {}
+        for line in lines:
+            match = re.fullmatch(rf"(\d+) (\w+) ({TERMS})", line)
+            if match:
+                self.known[int(match[1])] = match[2], Terms(match[3])
+        told = []
+        gone = [str(it) for it in before if it not in self.known]
+        if gone and self.session.is_set("seekremove"):
+            told.append("<sr> " + " ".join(gone))
+        if self.session.is_set("seekinfo"):
+            told += [line for n in self.known if n not in before for line in self.row("<s>", n)]
+        return told
+
+    def all(self):
+        return [line for n in self.known for line in self.row("<s>", n)]
+
+
+class Session:
+    """One link, without its sockets: `to_client` and `to_server` take text."""
+
+    def __init__(self, hall, to_client, to_server):
+        self.hall, self.to_client, self.to_server = hall, to_client, to_server
+        self.name, self.typed_name = "", ""
+        self.stage = "greeting"  # then name, asked, password, return, in
+        self.with_password = False
+        self.ahead, self.held = deque(), []
+        self.is_sealed = None
+        self.lines, self.parts = Lines(), Parts()
+        self.told, self.typed = Told(self), Typed(self)
+        self.settings, self.variables = {}, {"seek": "1", "open": "1", "shout": "1", "style": "12"}
+        self.offers, self.seeks = Offers(self), Seeks(self)
+        self.games, self.last_game = {}, None
+        self.listed = {}  # the games of the server's last list: number to (white, black, terms)
+        self.lists = {"channel": [], "censor": [], "noplay": []}
+        self.queue, self.owed = deque(), deque()
+
+    def is_set(self, name):
+        return self.settings.get(name, "0") != "0"
+
+    # ---- bytes in ----
+
+    def from_client(self, piece):
+        """Takes bytes of the client."""
+        for line in self.lines.of(piece):
+            plain = unsealed(line)
+            if self.is_sealed is None:
+                self.is_sealed = plain is not None and plain.startswith(SEAL_GREETINGS)
+                if self.is_sealed:
+                    continue
+            if self.is_sealed and plain is not None:
+                line = plain
+            if not (self.is_sealed and line == ACKNOWLEDGED):
+                self.ahead.append(line.decode("latin-1"))
+        self.go_on()
+
+    def go_on(self):
+        """Takes the lines that wait, as far as the login lets them."""
+        while self.ahead and self.stage not in ("greeting", "asked"):
+            line = self.ahead.popleft()
+            if self.stage == "in":
+                self.typed.line(line)
+            elif self.stage == "return":
+                self.enter("(U)")
+                if line:
+                    self.typed.line(line)
+            else:
+                if self.stage == "name":
+                    self.typed_name = line
+                self.with_password = self.stage == "password"
+                self.stage = "asked"
+                self.to_server(line + "\n")
+
+    def from_server(self, piece):
+        """Takes bytes of the server."""
+        for lines, prompt in self.parts.of(piece):
+            if self.stage in ("greeting", "asked"):
+                self.answered_login(lines, prompt)
+            elif self.stage == "return":
+                self.held += lines
+            else:
+                self.answered(lines)
+        self.go_on()
+
+    def server_is_gone(self):
+        """Tells what came last of the server."""
+        lines = self.parts.left()
+        if self.stage in ("greeting", "name", "asked", "password"):
+            self.put(lines)
+        else:
+            self.put([""] + self.told.all(self.held + lines))
+
+    # ---- the login ----
+
+    def answered_login(self, lines, prompt):
+        entered = next((it for it in lines if re.fullmatch(r"Entered as \w+\.", it)), None)
+        if entered:
+            self.name = entered[len("Entered as "):-1]
+            self.held = lines[lines.index(entered) + 1:]
+            if self.with_password:
+                return self.enter("")
+            text = texts.AS_GUEST if self.typed_name.lower() == "guest" else texts.AS_NEW
+            self.stage = "return"
+            return self.put_text(text.format(name=self.name))
+        if prompt == texts.PASSWORD:
+            self.stage = "password"
+            return self.put_text(texts.IS_REGISTERED.format(name=self.typed_name) + "\n" + texts.PASSWORD)
+        refused = re.fullmatch(r"refused (\d+) \w+", lines[0] if lines else "")
+        if self.stage == "greeting":
+            text = texts.BANNER
+        elif refused:
+            text = texts.LOGIN_REFUSALS.get(int(refused[1]), lines[0] + "\n").format(name=self.typed_name)
+        else:
+            text = "".join(it + "\n" for it in lines)
+        self.stage = "name"
+        self.put_text(text + "\n" + texts.LOGIN if text else texts.LOGIN)
+
+    def enter(self, title):
+        """The client is in: tells it so, and what came meanwhile."""
+        self.stage = "in"
+        news, self.held = self.told.all(self.held), []
+        self.put_text(texts.STARTING.format(name=self.name, title=title))
+        self.put(news)
+        self.put_text(texts.PROMPT)
+
+    # ---- answers ----
+
+    def ask(self, request):
+        """Sends a request's lines to the server. It is answered behind those before it."""
+        self.queue.append(request)
+        for line in request.asks:
+            self.owed.append(request)
+            self.to_server(line + "\n")
+        self.flush()
+
+    def answered(self, lines):
+        """Takes a part of the server: news, which begin with an empty line, or the answer that is due next."""
+        if lines and lines[0] == "" or not self.owed:
+            told = self.told.all(lines[1:] if lines and lines[0] == "" else lines)
+            if told:
+                self.put([""] + told)
+                self.put_text(texts.PROMPT)
+            return
+        request = self.owed.popleft()
+        own = request.own(lines)
+        request.answers.append(lines[:own])
+        request.news += self.told.all(lines[own:])
+        self.flush()
+
+    def flush(self):
+        """Sends the answers that are whole, in their order."""
+        while self.queue and self.queue[0].is_answered:
+            request = self.queue.popleft()
+            lines = request.render(request.answers)
+            if isinstance(request, Poll):
+                if lines or request.news:
+                    self.put([""] + lines + request.news)
+                    self.put_text(texts.PROMPT)
+                continue
+            if request.tag is None:
+                self.put(lines)
+            else:
+                self.put_text(f"{BLOCK_START}{request.tag}{BLOCK_BREAK}{request.code}{BLOCK_BREAK}")
+                self.put(lines)
+                self.put_text(BLOCK_END + "\n")
+            self.put(request.news)
+            self.put_text(texts.PROMPT)
+
+    def put(self, lines):
+        self.put_text("".join(it + "\n" for it in lines))
+
+    def put_text(self, text):
+        if text:
+            self.to_client(text.replace("\n", "\n\r"))
+
+    def poll(self):
+        """Asks which seeks still stand, for a client that is told of those that are gone: the server doesn't tell."""
+        wants = self.stage == "in" and self.is_set("seekremove") and self.seeks.known
+        if wants and not any(isinstance(it, Poll) for it in self.queue):
+            self.ask(Poll(None, 0, ["sought"], lambda answers: self.seeks.learn(answers[0])))
+
+    # ---- games ----
+
+    def begin(self, game):
+        self.games[game.number] = game
+
+    def game_of(self, board):
+        """The game of a board line; one that nobody told of is taken from the line."""
+        game = self.games.get(board.game)
+        if not game or (game.white, game.black) != (board.white, board.black):
+            white, black, terms = self.listed.get(board.game, ("", "", None))
+            if (white, black) != (board.white, board.black):
+                terms = Terms(f"{board.minutes} {board.increment} chess")
+            game = Game(board.game, board.white, board.black, terms)
+            game.role = "mine" if self.name in (board.white, board.black) else "watched"
+            self.begin(game)
+        return game
+
+    def present(self):
+        """The game that one plays, or else one at which one looks on."""
+        mine = [it for it in self.games.values() if it.role == "mine"]
+        return (mine or list(self.games.values()) or [None])[0]
+
+    def game_with(self, name):
+        """The game in which that one plays, one's own before others."""
+        games = sorted(self.games.values(), key=lambda it: it.role != "mine")
+        return next((it for it in games if name in (it.white, it.black)), None)
+
+    def learn_games(self, lines):
+        """Takes the server's list of games."""
+        self.listed = {}
+        for line in lines:
+            match = re.fullmatch(rf"(\d+) (\w+) (\w+) ({TERMS})", line)
+            if match:
+                self.listed[int(match[1])] = match[2], match[3], Terms(match[4])
