@@ -117,16 +117,8 @@ IsSound-with_partner_hands desk place man g s = IsSound-with_item g (partner_han
 
 -- what is offered has no part in it
 IsSound-with_cleared : (seat : ℕ) (g : GameState) → IsSound g → IsSound (with_cleared seat g)
-IsSound-with_cleared seat g s = record {
-  numbers = s.numbers;
-  seated = s.seated;
-  terms = s.terms;
-  scores = s.scores;
-  together = s.together;
-  order = s.order;
-  winners = s.winners;
-  ended = s.ended;
-}
+IsSound-with_cleared seat g s =
+    IsSound-later g g.feed g.viewers g.remarks g.last (where_stand (after_half_move seat g.offers.standing) g.offers) g.tally (omega arith) s.moment s.winners s
 
 sound_moved_by : (desk : ℕ) (g : GameState) (moment : ℕ) (seat : Option ℕ) (word : MoveWord) (stamp : Option ℕ) → IfSome stamp IsStamp → IsSound g →
     IsSound (moved_by desk g moment seat word stamp)

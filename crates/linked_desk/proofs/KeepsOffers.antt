@@ -1,5 +1,5 @@
 -- What is kept where the offers at a desk change, and where one takes effect.
-use Rattle.std.proofs.Common.{◌≡◌, ℕ, ◌*◌, ◌≤◌, ◌∷◌, [], Bool, true, false, List, map, All, Option, Some, None, IfSome, refl, sym, ap, subst, ◌∙◌, arith}
+use Rattle.std.proofs.Common.{◌≡◌, ℕ, ◌*◌, ◌≤◌, ◌^◌, ◌∷◌, [], Bool, true, false, List, map, All, Option, Some, None, IfSome, refl, sym, ap, subst, ◌∙◌, arith}
 use Rattle.std.specs.Prelude.{slice_get, if◌then◌else◌}
 use Rattle.std.specs.Option.{option_map, option_and_then}
 use Rattle.std.proofs.lemmas.List.Elements.{All-nil, All-head}
@@ -31,21 +31,13 @@ use Rattle.linked_desk.specs.Views.{views_of, with_board_item, with_items}
 use Rattle.linked_desk.proofs.BoardLists.{begin-latest, latest-changed_at, map-changed_at, All-changed_at, length-changed_at}
 use Rattle.linked_desk.proofs.Holding.{names_first}
 use Rattle.linked_desk.proofs.Pairs.{numbers_of_two, never_three}
-use Rattle.linked_desk.proofs.Keeps.{IsSound-ended_by, IsSound-with_view, IsSound-with_item, occupant-with_view, occupant-with_item}
+use Rattle.linked_desk.proofs.Keeps.{IsSound-ended_by, IsSound-later, timely_at, IsSound-with_view, IsSound-with_item, occupant-with_view, occupant-with_item}
 
 -- the game with other offers and counts, since a later moment
-pub IsSound-offers : (g : GameState) (offers : OfferBook) (tally : List ℕ) (moment : ℕ) → IsSound g →
+pub IsSound-offers : (g : GameState) (offers : OfferBook) (tally : List ℕ) (moment : ℕ) → moment ≤ 2 ^ 48 → IsSound g →
     IsSound (record g { offers = offers; tally = tally; last = moment_at g moment })
-IsSound-offers g offers tally moment s = record {
-  numbers = s.numbers;
-  seated = s.seated;
-  terms = s.terms;
-  scores = s.scores;
-  together = s.together;
-  order = omega (arith, s.order);
-  winners = s.winners;
-  ended = s.ended;
-}
+IsSound-offers g offers tally moment timely s =
+    IsSound-later g g.feed g.viewers g.remarks (moment_at g moment) offers tally (omega arith) (timely_at g moment timely s) s.winners s
 
 -- a line of text is no end
 talk_names : (of : Player → List ℕ) (p : Option Player) → IfSome (option_map (λ (q : Player). item.Talk (of q)) p) NamesWinner
@@ -58,11 +50,11 @@ offer_item-names g seat offer = talk_names (λ p. offer_text p.name offer) (slic
 pub decline_item-names : (g : GameState) (seat : ℕ) → IfSome (decline_item g seat) NamesWinner
 decline_item-names g seat = talk_names (λ p. decline_text p.name) (slice_get (seat_list g.seats) seat)
 
-pub IsSound-told : (g : GameState) (offers : OfferBook) (seat moment : ℕ) (x : Option Item) → IfSome x NamesWinner → IsSound g →
+pub IsSound-told : (g : GameState) (offers : OfferBook) (seat moment : ℕ) (x : Option Item) → IfSome x NamesWinner → moment ≤ 2 ^ 48 → IsSound g →
     IsSound (told offers seat moment x g)
-IsSound-told g offers seat moment x names s =
+IsSound-told g offers seat moment x names timely s =
     IsSound-with_item (record g { offers = offers; tally = counted g.tally seat; last = moment_at g moment }) x names
-    (IsSound-offers g offers (counted g.tally seat) moment s)
+    (IsSound-offers g offers (counted g.tally seat) moment timely s)
 
 pub occupant-told : (g : GameState) (offers : OfferBook) (seat moment : ℕ) (x : Option Item) → occupant (told offers seat moment x g) ≡ occupant g
 occupant-told g offers seat moment x =
@@ -156,11 +148,11 @@ occupant-taken_back desk g moment n =
     occupant-with_item shown (option_and_then (first_hands desk) (slice_get shown.boards 0))
     ∙ occupant-with_view line (slice_get (views_of desk line) 0)
 
-pub IsSound-agreed : (desk : ℕ) (g : GameState) (moment seat : ℕ) (offer : Offer) → IsSound g → IsSound (agreed desk g moment seat offer)
-IsSound-agreed desk g moment seat Draw s = IsSound-ended_by desk g moment (end_without_winner seat why.Agreed) (λ e. e, λ e. e) s
-IsSound-agreed desk g moment seat Abort s = IsSound-ended_by desk g moment (end_without_winner seat why.Aborted) (λ e. e, λ e. e) s
-IsSound-agreed desk g moment seat Adjourn s = IsSound-ended_by desk g moment (end_without_winner seat why.Adjourned) (λ e. e, λ e. e) s
-IsSound-agreed desk g moment seat (Takeback n) s = IsSound-taken_back desk g moment n s
+pub IsSound-agreed : (desk : ℕ) (g : GameState) (moment seat : ℕ) (offer : Offer) → moment ≤ 2 ^ 48 → IsSound g → IsSound (agreed desk g moment seat offer)
+IsSound-agreed desk g moment seat Draw timely s = IsSound-ended_by desk g moment (end_without_winner seat why.Agreed) (λ e. e, λ e. e) timely s
+IsSound-agreed desk g moment seat Abort timely s = IsSound-ended_by desk g moment (end_without_winner seat why.Aborted) (λ e. e, λ e. e) timely s
+IsSound-agreed desk g moment seat Adjourn timely s = IsSound-ended_by desk g moment (end_without_winner seat why.Adjourned) (λ e. e, λ e. e) timely s
+IsSound-agreed desk g moment seat (Takeback n) timely s = IsSound-taken_back desk g moment n timely s
 
 pub occupant-agreed : (desk : ℕ) (g : GameState) (moment seat : ℕ) (offer : Offer) → occupant (agreed desk g moment seat offer) ≡ occupant g
 occupant-agreed desk g moment seat Draw = refl
@@ -170,19 +162,11 @@ occupant-agreed desk g moment seat (Takeback n) = occupant-taken_back desk g mom
 
 -- how many offers a seat has made is no part of that
 pub IsSound-with_count : (g : GameState) (seat : ℕ) → IsSound g → IsSound (with_count seat g)
-IsSound-with_count g seat s = record {
-  numbers = s.numbers;
-  seated = s.seated;
-  terms = s.terms;
-  scores = s.scores;
-  together = s.together;
-  order = s.order;
-  winners = s.winners;
-  ended = s.ended;
-}
+IsSound-with_count g seat s =
+    IsSound-later g g.feed g.viewers g.remarks g.last g.offers (counted g.tally seat) (omega arith) s.moment s.winners s
 
-pub IsSound-with_offers : (g : GameState) (offers : OfferBook) (moment : ℕ) → IsSound g → IsSound (with_offers offers moment g)
-IsSound-with_offers g offers moment s = IsSound-offers g offers g.tally moment s
+pub IsSound-with_offers : (g : GameState) (offers : OfferBook) (moment : ℕ) → moment ≤ 2 ^ 48 → IsSound g → IsSound (with_offers offers moment g)
+IsSound-with_offers g offers moment timely s = IsSound-offers g offers g.tally moment timely s
 
 pub either_sound : (b : Bool) (one another : GameState) → IsSound one → IsSound another → IsSound (if b then one else another)
 either_sound true one another s t = s

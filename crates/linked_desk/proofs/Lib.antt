@@ -1,5 +1,7 @@
 pub mod BoardLists
+pub mod Causes
 pub mod ClearedOffers
+pub mod Coded
 pub mod Counting
 pub mod Finishing
 pub mod Holding
@@ -23,5 +25,6 @@ pub mod Linking
 pub mod Opening
 pub mod Pairs
 pub mod SeatNumbers
+pub mod SoundCharges
 pub mod Telling
 pub mod WholeSets

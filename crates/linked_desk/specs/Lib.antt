@@ -25,6 +25,7 @@ pub mod Show
 pub mod Sight
 pub mod Sound
 pub mod Tally
+pub mod TempBoards
 pub mod Views
 pub mod Watch
 pub mod WholeSets
