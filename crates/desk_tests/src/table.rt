@@ -2,7 +2,7 @@
 ghost use Rattle.std.specs.Prelude.{◌≡◌, IfSome, length};
 ghost use Rattle.clock_ledger.specs.Span.{IsStamp};
 ghost use Rattle.linked_desk.specs.Acts.{FitsDeskAct};
-ghost use Rattle.linked_desk.specs.Boards.{board_numbers};
+ghost use Rattle.linked_boards.specs.Boards.{board_numbers};
 
 use crate::four::desk_with_pair;
 use chess_model::{Kind, MoveWord, Square, Terms, Variant};

@@ -1,4 +1,3 @@
-pub mod BoardLists
 pub mod Causes
 pub mod ClearedOffers
 pub mod Coded
@@ -21,10 +20,9 @@ pub mod KeepsResign
 pub mod KeepsShow
 pub mod KeepsStart
 pub mod KeepsWatch
-pub mod Linking
 pub mod Opening
-pub mod Pairs
 pub mod SeatNumbers
 pub mod SoundCharges
 pub mod Telling
+pub mod TempLaws
 pub mod WholeSets

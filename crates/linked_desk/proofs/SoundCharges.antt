@@ -16,8 +16,8 @@ use Rattle.game_board.specs.Board.{Board, to_move}
 use Rattle.game_board.specs.Play.{next_charge, play_after}
 use Rattle.game_board.specs.TakeBack.{has_too_few, taken_back}
 use Rattle.game_board.proofs.LastPlayed.{IsChargeable-next}
-use Rattle.linked_desk.specs.Boards.{told_answer}
-use Rattle.linked_desk.specs.Offering.{back_by}
+use Rattle.linked_boards.specs.Boards.{told_answer}
+use Rattle.linked_boards.specs.TakenBack.{back_by}
 use Rattle.linked_desk.specs.Sound.{HasSoundCharges}
 
 abbrev IsSoundCharge : Played → Type 0

@@ -1,7 +1,6 @@
 pub mod AcceptOffer
 pub mod Acked
 pub mod Acts
-pub mod Boards
 pub mod DeclineOffer
 pub mod Desk
 pub mod Ends
@@ -11,7 +10,6 @@ pub mod Flag
 pub mod Hands
 pub mod Holds
 pub mod Leave
-pub mod Linked
 pub mod Make
 pub mod OfferLaws
 pub mod Offering

@@ -11,7 +11,7 @@ use Rattle.game_board.specs.declared.played.Played.{Played}
 use Rattle.game_board.specs.Board.{Board}
 use Rattle.linked_desk.specs.declared.acts.DeskReply.{DeskReply}
 use Rattle.linked_desk.specs.declared.acts.DeskReply.TheVariants.{Done, Items}
-use Rattle.linked_desk.specs.Boards.{latest}
+use Rattle.linked_boards.specs.Boards.{latest}
 use Rattle.linked_desk.specs.TempBoards.{AreSoundBoards, GoOn}
 use Rattle.linked_desk.specs.Desk.{GameState, DeskState}
 use Rattle.linked_desk.specs.Seating.{MayPlay}

@@ -4,11 +4,8 @@ use Rattle.chess_model.specs.declared.variant.Terms.{Terms}
 use Rattle.chess_model.specs.Result.{result, is_end}
 use Rattle.game_board.specs.Board.{Board, position_of}
 use Rattle.game_board.specs.Scoresheet.{IsTrueScore}
-use Rattle.linked_desk.specs.Boards.{board_numbers}
-
-abbrev pub AreSame : {T : Type 0} → List T → Type 0
-AreSame [] = Unit {0}
-AreSame (x ∷ xs) = All (λ y. y ≡ x) xs
+use Rattle.linked_boards.specs.Boards.{board_numbers}
+use Rattle.linked_boards.specs.Sound.{AreSame}
 
 pub record AreSoundBoards (t : Terms) (boards : List Board) : Type 0 where
   pub numbers : map (λ (b : Board). b.number) boards ≡ board_numbers t.variant

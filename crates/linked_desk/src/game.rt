@@ -1,11 +1,11 @@
 //! The game at a desk.
 ghost use Rattle.std.specs.Prelude.{◌≡◌, ◌<◌, IfSome, length};
 
-use crate::boards::Boards;
 use crate::ended::Ended;
 use crate::tally::Tally;
 use chess_model::Terms;
 use fics_words::Seats;
+use linked_boards::Boards;
 use observer_feed::Feed;
 use offer_book::Offers;
 use std::alloc::Global;

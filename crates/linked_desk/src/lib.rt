@@ -10,7 +10,6 @@
 mod accept_offer;
 mod acked;
 mod acts;
-mod boards;
 mod decline_offer;
 mod desk;
 mod ended;
@@ -22,8 +21,8 @@ mod game;
 mod hands;
 mod laws;
 mod leave;
-mod linked;
 mod make;
+mod occasion;
 mod offer_laws;
 mod offering;
 mod playing;

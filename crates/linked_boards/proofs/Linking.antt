@@ -8,7 +8,7 @@ use Rattle.chess_model.specs.Position.{Position, position_after}
 use Rattle.game_board.specs.Board.{Board, position_of}
 use Rattle.game_board.specs.Learn.{partner_position, captured_there, learnt}
 use Rattle.game_board.specs.Play.{captured, with_half_move}
-use Rattle.linked_desk.specs.Linked.{AreLinked}
+use Rattle.linked_boards.specs.Linked.{AreLinked}
 
 -- the position on a board is that which the other one takes it to be
 position_there : (own other : Board) → AreLinked own other → position_of own ≡ partner_position other

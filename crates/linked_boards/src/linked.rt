@@ -2,8 +2,8 @@
 ghost use Rattle.std.specs.Prelude.{◌≡◌, ◌≤◌, ◌^◌, IfSome, OnErr};
 ghost use Rattle.clock_ledger.specs.Span.{IsStamp};
 ghost use Rattle.game_board.specs.Play.{move_answer, play_after, play_reply};
-ghost use Rattle.linked_desk.specs.Boards.{told_answer};
-ghost use Rattle.linked_desk.specs.Linked.{AreLinked};
+ghost use Rattle.linked_boards.specs.Boards.{told_answer};
+ghost use Rattle.linked_boards.specs.Linked.{AreLinked};
 
 use chess_model::{Colour, Man, MoveWord};
 use fics_words::Refusal;
@@ -12,7 +12,7 @@ use game_board::GameBoard;
 /// Plays a word of a colour at one board of a pair, with the stamp of its client if it has one, and gives the man that
 /// the half-move captures. The other board learns of it, so that the man comes into the hand of its own colour there.
 /// Refused as the board refuses a word; a refusal changes neither board. Takes no memory.
-pub(crate) fn play_linked(
+pub fn play_linked(
     own: &mut GameBoard,
     other: &mut GameBoard,
     colour: Colour,

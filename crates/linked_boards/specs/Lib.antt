@@ -1,0 +1,5 @@
+pub mod Boards
+pub mod Claims
+pub mod Linked
+pub mod Sound
+pub mod TakenBack
