@@ -2,7 +2,7 @@
 
 use crate::four::{CAT, DAN, desk_with_pair};
 use crate::shown::last_told_otherwise;
-use crate::table::{ANN, Accounts, BEN, Does, Given, SERIAL, Step, first_failing, outcome};
+use crate::table::{ANN, BEN, Does, Given, SERIAL, Step, first_failing, outcome};
 use chess_model::Colour;
 use fics_words::{NoMemory, Refusal};
 use linked_desk::{Desk, Ended, Why};
@@ -177,7 +177,7 @@ const GAMES: &[Game] = &[BESIDE, DROPPED, FOOLED, WAITED, LEFT, RESIGNED];
 
 /// Whether a game goes so.
 fn goes_so(rt: &impl Abort, alloc: Global, game: &Game) -> Result<bool, NoMemory> {
-    let mut desk = desk_with_pair(rt, alloc, Accounts::Nobody);
+    let mut desk = desk_with_pair(rt, alloc);
     if first_failing(&mut desk, SERIAL, game.0).is_some() {
         return Ok(false);
     }

@@ -3,8 +3,9 @@ ghost use Rattle.std.specs.Prelude.{◌≡◌, IfSome, length};
 ghost use Rattle.clock_ledger.specs.Span.{IsStamp};
 ghost use Rattle.linked_desk.specs.Acts.{FitsDeskAct};
 ghost use Rattle.linked_boards.specs.Boards.{board_numbers};
+ghost use Rattle.linked_desk.specs.Seating.{AllDiffer, HasPairsFor, names_of, sessions_of};
 
-use crate::four::desk_with_pair;
+use crate::four::four;
 use chess_model::{Kind, MoveWord, Square, Terms, Variant};
 use clock_ledger::STAMP_CYCLE;
 use fics_words::{Fail, Handle, Opponents, Player, Refusal, Seats};
@@ -80,39 +81,60 @@ fn has_account(accounts: Accounts, session: u32) -> bool {
     }
 }
 
-/// Desk 1 with a game of chess between Ann and Ben that began at moment 0.
-pub fn desk_with_game(rt: &impl Abort, alloc: Global, minutes: u16, increment: u16) -> Desk {
-    desk_with(rt, alloc, Accounts::Nobody, minutes, increment, Variant::Chess)
+/// Who sits at a desk, and on which terms they play.
+#[derive(Clone, Copy)]
+pub struct Sitting {
+    pub terms: Terms,
+    pub seats: Seats,
 }
 
-fn desk_with(
+/// Desk 1 with a game of chess between Ann and Ben that began at moment 0.
+pub fn desk_with_game(rt: &impl Abort, alloc: Global, minutes: u16, increment: u16) -> Desk {
+    let sitting = two(rt, Accounts::Nobody, minutes, increment, Variant::Chess);
+    desk_with(rt, alloc, &sitting)
+}
+
+/// Desk 1 with a game that began so at moment 0.
+pub fn desk_with(rt: &impl Abort, alloc: Global, sitting: &Sitting) -> Desk
+    requires pairs { HasPairsFor sitting.now.terms sitting.now.seats }
+    requires sessions { AllDiffer (sessions_of sitting.now.seats) }
+    requires names { AllDiffer (names_of sitting.now.seats) }
+{
+    let mut desk = Desk::vacant(1);
+    let started = desk.start(alloc, SERIAL, sitting.terms, &sitting.seats, 0);
+    assert!(rt; started.is_ok(), "there is memory");
+    desk
+}
+
+/// Ann and Ben, who play at one board.
+fn two(
     rt: &impl Abort,
-    alloc: Global,
     accounts: Accounts,
     minutes: u16,
     increment: u16,
     variant: Variant,
-) -> Desk
+) -> Sitting
     requires pairs { length (board_numbers variant) ≡ 1 }
+    ensures pairs { HasPairsFor result.terms result.seats }
+    ensures sessions { AllDiffer (sessions_of result.seats) }
+    ensures names { AllDiffer (names_of result.seats) }
 {
-    let mut desk = Desk::vacant(1);
     let white = player(rt, accounts, ANN, "Ann");
     let black = player(rt, accounts, BEN, "Ben");
     assert!(rt; white.session != black.session, "two sessions");
     assert!(rt; white.name.key() != black.name.key(), "two names");
-    let terms = Terms {
-        minutes,
-        increment,
-        variant,
-        colour: None,
-    };
-    let seats = Seats {
-        first: Opponents { white, black },
-        second: None,
-    };
-    let started = desk.start(alloc, SERIAL, terms, &seats, 0);
-    assert!(rt; started.is_ok(), "there is memory");
-    desk
+    Sitting {
+        terms: Terms {
+            minutes,
+            increment,
+            variant,
+            colour: None,
+        },
+        seats: Seats {
+            first: Opponents { white, black },
+            second: None,
+        },
+    }
 }
 
 /// What stands at a desk as a test begins: nothing at desk 128, or a game at desk 1.
@@ -141,23 +163,30 @@ pub enum Opening {
 pub fn desk_of(rt: &impl Abort, alloc: Global, opening: Opening) -> Desk {
     match opening {
         Opening::Vacant => Desk::vacant(128),
-        Opening::Chess(minutes, increment) => desk_with_game(rt, alloc, minutes, increment),
-        Opening::House => desk_with(rt, alloc, Accounts::Nobody, 0, 0, Variant::Crazyhouse),
-        Opening::Pair => desk_with_pair(rt, alloc, Accounts::Nobody),
-        Opening::Members(minutes, increment) => desk_with(
-            rt,
-            alloc,
-            Accounts::Everybody,
-            minutes,
-            increment,
-            Variant::Chess,
-        ),
-        Opening::MembersHouse => {
-            desk_with(rt, alloc, Accounts::Everybody, 0, 0, Variant::Crazyhouse)
+        _ => desk_with(rt, alloc, &who_sits(rt, opening)),
+    }
+}
+
+/// Who sits there.
+pub fn who_sits(rt: &impl Abort, opening: Opening) -> Sitting
+    ensures pairs { HasPairsFor result.terms result.seats }
+    ensures sessions { AllDiffer (sessions_of result.seats) }
+    ensures names { AllDiffer (names_of result.seats) }
+{
+    match opening {
+        Opening::Vacant => two(rt, Accounts::Nobody, 0, 0, Variant::Chess),
+        Opening::Chess(minutes, increment) => {
+            two(rt, Accounts::Nobody, minutes, increment, Variant::Chess)
         }
-        Opening::NotBen => desk_with(rt, alloc, Accounts::NotBen, 0, 0, Variant::Chess),
-        Opening::PairOfMembers => desk_with_pair(rt, alloc, Accounts::Everybody),
-        Opening::PairNotBen => desk_with_pair(rt, alloc, Accounts::NotBen),
+        Opening::House => two(rt, Accounts::Nobody, 0, 0, Variant::Crazyhouse),
+        Opening::Pair => four(rt, Accounts::Nobody),
+        Opening::Members(minutes, increment) => {
+            two(rt, Accounts::Everybody, minutes, increment, Variant::Chess)
+        }
+        Opening::MembersHouse => two(rt, Accounts::Everybody, 0, 0, Variant::Crazyhouse),
+        Opening::NotBen => two(rt, Accounts::NotBen, 0, 0, Variant::Chess),
+        Opening::PairOfMembers => four(rt, Accounts::Everybody),
+        Opening::PairNotBen => four(rt, Accounts::NotBen),
     }
 }
 
@@ -255,7 +284,7 @@ fn move_of(text: &[u8], stamp: Option<u32>) -> Option<DeskAct>
     Some(DeskAct::Move { word, stamp })
 }
 
-fn word_of(text: &[u8]) -> Option<MoveWord> {
+pub fn word_of(text: &[u8]) -> Option<MoveWord> {
     match text {
         [kind, b'@', file, rank] => Some(MoveWord::Drop {
             kind: kind_of(*kind)?,

@@ -1,5 +1,5 @@
 -- A half-move that is allowed has a code in a record.
-use Rattle.std.proofs.Common.{◌≡◌, ◌<◌, ℕ, ⊤, ◌⊎◌, inl, inr, Option, Some, None, sym, subst, arith}
+use Rattle.std.proofs.Common.{◌≡◌, ◌<◌, ℕ, ◌⊎◌, inl, inr, Option, Some, None, sym, subst, arith}
 use Rattle.chess_model.specs.declared.man.Colour.{Colour}
 use Rattle.chess_model.specs.declared.hand.Hand.{Hand}
 use Rattle.chess_model.specs.declared.man.Kind.{Kind}
@@ -36,7 +36,7 @@ becomes c King b promo e = unpromoted promo e
 
 plain : (p : Position) (a b : ℕ) (promo : Option Kind) (man : Option Man) → GoesAs p a b promo man → MayBecome promo
 plain p a b promo None goes = absurd goes
-plain p a b promo (Some m) goes = becomes p.to_move m.kind b promo goes.1.1
+plain p a b promo (Some m) goes = becomes p.to_move m.kind b promo goes.2
 
 -- there is no king in hand
 dropped : (h : Hand) (k : Kind) → 0 < count_in h k → MayBeDropped k

@@ -11,10 +11,10 @@ use Rattle.linked_desk.specs.Acked.{acked_by, acked_effect}
 use Rattle.linked_boards.specs.Boards.{latest, boards_acked}
 use Rattle.linked_desk.specs.Desk.{GameState, seat_of, moment_at}
 use Rattle.linked_desk.specs.Seats.{place_of, colour_at}
-use Rattle.linked_desk.specs.Sound.{HasSoundCharges, IsSound}
+use Rattle.linked_desk.specs.Sound.{IsRecordable, IsSound}
 use Rattle.linked_boards.proofs.BoardLists.{latest-changed_at, All-changed_at}
 use Rattle.linked_desk.proofs.Keeps.{Keeps, IsSound-later, timely_at}
-use Rattle.linked_desk.proofs.SoundCharges.{charges-acknowledged}
+use Rattle.linked_desk.proofs.Recordable.{recordable-acknowledged}
 use Rattle.linked_desk.proofs.TempLaws.{sound_acked}
 
 -- what a board and the board with a stamp kept have alike, the acknowledged board has
@@ -47,7 +47,7 @@ IsSound-acked g moment place colour stamp stamped timely s =
     record {
       seated = s.seated;
       boards = sound_acked g.terms g.boards place colour stamp stamped s.boards;
-      charges = All-changed_at HasSoundCharges g.boards place after (λ b there. charges-acknowledged b colour stamp) s.charges;
+      recordable = All-changed_at (IsRecordable g.terms.variant) g.boards place after (λ b there. recordable-acknowledged g.terms.variant b colour stamp) s.recordable;
       going = λ runs. All-changed_at (λ (b : Board). is_end (result (position_of b)) ≡ false) g.boards place after (λ b there. goes_on b colour stamp) (s.going runs);
       order = latest-changed_at g.boards place (moment_at g moment) after
           (λ b h. let same : (acknowledged b colour stamp).begin ≡ b.begin = same_acknowledged (λ c. c.begin) b colour stamp refl in omega arith) early;

@@ -5,6 +5,7 @@ pub mod Counting
 pub mod Finishing
 pub mod Holding
 pub mod Keeps
+pub mod Kept
 pub mod KeepsAcceptOffer
 pub mod KeepsActs
 pub mod KeepsAcked
@@ -21,8 +22,9 @@ pub mod KeepsShow
 pub mod KeepsStart
 pub mod KeepsWatch
 pub mod Opening
+pub mod Recordable
 pub mod SeatNumbers
-pub mod SoundCharges
+pub mod Shelved
 pub mod Telling
 pub mod TempLaws
 pub mod WholeSets

@@ -30,7 +30,7 @@ told_of desk g place man = record g {
       (partner_hands_at desk g place man);
 }
 
-with_hands-told : (desk : ℕ) (g : GameState) (place : ℕ) (man : Option Man) →
+pub with_hands-told : (desk : ℕ) (g : GameState) (place : ℕ) (man : Option Man) →
     with_partner_hands desk place man (with_hands desk place man (with_board_item desk place g)) ≡ told_of desk g place man
 with_hands-told desk g place man =
     let shown : GameState = record g { feed = feed_with g.feed (option_map item.Board (slice_get (views_of desk g) place)) } in

@@ -9,7 +9,7 @@ use Rattle.clock_ledger.specs.Span.{IsStamp}
 use Rattle.game_board.specs.Board.{Board, position_of}
 use Rattle.linked_boards.specs.Boards.{boards_acked, boards_after, latest, new_boards, word_at}
 use Rattle.linked_boards.specs.TakenBack.{boards_taken_back}
-use Rattle.linked_desk.specs.TempBoards.{AreSoundBoards, GoOn}
+use Rattle.linked_boards.specs.Sound.{AreSoundBoards, GoOn}
 
 pub sound_new : (t : Terms) (moment : ℕ) → AreSoundBoards t (new_boards t moment)
 sound_new t moment = ?

@@ -17,13 +17,15 @@ pub mod Playing
 pub mod Present
 pub mod Remark
 pub mod Resign
+pub mod Restore
 pub mod Seating
 pub mod Seats
+pub mod ShelfLaws
+pub mod Shelve
 pub mod Show
 pub mod Sight
 pub mod Sound
 pub mod Tally
-pub mod TempBoards
 pub mod Views
 pub mod Watch
 pub mod WholeSets
