@@ -1,5 +1,7 @@
 pub mod Boards
 pub mod Claims
+pub mod Halves
 pub mod Linked
+pub mod Replaying
 pub mod Sound
 pub mod TakenBack

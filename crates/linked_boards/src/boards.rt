@@ -1,17 +1,19 @@
 //! The boards of a game.
-ghost use Rattle.std.specs.Prelude.{◌≡◌, ◌≤◌, ◌^◌, [], ◌∷◌, IfOk, IfSome, OnErr, slice_get};
+ghost use Rattle.std.specs.Prelude.{◌≡◌, ◌<◌, ◌≤◌, ◌^◌, [], ◌∷◌, IfOk, IfSome, IsTrue, OnErr, length, slice_get};
 ghost use Rattle.std.specs.Option.{option_copied, option_to_list};
+ghost use Rattle.clock_ledger.specs.Charges.{IsChargeable};
 ghost use Rattle.clock_ledger.specs.Span.{IsStamp};
 ghost use Rattle.fics_words.specs.Effect.{first_cause, refusal_of, refused_by};
 ghost use Rattle.game_board.specs.Board.{new_board};
 ghost use Rattle.linked_boards.specs.Claims.{claim_at};
+ghost use Rattle.linked_boards.specs.Replaying.{boards_put, own_takes};
 ghost use Rattle.linked_boards.specs.TakenBack.{boards_taken_back, lacks_half_moves};
 ghost use Rattle.linked_boards.specs.Boards.{boards_acked, boards_after, flag_at, latest, new_boards, numbered, other_place, reply_at, word_at};
 
-use crate::linked::play_linked;
+use crate::linked::{play_linked, put_alone, put_linked};
 use chess_model::{Colour, Man, MoveWord, Terms, Variant, Why};
 use fics_words::{NoMemory, Refusal};
-use game_board::GameBoard;
+use game_board::{GameBoard, Played};
 use std::alloc::Global;
 use std::marker::Model;
 
@@ -136,6 +138,30 @@ impl Boards {
                 None => Err(Refusal::NotPlaying),
             },
             _ => Err(Refusal::NotPlaying),
+        }
+    }
+
+    /// Puts a half-move on the board in that place, with the charge that it has. The other board of a pair learns of it.
+    /// Takes no memory.
+    pub(crate) fn put(&mut self, place: u8, half: &Played)
+        requires takes { IsTrue (own_takes (slice_get self.old place) half.now) }
+        requires short { IfSome (slice_get self.old place) (λ b. length b.list < 1200) }
+        requires sound { IfSome half.now.charge IsChargeable }
+        ensures after { self.new ≡ boards_put self.old place half.now }
+    {
+        match place {
+            0 => match &mut self.second {
+                Some(second) => put_linked(&mut self.first, second, half),
+                None => {
+                    let _captured = put_alone(&mut self.first, half);
+                }
+            },
+            1 => {
+                if let Some(second) = &mut self.second {
+                    put_linked(second, &mut self.first, half);
+                }
+            }
+            _ => {}
         }
     }
 
