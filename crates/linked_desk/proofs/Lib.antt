@@ -23,6 +23,7 @@ pub mod KeepsStart
 pub mod KeepsWatch
 pub mod Opening
 pub mod Recordable
+pub mod Restored
 pub mod SeatNumbers
 pub mod Shelved
 pub mod Telling

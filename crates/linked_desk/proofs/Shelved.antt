@@ -45,13 +45,13 @@ unfolding IsDistinct
 distinct [] h = tt
 distinct (x ∷ xs) h = (apart x xs h.0, distinct xs h.1)
 
-four : (v : Variant) (names : List (List ℕ)) → AllDiffer (map key_of names) → AreFour v names
+pub four : (v : Variant) (names : List (List ℕ)) → AllDiffer (map key_of names) → AreFour v names
 four Chess names h = tt
 four Crazyhouse names h = tt
 four (Fischer number) names h = tt
 four Bughouse names h = distinct (map key_of names) h
 
-keys_in : (players : List Player) → map (λ (p : Player). key_of p.name) players ≡ map key_of (map (λ (p : Player). p.name) players)
+pub keys_in : (players : List Player) → map (λ (p : Player). key_of p.name) players ≡ map key_of (map (λ (p : Player). p.name) players)
 keys_in [] = refl
 keys_in (p ∷ players) = ap (λ xs. key_of p.name ∷ xs) (keys_in players)
 

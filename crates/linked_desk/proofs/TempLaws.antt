@@ -1,6 +1,11 @@
 -- temporary
-use Rattle.std.proofs.Common.{◌≡◌, ◌≤◌, ℕ, List, Option, IfSome, None, false}
-use Rattle.std.specs.Prelude.{slice_get}
+use Rattle.std.proofs.Common.{◌≡◌, ◌≤◌, ℕ, List, All, Option, IfSome, Some, None, false}
+use Rattle.game_records.specs.declared.stored_game.Half.{Half}
+use Rattle.game_records.specs.Bounds.{AreHalves}
+use Rattle.game_records.specs.Replays.{CanBePlayed}
+use Rattle.linked_boards.specs.Halves.{halves_of}
+use Rattle.linked_boards.specs.Replaying.{replayed}
+use Rattle.std.specs.Prelude.{IsSome, slice_get}
 use Rattle.chess_model.specs.declared.man.Colour.{Colour}
 use Rattle.chess_model.specs.declared.moves.MoveWord.{MoveWord}
 use Rattle.chess_model.specs.declared.variant.Terms.{Terms}
@@ -36,3 +41,20 @@ played_go_on t boards place moment colour word stamp s going here = ?
 
 pub back_go_on : (t : Terms) (boards : List Board) (n moment : ℕ) → AreSoundBoards t boards → GoOn boards → GoOn (boards_taken_back boards n moment)
 back_go_on t boards n moment s going = ?
+
+pub replayed_if : (t : Terms) (halves : List Half) (moment : ℕ) → AreHalves t.variant halves → CanBePlayed t halves → IsSome (replayed t halves moment)
+replayed_if t halves moment are played = ?
+
+pub replayed_only_if : (t : Terms) (halves : List Half) (moment : ℕ) → AreHalves t.variant halves → IsSome (replayed t halves moment) → CanBePlayed t halves
+replayed_only_if t halves moment are some = ?
+
+pub replayed_sound : (t : Terms) (halves : List Half) (moment : ℕ) (boards : List Board) → AreHalves t.variant halves → replayed t halves moment ≡ Some boards →
+    AreSoundBoards t boards
+replayed_sound t halves moment boards are e = ?
+
+pub replayed_halves : (t : Terms) (halves : List Half) (moment : ℕ) (boards : List Board) → AreHalves t.variant halves → replayed t halves moment ≡ Some boards →
+    halves_of boards ≡ halves
+replayed_halves t halves moment boards are e = ?
+
+pub replayed_begin : (t : Terms) (halves : List Half) (moment : ℕ) (boards : List Board) → replayed t halves moment ≡ Some boards → All (λ (b : Board). b.begin ≡ moment) boards
+replayed_begin t halves moment boards e = ?

@@ -1,9 +1,9 @@
 //! How a game that was adjourned goes on at a desk.
-ghost use Rattle.std.specs.Prelude.{◌≡◌, ◌≤◌, ◌^◌, ◌↔◌, IfOk, IfSome, IsSome, Some};
+ghost use Rattle.std.specs.Prelude.{◌≡◌, ◌≤◌, ◌^◌, ◌↔◌, IfOk, IsSome, None};
 ghost use Rattle.std.specs.Option.{option_map};
 ghost use Rattle.game_records.specs.Replays.{Replays};
 ghost use Rattle.linked_boards.specs.Replaying.{replayed};
-ghost use Rattle.linked_desk.specs.Restore.{last_place, place_on, resumed};
+ghost use Rattle.linked_desk.specs.Restore.{finished_at, last_place, place_on, resumed};
 ghost use Rattle.linked_desk.specs.Seating.{AllDiffer, HasPairsFor, names_of, sessions_of};
 ghost use Rattle.linked_desk.specs.Shelve.{names_in};
 
@@ -45,10 +45,23 @@ pub(crate) fn resumed(
     };
     show_each(&mut feed, desk, seats, &boards);
     let mut game = game_at(alloc, serial, stored.terms, seats, boards, feed, moment);
-    if let Some(place) = last_place(halves) {
-        game.finish(desk, moment, place);
-    }
+    game.finish_at(desk, moment, last_place(halves));
     Ok(Some(game))
+}
+
+impl Game {
+    /// Ends the running game where the position on the board in that place brings it, if there is one.
+    fn finish_at(&mut self, desk: u8, moment: u64, place: Option<u8>)
+        requires low { 1 ≤ desk }
+        requires high { desk ≤ 128 }
+        requires moment { moment ≤ 2 ^ 48 }
+        requires running { self.old.ended ≡ None }
+        ensures { self.new ≡ finished_at desk self.old moment place }
+    {
+        if let Some(place) = place {
+            self.finish(desk, moment, place);
+        }
+    }
 }
 
 /// The place of the board on which the last of these half-moves was made, if there is one.
