@@ -1,6 +1,7 @@
 pub mod Boards
 pub mod Claims
 pub mod Halves
+pub mod Laws
 pub mod Linked
 pub mod Replaying
 pub mod Sound

@@ -1,9 +1,11 @@
 -- What holds of the boards of a game in every state.
 use Rattle.std.specs.Prelude.{◌≡◌, ◌≤◌, All, List, [], ◌∷◌, map}
+use Rattle.std.specs.List.{AllByRecursion}
 use Rattle.chess_model.specs.declared.variant.Terms.{Terms}
 use Rattle.game_board.specs.Board.{Board, position_of}
 use Rattle.game_board.specs.Play.{most_played}
 use Rattle.game_board.specs.Scoresheet.{IsTrueScore}
+use Rattle.game_records.specs.Bounds.{IsHalf}
 use Rattle.game_records.specs.Replays.{CanBePlayed, GoesOn}
 use Rattle.linked_boards.specs.Boards.{board_numbers}
 use Rattle.linked_boards.specs.Halves.{halves_of}
@@ -27,6 +29,7 @@ pub record AreSoundBoards (t : Terms) (boards : List Board) : Type 0 where
   pub few : All (λ (b : Board). b.played ≤ most_played) boards
   -- those of a pair have one list of the half-moves of both, by which men come from one board to the other
   pub together : AreSame (map (λ (b : Board). b.all) boards)
-  -- with their charges the half-moves are those of a game that can be played again: each was allowed, none came after
-  -- the end of a board, and charges stand where they belong
+  -- a record can have each half-move with its charge, and they can be played again: each was allowed, none came after the
+  -- end of a board, and charges stand where they belong
+  pub halves : AllByRecursion (IsHalf t.variant) (halves_of boards)
   pub played : CanBePlayed t (halves_of boards)
