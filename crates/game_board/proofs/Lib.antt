@@ -4,6 +4,7 @@ pub mod Fallen
 pub mod Grown
 pub mod LastPlayed
 pub mod Legal
+pub mod ScorePut
 pub mod ScoreTakenBack
 pub mod Scoresheet
 pub mod Sides

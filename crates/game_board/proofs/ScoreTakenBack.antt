@@ -1,5 +1,5 @@
 -- The score of a board stays true where half-moves are taken back.
-use Rattle.std.proofs.Common.{◌≡◌, ◌≢◌, ℕ, ◌+◌, ◌-◌, ◌≤◌, ◌<◌, ◌||◌, inl, inr, zero, suc, Bool, true, false, if◌then◌else◌, List, [], ◌∷◌, ◌++◌, length, take, drop, Some, refl, sym, ap, subst, ◌∙◌, length-append, append_assoc, arith}
+use Rattle.std.proofs.Common.{◌≡◌, ◌≢◌, ℕ, ◌+◌, ◌-◌, ◌≤◌, ◌<◌, ◌||◌, inl, inr, zero, suc, Bool, true, false, if◌then◌else◌, List, [], ◌∷◌, ◌++◌, length, min, take, drop, Some, refl, sym, ap, subst, ◌∙◌, length-append, append_assoc, arith}
 use Rattle.std.specs.Prelude.{nat_eq, nat_lt, slice_get}
 use Rattle.std.proofs.lemmas.Bool.Decides.{nat_tests}
 use Rattle.std.proofs.lemmas.List.{length-take}
@@ -101,11 +101,13 @@ IsTrueScore-taken_back b n moment single some few order s =
       ];
       played = omega (arith, many, s.played);
       unless_taken_back = λ h. absurd (omega (arith, h, many, s.played, some, few));
+      resumed = omega (arith, many);
       kept = tt;
       charged = λ k p e.
           let within : k < length list = slice_get_within list k p e in
           let early_one : k < left = omega (arith, within, many) in
-          IsCharged-changed b.terms s.since since s.moments moments k p
+          IsCharged-changed b.terms b.resumed (min b.resumed left) s.since since s.moments moments k p
+          (λ own. omega (arith, own, early_one))
           (λ x h. stays_at front moment x k (to_take left s.since k x early_one h))
           (λ x h. to_take (left + 1) s.moments (k + 1) x (omega (arith, early_one)) h)
           (s.charged k p (from_take left b.list k p e));

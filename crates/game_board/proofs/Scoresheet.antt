@@ -30,6 +30,7 @@ use Rattle.game_board.specs.Board.{Board, half_move, new_board, to_move, mover_a
 use Rattle.game_board.specs.Charges.{charges_of, is_timed, remaining_of}
 use Rattle.game_board.specs.Causes.{in_words}
 use Rattle.game_board.specs.Play.{move_refused, move_answer, next_charge, with_half_move, play_after}
+use Rattle.game_board.specs.Put.{with_played}
 use Rattle.chess_model.specs.WordAnswer.{IsWordAnswer, word_answer}
 use Rattle.chess_model.proofs.WordsDecide.{word_answer-holds}
 use Rattle.game_board.specs.Learn.{partner_position, learnt}
@@ -77,7 +78,7 @@ has_moved-two White p q more = above_zero (length more)
 has_moved-two Black p q more = above_one (length more)
 
 -- who is to move has made a half-move exactly where two were played
-has_moved-mover : (list : List Played) → IsTrue (has_moved (mover_after list) list) ↔ (2 ≤ length list)
+pub has_moved-mover : (list : List Played) → IsTrue (has_moved (mover_after list) list) ↔ (2 ≤ length list)
 has_moved-mover [] = (λ h. absurd cc, λ h. absurd (omega arith))
 has_moved-mover (p ∷ []) = (λ h. absurd cc, λ h. absurd (omega arith))
 has_moved-mover (p ∷ q ∷ more) = (λ h. omega arith, λ h. has_moved-two (mover_after (p ∷ q ∷ more)) p q more)
@@ -90,46 +91,51 @@ no : false ≡ true → ⊥
 no e = cc
 
 -- so the charge of the next half-move is a true one
-IsCharged-if : (timed moved : Bool) (terms : Terms) (since moments : List ℕ) (k begin end : ℕ) (client : Option (ℕ × ℕ)) (m : Move) → is_timed terms ≡ timed → (IsTrue moved ↔ (2 ≤ k)) →
-    slice_get since k ≡ Some begin → slice_get moments (k + 1) ≡ Some end → AreStamps client →
-    IsCharged terms since moments k (record { what = m; charge = charge_if timed moved begin end client })
-IsCharged-if true true terms since moments k begin end client m t h from to stamps = record {
+IsCharged-if : (timed moved : Bool) (terms : Terms) (resumed : ℕ) (since moments : List ℕ) (k begin end : ℕ) (client : Option (ℕ × ℕ)) (m : Move) → is_timed terms ≡ timed →
+    (IsTrue moved ↔ (2 ≤ k)) → begin ≤ end → slice_get since k ≡ Some begin → slice_get moments (k + 1) ≡ Some end → AreStamps client →
+    IsCharged terms resumed since moments k (record { what = m; charge = charge_if timed moved begin end client })
+IsCharged-if true true terms resumed since moments k begin end client m t h order from to stamps = record {
   stands = (λ s. (t, h.0 refl), λ s. refl);
-  begins = from;
-  ends = to;
+  ordered = order;
+  begins = λ own. from;
+  ends = λ own. to;
   stamped = stamps;
 }
-IsCharged-if true false terms since moments k begin end client m t h from to stamps = record {
+IsCharged-if true false terms resumed since moments k begin end client m t h order from to stamps = record {
   stands = (λ s. absurd (no s), λ s. absurd (no (h.1 s.1)));
-  begins = tt;
-  ends = tt;
+  ordered = tt;
+  begins = λ own. tt;
+  ends = λ own. tt;
   stamped = tt;
 }
-IsCharged-if false true terms since moments k begin end client m t h from to stamps = record {
+IsCharged-if false true terms resumed since moments k begin end client m t h order from to stamps = record {
   stands = (λ s. absurd (no s), λ s. absurd (no (sym t ∙ s.0)));
-  begins = tt;
-  ends = tt;
+  ordered = tt;
+  begins = λ own. tt;
+  ends = λ own. tt;
   stamped = tt;
 }
-IsCharged-if false false terms since moments k begin end client m t h from to stamps = record {
+IsCharged-if false false terms resumed since moments k begin end client m t h order from to stamps = record {
   stands = (λ s. absurd (no s), λ s. absurd (no (sym t ∙ s.0)));
-  begins = tt;
-  ends = tt;
+  ordered = tt;
+  begins = λ own. tt;
+  ends = λ own. tt;
   stamped = tt;
 }
 
 -- a charge stays a true one where its two moments stand where they stood
-if_some : {X : Type 0} (P Q : X → Type 0) (o : Option X) → ((x : X) → P x → Q x) → IfSome o P → IfSome o Q
+pub if_some : {X : Type 0} (P Q : X → Type 0) (o : Option X) → ((x : X) → P x → Q x) → IfSome o P → IfSome o Q
 if_some P Q None step h = tt
 if_some P Q (Some x) step h = step x h
 
-pub IsCharged-changed : (terms : Terms) (since since' moments moments' : List ℕ) (k : ℕ) (p : Played) →
+pub IsCharged-changed : (terms : Terms) (resumed resumed' : ℕ) (since since' moments moments' : List ℕ) (k : ℕ) (p : Played) → (resumed' ≤ k → resumed ≤ k) →
     ((x : ℕ) → slice_get since k ≡ Some x → slice_get since' k ≡ Some x) → ((x : ℕ) → slice_get moments (k + 1) ≡ Some x → slice_get moments' (k + 1) ≡ Some x) →
-    IsCharged terms since moments k p → IsCharged terms since' moments' k p
-IsCharged-changed terms since since' moments moments' k p from to c = record {
+    IsCharged terms resumed since moments k p → IsCharged terms resumed' since' moments' k p
+IsCharged-changed terms resumed resumed' since since' moments moments' k p here from to c = record {
   stands = c.stands;
-  begins = if_some (λ (x : Charge). slice_get since k ≡ Some x.begin) (λ (x : Charge). slice_get since' k ≡ Some x.begin) p.charge (λ x h. from x.begin h) c.begins;
-  ends = if_some (λ (x : Charge). slice_get moments (k + 1) ≡ Some x.end) (λ (x : Charge). slice_get moments' (k + 1) ≡ Some x.end) p.charge (λ x h. to x.end h) c.ends;
+  ordered = c.ordered;
+  begins = λ own. if_some (λ (x : Charge). slice_get since k ≡ Some x.begin) (λ (x : Charge). slice_get since' k ≡ Some x.begin) p.charge (λ x h. from x.begin h) (c.begins (here own));
+  ends = λ own. if_some (λ (x : Charge). slice_get moments (k + 1) ≡ Some x.end) (λ (x : Charge). slice_get moments' (k + 1) ≡ Some x.end) p.charge (λ x h. to x.end h) (c.ends (here own));
   stamped = c.stamped;
 }
 
@@ -166,6 +172,7 @@ IsTrueScore-new_board number terms moment = record {
   not_after = λ k i j e f. absurd (let within : k + 1 < 1 = slice_get_within (moment ∷ []) (k + 1) j f in omega (arith, within));
   played = omega arith;
   unless_taken_back = λ h. refl;
+  resumed = omega arith;
   kept = tt;
   charged = λ k p e. absurd (let within : k < 0 = slice_get_within [] k p e in omega (arith, within));
   legal = IsLegal-empty terms.variant;
@@ -174,24 +181,19 @@ IsTrueScore-new_board number terms moment = record {
   clocks = λ c timed. clocks-sum (new_board number terms moment) c timed;
 }
 
-pub IsTrueScore-with_half_move : (b : Board) (m : Move) (moment : ℕ) (stamp : Option ℕ) → IsTrueScore b → b.begin ≤ moment → IfSome stamp IsStamp → Allowed (position_of b) m →
-    IsTrueScore (with_half_move b m moment stamp)
+-- a half-move more that was allowed, since which the player to move is thinking at `moment`
+pub IsTrueScore-one_more : (b : Board) (p : Played) (moment resumed : ℕ) (s : IsTrueScore b) → b.begin ≤ moment → Allowed (position_of b) p.what → b.resumed ≤ resumed → resumed ≤ length b.list + 1 →
+    IsCharged b.terms resumed (s.since ++ moment ∷ []) (s.moments ++ moment ∷ []) (length b.list) p →
+    IsTrueScore (record (with_played b p) { begin = moment; resumed = resumed })
 unfolding position_of
-IsTrueScore-with_half_move b m moment stamp s order stamped allowed =
-    let charge : Option Charge = next_charge b moment stamp in
-    let entry : Played = record { what = m; charge = charge } in
+IsTrueScore-one_more b p moment resumed s order allowed more_resumed most_resumed new =
     let moments : List ℕ = s.moments ++ moment ∷ [] in
     let since : List ℕ = s.since ++ moment ∷ [] in
-    let many : length (b.list ++ entry ∷ []) ≡ length b.list + 1 = length-append b.list (entry ∷ []) in
+    let many : length (b.list ++ p ∷ []) ≡ length b.list + 1 = length-append b.list (p ∷ []) in
     let more : length moments ≡ length s.moments + 1 = length-append s.moments (moment ∷ []) in
     let of_more : length since ≡ length s.since + 1 = length-append s.since (moment ∷ []) in
-    let last : slice_get moments (length b.list + 1) ≡ Some moment =
-    ap (slice_get moments) (sym s.each) ∙ slice_get-append_end s.moments moment in
     let now : slice_get since (length b.list + 1) ≡ Some moment =
     ap (slice_get since) (sym s.of_each) ∙ slice_get-append_end s.since moment in
-    let new : IsCharged b.terms since moments (length b.list) entry =
-    IsCharged-if (is_timed b.terms) (has_moved (to_move b) b.list) b.terms since moments (length b.list) b.begin moment (option_zip b.kept stamp) m refl (has_moved-mover b.list)
-    (stays_at s.since moment b.begin (length b.list) s.thinking) last (AreStamps-zip b.kept stamp s.kept stamped) in
     record {
       moments = moments;
       each = omega (arith, many, more, s.each);
@@ -226,18 +228,32 @@ IsTrueScore-with_half_move b m moment stamp s order stamped allowed =
       unless_taken_back = λ h.
           let none : b.played ≡ length b.list = omega (arith, h, many) in
           ap (λ (l : List ℕ). l ++ moment ∷ []) (s.unless_taken_back none);
+      resumed = omega (arith, many, most_resumed);
       kept = tt;
-      charged = λ k p e. elim (at_or_last b.list entry p k e) [
-        | inl old ↦ IsCharged-changed b.terms s.since since s.moments moments k p
-            (λ x h. stays_at s.since moment x k h) (λ x h. stays_at s.moments moment x (k + 1) h) (s.charged k p old)
-        | inr here ↦ subst (λ (q : Played). IsCharged b.terms since moments k q) here.1
-            (subst (λ (n : ℕ). IsCharged b.terms since moments n entry) (sym here.0) new)
+      charged = λ k q e. elim (at_or_last b.list p q k e) [
+        | inl old ↦ IsCharged-changed b.terms b.resumed resumed s.since since s.moments moments k q (λ own. omega (arith, own, more_resumed))
+            (λ x h. stays_at s.since moment x k h) (λ x h. stays_at s.moments moment x (k + 1) h) (s.charged k q old)
+        | inr here ↦ subst (λ (r : Played). IsCharged b.terms resumed since moments k r) here.1
+            (subst (λ (n : ℕ). IsCharged b.terms resumed since moments n p) (sym here.0) new)
       ];
-      legal = IsLegal-append b.terms.variant b.all (half_move b.number entry) s.legal allowed;
-      own = moves_of-same b.number b.all m ∙ ap (λ (ms : List Move). ms ++ m ∷ []) s.own ∙ sym (map-append (λ (p : Played). p.what) b.list (entry ∷ []));
-      alone = λ h. ap (λ (T : List HalfMove). T ++ half_move b.number entry ∷ []) (s.alone h) ∙ sym (half_moves-append b.number b.list entry);
-      clocks = λ c timed. clocks-sum (with_half_move b m moment stamp) c timed;
+      legal = IsLegal-append b.terms.variant b.all (half_move b.number p) s.legal allowed;
+      own = moves_of-same b.number b.all p.what ∙ ap (λ (ms : List Move). ms ++ p.what ∷ []) s.own ∙ sym (map-append (λ (q : Played). q.what) b.list (p ∷ []));
+      alone = λ h. ap (λ (T : List HalfMove). T ++ half_move b.number p ∷ []) (s.alone h) ∙ sym (half_moves-append b.number b.list p);
+      clocks = λ c timed. clocks-sum (record (with_played b p) { begin = moment; resumed = resumed }) c timed;
     }
+
+pub IsTrueScore-with_half_move : (b : Board) (m : Move) (moment : ℕ) (stamp : Option ℕ) → IsTrueScore b → b.begin ≤ moment → IfSome stamp IsStamp → Allowed (position_of b) m →
+    IsTrueScore (with_half_move b m moment stamp)
+IsTrueScore-with_half_move b m moment stamp s order stamped allowed =
+    let entry : Played = record { what = m; charge = next_charge b moment stamp } in
+    let moments : List ℕ = s.moments ++ moment ∷ [] in
+    let since : List ℕ = s.since ++ moment ∷ [] in
+    let last : slice_get moments (length b.list + 1) ≡ Some moment =
+    ap (slice_get moments) (sym s.each) ∙ slice_get-append_end s.moments moment in
+    let new : IsCharged b.terms b.resumed since moments (length b.list) entry =
+    IsCharged-if (is_timed b.terms) (has_moved (to_move b) b.list) b.terms b.resumed since moments (length b.list) b.begin moment (option_zip b.kept stamp) m refl (has_moved-mover b.list)
+    order (stays_at s.since moment b.begin (length b.list) s.thinking) last (AreStamps-zip b.kept stamp s.kept stamped) in
+    IsTrueScore-one_more b entry moment b.resumed s order allowed (omega arith) (omega (arith, s.resumed)) new
 
 -- an answer that plays has an allowed half-move
 allowed_in : (p : Position) (word : MoveWord) (answer : Result Move Rejection) (m : Move) → IsWordAnswer p word answer → in_words answer ≡ Ok m → Allowed p m
@@ -277,6 +293,7 @@ IsTrueScore-kept b stamp s stamped = record {
   not_after = s.not_after;
   played = s.played;
   unless_taken_back = s.unless_taken_back;
+  resumed = s.resumed;
   kept = stamped;
   charged = s.charged;
   legal = s.legal;
@@ -306,6 +323,7 @@ IsTrueScore-learnt b m pair s allowed = record {
   not_after = s.not_after;
   played = s.played;
   unless_taken_back = s.unless_taken_back;
+  resumed = s.resumed;
   kept = s.kept;
   charged = s.charged;
   legal = IsLegal-append b.terms.variant b.all (record { board = other_board b.number; what = m }) s.legal allowed;

@@ -1,5 +1,5 @@
 -- What a board keeps is kept without the last half-move.
-use Rattle.std.proofs.Common.{◌≡◌, ℕ, ◌+◌, ◌-◌, ◌<◌, ◌≤◌, zero, suc, List, [], ◌∷◌, ◌++◌, length, length-append, take, map, refl, sym, ap, subst, ◌∙◌, append_assoc, arith}
+use Rattle.std.proofs.Common.{◌≡◌, ℕ, ◌+◌, ◌-◌, ◌<◌, ◌≤◌, zero, suc, List, [], ◌∷◌, ◌++◌, length, length-append, min, take, map, refl, sym, ap, subst, ◌∙◌, append_assoc, arith}
 use Rattle.std.proofs.Math.Seq.{take-append_seam}
 use Rattle.std.proofs.lemmas.List.{append-nil, map-append, length-take, length-map}
 use Rattle.std.proofs.lemmas.Option.{slice_get_within}
@@ -157,7 +157,10 @@ take_shorter xs n =
 
 -- one half-move after another
 pub without_last-one : (b : Board) (n : ℕ) → without_last (without_last b n) 1 ≡ without_last b (n + 1)
-without_last-one b n = λ i. record b { list = take_shorter b.list n i; all = take_shorter b.all n i }
+without_last-one b n =
+    let resumed : min (min b.resumed (length b.list - n)) (length (take (length b.list - n) b.list) - 1) ≡ min b.resumed (length b.list - (n + 1)) =
+    omega (arith, length-take (length b.list - n) b.list) in
+    λ i. record b { list = take_shorter b.list n i; all = take_shorter b.all n i; resumed = resumed i }
 
 pub some_left : (b : Board) (n : ℕ) → n < length b.list → 0 < length (without_last b n).list
 some_left b n h = omega (arith, length-take (length b.list - n) b.list)

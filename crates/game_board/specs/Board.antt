@@ -21,13 +21,16 @@ pub record Board : Type 0 where
   pub kept : Option ℕ
   -- how many half-moves were played on the board
   pub played : ℕ
+  -- how many half-moves of the list, the first ones, came with their charges, as where an adjourned game is resumed; the
+  -- others were made on this board
+  pub resumed : ℕ
   -- the half-moves of all boards of the game in their order, those of the partner's board as this one learnt of them
   pub all : List HalfMove
 
 -- the board at its start
 abbrev pub new_board : ℕ → Terms → ℕ → Board
 new_board number terms moment =
-    record { number = number; terms = terms; list = []; begin = moment; kept = None; played = 0; all = [] }
+    record { number = number; terms = terms; list = []; begin = moment; kept = None; played = 0; resumed = 0; all = [] }
 
 -- a half-move on the board of that number
 abbrev pub half_move : ℕ → Played → HalfMove

@@ -37,4 +37,5 @@ pub record HoldsBoard (g : Inside) : Type 0 where
   pub steps : g.terms.variant ≢ Bughouse → AreSteps g.terms.variant g.number g.list g.steps
   pub counted : length g.list ≤ g.played
   pub most : g.played ≤ 1200
+  pub resumed : g.resumed ≤ length g.list
   pub moment : g.begin ≤ 2 ^ 48

@@ -1,5 +1,5 @@
 -- A half-move that is put on a board with the charge that it has already, as where a game is played again.
-use Rattle.std.specs.Prelude.{◌+◌, Bool, not, ◌&&◌, nat_lt, is_some, [], ◌∷◌, ◌++◌, None}
+use Rattle.std.specs.Prelude.{◌+◌, Bool, not, ◌&&◌, nat_lt, is_some, [], ◌∷◌, ◌++◌, length, None}
 use Rattle.std.specs.Bool.{beq}
 use Rattle.chess_model.specs.Result.{is_end}
 use Rattle.chess_model.specs.Tests.{is_allowed}
@@ -29,3 +29,8 @@ with_played b p = record b {
   kept = None;
   played = b.played + 1;
 }
+
+-- the board with one half-move more that came with its charge. Those before it are taken to have come so too: a game is
+-- resumed on a new board, before any half-move is made there
+abbrev pub with_put : Board → Played → Board
+with_put b p = record (with_played b p) { resumed = length b.list + 1 }

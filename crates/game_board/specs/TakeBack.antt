@@ -1,5 +1,5 @@
 -- What taking half-moves back does to a board.
-use Rattle.std.specs.Prelude.{ℕ, ◌-◌, ◌||◌, nat_eq, nat_lt, if◌then◌else◌, Bool, List, length, take, None, Result, Ok, Err}
+use Rattle.std.specs.Prelude.{ℕ, ◌-◌, ◌||◌, nat_eq, nat_lt, if◌then◌else◌, Bool, List, length, min, take, None, Result, Ok, Err}
 use Rattle.fics_words.specs.declared.refusal.Refusal.{Refusal}
 use Rattle.fics_words.specs.declared.refusal.Refusal.TheVariants.{TooFewMoves}
 use Rattle.game_board.specs.Board.{Board}
@@ -12,11 +12,13 @@ has_too_few b n = nat_eq n 0 || nat_lt (length b.list) n
 abbrev pub without_end : {X : Type 0} → List X → List X → List X
 without_end end list = take (length list - length end) list
 
--- the board without its last n half-moves and their charges, where it is the only one of its game
+-- the board without its last n half-moves and their charges, where it is the only one of its game; of those that came
+-- with their charges it has what is left
 abbrev pub without_last : Board → ℕ → Board
 without_last b n = record b {
   list = take (length b.list - n) b.list;
   all = take (length b.all - n) b.all;
+  resumed = min b.resumed (length b.list - n);
 }
 
 -- the board after the last n half-moves were taken back at that moment: who is to move is thinking since then, and

@@ -38,6 +38,8 @@ pub struct GameBoard {
     /// The stamp with which the client of the player to move acknowledged the board, if it did so since `begin`.
     pub(crate) kept: Option<u32>,
     pub(crate) played: u16,
+    /// How many half-moves of the list, the first ones, came with their charges.
+    pub(crate) resumed: u16,
     /// The half-moves of this board and of the partner's, in their order.
     pub(crate) all: Roomy<Made, 2400>,
 }
@@ -56,6 +58,7 @@ impl Model for GameBoard {
       begin = g.begin;
       kept = g.kept;
       played = g.played;
+      resumed = g.resumed;
       all = made g.all;
     } };
 
@@ -64,7 +67,7 @@ impl Model for GameBoard {
 
 impl GameBoard {
     ghost use Rattle.game_board.specs.Acked.{acknowledged};
-    ghost use Rattle.game_board.specs.Board.{half_moves, new_board, to_move, position_of, has_moved};
+    ghost use Rattle.game_board.specs.Board.{half_moves, made, new_board, to_move, position_of, has_moved};
     ghost use Rattle.game_board.specs.BoardFace.{board_face, last_played, last_shown, last_taken};
     ghost use Rattle.game_board.specs.Charges.{clock_of, is_timed};
     ghost use Rattle.game_board.specs.Play.{captured, move_answer, next_charge, with_half_move, play_reply, play_after};
@@ -94,6 +97,7 @@ impl GameBoard {
             begin: moment,
             kept: None,
             played: 0,
+            resumed: 0,
             all: Roomy::new(alloc)?,
         })
     }
@@ -125,6 +129,13 @@ impl GameBoard {
         self.list.as_slice()
     }
 
+    /// The half-moves of this board and of the partner's, in the order in which they were made.
+    pub fn all(&self) -> &[Made]
+        ensures { made result.now ≡ self.now.all }
+    {
+        self.all.as_slice()
+    }
+
     /// The colour that is to move.
     pub fn to_move(&self) -> Colour
         ensures { result ≡ to_move self.now }
@@ -138,6 +149,14 @@ impl GameBoard {
         ensures most { self.now.played ≤ 1200 }
     {
         self.played
+    }
+
+    /// How many half-moves of the list, the first ones, came with their charges, as where an adjourned game is resumed.
+    pub fn resumed(&self) -> u16
+        ensures value { result ≡ self.now.resumed }
+        ensures within { self.now.resumed ≤ length self.now.list }
+    {
+        self.resumed
     }
 
     /// The moment, in milliseconds, from which the player to move is thinking.

@@ -1,5 +1,5 @@
 //! What the definitions mean for players, as calls that do nothing: what each ensures is the law.
-ghost use Rattle.std.specs.Prelude.{◌≡◌, ◌≢◌, ℕ, ◌<◌, ◌≤◌, ◌++◌, ◌∷◌, [], ◌↔◌, List, Ok, Err, Option, None, Some, IfSome};
+ghost use Rattle.std.specs.Prelude.{◌≡◌, ◌≢◌, ℕ, ◌<◌, ◌≤◌, ◌++◌, ◌∷◌, [], ◌↔◌, List, Ok, Err, Option, None, Some, IfSome, IsTrue};
 ghost use Rattle.std.specs.Option.{option_to_list};
 ghost use Rattle.chess_model.specs.declared.man.Colour.{Colour};
 ghost use Rattle.chess_model.specs.declared.moves.Move.{Move};
@@ -9,6 +9,7 @@ ghost use Rattle.chess_model.specs.Placement.{opposite};
 ghost use Rattle.chess_model.specs.Allowed.{Allowed};
 ghost use Rattle.chess_model.specs.Answer.{IsAnswer};
 ghost use Rattle.chess_model.specs.MoveList.{HalfMove};
+ghost use Rattle.clock_ledger.specs.Charges.{IsChargeable};
 ghost use Rattle.clock_ledger.specs.Span.{IsStamp};
 ghost use Rattle.game_board.specs.Acked.{acknowledged};
 ghost use Rattle.game_board.specs.Board.{Board, new_board, to_move, mover_after, position_of};
@@ -17,6 +18,7 @@ ghost use Rattle.game_board.specs.Charges.{charges_of};
 ghost use Rattle.game_board.specs.Flag.{StaysFallen, has_fallen};
 ghost use Rattle.game_board.specs.Play.{move_answer, next_charge, play_after, with_half_move};
 ghost use Rattle.game_board.specs.Learn.{partner_position, learnt};
+ghost use Rattle.game_board.specs.Put.{takes_played, with_put};
 ghost use Rattle.game_board.specs.Scoresheet.{IsTrueScore};
 ghost use Rattle.game_board.specs.TakeBack.{take_back_after};
 
@@ -72,16 +74,19 @@ pub fn a_fallen_clock_stays_fallen()
         → has_fallen (learnt b m) c moment ≡ has_fallen b c moment }
 {}
 
-/// The list of a board is a true score of its game from the start on, whatever words are played and whatever half-moves
-/// are taken back, at moments that don't fall, and whatever clients acknowledge it: its half-moves are legal, its charges
-/// and clocks follow from the moments at which they were made and those since which their players were thinking, and what
-/// it keeps of the clients' own times are stamps.
+/// The list of a board is a true score of its game from the start on, whatever half-moves are put on it with charges of
+/// another day, whatever words are played and whatever half-moves are taken back, at moments that don't fall, and whatever
+/// clients acknowledge it: its half-moves are legal, the charges of those that were made on the board follow from the
+/// moments at which they were made and those since which their players were thinking, the clocks follow from all charges,
+/// and what it keeps of the clients' own times are stamps.
 pub fn scores_are_true()
     ensures start { (number : ℕ) (terms : Terms) (moment : ℕ) → IsTrueScore (new_board number terms moment) }
     ensures play { (b : Board) (c : Colour) (word : MoveWord) (moment : ℕ) (stamp : Option ℕ) → IsTrueScore b
         → b.begin ≤ moment → IfSome stamp IsStamp → IsTrueScore (play_after b moment stamp (move_answer b c word)) }
     ensures acked { (b : Board) (c : Colour) (stamp : ℕ) → IsTrueScore b → IsStamp stamp
         → IsTrueScore (acknowledged b c stamp) }
+    ensures put { (b : Board) (p : Played) → IsTrueScore b → IsTrue (takes_played b p) → IfSome p.charge IsChargeable
+        → IsTrueScore (with_put b p) }
     ensures take_back { (b : Board) (n moment : ℕ) → b.terms.variant ≢ Variant.Bughouse → IsTrueScore b
         → b.begin ≤ moment → IsTrueScore (take_back_after b n moment) }
     ensures learn { (b : Board) (m : Move) → b.terms.variant ≡ Variant.Bughouse → IsTrueScore b

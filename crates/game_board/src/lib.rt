@@ -3,8 +3,9 @@
 //! A `GameBoard` is seen as its list of half-moves, each with its charge, and the moment from which the player to
 //! move is thinking. It keeps a position and two clocks, so that no call grows with the game. The contract: `play`
 //! takes exactly the words that the rules of chess give a half-move, charges the thinking time to the clock of
-//! whoever moved, and changes nothing where it refuses; `flag` answers by the clocks with the running time counted; and
-//! `learn` hands over what is captured on the partner's board of a pair.
+//! whoever moved, and changes nothing where it refuses; `flag` answers by the clocks with the running time counted;
+//! `learn` hands over what is captured on the partner's board of a pair; and `put` makes a half-move of an adjourned game
+//! again, with the charge that it had.
 #![tactic(auto)]
 
 mod board_face;
@@ -27,4 +28,4 @@ pub use laws::{
     scores_are_true, the_last_acknowledgement_counts, the_last_own_half_move_is_shown,
 };
 pub use learn::handed_over_as;
-pub use played::Played;
+pub use played::{Made, Played};

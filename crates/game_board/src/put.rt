@@ -1,10 +1,10 @@
 //! Half-moves that come to a board with the charges that they have.
-ghost use Rattle.std.specs.Prelude.{◌≡◌, ◌<◌, IsTrue, IfSome, Ok};
+ghost use Rattle.std.specs.Prelude.{◌≡◌, ◌<◌, IsTrue, IfSome, Ok, length};
 ghost use Rattle.chess_model.specs.Allowed.{Allowed};
 ghost use Rattle.clock_ledger.specs.Charges.{IsChargeable};
 ghost use Rattle.game_board.specs.Board.{position_of};
 ghost use Rattle.game_board.specs.Play.{captured};
-ghost use Rattle.game_board.specs.Put.{is_next_charged, takes_played, with_played};
+ghost use Rattle.game_board.specs.Put.{is_next_charged, takes_played, with_played, with_put};
 
 use crate::clocks::charge_clocks;
 use crate::game_board::{GameBoard, MOST_PLAYED};
@@ -17,12 +17,13 @@ impl GameBoard {
     /// half-move is allowed, and it has a charge exactly where the game is timed and it isn't the first of its colour.
     #[tactic(auto, unfolding(crate::specs::Put::takes_played))]
     pub fn takes(&self, half: &Played) -> bool
-        ensures { result ≡ takes_played self.now half.now }
+        ensures value { result ≡ takes_played self.now half.now }
+        ensures short { IsTrue result → length self.now.list < 1200 }
     {
         if self.state().is_end() {
             return false;
         }
-        if self.played() >= MOST_PLAYED {
+        if self.played >= MOST_PLAYED {
             return false;
         }
         if !self.position().allowed(half.what) {
@@ -39,14 +40,17 @@ impl GameBoard {
     }
 
     /// Puts a half-move that the board takes on it, with its own charge, and gives the man that it captures. It counts
-    /// as played; the player to move is thinking since the same moment as before. Takes no memory.
+    /// as played, and as one that came with its charge, like all before it; the player to move is thinking since the same
+    /// moment as before. Takes no memory.
     pub fn put(&mut self, half: Played) -> Result<Option<Man>, NoMemory>
         requires takes { IsTrue (takes_played self.old half) }
         requires sound { IfSome half.charge IsChargeable }
         ensures captured { result ≡ Ok (captured self.old half.what) }
-        ensures after { self.new ≡ with_played self.old half }
+        ensures after { self.new ≡ with_put self.old half }
     {
-        Ok(self.add(&half))
+        let captured = self.add(&half);
+        self.resumed = self.list.len() as u16;
+        Ok(captured)
     }
 
     /// Adds an allowed half-move with its charge, and gives the man that it captures.

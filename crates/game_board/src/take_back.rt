@@ -45,5 +45,6 @@ impl GameBoard {
         let _made = self.all.pop();
         self.position.unmake(step.undo);
         take_charge_off(&mut self.white, &mut self.black, mover, half.charge);
+        self.resumed = self.resumed.min(self.list.len() as u16);
     }
 }

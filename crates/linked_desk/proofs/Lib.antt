@@ -1,9 +1,11 @@
-pub mod BoardLists
+pub mod Causes
 pub mod ClearedOffers
+pub mod Coded
 pub mod Counting
 pub mod Finishing
 pub mod Holding
 pub mod Keeps
+pub mod Kept
 pub mod KeepsAcceptOffer
 pub mod KeepsActs
 pub mod KeepsAcked
@@ -19,9 +21,11 @@ pub mod KeepsResign
 pub mod KeepsShow
 pub mod KeepsStart
 pub mod KeepsWatch
-pub mod Linking
 pub mod Opening
-pub mod Pairs
+pub mod Recordable
+pub mod Restored
 pub mod SeatNumbers
+pub mod Shelved
 pub mod Telling
+pub mod TempLaws
 pub mod WholeSets

@@ -21,6 +21,8 @@ mod playing;
 #[cfg(test)]
 mod puts;
 #[cfg(test)]
+mod resumed;
+#[cfg(test)]
 mod stamped;
 #[cfg(test)]
 mod takebacks;

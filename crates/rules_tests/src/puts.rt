@@ -2,20 +2,25 @@
 
 use crate::playing::{board_after, new_board, remaining, terms};
 use chess_model::{Colour, Kind, Man, Move, Square, Terms, Variant};
-use clock_ledger::Charge;
+use clock_ledger::{Charge, STAMP_CYCLE};
 use game_board::{GameBoard, Played};
 use std::alloc::Global;
 use std::process::Abort;
 use std::test::Fail;
 
-/// Puts a half-move on a board that takes it, and says what was captured. Its charge has no stamps of a client.
-fn put(board: &mut GameBoard, half: &Played) -> Result<Option<Man>, Fail> {
+/// Puts a half-move on a board that takes it, and says what was captured.
+pub fn put(board: &mut GameBoard, half: &Played) -> Result<Option<Man>, Fail> {
     if !board.takes(half) {
         return Err("a half-move that isn't taken".into());
     }
     if let Some(charge) = &half.charge {
-        if charge.begin > charge.end || charge.end > 1 << 40 || charge.client.is_some() {
+        if charge.begin > charge.end || charge.end > 1 << 40 {
             return Err("no charge".into());
+        }
+        if let Some((seen, made)) = charge.client {
+            if seen >= STAMP_CYCLE || made >= STAMP_CYCLE {
+                return Err("no stamps".into());
+            }
         }
     }
     Ok(board.put(*half)?)

@@ -1,14 +1,8 @@
 -- The line that tells that a game begins: `{Game G (W vs. B) Creating M I V match.}`, this server's text.
-use Rattle.std.specs.Prelude.{ℕ, List, ◌++◌, codes, decimal}
+use Rattle.std.specs.Prelude.{ℕ, List, codes}
 use Rattle.chess_model.specs.declared.variant.Terms.{Terms}
-use Rattle.chess_model.specs.VariantWord.{word_of}
-use Rattle.style12_writer.specs.GameLine.{game_text}
-
--- the minutes, the increment and the variant
-abbrev pub terms_text : Terms → List ℕ
-terms_text t = decimal t.minutes ++ codes " " ++ decimal t.increment ++ codes " " ++ word_of t.variant
+use Rattle.style12_writer.specs.MatchLine.{match_text}
 
 -- the whole line
 abbrev pub created_text : ℕ → List ℕ → List ℕ → Terms → List ℕ
-created_text game white black t =
-    game_text game white black ++ codes "Creating " ++ terms_text t ++ codes " match.}"
+created_text game white black t = match_text (codes "Creating") game white black t

@@ -1,10 +1,12 @@
 pub mod Board
 pub mod Clocks
+pub mod ContinuedLine
 pub mod CreatedLine
 pub mod EndLine
 pub mod GameLine
 pub mod HoldingsLine
 pub mod Line12
+pub mod MatchLine
 pub mod OfferLines
 pub mod Room
 pub mod Spaced

@@ -7,6 +7,7 @@
 #![tactic(auto)]
 
 mod board;
+mod continued;
 mod created;
 mod draft;
 mod end;
@@ -14,10 +15,12 @@ mod game_line;
 mod holdings;
 mod item;
 mod line;
+mod match_line;
 mod offer_lines;
 mod text_board;
 mod view;
 
+pub use continued::continued_line;
 pub use created::created_line;
 pub use end::{end_line, is_decisive};
 pub use holdings::line_b1;

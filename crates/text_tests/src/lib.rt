@@ -1,5 +1,5 @@
 //! Tests of the texts that players see, one file a subject: the texts of moves, board lines, holdings lines, the lines
-//! of a game's end, and copies of items. There is nothing else here.
+//! of a game's beginning and end, and copies of items. There is nothing else here.
 #![tactic(auto)]
 
 #[cfg(test)]
@@ -12,6 +12,8 @@ mod games;
 mod holdings;
 #[cfg(test)]
 mod items;
+#[cfg(test)]
+mod match_lines;
 #[cfg(test)]
 mod move_texts;
 #[cfg(test)]

@@ -32,7 +32,7 @@ use Rattle.game_board.proofs.game_board.GameBoard.add.Goals as goal
 pub make-undo-requires : goal.make-undo-requires
 make-undo-requires c =
     let i = c.self.inside in
-    let e = position_of-stands i.position (record { number = i.number; terms = i.terms; list = i.list; begin = i.begin; kept = i.kept; played = i.played; all = made i.all }) c.self.invariant.stands c.self.invariant.variant
+    let e = position_of-stands i.position (record { number = i.number; terms = i.terms; list = i.list; begin = i.begin; kept = i.kept; played = i.played; resumed = i.resumed; all = made i.all }) c.self.invariant.stands c.self.invariant.variant
     ∙ ap position_of c.self.view_is in
     subst (λ (p : Position). Allowed p c.args.half.now.what) (sym e) c.requires.allowed
 
@@ -53,7 +53,7 @@ pub returns-clause-captured : goal.returns-clause-captured
 returns-clause-captured c =
     let i = c.self.inside in
     let same : i.position ≡ position_of c.args.self.now =
-    position_of-stands i.position (record { number = i.number; terms = i.terms; list = i.list; begin = i.begin; kept = i.kept; played = i.played; all = made i.all }) c.self.invariant.stands c.self.invariant.variant
+    position_of-stands i.position (record { number = i.number; terms = i.terms; list = i.list; begin = i.begin; kept = i.kept; played = i.played; resumed = i.resumed; all = made i.all }) c.self.invariant.stands c.self.invariant.variant
     ∙ ap position_of c.self.view_is in
     c.captured.ensures ∙ c.make-undo.ensures.captured ∙ ap (λ (p : Position). taken p.men c.args.half.now.what) same
 
@@ -115,5 +115,6 @@ invariant_of-self c =
           (shown ∙ ap (λ (U : List HalfMove). shown_of (position_after v U i.number) half.what) before)));
       counted = omega (arith, ap length grown, length-append i.list (half ∷ []), c.self.invariant.counted);
       most = omega (arith, ap (λ (b : Board). b.played) c.self.view_is);
+      resumed = omega (arith, ap length grown, length-append i.list (half ∷ []), c.self.invariant.resumed);
       moment = c.self.invariant.moment;
     }

@@ -105,5 +105,6 @@ invariant_of-self c =
       steps = λ h. absurd (h pair);
       counted = c.self.invariant.counted;
       most = c.self.invariant.most;
+      resumed = c.self.invariant.resumed;
       moment = c.self.invariant.moment;
     }

@@ -42,5 +42,6 @@ invariant_of-result c =
           (subst (AreSteps c.args.terms.variant c.args.number []) (sym c.in_ok-new-2.ensures) (AreSteps-empty c.args.terms.variant c.args.number));
       counted = omega (arith, ap length none);
       most = omega arith;
+      resumed = omega arith;
       moment = c.requires.moment;
     }

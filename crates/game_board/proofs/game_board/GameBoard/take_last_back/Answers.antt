@@ -114,5 +114,6 @@ invariant_of-self-2 c =
       steps = λ h. shorter;
       counted = omega (arith, many, c.self.invariant.counted);
       most = c.self.invariant.most;
+      resumed = omega arith;
       moment = c.self.invariant.moment;
     }

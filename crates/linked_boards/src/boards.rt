@@ -1,24 +1,26 @@
 //! The boards of a game.
-ghost use Rattle.std.specs.Prelude.{◌≡◌, ◌≤◌, ◌^◌, [], ◌∷◌, IfOk, IfSome, OnErr, slice_get};
+ghost use Rattle.std.specs.Prelude.{◌≡◌, ◌<◌, ◌≤◌, ◌^◌, [], ◌∷◌, IfOk, IfSome, IsTrue, OnErr, length, slice_get};
 ghost use Rattle.std.specs.Option.{option_copied, option_to_list};
+ghost use Rattle.clock_ledger.specs.Charges.{IsChargeable};
 ghost use Rattle.clock_ledger.specs.Span.{IsStamp};
 ghost use Rattle.fics_words.specs.Effect.{first_cause, refusal_of, refused_by};
 ghost use Rattle.game_board.specs.Board.{new_board};
-ghost use Rattle.linked_desk.specs.Make.{claim_at};
-ghost use Rattle.linked_desk.specs.Offering.{boards_taken_back, lacks_half_moves};
-ghost use Rattle.linked_desk.specs.Boards.{boards_acked, boards_after, flag_at, latest, new_boards, numbered, other_place, reply_at, word_at};
+ghost use Rattle.linked_boards.specs.Claims.{claim_at};
+ghost use Rattle.linked_boards.specs.Replaying.{boards_put, own_takes};
+ghost use Rattle.linked_boards.specs.TakenBack.{boards_taken_back, lacks_half_moves};
+ghost use Rattle.linked_boards.specs.Boards.{boards_acked, boards_after, flag_at, latest, new_boards, numbered, other_place, reply_at, word_at};
 
-use crate::linked::play_linked;
+use crate::linked::{play_linked, put_alone, put_linked};
 use chess_model::{Colour, Man, MoveWord, Terms, Variant, Why};
 use fics_words::{NoMemory, Refusal};
-use game_board::GameBoard;
+use game_board::{GameBoard, Played};
 use std::alloc::Global;
 use std::marker::Model;
 
 /// The boards of a game: one, or two in bughouse, of which each has learnt what was played on the other. Contracts see
 /// them as their list.
 #[derive(Drop)]
-pub(crate) struct Boards {
+pub struct Boards {
     first: GameBoard,
     second: Option<GameBoard>,
 }
@@ -27,7 +29,7 @@ impl Model for Boards {
     ghost use Rattle.std.specs.Prelude.{◌∷◌, IfSome, List};
     ghost use Rattle.std.specs.Option.{option_to_list};
     ghost use Rattle.game_board.specs.Board.{Board};
-    ghost use Rattle.linked_desk.specs.Linked.{AreLinked};
+    ghost use Rattle.linked_boards.specs.Linked.{AreLinked};
 
     ghost Value = { List Board };
 
@@ -38,7 +40,7 @@ impl Model for Boards {
 
 impl Boards {
     /// The boards at the start of a game: as many as the variant wants.
-    pub(crate) fn start(alloc: Global, terms: Terms, moment: u64) -> Result<Boards, NoMemory>
+    pub fn start(alloc: Global, terms: Terms, moment: u64) -> Result<Boards, NoMemory>
         requires { moment ≤ 2 ^ 48 }
         ensures boards { IfOk result (λ boards. boards ≡ new_boards terms moment) }
         ensures order { IfOk result (λ boards. latest boards ≤ moment) }
@@ -76,14 +78,14 @@ impl Boards {
     }
 
     /// The first board, and the second if there is one.
-    pub(crate) fn both(&self) -> (&GameBoard, Option<&GameBoard>)
+    pub fn both(&self) -> (&GameBoard, Option<&GameBoard>)
         ensures { self.now ≡ result.0.now ∷ option_to_list (option_copied result.1) }
     {
         (&self.first, self.second.as_ref())
     }
 
     /// The board in that place, 0 or 1.
-    pub(crate) fn at(&self, place: u8) -> Option<&GameBoard>
+    pub fn at(&self, place: u8) -> Option<&GameBoard>
         ensures { option_copied result ≡ slice_get self.now place }
     {
         match place {
@@ -94,7 +96,7 @@ impl Boards {
     }
 
     /// The board of that number, 1 or 2.
-    pub(crate) fn numbered(&self, number: u8) -> Option<&GameBoard>
+    pub fn numbered(&self, number: u8) -> Option<&GameBoard>
         ensures { option_copied result ≡ numbered number self.now }
     {
         match number {
@@ -106,7 +108,7 @@ impl Boards {
 
     /// Plays a word of a colour at the board in that place, with the stamp of its client if it has one, and gives the
     /// man that the half-move captures. The other board of a pair learns of it. Takes no memory.
-    pub(crate) fn play(
+    pub fn play(
         &mut self,
         place: u8,
         colour: Colour,
@@ -139,8 +141,32 @@ impl Boards {
         }
     }
 
+    /// Puts a half-move on the board in that place, with the charge that it has. The other board of a pair learns of it.
+    /// Takes no memory.
+    pub(crate) fn put(&mut self, place: u8, half: &Played)
+        requires takes { IsTrue (own_takes (slice_get self.old place) half.now) }
+        requires short { IfSome (slice_get self.old place) (λ b. length b.list < 1200) }
+        requires sound { IfSome half.now.charge IsChargeable }
+        ensures after { self.new ≡ boards_put self.old place half.now }
+    {
+        match place {
+            0 => match &mut self.second {
+                Some(second) => put_linked(&mut self.first, second, half),
+                None => {
+                    let _captured = put_alone(&mut self.first, half);
+                }
+            },
+            1 => {
+                if let Some(second) = &mut self.second {
+                    put_linked(second, &mut self.first, half);
+                }
+            }
+            _ => {}
+        }
+    }
+
     /// The client of a colour acknowledges the board in that place.
-    pub(crate) fn acked(&mut self, place: u8, colour: Colour, stamp: u32)
+    pub fn acked(&mut self, place: u8, colour: Colour, stamp: u32)
         requires { IsStamp stamp }
         ensures after { self.new ≡ boards_acked self.old place colour stamp }
         ensures order { latest self.new ≡ latest self.old }
@@ -157,7 +183,7 @@ impl Boards {
     }
 
     /// The draw that may be claimed at the board in that place, if there is one.
-    pub(crate) fn claim(&self, place: u8) -> Option<Why>
+    pub fn claim(&self, place: u8) -> Option<Why>
         ensures { result ≡ claim_at (slice_get self.now place) }
     {
         let board = self.at(place)?;
@@ -168,14 +194,14 @@ impl Boards {
     }
 
     /// Whether the first board lacks half-moves to take `n` back.
-    pub(crate) fn lacks_half_moves(&self, n: u16) -> bool
+    pub fn lacks_half_moves(&self, n: u16) -> bool
         ensures { result ≡ lacks_half_moves self.now n }
     {
         n == 0 || self.first.list().len() < usize::from(n)
     }
 
     /// Takes the last `n` half-moves of the first board back, unless it is one of a pair.
-    pub(crate) fn take_back(&mut self, n: u16, moment: u64)
+    pub fn take_back(&mut self, n: u16, moment: u64)
         requires order { latest self.old ≤ moment }
         requires moment { moment ≤ 2 ^ 48 }
         ensures after { self.new ≡ boards_taken_back self.old n moment }
@@ -196,12 +222,7 @@ impl Boards {
     }
 
     /// What the flag that a colour calls at the board in that place brings.
-    pub(crate) fn flag(
-        &self,
-        place: u8,
-        caller: Colour,
-        moment: u64,
-    ) -> Result<Option<Colour>, Refusal>
+    pub fn flag(&self, place: u8, caller: Colour, moment: u64) -> Result<Option<Colour>, Refusal>
         requires order { latest self.now ≤ moment }
         requires moment { moment ≤ 2 ^ 48 }
         ensures { result ≡ flag_at (slice_get self.now place) caller moment }
@@ -218,7 +239,7 @@ impl Boards {
 }
 
 /// The place of the other board of a pair.
-pub(crate) fn other_place(place: u8) -> u8
+pub fn other_place(place: u8) -> u8
     ensures { result ≡ other_place place }
 {
     if place == 0 { 1 } else { 0 }

@@ -8,7 +8,9 @@ use Rattle.chess_model.specs.Position.{Position, position_after}
 use Rattle.game_board.specs.Board.{Board, position_of}
 use Rattle.game_board.specs.Learn.{partner_position, captured_there, learnt}
 use Rattle.game_board.specs.Play.{captured, with_half_move}
-use Rattle.linked_desk.specs.Linked.{AreLinked}
+use Rattle.game_board.specs.declared.played.Played.{Played}
+use Rattle.game_board.specs.Put.{with_put}
+use Rattle.linked_boards.specs.Linked.{AreLinked}
 
 -- the position on a board is that which the other one takes it to be
 position_there : (own other : Board) → AreLinked own other → position_of own ≡ partner_position other
@@ -50,3 +52,20 @@ pub linked-learnt : (own other after told : Board) (m : Move) (moment : ℕ) (st
 linked-learnt own other after told m moment stamp h played learns =
     subst (λ (b : Board). AreLinked b told) (sym played)
     (subst (λ (b : Board). AreLinked (with_half_move own m moment stamp) b) (sym learns) (linked-played own other m moment stamp h))
+
+-- and so where the half-move came with its charge
+linked-with_put : (own other : Board) (p : Played) → AreLinked own other → AreLinked (with_put own p) (learnt other p.what)
+linked-with_put own other p h =
+    let number : other_board other.number ≡ own.number = omega (arith, h.numbers) in
+    record {
+      pair = h.pair;
+      terms = h.terms;
+      numbers = h.numbers;
+      together = λ i. h.together i ++ record { board = number i; what = p.what } ∷ [];
+      each = grind (arith, length-append, h.each);
+    }
+
+pub linked-put : (own other after told : Board) (p : Played) → AreLinked own other → after ≡ with_put own p → told ≡ learnt other p.what → AreLinked after told
+linked-put own other after told p h put learns =
+    subst (λ (b : Board). AreLinked b told) (sym put)
+    (subst (λ (b : Board). AreLinked (with_put own p) b) (sym learns) (linked-with_put own other p h))

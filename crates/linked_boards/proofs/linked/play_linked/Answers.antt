@@ -1,7 +1,7 @@
 use Rattle.std.proofs.Common.{ap, ◌∙◌}
 use Rattle.chess_model.specs.declared.variant.Terms.{Terms}
-use Rattle.linked_desk.proofs.Linking.{learn_allowed, learn_captured, learn_room, linked-learnt}
-use Rattle.linked_desk.proofs.linked.play_linked.Goals as goal
+use Rattle.linked_boards.proofs.Linking.{learn_allowed, learn_captured, learn_room, linked-learnt}
+use Rattle.linked_boards.proofs.linked.play_linked.Goals as goal
 
 pub learn-requires-clause-allowed : goal.learn-requires-clause-allowed
 learn-requires-clause-allowed c =

@@ -18,9 +18,9 @@ use Rattle.game_board.specs.Board.{Board, position_of}
 use Rattle.game_board.specs.Learn.{partner_position}
 use Rattle.game_board.specs.Scoresheet.{IsTrueScore}
 use Rattle.game_board.proofs.Scoresheet.{IsTrueScore-learnt, allowed_by_answer}
-use Rattle.linked_desk.specs.Boards.{board_numbers, boards_after, changed_at, other_place, told_answer, word_at}
-use Rattle.linked_desk.specs.Sound.{AreSame}
-use Rattle.linked_desk.proofs.BoardLists.{nothing-changed_at}
+use Rattle.linked_boards.specs.Boards.{board_numbers, boards_after, changed_at, other_place, told_answer, word_at}
+use Rattle.linked_boards.specs.Sound.{AreSame}
+use Rattle.linked_boards.proofs.BoardLists.{nothing-changed_at}
 
 -- the numbers of two boards, which are those of a pair
 pub numbers_of_two : (v : Variant) (b c : Board) → map (λ (x : Board). x.number) (b ∷ c ∷ []) ≡ board_numbers v → (v ≡ Bughouse) × (b.number ≡ 1) × (c.number ≡ 2)

@@ -1,0 +1,3 @@
+pub mod BoardLists
+pub mod Linking
+pub mod Pairs
