@@ -88,7 +88,7 @@ abbrev on : ℕ → Move → HalfMove
 on number m = record { board = number; what = m }
 
 -- a list and another that is the same, each with the same half-move behind it
-same_two : (T U : List HalfMove) (m : Move) (here there : ℕ) → AreSame (T ∷ U ∷ []) → there ≡ here → AreSame ((T ++ on here m ∷ []) ∷ (U ++ on there m ∷ []) ∷ [])
+pub same_two : (T U : List HalfMove) (m : Move) (here there : ℕ) → AreSame (T ∷ U ∷ []) → there ≡ here → AreSame ((T ++ on here m ∷ []) ∷ (U ++ on there m ∷ []) ∷ [])
 same_two T U m here there same number =
     let is : U ≡ T = All-head (λ (x : List HalfMove). x ≡ T) U [] same in
     let P : List HalfMove → Type 0 = λ x. x ≡ T ++ on here m ∷ [] in

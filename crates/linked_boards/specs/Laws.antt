@@ -64,5 +64,5 @@ pub record EndsComeByMoves : Type 0 where
       (λ b. GoesOn (position_of b)) →
       GoOn (boards_after boards place moment stamp (word_at (slice_get boards place) colour word))
   pub acked : (boards : List Board) (place : ℕ) (colour : Colour) (stamp : ℕ) → GoOn boards → GoOn (boards_acked boards place colour stamp)
-  pub take_back : (t : Terms) (boards : List Board) (n moment : ℕ) → AreSoundBoards t boards → GoOn boards →
-      GoOn (boards_taken_back boards n moment)
+  pub take_back : (t : Terms) (boards : List Board) (n moment : ℕ) → AreSoundBoards t boards → latest boards ≤ moment →
+      GoOn boards → GoOn (boards_taken_back boards n moment)

@@ -8,7 +8,9 @@
 
 mod boards;
 mod halves;
+mod laws;
 mod linked;
 mod replay;
 
 pub use boards::{Boards, other_place};
+pub use laws::{boards_stay_sound, halves_are_the_boards};

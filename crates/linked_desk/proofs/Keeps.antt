@@ -37,7 +37,6 @@ pub IsSound-later : (g : GameState) (feed : List Item) (viewers : List Cursor) (
 IsSound-later g feed viewers remarks last offers tally later moment winners s = record {
   seated = s.seated;
   boards = s.boards;
-  recordable = s.recordable;
   going = s.going;
   order = omega (arith, s.order, later);
   moment = moment;
@@ -75,7 +74,6 @@ pub IsSound-over : (g : GameState) (e : Ended) → Names e.why e.winner → IsSo
 IsSound-over g e names s = record {
   seated = s.seated;
   boards = s.boards;
-  recordable = s.recordable;
   going = λ runs. absurd cc;
   order = s.order;
   moment = s.moment;

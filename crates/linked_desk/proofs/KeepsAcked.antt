@@ -3,19 +3,17 @@ use Rattle.std.proofs.Common.{◌≡◌, ℕ, ◌≤◌, ◌^◌, Bool, true, fa
 use Rattle.std.specs.Prelude.{is_some}
 use Rattle.chess_model.specs.declared.man.Colour.{Colour}
 use Rattle.chess_model.specs.Holdings.{same_colour}
-use Rattle.chess_model.specs.Result.{result, is_end}
 use Rattle.clock_ledger.specs.Span.{IsStamp}
 use Rattle.game_board.specs.Acked.{acknowledged}
-use Rattle.game_board.specs.Board.{Board, position_of, to_move}
+use Rattle.game_board.specs.Board.{Board, to_move}
 use Rattle.linked_desk.specs.Acked.{acked_by, acked_effect}
 use Rattle.linked_boards.specs.Boards.{latest, boards_acked}
 use Rattle.linked_desk.specs.Desk.{GameState, seat_of, moment_at}
 use Rattle.linked_desk.specs.Seats.{place_of, colour_at}
-use Rattle.linked_desk.specs.Sound.{IsRecordable, IsSound}
-use Rattle.linked_boards.proofs.BoardLists.{latest-changed_at, All-changed_at}
+use Rattle.linked_desk.specs.Sound.{IsSound}
+use Rattle.linked_boards.proofs.BoardLists.{latest-changed_at}
 use Rattle.linked_desk.proofs.Keeps.{Keeps, IsSound-later, timely_at}
-use Rattle.linked_desk.proofs.Recordable.{recordable-acknowledged}
-use Rattle.linked_desk.proofs.TempLaws.{sound_acked}
+use Rattle.linked_desk.proofs.TempLaws.{boards_stay_sound, ends_come_by_moves}
 
 -- what a board and the board with a stamp kept have alike, the acknowledged board has
 alike : {X : Type 0} (of : Board → X) (own : Bool) (b new : Board) → of new ≡ of b → of (if own then new else b) ≡ of b
@@ -34,11 +32,6 @@ IsSound-same : (g : GameState) (moment : ℕ) → moment ≤ 2 ^ 48 → IsSound 
 IsSound-same g moment timely s =
     IsSound-later g g.feed g.viewers g.remarks (moment_at g moment) g.offers g.tally (omega arith) (timely_at g moment timely s) s.winners s
 
--- an acknowledgement changes no position
-goes_on : (b : Board) (colour : Colour) (stamp : ℕ) → is_end (result (position_of b)) ≡ false → is_end (result (position_of (acknowledged b colour stamp))) ≡ false
-unfolding position_of
-goes_on b colour stamp e = same_acknowledged (λ c. is_end (result (position_of c))) b colour stamp refl ∙ e
-
 IsSound-acked : (g : GameState) (moment place : ℕ) (colour : Colour) (stamp : ℕ) → IsStamp stamp → moment ≤ 2 ^ 48 → IsSound g →
     IsSound (with_boards g moment (boards_acked g.boards place colour stamp))
 IsSound-acked g moment place colour stamp stamped timely s =
@@ -46,9 +39,8 @@ IsSound-acked g moment place colour stamp stamped timely s =
     let early : latest g.boards ≤ moment_at g moment = omega (arith, s.order) in
     record {
       seated = s.seated;
-      boards = sound_acked g.terms g.boards place colour stamp stamped s.boards;
-      recordable = All-changed_at (IsRecordable g.terms.variant) g.boards place after (λ b there. recordable-acknowledged g.terms.variant b colour stamp) s.recordable;
-      going = λ runs. All-changed_at (λ (b : Board). is_end (result (position_of b)) ≡ false) g.boards place after (λ b there. goes_on b colour stamp) (s.going runs);
+      boards = boards_stay_sound.acked g.terms g.boards place colour stamp s.boards stamped;
+      going = λ runs. ends_come_by_moves.acked g.boards place colour stamp (s.going runs);
       order = latest-changed_at g.boards place (moment_at g moment) after
           (λ b h. let same : (acknowledged b colour stamp).begin ≡ b.begin = same_acknowledged (λ c. c.begin) b colour stamp refl in omega arith) early;
       moment = timely_at g moment timely s;

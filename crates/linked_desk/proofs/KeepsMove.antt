@@ -3,42 +3,36 @@ use Rattle.std.proofs.Common.{◌≡◌, ◌≤◌, ◌^◌, ℕ, Bool, true, fa
 use Rattle.std.specs.Prelude.{is_some, slice_get}
 use Rattle.std.specs.Option.{option_and_then, option_map}
 use Rattle.std.proofs.lemmas.List.Elements.{All-push}
-use Rattle.chess_model.specs.declared.man.Colour.{Colour}
 use Rattle.chess_model.specs.declared.man.Man.{Man}
 use Rattle.chess_model.specs.declared.moves.Move.{Move}
 use Rattle.chess_model.specs.declared.moves.MoveWord.{MoveWord}
-use Rattle.chess_model.specs.declared.variant.Variant.{Variant}
-use Rattle.chess_model.specs.Holdings.{other_board}
 use Rattle.chess_model.specs.Result.{result, is_end}
 use Rattle.clock_ledger.specs.Span.{IsStamp}
 use Rattle.fics_words.specs.declared.refusal.Refusal.{Refusal}
 use Rattle.fics_words.specs.Effect.{NoneHolds}
 use Rattle.game_board.specs.Board.{Board, position_of}
 use Rattle.game_board.specs.Play.{play_after}
-use Rattle.game_board.specs.Scoresheet.{IsTrueScore}
 use Rattle.offer_book.specs.Offers.{after_half_move, where_stand}
 use Rattle.style12_writer.specs.declared.item.Item.{Item}
 use Rattle.style12_writer.specs.declared.item.Item.TheVariants as item
 use Rattle.style12_writer.specs.declared.view.BoardView.{BoardView}
-use Rattle.game_records.specs.Bounds.{boards}
-use Rattle.linked_boards.specs.Boards.{board_numbers, reply_at, latest, boards_after, changed_at, other_place, told_answer, word_at}
-use Rattle.linked_boards.proofs.BoardLists.{begin-latest, else-changed_at, latest-changed_at, All-at, All-changed_at}
-use Rattle.linked_boards.proofs.Pairs.{number_at, numbers_linked, same_told, word_played}
+use Rattle.linked_boards.specs.Boards.{reply_at, latest, boards_after, changed_at, other_place, told_answer}
+use Rattle.linked_boards.proofs.BoardLists.{latest-changed_at}
+use Rattle.linked_boards.proofs.Pairs.{same_told}
 use Rattle.linked_desk.specs.declared.ended.Ended.{Ended}
 use Rattle.linked_desk.specs.Desk.{GameState, seat_of, moment_at, occupant}
 use Rattle.linked_desk.specs.Finish.{end_at, end_on, finished}
 use Rattle.linked_desk.specs.Hands.{hands_at, partner_hands_at}
 use Rattle.linked_desk.specs.Playing.{seat_word, captured_by, held_moved, moved, with_cleared, with_hands, with_partner_hands, moved_by, move_effect}
 use Rattle.linked_desk.specs.Seats.{place_of, colour_at}
-use Rattle.linked_desk.specs.Sound.{IsRecordable, IsSound, Names, NamesWinner}
+use Rattle.linked_desk.specs.Sound.{IsSound, Names, NamesWinner}
 use Rattle.linked_boards.specs.Sound.{GoOn}
 use Rattle.linked_desk.specs.Views.{feed_with, views_of, with_board_item}
 use Rattle.linked_desk.proofs.Finishing.{IsSound-with_end, end_on-names, goes_on, occupant-finished}
 use Rattle.linked_desk.proofs.Holding.{names_hands_at, names_partner_hands_at}
 use Rattle.linked_desk.proofs.Keeps.{Keeps, IsSound-later, timely_at, occupant-with_view, occupant-with_item}
-use Rattle.linked_desk.proofs.Recordable.{number_range, recordable-played, recordable-told}
 use Rattle.linked_desk.proofs.Telling.{told_of, with_hands-told}
-use Rattle.linked_desk.proofs.TempLaws.{sound_played, played_go_on}
+use Rattle.linked_desk.proofs.TempLaws.{boards_stay_sound, ends_come_by_moves}
 
 -- who is to move thinks from no later moment than that of the act
 begin-played : (b : Board) (moment : ℕ) (stamp : Option ℕ) (answer : Result Move Refusal) → b.begin ≤ moment → (play_after b moment stamp answer).begin ≤ moment
@@ -59,34 +53,6 @@ order_played g moment place stamp answer order =
     (λ b h. let same : (told_answer b answer).begin ≡ b.begin = same_told (λ c. c.begin) b answer (λ T. refl) in omega (arith, same, h))
     (latest-changed_at g.boards place (moment_at g moment) after (λ b. begin-played b (moment_at g moment) stamp answer) (omega (arith, order)))
 
--- the number of the board that was played on is the other one of that which learns of it
-told_range : (g : GameState) (place : ℕ) (colour : Colour) (word : MoveWord) → IsSound g → (b : Board) → slice_get g.boards (other_place place) ≡ Some b → (m : Move) →
-    word_at (slice_get g.boards place) colour word ≡ Ok m → (1 ≤ other_board b.number) × (other_board b.number ≤ boards g.terms.variant)
-told_range g place colour word s b there m e =
-    let found = word_played (slice_get g.boards place) colour word m e in
-    let own : slice_get (board_numbers g.terms.variant) place ≡ Some found.0.number = number_at g.terms.variant g.boards place found.0 s.boards.numbers found.1 in
-    let linked = numbers_linked g.terms.variant place found.0.number b.number own (number_at g.terms.variant g.boards (other_place place) b s.boards.numbers there) in
-    let range = number_range g.terms.variant place found.0.number own in
-    subst (λ (n : ℕ). (1 ≤ n) × (n ≤ boards g.terms.variant)) linked.1 range
-
-recordable_played : (g : GameState) (moment place : ℕ) (colour : Colour) (word : MoveWord) (stamp : Option ℕ) → moment ≤ 2 ^ 48 → IfSome stamp IsStamp → IsSound g →
-    All (IsRecordable g.terms.variant) (boards_after g.boards place (moment_at g moment) stamp (word_at (slice_get g.boards place) colour word))
-recordable_played g moment place colour word stamp timely stamped s =
-    let v : Variant = g.terms.variant in
-    let answer : Result Move Refusal = word_at (slice_get g.boards place) colour word in
-    let after : Board → Board = λ b. play_after b (moment_at g moment) stamp answer in
-    let mid : List Board = changed_at g.boards place after in
-    let untouched : (b : Board) → slice_get mid (other_place place) ≡ Some b → slice_get g.boards (other_place place) ≡ Some b =
-    λ b there. sym (else-changed_at g.boards place (other_place place) after (λ same. omega (arith, same))) ∙ there in
-    All-changed_at (IsRecordable v) mid (other_place place) (λ b. told_answer b answer)
-    (λ b there. recordable-told v b answer (told_range g place colour word s b (untouched b there)))
-    (All-changed_at (IsRecordable v) g.boards place after
-    (λ b there. recordable-played v b (moment_at g moment) stamp answer
-    (number_range v place b.number (number_at v g.boards place b s.boards.numbers there))
-    (let before : b.begin ≤ latest g.boards = begin-latest g.boards place b there in omega (arith, before, s.order))
-    (timely_at g moment timely s) (All-at IsTrueScore g.boards place b s.boards.scores there).kept stamped)
-    s.recordable)
-
 -- the game once a seat's word was played, which goes on or has this end
 IsSound-played : (g : GameState) (moment seat : ℕ) (word : MoveWord) (stamp : Option ℕ) (end : Option Ended) → moment ≤ 2 ^ 48 → IfSome stamp IsStamp → g.ended ≡ None →
     IfSome end (λ e. Names e.why e.winner) →
@@ -94,8 +60,8 @@ IsSound-played : (g : GameState) (moment seat : ℕ) (word : MoveWord) (stamp : 
     IsSound (record (played g moment (place_of seat) stamp (seat_word g seat word)) { ended = end })
 IsSound-played g moment seat word stamp end timely stamped runs names going s = record {
   seated = s.seated;
-  boards = sound_played g.terms g.boards (place_of seat) (moment_at g moment) (colour_at seat) word stamp (omega (arith, s.order)) stamped s.boards (s.going runs);
-  recordable = recordable_played g moment (place_of seat) (colour_at seat) word stamp timely stamped s;
+  boards = boards_stay_sound.play g.terms g.boards (place_of seat) (moment_at g moment) (colour_at seat) word stamp s.boards (s.going runs) (omega (arith, s.order))
+      (timely_at g moment timely s) stamped;
   going = going;
   order = order_played g moment (place_of seat) stamp (seat_word g seat word) s.order;
   moment = timely_at g moment timely s;
@@ -149,7 +115,7 @@ IsSound-moved desk g moment seat word stamp timely stamped runs s =
     let end : Option Ended = end_at after place in
     let names : IfSome end (λ e. Names e.why e.winner) = end_on-names (slice_get after.boards place) in
     let going : end ≡ None → GoOn after.boards = λ none.
-        played_go_on g.terms g.boards place (moment_at g moment) (colour_at seat) word stamp s.boards (s.going runs) (goes_on_at (slice_get after.boards place) none) in
+        ends_come_by_moves.play g.terms g.boards place (moment_at g moment) (colour_at seat) word stamp s.boards (s.going runs) (goes_on_at (slice_get after.boards place) none) in
     subst (λ (h : GameState). IsSound (finished desk h moment place)) (sym (with_hands-told desk after place man))
     (IsSound-with_end desk told moment end names timely runs
     (IsSound-told_of desk after place man end (IsSound-played g moment seat word stamp end timely stamped runs names going s)))

@@ -26,13 +26,12 @@ use Rattle.linked_desk.specs.Hands.{first_hands}
 use Rattle.linked_boards.specs.TakenBack.{back_by, boards_taken_back}
 use Rattle.linked_desk.specs.Offering.{agreed, decline_item, end_without_winner, offer_item, offer_text, told, with_count, with_offers, with_taken}
 use Rattle.linked_desk.specs.Offering as offering
-use Rattle.linked_desk.specs.Sound.{IsRecordable, IsSound, NamesWinner}
+use Rattle.linked_desk.specs.Sound.{IsSound, NamesWinner}
 use Rattle.linked_desk.specs.Tally.{counted}
 use Rattle.linked_desk.specs.Views.{views_of, with_board_item, with_items}
-use Rattle.linked_boards.proofs.BoardLists.{latest-changed_at, All-changed_at}
+use Rattle.linked_boards.proofs.BoardLists.{latest-changed_at}
 use Rattle.linked_desk.proofs.Holding.{names_first}
-use Rattle.linked_desk.proofs.Recordable.{recordable-back}
-use Rattle.linked_desk.proofs.TempLaws.{sound_back, back_go_on}
+use Rattle.linked_desk.proofs.TempLaws.{boards_stay_sound, ends_come_by_moves}
 use Rattle.linked_desk.proofs.Keeps.{IsSound-ended_by, IsSound-later, timely_at, IsSound-with_view, IsSound-with_item, occupant-with_view, occupant-with_item}
 
 -- the game with other offers and counts, since a later moment
@@ -78,10 +77,8 @@ IsSound-with_taken g moment n timely s =
     let early : latest g.boards ≤ moment_at g moment = omega (arith, s.order) in
     record {
       seated = s.seated;
-      boards = sound_back g.terms g.boards n (moment_at g moment) early s.boards;
-      recordable = All-changed_at (IsRecordable g.terms.variant) g.boards 0 after
-          (λ b there. recordable-back g.terms.variant b.terms.variant b n (moment_at g moment)) s.recordable;
-      going = λ runs. back_go_on g.terms g.boards n (moment_at g moment) s.boards (s.going runs);
+      boards = boards_stay_sound.take_back g.terms g.boards n (moment_at g moment) s.boards early;
+      going = λ runs. ends_come_by_moves.take_back g.terms g.boards n (moment_at g moment) s.boards (s.going runs);
       order = latest-changed_at g.boards 0 (moment_at g moment) after (λ b. begin_back b.terms.variant b n (moment_at g moment)) early;
       moment = timely_at g moment timely s;
       winners = s.winners;

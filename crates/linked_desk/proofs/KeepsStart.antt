@@ -3,7 +3,6 @@ use Rattle.std.proofs.Common.{◌≡◌, ℕ, ◌≤◌, ◌^◌, List, [], ◌�
 use Rattle.std.specs.Prelude.{flat_map, option_to_list}
 use Rattle.std.proofs.lemmas.List.Elements.{All-nil, All-cons, All-append}
 use Rattle.chess_model.specs.declared.variant.Terms.{Terms}
-use Rattle.chess_model.specs.declared.variant.Variant.{Variant}
 use Rattle.fics_words.specs.declared.seats.Opponents.{Opponents}
 use Rattle.fics_words.specs.declared.seats.Seats.{Seats}
 use Rattle.game_board.specs.Board.{Board, new_board}
@@ -15,13 +14,12 @@ use Rattle.linked_desk.specs.declared.occasion.Occasion.TheVariants.{Start}
 use Rattle.linked_desk.specs.Hands.{first_hands}
 use Rattle.linked_desk.specs.Seating.{MayPlay, announced_board, begun, board_item, first_items, opening_items, opened}
 use Rattle.linked_desk.specs.Seats.{pairs_of}
-use Rattle.linked_desk.specs.Sound.{IsRecordable, IsSound, Names, NamesWinner}
+use Rattle.linked_desk.specs.Sound.{IsSound, Names, NamesWinner}
 use Rattle.linked_boards.specs.Sound.{AreSoundBoards, GoOn}
 use Rattle.linked_desk.specs.Views.{each_board}
 use Rattle.linked_desk.proofs.Holding.{names_first}
 use Rattle.linked_desk.proofs.Keeps.{All-each_board}
-use Rattle.linked_desk.proofs.Recordable.{recordable-new}
-use Rattle.linked_desk.proofs.TempLaws.{sound_new, new_go_on}
+use Rattle.linked_desk.proofs.TempLaws.{boards_stay_sound, ends_come_by_moves}
 
 -- an item that is shown beside a board, if there is one
 All-option : {X : Type 0} (P : X → Type 0) (x : Option X) → IfSome x P → All P (option_to_list x)
@@ -51,12 +49,11 @@ names_opening occasion desk terms pairs boards =
 
 -- a game that begins at sound boards is sound, where it goes on or has this end
 pub IsSound-begun : (occasion : Occasion) (desk serial : ℕ) (terms : Terms) (seats : Seats) (boards : List Board) (moment : ℕ) (end : Option Ended) → MayPlay terms seats →
-    AreSoundBoards terms boards → All (IsRecordable terms.variant) boards → latest boards ≤ moment → moment ≤ 2 ^ 48 → IfSome end (λ e. Names e.why e.winner) →
+    AreSoundBoards terms boards → latest boards ≤ moment → moment ≤ 2 ^ 48 → IfSome end (λ e. Names e.why e.winner) →
     (end ≡ None → GoOn boards) → IsSound (record (begun occasion desk serial terms seats boards moment) { ended = end })
-IsSound-begun occasion desk serial terms seats boards moment end seated sound recordable order timely names going = record {
+IsSound-begun occasion desk serial terms seats boards moment end seated sound order timely names going = record {
   seated = seated;
   boards = sound;
-  recordable = recordable;
   going = going;
   order = order;
   moment = timely;
@@ -64,17 +61,11 @@ IsSound-begun occasion desk serial terms seats boards moment end seated sound re
   ended = names;
 }
 
-recordable_from : (v : Variant) (numbers : List ℕ) (terms : Terms) (moment : ℕ) → All (IsRecordable v) (map (λ number. new_board number terms moment) numbers)
-recordable_from v [] terms moment = All-nil (IsRecordable v)
-recordable_from v (n ∷ ns) terms moment =
-    All-cons (IsRecordable v) (new_board n terms moment) (map (λ number. new_board number terms moment) ns) (recordable-new v n terms moment)
-    (recordable_from v ns terms moment)
-
 latest_from : (numbers : List ℕ) (terms : Terms) (moment : ℕ) → latest (map (λ number. new_board number terms moment) numbers) ≤ moment
 latest_from [] terms moment = omega arith
 latest_from (n ∷ ns) terms moment = let rest = latest_from ns terms moment in omega arith
 
 pub IsSound-opened : (desk serial : ℕ) (terms : Terms) (seats : Seats) (moment : ℕ) → MayPlay terms seats → moment ≤ 2 ^ 48 → IsSound (opened desk serial terms seats moment)
 IsSound-opened desk serial terms seats moment seated timely =
-    IsSound-begun Start desk serial terms seats (new_boards terms moment) moment None seated (sound_new terms moment) (recordable_from terms.variant (board_numbers terms.variant) terms moment)
-    (latest_from (board_numbers terms.variant) terms moment) timely tt (λ runs. new_go_on terms moment)
+    IsSound-begun Start desk serial terms seats (new_boards terms moment) moment None seated (boards_stay_sound.start terms moment)
+    (latest_from (board_numbers terms.variant) terms moment) timely tt (λ runs. ends_come_by_moves.start terms moment)

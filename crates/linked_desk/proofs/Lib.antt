@@ -1,11 +1,9 @@
 pub mod Causes
 pub mod ClearedOffers
-pub mod Coded
 pub mod Counting
 pub mod Finishing
 pub mod Holding
 pub mod Keeps
-pub mod Kept
 pub mod KeepsAcceptOffer
 pub mod KeepsActs
 pub mod KeepsAcked
@@ -22,8 +20,8 @@ pub mod KeepsShow
 pub mod KeepsStart
 pub mod KeepsWatch
 pub mod Opening
-pub mod Recordable
 pub mod Restored
+pub mod Resuming
 pub mod SeatNumbers
 pub mod Shelved
 pub mod Telling

@@ -20,7 +20,7 @@ use Rattle.linked_desk.specs.Desk.{GameState}
 use Rattle.linked_desk.specs.Seating.{AllDiffer, NoneIs, uncoloured}
 use Rattle.linked_desk.specs.Shelve.{names_in, shelved}
 use Rattle.linked_desk.specs.Sound.{IsSound}
-use Rattle.linked_desk.proofs.Kept.{kept_halves}
+use Rattle.linked_desk.proofs.TempLaws.{halves_are_the_boards}
 
 as_many : (v : Variant) → 2 * length (board_numbers v) ≡ seats v
 as_many Chess = refl
@@ -71,7 +71,7 @@ shelved_replays g s = record {
   spelled = record {
     terms = s.seated.fit;
     players = length-map (seat_list g.seats) (λ (p : Player). p.name) ∙ s.seated.pairs ∙ as_many g.terms.variant;
-    halves = kept_halves g.terms g.boards s.boards s.recordable;
+    halves = halves_are_the_boards.bounds g.terms g.boards s.boards;
   };
   players = four g.terms.variant (names_in g.seats) (subst AllDiffer (keys_in (seat_list g.seats)) s.seated.names);
   played = without_colour g.terms (halves_of g.boards) s.boards.played;

@@ -2,16 +2,10 @@
 use Rattle.std.specs.Prelude.{◌≡◌, ◌≤◌, ◌^◌, ◌↔◌, IsSome, IsTrue, IfSome, All, List, Option, None, Result, Ok, Err}
 use Rattle.chess_model.specs.declared.man.Colour.{Colour}
 use Rattle.chess_model.specs.declared.why.Why.{Why}
-use Rattle.chess_model.specs.declared.variant.Variant.{Variant}
-use Rattle.chess_model.specs.MoveList.{HalfMove}
-use Rattle.clock_ledger.specs.Charges.{IsChargeable}
 use Rattle.fics_words.specs.declared.refusal.Refusal.{Refusal}
 use Rattle.style12_writer.specs.declared.item.Item.{Item}
 use Rattle.style12_writer.specs.declared.item.Item.TheVariants.{End}
 use Rattle.style12_writer.specs.EndLine.{is_decisive}
-use Rattle.game_board.specs.declared.played.Played.{Played}
-use Rattle.game_board.specs.Board.{Board}
-use Rattle.game_records.specs.Bounds.{boards}
 use Rattle.linked_desk.specs.declared.acts.DeskReply.{DeskReply}
 use Rattle.linked_desk.specs.declared.acts.DeskReply.TheVariants.{Done, Items}
 use Rattle.linked_boards.specs.Boards.{latest}
@@ -28,23 +22,11 @@ abbrev pub NamesWinner : Item → Type 0
 NamesWinner (End view why winner own) = Names why winner
 NamesWinner _ = Unit {0}
 
--- a half-move that was made on one of the boards of the variant
-abbrev pub IsMadeOn : Variant → HalfMove → Type 0
-IsMadeOn v h = (1 ≤ h.board) × (h.board ≤ boards v)
-
--- a board whose game a record can keep
-pub record IsRecordable (v : Variant) (b : Board) : Type 0 where
-  -- each half-move was made on one of the boards
-  pub made : All (IsMadeOn v) b.all
-  -- each charge is one that a clock may have
-  pub charges : All (λ (p : Played). IfSome p.charge IsChargeable) b.list
-
 pub record IsSound (g : GameState) : Type 0 where
   -- these players may play on these terms
   pub seated : MayPlay g.terms g.seats
-  -- the boards are those of a game that was played so, and a record can keep them
+  -- the boards are those of a game on these terms that was played as they say
   pub boards : AreSoundBoards g.terms g.boards
-  pub recordable : All (IsRecordable g.terms.variant) g.boards
   -- while the game runs no board is at an end
   pub going : g.ended ≡ None → GoOn g.boards
   -- nobody is thinking from a moment that is later than the last act, and no act was later than the server's last moment

@@ -51,6 +51,6 @@ pub use observer_feed::Cursor;
 pub use offer_book::Offer;
 pub use offer_laws::half_moves_clear_offers;
 pub use seats::colour_at;
-pub use shelf_laws::shelved_games_replay;
+pub use shelf_laws::{resuming_restores, shelved_games_replay};
 pub use sight::viewer_of;
 pub use style12_writer::{BoardView, Item, ItemList};
