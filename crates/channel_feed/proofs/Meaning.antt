@@ -1,15 +1,14 @@
 -- What the rules of channels and of name lists mean to players.
-use Rattle.std.proofs.Common.{◌≡◌, ◌≢◌, ℕ, Bool, true, false, not, List, [], ◌∷◌, ◌++◌, refl, sym, ap, ◌∙◌}
+use Rattle.std.proofs.Common.{◌≡◌, ℕ, Bool, true, false, not, List, [], ◌∷◌, refl, sym, ap, ◌∙◌}
 use Rattle.std.specs.Prelude.{◌==◌, ◌&&◌, ◌||◌, bytes_eq}
-use Rattle.std.specs.List.{filter, list_any}
 use Rattle.std.specs.Cmp.Lexicographic.{nat_list_eq_equiv}
-use Rattle.std.proofs.lemmas.Bool.{eqb-true, eq-eqb, ne_eqb, and_from, or_from, or_left, or_right, not_from_true, not_from_false, false_from_ne_true}
+use Rattle.std.proofs.lemmas.Bool.{eqb-true, eq-eqb, ne_eqb, and_from, or_left, or_right, not_from_true, not_from_false, false_from_ne_true}
 use Rattle.std.proofs.lemmas.List.Folds.{list_any-append}
 use Rattle.std.proofs.lemmas.Map.Views.{any-filter_same}
 use Rattle.std.proofs.lemmas.Slice.Eq.{bytes_eq-Decides}
 use Rattle.channel_feed.specs.declared.channels.Membership.{Membership}
-use Rattle.channel_feed.specs.Channels.{is_in, is_row, joining, without_one, without_player}
-use Rattle.channel_feed.specs.NameLists.{adding, is_on, without_name}
+use Rattle.channel_feed.specs.Channels.{is_in, is_row}
+use Rattle.channel_feed.specs.NameLists.{is_on}
 use Rattle.channel_feed.specs.Laws.{Joins, Leaves, LeavesAll, NamesComeAndGo}
 
 or_none : (a b : Bool) → b ≡ false → (a || (b || false)) ≡ a

@@ -1,5 +1,5 @@
 -- What the rules of channels and of name lists mean to players.
-use Rattle.std.specs.Prelude.{◌≡◌, ◌≢◌, ℕ, ◌==◌, Bool, true, false, ◌&&◌, bytes_eq, List}
+use Rattle.std.specs.Prelude.{◌≡◌, ◌≢◌, ℕ, ◌==◌, true, false, ◌&&◌, bytes_eq, List}
 use Rattle.channel_feed.specs.declared.channels.Membership.{Membership}
 use Rattle.channel_feed.specs.Channels.{is_in, joining, without_one, without_player}
 use Rattle.channel_feed.specs.NameLists.{adding, is_on, without_name}

@@ -1,6 +1,6 @@
 //! The lines that wait for a player.
 ghost use Rattle.std.specs.Prelude.{◌≡◌, ◌<◌, IfOk, OnErr, OnOk, length, not};
-ghost use Rattle.channel_feed.specs.Waiting.{is_full, nothing_waits, with_line, with_room};
+ghost use Rattle.channel_feed.specs.Waiting.{is_full, nothing_waits, with_line_put, with_room, without_last};
 
 use collections::{Listed, Reserved};
 use fics_words::{Duplicate, Line, NoMemory};
@@ -43,16 +43,23 @@ impl Waiting {
         self.lines.as_slice()
     }
 
+    /// Whether 512 lines wait, so that no more can.
+    pub fn is_full(&self) -> bool
+        ensures { result ≡ is_full self.now.items }
+    {
+        self.lines.len() >= MOST
+    }
+
     /// Puts a line behind the others. False exactly where 512 lines wait; then nothing changes. Where there is room for
     /// the line this takes no memory, and doesn't run out of it.
     pub fn push(&mut self, line: Line) -> Result<bool, NoMemory>
-        ensures pushed { IfOk result (λ pushed. pushed ≡ not (is_full self.old)) }
-        ensures ok { OnOk result (self.new ≡ with_line line self.old) }
+        ensures pushed { IfOk result (λ pushed. pushed ≡ not (is_full self.old.items)) }
+        ensures ok { OnOk result (self.new ≡ with_line_put line self.old) }
         ensures err { OnErr result (self.new ≡ self.old) }
         ensures no_room { OnErr result (self.old.room ≡ 0) }
         ensures no_refusal { OnErr result (length self.old.items < 512) }
     {
-        if self.lines.len() >= MOST {
+        if self.is_full() {
             return Ok(false);
         }
         if self.lines.room() == 0 {
@@ -68,6 +75,13 @@ impl Waiting {
         ensures err { OnErr result (self.new ≡ self.old) }
     {
         self.lines.reserve(1)
+    }
+
+    /// Takes back the line that was put last, if one waits. Takes no memory, and leaves the room as it is.
+    pub fn take_back(&mut self)
+        ensures { self.new ≡ record self.old { items = without_last self.old.items } }
+    {
+        let _line = self.lines.pop();
     }
 
     /// Takes all lines, in order, with their block; none wait afterwards, and there is no room. Takes no memory.

@@ -11,12 +11,13 @@ use Rattle.command_words.specs.declared.command.Command.{Command}
 use Rattle.command_words.specs.declared.command.Command.TheVariants as command
 use Rattle.command_words.specs.declared.verbs.Verb.{Verb}
 use Rattle.command_words.specs.declared.verbs.Verb.TheVariants as verb
-use Rattle.command_words.specs.declared.verbs.Verb.TheVariants.{Accept, Decline, Flag, InChannel, JoinChannel, LeaveChannel, Match, Play, Quit, Register, Resign, Seek, Set, Shout, Sought, Tell, Unalias, Unseek, Who, Withdraw, Partner, Ptell, AddCensor, AddNoplay, DropCensor, DropNoplay, Games, Pending, Kibitz, Observe, Refresh, Style, Unobserve, GoBoard, SimNext, SimOpen, SimPrev}
+use Rattle.command_words.specs.declared.verbs.Verb.TheVariants.{Accept, Decline, Flag, InChannel, JoinChannel, LeaveChannel, Match, Play, Quit, Register, Resign, Seek, Set, Shout, Sought, Tell, Unalias, Unseek, Who, Withdraw, Partner, Ptell, AddCensor, AddNoplay, DropCensor, DropNoplay, Games, Pending, Kibitz, Observe, Refresh, Style, Unobserve, GoBoard, SimNext, SimOpen, SimPrev, Adjourn, Resume, Stored}
 use Rattle.command_words.specs.Blanks.{trimmed, first_word, rest_of}
 use Rattle.command_words.specs.Aliases.{alias_of, expanded}
 use Rattle.command_words.specs.Verbs.{verb_of}
 use Rattle.command_words.specs.Abort.{abort_of}
 use Rattle.command_words.specs.Accept.{accept_of}
+use Rattle.command_words.specs.Adjourn.{adjourn_of}
 use Rattle.command_words.specs.Alias.{alias_command, unalias_command}
 use Rattle.command_words.specs.Channel.{channel_of}
 use Rattle.command_words.specs.Decline.{decline_of}
@@ -32,11 +33,13 @@ use Rattle.command_words.specs.Play.{play_of}
 use Rattle.command_words.specs.Quit.{quit_of}
 use Rattle.command_words.specs.Register.{register_of}
 use Rattle.command_words.specs.Resign.{resign_of}
+use Rattle.command_words.specs.Resume.{resume_of}
 use Rattle.command_words.specs.Seek.{seek_of}
 use Rattle.command_words.specs.SimNext.{sim_next_of}
 use Rattle.command_words.specs.SimOpen.{sim_open_of}
 use Rattle.command_words.specs.SimPrev.{sim_prev_of}
 use Rattle.command_words.specs.Sought.{sought_of}
+use Rattle.command_words.specs.Stored.{stored_of}
 use Rattle.command_words.specs.Takeback.{takeback_of}
 use Rattle.command_words.specs.Unseek.{unseek_of}
 use Rattle.command_words.specs.Who.{who_of}
@@ -57,6 +60,7 @@ arguments_of verb.Abort rest = abort_of rest
 arguments_of Accept rest = accept_of rest
 arguments_of AddCensor rest = censor_of true rest
 arguments_of AddNoplay rest = noplay_of true rest
+arguments_of Adjourn rest = adjourn_of rest
 arguments_of verb.Alias rest = alias_command rest
 arguments_of Decline rest = decline_of rest
 arguments_of verb.Draw rest = draw_of rest
@@ -81,11 +85,13 @@ arguments_of Ptell rest = ptell_of rest
 arguments_of Quit rest = quit_of rest
 arguments_of Register rest = register_of rest
 arguments_of Resign rest = resign_of rest
+arguments_of Resume rest = resume_of rest
 arguments_of Seek rest = seek_of rest
 arguments_of SimNext rest = sim_next_of rest
 arguments_of SimOpen rest = sim_open_of rest
 arguments_of SimPrev rest = sim_prev_of rest
 arguments_of Sought rest = sought_of rest
+arguments_of Stored rest = stored_of rest
 arguments_of verb.Takeback rest = takeback_of rest
 arguments_of Unalias rest = unalias_command rest
 arguments_of Unseek rest = unseek_of rest

@@ -1,5 +1,6 @@
 pub mod Abort
 pub mod Accept
+pub mod Adjourn
 pub mod Alias
 pub mod Aliases
 pub mod Blanks
@@ -24,11 +25,13 @@ pub mod Quit
 pub mod Refresh
 pub mod Register
 pub mod Resign
+pub mod Resume
 pub mod Seek
 pub mod SimNext
 pub mod SimOpen
 pub mod SimPrev
 pub mod Sought
+pub mod Stored
 pub mod Set
 pub mod Shout
 pub mod Takeback

@@ -4,7 +4,7 @@ use Rattle.std.specs.List.{starts_with}
 use Rattle.fics_words.specs.declared.refusal.Refusal.{Refusal}
 use Rattle.fics_words.specs.declared.refusal.Refusal.TheVariants.{Unknown, AmbiguousWord}
 use Rattle.command_words.specs.declared.verbs.Verb.{Verb}
-use Rattle.command_words.specs.declared.verbs.Verb.TheVariants.{Accept, Alias, Decline, Flag, InChannel, JoinChannel, LeaveChannel, Match, Play, Quit, Register, Resign, Seek, Set, Shout, Sought, Tell, Unalias, Unseek, Who, Withdraw, Partner, Ptell, Abort, Draw, Takeback, AddCensor, AddNoplay, DropCensor, DropNoplay, Games, Pending, Kibitz, Observe, Refresh, Style, Unobserve, GoBoard, SimNext, SimOpen, SimPrev}
+use Rattle.command_words.specs.declared.verbs.Verb.TheVariants.{Accept, Alias, Decline, Flag, InChannel, JoinChannel, LeaveChannel, Match, Play, Quit, Register, Resign, Seek, Set, Shout, Sought, Tell, Unalias, Unseek, Who, Withdraw, Partner, Ptell, Abort, Draw, Takeback, AddCensor, AddNoplay, DropCensor, DropNoplay, Games, Pending, Kibitz, Observe, Refresh, Style, Unobserve, GoBoard, SimNext, SimOpen, SimPrev, Adjourn, Resume, Stored}
 
 -- the commands
 abbrev pub verbs : List Verb
@@ -13,6 +13,7 @@ verbs =
     Accept ∷
     AddCensor ∷
     AddNoplay ∷
+    Adjourn ∷
     Alias ∷
     Decline ∷
     Draw ∷
@@ -35,6 +36,7 @@ verbs =
     Refresh ∷
     Register ∷
     Resign ∷
+    Resume ∷
     Seek ∷
     Set ∷
     Shout ∷
@@ -42,6 +44,7 @@ verbs =
     SimOpen ∷
     SimPrev ∷
     Sought ∷
+    Stored ∷
     Style ∷
     Takeback ∷
     Tell ∷
@@ -58,6 +61,7 @@ name_of Abort = codes "abort"
 name_of Accept = codes "accept"
 name_of AddCensor = codes "+censor"
 name_of AddNoplay = codes "+noplay"
+name_of Adjourn = codes "adjourn"
 name_of Alias = codes "alias"
 name_of Decline = codes "decline"
 name_of Draw = codes "draw"
@@ -80,8 +84,10 @@ name_of Quit = codes "quit"
 name_of Refresh = codes "refresh"
 name_of Register = codes "register"
 name_of Resign = codes "resign"
+name_of Resume = codes "resume"
 name_of Seek = codes "seek"
 name_of Sought = codes "sought"
+name_of Stored = codes "stored"
 name_of Takeback = codes "takeback"
 name_of Unalias = codes "unalias"
 name_of Style = codes "style"
@@ -157,3 +163,15 @@ example_games_or_goboard = refl
 
 example_one_of_a_simul : verb_of (codes "simo") ≡ Ok SimOpen
 example_one_of_a_simul = refl
+
+-- `a` is short for `accept`; `ad` begins `adjourn` alone
+example_adjourn : verb_of (codes "ad") ≡ Ok Adjourn
+example_adjourn = refl
+
+-- `res` begins `resign` and `resume`
+example_resign_or_resume : verb_of (codes "res") ≡ Err AmbiguousWord
+example_resign_or_resume = refl
+
+-- `st` begins `stored` and `style`
+example_stored_or_style : verb_of (codes "st") ≡ Err AmbiguousWord
+example_stored_or_style = refl

@@ -63,6 +63,8 @@ pub enum Command {
     Draw,
     /// To offer at the present place that the game ends without a result.
     Abort,
+    /// To offer at the present place that the game stops and goes on another time.
+    Adjourn,
     /// To offer at the present place that so many half-moves are taken back, 1 to 1,200.
     Takeback(u16),
     /// To give up the game at the present place.
@@ -87,6 +89,10 @@ pub enum Command {
     SimPrev,
     /// To go to the place against this player.
     GoBoard(Handle),
+    /// To be told which adjourned games of the player are kept.
+    Stored,
+    /// To go on with an adjourned game against this player, or to ask for it.
+    Resume(Handle),
     /// To have boards printed so.
     Style(Style),
     /// To make an account of the session's handle with this password.

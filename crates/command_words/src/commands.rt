@@ -2,6 +2,7 @@
 
 pub(crate) mod abort;
 pub(crate) mod accept;
+pub(crate) mod adjourn;
 pub(crate) mod alias;
 pub(crate) mod channel;
 pub(crate) mod decline;
@@ -22,6 +23,7 @@ pub(crate) mod quit;
 pub(crate) mod refresh;
 pub(crate) mod register;
 pub(crate) mod resign;
+pub(crate) mod resume;
 pub(crate) mod seek;
 pub(crate) mod set;
 pub(crate) mod shout;
@@ -29,6 +31,7 @@ pub(crate) mod sim_next;
 pub(crate) mod sim_open;
 pub(crate) mod sim_prev;
 pub(crate) mod sought;
+pub(crate) mod stored;
 pub(crate) mod style;
 pub(crate) mod takeback;
 pub(crate) mod tell;

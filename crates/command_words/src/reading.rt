@@ -11,10 +11,10 @@ use crate::aliases::{Alias, Aliases};
 use crate::blanks::{first_word, rest_of, trimmed};
 use crate::command::Command;
 use crate::commands::{
-    abort, accept, alias, channel, decline, draw, flag, games, go_board, in_channel, kibitz,
-    matching, name_list, observe, partner, pending, play, ptell, quit, refresh, register, resign,
-    seek, set, shout, sim_next, sim_open, sim_prev, sought, style, takeback, tell, unseek, who,
-    withdraw,
+    abort, accept, adjourn, alias, channel, decline, draw, flag, games, go_board, in_channel,
+    kibitz, matching, name_list, observe, partner, pending, play, ptell, quit, refresh, register,
+    resign, resume, seek, set, shout, sim_next, sim_open, sim_prev, sought, stored, style,
+    takeback, tell, unseek, who, withdraw,
 };
 use crate::expansion::expanded;
 use crate::verbs::{Verb, verb_of};
@@ -115,6 +115,7 @@ fn read_arguments(alloc: Global, verb: Verb, rest: &[u8]) -> Result<Command, Fai
         Verb::Accept => settled(accept::read(rest)),
         Verb::AddCensor => settled(name_list::read_censor(true, rest)),
         Verb::AddNoplay => settled(name_list::read_noplay(true, rest)),
+        Verb::Adjourn => settled(adjourn::read(rest)),
         Verb::Alias => alias::read(alloc, rest),
         Verb::Decline => settled(decline::read(rest)),
         Verb::Draw => settled(draw::read(rest)),
@@ -139,11 +140,13 @@ fn read_arguments(alloc: Global, verb: Verb, rest: &[u8]) -> Result<Command, Fai
         Verb::Quit => settled(quit::read(rest)),
         Verb::Register => register::read(alloc, rest),
         Verb::Resign => settled(resign::read(rest)),
+        Verb::Resume => settled(resume::read(rest)),
         Verb::Seek => settled(seek::read(rest)),
         Verb::SimNext => settled(sim_next::read(rest)),
         Verb::SimOpen => settled(sim_open::read(rest)),
         Verb::SimPrev => settled(sim_prev::read(rest)),
         Verb::Sought => settled(sought::read(rest)),
+        Verb::Stored => settled(stored::read(rest)),
         Verb::Takeback => settled(takeback::read(rest)),
         Verb::Unalias => alias::read_unalias(alloc, rest),
         Verb::Unseek => settled(unseek::read(rest)),

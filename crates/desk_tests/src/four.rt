@@ -2,9 +2,9 @@
 ghost use Rattle.std.specs.Prelude.{◌≡◌, ◌≢◌, length};
 ghost use Rattle.fics_words.specs.Handle.{key_of};
 ghost use Rattle.fics_words.specs.Seats.{seat_list};
-ghost use Rattle.linked_desk.specs.Seating.{AllDiffer, names_of, sessions_of};
+ghost use Rattle.linked_desk.specs.Seating.{AllDiffer, HasPairsFor, names_of, sessions_of};
 
-use crate::table::{ANN, BEN, SERIAL, player};
+use crate::table::{ANN, Accounts, BEN, Sitting, desk_with, player};
 use chess_model::{Terms, Variant};
 use fics_words::{Opponents, Player, Seats};
 use linked_desk::Desk;
@@ -20,31 +20,37 @@ pub const DAN: u32 = 4;
 /// All four, in the order of their seats.
 pub const FOUR: &[u32] = &[ANN, BEN, CAT, DAN];
 
-/// Desk 1 with an untimed game of bughouse that began at moment 0: Ann and Ben have White and Black of the first board,
-/// Cat and Dan those of the second.
+/// Desk 1 with an untimed game of bughouse that began at moment 0.
 pub fn desk_with_pair(rt: &impl Abort, alloc: Global) -> Desk {
-    let mut desk = Desk::vacant(1);
-    let terms = Terms {
-        minutes: 0,
-        increment: 0,
-        variant: Variant::Bughouse,
-        colour: None,
-    };
-    let seats = four_seats(rt);
-    let started = desk.start(alloc, SERIAL, terms, &seats, 0);
-    assert!(rt; started.is_ok(), "there is memory");
-    desk
+    desk_with(rt, alloc, &four(rt, Accounts::Nobody))
 }
 
-fn four_seats(rt: &impl Abort) -> Seats
+/// Ann and Ben have White and Black of the first board, Cat and Dan those of the second, in an untimed game.
+pub fn four(rt: &impl Abort, accounts: Accounts) -> Sitting
+    ensures pairs { HasPairsFor result.terms result.seats }
+    ensures sessions { AllDiffer (sessions_of result.seats) }
+    ensures names { AllDiffer (names_of result.seats) }
+{
+    Sitting {
+        terms: Terms {
+            minutes: 0,
+            increment: 0,
+            variant: Variant::Bughouse,
+            colour: None,
+        },
+        seats: four_seats(rt, accounts),
+    }
+}
+
+fn four_seats(rt: &impl Abort, accounts: Accounts) -> Seats
     ensures sessions { AllDiffer (sessions_of result) }
     ensures names { AllDiffer (names_of result) }
     ensures four { length (seat_list result) ≡ 4 }
 {
-    let ann = player(rt, ANN, "Ann");
-    let ben = player(rt, BEN, "Ben");
-    let cat = player(rt, CAT, "Cat");
-    let dan = player(rt, DAN, "Dan");
+    let ann = player(rt, accounts, ANN, "Ann");
+    let ben = player(rt, accounts, BEN, "Ben");
+    let cat = player(rt, accounts, CAT, "Cat");
+    let dan = player(rt, accounts, DAN, "Dan");
     differ(rt, &ann, &ben);
     differ(rt, &ann, &cat);
     differ(rt, &ann, &dan);

@@ -3,11 +3,15 @@
 #![tactic(auto)]
 
 #[cfg(test)]
+mod adjourned;
+#[cfg(test)]
 mod finished;
 #[cfg(test)]
 mod four;
 #[cfg(test)]
 mod hands;
+#[cfg(test)]
+mod leaving;
 #[cfg(test)]
 mod offers;
 #[cfg(test)]
@@ -17,13 +21,19 @@ mod pair_hands;
 #[cfg(test)]
 mod played;
 #[cfg(test)]
+mod kept;
+#[cfg(test)]
 mod refused;
+#[cfg(test)]
+mod resumed;
 #[cfg(test)]
 mod shown;
 #[cfg(test)]
 mod stages;
 #[cfg(test)]
 mod stamped;
+#[cfg(test)]
+mod stored;
 #[cfg(test)]
 mod table;
 #[cfg(test)]

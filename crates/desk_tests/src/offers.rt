@@ -79,15 +79,19 @@ const ROWS: &[Stage] = &[
     Over(Some(Why::Aborted)),
 ];
 
-/// At a pair nothing is taken back and it isn't adjourned. A draw takes effect when the last of the four has agreed; until
-/// then each who offers it is told, and who accepts it isn't.
+/// At a pair nothing is taken back, and it isn't adjourned without accounts. A draw takes effect when the last of the
+/// four has agreed; until then each who offers it is told, and who accepts it isn't.
 const ROWS_OF_FOUR: &[Stage] = &[
     Row(
         ANN,
         Says::Make(Offer::Takeback(0)),
         Some(Refusal::NotInVariant),
     ),
-    Row(DAN, Says::Make(Offer::Adjourn), Some(Refusal::NotInVariant)),
+    Row(
+        DAN,
+        Says::Make(Offer::Adjourn),
+        Some(Refusal::NotRegistered),
+    ),
     Row(ANN, Says::Make(Offer::Draw), None),
     Row(ANN, Says::Make(Offer::Draw), Some(Refusal::AlreadyOffered)),
     Row(BEN, Says::Make(Offer::Draw), None),

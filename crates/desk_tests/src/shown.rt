@@ -84,9 +84,9 @@ fn is_end(alloc: Global, item: &Item, text: &[u8]) -> Result<bool, NoMemory> {
 }
 
 /// The place of the first item that a session hasn't been given and that isn't told by its row, if one isn't. A row is
-/// the holdings line or the line of an end as it is written, or `board`, `board` with the number of its game, `talk` or
-/// `end`.
-fn first_told_otherwise(
+/// the holdings line, the line of an end or a line of text as it is written, or `board`, `board` with the number of its
+/// game, `talk` or `end`.
+pub fn first_told_otherwise(
     alloc: Global,
     desk: &Desk,
     session: u32,
@@ -161,7 +161,7 @@ fn is_told(alloc: Global, item: &Item, row: &str) -> Result<bool, NoMemory> {
     let row = row.as_bytes();
     match item {
         Item::Board(view) => Ok(row == b"board".as_slice() || row == board_row(view.game)),
-        Item::Talk(_) => Ok(row == b"talk".as_slice()),
+        Item::Talk(line) => Ok(row == b"talk".as_slice() || line.bytes() == row),
         Item::End { .. } => Ok(row == b"end".as_slice() || is_end(alloc, item, row)?),
         Item::Hold {
             game,

@@ -1,6 +1,8 @@
 //! Stages of a game at a desk of two, each as it has to be.
 
-use crate::shown::{begins_with_talk, ends_with_board, ends_with_end, last_clocks};
+use crate::shown::{
+    begins_with_talk, ends_with_board, ends_with_end, first_told_otherwise, last_clocks,
+};
 use crate::table::{
     ANN, BEN, Does, Given, Opening, SERIAL, Step, cleared, desk_of, first_failing, is_given,
     outcome,
@@ -24,6 +26,8 @@ pub enum Stage {
     Begins(&'static str),
     /// The last that Ben is told is a board, of which this viewer has that line.
     ShowsBoard(Viewer, &'static str),
+    /// A session is told these rows, as `first_told_otherwise` has them, and no others.
+    Tells(u32, &'static [&'static str]),
     /// The last that a session is told is an end by that line.
     ShowsEnd(u32, &'static str),
     /// The game has that end, or none, and so many viewers.
@@ -57,8 +61,14 @@ fn holds(alloc: Global, desk: &mut Desk, stage: Stage) -> Result<bool, NoMemory>
     match stage {
         Stage::ShowsBoard(viewer, line) => ends_with_board(alloc, desk, BEN, viewer, line),
         Stage::ShowsEnd(session, line) => ends_with_end(alloc, desk, session, line),
+        Stage::Tells(session, rows) => is_told(alloc, desk, session, rows),
         _ => Ok(is_so(desk, stage)),
     }
+}
+
+/// Whether a session is told these rows.
+fn is_told(alloc: Global, desk: &Desk, session: u32, rows: &[&str]) -> Result<bool, NoMemory> {
+    Ok(first_told_otherwise(alloc, desk, session, rows)?.is_none())
 }
 
 /// Whether a stage that takes no memory is as it has to be.
@@ -76,7 +86,7 @@ fn is_so(desk: &mut Desk, stage: Stage) -> bool {
 }
 
 /// The place of the first stage that isn't as it has to be, if one isn't.
-fn first_wrong_at(
+pub fn first_wrong_at(
     alloc: Global,
     desk: &mut Desk,
     stages: &[Stage],

@@ -2,13 +2,14 @@
 ghost use Rattle.std.specs.Prelude.{◌≡◌, IfSome, length};
 ghost use Rattle.clock_ledger.specs.Span.{IsStamp};
 ghost use Rattle.linked_desk.specs.Acts.{FitsDeskAct};
-ghost use Rattle.linked_desk.specs.Boards.{board_numbers};
+ghost use Rattle.linked_boards.specs.Boards.{board_numbers};
+ghost use Rattle.linked_desk.specs.Seating.{AllDiffer, HasPairsFor, names_of, sessions_of};
 
-use crate::four::desk_with_pair;
+use crate::four::four;
 use chess_model::{Kind, MoveWord, Square, Terms, Variant};
 use clock_ledger::STAMP_CYCLE;
 use fics_words::{Fail, Handle, Opponents, Player, Refusal, Seats};
-use linked_desk::{Desk, DeskAct, DeskReply, Ended};
+use linked_desk::{Desk, DeskAct, DeskReply, Ended, Offer};
 use std::alloc::Global;
 use std::process::Abort;
 
@@ -31,6 +32,8 @@ pub enum Does {
     Stamped(&'static str, u32),
     /// Its client acknowledges the board with this stamp.
     Acked(u32),
+    Make(Offer),
+    Accept,
     Resign,
     Flag,
     Fetch,
@@ -52,45 +55,86 @@ pub enum Given {
 #[derive(Clone, Copy)]
 pub struct Step(pub u32, pub u32, pub Does, pub Given);
 
-pub fn player(rt: &impl Abort, session: u32, name: &str) -> Player {
+/// Which players have accounts.
+#[derive(Clone, Copy)]
+pub enum Accounts {
+    Nobody,
+    Everybody,
+    /// All but Ben.
+    NotBen,
+}
+
+/// The player of that session, whose account is there or not.
+pub fn player(rt: &impl Abort, accounts: Accounts, session: u32, name: &str) -> Player {
     Player {
         session,
         name: Handle::read(name.as_bytes()).expect(rt, "a handle"),
-        registered: false,
+        registered: has_account(accounts, session),
     }
+}
+
+fn has_account(accounts: Accounts, session: u32) -> bool {
+    match accounts {
+        Accounts::Nobody => false,
+        Accounts::Everybody => true,
+        Accounts::NotBen => session != BEN,
+    }
+}
+
+/// Who sits at a desk, and on which terms they play.
+#[derive(Clone, Copy)]
+pub struct Sitting {
+    pub terms: Terms,
+    pub seats: Seats,
 }
 
 /// Desk 1 with a game of chess between Ann and Ben that began at moment 0.
 pub fn desk_with_game(rt: &impl Abort, alloc: Global, minutes: u16, increment: u16) -> Desk {
-    desk_with(rt, alloc, minutes, increment, Variant::Chess)
+    let sitting = two(rt, Accounts::Nobody, minutes, increment, Variant::Chess);
+    desk_with(rt, alloc, &sitting)
 }
 
-/// Desk 1 with an untimed game of crazyhouse between Ann and Ben that began at moment 0.
-fn desk_with_house(rt: &impl Abort, alloc: Global) -> Desk {
-    desk_with(rt, alloc, 0, 0, Variant::Crazyhouse)
-}
-
-fn desk_with(rt: &impl Abort, alloc: Global, minutes: u16, increment: u16, variant: Variant) -> Desk
-    requires pairs { length (board_numbers variant) ≡ 1 }
+/// Desk 1 with a game that began so at moment 0.
+pub fn desk_with(rt: &impl Abort, alloc: Global, sitting: &Sitting) -> Desk
+    requires pairs { HasPairsFor sitting.now.terms sitting.now.seats }
+    requires sessions { AllDiffer (sessions_of sitting.now.seats) }
+    requires names { AllDiffer (names_of sitting.now.seats) }
 {
     let mut desk = Desk::vacant(1);
-    let white = player(rt, ANN, "Ann");
-    let black = player(rt, BEN, "Ben");
-    assert!(rt; white.session != black.session, "two sessions");
-    assert!(rt; white.name.key() != black.name.key(), "two names");
-    let terms = Terms {
-        minutes,
-        increment,
-        variant,
-        colour: None,
-    };
-    let seats = Seats {
-        first: Opponents { white, black },
-        second: None,
-    };
-    let started = desk.start(alloc, SERIAL, terms, &seats, 0);
+    let started = desk.start(alloc, SERIAL, sitting.terms, &sitting.seats, 0);
     assert!(rt; started.is_ok(), "there is memory");
     desk
+}
+
+/// Ann and Ben, who play at one board.
+fn two(
+    rt: &impl Abort,
+    accounts: Accounts,
+    minutes: u16,
+    increment: u16,
+    variant: Variant,
+) -> Sitting
+    requires pairs { length (board_numbers variant) ≡ 1 }
+    ensures pairs { HasPairsFor result.terms result.seats }
+    ensures sessions { AllDiffer (sessions_of result.seats) }
+    ensures names { AllDiffer (names_of result.seats) }
+{
+    let white = player(rt, accounts, ANN, "Ann");
+    let black = player(rt, accounts, BEN, "Ben");
+    assert!(rt; white.session != black.session, "two sessions");
+    assert!(rt; white.name.key() != black.name.key(), "two names");
+    Sitting {
+        terms: Terms {
+            minutes,
+            increment,
+            variant,
+            colour: None,
+        },
+        seats: Seats {
+            first: Opponents { white, black },
+            second: None,
+        },
+    }
 }
 
 /// What stands at a desk as a test begins: nothing at desk 128, or a game at desk 1.
@@ -103,15 +147,46 @@ pub enum Opening {
     House,
     /// An untimed game of bughouse of four.
     Pair,
+    /// A game of chess between Ann and Ben, who have accounts, with these minutes and this increment.
+    Members(u16, u16),
+    /// An untimed game of crazyhouse between the same.
+    MembersHouse,
+    /// An untimed game of chess where Ben has no account.
+    NotBen,
+    /// An untimed game of bughouse of four who have accounts.
+    PairOfMembers,
+    /// The same where Ben has none.
+    PairNotBen,
 }
 
 /// The desk with that, begun at moment 0.
 pub fn desk_of(rt: &impl Abort, alloc: Global, opening: Opening) -> Desk {
     match opening {
         Opening::Vacant => Desk::vacant(128),
-        Opening::Chess(minutes, increment) => desk_with_game(rt, alloc, minutes, increment),
-        Opening::House => desk_with_house(rt, alloc),
-        Opening::Pair => desk_with_pair(rt, alloc),
+        _ => desk_with(rt, alloc, &who_sits(rt, opening)),
+    }
+}
+
+/// Who sits there.
+pub fn who_sits(rt: &impl Abort, opening: Opening) -> Sitting
+    ensures pairs { HasPairsFor result.terms result.seats }
+    ensures sessions { AllDiffer (sessions_of result.seats) }
+    ensures names { AllDiffer (names_of result.seats) }
+{
+    match opening {
+        Opening::Vacant => two(rt, Accounts::Nobody, 0, 0, Variant::Chess),
+        Opening::Chess(minutes, increment) => {
+            two(rt, Accounts::Nobody, minutes, increment, Variant::Chess)
+        }
+        Opening::House => two(rt, Accounts::Nobody, 0, 0, Variant::Crazyhouse),
+        Opening::Pair => four(rt, Accounts::Nobody),
+        Opening::Members(minutes, increment) => {
+            two(rt, Accounts::Everybody, minutes, increment, Variant::Chess)
+        }
+        Opening::MembersHouse => two(rt, Accounts::Everybody, 0, 0, Variant::Crazyhouse),
+        Opening::NotBen => two(rt, Accounts::NotBen, 0, 0, Variant::Chess),
+        Opening::PairOfMembers => four(rt, Accounts::Everybody),
+        Opening::PairNotBen => four(rt, Accounts::NotBen),
     }
 }
 
@@ -181,6 +256,8 @@ fn act_of(does: Does) -> Option<DeskAct>
         Does::Acked(stamp) => Some(DeskAct::Acked {
             stamp: stamp_of(stamp)?,
         }),
+        Does::Make(offer) => Some(DeskAct::Make { offer }),
+        Does::Accept => Some(DeskAct::Accept),
         Does::Resign => Some(DeskAct::Resign),
         Does::Flag => Some(DeskAct::Flag),
         Does::Fetch => Some(DeskAct::Fetch),
@@ -207,7 +284,7 @@ fn move_of(text: &[u8], stamp: Option<u32>) -> Option<DeskAct>
     Some(DeskAct::Move { word, stamp })
 }
 
-fn word_of(text: &[u8]) -> Option<MoveWord> {
+pub fn word_of(text: &[u8]) -> Option<MoveWord> {
     match text {
         [kind, b'@', file, rank] => Some(MoveWord::Drop {
             kind: kind_of(*kind)?,

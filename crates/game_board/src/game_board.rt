@@ -67,7 +67,7 @@ impl Model for GameBoard {
 
 impl GameBoard {
     ghost use Rattle.game_board.specs.Acked.{acknowledged};
-    ghost use Rattle.game_board.specs.Board.{half_moves, new_board, to_move, position_of, has_moved};
+    ghost use Rattle.game_board.specs.Board.{half_moves, made, new_board, to_move, position_of, has_moved};
     ghost use Rattle.game_board.specs.BoardFace.{board_face, last_played, last_shown, last_taken};
     ghost use Rattle.game_board.specs.Charges.{clock_of, is_timed};
     ghost use Rattle.game_board.specs.Play.{captured, move_answer, next_charge, with_half_move, play_reply, play_after};
@@ -127,6 +127,13 @@ impl GameBoard {
             ≡ half_moves self.now.number self.now.list }
     {
         self.list.as_slice()
+    }
+
+    /// The half-moves of this board and of the partner's, in the order in which they were made.
+    pub fn all(&self) -> &[Made]
+        ensures { made result.now ≡ self.now.all }
+    {
+        self.all.as_slice()
     }
 
     /// The colour that is to move.

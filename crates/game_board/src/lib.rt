@@ -30,4 +30,4 @@ pub use laws::{
     scores_are_true, the_last_acknowledgement_counts, the_last_own_half_move_is_shown,
 };
 pub use learn::handed_over_as;
-pub use played::Played;
+pub use played::{Made, Played};

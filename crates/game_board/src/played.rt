@@ -12,10 +12,10 @@ pub struct Played {
 
 /// A half-move on one of the boards of a game.
 #[derive(Clone, Copy)]
-pub(crate) struct Made {
+pub struct Made {
     /// The number of the board, 1 or 2.
-    pub(crate) board: u8,
-    pub(crate) what: Move,
+    pub board: u8,
+    pub what: Move,
 }
 
 /// What a board keeps of a half-move beside it.

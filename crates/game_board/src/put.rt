@@ -1,5 +1,5 @@
 //! Half-moves that come to a board with the charges that they have.
-ghost use Rattle.std.specs.Prelude.{◌≡◌, ◌<◌, IsTrue, IfSome, Ok};
+ghost use Rattle.std.specs.Prelude.{◌≡◌, ◌<◌, IsTrue, IfSome, Ok, length};
 ghost use Rattle.chess_model.specs.Allowed.{Allowed};
 ghost use Rattle.clock_ledger.specs.Charges.{IsChargeable};
 ghost use Rattle.game_board.specs.Board.{position_of};
@@ -17,12 +17,13 @@ impl GameBoard {
     /// half-move is allowed, and it has a charge exactly where the game is timed and it isn't the first of its colour.
     #[tactic(auto, unfolding(crate::specs::Put::takes_played))]
     pub fn takes(&self, half: &Played) -> bool
-        ensures { result ≡ takes_played self.now half.now }
+        ensures value { result ≡ takes_played self.now half.now }
+        ensures short { IsTrue result → length self.now.list < 1200 }
     {
         if self.state().is_end() {
             return false;
         }
-        if self.played() >= MOST_PLAYED {
+        if self.played >= MOST_PLAYED {
             return false;
         }
         if !self.position().allowed(half.what) {

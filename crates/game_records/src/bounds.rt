@@ -39,8 +39,8 @@ fn boards(variant: Variant) -> u8
     }
 }
 
-/// Whether the game has a record.
-pub(crate) fn is_game(game: &StoredGame) -> bool
+/// Whether the game has a record: its terms, players and half-moves keep the bounds of the format.
+pub fn is_game(game: &StoredGame) -> bool
     ensures { IsTrue result ↔ IsGame game.now }
 {
     are_stored_terms(&game.terms)

@@ -21,6 +21,7 @@ mod numbers;
 mod records;
 mod stored_game;
 
+pub use bounds::is_game;
 pub use bytes::Bytes;
 pub use chess_model::{Move, Terms, Variant};
 pub use clock_ledger::Charge;

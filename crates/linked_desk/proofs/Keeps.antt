@@ -1,12 +1,14 @@
 -- What an act keeps of the game at a desk, and what is shared by the acts that end it.
-use Rattle.std.proofs.Common.{◌≡◌, ℕ, ◌==◌, Bool, true, false, if◌then◌else◌, List, [], ◌∷◌, Option, Some, None, refl, All, arith}
+use Rattle.std.proofs.Common.{◌≡◌, ◌≤◌, ◌^◌, ℕ, ◌==◌, Bool, true, false, if◌then◌else◌, List, [], ◌∷◌, ◌++◌, Option, Some, None, refl, All, arith}
 use Rattle.std.specs.Prelude.{◌↔◌, IfSome, IsSome, IsTrue}
 use Rattle.std.specs.Option.{option_map}
 use Rattle.std.proofs.lemmas.List.Elements.{All-nil, All-cons, All-append, All-push}
 use Rattle.chess_model.specs.declared.man.Colour.{Colour}
 use Rattle.chess_model.specs.Placement.{opposite}
 use Rattle.fics_words.specs.declared.seats.Opponents.{Opponents}
-use Rattle.fics_words.specs.Effect.{Effect}
+use Rattle.fics_words.specs.Effect.{Effect, NoneHolds}
+use Rattle.observer_feed.specs.declared.cursor.Cursor.{Cursor}
+use Rattle.offer_book.specs.Offers.{OfferBook}
 use Rattle.style12_writer.specs.declared.item.Item.{Item}
 use Rattle.style12_writer.specs.declared.item.Item.TheVariants as item
 use Rattle.style12_writer.specs.declared.view.BoardView.{BoardView}
@@ -14,19 +16,37 @@ use Rattle.style12_writer.specs.EndLine.{is_decisive}
 use Rattle.game_board.specs.Board.{Board}
 use Rattle.linked_desk.specs.declared.acts.DeskReply.{DeskReply}
 use Rattle.linked_desk.specs.declared.ended.Ended.{Ended}
-use Rattle.linked_desk.specs.Desk.{GameState, occupant}
+use Rattle.linked_desk.specs.Desk.{GameState, moment_at, occupant}
 use Rattle.linked_desk.specs.Ends.{end_item, end_items, ended_by}
 use Rattle.linked_desk.specs.Seats.{pairs_of}
 use Rattle.linked_desk.specs.Sound.{Names, NamesWinner, IsSound, TellsWinners}
 use Rattle.linked_desk.specs.Views.{each_board, with_view, with_item}
 
--- an act keeps who plays, keeps the game sound where the act's numbers fit, and tells ends with their winners; it may
--- run out of memory only where it says so
-pub record Keeps (g : GameState) (fits : Type 0) (needs : Bool) (effect : Effect GameState DeskReply) : Type 0 where
+-- an act keeps who plays, keeps the game sound where the moment and the act's numbers fit and no cause of a refusal
+-- holds, and tells ends with their winners; it may run out of memory only where it says so
+pub record Keeps (g : GameState) (moment : ℕ) (fits : Type 0) (needs : Bool) (effect : Effect GameState DeskReply) : Type 0 where
   pub players : occupant effect.after ≡ occupant g
-  pub sound : fits → IsSound g → IsSound effect.after
+  pub sound : moment ≤ 2 ^ 48 → fits → NoneHolds effect.causes → IsSound g → IsSound effect.after
   pub tells : IsSound g → TellsWinners effect.reply
   pub memory : effect.memory ≡ needs
+
+-- a game stays sound in which nothing changes but what is told and offered, who looks on, and the moment
+pub IsSound-later : (g : GameState) (feed : List Item) (viewers : List Cursor) (remarks last : ℕ) (offers : OfferBook) (tally : List ℕ) →
+    g.last ≤ last → last ≤ 2 ^ 48 → All NamesWinner feed → IsSound g →
+    IsSound (record g { feed = feed; viewers = viewers; remarks = remarks; last = last; offers = offers; tally = tally })
+IsSound-later g feed viewers remarks last offers tally later moment winners s = record {
+  seated = s.seated;
+  boards = s.boards;
+  going = s.going;
+  order = omega (arith, s.order, later);
+  moment = moment;
+  winners = winners;
+  ended = s.ended;
+}
+
+-- an act's moment is no earlier than that of the last act, and no later than the last one that the server knows
+pub timely_at : (g : GameState) (moment : ℕ) → moment ≤ 2 ^ 48 → IsSound g → moment_at g moment ≤ 2 ^ 48
+timely_at g moment timely s = omega (arith, timely, s.moment)
 
 -- what each board and its players have, the list of them has
 pub All-each_board : {T : Type 0} (P : T → Type 0) (of : Opponents → Board → T) (pairs : List Opponents) (boards : List Board) →
@@ -49,45 +69,40 @@ names_by false decisive winner h = names_other decisive winner h
 end_item-names : (desk : ℕ) (e : Ended) → Names e.why e.winner → (players : Opponents) (b : Board) → NamesWinner (end_item desk e players b)
 end_item-names desk e h players b = names_by (b.number == e.board) (is_decisive e.why) e.winner h
 
-pub IsSound-ended_by : (desk : ℕ) (g : GameState) (moment : ℕ) (e : Ended) → Names e.why e.winner → IsSound g → IsSound (ended_by desk g moment e)
-IsSound-ended_by desk g moment e names s = record {
-  numbers = s.numbers;
+-- a game that has ended is sound, whatever stands on its boards
+pub IsSound-over : (g : GameState) (e : Ended) → Names e.why e.winner → IsSound g → IsSound (record g { ended = Some e })
+IsSound-over g e names s = record {
   seated = s.seated;
-  terms = s.terms;
-  scores = s.scores;
-  together = s.together;
-  order = omega (arith, s.order);
-  winners = All-append NamesWinner g.feed (end_items desk g e) s.winners
-      (All-each_board NamesWinner (end_item desk e) (pairs_of g.seats) g.boards (end_item-names desk e names));
+  boards = s.boards;
+  going = λ runs. absurd cc;
+  order = s.order;
+  moment = s.moment;
+  winners = s.winners;
   ended = names;
 }
 
-pub IsSound-with_view : (g : GameState) (view : Option BoardView) → IsSound g → IsSound (with_view g view)
-IsSound-with_view g None s = s
-IsSound-with_view g (Some view) s = record {
-  numbers = s.numbers;
-  seated = s.seated;
-  terms = s.terms;
-  scores = s.scores;
-  together = s.together;
-  order = s.order;
-  winners = All-push NamesWinner g.feed (item.Board view) s.winners tt;
-  ended = s.ended;
-}
+-- so it is once the end is told
+pub IsSound-told_end : (desk : ℕ) (g : GameState) (moment : ℕ) (e : Ended) → Names e.why e.winner → moment ≤ 2 ^ 48 →
+    IsSound (record g { ended = Some e }) → IsSound (ended_by desk g moment e)
+IsSound-told_end desk g moment e names timely s =
+    IsSound-later (record g { ended = Some e }) (g.feed ++ end_items desk g e) g.viewers g.remarks (moment_at g moment) g.offers g.tally (omega arith)
+    (omega (arith, timely, s.moment))
+    (All-append NamesWinner g.feed (end_items desk g e) s.winners
+    (All-each_board NamesWinner (end_item desk e) (pairs_of g.seats) g.boards (end_item-names desk e names))) s
+
+pub IsSound-ended_by : (desk : ℕ) (g : GameState) (moment : ℕ) (e : Ended) → Names e.why e.winner → moment ≤ 2 ^ 48 → IsSound g →
+    IsSound (ended_by desk g moment e)
+IsSound-ended_by desk g moment e names timely s = IsSound-told_end desk g moment e names timely (IsSound-over g e names s)
 
 -- one item more that, if it is an end, names its winner
 pub IsSound-with_item : (g : GameState) (x : Option Item) → IfSome x NamesWinner → IsSound g → IsSound (with_item g x)
 IsSound-with_item g None names s = s
-IsSound-with_item g (Some x) names s = record {
-  numbers = s.numbers;
-  seated = s.seated;
-  terms = s.terms;
-  scores = s.scores;
-  together = s.together;
-  order = s.order;
-  winners = All-push NamesWinner g.feed x s.winners names;
-  ended = s.ended;
-}
+IsSound-with_item g (Some x) names s =
+    IsSound-later g (g.feed ++ x ∷ []) g.viewers g.remarks g.last g.offers g.tally (omega arith) s.moment (All-push NamesWinner g.feed x s.winners names) s
+
+pub IsSound-with_view : (g : GameState) (view : Option BoardView) → IsSound g → IsSound (with_view g view)
+IsSound-with_view g None s = s
+IsSound-with_view g (Some view) s = IsSound-with_item g (Some (item.Board view)) tt s
 
 pub occupant-with_item : (g : GameState) (x : Option Item) → occupant (with_item g x) ≡ occupant g
 occupant-with_item g None = refl

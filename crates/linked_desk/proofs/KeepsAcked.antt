@@ -1,20 +1,19 @@
 -- What an acknowledgement at a desk keeps.
-use Rattle.std.proofs.Common.{◌≡◌, ℕ, ◌*◌, ◌≤◌, Bool, true, false, if◌then◌else◌, List, Option, Some, None, refl, sym, ap, subst, ◌∙◌, arith}
+use Rattle.std.proofs.Common.{◌≡◌, ℕ, ◌≤◌, ◌^◌, Bool, true, false, if◌then◌else◌, List, Option, Some, None, refl, ◌∙◌, arith}
 use Rattle.std.specs.Prelude.{is_some}
 use Rattle.chess_model.specs.declared.man.Colour.{Colour}
 use Rattle.chess_model.specs.Holdings.{same_colour}
 use Rattle.clock_ledger.specs.Span.{IsStamp}
 use Rattle.game_board.specs.Acked.{acknowledged}
 use Rattle.game_board.specs.Board.{Board, to_move}
-use Rattle.game_board.specs.Scoresheet.{IsTrueScore}
-use Rattle.game_board.proofs.Scoresheet.{IsTrueScore-acknowledged}
 use Rattle.linked_desk.specs.Acked.{acked_by, acked_effect}
-use Rattle.linked_desk.specs.Boards.{latest, boards_acked}
+use Rattle.linked_boards.specs.Boards.{latest, boards_acked}
 use Rattle.linked_desk.specs.Desk.{GameState, seat_of, moment_at}
 use Rattle.linked_desk.specs.Seats.{place_of, colour_at}
-use Rattle.linked_desk.specs.Sound.{AreSame, IsSound}
-use Rattle.linked_desk.proofs.BoardLists.{latest-changed_at, map-changed_at, All-changed_at, length-changed_at}
-use Rattle.linked_desk.proofs.Keeps.{Keeps}
+use Rattle.linked_desk.specs.Sound.{IsSound}
+use Rattle.linked_boards.proofs.BoardLists.{latest-changed_at}
+use Rattle.linked_desk.proofs.Keeps.{Keeps, IsSound-later, timely_at}
+use Rattle.linked_desk.proofs.TempLaws.{boards_stay_sound, ends_come_by_moves}
 
 -- what a board and the board with a stamp kept have alike, the acknowledged board has
 alike : {X : Type 0} (of : Board → X) (own : Bool) (b new : Board) → of new ≡ of b → of (if own then new else b) ≡ of b
@@ -29,33 +28,22 @@ same_acknowledged of b c stamp e = alike of (same_colour c (to_move b)) b (recor
 abbrev with_boards : GameState → ℕ → List Board → GameState
 with_boards g moment boards = record g { boards = boards; last = moment_at g moment }
 
-IsSound-same : (g : GameState) (moment : ℕ) → IsSound g → IsSound (with_boards g moment g.boards)
-IsSound-same g moment s = record {
-  numbers = s.numbers;
-  seated = s.seated;
-  terms = s.terms;
-  scores = s.scores;
-  together = s.together;
-  order = omega (arith, s.order);
-  winners = s.winners;
-  ended = s.ended;
-}
+IsSound-same : (g : GameState) (moment : ℕ) → moment ≤ 2 ^ 48 → IsSound g → IsSound (with_boards g moment g.boards)
+IsSound-same g moment timely s =
+    IsSound-later g g.feed g.viewers g.remarks (moment_at g moment) g.offers g.tally (omega arith) (timely_at g moment timely s) s.winners s
 
-IsSound-acked : (g : GameState) (moment place : ℕ) (colour : Colour) (stamp : ℕ) → IsStamp stamp → IsSound g →
+IsSound-acked : (g : GameState) (moment place : ℕ) (colour : Colour) (stamp : ℕ) → IsStamp stamp → moment ≤ 2 ^ 48 → IsSound g →
     IsSound (with_boards g moment (boards_acked g.boards place colour stamp))
-IsSound-acked g moment place colour stamp stamped s =
+IsSound-acked g moment place colour stamp stamped timely s =
     let after : Board → Board = λ b. acknowledged b colour stamp in
     let early : latest g.boards ≤ moment_at g moment = omega (arith, s.order) in
     record {
-      numbers = map-changed_at (λ (c : Board). c.number) g.boards place after (λ b. same_acknowledged (λ c. c.number) b colour stamp refl) ∙ s.numbers;
-      seated = s.seated ∙ ap (λ n. 2 * n) (sym (length-changed_at g.boards place after));
-      terms = All-changed_at (λ (b : Board). b.terms ≡ g.terms) g.boards place after
-          (λ b there same. same_acknowledged (λ c. c.terms) b colour stamp refl ∙ same) s.terms;
-      scores = All-changed_at IsTrueScore g.boards place after (λ b there score. IsTrueScore-acknowledged b colour stamp score stamped) s.scores;
-      together = subst AreSame
-          (sym (map-changed_at (λ (c : Board). c.all) g.boards place after (λ b. same_acknowledged (λ c. c.all) b colour stamp refl))) s.together;
+      seated = s.seated;
+      boards = boards_stay_sound.acked g.terms g.boards place colour stamp s.boards stamped;
+      going = λ runs. ends_come_by_moves.acked g.boards place colour stamp (s.going runs);
       order = latest-changed_at g.boards place (moment_at g moment) after
           (λ b h. let same : (acknowledged b colour stamp).begin ≡ b.begin = same_acknowledged (λ c. c.begin) b colour stamp refl in omega arith) early;
+      moment = timely_at g moment timely s;
       winners = s.winners;
       ended = s.ended;
     }
@@ -65,16 +53,17 @@ sound_either : (over : Bool) (g : GameState) (moment : ℕ) (boards : List Board
 sound_either true g moment boards s t = s
 sound_either false g moment boards s t = t
 
-sound_acked_by : (g : GameState) (moment : ℕ) (seat : Option ℕ) (stamp : ℕ) → IsStamp stamp → IsSound g → IsSound (with_boards g moment (acked_by g seat stamp))
-sound_acked_by g moment None stamp stamped s = IsSound-same g moment s
-sound_acked_by g moment (Some seat) stamp stamped s =
-    sound_either (is_some g.ended) g moment (boards_acked g.boards (place_of seat) (colour_at seat) stamp) (IsSound-same g moment s)
-    (IsSound-acked g moment (place_of seat) (colour_at seat) stamp stamped s)
+sound_acked_by : (g : GameState) (moment : ℕ) (seat : Option ℕ) (stamp : ℕ) → moment ≤ 2 ^ 48 → IsStamp stamp → IsSound g →
+    IsSound (with_boards g moment (acked_by g seat stamp))
+sound_acked_by g moment None stamp timely stamped s = IsSound-same g moment timely s
+sound_acked_by g moment (Some seat) stamp timely stamped s =
+    sound_either (is_some g.ended) g moment (boards_acked g.boards (place_of seat) (colour_at seat) stamp) (IsSound-same g moment timely s)
+    (IsSound-acked g moment (place_of seat) (colour_at seat) stamp stamped timely s)
 
-pub Keeps-acked_effect : (g : GameState) (session moment stamp : ℕ) → Keeps g (IsStamp stamp) false (acked_effect g session moment stamp)
+pub Keeps-acked_effect : (g : GameState) (session moment stamp : ℕ) → Keeps g moment (IsStamp stamp) false (acked_effect g session moment stamp)
 Keeps-acked_effect g session moment stamp = record {
   players = refl;
-  sound = sound_acked_by g moment (seat_of g session) stamp;
+  sound = λ timely stamped passed. sound_acked_by g moment (seat_of g session) stamp timely stamped;
   tells = λ s. tt;
   memory = refl;
 }

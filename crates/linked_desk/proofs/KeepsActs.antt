@@ -1,6 +1,6 @@
 -- What each act at a desk keeps, in one table; and what follows for a desk, whatever the act.
-use Rattle.std.proofs.Common.{◌≡◌, ◌≢◌, ℕ, ◌==◌, Bool, true, false, if◌then◌else◌, [], Option, Some, None, refl, sym, ap, ◌∙◌}
-use Rattle.fics_words.specs.Effect.{Effect, first_cause, answered, unless}
+use Rattle.std.proofs.Common.{◌≡◌, ◌≢◌, ◌≤◌, ◌^◌, ℕ, ◌==◌, Bool, true, false, if◌then◌else◌, [], Option, Some, None, refl, sym, ap, ◌∙◌}
+use Rattle.fics_words.specs.Effect.{Effect, NoneHolds, first_cause, answered, unless}
 use Rattle.fics_words.specs.declared.refusal.Refusal.{Refusal}
 use Rattle.linked_desk.specs.declared.acts.DeskAct.{DeskAct}
 use Rattle.linked_desk.specs.declared.acts.DeskAct.TheVariants as act
@@ -8,6 +8,7 @@ use Rattle.linked_desk.specs.declared.acts.DeskReply.{DeskReply}
 use Rattle.linked_desk.specs.Acts.{FitsDeskAct, game_effect, missing_effect, at_desk, effect_by, desk_effect, desk_answer, desk_after, needs_memory, items_told}
 use Rattle.linked_desk.specs.Desk.{GameState, DeskState, occupant_of}
 use Rattle.linked_desk.specs.Sound.{HasSoundGame, TellsWinners, AnswersSoundly}
+use Rattle.linked_desk.proofs.Causes.{none_holds}
 use Rattle.linked_desk.proofs.Keeps.{Keeps}
 use Rattle.linked_desk.proofs.KeepsAcceptOffer.{Keeps-accept_effect}
 use Rattle.linked_desk.proofs.KeepsAcked.{Keeps-acked_effect}
@@ -23,7 +24,7 @@ use Rattle.linked_desk.proofs.KeepsShow.{Keeps-show_effect}
 use Rattle.linked_desk.proofs.KeepsWatch.{Keeps-watch_effect, Keeps-unwatch_effect}
 
 -- the table of the acts
-pub Keeps-game_effect : (desk : ℕ) (g : GameState) (session moment : ℕ) (a : DeskAct) → Keeps g (FitsDeskAct a) (needs_memory a) (game_effect desk g session moment a)
+pub Keeps-game_effect : (desk : ℕ) (g : GameState) (session moment : ℕ) (a : DeskAct) → Keeps g moment (FitsDeskAct a) (needs_memory a) (game_effect desk g session moment a)
 Keeps-game_effect desk g session moment (act.Move word stamp) = Keeps-move_effect desk g session moment word stamp
 Keeps-game_effect desk g session moment (act.Acked stamp) = Keeps-acked_effect g session moment stamp
 Keeps-game_effect desk g session moment (act.Make offer) = Keeps-make_effect desk g session moment offer
@@ -39,19 +40,19 @@ Keeps-game_effect desk g session moment act.Show = Keeps-show_effect desk g mome
 Keeps-game_effect desk g session moment (act.Remark text) = Keeps-remark_effect g session moment text
 
 -- what an act keeps of a desk: its number, who plays there, a sound game, and what it tells
-pub record KeepsDesk (d : DeskState) (fits : Type 0) (needs : Bool) (effect : Effect DeskState DeskReply) : Type 0 where
+pub record KeepsDesk (d : DeskState) (moment : ℕ) (fits : Type 0) (needs : Bool) (effect : Effect DeskState DeskReply) : Type 0 where
   pub number : effect.after.number ≡ d.number
   pub players : occupant_of effect.after ≡ occupant_of d
-  pub sound : fits → HasSoundGame d → HasSoundGame effect.after
+  pub sound : moment ≤ 2 ^ 48 → fits → NoneHolds effect.causes → HasSoundGame d → HasSoundGame effect.after
   pub tells : HasSoundGame d → TellsWinners effect.reply
   pub memory : effect.memory ≡ true → needs ≡ true
 
-KeepsDesk-missing : (d : DeskState) (fits : Type 0) (memory : Bool) (a : DeskAct) → KeepsDesk d fits memory (missing_effect d a)
-KeepsDesk-missing d fits memory a = record { number = refl; players = refl; sound = λ f s. s; tells = λ s. tt; memory = λ e. absurd cc }
+KeepsDesk-missing : (d : DeskState) (moment : ℕ) (fits : Type 0) (memory : Bool) (a : DeskAct) → KeepsDesk d moment fits memory (missing_effect d a)
+KeepsDesk-missing d moment fits memory a = record { number = refl; players = refl; sound = λ t f p s. s; tells = λ s. tt; memory = λ e. absurd cc }
 
-KeepsDesk-at_desk : (number : ℕ) (g : GameState) (fits : Type 0) (memory : Bool) (effect : Effect GameState DeskReply) → Keeps g fits memory effect →
-    KeepsDesk (record { number = number; game = Some g }) fits memory (at_desk (record { number = number; game = Some g }) effect)
-KeepsDesk-at_desk number g fits memory effect k = record {
+KeepsDesk-at_desk : (number : ℕ) (g : GameState) (moment : ℕ) (fits : Type 0) (memory : Bool) (effect : Effect GameState DeskReply) → Keeps g moment fits memory effect →
+    KeepsDesk (record { number = number; game = Some g }) moment fits memory (at_desk (record { number = number; game = Some g }) effect)
+KeepsDesk-at_desk number g moment fits memory effect k = record {
   number = refl;
   players = ap Some k.players;
   sound = k.sound;
@@ -59,21 +60,21 @@ KeepsDesk-at_desk number g fits memory effect k = record {
   memory = λ e. sym k.memory ∙ e;
 }
 
-KeepsDesk-either : (b : Bool) (d : DeskState) (fits : Type 0) (memory : Bool) (one another : Effect DeskState DeskReply) → KeepsDesk d fits memory one →
-    KeepsDesk d fits memory another → KeepsDesk d fits memory (if b then one else another)
-KeepsDesk-either true d fits memory one another k l = k
-KeepsDesk-either false d fits memory one another k l = l
+KeepsDesk-either : (b : Bool) (d : DeskState) (moment : ℕ) (fits : Type 0) (memory : Bool) (one another : Effect DeskState DeskReply) → KeepsDesk d moment fits memory one →
+    KeepsDesk d moment fits memory another → KeepsDesk d moment fits memory (if b then one else another)
+KeepsDesk-either true d moment fits memory one another k l = k
+KeepsDesk-either false d moment fits memory one another k l = l
 
 KeepsDesk-effect_by : (number : ℕ) (game : Option GameState) (session moment serial : ℕ) (a : DeskAct) →
-    KeepsDesk (record { number = number; game = game }) (FitsDeskAct a) (needs_memory a) (effect_by (record { number = number; game = game }) game session moment serial a)
-KeepsDesk-effect_by number None session moment serial a = KeepsDesk-missing (record { number = number; game = None }) (FitsDeskAct a) (needs_memory a) a
+    KeepsDesk (record { number = number; game = game }) moment (FitsDeskAct a) (needs_memory a) (effect_by (record { number = number; game = game }) game session moment serial a)
+KeepsDesk-effect_by number None session moment serial a = KeepsDesk-missing (record { number = number; game = None }) moment (FitsDeskAct a) (needs_memory a) a
 KeepsDesk-effect_by number (Some g) session moment serial a =
     let d : DeskState = record { number = number; game = Some g } in
-    KeepsDesk-either (g.serial == serial) d (FitsDeskAct a) (needs_memory a) (at_desk d (game_effect number g session moment a)) (missing_effect d a)
-    (KeepsDesk-at_desk number g (FitsDeskAct a) (needs_memory a) (game_effect number g session moment a) (Keeps-game_effect number g session moment a))
-    (KeepsDesk-missing d (FitsDeskAct a) (needs_memory a) a)
+    KeepsDesk-either (g.serial == serial) d moment (FitsDeskAct a) (needs_memory a) (at_desk d (game_effect number g session moment a)) (missing_effect d a)
+    (KeepsDesk-at_desk number g moment (FitsDeskAct a) (needs_memory a) (game_effect number g session moment a) (Keeps-game_effect number g session moment a))
+    (KeepsDesk-missing d moment (FitsDeskAct a) (needs_memory a) a)
 
-pub KeepsDesk-desk_effect : (d : DeskState) (session moment serial : ℕ) (a : DeskAct) → KeepsDesk d (FitsDeskAct a) (needs_memory a) (desk_effect d session moment serial a)
+pub KeepsDesk-desk_effect : (d : DeskState) (session moment serial : ℕ) (a : DeskAct) → KeepsDesk d moment (FitsDeskAct a) (needs_memory a) (desk_effect d session moment serial a)
 KeepsDesk-desk_effect d session moment serial a = KeepsDesk-effect_by d.number d.game session moment serial a
 
 number-unless : (refused : Option Refusal) (old new : DeskState) → new.number ≡ old.number → (unless refused old new).number ≡ old.number
@@ -84,8 +85,8 @@ players-unless : (refused : Option Refusal) (old new : DeskState) → occupant_o
 players-unless None old new e = e
 players-unless (Some cause) old new e = refl
 
-sound-unless : (refused : Option Refusal) (old new : DeskState) → HasSoundGame old → HasSoundGame new → HasSoundGame (unless refused old new)
-sound-unless None old new s t = t
+sound-unless : (refused : Option Refusal) (old new : DeskState) → HasSoundGame old → (refused ≡ None → HasSoundGame new) → HasSoundGame (unless refused old new)
+sound-unless None old new s t = t refl
 sound-unless (Some cause) old new s t = s
 
 soundly-answered : (refused : Option Refusal) (reply : DeskReply) → TellsWinners reply → AnswersSoundly (answered refused reply)
@@ -105,10 +106,12 @@ players-desk_after d session moment serial a =
     players-unless (first_cause effect.causes) d effect.after (KeepsDesk-desk_effect d session moment serial a).players
 
 -- and a sound game, if it had one
-pub sound-desk_after : (d : DeskState) (session moment serial : ℕ) (a : DeskAct) → FitsDeskAct a → HasSoundGame d → HasSoundGame (desk_after d session moment serial a)
-sound-desk_after d session moment serial a fits s =
+pub sound-desk_after : (d : DeskState) (session moment serial : ℕ) (a : DeskAct) → moment ≤ 2 ^ 48 → FitsDeskAct a → HasSoundGame d →
+    HasSoundGame (desk_after d session moment serial a)
+sound-desk_after d session moment serial a timely fits s =
     let effect = desk_effect d session moment serial a in
-    sound-unless (first_cause effect.causes) d effect.after s ((KeepsDesk-desk_effect d session moment serial a).sound fits s)
+    sound-unless (first_cause effect.causes) d effect.after s
+    (λ passed. (KeepsDesk-desk_effect d session moment serial a).sound timely fits (none_holds effect.causes passed) s)
 
 -- the ends that it answers have their winners
 pub sound-desk_answer : (d : DeskState) (session moment serial : ℕ) (a : DeskAct) → HasSoundGame d → AnswersSoundly (desk_answer d session moment serial a)

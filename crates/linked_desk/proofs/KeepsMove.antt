@@ -1,146 +1,134 @@
 -- What a move at a desk keeps.
-use Rattle.std.proofs.Common.{◌≡◌, ℕ, ◌*◌, ◌≤◌, true, List, map, Option, Some, None, IfSome, Result, Ok, Err, refl, sym, ap, subst, ◌∙◌, arith}
-use Rattle.std.specs.Prelude.{IsSome, slice_get}
-use Rattle.chess_model.specs.declared.man.Colour.{Colour}
+use Rattle.std.proofs.Common.{◌≡◌, ◌≤◌, ◌^◌, ℕ, Bool, true, false, List, All, Option, Some, None, IfSome, Result, Ok, Err, refl, sym, subst, ◌∙◌, arith}
+use Rattle.std.specs.Prelude.{is_some, slice_get}
+use Rattle.std.specs.Option.{option_and_then, option_map}
+use Rattle.std.proofs.lemmas.List.Elements.{All-push}
 use Rattle.chess_model.specs.declared.man.Man.{Man}
 use Rattle.chess_model.specs.declared.moves.Move.{Move}
 use Rattle.chess_model.specs.declared.moves.MoveWord.{MoveWord}
-use Rattle.chess_model.specs.declared.variant.Terms.{Terms}
-use Rattle.chess_model.specs.declared.variant.Variant.TheVariants.{Bughouse}
-use Rattle.chess_model.specs.Allowed.{Allowed}
+use Rattle.chess_model.specs.Result.{result, is_end}
 use Rattle.clock_ledger.specs.Span.{IsStamp}
 use Rattle.fics_words.specs.declared.refusal.Refusal.{Refusal}
-use Rattle.game_board.specs.Board.{Board}
-use Rattle.game_board.specs.Learn.{partner_position}
+use Rattle.fics_words.specs.Effect.{NoneHolds}
+use Rattle.game_board.specs.Board.{Board, position_of}
 use Rattle.game_board.specs.Play.{play_after}
-use Rattle.game_board.specs.Scoresheet.{IsTrueScore}
-use Rattle.game_board.proofs.Scoresheet.{IsTrueScore-play_after}
-use Rattle.linked_desk.specs.Boards.{word_at, reply_at, latest, boards_after, changed_at, other_place, told_answer}
+use Rattle.offer_book.specs.Offers.{after_half_move, where_stand}
+use Rattle.style12_writer.specs.declared.item.Item.{Item}
+use Rattle.style12_writer.specs.declared.item.Item.TheVariants as item
+use Rattle.style12_writer.specs.declared.view.BoardView.{BoardView}
+use Rattle.linked_boards.specs.Boards.{reply_at, latest, boards_after, changed_at, other_place, told_answer}
+use Rattle.linked_boards.proofs.BoardLists.{latest-changed_at}
+use Rattle.linked_boards.proofs.Pairs.{same_told}
+use Rattle.linked_desk.specs.declared.ended.Ended.{Ended}
 use Rattle.linked_desk.specs.Desk.{GameState, seat_of, moment_at, occupant}
+use Rattle.linked_desk.specs.Finish.{end_at, end_on, finished}
 use Rattle.linked_desk.specs.Hands.{hands_at, partner_hands_at}
-use Rattle.linked_desk.specs.Playing.{seat_word, captured_by, with_cleared, with_hands, with_partner_hands, moved_by, move_effect}
+use Rattle.linked_desk.specs.Playing.{seat_word, captured_by, held_moved, moved, with_cleared, with_hands, with_partner_hands, moved_by, move_effect}
 use Rattle.linked_desk.specs.Seats.{place_of, colour_at}
-use Rattle.linked_desk.specs.Sound.{IsSound}
-use Rattle.linked_desk.specs.Views.{views_of, with_board_item}
-use Rattle.linked_desk.proofs.BoardLists.{begin-latest, latest-changed_at, map-changed_at, All-at, All-changed_at, AreSame-at, else-changed_at, length-changed_at}
-use Rattle.linked_desk.proofs.Finishing.{IsSound-finished, occupant-finished}
+use Rattle.linked_desk.specs.Sound.{IsSound, Names, NamesWinner}
+use Rattle.linked_boards.specs.Sound.{GoOn}
+use Rattle.linked_desk.specs.Views.{feed_with, views_of, with_board_item}
+use Rattle.linked_desk.proofs.Finishing.{IsSound-with_end, end_on-names, goes_on, occupant-finished}
 use Rattle.linked_desk.proofs.Holding.{names_hands_at, names_partner_hands_at}
-use Rattle.linked_desk.proofs.Keeps.{Keeps, IsSound-with_view, IsSound-with_item, occupant-with_view, occupant-with_item}
-use Rattle.linked_desk.proofs.Pairs.{all_at, allowed_there, number_at, numbers_linked, same_told, told_score, together_after, word_played}
+use Rattle.linked_desk.proofs.Keeps.{Keeps, IsSound-later, timely_at, occupant-with_view, occupant-with_item}
+use Rattle.linked_desk.proofs.Telling.{told_of, with_hands-told}
+use Rattle.linked_desk.proofs.TempLaws.{boards_stay_sound, ends_come_by_moves}
 
 -- who is to move thinks from no later moment than that of the act
 begin-played : (b : Board) (moment : ℕ) (stamp : Option ℕ) (answer : Result Move Refusal) → b.begin ≤ moment → (play_after b moment stamp answer).begin ≤ moment
 begin-played b moment stamp (Ok m) h = omega arith
 begin-played b moment stamp (Err cause) h = h
 
-number-played : (b : Board) (moment : ℕ) (stamp : Option ℕ) (answer : Result Move Refusal) → (play_after b moment stamp answer).number ≡ b.number
-number-played b moment stamp (Ok m) = refl
-number-played b moment stamp (Err cause) = refl
-
-terms-played : (b : Board) (moment : ℕ) (stamp : Option ℕ) (answer : Result Move Refusal) → (play_after b moment stamp answer).terms ≡ b.terms
-terms-played b moment stamp (Ok m) = refl
-terms-played b moment stamp (Err cause) = refl
-
 -- the game with the half-move played, before anybody is told
 abbrev pub played : GameState → ℕ → ℕ → Option ℕ → Result Move Refusal → GameState
 played g moment place stamp answer =
     record g { boards = boards_after g.boards place (moment_at g moment) stamp answer; last = moment_at g moment }
 
--- a word at a board leaves a true score there
-true_score : (g : GameState) (place moment : ℕ) (colour : Colour) (word : MoveWord) (stamp : Option ℕ) → IfSome stamp IsStamp → IsSound g → (b : Board) →
-    slice_get g.boards place ≡ Some b → IsTrueScore b →
-    IsTrueScore (play_after b (moment_at g moment) stamp (word_at (slice_get g.boards place) colour word))
-true_score g place moment colour word stamp stamped s b there score =
-    let before : b.begin ≤ latest g.boards = begin-latest g.boards place b there in
-    let order : b.begin ≤ moment_at g moment = omega (arith, s.order) in
-    subst (λ (o : Option Board). IsTrueScore (play_after b (moment_at g moment) stamp (word_at o colour word))) (sym there)
-    (IsTrueScore-play_after b colour word (moment_at g moment) stamp score order stamped)
-
--- what the board in the other place is told of a word was allowed at this one, and the two are a pair
-known_there : (g : GameState) (place : ℕ) (colour : Colour) (word : MoveWord) → IsSound g → (other : Board) → slice_get g.boards (other_place place) ≡ Some other → (m : Move) →
-    word_at (slice_get g.boards place) colour word ≡ Ok m → (other.terms.variant ≡ Bughouse) × Allowed (partner_position other) m
-known_there g place colour word s other there m e =
-    let found = word_played (slice_get g.boards place) colour word m e in
-    let own : Board = found.0 in
-    let here : slice_get g.boards place ≡ Some own = found.1 in
-    let linked = numbers_linked g.terms.variant place own.number other.number
-    (number_at g.terms.variant g.boards place own s.numbers here) (number_at g.terms.variant g.boards (other_place place) other s.numbers there) in
-    let own_terms : own.terms ≡ g.terms = All-at (λ (b : Board). b.terms ≡ g.terms) g.boards place own s.terms here in
-    let other_terms : other.terms ≡ g.terms = All-at (λ (b : Board). b.terms ≡ g.terms) g.boards (other_place place) other s.terms there in
-    let all : own.all ≡ other.all = AreSame-at (map (λ (b : Board). b.all) g.boards) place (other_place place) own.all other.all s.together
-    (all_at g.boards place own here) (all_at g.boards (other_place place) other there) in
-    (ap (λ (t : Terms). t.variant) other_terms ∙ linked.0, allowed_there own other m (own_terms ∙ sym other_terms) all linked.1 found.2)
-
-word_there : (o : Option Board) (colour : Colour) (word : MoveWord) (m : Move) → word_at o colour word ≡ Ok m → IsSome o
-word_there None colour word m e = absurd cc
-word_there (Some own) colour word m e = refl
-
-IsSound-played : (g : GameState) (moment place : ℕ) (colour : Colour) (word : MoveWord) (stamp : Option ℕ) → IfSome stamp IsStamp → IsSound g →
-    IsSound (played g moment place stamp (word_at (slice_get g.boards place) colour word))
-IsSound-played g moment place colour word stamp stamped s =
-    let answer : Result Move Refusal = word_at (slice_get g.boards place) colour word in
+order_played : (g : GameState) (moment place : ℕ) (stamp : Option ℕ) (answer : Result Move Refusal) → latest g.boards ≤ g.last →
+    latest (boards_after g.boards place (moment_at g moment) stamp answer) ≤ moment_at g moment
+order_played g moment place stamp answer order =
     let after : Board → Board = λ b. play_after b (moment_at g moment) stamp answer in
     let tell : Board → Board = λ b. told_answer b answer in
-    let mid : List Board = changed_at g.boards place after in
-    let early : latest g.boards ≤ moment_at g moment = omega (arith, s.order) in
-    let untouched : (b : Board) → slice_get mid (other_place place) ≡ Some b → slice_get g.boards (other_place place) ≡ Some b =
-    λ b there. sym (else-changed_at g.boards place (other_place place) after (λ same. omega (arith, same))) ∙ there in
-    record {
-      numbers = map-changed_at (λ (b : Board). b.number) mid (other_place place) tell (λ b. same_told (λ c. c.number) b answer (λ T. refl))
-          ∙ map-changed_at (λ (b : Board). b.number) g.boards place after (λ b. number-played b (moment_at g moment) stamp answer)
-          ∙ s.numbers;
-      seated = s.seated ∙ ap (λ n. 2 * n) (sym (length-changed_at mid (other_place place) tell ∙ length-changed_at g.boards place after));
-      terms = All-changed_at (λ (b : Board). b.terms ≡ g.terms) mid (other_place place) tell
-          (λ b there same. same_told (λ c. c.terms) b answer (λ T. refl) ∙ same)
-          (All-changed_at (λ (b : Board). b.terms ≡ g.terms) g.boards place after
-          (λ b there same. terms-played b (moment_at g moment) stamp answer ∙ same) s.terms);
-      scores = All-changed_at IsTrueScore mid (other_place place) tell
-          (λ b there score. told_score b answer score (known_there g place colour word s b (untouched b there)))
-          (All-changed_at IsTrueScore g.boards place after (true_score g place moment colour word stamp stamped s) s.scores);
-      together = together_after g.terms.variant g.boards place (moment_at g moment) stamp answer s.numbers (λ m e. word_there (slice_get g.boards place) colour word m e) s.together;
-      order = latest-changed_at mid (other_place place) (moment_at g moment) tell
-          (λ b h. let same : (told_answer b answer).begin ≡ b.begin = same_told (λ c. c.begin) b answer (λ T. refl) in omega (arith, same, h))
-          (latest-changed_at g.boards place (moment_at g moment) after (λ b. begin-played b (moment_at g moment) stamp answer) early);
-      winners = s.winners;
-      ended = s.ended;
-    }
+    latest-changed_at (changed_at g.boards place after) (other_place place) (moment_at g moment) tell
+    (λ b h. let same : (told_answer b answer).begin ≡ b.begin = same_told (λ c. c.begin) b answer (λ T. refl) in omega (arith, same, h))
+    (latest-changed_at g.boards place (moment_at g moment) after (λ b. begin-played b (moment_at g moment) stamp answer) (omega (arith, order)))
+
+-- the game once a seat's word was played, which goes on or has this end
+IsSound-played : (g : GameState) (moment seat : ℕ) (word : MoveWord) (stamp : Option ℕ) (end : Option Ended) → moment ≤ 2 ^ 48 → IfSome stamp IsStamp → g.ended ≡ None →
+    IfSome end (λ e. Names e.why e.winner) →
+    (end ≡ None → GoOn (boards_after g.boards (place_of seat) (moment_at g moment) stamp (seat_word g seat word))) → IsSound g →
+    IsSound (record (played g moment (place_of seat) stamp (seat_word g seat word)) { ended = end })
+IsSound-played g moment seat word stamp end timely stamped runs names going s = record {
+  seated = s.seated;
+  boards = boards_stay_sound.play g.terms g.boards (place_of seat) (moment_at g moment) (colour_at seat) word stamp s.boards (s.going runs) (omega (arith, s.order))
+      (timely_at g moment timely s) stamped;
+  going = going;
+  order = order_played g moment (place_of seat) stamp (seat_word g seat word) s.order;
+  moment = timely_at g moment timely s;
+  winners = s.winners;
+  ended = names;
+}
+
+-- a feed with one item more that, if it is an end, names its winner
+names_with : (feed : List Item) (x : Option Item) → IfSome x NamesWinner → All NamesWinner feed → All NamesWinner (feed_with feed x)
+names_with feed None h all = all
+names_with feed (Some x) h all = All-push NamesWinner feed x all h
+
+names_view : (view : Option BoardView) → IfSome (option_map item.Board view) NamesWinner
+names_view None = tt
+names_view (Some view) = tt
+
+names_told : (desk : ℕ) (g : GameState) (place : ℕ) (man : Option Man) → All NamesWinner g.feed → All NamesWinner (told_of desk g place man).feed
+names_told desk g place man names =
+    let shown : List Item = feed_with g.feed (option_map item.Board (slice_get (views_of desk g) place)) in
+    names_with (feed_with shown (hands_at desk g place man)) (partner_hands_at desk g place man) (names_partner_hands_at desk g place man)
+    (names_with shown (hands_at desk g place man) (names_hands_at desk g place man)
+    (names_with g.feed (option_map item.Board (slice_get (views_of desk g) place)) (names_view (slice_get (views_of desk g) place)) names))
+
+-- a game that is told goes on or has its end as before
+IsSound-told_of : (desk : ℕ) (g : GameState) (place : ℕ) (man : Option Man) (end : Option Ended) → IsSound (record g { ended = end }) →
+    IsSound (record (told_of desk g place man) { ended = end })
+IsSound-told_of desk g place man end s =
+    IsSound-later (record g { ended = end }) (told_of desk g place man).feed g.viewers g.remarks g.last g.offers g.tally (omega arith) s.moment
+    (names_told desk g place man s.winners) s
+
+goes_on_at : (o : Option Board) → option_and_then end_on o ≡ None → IfSome o (λ b. is_end (result (position_of b)) ≡ false)
+goes_on_at None e = tt
+goes_on_at (Some b) e = goes_on b e
 
 -- the man that a seat's word captures, if it does
 abbrev captured_of : GameState → ℕ → MoveWord → Option Man
 captured_of g seat word = captured_by (reply_at (slice_get g.boards (place_of seat)) (seat_word g seat word))
 
-IsSound-with_hands : (desk place : ℕ) (man : Option Man) (g : GameState) → IsSound g → IsSound (with_hands desk place man g)
-IsSound-with_hands desk place man g s = IsSound-with_item g (hands_at desk g place man) (names_hands_at desk g place man) s
-
-IsSound-with_partner_hands : (desk place : ℕ) (man : Option Man) (g : GameState) → IsSound g → IsSound (with_partner_hands desk place man g)
-IsSound-with_partner_hands desk place man g s = IsSound-with_item g (partner_hands_at desk g place man) (names_partner_hands_at desk g place man) s
-
 -- what is offered has no part in it
 IsSound-with_cleared : (seat : ℕ) (g : GameState) → IsSound g → IsSound (with_cleared seat g)
-IsSound-with_cleared seat g s = record {
-  numbers = s.numbers;
-  seated = s.seated;
-  terms = s.terms;
-  scores = s.scores;
-  together = s.together;
-  order = s.order;
-  winners = s.winners;
-  ended = s.ended;
-}
+IsSound-with_cleared seat g s =
+    IsSound-later g g.feed g.viewers g.remarks g.last (where_stand (after_half_move seat g.offers.standing) g.offers) g.tally (omega arith) s.moment s.winners s
 
-sound_moved_by : (desk : ℕ) (g : GameState) (moment : ℕ) (seat : Option ℕ) (word : MoveWord) (stamp : Option ℕ) → IfSome stamp IsStamp → IsSound g →
-    IsSound (moved_by desk g moment seat word stamp)
-sound_moved_by desk g moment None word stamp stamped s = s
-sound_moved_by desk g moment (Some seat) word stamp stamped s =
-    let cleared : GameState = with_cleared seat g in
-    let after : GameState = played cleared moment (place_of seat) stamp (seat_word g seat word) in
-    let shown : GameState = with_board_item desk (place_of seat) after in
+IsSound-moved : (desk : ℕ) (g : GameState) (moment seat : ℕ) (word : MoveWord) (stamp : Option ℕ) → moment ≤ 2 ^ 48 → IfSome stamp IsStamp → g.ended ≡ None → IsSound g →
+    IsSound (moved desk g moment (place_of seat) stamp (seat_word g seat word))
+IsSound-moved desk g moment seat word stamp timely stamped runs s =
+    let place : ℕ = place_of seat in
+    let after : GameState = played g moment place stamp (seat_word g seat word) in
     let man : Option Man = captured_of g seat word in
-    let held : GameState = with_hands desk (place_of seat) man shown in
-    IsSound-finished desk (with_partner_hands desk (place_of seat) man held) moment (place_of seat)
-    (IsSound-with_partner_hands desk (place_of seat) man held
-    (IsSound-with_hands desk (place_of seat) man shown
-    (IsSound-with_view after (slice_get (views_of desk after) (place_of seat)) (IsSound-played cleared moment (place_of seat) (colour_at seat) word stamp stamped (IsSound-with_cleared seat g s)))))
+    let told : GameState = told_of desk after place man in
+    let end : Option Ended = end_at after place in
+    let names : IfSome end (λ e. Names e.why e.winner) = end_on-names (slice_get after.boards place) in
+    let going : end ≡ None → GoOn after.boards = λ none.
+        ends_come_by_moves.play g.terms g.boards place (moment_at g moment) (colour_at seat) word stamp s.boards (s.going runs) (goes_on_at (slice_get after.boards place) none) in
+    subst (λ (h : GameState). IsSound (finished desk h moment place)) (sym (with_hands-told desk after place man))
+    (IsSound-with_end desk told moment end names timely runs
+    (IsSound-told_of desk after place man end (IsSound-played g moment seat word stamp end timely stamped runs names going s)))
+
+not_over : (o : Option Ended) → is_some o ≡ false → o ≡ None
+not_over None e = refl
+not_over (Some x) e = absurd cc
+
+sound_moved_by : (desk : ℕ) (g : GameState) (moment : ℕ) (seat : Option ℕ) (word : MoveWord) (stamp : Option ℕ) → moment ≤ 2 ^ 48 → IfSome stamp IsStamp → g.ended ≡ None →
+    IsSound g → IsSound (moved_by desk g moment seat word stamp)
+sound_moved_by desk g moment None word stamp timely stamped runs s = s
+sound_moved_by desk g moment (Some seat) word stamp timely stamped runs s =
+    IsSound-moved desk (with_cleared seat g) moment seat word stamp timely stamped runs (IsSound-with_cleared seat g s)
 
 occupant-moved_by : (desk : ℕ) (g : GameState) (moment : ℕ) (seat : Option ℕ) (word : MoveWord) (stamp : Option ℕ) →
     occupant (moved_by desk g moment seat word stamp) ≡ occupant g
@@ -156,10 +144,10 @@ occupant-moved_by desk g moment (Some seat) word stamp =
     ∙ occupant-with_view after (slice_get (views_of desk after) (place_of seat))
 
 pub Keeps-move_effect : (desk : ℕ) (g : GameState) (session moment : ℕ) (word : MoveWord) (stamp : Option ℕ) →
-    Keeps g (IfSome stamp IsStamp) true (move_effect desk g session moment word stamp)
+    Keeps g moment (IfSome stamp IsStamp) true (move_effect desk g session moment word stamp)
 Keeps-move_effect desk g session moment word stamp = record {
   players = occupant-moved_by desk g moment (seat_of g session) word stamp;
-  sound = sound_moved_by desk g moment (seat_of g session) word stamp;
+  sound = λ timely stamped passed. sound_moved_by desk g moment (seat_of g session) word stamp timely stamped (not_over g.ended passed.1.0);
   tells = λ s. tt;
   memory = refl;
 }

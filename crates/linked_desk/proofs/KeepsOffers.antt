@@ -1,5 +1,5 @@
 -- What is kept where the offers at a desk change, and where one takes effect.
-use Rattle.std.proofs.Common.{◌≡◌, ℕ, ◌*◌, ◌≤◌, ◌∷◌, [], Bool, true, false, List, map, All, Option, Some, None, IfSome, refl, sym, ap, subst, ◌∙◌, arith}
+use Rattle.std.proofs.Common.{◌≡◌, ℕ, ◌*◌, ◌≤◌, ◌^◌, ◌∷◌, [], Bool, true, false, List, map, All, Option, Some, None, IfSome, refl, sym, ap, subst, ◌∙◌, arith}
 use Rattle.std.specs.Prelude.{slice_get, if◌then◌else◌}
 use Rattle.std.specs.Option.{option_map, option_and_then}
 use Rattle.std.proofs.lemmas.List.Elements.{All-nil, All-head}
@@ -20,32 +20,25 @@ use Rattle.offer_book.specs.Offers.{OfferBook}
 use Rattle.style12_writer.specs.OfferLines.{decline_text, taken_text}
 use Rattle.style12_writer.specs.declared.item.Item.{Item}
 use Rattle.style12_writer.specs.declared.item.Item.TheVariants as item
-use Rattle.linked_desk.specs.Boards.{board_numbers, latest}
+use Rattle.linked_boards.specs.Boards.{board_numbers, latest}
 use Rattle.linked_desk.specs.Desk.{GameState, moment_at, occupant}
 use Rattle.linked_desk.specs.Hands.{first_hands}
-use Rattle.linked_desk.specs.Offering.{agreed, back_by, boards_taken_back, decline_item, end_without_winner, offer_item, offer_text, told, with_count, with_offers, with_taken}
+use Rattle.linked_boards.specs.TakenBack.{back_by, boards_taken_back}
+use Rattle.linked_desk.specs.Offering.{agreed, decline_item, end_without_winner, offer_item, offer_text, told, with_count, with_offers, with_taken}
 use Rattle.linked_desk.specs.Offering as offering
-use Rattle.linked_desk.specs.Sound.{AreSame, IsSound, NamesWinner}
+use Rattle.linked_desk.specs.Sound.{IsSound, NamesWinner}
 use Rattle.linked_desk.specs.Tally.{counted}
 use Rattle.linked_desk.specs.Views.{views_of, with_board_item, with_items}
-use Rattle.linked_desk.proofs.BoardLists.{begin-latest, latest-changed_at, map-changed_at, All-changed_at, length-changed_at}
+use Rattle.linked_boards.proofs.BoardLists.{latest-changed_at}
 use Rattle.linked_desk.proofs.Holding.{names_first}
-use Rattle.linked_desk.proofs.Pairs.{numbers_of_two, never_three}
-use Rattle.linked_desk.proofs.Keeps.{IsSound-ended_by, IsSound-with_view, IsSound-with_item, occupant-with_view, occupant-with_item}
+use Rattle.linked_desk.proofs.TempLaws.{boards_stay_sound, ends_come_by_moves}
+use Rattle.linked_desk.proofs.Keeps.{IsSound-ended_by, IsSound-later, timely_at, IsSound-with_view, IsSound-with_item, occupant-with_view, occupant-with_item}
 
 -- the game with other offers and counts, since a later moment
-pub IsSound-offers : (g : GameState) (offers : OfferBook) (tally : List ℕ) (moment : ℕ) → IsSound g →
+pub IsSound-offers : (g : GameState) (offers : OfferBook) (tally : List ℕ) (moment : ℕ) → moment ≤ 2 ^ 48 → IsSound g →
     IsSound (record g { offers = offers; tally = tally; last = moment_at g moment })
-IsSound-offers g offers tally moment s = record {
-  numbers = s.numbers;
-  seated = s.seated;
-  terms = s.terms;
-  scores = s.scores;
-  together = s.together;
-  order = omega (arith, s.order);
-  winners = s.winners;
-  ended = s.ended;
-}
+IsSound-offers g offers tally moment timely s =
+    IsSound-later g g.feed g.viewers g.remarks (moment_at g moment) offers tally (omega arith) (timely_at g moment timely s) s.winners s
 
 -- a line of text is no end
 talk_names : (of : Player → List ℕ) (p : Option Player) → IfSome (option_map (λ (q : Player). item.Talk (of q)) p) NamesWinner
@@ -58,27 +51,15 @@ offer_item-names g seat offer = talk_names (λ p. offer_text p.name offer) (slic
 pub decline_item-names : (g : GameState) (seat : ℕ) → IfSome (decline_item g seat) NamesWinner
 decline_item-names g seat = talk_names (λ p. decline_text p.name) (slice_get (seat_list g.seats) seat)
 
-pub IsSound-told : (g : GameState) (offers : OfferBook) (seat moment : ℕ) (x : Option Item) → IfSome x NamesWinner → IsSound g →
+pub IsSound-told : (g : GameState) (offers : OfferBook) (seat moment : ℕ) (x : Option Item) → IfSome x NamesWinner → moment ≤ 2 ^ 48 → IsSound g →
     IsSound (told offers seat moment x g)
-IsSound-told g offers seat moment x names s =
+IsSound-told g offers seat moment x names timely s =
     IsSound-with_item (record g { offers = offers; tally = counted g.tally seat; last = moment_at g moment }) x names
-    (IsSound-offers g offers (counted g.tally seat) moment s)
+    (IsSound-offers g offers (counted g.tally seat) moment timely s)
 
 pub occupant-told : (g : GameState) (offers : OfferBook) (seat moment : ℕ) (x : Option Item) → occupant (told offers seat moment x g) ≡ occupant g
 occupant-told g offers seat moment x =
     occupant-with_item (record g { offers = offers; tally = counted g.tally seat; last = moment_at g moment }) x
-
--- what a board and the board with half-moves taken back have alike
-alike : {X : Type 0} (of : Board → X) (few : Bool) (b new : Board) → of new ≡ of b → of (if few then b else new) ≡ of b
-alike of true b new e = refl
-alike of false b new e = e
-
-alike_back : {X : Type 0} (of : Board → X) (v : Variant) (b : Board) (n moment : ℕ) → of (taken_back b n moment) ≡ of b →
-    of (back_by v b n moment) ≡ of b
-alike_back of Chess b n moment e = alike of (has_too_few b n) b (taken_back b n moment) e
-alike_back of Crazyhouse b n moment e = alike of (has_too_few b n) b (taken_back b n moment) e
-alike_back of (Fischer number) b n moment e = alike of (has_too_few b n) b (taken_back b n moment) e
-alike_back of Bughouse b n moment e = refl
 
 begin_either : (few : Bool) (b new : Board) (moment : ℕ) → b.begin ≤ moment → new.begin ≤ moment → (if few then b else new).begin ≤ moment
 begin_either true b new moment h k = h
@@ -90,48 +71,16 @@ begin_back Crazyhouse b n moment h = begin_either (has_too_few b n) b (taken_bac
 begin_back (Fischer number) b n moment h = begin_either (has_too_few b n) b (taken_back b n moment) moment h (omega arith)
 begin_back Bughouse b n moment h = h
 
-chess_is_single : Chess ≡ Bughouse → ⊥
-chess_is_single e = cc
-
-crazyhouse_is_single : Crazyhouse ≡ Bughouse → ⊥
-crazyhouse_is_single e = cc
-
-fischer_is_single : (number : ℕ) → Fischer number ≡ Bughouse → ⊥
-fischer_is_single number e = cc
-
-score_back : (v : Variant) (b : Board) (n moment : ℕ) → b.terms.variant ≡ v → b.begin ≤ moment → IsTrueScore b → IsTrueScore (back_by v b n moment)
-score_back Chess b n moment is h score = IsTrueScore-take_back_after b n moment (λ e. chess_is_single (sym is ∙ e)) score h
-score_back Crazyhouse b n moment is h score = IsTrueScore-take_back_after b n moment (λ e. crazyhouse_is_single (sym is ∙ e)) score h
-score_back (Fischer number) b n moment is h score = IsTrueScore-take_back_after b n moment (λ e. fischer_is_single number (sym is ∙ e)) score h
-score_back Bughouse b n moment is h score = score
-
--- of one board there is one list, and the boards of a pair stay as they are
-back_by-pair : (v : Variant) (b : Board) (n moment : ℕ) → v ≡ Bughouse → back_by v b n moment ≡ b
-back_by-pair v b n moment e = ap (λ (w : Variant). back_by w b n moment) e
-
-together_back : (terms : Terms) (boards : List Board) (n moment : ℕ) → map (λ (b : Board). b.number) boards ≡ board_numbers terms.variant → All (λ (b : Board). b.terms ≡ terms) boards →
-    AreSame (map (λ (b : Board). b.all) boards) → AreSame (map (λ (b : Board). b.all) (boards_taken_back boards n moment))
-together_back terms [] n moment numbers same_terms same = tt
-together_back terms (b ∷ []) n moment numbers same_terms same = All-nil (λ (T : List HalfMove). T ≡ (back_by b.terms.variant b n moment).all)
-together_back terms (b ∷ c ∷ []) n moment numbers same_terms same =
-    let pair : b.terms.variant ≡ Bughouse = ap (λ (t : Terms). t.variant) (All-head (λ (x : Board). x.terms ≡ terms) b (c ∷ []) same_terms) ∙ (numbers_of_two terms.variant b c numbers).0 in
-    subst (λ (x : Board). AreSame (x.all ∷ c.all ∷ [])) (sym (back_by-pair b.terms.variant b n moment pair)) same
-together_back terms (b ∷ c ∷ d ∷ more) n moment numbers same_terms same = absurd (never_three terms.variant b c d more numbers)
-
-IsSound-with_taken : (g : GameState) (moment n : ℕ) → IsSound g → IsSound (with_taken g moment n)
-IsSound-with_taken g moment n s =
+IsSound-with_taken : (g : GameState) (moment n : ℕ) → moment ≤ 2 ^ 48 → IsSound g → IsSound (with_taken g moment n)
+IsSound-with_taken g moment n timely s =
     let after : Board → Board = λ b. back_by b.terms.variant b n (moment_at g moment) in
     let early : latest g.boards ≤ moment_at g moment = omega (arith, s.order) in
     record {
-      numbers = map-changed_at (λ (c : Board). c.number) g.boards 0 after (λ b. alike_back (λ c. c.number) b.terms.variant b n (moment_at g moment) refl) ∙ s.numbers;
-      seated = s.seated ∙ ap (λ n. 2 * n) (sym (length-changed_at g.boards 0 after));
-      terms = All-changed_at (λ (b : Board). b.terms ≡ g.terms) g.boards 0 after
-          (λ b there same. alike_back (λ c. c.terms) b.terms.variant b n (moment_at g moment) refl ∙ same) s.terms;
-      scores = All-changed_at IsTrueScore g.boards 0 after
-          (λ b there score. score_back b.terms.variant b n (moment_at g moment) refl
-          (let before : b.begin ≤ latest g.boards = begin-latest g.boards 0 b there in omega (arith, before, early)) score) s.scores;
-      together = together_back g.terms g.boards n (moment_at g moment) s.numbers s.terms s.together;
+      seated = s.seated;
+      boards = boards_stay_sound.take_back g.terms g.boards n (moment_at g moment) s.boards early;
+      going = λ runs. ends_come_by_moves.take_back g.terms g.boards n (moment_at g moment) s.boards (s.going runs);
       order = latest-changed_at g.boards 0 (moment_at g moment) after (λ b. begin_back b.terms.variant b n (moment_at g moment)) early;
+      moment = timely_at g moment timely s;
       winners = s.winners;
       ended = s.ended;
     }
@@ -140,14 +89,14 @@ names_hands : (desk : ℕ) (b : Option Board) → IfSome (option_and_then (first
 names_hands desk None = tt
 names_hands desk (Some b) = names_first desk b
 
-IsSound-taken_back : (desk : ℕ) (g : GameState) (moment n : ℕ) → IsSound g → IsSound (offering.taken_back desk g moment n)
-IsSound-taken_back desk g moment n s =
+IsSound-taken_back : (desk : ℕ) (g : GameState) (moment n : ℕ) → moment ≤ 2 ^ 48 → IsSound g → IsSound (offering.taken_back desk g moment n)
+IsSound-taken_back desk g moment n timely s =
     let taken : GameState = with_taken g moment n in
     let line : GameState = with_items taken (item.Talk (taken_text n) ∷ []) in
     let shown : GameState = with_board_item desk 0 line in
     IsSound-with_item shown (option_and_then (first_hands desk) (slice_get shown.boards 0)) (names_hands desk (slice_get shown.boards 0))
     (IsSound-with_view line (slice_get (views_of desk line) 0)
-    (IsSound-with_item taken (Some (item.Talk (taken_text n))) tt (IsSound-with_taken g moment n s)))
+    (IsSound-with_item taken (Some (item.Talk (taken_text n))) tt (IsSound-with_taken g moment n timely s)))
 
 occupant-taken_back : (desk : ℕ) (g : GameState) (moment n : ℕ) → occupant (offering.taken_back desk g moment n) ≡ occupant g
 occupant-taken_back desk g moment n =
@@ -156,11 +105,11 @@ occupant-taken_back desk g moment n =
     occupant-with_item shown (option_and_then (first_hands desk) (slice_get shown.boards 0))
     ∙ occupant-with_view line (slice_get (views_of desk line) 0)
 
-pub IsSound-agreed : (desk : ℕ) (g : GameState) (moment seat : ℕ) (offer : Offer) → IsSound g → IsSound (agreed desk g moment seat offer)
-IsSound-agreed desk g moment seat Draw s = IsSound-ended_by desk g moment (end_without_winner seat why.Agreed) (λ e. e, λ e. e) s
-IsSound-agreed desk g moment seat Abort s = IsSound-ended_by desk g moment (end_without_winner seat why.Aborted) (λ e. e, λ e. e) s
-IsSound-agreed desk g moment seat Adjourn s = IsSound-ended_by desk g moment (end_without_winner seat why.Adjourned) (λ e. e, λ e. e) s
-IsSound-agreed desk g moment seat (Takeback n) s = IsSound-taken_back desk g moment n s
+pub IsSound-agreed : (desk : ℕ) (g : GameState) (moment seat : ℕ) (offer : Offer) → moment ≤ 2 ^ 48 → IsSound g → IsSound (agreed desk g moment seat offer)
+IsSound-agreed desk g moment seat Draw timely s = IsSound-ended_by desk g moment (end_without_winner seat why.Agreed) (λ e. e, λ e. e) timely s
+IsSound-agreed desk g moment seat Abort timely s = IsSound-ended_by desk g moment (end_without_winner seat why.Aborted) (λ e. e, λ e. e) timely s
+IsSound-agreed desk g moment seat Adjourn timely s = IsSound-ended_by desk g moment (end_without_winner seat why.Adjourned) (λ e. e, λ e. e) timely s
+IsSound-agreed desk g moment seat (Takeback n) timely s = IsSound-taken_back desk g moment n timely s
 
 pub occupant-agreed : (desk : ℕ) (g : GameState) (moment seat : ℕ) (offer : Offer) → occupant (agreed desk g moment seat offer) ≡ occupant g
 occupant-agreed desk g moment seat Draw = refl
@@ -170,19 +119,11 @@ occupant-agreed desk g moment seat (Takeback n) = occupant-taken_back desk g mom
 
 -- how many offers a seat has made is no part of that
 pub IsSound-with_count : (g : GameState) (seat : ℕ) → IsSound g → IsSound (with_count seat g)
-IsSound-with_count g seat s = record {
-  numbers = s.numbers;
-  seated = s.seated;
-  terms = s.terms;
-  scores = s.scores;
-  together = s.together;
-  order = s.order;
-  winners = s.winners;
-  ended = s.ended;
-}
+IsSound-with_count g seat s =
+    IsSound-later g g.feed g.viewers g.remarks g.last g.offers (counted g.tally seat) (omega arith) s.moment s.winners s
 
-pub IsSound-with_offers : (g : GameState) (offers : OfferBook) (moment : ℕ) → IsSound g → IsSound (with_offers offers moment g)
-IsSound-with_offers g offers moment s = IsSound-offers g offers g.tally moment s
+pub IsSound-with_offers : (g : GameState) (offers : OfferBook) (moment : ℕ) → moment ≤ 2 ^ 48 → IsSound g → IsSound (with_offers offers moment g)
+IsSound-with_offers g offers moment timely s = IsSound-offers g offers g.tally moment timely s
 
 pub either_sound : (b : Bool) (one another : GameState) → IsSound one → IsSound another → IsSound (if b then one else another)
 either_sound true one another s t = s

@@ -1,4 +1,4 @@
-pub mod BoardLists
+pub mod Causes
 pub mod ClearedOffers
 pub mod Counting
 pub mod Finishing
@@ -19,9 +19,11 @@ pub mod KeepsResign
 pub mod KeepsShow
 pub mod KeepsStart
 pub mod KeepsWatch
-pub mod Linking
 pub mod Opening
-pub mod Pairs
+pub mod Restored
+pub mod Resuming
 pub mod SeatNumbers
+pub mod Shelved
 pub mod Telling
+pub mod TempLaws
 pub mod WholeSets

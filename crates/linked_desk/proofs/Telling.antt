@@ -7,7 +7,7 @@ use Rattle.fics_words.specs.declared.refusal.Refusal.{Refusal}
 use Rattle.style12_writer.specs.declared.item.Item.{Item}
 use Rattle.style12_writer.specs.declared.item.Item.TheVariants as item
 use Rattle.style12_writer.specs.declared.view.BoardView.{BoardView}
-use Rattle.linked_desk.specs.Boards.{boards_after, reply_at}
+use Rattle.linked_boards.specs.Boards.{boards_after, reply_at}
 use Rattle.linked_desk.specs.Desk.{GameState, moment_at}
 use Rattle.linked_desk.specs.Finish.{finished}
 use Rattle.linked_desk.specs.Hands.{hands_at, partner_hands_at}
@@ -30,7 +30,7 @@ told_of desk g place man = record g {
       (partner_hands_at desk g place man);
 }
 
-with_hands-told : (desk : ℕ) (g : GameState) (place : ℕ) (man : Option Man) →
+pub with_hands-told : (desk : ℕ) (g : GameState) (place : ℕ) (man : Option Man) →
     with_partner_hands desk place man (with_hands desk place man (with_board_item desk place g)) ≡ told_of desk g place man
 with_hands-told desk g place man =
     let shown : GameState = record g { feed = feed_with g.feed (option_map item.Board (slice_get (views_of desk g) place)) } in

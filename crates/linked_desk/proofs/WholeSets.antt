@@ -17,11 +17,12 @@ use Rattle.chess_model.proofs.Censuses.{census_kept}
 use Rattle.game_board.specs.Board.{Board, position_of}
 use Rattle.game_board.specs.Scoresheet.{IsTrueScore}
 use Rattle.game_board.proofs.PairHands.{few_in_hand}
-use Rattle.linked_desk.specs.Boards.{board_numbers}
+use Rattle.linked_boards.specs.Boards.{board_numbers}
 use Rattle.linked_desk.specs.Desk.{GameState, DeskState}
-use Rattle.linked_desk.specs.Sound.{AreSame, IsSound, HasSoundGame}
+use Rattle.linked_boards.specs.Sound.{AreSame}
+use Rattle.linked_desk.specs.Sound.{IsSound, HasSoundGame}
 use Rattle.linked_desk.specs.WholeSets.{AreWhole, HasOneSet, HasTwoSets, HaveTwoSets, HasWholeSets, HasPrintedHands, AllAt}
-use Rattle.linked_desk.proofs.Pairs.{never_three, numbers_of_two}
+use Rattle.linked_boards.proofs.Pairs.{never_three, numbers_of_two}
 
 one_set_on : (b : Board) → ¬ HasDrops b.terms.variant → IsTrueScore b → HasOneSet b
 unfolding position_of
@@ -149,16 +150,16 @@ printed_boards v (b ∷ c ∷ d ∷ more) numbers scores = absurd (never_three v
 whole_game : (game : Option GameState) → IfSome game IsSound → IfSome game (λ (g : GameState). AreWhole g.terms.variant g.boards)
 whole_game None s = tt
 whole_game (Some g) s =
-    whole_boards g.terms.variant g.boards s.numbers
-    (All-weaker (λ (b : Board). b.terms ≡ g.terms) (λ (b : Board). b.terms.variant ≡ g.terms.variant) (λ b e. ap (λ (t : Terms). t.variant) e) g.boards s.terms)
-    s.scores s.together
+    whole_boards g.terms.variant g.boards s.boards.numbers
+    (All-weaker (λ (b : Board). b.terms ≡ g.terms) (λ (b : Board). b.terms.variant ≡ g.terms.variant) (λ b e. ap (λ (t : Terms). t.variant) e) g.boards s.boards.terms)
+    s.boards.scores s.boards.together
 
 pub whole_at : (d : DeskState) → HasSoundGame d → HasWholeSets d
 whole_at d s = whole_game d.game s
 
 printed_game : (number : ℕ) (game : Option GameState) → IfSome game IsSound → AllAt HasPrintedHands (record { number = number; game = game })
 printed_game number None s = All-nil HasPrintedHands
-printed_game number (Some g) s = printed_boards g.terms.variant g.boards s.numbers s.scores
+printed_game number (Some g) s = printed_boards g.terms.variant g.boards s.boards.numbers s.boards.scores
 
 pub printed_at : (d : DeskState) → HasSoundGame d → AllAt HasPrintedHands d
 printed_at d s = printed_game d.number d.game s

@@ -1,7 +1,9 @@
 -- What contracts see of a desk: it is vacant, or a game is played at it.
-use Rattle.std.specs.Prelude.{ℕ, ◌+◌, ◌-◌, ◌*◌, Bool, max, List, [], length, Option}
+use Rattle.std.specs.Prelude.{ℕ, ◌+◌, ◌-◌, ◌*◌, Bool, is_some, max, List, [], length, Option}
+use Rattle.std.specs.List.{list_all}
 use Rattle.std.specs.Option.{option_map, option_and_then, option_map_or}
 use Rattle.chess_model.specs.declared.variant.Terms.{Terms}
+use Rattle.fics_words.specs.declared.player.Player.{Player}
 use Rattle.fics_words.specs.declared.seats.Seats.{Seats}
 use Rattle.fics_words.specs.Seats.{seat_list, seat_number}
 use Rattle.offer_book.specs.Offers.{OfferBook}
@@ -38,6 +40,14 @@ pub record DeskState : Type 0 where
 -- the number under which a board at a desk is shown
 abbrev pub game_number : ℕ → ℕ → ℕ
 game_number desk board = 2 * (desk - 1) + board
+
+-- two boards belong to the game
+abbrev pub is_pair : GameState → Bool
+is_pair g = is_some g.seats.second
+
+-- each player has an account
+abbrev pub all_registered : GameState → Bool
+all_registered g = list_all (λ (p : Player). p.registered) (seat_list g.seats)
 
 -- the seat of a session, if it plays
 abbrev pub seat_of : GameState → ℕ → Option ℕ

@@ -1,7 +1,6 @@
 pub mod AcceptOffer
 pub mod Acked
 pub mod Acts
-pub mod Boards
 pub mod DeclineOffer
 pub mod Desk
 pub mod Ends
@@ -11,7 +10,6 @@ pub mod Flag
 pub mod Hands
 pub mod Holds
 pub mod Leave
-pub mod Linked
 pub mod Make
 pub mod OfferLaws
 pub mod Offering
@@ -19,8 +17,11 @@ pub mod Playing
 pub mod Present
 pub mod Remark
 pub mod Resign
+pub mod Restore
 pub mod Seating
 pub mod Seats
+pub mod ShelfLaws
+pub mod Shelve
 pub mod Show
 pub mod Sight
 pub mod Sound

@@ -1,53 +1,34 @@
 -- An offer at a desk. This server's own; that a claim of a draw counts as an offer of one is FIDE 9.1.2.
-use Rattle.std.specs.Prelude.{ℕ, Bool, true, not, if◌then◌else◌, [], ◌∷◌, List, Option, Some, None, Result, Ok, Err, is_some, slice_get}
-use Rattle.std.specs.List.{list_all}
+use Rattle.std.specs.Prelude.{ℕ, Bool, true, not, if◌then◌else◌, [], ◌∷◌, List, Option, Some, None, slice_get}
 use Rattle.chess_model.specs.declared.why.Why.{Why}
 use Rattle.fics_words.specs.Effect.{Cause, Effect, first_cause}
-use Rattle.fics_words.specs.declared.player.Player.{Player}
 use Rattle.fics_words.specs.declared.refusal.Refusal.{Refusal}
 use Rattle.fics_words.specs.declared.refusal.Refusal.TheVariants.{AlreadyOffered, NotInVariant, NotRegistered, TooFewMoves}
-use Rattle.fics_words.specs.Seats.{seat_list}
 use Rattle.game_board.specs.Board.{Board}
-use Rattle.game_board.specs.Claim.{claim_answer}
 use Rattle.offer_book.specs.declared.offer.Offer.{Offer}
 use Rattle.offer_book.specs.declared.offer.Offer.TheVariants.{Draw, Abort, Adjourn, Takeback}
 use Rattle.offer_book.specs.Offers.{offering, stands}
+use Rattle.linked_boards.specs.Claims.{claim_at}
+use Rattle.linked_boards.specs.TakenBack.{lacks_half_moves}
 use Rattle.linked_desk.specs.declared.acts.DeskReply.{DeskReply}
 use Rattle.linked_desk.specs.declared.acts.DeskReply.TheVariants.{Done}
-use Rattle.linked_desk.specs.Desk.{GameState, seat_of}
+use Rattle.linked_desk.specs.Desk.{GameState, all_registered, is_pair, seat_of}
 use Rattle.linked_desk.specs.Ends.{ended_by, no_seat_cause, over_cause}
-use Rattle.linked_desk.specs.Offering.{agreed, end_without_winner, lacks_half_moves, offer_item, told, told_out_cause, with_count, with_offers}
+use Rattle.linked_desk.specs.Offering.{agreed, end_without_winner, offer_item, told, told_out_cause, with_count, with_offers}
 use Rattle.linked_desk.specs.Seats.{place_of}
 
--- two boards belong to the game
-abbrev pub is_pair : GameState → Bool
-is_pair g = is_some g.seats.second
-
--- each player has an account
-abbrev pub all_registered : GameState → Bool
-all_registered g = list_all (λ (p : Player). p.registered) (seat_list g.seats)
-
--- why nobody at this desk may make an offer: at a pair nothing is taken back and it isn't adjourned; as many half-moves
--- as are to be taken back have to be there, at least one; and only players with accounts adjourn
+-- why nobody at this desk may make an offer: only players with accounts adjourn; at a pair nothing is taken back; and as
+-- many half-moves as are to be taken back have to be there, at least one
 abbrev pub unfit_causes : GameState → Offer → List Cause
 unfit_causes g Draw = []
 unfit_causes g Abort = []
-unfit_causes g Adjourn = (is_pair g, NotInVariant) ∷ (not (all_registered g), NotRegistered) ∷ []
+unfit_causes g Adjourn = (not (all_registered g), NotRegistered) ∷ []
 unfit_causes g (Takeback n) = (is_pair g, NotInVariant) ∷ (lacks_half_moves g.boards n, TooFewMoves) ∷ []
 
 -- the causes behind an earlier refusal, if there was one
 abbrev pub behind : Option Refusal → List Cause → List Cause
 behind None causes = causes
 behind (Some cause) causes = (true, cause) ∷ []
-
--- the draw that may be claimed at a board, if there is one
-abbrev pub granted : Result Why Refusal → Option Why
-granted (Ok cause) = Some cause
-granted (Err none) = None
-
-abbrev pub claim_at : Option Board → Option Why
-claim_at None = None
-claim_at (Some b) = granted (claim_answer b)
 
 -- the draw that an offer of this seat claims at its board, if it does
 abbrev pub claimed : List Board → ℕ → Offer → Option Why

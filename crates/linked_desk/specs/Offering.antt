@@ -1,16 +1,12 @@
 -- The offers of players at a desk: what is told of them, and what an offer does that every seat has made.
-use Rattle.std.specs.Prelude.{ℕ, Bool, true, ◌∷◌, [], List, Option, None, slice_get}
+use Rattle.std.specs.Prelude.{ℕ, ◌∷◌, [], List, Option, None, slice_get}
 use Rattle.std.specs.Option.{option_map, option_and_then}
-use Rattle.chess_model.specs.declared.variant.Variant.{Variant}
-use Rattle.chess_model.specs.declared.variant.Variant.TheVariants.{Chess, Crazyhouse, Bughouse, Fischer}
 use Rattle.chess_model.specs.declared.why.Why.{Why}
 use Rattle.chess_model.specs.declared.why.Why.TheVariants as why
 use Rattle.fics_words.specs.Effect.{Cause}
 use Rattle.fics_words.specs.declared.player.Player.{Player}
 use Rattle.fics_words.specs.declared.refusal.Refusal.TheVariants.{FeedFull}
 use Rattle.fics_words.specs.Seats.{seat_list}
-use Rattle.game_board.specs.Board.{Board}
-use Rattle.game_board.specs.TakeBack.{has_too_few, take_back_after}
 use Rattle.offer_book.specs.declared.offer.Offer.{Offer}
 use Rattle.offer_book.specs.declared.offer.Offer.TheVariants.{Draw, Abort, Adjourn, Takeback}
 use Rattle.offer_book.specs.Offers.{OfferBook}
@@ -18,7 +14,7 @@ use Rattle.style12_writer.specs.OfferLines.{abort_text, adjourn_text, decline_te
 use Rattle.style12_writer.specs.declared.item.Item.{Item}
 use Rattle.style12_writer.specs.declared.item.Item.TheVariants as item
 use Rattle.linked_desk.specs.declared.ended.Ended.{Ended}
-use Rattle.linked_desk.specs.Boards.{changed_at}
+use Rattle.linked_boards.specs.TakenBack.{boards_taken_back}
 use Rattle.linked_desk.specs.Desk.{GameState, moment_at}
 use Rattle.linked_desk.specs.Ends.{ended_by}
 use Rattle.linked_desk.specs.Hands.{first_hands}
@@ -63,23 +59,7 @@ with_count seat g = record g { tally = counted g.tally seat }
 abbrev pub end_without_winner : ℕ → Why → Ended
 end_without_winner seat cause = record { why = cause; board = board_of seat; winner = None }
 
--- whether the first board lacks half-moves to take so many back
-abbrev pub lacks_half_moves : List Board → ℕ → Bool
-lacks_half_moves [] n = true
-lacks_half_moves (b ∷ boards) n = has_too_few b n
-
--- a board after the last n half-moves were taken back; at a pair none are
-abbrev pub back_by : Variant → Board → ℕ → ℕ → Board
-back_by Chess b n moment = take_back_after b n moment
-back_by Crazyhouse b n moment = take_back_after b n moment
-back_by (Fischer number) b n moment = take_back_after b n moment
-back_by Bughouse b n moment = b
-
--- the boards after that
-abbrev pub boards_taken_back : List Board → ℕ → ℕ → List Board
-boards_taken_back boards n moment = changed_at boards 0 (λ (b : Board). back_by b.terms.variant b n moment)
-
--- the game with them
+-- the game after the last n half-moves of its first board were taken back
 abbrev pub with_taken : GameState → ℕ → ℕ → GameState
 with_taken g moment n =
     record g { boards = boards_taken_back g.boards n (moment_at g moment); last = moment_at g moment }

@@ -1,18 +1,17 @@
 -- What holds of the game at a desk in every state.
-use Rattle.std.specs.Prelude.{◌≡◌, ◌*◌, ◌≤◌, ◌↔◌, IsSome, IsTrue, IfSome, All, List, [], ◌∷◌, length, map, Option, Result, Ok, Err}
+use Rattle.std.specs.Prelude.{◌≡◌, ◌≤◌, ◌^◌, ◌↔◌, IsSome, IsTrue, IfSome, All, List, Option, None, Result, Ok, Err}
 use Rattle.chess_model.specs.declared.man.Colour.{Colour}
 use Rattle.chess_model.specs.declared.why.Why.{Why}
-use Rattle.fics_words.specs.Seats.{seat_list}
 use Rattle.fics_words.specs.declared.refusal.Refusal.{Refusal}
 use Rattle.style12_writer.specs.declared.item.Item.{Item}
 use Rattle.style12_writer.specs.declared.item.Item.TheVariants.{End}
 use Rattle.style12_writer.specs.EndLine.{is_decisive}
-use Rattle.game_board.specs.Board.{Board}
-use Rattle.game_board.specs.Scoresheet.{IsTrueScore}
 use Rattle.linked_desk.specs.declared.acts.DeskReply.{DeskReply}
 use Rattle.linked_desk.specs.declared.acts.DeskReply.TheVariants.{Done, Items}
-use Rattle.linked_desk.specs.Boards.{board_numbers, latest}
+use Rattle.linked_boards.specs.Boards.{latest}
+use Rattle.linked_boards.specs.Sound.{AreSoundBoards, GoOn}
 use Rattle.linked_desk.specs.Desk.{GameState, DeskState}
+use Rattle.linked_desk.specs.Seating.{MayPlay}
 
 -- a winner is named exactly where a game that ends so is won by somebody
 abbrev pub Names : Why → Option Colour → Type 0
@@ -23,22 +22,16 @@ abbrev pub NamesWinner : Item → Type 0
 NamesWinner (End view why winner own) = Names why winner
 NamesWinner _ = Unit {0}
 
--- all items are the same
-abbrev pub AreSame : {T : Type 0} → List T → Type 0
-AreSame [] = Unit {0}
-AreSame (x ∷ xs) = All (λ y. y ≡ x) xs
-
 pub record IsSound (g : GameState) : Type 0 where
-  -- there are as many boards as the variant wants, with their numbers, and two players sit at each
-  pub numbers : map (λ (b : Board). b.number) g.boards ≡ board_numbers g.terms.variant
-  pub seated : length (seat_list g.seats) ≡ 2 * length g.boards
-  -- each board is played by the terms of the game, and its list is a true score
-  pub terms : All (λ (b : Board). b.terms ≡ g.terms) g.boards
-  pub scores : All IsTrueScore g.boards
-  -- the boards of a pair have one list of the half-moves of both, by which men come from one board to the other
-  pub together : AreSame (map (λ (b : Board). b.all) g.boards)
-  -- nobody is thinking from a moment that is later than the last act
+  -- these players may play on these terms
+  pub seated : MayPlay g.terms g.seats
+  -- the boards are those of a game on these terms that was played as they say
+  pub boards : AreSoundBoards g.terms g.boards
+  -- while the game runs no board is at an end
+  pub going : g.ended ≡ None → GoOn g.boards
+  -- nobody is thinking from a moment that is later than the last act, and no act was later than the server's last moment
   pub order : latest g.boards ≤ g.last
+  pub moment : g.last ≤ 2 ^ 48
   -- each end in the feed names its winner
   pub winners : All NamesWinner g.feed
   pub ended : IfSome g.ended (λ e. Names e.why e.winner)

@@ -1,16 +1,18 @@
 //! The desk.
-ghost use Rattle.std.specs.Prelude.{◌≡◌, ◌≤◌, ◌^◌, ℕ, None, IfOk, IsSome, OnOk, OnErr};
+ghost use Rattle.std.specs.Prelude.{◌≡◌, ◌≤◌, ◌^◌, ◌↔◌, ℕ, None, Some, IfOk, IsSome, IsTrue, OnOk, OnErr};
 ghost use Rattle.std.specs.Option.{option_copied};
 ghost use Rattle.fics_words.specs.Effect.{Takes};
-ghost use Rattle.linked_desk.specs.Boards.{numbered};
+ghost use Rattle.linked_boards.specs.Boards.{numbered};
 
 use crate::acts::{DeskAct, DeskReply};
 use crate::ended::Ended;
 use crate::game::Game;
+use crate::restore::resumed;
 use crate::seating::opened;
 use chess_model::Terms;
 use fics_words::{Fail, NoMemory, Refusal, Seats};
 use game_board::GameBoard;
+use game_records::StoredGame;
 use std::alloc::Global;
 use std::marker::Model;
 use style12_writer::{Item, ItemList};
@@ -48,6 +50,9 @@ impl Model for Desk {
 impl Desk {
     ghost use Rattle.linked_desk.specs.Desk.{boards_at, serial_of, end_of, viewer_count, items_for};
     ghost use Rattle.linked_desk.specs.Seating.{AllDiffer, HasPairsFor, names_of, sessions_of, started};
+    ghost use Rattle.game_records.specs.Replays.{Replays};
+    ghost use Rattle.linked_desk.specs.Restore.{restored};
+    ghost use Rattle.linked_desk.specs.Shelve.{IsAdjourned, names_in, shelved_at};
     ghost use Rattle.linked_desk.specs.Acts.{FitsDeskAct, desk_effect, items_told, missing_effect};
 
     /// A desk without a game. Its number is 1 to 128.
@@ -84,6 +89,52 @@ impl Desk {
         };
         drop(self.game.replace(game));
         Ok(())
+    }
+
+    /// Resumes a stored game at the vacant desk, and says whether it did: false exactly where the game doesn't replay,
+    /// and then the desk is still vacant. The boards have the half-moves of the game with their charges, so that
+    /// positions, hands and clocks are as they were; the clocks run again from `moment`, in milliseconds. The players,
+    /// who sit as they sat, are the viewers from the start of the feed. Where the last half-move mated or stalemated,
+    /// the game has ended, as if that half-move had just been made. Running out of memory leaves the desk vacant.
+    pub fn restore(
+        &mut self,
+        alloc: Global,
+        serial: u64,
+        game: &StoredGame,
+        seats: &Seats,
+        moment: u64,
+    ) -> Result<bool, NoMemory>
+        requires vacant { self.old.game ≡ None }
+        requires sessions { AllDiffer (sessions_of seats.now) }
+        requires names { AllDiffer (names_of seats.now) }
+        requires players { names_in seats.now ≡ game.now.names }
+        requires pairs { HasPairsFor game.now.terms seats.now }
+        requires moment { moment ≤ 2 ^ 48 }
+        ensures replays { IfOk result (λ yes. IsTrue yes ↔ Replays game.now) }
+        ensures restored { IfOk result (λ yes. IsTrue yes → Some self.new
+            ≡ restored self.old serial game.now seats.now moment) }
+        ensures vacant { IfOk result (λ yes. ¬ IsTrue yes → self.new ≡ self.old) }
+        ensures err { OnErr result (self.new ≡ self.old) }
+    {
+        let Some(game) = resumed(alloc, self.number, serial, game, seats, moment)? else {
+            return Ok(false);
+        };
+        let Ok(game) = Box::new(alloc, game) else {
+            return Err(NoMemory);
+        };
+        drop(self.game.replace(game));
+        Ok(true)
+    }
+
+    /// What is kept of the game, which was adjourned. It replays.
+    pub fn shelve(&self, alloc: Global) -> Result<StoredGame, NoMemory>
+        requires { IsAdjourned self.now }
+        ensures { IfOk result (λ game. Some game ≡ shelved_at self.now) }
+    {
+        match &self.game {
+            Some(game) => game.shelved(alloc),
+            None => unreachable!(),
+        }
     }
 
     /// Makes an act of a session at the game of that serial. The moment, in milliseconds, counts as no earlier than

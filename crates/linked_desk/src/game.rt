@@ -1,11 +1,11 @@
 //! The game at a desk.
 ghost use Rattle.std.specs.Prelude.{◌≡◌, ◌<◌, IfSome, length};
 
-use crate::boards::Boards;
 use crate::ended::Ended;
 use crate::tally::Tally;
 use chess_model::Terms;
 use fics_words::Seats;
+use linked_boards::Boards;
 use observer_feed::Feed;
 use offer_book::Offers;
 use std::alloc::Global;
@@ -56,7 +56,7 @@ impl Model for Game {
 }
 
 impl Game {
-    ghost use Rattle.linked_desk.specs.Desk.{seat_of, is_watching, ahead_of};
+    ghost use Rattle.linked_desk.specs.Desk.{seat_of, is_watching, ahead_of, all_registered};
 
     /// The number under which the game was started.
     pub(crate) fn serial(&self) -> u64
@@ -92,6 +92,20 @@ impl Game {
         ensures seated { IfSome result (λ seat. seat < self.now.offers.seats) }
     {
         self.seats.number(session)
+    }
+
+    /// Whether each player has an account.
+    pub(crate) fn all_registered(&self) -> bool
+        ensures { result ≡ all_registered self.now }
+    {
+        let first = &self.seats.first;
+        if !(first.white.registered && first.black.registered) {
+            return false;
+        }
+        match &self.seats.second {
+            None => true,
+            Some(second) => second.white.registered && second.black.registered,
+        }
     }
 
     /// Whether a session is a viewer of the game.

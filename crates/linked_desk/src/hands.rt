@@ -4,11 +4,11 @@ ghost use Rattle.chess_model.specs.Tests.{has_drops};
 ghost use Rattle.game_board.specs.BoardFace.{last_played};
 ghost use Rattle.linked_desk.specs.Hands.{changes_hands, ends_with_drop, first_hands, hands_at, hands_told, hold_item, is_drop, partner_hands_at};
 
-use crate::boards::other_place;
 use crate::game::Game;
 use crate::views::game_number;
 use chess_model::{Colour, Kind, Man, Move, Variant};
 use game_board::{GameBoard, Played, handed_over_as};
+use linked_boards::other_place;
 use style12_writer::Item;
 
 impl Game {

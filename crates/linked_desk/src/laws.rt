@@ -1,10 +1,10 @@
 //! What the table of acts keeps, as calls that do nothing: what they ensure are the laws.
-ghost use Rattle.std.specs.Prelude.{◌≡◌, ℕ, ◌≤◌, Some};
+ghost use Rattle.std.specs.Prelude.{◌≡◌, ℕ, ◌≤◌, ◌^◌, Some};
 ghost use Rattle.chess_model.specs.declared.variant.Terms.{Terms};
 ghost use Rattle.fics_words.specs.declared.seats.Seats.{Seats};
 ghost use Rattle.linked_desk.specs.declared.acts.DeskAct.{DeskAct};
 ghost use Rattle.linked_desk.specs.Desk.{DeskState, game_number, occupant_of};
-ghost use Rattle.linked_desk.specs.Seating.{HasPairsFor, started};
+ghost use Rattle.linked_desk.specs.Seating.{MayPlay, started};
 ghost use Rattle.linked_desk.specs.Sight.{board_in};
 ghost use Rattle.linked_desk.specs.Sound.{AnswersSoundly, HasSoundGame};
 ghost use Rattle.linked_desk.specs.Acts.{FitsDeskAct, desk_answer, desk_after};
@@ -23,14 +23,15 @@ pub fn acts_keep_the_players()
 {}
 
 /// The game at a desk is sound from its start on, whatever acts are made: it has the boards and seats that its variant
-/// wants, the list of each board is a true score, the boards of a pair have one list of the half-moves of both, and
-/// each end that viewers are told names a winner exactly where somebody won.
+/// wants, the list of each board is a true score, the boards of a pair have one list of the half-moves of both, no
+/// half-move was made after mate or stalemate, on no board of a running game is anybody mated or stalemated, and each
+/// end that viewers are told names a winner exactly where somebody won.
 pub fn acts_keep_the_game()
     ensures started { (d : DeskState) (serial : ℕ) (terms : Terms) (seats : Seats) (moment : ℕ)
-        → HasPairsFor terms seats →
+        → MayPlay terms seats → moment ≤ 2 ^ 48 →
         HasSoundGame (started d serial terms seats moment) }
-    ensures game { (d : DeskState) (session moment serial : ℕ) (a : DeskAct) → FitsDeskAct a → HasSoundGame d
-        → HasSoundGame (desk_after d session moment serial a) }
+    ensures game { (d : DeskState) (session moment serial : ℕ) (a : DeskAct) → moment ≤ 2 ^ 48 → FitsDeskAct a
+        → HasSoundGame d → HasSoundGame (desk_after d session moment serial a) }
     ensures answers { (d : DeskState) (session moment serial : ℕ) (a : DeskAct) → HasSoundGame d
         → AnswersSoundly (desk_answer d session moment serial a) }
 {}

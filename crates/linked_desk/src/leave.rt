@@ -2,34 +2,36 @@
 ghost use Rattle.std.specs.Prelude.{◌≡◌, ◌≤◌, ◌^◌, Ok};
 ghost use Rattle.fics_words.specs.Effect.{Takes};
 ghost use Rattle.linked_desk.specs.Desk.{seat_of};
-ghost use Rattle.linked_desk.specs.Leave.{forfeit, forfeited, leave_effect};
+ghost use Rattle.linked_desk.specs.Leave.{forfeit, leave_effect, leaving_end, left_by, waits};
 
 use crate::acts::DeskReply;
 use crate::ended::Ended;
 use crate::game::Game;
+use crate::offering::end_without_winner;
 use crate::seats::{board_of, colour_at};
 use chess_model::Why;
 
 impl Game {
-    /// A session leaves: it is no viewer any more, and a player of a running game loses it. Takes no memory.
+    /// A session leaves: it is no viewer any more, and a running game in which it plays is adjourned, or lost by it.
+    /// Takes no memory.
     pub(crate) fn leave(&mut self, desk: u8, session: u32, moment: u64) -> DeskReply
         requires low { 1 ≤ desk }
         requires high { desk ≤ 128 }
         requires moment { moment ≤ 2 ^ 48 }
         ensures { Takes (leave_effect desk self.old session moment) self.old self.new (Ok result) }
     {
-        self.forfeit(desk, session, moment);
+        self.end_by_leaving(desk, session, moment);
         self.feed.forget(session);
         self.last = self.last.max(moment);
         DeskReply::Done
     }
 
-    /// A player of a running game loses it.
-    fn forfeit(&mut self, desk: u8, session: u32, moment: u64)
+    /// Ends a running game in which the session plays.
+    fn end_by_leaving(&mut self, desk: u8, session: u32, moment: u64)
         requires low { 1 ≤ desk }
         requires high { desk ≤ 128 }
         requires moment { moment ≤ 2 ^ 48 }
-        ensures { self.new ≡ forfeited desk self.old moment (seat_of self.old session) }
+        ensures { self.new ≡ left_by desk self.old moment (seat_of self.old session) }
     {
         let Some(seat) = self.seat_of(session) else {
             return;
@@ -37,7 +39,28 @@ impl Game {
         if self.ended.is_some() {
             return;
         }
-        self.end(desk, moment, forfeit(seat));
+        let end = self.leaving_end(seat);
+        self.end(desk, moment, end);
+    }
+
+    /// How the running game ends where this seat leaves.
+    fn leaving_end(&self, seat: u8) -> Ended
+        ensures { result ≡ leaving_end self.now seat }
+    {
+        if self.waits() {
+            return end_without_winner(seat, Why::Adjourned);
+        }
+        forfeit(seat)
+    }
+
+    /// Whether the game waits for whoever leaves it.
+    fn waits(&self) -> bool
+        ensures { result ≡ waits self.now }
+    {
+        if self.seats.second.is_some() {
+            return false;
+        }
+        self.all_registered()
     }
 }
 

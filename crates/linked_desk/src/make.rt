@@ -1,8 +1,7 @@
 //! An offer at a desk.
 ghost use Rattle.std.specs.Prelude.{◌≡◌, ◌≤◌, ◌<◌, ◌^◌, None};
-ghost use Rattle.std.specs.List.{list_all};
 ghost use Rattle.fics_words.specs.Effect.{Takes, first_cause, refusal_of};
-ghost use Rattle.linked_desk.specs.Make.{all_registered, claim_effect, claimed, make_effect, offer_effect, unfit_causes};
+ghost use Rattle.linked_desk.specs.Make.{claim_effect, claimed, make_effect, offer_effect, unfit_causes};
 
 use crate::acts::DeskReply;
 use crate::game::Game;
@@ -37,7 +36,7 @@ impl Game {
         self.claim_or_offer(desk, seat, moment, offer)
     }
 
-    /// Whether an offer fits the desk. Refuses with `NotInVariant`, then `TooFewMoves` or `NotRegistered`.
+    /// Whether an offer fits the desk. Refuses with `NotInVariant`, then `TooFewMoves`, or with `NotRegistered`.
     fn fits(&self, offer: Offer) -> Result<(), Refusal>
         ensures { first_cause (unfit_causes self.now offer) ≡ refusal_of result }
     {
@@ -53,9 +52,6 @@ impl Game {
     fn may_adjourn(&self) -> Result<(), Refusal>
         ensures { first_cause (unfit_causes self.now (Offer.Adjourn)) ≡ refusal_of result }
     {
-        if self.seats.second.is_some() {
-            return Err(Refusal::NotInVariant);
-        }
         if !self.all_registered() {
             return Err(Refusal::NotRegistered);
         }
@@ -73,20 +69,6 @@ impl Game {
             return Err(Refusal::TooFewMoves);
         }
         Ok(())
-    }
-
-    /// Whether each player has an account.
-    fn all_registered(&self) -> bool
-        ensures { result ≡ all_registered self.now }
-    {
-        let first = &self.seats.first;
-        if !(first.white.registered && first.black.registered) {
-            return false;
-        }
-        match &self.seats.second {
-            None => true,
-            Some(second) => second.white.registered && second.black.registered,
-        }
     }
 
     /// The draw that an offer of a seat claims at its board, if it does.

@@ -3,21 +3,23 @@ ghost use Rattle.std.specs.Prelude.{◌≡◌, ◌≢◌, ◌+◌, ◌≤◌, �
 ghost use Rattle.fics_words.specs.Seats.{seat_list};
 ghost use Rattle.offer_book.specs.Offers.{no_offers};
 ghost use Rattle.observer_feed.specs.Feed.{empty_feed, is_viewer};
-ghost use Rattle.linked_desk.specs.Seating.{AllDiffer, HasPairsFor, announcement, announcements, first_items, from_start, opened, sessions_of, shown_items};
+ghost use Rattle.linked_boards.specs.Boards.{latest};
+ghost use Rattle.linked_desk.specs.Seating.{AllDiffer, HasPairsFor, announcement, announcements, first_items, from_start, game_at, news, opened, sessions_of, shown_items};
 ghost use Rattle.linked_desk.specs.Seats.{pairs_of};
 
-use crate::boards::Boards;
 use crate::game::{Game, ROOM_TO_END};
 use crate::hands::first_hands;
+use crate::occasion::Occasion;
 use crate::tally::Tally;
 use crate::views::{game_number, view_of};
 use chess_model::Terms;
-use fics_words::{NoMemory, Opponents, Seats};
+use fics_words::{Line, NoMemory, Opponents, Seats};
 use game_board::GameBoard;
+use linked_boards::Boards;
 use observer_feed::{Feed, Told};
 use offer_book::Offers;
 use std::alloc::Global;
-use style12_writer::{Item, created_line};
+use style12_writer::{Item, continued_line, created_line};
 
 /// A game that begins at a desk: each board is announced by a line and then shown, with its hands where the variant has
 /// them, and the players are viewers from the start.
@@ -37,10 +39,29 @@ pub(crate) fn opened(
     requires pairs { HasPairsFor terms seats.now }
     ensures { IfOk result (λ game. game ≡ opened desk serial terms seats.now moment) }
 {
-    let mut feed = announced(alloc, desk, &terms, seats)?;
+    let mut feed = announced(alloc, Occasion::Start, desk, &terms, seats)?;
     let boards = Boards::start(alloc, terms, moment)?;
     show_each(&mut feed, desk, seats, &boards);
-    Ok(Game {
+    Ok(game_at(alloc, serial, terms, seats, boards, feed, moment))
+}
+
+/// A game that begins at these boards, where the players are told that.
+pub(crate) fn game_at(
+    alloc: Global,
+    serial: u64,
+    terms: Terms,
+    seats: &Seats,
+    boards: Boards,
+    feed: Feed<Item>,
+    moment: u64,
+) -> Game
+    requires order { latest boards ≤ moment }
+    requires moment { moment ≤ 2 ^ 48 }
+    requires viewers { feed.viewers ≡ map from_start (seat_list seats.now) }
+    requires room { 4 ≤ feed.room }
+    ensures { result ≡ game_at serial terms seats.now boards feed.items moment }
+{
+    Game {
         alloc,
         serial,
         terms,
@@ -52,21 +73,27 @@ pub(crate) fn opened(
         ended: None,
         offers: no_offers(seats),
         tally: Tally::none(),
-    })
+    }
 }
 
 /// A feed that tells the players, who are its viewers from the start, that their games begin. There is room for what
 /// is shown then, and for the end.
-fn announced(alloc: Global, desk: u8, terms: &Terms, seats: &Seats) -> Result<Feed<Item>, NoMemory>
+pub(crate) fn announced(
+    alloc: Global,
+    occasion: Occasion,
+    desk: u8,
+    terms: &Terms,
+    seats: &Seats,
+) -> Result<Feed<Item>, NoMemory>
     requires low { 1 ≤ desk }
     requires high { desk ≤ 128 }
     requires sessions { AllDiffer (sessions_of seats.now) }
-    ensures items { IfOk result (λ feed. feed.items ≡ announcements desk terms.now seats.now) }
+    ensures items { IfOk result (λ feed. feed.items ≡ announcements occasion desk terms.now seats.now) }
     ensures viewers { IfOk result (λ feed. feed.viewers ≡ map from_start (seat_list seats.now)) }
     ensures room { IfOk result (λ feed. 8 ≤ feed.room) }
 {
     let mut feed = Feed::new(alloc);
-    announce(&mut feed, alloc, desk, terms, seats)?;
+    announce(&mut feed, alloc, occasion, desk, terms, seats)?;
     Ok(feed)
 }
 
@@ -74,6 +101,7 @@ fn announced(alloc: Global, desk: u8, terms: &Terms, seats: &Seats) -> Result<Fe
 fn announce(
     feed: &mut Feed<Item>,
     alloc: Global,
+    occasion: Occasion,
     desk: u8,
     terms: &Terms,
     seats: &Seats,
@@ -82,21 +110,21 @@ fn announce(
     requires high { desk ≤ 128 }
     requires sessions { AllDiffer (sessions_of seats.now) }
     requires empty { feed.old ≡ empty_feed }
-    ensures items { OnOk result (feed.new.items ≡ announcements desk terms.now seats.now) }
+    ensures items { OnOk result (feed.new.items ≡ announcements occasion desk terms.now seats.now) }
     ensures viewers { OnOk result (feed.new.viewers ≡ map from_start (seat_list seats.now)) }
     ensures room { OnOk result (8 ≤ feed.new.room) }
 {
     feed.reserve(6 + ROOM_TO_END)?;
     add_players(feed, seats)?;
-    feed.add(announcement(alloc, desk, terms, 1, &seats.first)?);
+    feed.add(announcement(alloc, occasion, desk, terms, 1, &seats.first)?);
     if let Some(players) = &seats.second {
-        feed.add(announcement(alloc, desk, terms, 2, players)?);
+        feed.add(announcement(alloc, occasion, desk, terms, 2, players)?);
     }
     Ok(())
 }
 
 /// Shows each board at the beginning.
-fn show_each(feed: &mut Feed<Item>, desk: u8, seats: &Seats, boards: &Boards)
+pub(crate) fn show_each(feed: &mut Feed<Item>, desk: u8, seats: &Seats, boards: &Boards)
     requires low { 1 ≤ desk }
     requires high { desk ≤ 128 }
     requires room { 4 ≤ feed.old.room }
@@ -131,6 +159,7 @@ fn show(feed: &mut Feed<Item>, desk: u8, players: &Opponents, board: &GameBoard)
 /// The line that tells that a game begins at the board of that number.
 fn announcement(
     alloc: Global,
+    occasion: Occasion,
     desk: u8,
     terms: &Terms,
     number: u8,
@@ -138,11 +167,28 @@ fn announcement(
 ) -> Result<Item, NoMemory>
     requires low { 1 ≤ desk }
     requires high { desk ≤ 128 }
-    ensures { IfOk result (λ item. item ≡ announcement desk terms.now number players.now) }
+    ensures { IfOk result (λ item. item ≡ announcement occasion desk terms.now number players.now) }
 {
     let game = game_number(desk, number);
-    let line = created_line(alloc, game, &players.white.name, &players.black.name, terms)?;
-    Ok(Item::Talk(line))
+    Ok(Item::Talk(news(alloc, occasion, game, players, terms)?))
+}
+
+/// The text of that line.
+fn news(
+    alloc: Global,
+    occasion: Occasion,
+    game: u16,
+    players: &Opponents,
+    terms: &Terms,
+) -> Result<Line, NoMemory>
+    ensures { IfOk result (λ line. line ≡ news occasion game players.now.white.name players.now.black.name terms.now) }
+{
+    match occasion {
+        Occasion::Start => created_line(alloc, game, &players.white.name, &players.black.name, terms),
+        Occasion::Resumption => {
+            continued_line(alloc, game, &players.white.name, &players.black.name, terms)
+        }
+    }
 }
 
 /// The players are viewers from the start, where nobody looks on yet.

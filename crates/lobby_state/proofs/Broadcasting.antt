@@ -1,14 +1,17 @@
 -- A broadcast goes from member to member, and what a broadcast leaves well-formed.
-use Rattle.std.proofs.Common.{◌≡◌, ℕ, ◌+◌, ◌-◌, zero, suc, Bool, true, false, cond, List, [], ◌∷◌, ◌++◌, Some, length, take, drop, slice_get, refl, sym, ap, ◌∙◌, arith}
+use Rattle.std.proofs.Common.{◌≡◌, ℕ, ◌+◌, zero, suc, Bool, true, false, not, cond, List, [], ◌∷◌, ◌++◌, Some, take, drop, slice_get, refl, sym, ap, ◌∙◌, arith}
 use Rattle.std.proofs.Math.ListN.{set}
-use Rattle.std.proofs.lemmas.List.{append_assoc, drop-set, drop-set-lt, length_push, set-set, take_at, take_more_set}
+use Rattle.std.proofs.lemmas.Bool.{and_parts, not-true}
+use Rattle.std.proofs.lemmas.List.{append_assoc, drop-set, drop-set-lt, set-set, take_more_set}
 use Rattle.std.proofs.lemmas.List.Sums.{sum_by-cons}
 use Rattle.std.proofs.lemmas.Option.{slice_get_within}
+use Rattle.channel_feed.specs.Waiting.{without_last}
+use Rattle.channel_feed.proofs.TakenBack.{without_last-with_line}
 use Rattle.fics_words.specs.Handle.{key_of}
 use Rattle.lobby_state.specs.declared.member.Member.{Member}
 use Rattle.lobby_state.specs.Broadcast.{broadcast, heard, hears, hearing}
 use Rattle.lobby_state.specs.Lobby.{LobbyState}
-use Rattle.lobby_state.specs.Match.{with_line}
+use Rattle.lobby_state.specs.Match.{is_full, with_line}
 use Rattle.lobby_state.specs.WellFormed.{IsWellFormed, HasSeats}
 use Rattle.lobby_state.proofs.Lists.{map-map_same, All-map_each, get-set_same}
 use Rattle.lobby_state.proofs.WellFormed.{kept}
@@ -64,17 +67,19 @@ went_out test line xs after i x there e is went =
     ∙ ap (λ (ms : List Member). take i xs ++ broadcast test line ms) (sym (from_here xs i x e))
 
 -- a line that was put last is taken back
-pub taken_back : (line : List ℕ) (m : Member)
-    → record m { waiting = take (length (m.waiting ++ line ∷ []) - 1) (m.waiting ++ line ∷ []) } ≡ m
-taken_back line m =
-    ap (λ (lines : List (List ℕ)). record m { waiting = lines })
-    (take_at m.waiting (line ∷ []) (length (m.waiting ++ line ∷ []) - 1) (omega (arith, length_push m.waiting line)))
+taken_back : (line : List ℕ) (m : Member) → is_full m ≡ false → record m { waiting = without_last (with_line line m).waiting } ≡ m
+taken_back line m room =
+    ap (λ (lines : List (List ℕ)). record m { waiting = lines }) (without_last-with_line line m.waiting room)
+
+-- there was room for a line that was heard
+room_heard : (test : Member → Bool) (m : Member) → hears test m ≡ true → is_full m ≡ false
+room_heard test m heard = not-true (is_full m) (and_parts (test m) (not (is_full m)) heard).1
 
 -- where memory ran out behind a member that was told, the members are as before
 pub undone : (test : Member → Bool) (line : List ℕ) (xs after : List Member) (i : ℕ) (x there now back : Member) (is_told : Bool)
     → slice_get xs i ≡ Some x → there ≡ hearing test line x → is_told ≡ hears test x → is_told ≡ true
     → after ≡ set xs i there → slice_get after i ≡ Some now
-    → back ≡ record now { waiting = take (length now.waiting - 1) now.waiting } → set after i back ≡ xs
+    → back ≡ record now { waiting = without_last now.waiting } → set after i back ≡ xs
 undone test line xs after i x there now back is_told e is told was same found taken =
     let heard : hears test x ≡ true = sym told ∙ was in
     let with : there ≡ with_line line x = is ∙ ap (λ b. cond b (with_line line x) x) heard in
@@ -82,7 +87,7 @@ undone test line xs after i x there now back is_told e is told was same found ta
     let both : Some there ≡ Some now = sym at ∙ ap (λ (ms : List Member). slice_get ms i) (sym same) ∙ found in
     let one : there ≡ now = cc in
     let fresh : now ≡ with_line line x = sym one ∙ with in
-    let old : back ≡ x = taken ∙ ap (λ (m : Member). record m { waiting = take (length m.waiting - 1) m.waiting }) fresh ∙ taken_back line x in
+    let old : back ≡ x = taken ∙ ap (λ (m : Member). record m { waiting = without_last m.waiting }) fresh ∙ taken_back line x (room_heard test x heard) in
     ap (λ (ms : List Member). set ms i back) same ∙ ap (λ (m : Member). set (set xs i there) i m) old ∙ put_back xs i x there e
 
 session_by_test : (b : Bool) (line : List ℕ) (m : Member) → (cond b (with_line line m) m).session ≡ m.session

@@ -167,7 +167,7 @@ all_there P (x ∷ xs) (suc i) h = all_there P xs i (All-tail P x xs h)
 boards_in : (started : ℕ) (slot : Option (Option Game)) → IfSome slot (IsStarted started) → HasBoards (game_in slot)
 boards_in started None h = tt
 boards_in started (Some None) h = tt
-boards_in started (Some (Some game)) h = h.2
+boards_in started (Some (Some game)) h = h.boards
 
 has_boards : (lobby : LobbyState) → IsWellFormed lobby → (desk : ℕ) → HasBoards (game_at lobby desk)
 has_boards lobby h desk =

@@ -1,15 +1,15 @@
 -- What each lobby act keeps, and what follows of its answer and of the lobby afterwards, for all acts alike.
 use Rattle.std.proofs.Common.{◌≡◌, ℕ, false, Option, None, Some, Result, Ok, Err, refl, sym, subst}
 use Rattle.std.specs.Prelude.{IfOk}
-use Rattle.fics_words.specs.Effect.{Effect, Takes, answered, first_cause, unless}
+use Rattle.fics_words.specs.Effect.{Effect, NoneHolds, Takes, answered, first_cause, unless}
 use Rattle.fics_words.specs.declared.fail.Fail.{Fail}
 use Rattle.fics_words.specs.declared.fail.Fail.TheVariants.{Refused, Memory}
 use Rattle.fics_words.specs.declared.refusal.Refusal.{Refusal}
 use Rattle.lobby_state.specs.declared.acts.LobbyAct.{LobbyAct}
 use Rattle.lobby_state.specs.declared.acts.LobbyAct.TheVariants.{Enter, Register, Match, Unpost, Sought, Who, Where, Fetch, Going, Bye, InUse, Var, Tell, Shout, Decline, Withdraw, Post, Channel, TellChannel, InChannel, Partner, Ptell, List, Pending, Games, Find, FindGame, SimOpen, SimNext, SimPrev, GoBoard}
 use Rattle.lobby_state.specs.declared.acts.LobbyReply.{LobbyReply}
-use Rattle.lobby_state.specs.Acts.{LobbyNeedsNoMemory, lobby_after, lobby_answer, lobby_effect}
-use Rattle.lobby_state.specs.Keeps.{Keeps, TellsDesks}
+use Rattle.lobby_state.specs.Acts.{FitsLobby, LobbyNeedsNoMemory, lobby_after, lobby_answer, lobby_effect}
+use Rattle.lobby_state.specs.Keeps.{Keeps, KeepsWhere, TellsDesks}
 use Rattle.lobby_state.specs.Lobby.{LobbyState}
 use Rattle.lobby_state.specs.WellFormed.{IsWellFormed}
 use Rattle.lobby_state.proofs.Causes.{none_holds}
@@ -45,39 +45,43 @@ use Rattle.lobby_state.proofs.KeepsWithdraw.{keeps_withdraw}
 use Rattle.lobby_state.proofs.KeepsPartner.{keeps_partner}
 use Rattle.lobby_state.proofs.KeepsPtell.{keeps_ptell}
 
+-- most acts keep it whatever their numbers are
+always : {conditions : Type 0} {lobby : LobbyState} {effect : Effect LobbyState LobbyReply} → Keeps lobby effect → KeepsWhere conditions lobby effect
+always keeps = record { formed = λ _. keeps.formed; games = keeps.games; tells = keeps.tells }
+
 -- the table: what each act keeps
-pub keeps_act : (lobby : LobbyState) (session : ℕ) (act : LobbyAct) → Keeps lobby (lobby_effect lobby session act)
-keeps_act lobby session (Enter name digest) = keeps_enter lobby session name digest
-keeps_act lobby session (Register digest) = keeps_registration lobby session digest
+pub keeps_act : (lobby : LobbyState) (session : ℕ) (act : LobbyAct) → KeepsWhere (FitsLobby act) lobby (lobby_effect lobby session act)
+keeps_act lobby session (Enter name digest) = always (keeps_enter lobby session name digest)
+keeps_act lobby session (Register digest) = always (keeps_registration lobby session digest)
 keeps_act lobby session (Match to terms) = keeps_match lobby session to terms
 keeps_act lobby session (Post terms) = keeps_post lobby session terms
-keeps_act lobby session (Unpost number) = keeps_unpost lobby session number
-keeps_act lobby session Sought = keeps_sought lobby session
-keeps_act lobby session Who = keeps_who lobby session
-keeps_act lobby session Pending = keeps_pending lobby session
-keeps_act lobby session Games = keeps_games lobby session
-keeps_act lobby session (Var which on) = keeps_var lobby session which on
-keeps_act lobby session (List which name on) = keeps_list lobby session which name on
-keeps_act lobby session (Tell to text) = keeps_tell lobby session to text
-keeps_act lobby session (Shout text) = keeps_shout lobby session text
-keeps_act lobby session (Channel channel on) = keeps_channel lobby session channel on
-keeps_act lobby session (TellChannel channel text) = keeps_tell_channel lobby session channel text
-keeps_act lobby session (InChannel channel) = keeps_in_channel lobby session channel
-keeps_act lobby session (Decline name) = keeps_decline lobby session name
-keeps_act lobby session (Withdraw name) = keeps_withdraw lobby session name
-keeps_act lobby session (Partner name) = keeps_partner lobby session name
-keeps_act lobby session (Ptell text) = keeps_ptell lobby session text
-keeps_act lobby session SimOpen = keeps_sim_open lobby session
-keeps_act lobby session SimNext = keeps_sim_next lobby session
-keeps_act lobby session SimPrev = keeps_sim_prev lobby session
-keeps_act lobby session (GoBoard name) = keeps_go_board lobby session name
-keeps_act lobby session (Find name) = keeps_find lobby session name
-keeps_act lobby session (FindGame number) = keeps_find_game lobby session number
-keeps_act lobby session Where = keeps_where lobby session
-keeps_act lobby session Fetch = keeps_fetch lobby session
-keeps_act lobby session Going = keeps_going lobby session
-keeps_act lobby session Bye = keeps_bye lobby session
-keeps_act lobby session InUse = keeps_in_use lobby
+keeps_act lobby session (Unpost number) = always (keeps_unpost lobby session number)
+keeps_act lobby session Sought = always (keeps_sought lobby session)
+keeps_act lobby session Who = always (keeps_who lobby session)
+keeps_act lobby session Pending = always (keeps_pending lobby session)
+keeps_act lobby session Games = always (keeps_games lobby session)
+keeps_act lobby session (Var which on) = always (keeps_var lobby session which on)
+keeps_act lobby session (List which name on) = always (keeps_list lobby session which name on)
+keeps_act lobby session (Tell to text) = always (keeps_tell lobby session to text)
+keeps_act lobby session (Shout text) = always (keeps_shout lobby session text)
+keeps_act lobby session (Channel channel on) = always (keeps_channel lobby session channel on)
+keeps_act lobby session (TellChannel channel text) = always (keeps_tell_channel lobby session channel text)
+keeps_act lobby session (InChannel channel) = always (keeps_in_channel lobby session channel)
+keeps_act lobby session (Decline name) = always (keeps_decline lobby session name)
+keeps_act lobby session (Withdraw name) = always (keeps_withdraw lobby session name)
+keeps_act lobby session (Partner name) = always (keeps_partner lobby session name)
+keeps_act lobby session (Ptell text) = always (keeps_ptell lobby session text)
+keeps_act lobby session SimOpen = always (keeps_sim_open lobby session)
+keeps_act lobby session SimNext = always (keeps_sim_next lobby session)
+keeps_act lobby session SimPrev = always (keeps_sim_prev lobby session)
+keeps_act lobby session (GoBoard name) = always (keeps_go_board lobby session name)
+keeps_act lobby session (Find name) = always (keeps_find lobby session name)
+keeps_act lobby session (FindGame number) = always (keeps_find_game lobby session number)
+keeps_act lobby session Where = always (keeps_where lobby session)
+keeps_act lobby session Fetch = always (keeps_fetch lobby session)
+keeps_act lobby session Going = always (keeps_going lobby session)
+keeps_act lobby session Bye = always (keeps_bye lobby session)
+keeps_act lobby session InUse = always (keeps_in_use lobby)
 
 formed_unless : (refused : Option Refusal) (old new : LobbyState) → (refused ≡ None → IsWellFormed new) → IsWellFormed old
     → IsWellFormed (unless refused old new)
@@ -93,11 +97,12 @@ tells_answered None reply h = h
 tells_answered (Some cause) reply h = tt
 
 -- the lobby after an act is well-formed
-pub IsWellFormed-lobby_after : (lobby : LobbyState) (session : ℕ) (act : LobbyAct) → IsWellFormed lobby → IsWellFormed (lobby_after lobby session act)
-IsWellFormed-lobby_after lobby session act h =
+pub IsWellFormed-lobby_after : (lobby : LobbyState) (session : ℕ) (act : LobbyAct) → FitsLobby act → IsWellFormed lobby
+    → IsWellFormed (lobby_after lobby session act)
+IsWellFormed-lobby_after lobby session act fits h =
     let effect = lobby_effect lobby session act in
     formed_unless (first_cause effect.causes) lobby effect.after
-    (λ none. (keeps_act lobby session act).formed (none_holds effect.causes none) h) h
+    (λ none. (keeps_act lobby session act).formed fits (none_holds effect.causes none) h) h
 
 -- no lobby act starts or ends a game
 pub games-lobby_after : (lobby : LobbyState) (session : ℕ) (act : LobbyAct) → (lobby_after lobby session act).games ≡ lobby.games
@@ -113,9 +118,9 @@ tells-lobby_answer lobby session act h =
 
 -- a lobby in which an act was carried out is well-formed
 pub IsWellFormed-taken : (lobby : LobbyState) (effect : Effect LobbyState LobbyReply) (new : LobbyState) (result : Result LobbyReply Fail)
-    → Keeps lobby effect → IsWellFormed lobby → Takes effect lobby new result → IsWellFormed new
+    → (NoneHolds effect.causes → IsWellFormed lobby → IsWellFormed effect.after) → IsWellFormed lobby → Takes effect lobby new result → IsWellFormed new
 IsWellFormed-taken lobby effect new (Ok reply) keeps h t =
-    subst IsWellFormed (sym t.2) (keeps.formed (none_holds effect.causes t.0) h)
+    subst IsWellFormed (sym t.2) (keeps (none_holds effect.causes t.0) h)
 IsWellFormed-taken lobby effect new (Err (Refused cause)) keeps h t = subst IsWellFormed (sym t.1) h
 IsWellFormed-taken lobby effect new (Err Memory) keeps h t = subst IsWellFormed (sym t.1) h
 

@@ -1,7 +1,5 @@
 -- What a Bye keeps.
-use Rattle.std.proofs.Common.{◌≡◌, ◌≢◌, ℕ, Bool, not, eqb, List, None, filter, refl, sym, ap, subst, arith}
-use Rattle.std.specs.Prelude.{All}
-use Rattle.std.proofs.lemmas.Bool.{or_parts, not-true}
+use Rattle.std.proofs.Common.{◌≡◌, ◌≢◌, ℕ, Bool, not, eqb, List, filter, refl, sym, subst, arith}
 use Rattle.std.proofs.lemmas.List.Elements.{All-filter}
 use Rattle.std.proofs.lemmas.List.Kept.{AllPairs-filter}
 use Rattle.std.proofs.lemmas.List.Sums.{count_by-le-length, length-filter}
@@ -9,13 +7,15 @@ use Rattle.fics_words.specs.Handle.{key_of}
 use Rattle.lobby_state.specs.declared.member.Member.{Member}
 use Rattle.lobby_state.specs.Bye.{bye_effect}
 use Rattle.lobby_state.specs.Keeps.{Keeps}
-use Rattle.lobby_state.specs.Lobby.{LobbyState, concerns, is_session}
-use Rattle.lobby_state.specs.WellFormed.{IsWellFormed, IsBetweenMembers, AreSeeksOf, ArePartnersOf, HasSeats, sessions_of}
-use Rattle.lobby_state.proofs.Lists.{All-filter_passing, map-filter, Contains-filter}
+use Rattle.lobby_state.specs.Lobby.{LobbyState, is_session}
+use Rattle.lobby_state.specs.WellFormed.{IsWellFormed, AreChallengesOf, AreSeeksOf, ArePartnersOf, HasSeats, sessions_of}
+use Rattle.lobby_state.proofs.Lists.{map-filter}
+use Rattle.lobby_state.proofs.ChallengeRows.{AreChallengesOf-without}
 use Rattle.lobby_state.proofs.SeekRows.{AreSeeksOf-without}
 use Rattle.lobby_state.proofs.PartnerRows.{ArePartnersOf-without}
 use Rattle.partner_link.specs.Partners.{without}
-use Rattle.seek_match.specs.Seeks.{is_by}
+use Rattle.seek_match.specs.Matches.{without_challenges_of}
+use Rattle.seek_match.specs.Seeks.{without_seeks_of}
 
 parted : (lobby : LobbyState) (session : ℕ) → IsWellFormed lobby → IsWellFormed (bye_effect lobby session).after
 parted lobby session h =
@@ -28,16 +28,9 @@ parted lobby session h =
       hall = omega (arith, length-filter others lobby.members, count_by-le-length others lobby.members, h.hall);
       sessions = AllPairs-filter (λ a b. a.session ≢ b.session) others lobby.members h.sessions;
       handles = AllPairs-filter (λ a b. key_of a.name ≢ key_of b.name) others lobby.members h.handles;
-      challenges = subst (λ (ss : List ℕ). All (IsBetweenMembers ss) (filter (λ c. not (concerns session c)) lobby.challenges)) (sym sessions)
-          (All-filter_passing (IsBetweenMembers (sessions_of lobby.members)) (IsBetweenMembers left) (λ c. not (concerns session c))
-          (λ c passes b.
-          let parts = or_parts (eqb c.from session) (eqb c.to session) (not-true (concerns session c) passes) in
-          record {
-            from = Contains-filter stays (sessions_of lobby.members) c.from (ap not parts.0) b.from;
-            to = Contains-filter stays (sessions_of lobby.members) c.to (ap not parts.1) b.to;
-            differ = b.differ;
-          }) lobby.challenges h.challenges);
-      seeks = subst (λ (ss : List ℕ). AreSeeksOf ss (filter (λ seek. not (is_by session None seek)) lobby.seeks)) (sym sessions)
+      challenges = subst (λ (ss : List ℕ). AreChallengesOf ss (without_challenges_of session lobby.challenges)) (sym sessions)
+          (AreChallengesOf-without (sessions_of lobby.members) session lobby.challenges h.challenges);
+      seeks = subst (λ (ss : List ℕ). AreSeeksOf ss (without_seeks_of session lobby.seeks)) (sym sessions)
           (AreSeeksOf-without (sessions_of lobby.members) session lobby.seeks h.seeks);
       partners = subst (λ (ss : List ℕ). ArePartnersOf ss (without lobby.partners session)) (sym sessions)
           (ArePartnersOf-without (sessions_of lobby.members) session lobby.partners h.partners);

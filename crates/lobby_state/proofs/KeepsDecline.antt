@@ -1,24 +1,24 @@
 -- What a Decline keeps.
 use Rattle.std.proofs.Common.{◌≡◌, ℕ, not, List, [], Option, None, Some, refl, codes}
-use Rattle.lobby_state.specs.declared.challenge.Challenge.{Challenge}
+use Rattle.seek_match.specs.declared.challenge.Challenge.{Challenge}
 use Rattle.lobby_state.specs.declared.member.Member.{Member}
 use Rattle.lobby_state.specs.Accept.{offer_of}
 use Rattle.lobby_state.specs.Broadcast.{broadcast}
 use Rattle.lobby_state.specs.Decline.{decline_effect, declined}
 use Rattle.lobby_state.specs.Keeps.{Keeps}
 use Rattle.lobby_state.specs.Lobby.{LobbyState, is_session, member_of}
-use Rattle.lobby_state.specs.Match.{is_same_pair}
 use Rattle.lobby_state.specs.Said.{said}
 use Rattle.lobby_state.specs.WellFormed.{IsWellFormed}
 use Rattle.lobby_state.proofs.Broadcasting.{IsWellFormed-broadcast}
 use Rattle.lobby_state.proofs.WellFormed.{challenges_gone}
+use Rattle.seek_match.specs.Matches.{is_between}
 
 formed_declined : (lobby : LobbyState) (caller : Option Member) (offer : Option Challenge) → IsWellFormed lobby → IsWellFormed (declined lobby caller offer)
 formed_declined lobby None offer h = h
 formed_declined lobby (Some caller) None h = h
 formed_declined lobby (Some caller) (Some offer) h =
     let line = said caller.name (codes " declines your challenge.") [] in
-    challenges_gone (record lobby { members = broadcast (is_session offer.from) line lobby.members }) (λ other. not (is_same_pair offer other))
+    challenges_gone (record lobby { members = broadcast (is_session offer.from) line lobby.members }) (λ other. not (is_between offer.from offer.to other))
     (IsWellFormed-broadcast lobby (is_session offer.from) line h)
 
 games_declined : (lobby : LobbyState) (caller : Option Member) (offer : Option Challenge) → (declined lobby caller offer).games ≡ lobby.games

@@ -1,10 +1,9 @@
 -- What an Enter keeps.
 use Rattle.std.proofs.Common.{◌≡◌, ◌≢◌, ℕ, ◌<◌, length, length-append, map, arith, true, false, List, [], ◌∷◌, ◌++◌, Option, None, Some, is_some, bytes_eq, leb, refl, sym, ap, subst, ◌∙◌, rules, tests}
-use Rattle.std.specs.Prelude.{All}
 use Rattle.std.proofs.lemmas.Bool.{or_parts, eqb-false}
 use Rattle.std.proofs.lemmas.Cmp.{nat_list_eq_equiv}
 use Rattle.std.proofs.lemmas.List.{length-map, map-append}
-use Rattle.std.proofs.lemmas.List.Elements.{All-nil, All-push, All-weaker, Contains-append_left}
+use Rattle.std.proofs.lemmas.List.Elements.{All-nil, All-push, Contains-append_left}
 use Rattle.std.proofs.lemmas.List.Quantifiers.{all_pairs_push}
 use Rattle.fics_words.specs.Handle.{key_of}
 use Rattle.lobby_state.specs.declared.member.Member.{Member}
@@ -16,8 +15,9 @@ use Rattle.login_handles.specs.declared.check.Check.TheVariants.{NeedPassword as
 use Rattle.lobby_state.specs.Enter.{enter_effect, entrant_of, guest_in, names_taken, newcomer, welcome, welcomed, with_newcomer}
 use Rattle.lobby_state.specs.Keeps.{Keeps, TellsDesks}
 use Rattle.lobby_state.specs.Lobby.{LobbyState, has_handle, holder_of, is_session, member_of}
-use Rattle.lobby_state.specs.WellFormed.{IsWellFormed, IsBetweenMembers, AreSeeksOf, ArePartnersOf, IsSeatOf, HasSeats, sessions_of}
+use Rattle.lobby_state.specs.WellFormed.{IsWellFormed, AreChallengesOf, AreSeeksOf, ArePartnersOf, IsSeatOf, HasSeats, sessions_of}
 use Rattle.lobby_state.proofs.Lists.{find-none}
+use Rattle.lobby_state.proofs.ChallengeRows.{AreChallengesOf-more}
 use Rattle.lobby_state.proofs.SeekRows.{AreSeeksOf-more}
 use Rattle.lobby_state.proofs.PartnerRows.{ArePartnersOf-more}
 
@@ -44,13 +44,9 @@ with_one_more lobby session name few alone free h = record {
       (λ k d inside. same_key _ (key_of name) (find-none (has_handle (key_of name)) lobby.members free k d inside));
   challenges =
       let more = map-append (λ (m : Member). m.session) lobby.members (newcomer session name ∷ []) in
-      subst (λ (ss : List ℕ). All (IsBetweenMembers ss) lobby.challenges) (sym more)
-      (All-weaker (IsBetweenMembers (sessions_of lobby.members)) (IsBetweenMembers (sessions_of lobby.members ++ session ∷ []))
-      (λ c b. record {
-        from = Contains-append_left (sessions_of lobby.members) (session ∷ []) c.from b.from;
-        to = Contains-append_left (sessions_of lobby.members) (session ∷ []) c.to b.to;
-        differ = b.differ;
-      }) lobby.challenges h.challenges);
+      subst (λ (ss : List ℕ). AreChallengesOf ss lobby.challenges) (sym more)
+      (AreChallengesOf-more (sessions_of lobby.members) (sessions_of lobby.members ++ session ∷ []) lobby.challenges
+      (Contains-append_left (sessions_of lobby.members) (session ∷ [])) h.challenges);
   seeks =
       let more = map-append (λ (m : Member). m.session) lobby.members (newcomer session name ∷ []) in
       subst (λ (ss : List ℕ). AreSeeksOf ss lobby.seeks) (sym more)

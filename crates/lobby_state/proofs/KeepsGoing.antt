@@ -3,11 +3,12 @@ use Rattle.std.proofs.Common.{ℕ, None, not, refl}
 use Rattle.lobby_state.specs.Change.{change_first}
 use Rattle.lobby_state.specs.Going.{going_effect, leaving}
 use Rattle.lobby_state.specs.Keeps.{Keeps}
-use Rattle.lobby_state.specs.Lobby.{LobbyState, concerns, is_session, without_challenges, without_seeks}
+use Rattle.lobby_state.specs.Lobby.{LobbyState, is_session, without_challenges, without_seeks}
 use Rattle.lobby_state.proofs.WellFormed.{challenges_gone, member_changed, places_at_desks, seeks_gone, with_partners}
 use Rattle.lobby_state.specs.WellFormed.{IsWellFormed, sessions_of}
 use Rattle.lobby_state.proofs.PartnerRows.{ArePartnersOf-forgotten}
 use Rattle.partner_link.specs.Partners.{without}
+use Rattle.seek_match.specs.Matches.{concerns}
 use Rattle.seek_match.specs.Seeks.{is_by}
 
 pub keeps_going : (lobby : LobbyState) (session : ℕ) → Keeps lobby (going_effect lobby session)

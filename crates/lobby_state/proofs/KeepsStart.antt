@@ -4,7 +4,7 @@ use Rattle.std.specs.Prelude.{All, is_some}
 use Rattle.std.proofs.Math.ListN.{set}
 use Rattle.std.proofs.lemmas.Bool.{eqb-true}
 use Rattle.std.proofs.lemmas.List.{length-set}
-use Rattle.std.proofs.lemmas.List.Elements.{All-set, All-push, All-filter, All-weaker}
+use Rattle.std.proofs.lemmas.List.Elements.{All-set, All-push, All-weaker}
 use Rattle.std.proofs.lemmas.Option.{slice_get_within}
 use Rattle.chess_model.specs.declared.variant.Terms.{Terms}
 use Rattle.chess_model.specs.declared.variant.Variant.{Variant}
@@ -26,7 +26,8 @@ use Rattle.lobby_state.specs.Places.{PlaceList, is_full}
 use Rattle.lobby_state.specs.Pairing.{needs_partners}
 use Rattle.lobby_state.specs.Planned.{CanStart, FitsVariant}
 use Rattle.lobby_state.specs.Start.{in_seat, is_by_seated, is_settled, seated}
-use Rattle.lobby_state.specs.WellFormed.{IsWellFormed, IsBetweenMembers, IsSeatOf, IsStarted, HasSeats, sessions_of}
+use Rattle.lobby_state.specs.WellFormed.{IsWellFormed, IsSeatOf, IsStarted, HasSeats, sessions_of}
+use Rattle.lobby_state.proofs.ChallengeRows.{AreChallengesOf-filter}
 use Rattle.lobby_state.proofs.First.{position-within, find-found}
 use Rattle.lobby_state.proofs.Lists.{map-map_same, All-map_each, find-passes, get-set_same, get-set_other, get_inside}
 use Rattle.lobby_state.proofs.WellFormed.{kept, seeks_gone}
@@ -86,7 +87,9 @@ HasSeats-in_seat games desk serial terms seats member (Some number) is_desk in_u
 
 IsStarted-later : (started : ℕ) (game : Option Game) → IsStarted started game → IsStarted (started + 1) game
 IsStarted-later started None h = tt
-IsStarted-later started (Some game) h = (h.0, omega (arith, h.1), h.2)
+IsStarted-later started (Some game) h =
+    let before = h.given_out in
+    record { positive = h.positive; given_out = omega (arith, before); terms = h.terms; boards = h.boards }
 
 -- as many boards as the variant wants
 boards_by : (variant : Variant) (seats : Seats) → FitsVariant variant seats → is_some seats.second ≡ needs_partners variant
@@ -113,6 +116,12 @@ formed_seated lobby desk serial terms seats can h =
     let in_use = get-set_same lobby.games (desk - 1) (Some game) inside in
     let rising : All (IsStarted serial) lobby.games =
     subst (λ (n : ℕ). All (IsStarted n) lobby.games) (sym can.is_next) (All-weaker (IsStarted lobby.started) (IsStarted (lobby.started + 1)) (IsStarted-later lobby.started) lobby.games h.serials) in
+    let new : IsStarted serial (Some game) = record {
+      positive = omega (arith, can.is_next);
+      given_out = omega arith;
+      terms = can.are_terms;
+      boards = boards_by terms.variant seats can.boards;
+    } in
     let others : LobbyState = record lobby {
       members = map sit lobby.members;
       challenges = filter (λ c. not (is_settled lobby.members seats c)) lobby.challenges;
@@ -123,9 +132,9 @@ formed_seated lobby desk serial terms seats can h =
     (kept lobby (map sit lobby.members) (filter (λ c. not (is_settled lobby.members seats c)) lobby.challenges) games serial
     (map-map_same (λ m. m.session) sit (λ m. in_seat_session desk serial (seat_number m.session (seat_list seats)) m) lobby.members)
     (map-map_same (λ m. key_of m.name) sit (λ m. ap key_of (in_seat_name desk serial (seat_number m.session (seat_list seats)) m)) lobby.members)
-    (All-filter (λ c. not (is_settled lobby.members seats c)) (IsBetweenMembers (sessions_of lobby.members)) lobby.challenges h.challenges)
+    (AreChallengesOf-filter (sessions_of lobby.members) (λ c. not (is_settled lobby.members seats c)) lobby.challenges h.challenges)
     (length-set lobby.games (desk - 1) (Some game) ∙ h.games)
-    (All-set (IsStarted serial) lobby.games (desk - 1) (Some game) (omega (arith, can.is_next), omega arith, boards_by terms.variant seats can.boards) rising)
+    (All-set (IsStarted serial) lobby.games (desk - 1) (Some game) new rising)
     (All-map_each (HasSeats lobby.games) (HasSeats games) sit
     (λ m has. HasSeats-in_seat games desk serial terms seats m (seat_number m.session (seat_list seats)) can.is_desk in_use refl
     (All-weaker (IsSeatOf lobby.games m.session) (IsSeatOf games m.session) (λ p. IsSeatOf-started lobby.games (desk - 1) (Some game) m.session p can.is_free) m.places.rows has))

@@ -1,16 +1,16 @@
 -- What a Withdraw keeps.
 use Rattle.std.proofs.Common.{◌≡◌, ℕ, not, List, Option, None, Some, refl}
-use Rattle.lobby_state.specs.declared.challenge.Challenge.{Challenge}
+use Rattle.seek_match.specs.declared.challenge.Challenge.{Challenge}
 use Rattle.lobby_state.specs.Keeps.{Keeps}
 use Rattle.lobby_state.specs.Lobby.{LobbyState}
-use Rattle.lobby_state.specs.Match.{is_same_pair}
 use Rattle.lobby_state.specs.WellFormed.{IsWellFormed}
 use Rattle.lobby_state.specs.Withdraw.{own_of, withdraw_effect, withdrawn}
 use Rattle.lobby_state.proofs.WellFormed.{challenges_gone}
+use Rattle.seek_match.specs.Matches.{is_between}
 
 formed_withdrawn : (lobby : LobbyState) (own : Option Challenge) → IsWellFormed lobby → IsWellFormed (withdrawn lobby own)
 formed_withdrawn lobby None h = h
-formed_withdrawn lobby (Some own) h = challenges_gone lobby (λ other. not (is_same_pair own other)) h
+formed_withdrawn lobby (Some own) h = challenges_gone lobby (λ other. not (is_between own.from own.to other)) h
 
 games_withdrawn : (lobby : LobbyState) (own : Option Challenge) → (withdrawn lobby own).games ≡ lobby.games
 games_withdrawn lobby None = refl

@@ -2,6 +2,7 @@ pub mod First
 pub mod Words
 pub mod Lists
 pub mod SeekRows
+pub mod ChallengeRows
 pub mod PartnerRows
 pub mod Causes
 pub mod WellFormed
@@ -48,6 +49,7 @@ pub mod KeepsInUse
 pub mod Listing
 pub mod Copying
 pub mod KeepsActs
+pub mod DesksUsed
 pub mod Starts
 pub mod KeepsAccept
 pub mod KeepsPlay

@@ -7,9 +7,10 @@ use Rattle.std.proofs.lemmas.List.Elements.{All-append, All-cons, All-drop, All-
 use Rattle.std.proofs.lemmas.List.Sums.{sum_by-cons, sum_by-insert}
 use Rattle.chess_model.specs.declared.variant.Terms.{Terms}
 use Rattle.seek_match.specs.declared.seek.Seek.{Seek}
-use Rattle.seek_match.specs.Seeks.{is_by, next_number, posting}
+use Rattle.seek_match.specs.Seeks.{is_by, next_number, posting, without_seeks_of}
 use Rattle.seek_match.proofs.Rising.{RiseAbove-filter, RiseAbove-insert, first_gap-above, first_gap-within}
 use Rattle.lobby_state.specs.Pairing.{needs_partners}
+use Rattle.lobby_state.specs.Terms.{AreTerms}
 use Rattle.lobby_state.specs.WellFormed.{AreSeeksOf, IsByMember}
 use Rattle.lobby_state.proofs.Lists.{All-filter_passing, Contains-filter}
 
@@ -55,20 +56,20 @@ pub AreSeeksOf-more : (sessions more : List ℕ) (seeks : List Seek) → ((s : �
     → AreSeeksOf more seeks
 AreSeeksOf-more sessions more seeks step h = record {
   numbers = h.numbers;
-  members = All-weaker (IsByMember sessions) (IsByMember more) (λ seek by. record { by = step seek.by by.by; for_two = by.for_two }) seeks h.members;
+  members = All-weaker (IsByMember sessions) (IsByMember more) (λ seek by. record { by = step seek.by by.by; for_two = by.for_two; terms = by.terms }) seeks h.members;
   few = h.few;
 }
 
 -- a member goes with its seeks
 pub AreSeeksOf-without : (sessions : List ℕ) (session : ℕ) (seeks : List Seek) → AreSeeksOf sessions seeks
-    → AreSeeksOf (filter (λ s. not (eqb s session)) sessions) (filter (λ seek. not (is_by session None seek)) seeks)
+    → AreSeeksOf (filter (λ s. not (eqb s session)) sessions) (without_seeks_of session seeks)
 AreSeeksOf-without sessions session seeks h =
     let stays : ℕ → Bool = λ s. not (eqb s session) in
     let left = AreSeeksOf-filter sessions (λ seek. not (is_by session None seek)) seeks h in
     record {
       numbers = left.numbers;
       members = All-filter_passing (IsByMember sessions) (IsByMember (filter stays sessions)) (λ seek. not (is_by session None seek))
-          (λ seek passes by. record { by = Contains-filter stays sessions seek.by passes by.by; for_two = by.for_two }) seeks h.members;
+          (λ seek passes by. record { by = Contains-filter stays sessions seek.by passes by.by; for_two = by.for_two; terms = by.terms }) seeks h.members;
       few = left.few;
     }
 
@@ -115,9 +116,9 @@ one_more false n m e most less = omega (arith, e, most)
 
 -- a member who has fewer than three seeks posts another, of a game that two can play
 pub AreSeeksOf-posted : (sessions : List ℕ) (session : ℕ) (terms : Terms) (seeks : List Seek) → length sessions ≤ 256 → Contains sessions session
-    → needs_partners terms.variant ≡ false → leb 3 (count_by (is_by session None) seeks) ≡ false → AreSeeksOf sessions seeks
+    → needs_partners terms.variant ≡ false → AreTerms terms → leb 3 (count_by (is_by session None) seeks) ≡ false → AreSeeksOf sessions seeks
     → AreSeeksOf sessions (posting seeks session terms).after
-AreSeeksOf-posted sessions session terms seeks full there two room h =
+AreSeeksOf-posted sessions session terms seeks full there two bounds room h =
     let number = next_number seeks in
     let new : Seek = record { number = number; by = session; terms = terms } in
     let left = has_numbers_left sessions seeks full h in
@@ -128,7 +129,7 @@ AreSeeksOf-posted sessions session terms seeks full there two room h =
       numbers = RiseAbove-insert seeks 0 (number - 1) new h.numbers place (omega (arith, left, within)) refl;
       members = All-append (IsByMember sessions) (take (number - 1) seeks) (new ∷ drop (number - 1) seeks)
           (All-take (IsByMember sessions) (number - 1) seeks h.members)
-          (All-cons (IsByMember sessions) new (drop (number - 1) seeks) (record { by = there; for_two = two })
+          (All-cons (IsByMember sessions) new (drop (number - 1) seeks) (record { by = there; for_two = two; terms = bounds })
           (All-drop (IsByMember sessions) (number - 1) seeks h.members));
       few = λ s.
           one_more (is_by s None new) (count_by (is_by s None) seeks) (count_by (is_by s None) (insert seeks (number - 1) new))

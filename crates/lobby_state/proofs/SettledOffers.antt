@@ -4,7 +4,7 @@ use Rattle.std.specs.Prelude.{All}
 use Rattle.std.proofs.lemmas.List.Elements.{All-nil, All-cons, All-weaker}
 use Rattle.chess_model.specs.declared.variant.Terms.{Terms}
 use Rattle.fics_words.specs.declared.seats.Seats.{Seats}
-use Rattle.lobby_state.specs.declared.challenge.Challenge.{Challenge}
+use Rattle.seek_match.specs.declared.challenge.Challenge.{Challenge}
 use Rattle.lobby_state.specs.Lobby.{LobbyState}
 use Rattle.lobby_state.specs.SettledOffers.{IsGiversWithOthers, SettleOffers}
 use Rattle.lobby_state.specs.Start.{is_by_seated, is_giver, is_seated, is_settled, seated}

@@ -2,7 +2,7 @@
 use Rattle.std.proofs.Common.{◌≡◌, ◌≢◌, ℕ, ◌+◌, ◌-◌, ◌<◌, zero, suc, Bool, true, false, ◌&&◌, ◌||◌, List, [], ◌∷◌, Option, None, Some, is_none, length, get_or, slice_get, refl, sym, ap, subst, ◌∙◌, inl, inr, arith}
 use Rattle.std.specs.Prelude.{All}
 use Rattle.std.specs.List.{AllPairs, find, position, position_or_len}
-use Rattle.std.proofs.lemmas.Bool.{cases_lt, eqb-true, eqb-false}
+use Rattle.std.proofs.lemmas.Bool.{cases_lt, eqb-true, eqb-false, leb-false}
 use Rattle.std.proofs.lemmas.Bool.Decides.{eqb_tells}
 use Rattle.std.proofs.lemmas.List.Elements.{All-nil, All-cons}
 use Rattle.std.proofs.lemmas.List.Folds.{find_at}
@@ -24,6 +24,8 @@ use Rattle.lobby_state.specs.Lobby.{LobbyState, free_slot, gives, is_session, me
 use Rattle.lobby_state.specs.Pairing.{are_partners, beside, lack_partner, member_at, needs_partners, paired}
 use Rattle.lobby_state.specs.Planned.{AreApart, FitsVariant, IsMember, IsPlanned, SitCrosswise}
 use Rattle.lobby_state.specs.Starting.{has_white, opponents_of, player_of, second_board, start_plan}
+use Rattle.lobby_state.specs.ShelfRoom.{is_shelf_full, places_taken}
+use Rattle.lobby_state.specs.Terms.{AreTerms}
 use Rattle.lobby_state.specs.WellFormed.{IsWellFormed}
 use Rattle.lobby_state.proofs.First.{position-within, find-found}
 use Rattle.lobby_state.proofs.Lists.{find-contained, find-passes, get_inside}
@@ -316,11 +318,11 @@ seats_fit lobby Bughouse white offering accepting (Some first) (Some second) one
 
 -- the plan of a game where the two and a free desk are there, and partners where they are needed
 pub planned_where : (lobby : LobbyState) (session from : ℕ) (accepting : Member) (terms : Terms) (offering : Member) (slot : ℕ)
-    → member_of lobby session ≡ Some accepting → member_of lobby from ≡ Some offering → from ≢ session
+    → AreTerms terms → member_of lobby session ≡ Some accepting → member_of lobby from ≡ Some offering → from ≢ session
     → are_partners lobby (paired offering accepting terms) ≡ false → lack_partner lobby (paired offering accepting terms) ≡ false
-    → free_slot lobby ≡ Some slot → IsWellFormed lobby
+    → free_slot lobby ≡ Some slot → is_shelf_full lobby ≡ false → IsWellFormed lobby
     → IsPlanned lobby (start_plan lobby (Some (paired offering accepting terms)) (Some slot))
-planned_where lobby session from accepting terms offering slot first third differ away full found h =
+planned_where lobby session from accepting terms offering slot bounds first third differ away full found room h =
     let own = found_there lobby session accepting first in
     let theirs = found_there lobby from offering third in
     let opposed : offering.session ≢ accepting.session = λ same. differ (sym theirs.0 ∙ same ∙ own.0) in
@@ -334,6 +336,8 @@ planned_where lobby session from accepting terms offering slot first third diffe
       is_desk = (omega arith, omega (arith, long));
       is_free = ap (slice_get lobby.games) back ∙ free-is lobby.games slot found;
       is_next = refl;
+      room = leb-false 10000 (places_taken lobby) room;
+      are_terms = bounds;
       members = fit.members;
       apart = fit.apart;
       boards = fit.boards;

@@ -6,6 +6,7 @@ use Rattle.std.specs.List.{find}
 use Rattle.std.proofs.lemmas.Bool.{eqb-true}
 use Rattle.std.proofs.lemmas.List.{append-nil, append_assoc}
 use Rattle.std.proofs.lemmas.List.Elements.{All-head, All-tail}
+use Rattle.channel_feed.specs.Waiting.{is_full as are_full}
 use Rattle.chess_model.specs.declared.variant.Terms.{Terms}
 use Rattle.fics_words.specs.Effect.{first_cause, unless}
 use Rattle.fics_words.specs.Seats.{seat_list, seat_number}
@@ -16,7 +17,7 @@ use Rattle.lobby_state.specs.declared.acts.LobbyAct.{LobbyAct}
 use Rattle.lobby_state.specs.declared.acts.LobbyAct.TheVariants.{Enter, Register, Match, Unpost, Sought, Who, Where, Fetch, Going, Bye, InUse, Var, Tell, Shout, Decline, Withdraw, Post, Channel, TellChannel, InChannel, Partner, Ptell, List as OnList, Pending, Games, Find, FindGame, SimOpen, SimNext, SimPrev, GoBoard}
 use Rattle.lobby_state.specs.declared.acts.Plan.{Plan}
 use Rattle.lobby_state.specs.declared.acts.Plan.TheVariants.{Start, Clear}
-use Rattle.lobby_state.specs.declared.challenge.Challenge.{Challenge}
+use Rattle.seek_match.specs.declared.challenge.Challenge.{Challenge}
 use Rattle.lobby_state.specs.declared.member.Member.{Member}
 use Rattle.lobby_state.specs.declared.name_list.WhichList.{WhichList}
 use Rattle.lobby_state.specs.declared.name_list.WhichList.TheVariants.{Censor, Noplay}
@@ -61,8 +62,12 @@ record Longer (old new : Member) : Type 0 where
 same_lines : (old new : Member) → new.session ≡ old.session → new.waiting ≡ old.waiting → Longer old new
 same_lines old new session same = record { session = session; lines = subst (BeginsWith old.waiting) (sym same) (begins_same old.waiting) }
 
+line_by : (full : Bool) (line : List ℕ) (lines : List (List ℕ)) → BeginsWith lines (cond full lines (lines ++ line ∷ []))
+line_by true line lines = begins_same lines
+line_by false line lines = record { more = line ∷ []; is = refl }
+
 one_line : (line : List ℕ) (m : Member) → Longer m (with_line line m)
-one_line line m = record { session = refl; lines = record { more = line ∷ []; is = refl } }
+one_line line m = record { session = refl; lines = line_by (are_full m.waiting) line m.waiting }
 
 -- the lines of a member that is found
 abbrev Kept : ℕ → List Member → List Member → Type 0

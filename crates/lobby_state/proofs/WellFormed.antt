@@ -3,18 +3,19 @@ use Rattle.std.proofs.Common.{◌≡◌, ℕ, ◌<◌, ◌≤◌, Bool, List, []
 use Rattle.std.specs.Prelude.{All}
 use Rattle.std.specs.List.{find}
 use Rattle.std.proofs.lemmas.List.{length-map}
-use Rattle.std.proofs.lemmas.List.Elements.{All-nil, All-filter, All-replicate, All-weaker, All-head, All-tail}
+use Rattle.std.proofs.lemmas.List.Elements.{All-nil, All-replicate, All-weaker, All-head, All-tail}
 use Rattle.channel_feed.specs.declared.channels.Membership.{Membership}
 use Rattle.fics_words.specs.Handle.{key_of}
-use Rattle.lobby_state.specs.declared.challenge.Challenge.{Challenge}
+use Rattle.seek_match.specs.declared.challenge.Challenge.{Challenge}
 use Rattle.lobby_state.specs.declared.game.Game.{Game}
 use Rattle.lobby_state.specs.declared.member.Member.{Member}
 use Rattle.lobby_state.specs.Change.{change_first}
 use Rattle.lobby_state.specs.Places.{AreAtDesks}
 use Rattle.lobby_state.specs.Desks.{IsDesk, desks}
 use Rattle.lobby_state.specs.Lobby.{LobbyState, most_members, opening, is_session, member_of, places_in, places_of}
-use Rattle.lobby_state.specs.WellFormed.{IsWellFormed, IsBetweenMembers, IsByMember, AreSeeksOf, IsAskedByMember, IsLinkOfMembers, ArePartnersOf, IsSeatOf, IsStarted, HasSeats, sessions_of}
+use Rattle.lobby_state.specs.WellFormed.{IsWellFormed, IsBetweenMembers, AreChallengesOf, IsByMember, AreSeeksOf, IsAskedByMember, IsLinkOfMembers, ArePartnersOf, IsSeatOf, IsStarted, HasSeats, sessions_of}
 use Rattle.lobby_state.proofs.Lists.{map-change_first_same, All-change_first, AllPairs-same, find-step}
+use Rattle.lobby_state.proofs.ChallengeRows.{AreChallengesOf-filter}
 use Rattle.lobby_state.proofs.SeekRows.{AreSeeksOf-filter, has_numbers_left}
 use Rattle.seek_match.specs.declared.seek.Seek.{Seek}
 use Rattle.partner_link.specs.Partners.{PartnerLists}
@@ -27,16 +28,16 @@ length-kept g xs ys e = sym (length-map xs g) ∙ ap length e ∙ length-map ys 
 pub kept : (lobby : LobbyState) (members : List Member) (challenges : List Challenge) (games : List (Option Game)) (started : ℕ)
     → map (λ m. m.session) members ≡ map (λ m. m.session) lobby.members
     → map (λ m. key_of m.name) members ≡ map (λ m. key_of m.name) lobby.members
-    → All (IsBetweenMembers (sessions_of lobby.members)) challenges
+    → AreChallengesOf (sessions_of lobby.members) challenges
     → length games ≡ desks → All (IsStarted started) games → All (HasSeats games) members
     → IsWellFormed lobby
     → IsWellFormed (record lobby { members = members; challenges = challenges; games = games; started = started })
-kept lobby members challenges games started sessions keys between long serials places h = record {
+kept lobby members challenges games started sessions keys stand long serials places h = record {
   accounts = h.accounts;
   sessions = AllPairs-same (λ m. m.session) lobby.members members sessions h.sessions;
   handles = AllPairs-same (λ m. key_of m.name) lobby.members members keys h.handles;
   hall = subst (λ (n : ℕ). n ≤ most_members) (sym (length-kept (λ m. m.session) members lobby.members sessions)) h.hall;
-  challenges = subst (λ (ss : List ℕ). All (IsBetweenMembers ss) challenges) (sym sessions) between;
+  challenges = subst (λ (ss : List ℕ). AreChallengesOf ss challenges) (sym sessions) stand;
   seeks = subst (λ (ss : List ℕ). AreSeeksOf ss lobby.seeks) (sym sessions) h.seeks;
   partners = subst (λ (ss : List ℕ). ArePartnersOf ss lobby.partners) (sym sessions) h.partners;
   games = long;
@@ -64,7 +65,7 @@ challenges_gone lobby test h = record {
   hall = h.hall;
   sessions = h.sessions;
   handles = h.handles;
-  challenges = All-filter test (IsBetweenMembers (sessions_of lobby.members)) lobby.challenges h.challenges;
+  challenges = AreChallengesOf-filter (sessions_of lobby.members) test lobby.challenges h.challenges;
   seeks = h.seeks;
   partners = h.partners;
   games = h.games;
@@ -138,7 +139,7 @@ IsWellFormed-opening = record {
   hall = omega arith;
   sessions = λ i j d before inside. absurd (omega arith);
   handles = λ i j d before inside. absurd (omega arith);
-  challenges = All-nil (IsBetweenMembers []);
+  challenges = record { pairs = tt; members = All-nil (IsBetweenMembers []) };
   seeks = record { numbers = tt; members = All-nil (IsByMember []); few = λ session. omega arith };
   partners = record { requests = All-nil (IsAskedByMember []); links = All-nil (IsLinkOfMembers []); apart = tt };
   games = refl;

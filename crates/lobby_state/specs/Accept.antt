@@ -1,26 +1,25 @@
 -- Accept: a challenge is accepted, and the plan of its game is told. This server's own.
-use Rattle.std.specs.Prelude.{ℕ, ◌==◌, false, ◌&&◌, List, ◌∷◌, Option, None, Some, is_none}
-use Rattle.std.specs.List.{find}
+use Rattle.std.specs.Prelude.{ℕ, false, List, ◌∷◌, Option, None, Some, is_none}
 use Rattle.chess_model.specs.declared.variant.Terms.{Terms}
 use Rattle.fics_words.specs.Effect.{Effect}
 use Rattle.fics_words.specs.declared.refusal.Refusal.TheVariants.{NotIn, NoChallenge, BadOpponent, NotInVariant, NoPartner}
 use Rattle.lobby_state.specs.declared.acts.Plan.{Plan}
-use Rattle.lobby_state.specs.declared.challenge.Challenge.{Challenge}
 use Rattle.lobby_state.specs.declared.member.Member.{Member}
 use Rattle.lobby_state.specs.Change.{holds}
 use Rattle.lobby_state.specs.Lobby.{LobbyState, member_of, named, free_slot}
 use Rattle.lobby_state.specs.Pairing.{are_partners, is_simul_of_four, lack_partner, pairing_of}
 use Rattle.lobby_state.specs.Starting.{start_causes, start_plan}
+use Rattle.seek_match.specs.declared.challenge.Challenge.{Challenge}
+use Rattle.seek_match.specs.Matches.{challenge_to}
 
 -- the challenge by this player to the session, if there are both
 abbrev pub offer_from : LobbyState → ℕ → Option Member → Option Challenge
 offer_from lobby session None = None
-offer_from lobby session (Some other) =
-    find (λ challenge. (challenge.from == other.session) && (challenge.to == session)) lobby.challenges
+offer_from lobby session (Some other) = challenge_to lobby.challenges (Some other.session) session
 
 -- the challenge that an acceptance means: the named player's, and without a name the oldest to the session
 abbrev pub offer_of : LobbyState → ℕ → Option (List ℕ) → Option Challenge
-offer_of lobby session None = find (λ challenge. challenge.to == session) lobby.challenges
+offer_of lobby session None = challenge_to lobby.challenges None session
 offer_of lobby session (Some key) = offer_from lobby session (named lobby key)
 
 -- the member that made the challenge, if there are both

@@ -1,7 +1,5 @@
 -- All lobby acts in one table: what each does, by the lobby before, the session and the act. This server's own.
 use Rattle.std.specs.Prelude.{ℕ, ◌≤◌, length, Result}
-use Rattle.chess_model.specs.VariantWord.{IsNumbered}
-use Rattle.chess_model.specs.declared.variant.Terms.{Terms}
 use Rattle.fics_words.specs.declared.refusal.Refusal.{Refusal}
 use Rattle.fics_words.specs.Effect.{Effect, answer_of, state_of}
 use Rattle.lobby_state.specs.declared.acts.LobbyAct.{LobbyAct}
@@ -35,6 +33,7 @@ use Rattle.lobby_state.specs.Where.{where_effect}
 use Rattle.lobby_state.specs.Who.{who_effect}
 use Rattle.lobby_state.specs.Shout.{shout_effect}
 use Rattle.lobby_state.specs.Tell.{tell_effect}
+use Rattle.lobby_state.specs.Terms.{AreTerms}
 use Rattle.lobby_state.specs.Var.{var_effect}
 use Rattle.lobby_state.specs.Withdraw.{withdraw_effect}
 use Rattle.lobby_state.specs.Partner.{partner_effect}
@@ -81,12 +80,6 @@ lobby_answer lobby session act = answer_of (lobby_effect lobby session act)
 -- the lobby after a lobby act
 abbrev pub lobby_after : LobbyState → ℕ → LobbyAct → LobbyState
 lobby_after lobby session act = state_of lobby (lobby_effect lobby session act)
-
--- at most ten hours at the start, at most ten minutes for a half-move, and an array of Fischer random that there is
-pub record AreTerms (terms : Terms) : Type 0 where
-  pub minutes : terms.minutes ≤ 600
-  pub increment : terms.increment ≤ 600
-  pub numbered : IsNumbered terms.variant
 
 -- the conditions on the numbers of an act, and a text that a member says to others has at most 800 bytes
 abbrev pub FitsLobby : LobbyAct → Type 0

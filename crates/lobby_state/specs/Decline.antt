@@ -1,20 +1,16 @@
 -- Decline: a member turns a challenge down. This server's own.
-use Rattle.std.specs.Prelude.{ℕ, true, not, List, [], ◌∷◌, Option, None, Some, is_none, codes, filter}
+use Rattle.std.specs.Prelude.{ℕ, true, List, [], ◌∷◌, Option, None, Some, is_none, codes}
 use Rattle.fics_words.specs.Effect.{Effect}
 use Rattle.fics_words.specs.declared.refusal.Refusal.TheVariants.{NotIn, NoChallenge}
 use Rattle.lobby_state.specs.declared.acts.LobbyReply.{LobbyReply}
 use Rattle.lobby_state.specs.declared.acts.LobbyReply.TheVariants.{Done}
-use Rattle.lobby_state.specs.declared.challenge.Challenge.{Challenge}
 use Rattle.lobby_state.specs.declared.member.Member.{Member}
 use Rattle.lobby_state.specs.Accept.{offer_of}
 use Rattle.lobby_state.specs.Broadcast.{broadcast}
 use Rattle.lobby_state.specs.Lobby.{LobbyState, is_session, member_of}
-use Rattle.lobby_state.specs.Match.{is_same_pair}
 use Rattle.lobby_state.specs.Said.{said}
-
--- the challenges without the one by this player to that player
-abbrev pub without_challenge : Challenge → List Challenge → List Challenge
-without_challenge challenge challenges = filter (λ other. not (is_same_pair challenge other)) challenges
+use Rattle.seek_match.specs.declared.challenge.Challenge.{Challenge}
+use Rattle.seek_match.specs.Matches.{without_between}
 
 -- the lobby where the member has turned the challenge down: it is gone, and the challenger is told, if there is room
 -- for a line
@@ -24,7 +20,7 @@ declined lobby (Some caller) None = lobby
 declined lobby (Some caller) (Some offer) = record lobby {
   members =
       broadcast (is_session offer.from) (said caller.name (codes " declines your challenge.") []) lobby.members;
-  challenges = without_challenge offer lobby.challenges;
+  challenges = without_between offer.from offer.to lobby.challenges;
 }
 
 -- a Decline is refused where the session isn't a member, and where there is no such challenge: the named player's, and

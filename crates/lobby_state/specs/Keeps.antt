@@ -33,6 +33,12 @@ pub record Keeps (lobby : LobbyState) (effect : Effect LobbyState LobbyReply) : 
   pub games : effect.after.games ≡ lobby.games
   pub tells : IsWellFormed lobby → TellsDesks effect.reply
 
+-- what a lobby act keeps that is made under these conditions
+pub record KeepsWhere (conditions : Type 0) (lobby : LobbyState) (effect : Effect LobbyState LobbyReply) : Type 0 where
+  pub formed : conditions → NoneHolds effect.causes → IsWellFormed lobby → IsWellFormed effect.after
+  pub games : effect.after.games ≡ lobby.games
+  pub tells : IsWellFormed lobby → TellsDesks effect.reply
+
 -- what a pair act keeps: where it isn't refused, its plan can be carried out
 pub record KeepsPlanned (lobby : LobbyState) (effect : Effect LobbyState Plan) : Type 0 where
   pub planned : NoneHolds effect.causes → IsWellFormed lobby → IsPlanned lobby effect.reply

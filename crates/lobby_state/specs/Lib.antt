@@ -4,6 +4,7 @@ pub mod Places
 pub mod Lobby
 pub mod Enter
 pub mod Registration
+pub mod Terms
 pub mod TermsText
 pub mod NameList
 pub mod Pairing
@@ -38,6 +39,7 @@ pub mod Going
 pub mod Bye
 pub mod InUse
 pub mod Told
+pub mod ShelfRoom
 pub mod Starting
 pub mod Accept
 pub mod Play

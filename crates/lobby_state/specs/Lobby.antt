@@ -1,16 +1,18 @@
 -- A lobby: who is registered and who is in the hall, which challenges and seeks stand, who asks whom to be its partner
 -- and who are partners, and which desks are in use. This server's own.
-use Rattle.std.specs.Prelude.{ℕ, ◌-◌, ◌^◌, ◌==◌, Bool, not, ◌&&◌, ◌||◌, List, [], length, replicate, Option, None, Some, is_none, is_some, bytes_eq, filter, slice_get}
+use Rattle.std.specs.Prelude.{ℕ, ◌-◌, ◌^◌, ◌==◌, Bool, not, ◌&&◌, List, [], length, replicate, Option, None, Some, is_none, is_some, bytes_eq, slice_get}
 use Rattle.std.specs.List.{find, position}
 use Rattle.channel_feed.specs.declared.channels.Membership.{Membership}
 use Rattle.channel_feed.specs.Channels.{without_player}
 use Rattle.fics_words.specs.Handle.{key_of}
 use Rattle.fics_words.specs.declared.account.Account.{Account}
+use Rattle.game_shelf.specs.Shelf.{ShelfState, empty}
 use Rattle.login_handles.specs.Accounts.{account_of}
 use Rattle.partner_link.specs.Partners.{PartnerLists, partner_of, without}
 use Rattle.seek_match.specs.declared.seek.Seek.{Seek}
-use Rattle.seek_match.specs.Seeks.{is_by}
-use Rattle.lobby_state.specs.declared.challenge.Challenge.{Challenge}
+use Rattle.seek_match.specs.Matches.{without_challenges_of}
+use Rattle.seek_match.specs.Seeks.{without_seeks_of}
+use Rattle.seek_match.specs.declared.challenge.Challenge.{Challenge}
 use Rattle.lobby_state.specs.declared.game.Game.{Game}
 use Rattle.lobby_state.specs.declared.member.Member.{Member}
 use Rattle.lobby_state.specs.Desks.{desks}
@@ -18,8 +20,9 @@ use Rattle.lobby_state.specs.Places.{PlaceList, no_places}
 
 -- the accounts in the order in which they were made; the members in the order in which they entered; the challenges in
 -- the order in which they were made; the seeks in the order of their numbers; who is in which channel, in the order of
--- joining; the requests and links of partners; for each desk from 1 on the game for which it is in use; and how many games
--- were started, which is the last serial
+-- joining; the requests and links of partners; the shelf with the adjourned games, the save orders and the requests to
+-- resume; for each desk from 1 on the game for which it is in use; and how many games were started, which is the last
+-- serial
 pub record LobbyState : Type 0 where
   pub accounts : List Account
   pub members : List Member
@@ -27,6 +30,7 @@ pub record LobbyState : Type 0 where
   pub seeks : List Seek
   pub channels : List Membership
   pub partners : PartnerLists
+  pub shelf : ShelfState
   pub games : List (Option Game)
   pub started : ℕ
 
@@ -37,10 +41,6 @@ most_members = 256
 -- the most accounts
 abbrev pub most_accounts : ℕ
 most_accounts = 4096
-
--- the most lines that wait for a member
-abbrev pub most_lines : ℕ
-most_lines = 512
 
 -- the most games that are ever started, which keeps serials below 2^64
 abbrev pub most_games : ℕ
@@ -55,6 +55,7 @@ opening = record {
   seeks = [];
   channels = [];
   partners = record { requests = []; links = [] };
+  shelf = empty;
   games = replicate desks None;
   started = 0;
 }
@@ -121,10 +122,6 @@ places_of lobby session = places_in (member_of lobby session)
 abbrev pub waiting_of : LobbyState → ℕ → List (List ℕ)
 waiting_of lobby session = lines_in (member_of lobby session)
 
--- the challenge is by this session or to it
-abbrev pub concerns : ℕ → Challenge → Bool
-concerns session challenge = (challenge.from == session) || (challenge.to == session)
-
 -- where the least free desk stands in the list of desks; its number is one more
 abbrev pub free_slot : LobbyState → Option ℕ
 free_slot lobby = position is_none lobby.games
@@ -141,12 +138,11 @@ game_at lobby desk = game_in (slice_get lobby.games (desk - 1))
 -- the lobby without the challenges by this session and to it
 abbrev pub without_challenges : ℕ → LobbyState → LobbyState
 without_challenges session lobby =
-    record lobby { challenges = filter (λ challenge. not (concerns session challenge)) lobby.challenges }
+    record lobby { challenges = without_challenges_of session lobby.challenges }
 
 -- the lobby without the seeks by this session
 abbrev pub without_seeks : ℕ → LobbyState → LobbyState
-without_seeks session lobby =
-    record lobby { seeks = filter (λ seek. not (is_by session None seek)) lobby.seeks }
+without_seeks session lobby = record lobby { seeks = without_seeks_of session lobby.seeks }
 
 -- the lobby where this session is in no channel
 abbrev pub without_channels : ℕ → LobbyState → LobbyState

@@ -1,18 +1,19 @@
 -- Match: a member challenges another to a game. This server's own.
-use Rattle.std.specs.Prelude.{ℕ, ◌==◌, Bool, true, not, ◌&&◌, ◌||◌, nat_le, List, [], ◌∷◌, ◌++◌, length, Option, None, Some, is_none, codes}
-use Rattle.std.specs.List.{filter}
+use Rattle.std.specs.Prelude.{ℕ, Bool, true, not, ◌||◌, List, [], ◌∷◌, ◌++◌, Option, None, Some, is_none, codes}
+use Rattle.channel_feed.specs.Waiting.{is_full as are_full, with_line as with_one_more}
 use Rattle.chess_model.specs.declared.variant.Terms.{Terms}
 use Rattle.fics_words.specs.Effect.{Cause, Effect}
 use Rattle.fics_words.specs.declared.refusal.Refusal.TheVariants.{NotIn, NoSuchPlayer, BadOpponent, Playing, Refuses, NotInVariant, NoPartner, QueueFull}
 use Rattle.lobby_state.specs.declared.acts.LobbyReply.{LobbyReply}
 use Rattle.lobby_state.specs.declared.acts.LobbyReply.TheVariants.{Done}
-use Rattle.lobby_state.specs.declared.challenge.Challenge.{Challenge}
 use Rattle.lobby_state.specs.declared.member.Member.{Member}
 use Rattle.lobby_state.specs.Change.{change_first, holds}
-use Rattle.lobby_state.specs.Lobby.{LobbyState, most_lines, is_session, is_named, is_busy, member_of, named}
+use Rattle.lobby_state.specs.Lobby.{LobbyState, is_session, is_named, is_busy, member_of, named}
 use Rattle.lobby_state.specs.NameList.{avoids}
 use Rattle.lobby_state.specs.Pairing.{are_partners, is_simul_of_four, lack_partner, paired, pairing_of}
 use Rattle.lobby_state.specs.TermsText.{terms_words}
+use Rattle.seek_match.specs.declared.challenge.Challenge.{Challenge}
+use Rattle.seek_match.specs.Matches.{with_challenge}
 
 -- the line that a challenge sends: who challenges, and on which terms
 abbrev pub challenge_words : List ℕ → Terms → List ℕ
@@ -24,19 +25,11 @@ is_closed member = not member.wants.matches
 
 -- no more lines can wait for the member
 abbrev pub is_full : Member → Bool
-is_full member = nat_le most_lines (length member.waiting)
+is_full member = are_full member.waiting
 
--- the member with one more line that waits for it
+-- the member with one more line that waits for it, where fewer than 512 do
 abbrev pub with_line : List ℕ → Member → Member
-with_line line member = record member { waiting = member.waiting ++ line ∷ [] }
-
--- the two challenges are by the same player to the same player
-abbrev pub is_same_pair : Challenge → Challenge → Bool
-is_same_pair new old = (old.from == new.from) && (old.to == new.to)
-
--- the challenges with a new one last; an older one by the same player to the same player goes
-abbrev pub with_challenge : Challenge → List Challenge → List Challenge
-with_challenge new challenges = filter (λ old. not (is_same_pair new old)) challenges ++ new ∷ []
+with_line line member = record member { waiting = with_one_more line member.waiting }
 
 -- the lobby where the member of that name has made this challenge, and whom the key names is told
 abbrev pub challenged_by : LobbyState → List ℕ → List ℕ → Challenge → LobbyState

@@ -5,7 +5,7 @@ use Rattle.fics_words.specs.Effect.{Effect}
 use Rattle.fics_words.specs.declared.refusal.Refusal.TheVariants.{NotIn}
 use Rattle.lobby_state.specs.declared.acts.LobbyReply.{LobbyReply}
 use Rattle.lobby_state.specs.declared.acts.LobbyReply.TheVariants.{Lines}
-use Rattle.lobby_state.specs.declared.challenge.Challenge.{Challenge}
+use Rattle.seek_match.specs.declared.challenge.Challenge.{Challenge}
 use Rattle.lobby_state.specs.declared.pending.Side.{Side}
 use Rattle.lobby_state.specs.declared.pending.Side.TheVariants.{FromOthers, ToOthers}
 use Rattle.lobby_state.specs.Lobby.{LobbyState, member_of}

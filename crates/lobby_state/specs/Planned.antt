@@ -1,5 +1,5 @@
 -- What a plan that a lobby gave promises. This server's own.
-use Rattle.std.specs.Prelude.{◌≡◌, ◌≢◌, ℕ, ◌+◌, ◌-◌, All, Contains, IsNone, IsSome, None, Option, Some, slice_get}
+use Rattle.std.specs.Prelude.{◌≡◌, ◌≢◌, ℕ, ◌+◌, ◌-◌, ◌<◌, All, Contains, IsNone, IsSome, None, Option, Some, slice_get}
 use Rattle.std.specs.List.{AllPairs}
 use Rattle.chess_model.specs.declared.variant.Terms.{Terms}
 use Rattle.chess_model.specs.declared.variant.Variant.{Variant}
@@ -9,10 +9,13 @@ use Rattle.fics_words.specs.declared.player.Player.{Player}
 use Rattle.fics_words.specs.declared.seats.Opponents.{Opponents}
 use Rattle.fics_words.specs.declared.seats.Seats.{Seats}
 use Rattle.fics_words.specs.Seats.{seat_list}
+use Rattle.game_shelf.specs.Shelf.{most_stored}
 use Rattle.lobby_state.specs.declared.acts.Plan.{Plan}
 use Rattle.lobby_state.specs.declared.acts.Plan.TheVariants.{Start, Clear}
 use Rattle.lobby_state.specs.Desks.{IsDesk}
 use Rattle.lobby_state.specs.Lobby.{LobbyState, partner_in}
+use Rattle.lobby_state.specs.ShelfRoom.{places_taken}
+use Rattle.lobby_state.specs.Terms.{AreTerms}
 use Rattle.lobby_state.specs.WellFormed.{sessions_of}
 
 -- no two of the players are one, by their sessions or by their handles
@@ -40,11 +43,14 @@ SitCrosswise lobby first None = Unit {0}
 SitCrosswise lobby first (Some second) = HasPartner lobby first.white second.black × HasPartner lobby first.black second.white
 
 -- a game on these terms can start at this desk under this serial with these players: the desk is free, the serial is
--- the next one, the players are members, as many as the variant has, and apart, and partners have opposite colours
+-- the next one, there is a place on the shelf for the game, the terms are within their bounds, the players are members,
+-- as many as the variant has, and apart, and partners have opposite colours
 pub record CanStart (lobby : LobbyState) (desk serial : ℕ) (terms : Terms) (seats : Seats) : Type 0 where
   pub is_desk : IsDesk desk
   pub is_free : slice_get lobby.games (desk - 1) ≡ Some None
   pub is_next : serial ≡ lobby.started + 1
+  pub room : places_taken lobby < most_stored
+  pub are_terms : AreTerms terms
   pub members : All (IsMember lobby) (seat_list seats)
   pub apart : AreApart seats
   pub boards : FitsVariant terms.variant seats

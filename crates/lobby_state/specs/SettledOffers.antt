@@ -1,7 +1,7 @@
 -- What the start of a game leaves of the seeks and challenges that stand. This server's own.
 use Rattle.std.specs.Prelude.{◌≡◌, true, false, List, All, Contains}
 use Rattle.fics_words.specs.declared.seats.Seats.{Seats}
-use Rattle.lobby_state.specs.declared.challenge.Challenge.{Challenge}
+use Rattle.seek_match.specs.declared.challenge.Challenge.{Challenge}
 use Rattle.lobby_state.specs.declared.member.Member.{Member}
 use Rattle.lobby_state.specs.Lobby.{LobbyState}
 use Rattle.lobby_state.specs.Start.{is_giver, is_seated}

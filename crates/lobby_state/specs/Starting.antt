@@ -5,7 +5,7 @@ use Rattle.chess_model.specs.declared.man.Colour.TheVariants.{White, Black}
 use Rattle.fics_words.specs.Effect.{Cause, Effect}
 use Rattle.fics_words.specs.declared.account.Account.{Account}
 use Rattle.fics_words.specs.declared.player.Player.{Player}
-use Rattle.fics_words.specs.declared.refusal.Refusal.TheVariants.{Playing, SimulFull, NoDesk}
+use Rattle.fics_words.specs.declared.refusal.Refusal.TheVariants.{Playing, SimulFull, NoDesk, ShelfFull}
 use Rattle.fics_words.specs.declared.seats.Opponents.{Opponents}
 use Rattle.fics_words.specs.declared.seats.Seats.{Seats}
 use Rattle.lobby_state.specs.declared.acts.Plan.{Plan}
@@ -14,6 +14,7 @@ use Rattle.lobby_state.specs.declared.member.Member.{Member}
 use Rattle.lobby_state.specs.Change.{holds}
 use Rattle.lobby_state.specs.Lobby.{LobbyState, most_games, gives, is_registered, free_slot}
 use Rattle.lobby_state.specs.Pairing.{Pairing, are_crowded, are_playing, beside_accepting, beside_offering}
+use Rattle.lobby_state.specs.ShelfRoom.{is_shelf_full}
 
 -- whether the offering player has White where neither gives a simul, or both do, in a game of this serial: by the colour
 -- that it asked for, and else where the serial is odd
@@ -67,13 +68,18 @@ start_plan lobby (Some pairing) (Some slot) =
     Start (slot + 1) (lobby.started + 1) pairing.terms (seats_of lobby (lobby.started + 1) pairing)
 start_plan _ _ _ = no_plan
 
--- no game starts where one of those who would be seated is busy; where one of them is crowded; and where all desks are in
--- use, or 2^62 games were started
+-- there is no desk for another game: all are in use, or 2^62 games were started
+abbrev pub has_no_desk : LobbyState → Bool
+has_no_desk lobby = is_none (free_slot lobby) || nat_le most_games lobby.started
+
+-- no game starts where one of those who would be seated is busy; where one of them is crowded; where there is no desk for
+-- it; and where there would be no place for it on the shelf
 abbrev pub start_causes : LobbyState → Option Pairing → List Cause
 start_causes lobby pairing =
     (holds (are_playing lobby) pairing, Playing) ∷
     (holds (are_crowded lobby) pairing, SimulFull) ∷
-    (is_none (free_slot lobby) || nat_le most_games lobby.started, NoDesk) ∷ []
+    (has_no_desk lobby, NoDesk) ∷
+    (is_shelf_full lobby, ShelfFull) ∷ []
 
 -- a game of two members that are there, at the least free desk
 abbrev pub starting : LobbyState → Pairing → Effect LobbyState Plan

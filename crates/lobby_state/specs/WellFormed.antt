@@ -5,33 +5,42 @@ use Rattle.fics_words.specs.Handle.{key_of}
 use Rattle.fics_words.specs.declared.player.Player.{Player}
 use Rattle.fics_words.specs.Seats.{seat_list}
 use Rattle.login_handles.specs.Accounts.{AreAccounts}
-use Rattle.lobby_state.specs.declared.challenge.Challenge.{Challenge}
 use Rattle.lobby_state.specs.declared.game.Game.{Game}
 use Rattle.lobby_state.specs.declared.member.Member.{Member}
 use Rattle.simul_control.specs.declared.place.Place.{Place}
 use Rattle.lobby_state.specs.Desks.{IsDesk, desks}
 use Rattle.lobby_state.specs.Lobby.{LobbyState, most_members}
 use Rattle.lobby_state.specs.Pairing.{needs_partners}
+use Rattle.lobby_state.specs.Terms.{AreTerms}
 use Rattle.partner_link.specs.declared.pairs.PartnerLink.{PartnerLink}
 use Rattle.partner_link.specs.declared.pairs.PartnerRequest.{PartnerRequest}
 use Rattle.partner_link.specs.Partners.{AreLinks, PartnerLists}
+use Rattle.seek_match.specs.declared.challenge.Challenge.{Challenge}
 use Rattle.seek_match.specs.declared.seek.Seek.{Seek}
+use Rattle.seek_match.specs.Matches.{AreChallenges}
 use Rattle.seek_match.specs.Seeks.{AreSeeks, is_by, most_seeks}
 
 -- the sessions of the members
 abbrev pub sessions_of : List Member → List ℕ
 sessions_of members = map (λ member. member.session) members
 
--- the challenge is by one member to another
+-- the challenge is by one member to another, and to a game that there can be
 pub record IsBetweenMembers (sessions : List ℕ) (challenge : Challenge) : Type 0 where
   pub from : Contains sessions challenge.from
   pub to : Contains sessions challenge.to
   pub differ : challenge.from ≢ challenge.to
+  pub terms : AreTerms challenge.terms
 
--- the seek is by a member, and of a game that two can play
+-- nobody has two challenges to one player, and each is by one member to another
+pub record AreChallengesOf (sessions : List ℕ) (challenges : List Challenge) : Type 0 where
+  pub pairs : AreChallenges challenges
+  pub members : All (IsBetweenMembers sessions) challenges
+
+-- the seek is by a member, and of a game that there can be and that two can play
 pub record IsByMember (sessions : List ℕ) (seek : Seek) : Type 0 where
   pub by : Contains sessions seek.by
   pub for_two : needs_partners seek.terms.variant ≡ false
+  pub terms : AreTerms seek.terms
 
 -- the seeks stand in the order of their numbers, which differ; each is by a member; and nobody has more than three
 pub record AreSeeksOf (sessions : List ℕ) (seeks : List Seek) : Type 0 where
@@ -69,24 +78,30 @@ pub record IsSeatOf (games : List (Option Game)) (session : ℕ) (place : Place)
 abbrev pub HasSeats : List (Option Game) → Member → Type 0
 HasSeats games member = All (IsSeatOf games member.session) member.places.rows
 
--- the game, if there is one, has one of the serials that were given out, and a second board exactly where its variant
--- is played by partners
+-- the game has one of the serials that were given out, terms that a game can have, and a second board exactly where its
+-- variant is played by partners
+pub record IsStartedGame (started : ℕ) (game : Game) : Type 0 where
+  pub positive : 1 ≤ game.serial
+  pub given_out : game.serial ≤ started
+  pub terms : AreTerms game.terms
+  pub boards : is_some game.seats.second ≡ needs_partners game.terms.variant
+
+-- the desk is free, or in use for such a game
 abbrev pub IsStarted : ℕ → Option Game → Type 0
 IsStarted started None = Unit {0}
-IsStarted started (Some game) =
-    (1 ≤ game.serial) × (game.serial ≤ started) × (is_some game.seats.second ≡ needs_partners game.terms.variant)
+IsStarted started (Some game) = IsStartedGame started game
 
 -- each handle has at most one account, and there are at most 4,096; there are at most 256 members, of whom no two have
--- one session, and no two one handle; each challenge is by one member to another; the seeks are by members; the
--- requests and links of partners are of members, and nobody has two partners; there are 128 desks, and each game has a
--- serial that was given out, and two boards exactly in bughouse; and each place of a member is a seat of its own in such
--- a game
+-- one session, and no two one handle; each challenge is by one member to another, and nobody has two to one player; the
+-- seeks are by members; the requests and links of partners are of members, and nobody has two partners; there are 128
+-- desks, and each game has a serial that was given out, and two boards exactly in bughouse; each place of a member is a
+-- seat of its own in such a game; and the terms of challenges, seeks and games are within their bounds
 pub record IsWellFormed (lobby : LobbyState) : Type 0 where
   pub accounts : AreAccounts lobby.accounts
   pub hall : length lobby.members ≤ most_members
   pub sessions : AllPairs (λ one another. one.session ≢ another.session) lobby.members
   pub handles : AllPairs (λ one another. key_of one.name ≢ key_of another.name) lobby.members
-  pub challenges : All (IsBetweenMembers (sessions_of lobby.members)) lobby.challenges
+  pub challenges : AreChallengesOf (sessions_of lobby.members) lobby.challenges
   pub seeks : AreSeeksOf (sessions_of lobby.members) lobby.seeks
   pub partners : ArePartnersOf (sessions_of lobby.members) lobby.partners
   pub games : length lobby.games ≡ desks

@@ -1,21 +1,19 @@
 //! Accept: a challenge is accepted, and the plan of its game is told.
-ghost use Rattle.std.specs.Prelude.{◌≡◌, ◌==◌, option_copied};
-ghost use Rattle.std.specs.List.{find};
+ghost use Rattle.std.specs.Prelude.{◌≡◌};
 ghost use Rattle.fics_words.specs.Effect.{answer_of};
 ghost use Rattle.lobby_state.specs.Accept.{accept_effect, offer_of};
 
 use crate::acts::Plan;
-use crate::challenge::{Challenge, first_between};
 use crate::pairing::is_simul_of_four;
 use crate::register::Register;
-use collections::{Predicate, find};
 use fics_words::{HandleKey, Refusal};
+use seek_match::Challenge;
 
 impl Register {
     /// What an acceptance is to do. The causes of a refusal, in order: the session isn't a member; there is no such
     /// challenge; in bughouse the two are partners by now, one of them gives a simul, or one has no partner; one of those
     /// who would be seated has a place and gives no simul; one of them has 32 places; all desks are in use, or 2^62 games
-    /// were started.
+    /// were started; stored games and desks in use are 10,000 together.
     pub(crate) fn accept_plan(&self, session: u32, name: Option<HandleKey>) -> Result<Plan, Refusal>
         ensures { result ≡ answer_of (accept_effect self.now session name) }
     {
@@ -45,30 +43,11 @@ impl Register {
         ensures { result ≡ offer_of self.now session name }
     {
         let Some(key) = name else {
-            return first_to(&self.challenges, session).copied();
+            return self.challenges.find(None, session);
         };
         let Some(other) = self.named(key) else {
             return None;
         };
-        first_between(&self.challenges, other.session, session).copied()
+        self.challenges.find(Some(other.session), session)
     }
-}
-
-/// A challenge to the session.
-#[derive(Clone, Copy)]
-struct To(u32);
-
-impl Predicate<Challenge> for To {
-    ghost passes = { λ test challenge. challenge.to == test.0 };
-
-    fn passes(&self, challenge: &Challenge) -> bool {
-        challenge.to == self.0
-    }
-}
-
-/// The oldest challenge to the session.
-fn first_to(challenges: &[Challenge], session: u32) -> Option<&Challenge>
-    ensures { option_copied result ≡ find (λ challenge. challenge.to == session) challenges.now }
-{
-    find(challenges, &To(session))
 }

@@ -1,5 +1,6 @@
 //! A line that goes to all members whom a test names.
-ghost use Rattle.std.specs.Prelude.{◌≡◌, ◌+◌, ◌-◌, ◌≤◌, ◌++◌, IfOk, OnErr, OnOk, drop, length, take};
+ghost use Rattle.std.specs.Prelude.{◌≡◌, ◌+◌, ◌≤◌, ◌++◌, IfOk, OnErr, OnOk, drop, length, take};
+ghost use Rattle.channel_feed.specs.Waiting.{without_last};
 ghost use Rattle.lobby_state.specs.Broadcast.{broadcast, heard, hears, hearing};
 ghost use Rattle.lobby_state.specs.Said.{IsText, IsWording, said};
 
@@ -107,13 +108,12 @@ fn tell<P: Predicate<Member>>(member: &mut Member, test: &P, line: &Line) -> Res
     if !test.passes(member) || member.is_full() {
         return Ok(false);
     }
-    member.waiting.push(line.duplicate()?)?;
-    Ok(true)
+    member.waiting.push(line.duplicate()?)
 }
 
 /// Takes back the line that the member was told last.
 fn take_back(member: &mut Member)
-    ensures { member.new ≡ record member.old { waiting = take (length member.old.waiting - 1) member.old.waiting } }
+    ensures { member.new ≡ record member.old { waiting = without_last member.old.waiting } }
 {
-    member.waiting.pop();
+    member.waiting.take_back();
 }

@@ -5,10 +5,8 @@ ghost use Rattle.lobby_state.specs.Bye.{bye_effect};
 ghost use Rattle.lobby_state.specs.Lobby.{is_session};
 
 use crate::acts::LobbyReply;
-use crate::challenge::Without;
 use crate::member::Member;
 use crate::register::Register;
-use crate::seeks::ByAnother;
 use collections::Predicate;
 
 /// A member of another session.
@@ -30,8 +28,8 @@ impl Register {
         ensures { Takes (bye_effect self.old session) self.old self.new (Ok result) }
     {
         self.members.retain(&OfAnother(session));
-        self.challenges.retain(&Without(session));
-        self.seeks.keep(&ByAnother(session));
+        self.challenges.forget(session);
+        self.seeks.forget(session);
         self.channels.forget(session);
         self.partners.forget(session);
         LobbyReply::Done

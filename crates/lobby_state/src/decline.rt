@@ -3,7 +3,6 @@ ghost use Rattle.fics_words.specs.Effect.{Takes};
 ghost use Rattle.lobby_state.specs.Decline.{decline_effect};
 
 use crate::acts::LobbyReply;
-use crate::challenge::OfOthers;
 use crate::member::OfSession;
 use crate::register::Register;
 use fics_words::{Fail, HandleKey, Refusal};
@@ -32,7 +31,7 @@ impl Register {
             b" declines your challenge.",
             b"",
         )?;
-        self.challenges.retain(&OfOthers(offer));
+        self.challenges.remove(offer.from, offer.to);
         Ok(LobbyReply::Done)
     }
 }

@@ -4,10 +4,8 @@ ghost use Rattle.fics_words.specs.Effect.{Takes};
 ghost use Rattle.lobby_state.specs.Going.{going_effect, leaving};
 
 use crate::acts::LobbyReply;
-use crate::challenge::Without;
 use crate::member::{Member, OfSession, change_first};
 use crate::register::Register;
-use crate::seeks::ByAnother;
 use collections::Change;
 
 /// Leaving: the member can't be named from then on.
@@ -30,8 +28,8 @@ impl Register {
     {
         let places = self.places(session);
         change_first(&mut self.members, &OfSession(session), &Leave);
-        self.challenges.retain(&Without(session));
-        self.seeks.keep(&ByAnother(session));
+        self.challenges.forget(session);
+        self.seeks.forget(session);
         self.partners.forget(session);
         LobbyReply::Places(places)
     }

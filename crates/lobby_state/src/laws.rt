@@ -4,14 +4,14 @@ ghost use Rattle.fics_words.specs.Effect.{answer_of, state_of};
 ghost use Rattle.chess_model.specs.declared.variant.Terms.{Terms};
 ghost use Rattle.fics_words.specs.declared.seats.Seats.{Seats};
 ghost use Rattle.login_handles.specs.Guests.{IsLeastFree};
-ghost use Rattle.lobby_state.specs.Acts.{lobby_after, lobby_effect};
+ghost use Rattle.lobby_state.specs.Acts.{FitsLobby, lobby_after, lobby_effect};
 ghost use Rattle.lobby_state.specs.Enter.{guest_in, names_taken};
 ghost use Rattle.lobby_state.specs.GoBoard.{MeetsPlayer, go_board_effect};
 ghost use Rattle.lobby_state.specs.Games.{games_lines};
 ghost use Rattle.lobby_state.specs.GamesFound.{ListWhatIsFound};
 ghost use Rattle.lobby_state.specs.InChannel.{in_channel_lines, is_there};
 ghost use Rattle.lobby_state.specs.InUse.{AreDesksInUse, desks_in_use};
-ghost use Rattle.lobby_state.specs.Keeps.{Keeps, KeepsPlan};
+ghost use Rattle.lobby_state.specs.Keeps.{KeepsPlan, KeepsWhere};
 ghost use Rattle.lobby_state.specs.KeptAway.{KeepAway};
 ghost use Rattle.lobby_state.specs.Lobby.{most_members, waiting_of};
 ghost use Rattle.lobby_state.specs.Planned.{IsPlanned};
@@ -33,9 +33,10 @@ pub fn lobbies_are_well_formed(lobby: &Lobby)
     let _ = &lobby.register;
 }
 
-/// Each lobby act, made or refused, leaves a lobby well-formed, starts and ends no game, and tells of desks alone.
+/// Each lobby act whose numbers and texts are within their bounds leaves a lobby well-formed, made or refused; and no
+/// lobby act starts or ends a game, or tells of other places than desks.
 pub fn acts_keep(lobby: &Lobby, session: u32, act: &LobbyAct)
-    ensures { Keeps lobby.now (lobby_effect lobby.now session act.now) }
+    ensures { KeepsWhere (FitsLobby act.now) lobby.now (lobby_effect lobby.now session act.now) }
 {}
 
 /// A plan that a lobby gives can be carried out in it. That leaves the lobby well-formed, and changes the game of no

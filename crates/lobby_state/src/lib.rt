@@ -14,7 +14,7 @@ mod accept;
 mod acts;
 mod broadcast;
 mod bye;
-mod challenge;
+mod challenges;
 mod channel;
 mod clear;
 mod decline;
@@ -29,6 +29,7 @@ mod go_board;
 mod going;
 mod in_channel;
 mod in_use;
+mod inbox;
 mod laws;
 mod lobby;
 mod matching;
@@ -45,6 +46,7 @@ mod register;
 mod registration;
 mod said;
 mod seeks;
+mod shelf_room;
 mod shout;
 mod sim_next;
 mod sim_open;
@@ -65,9 +67,9 @@ mod who;
 mod withdraw;
 
 pub use acts::{LobbyAct, LobbyReply, PairAct, Plan};
-pub use challenge::Challenge;
 pub use desk_in_use::DeskInUse;
 pub use game::{DESKS, Game};
+pub use inbox::Inbox;
 pub use laws::{
     acts_keep, games_lists_what_is_found, guests_have_the_least_name, in_use_tells_the_desks,
     lists_keep_away, lobbies_are_well_formed, plans_keep, starts_settle_offers,

@@ -1,16 +1,20 @@
 //! Match: a member challenges another to a game.
 ghost use Rattle.std.specs.Prelude.{◌≡◌, IfOk, OnErr, OnOk};
 ghost use Rattle.fics_words.specs.Effect.{Takes, first_cause};
-ghost use Rattle.lobby_state.specs.Match.{challenge_words, challenged_by, match_causes, match_effect};
+ghost use Rattle.lobby_state.specs.Change.{change_first};
+ghost use Rattle.lobby_state.specs.Lobby.{is_named};
+ghost use Rattle.lobby_state.specs.Match.{challenge_words, challenged_by, match_causes, match_effect, with_line};
+ghost use Rattle.seek_match.specs.Matches.{with_challenge};
 
 use crate::acts::LobbyReply;
-use crate::challenge::{Challenge, put_challenge};
-use crate::member::{Member, add_line};
+use crate::member::{Member, Members, Named};
 use crate::pairing::is_simul_of_four;
 use crate::register::Register;
 use crate::terms::with_terms;
 use chess_model::Terms;
+use collections::position;
 use fics_words::{Fail, Handle, HandleKey, Line, NoMemory, Refusal};
+use seek_match::{Challenge, MatchBook};
 use std::alloc::Global;
 
 impl Register {
@@ -86,12 +90,53 @@ impl Register {
         ensures ok { OnOk result (self.new ≡ challenged_by self.old name to challenge) }
         ensures err { OnErr result (self.new ≡ self.old) }
     {
-        self.challenges.reserve(1)?;
         let line = challenge_line(self.alloc, name, challenge.terms)?;
-        add_line(&mut self.members, to, line)?;
-        put_challenge(&mut self.challenges, challenge);
-        Ok(())
+        put_and_tell_named(&mut self.challenges, challenge, &mut self.members, to, line)
     }
+}
+
+/// The challenge stands, and the line of it waits for the member that the key names.
+fn put_and_tell_named(
+    challenges: &mut MatchBook,
+    challenge: Challenge,
+    members: &mut Members,
+    to: HandleKey,
+    line: Line,
+) -> Result<(), NoMemory>
+    ensures put { OnOk result (challenges.new ≡ with_challenge challenge challenges.old) }
+    ensures told { OnOk result (members.new ≡ change_first (is_named to) (with_line line) members.old) }
+    ensures err { OnErr result (challenges.new ≡ challenges.old) }
+    ensures untold { OnErr result (members.new ≡ members.old) }
+{
+    let Some(place) = position(members, &Named(to)) else {
+        challenges.put(challenge)?;
+        return Ok(());
+    };
+    put_and_tell(challenges, challenge, members.item_mut(place), line)?;
+    Ok(())
+}
+
+/// The challenge stands, and the line of it waits for the member. Where memory runs out behind the line, it is taken
+/// back.
+fn put_and_tell(
+    challenges: &mut MatchBook,
+    challenge: Challenge,
+    member: &mut Member,
+    line: Line,
+) -> Result<(), NoMemory>
+    ensures put { OnOk result (challenges.new ≡ with_challenge challenge challenges.old) }
+    ensures told { OnOk result (member.new ≡ with_line line member.old) }
+    ensures err { OnErr result (challenges.new ≡ challenges.old) }
+    ensures untold { OnErr result (member.new ≡ member.old) }
+{
+    let is_told = member.waiting.push(line)?;
+    if let Err(NoMemory) = challenges.put(challenge) {
+        if is_told {
+            member.waiting.take_back();
+        }
+        return Err(NoMemory);
+    }
+    Ok(())
 }
 
 /// The line that a challenge sends, `Challenge: H M I V C`: who challenges, the minutes, the increment in seconds, the

@@ -8,6 +8,7 @@ ghost use Rattle.lobby_state.specs.Lobby.{has_handle, is_session, is_named, give
 ghost use Rattle.lobby_state.specs.Match.{is_full, with_line};
 ghost use Rattle.lobby_state.specs.Pairing.{is_crowded};
 
+use crate::inbox::Inbox;
 use crate::wants::Wants;
 use channel_feed::NameList;
 use collections::{Change, Listed, Predicate, Roomy, position};
@@ -17,9 +18,6 @@ use std::alloc::Global;
 
 /// The most members that the hall holds.
 pub(crate) const MOST_MEMBERS: usize = 256;
-
-/// The most lines that wait for a member.
-const MOST_LINES: usize = 512;
 
 /// The members, in the order in which they entered.
 pub(crate) type Members = Roomy<Member, MOST_MEMBERS>;
@@ -39,7 +37,7 @@ pub struct Member {
     /// Those who can't play with the member.
     pub noplay: NameList,
     /// The lines that wait for the member, the oldest first.
-    pub waiting: Listed<Line>,
+    pub waiting: Inbox,
 }
 
 impl Member {
@@ -59,7 +57,7 @@ impl Member {
             },
             censor: NameList::new(alloc),
             noplay: NameList::new(alloc),
-            waiting: Listed::new(alloc),
+            waiting: Inbox::new(alloc),
         }
     }
 
@@ -95,7 +93,7 @@ impl Member {
     pub(crate) fn is_full(&self) -> bool
         ensures { result ≡ is_full self.now }
     {
-        self.waiting.len() >= MOST_LINES
+        self.waiting.is_full()
     }
 }
 
@@ -149,7 +147,7 @@ pub(crate) fn change_first<P: Predicate<Member>, C: Change<Member>>(
     }
 }
 
-/// Puts a line behind those that wait for the member that the key names.
+/// Puts a line behind those that wait for the member that the key names, where fewer than 512 do.
 pub(crate) fn add_line(members: &mut Members, to: HandleKey, line: Line) -> Result<(), NoMemory>
     ensures ok { OnOk result (members.new ≡ change_first (is_named to) (with_line line) members.old) }
     ensures err { OnErr result (members.new ≡ members.old) }
@@ -171,5 +169,5 @@ pub(crate) fn take_lines(alloc: Global, members: &mut Members, session: u32) -> 
         return Listed::new(alloc);
     };
     let member = members.item_mut(place);
-    member.waiting.take()
+    member.waiting.take_all()
 }

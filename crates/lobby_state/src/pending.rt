@@ -4,12 +4,12 @@ ghost use Rattle.fics_words.specs.Effect.{Takes};
 ghost use Rattle.lobby_state.specs.Pending.{is_on_side, other_of, pending_effect, pending_line, pending_lines, pending_words, side_lines, side_words};
 
 use crate::acts::LobbyReply;
-use crate::challenge::Challenge;
 use crate::register::Register;
 use crate::terms::with_terms;
 use chess_model::Terms;
 use collections::Listed;
 use fics_words::{Fail, Line, NoMemory, Refusal};
+use seek_match::Challenge;
 use std::alloc::Global;
 
 /// On which side of a challenge the member stands that asks.
@@ -49,7 +49,7 @@ impl Register {
         ensures { IfOk result (λ lines. lines ≡ side_lines self.now session side self.now.challenges) }
     {
         let mut lines = Listed::new(self.alloc);
-        for challenge in self.challenges.as_slice() {
+        for challenge in self.challenges.rows() {
             if is_on_side(side, session, *challenge) {
                 lines.push(self.pending_line(side, *challenge)?)?;
             }

@@ -3,31 +3,31 @@ ghost use Rattle.std.specs.Prelude.{◌≡◌, IfOk, option_copied};
 ghost use Rattle.lobby_state.specs.Desks.{IsDesk};
 ghost use Rattle.lobby_state.specs.Lobby.{holder_of, opening, member_of, named, places_of, waiting_of, free_slot, game_at, partner_in};
 
-use crate::challenge::Challenge;
 use crate::game::{Game, no_games};
 use crate::member::{Member, Members, Named, OfSession, WithHandle};
 use channel_feed::Channels;
-use collections::{Listed, Reserved, find};
-use fics_words::{Duplicate, HandleKey, Line, NoMemory};
+use collections::{Listed, find};
+use fics_words::{HandleKey, Line, NoMemory};
+use game_shelf::GameShelf;
 use login_handles::Accounts;
 use partner_link::Partners;
-use seek_match::SeekBook;
+use seek_match::{MatchBook, SeekBook};
 use simul_control::Places;
 use std::alloc::Global;
 use std::marker::Model;
 
 /// Who is registered and who is in the hall, which challenges and seeks stand, who is in which channel, who are partners,
-/// and which desks are in
-/// use: the acts are carried out here, one file an act. That they leave it well-formed, `Lobby` knows.
+/// which adjourned games lie on the shelf, and which desks are in use: the acts are carried out here, one file an act. That they leave it well-formed, `Lobby` knows.
 #[derive(Drop)]
 pub(crate) struct Register {
     pub(crate) alloc: Global,
     pub(crate) accounts: Accounts,
     pub(crate) members: Members,
-    pub(crate) challenges: Reserved<Challenge>,
+    pub(crate) challenges: MatchBook,
     pub(crate) seeks: SeekBook,
     pub(crate) channels: Channels,
     pub(crate) partners: Partners,
+    pub(crate) shelf: GameShelf,
     /// The game of each desk from 1 on, where it is in use.
     pub(crate) games: Listed<Option<Game>>,
     /// How many games were started, which is the last serial.
@@ -44,10 +44,11 @@ impl Model for Register {
     ghost view = { λ register. record {
       accounts = register.accounts;
       members = register.members;
-      challenges = register.challenges.items;
+      challenges = register.challenges;
       seeks = register.seeks;
       channels = register.channels;
       partners = register.partners;
+      shelf = register.shelf;
       games = register.games;
       started = register.started;
     } };
@@ -62,14 +63,16 @@ impl Register {
     {
         let members = Members::new(alloc)?;
         let games = no_games(alloc)?;
+        let shelf = GameShelf::new(alloc)?;
         Ok(Register {
             alloc,
             accounts: Accounts::new(alloc),
             members,
-            challenges: Reserved::new(alloc),
+            challenges: MatchBook::new(alloc),
             seeks: SeekBook::new(alloc),
             channels: Channels::new(alloc),
             partners: Partners::new(alloc),
+            shelf,
             games,
             started: 0,
         })
@@ -90,7 +93,7 @@ impl Register {
         ensures { result.now ≡ waiting_of self.now session }
     {
         match self.member(session) {
-            Some(member) => member.waiting.as_slice(),
+            Some(member) => member.waiting.lines(),
             None => &[],
         }
     }
@@ -100,7 +103,7 @@ impl Register {
         ensures { IfOk result (λ lines. lines ≡ waiting_of self.now session) }
     {
         match self.member(session) {
-            Some(member) => member.waiting.duplicate(),
+            Some(member) => member.waiting.copy(),
             None => Ok(Listed::new(self.alloc)),
         }
     }

@@ -4,15 +4,15 @@ ghost use Rattle.fics_words.specs.Seats.{seat_list, seat_number};
 ghost use Rattle.lobby_state.specs.Desks.{IsDesk};
 ghost use Rattle.lobby_state.specs.Start.{in_seat, is_by_seated, is_settled, seated};
 
-use crate::challenge::{Challenge, Stays};
+use crate::challenges::Stays;
 use crate::game::Game;
 use crate::member::{Member, Members};
 use crate::register::Register;
 use crate::seeks::ByUnseated;
 use chess_model::Terms;
-use collections::{Change, Reserved};
+use collections::Change;
 use fics_words::Seats;
-use seek_match::SeekBook;
+use seek_match::{MatchBook, SeekBook};
 use simul_control::Place;
 use std::marker::Model;
 
@@ -87,15 +87,15 @@ fn sit_down(members: &mut Members, desk: u8, serial: u64, seats: &Seats)
 }
 
 /// The challenges of the players go, but for a giver's with others.
-fn drop_challenges(challenges: &mut Reserved<Challenge>, members: &[Member], seats: &Seats)
-    ensures { challenges.new.items
-        ≡ filter (λ challenge. not (is_settled members.now seats.now challenge)) challenges.old.items }
+fn drop_challenges(challenges: &mut MatchBook, members: &[Member], seats: &Seats)
+    ensures { challenges.new
+        ≡ filter (λ challenge. not (is_settled members.now seats.now challenge)) challenges.old }
 {
     let stays = Stays {
         members,
         seats: *seats,
     };
-    challenges.retain(&stays);
+    challenges.keep(&stays);
 }
 
 /// The seeks of the players go.

@@ -17,7 +17,8 @@ const MOST_GAMES: u64 = 1 << 62;
 
 impl Register {
     /// The plan of a game of the two on these terms. The causes of a refusal, in order: one of those who would be seated
-    /// has a place and gives no simul; one of them has 32 places; all desks are in use, or 2^62 games were started.
+    /// has a place and gives no simul; one of them has 32 places; all desks are in use, or 2^62 games were started; stored
+    /// games and desks in use are 10,000 together.
     pub(crate) fn start_plan(
         &self,
         accepting: &Member,
@@ -37,6 +38,9 @@ impl Register {
         };
         if self.started >= MOST_GAMES {
             return Err(Refusal::NoDesk);
+        }
+        if self.is_shelf_full() {
+            return Err(Refusal::ShelfFull);
         }
         let serial = self.started + 1;
         Ok(Plan::Start {

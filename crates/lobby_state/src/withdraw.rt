@@ -1,14 +1,12 @@
 //! Withdraw: a member takes a challenge back.
-ghost use Rattle.std.specs.Prelude.{◌≡◌, ◌==◌, option_copied};
-ghost use Rattle.std.specs.List.{find};
+ghost use Rattle.std.specs.Prelude.{◌≡◌};
 ghost use Rattle.fics_words.specs.Effect.{Takes};
 ghost use Rattle.lobby_state.specs.Withdraw.{own_of, withdraw_effect};
 
 use crate::acts::LobbyReply;
-use crate::challenge::{Challenge, OfOthers, first_between};
 use crate::register::Register;
-use collections::{Predicate, find};
 use fics_words::{Fail, HandleKey, Refusal};
+use seek_match::Challenge;
 
 impl Register {
     /// The session's challenge to the named player, or without a name its oldest one, goes. It takes no memory. The
@@ -26,7 +24,7 @@ impl Register {
         let Some(own) = self.own_challenge(session, name) else {
             return Err(Fail::Refused(Refusal::NoChallenge));
         };
-        self.challenges.retain(&OfOthers(own));
+        self.challenges.remove(own.from, own.to);
         Ok(LobbyReply::Done)
     }
 
@@ -35,30 +33,11 @@ impl Register {
         ensures { result ≡ own_of self.now session name }
     {
         let Some(key) = name else {
-            return first_by(&self.challenges, session).copied();
+            return self.challenges.find_by(session);
         };
         let Some(other) = self.named(key) else {
             return None;
         };
-        first_between(&self.challenges, session, other.session).copied()
+        self.challenges.find(Some(session), other.session)
     }
-}
-
-/// A challenge by the session.
-#[derive(Clone, Copy)]
-struct By(u32);
-
-impl Predicate<Challenge> for By {
-    ghost passes = { λ test challenge. challenge.from == test.0 };
-
-    fn passes(&self, challenge: &Challenge) -> bool {
-        challenge.from == self.0
-    }
-}
-
-/// The oldest challenge by the session.
-fn first_by(challenges: &[Challenge], session: u32) -> Option<&Challenge>
-    ensures { option_copied result ≡ find (λ challenge. challenge.from == session) challenges.now }
-{
-    find(challenges, &By(session))
 }

@@ -1,7 +1,8 @@
 //! Steps of a lobby, each with its expected answer.
 
 ghost use Rattle.std.specs.Prelude.{IsTrue};
-ghost use Rattle.lobby_state.specs.Acts.{AreTerms, FitsLobby};
+ghost use Rattle.lobby_state.specs.Acts.{FitsLobby};
+ghost use Rattle.lobby_state.specs.Terms.{AreTerms};
 
 use chess_model::{Colour, Terms, Variant};
 use fics_words::{Fail, Handle, HandleKey, Line, NoMemory, Refusal};

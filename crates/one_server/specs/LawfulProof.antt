@@ -144,7 +144,7 @@ stays_act xs session moment (Lobby act) w f =
     let timed : Timed = record { moment = moment; act = Lobby act } in
     let alone : after house xs session timed ≡ set xs 0 (TheLobby (lobby_after w.lobby session act)) =
     after_alone house xs session timed (TheLobby w.lobby) w.first refl in
-    subst IsWhole (sym alone) (whole_lobby xs w.lobby (lobby_after w.lobby session act) w w.first (IsWellFormed-lobby_after w.lobby session act w.formed) (games-lobby_after w.lobby session act))
+    subst IsWhole (sym alone) (whole_lobby xs w.lobby (lobby_after w.lobby session act) w w.first (IsWellFormed-lobby_after w.lobby session act f w.formed) (games-lobby_after w.lobby session act))
 stays_act xs session moment (Desk number serial act) w f =
     let timed : Timed = record { moment = moment; act = Desk number serial act } in
     let found = desk_at xs number w f.0 in

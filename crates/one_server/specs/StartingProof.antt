@@ -5,7 +5,7 @@ use Rattle.chess_model.specs.declared.variant.Variant.{Variant}
 use Rattle.chess_model.specs.declared.variant.Variant.TheVariants.{Chess, Crazyhouse, Bughouse, Fischer}
 use Rattle.fics_words.specs.declared.seats.Opponents.{Opponents}
 use Rattle.fics_words.specs.Seats.{seat_list}
-use Rattle.linked_desk.specs.Boards.{board_numbers}
+use Rattle.linked_boards.specs.Boards.{board_numbers}
 use Rattle.linked_desk.specs.Seating.{AllDiffer, NoneIs}
 use Rattle.lobby_state.specs.Planned.{FitsVariant}
 

@@ -1,7 +1,7 @@
 //! The acts that seat the players of a seat line.
 
 ghost use Rattle.std.specs.Prelude.{◌≡◌, ◌≤◌, ◌∷◌, [], OnOk, length};
-ghost use Rattle.lobby_state.specs.Acts.{AreTerms};
+ghost use Rattle.lobby_state.specs.Terms.{AreTerms};
 ghost use Rattle.one_server.specs.Acts.{FitsAct};
 ghost use Rattle.replay_core.specs.SeatLine.{IsSeatLine, players_of};
 ghost use Rattle.session_core.specs.Course.{timed};

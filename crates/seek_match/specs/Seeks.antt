@@ -47,6 +47,10 @@ abbrev pub is_by : ℕ → Option ℕ → Seek → Bool
 is_by by None seek = seek.by == by
 is_by by (Some number) seek = (seek.by == by) && (seek.number == number)
 
+-- the seeks without those of this player
+abbrev pub without_seeks_of : ℕ → List Seek → List Seek
+without_seeks_of who seeks = filter (λ seek. not (is_by who None seek)) seeks
+
 -- the most seeks of a player
 abbrev pub most_seeks : ℕ
 most_seeks = 3

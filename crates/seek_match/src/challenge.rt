@@ -1,6 +1,6 @@
 //! A challenge, and between whom it is.
-ghost use Rattle.std.specs.Prelude.{◌≡◌, Ok, not};
-ghost use Rattle.seek_match.specs.Matches.{is_between, is_same_pair, is_to};
+ghost use Rattle.std.specs.Prelude.{◌≡◌, ◌==◌, Ok, not};
+ghost use Rattle.seek_match.specs.Matches.{concerns, is_between, is_to};
 
 use chess_model::Terms;
 use collections::Predicate;
@@ -35,18 +35,6 @@ impl Duplicate for Challenge {
     }
 }
 
-/// A challenge that isn't by the same player to the same player as this one.
-#[derive(Clone, Copy)]
-pub(crate) struct OfAnotherPair(pub(crate) Challenge);
-
-impl Predicate<Challenge> for OfAnotherPair {
-    ghost passes = { λ test challenge. not (is_same_pair test.0 challenge) };
-
-    fn passes(&self, challenge: &Challenge) -> bool {
-        !(challenge.from == self.0.from && challenge.to == self.0.to)
-    }
-}
-
 /// A challenge to this player, and by that one, if one is given.
 #[derive(Clone, Copy)]
 pub(crate) struct ToPlayer {
@@ -59,6 +47,30 @@ impl Predicate<Challenge> for ToPlayer {
 
     fn passes(&self, challenge: &Challenge) -> bool {
         challenge.is_to(self.from, self.to)
+    }
+}
+
+/// A challenge by this player.
+#[derive(Clone, Copy)]
+pub(crate) struct ByPlayer(pub(crate) u32);
+
+impl Predicate<Challenge> for ByPlayer {
+    ghost passes = { λ test challenge. challenge.from == test.0 };
+
+    fn passes(&self, challenge: &Challenge) -> bool {
+        challenge.from == self.0
+    }
+}
+
+/// A challenge that is neither by this player nor to it.
+#[derive(Clone, Copy)]
+pub(crate) struct WithoutPlayer(pub(crate) u32);
+
+impl Predicate<Challenge> for WithoutPlayer {
+    ghost passes = { λ test challenge. not (concerns test.0 challenge) };
+
+    fn passes(&self, challenge: &Challenge) -> bool {
+        !(challenge.from == self.0 || challenge.to == self.0)
     }
 }
 

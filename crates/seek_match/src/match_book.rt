@@ -1,10 +1,10 @@
 //! The challenges that stand.
 ghost use Rattle.std.specs.Prelude.{◌≡◌};
-ghost use Rattle.std.specs.List.{list_any};
+ghost use Rattle.std.specs.List.{filter, list_any};
 ghost use Rattle.seek_match.specs.Matches.{is_between};
 
-use crate::challenge::{Challenge, NotBetween, OfAnotherPair, ToPlayer};
-use collections::{Reserved, find};
+use crate::challenge::{ByPlayer, Challenge, NotBetween, ToPlayer, WithoutPlayer};
+use collections::{Predicate, Reserved, find};
 use fics_words::{Duplicate, NoMemory};
 use std::alloc::Global;
 use std::marker::Model;
@@ -31,7 +31,7 @@ impl Model for MatchBook {
 impl MatchBook {
     ghost use Rattle.std.specs.Prelude.{◌≡◌, OnErr, OnOk, [], not};
     ghost use Rattle.std.specs.List.{filter, list_any};
-    ghost use Rattle.seek_match.specs.Matches.{AreChallenges, challenge_to, is_between, with_challenge};
+    ghost use Rattle.seek_match.specs.Matches.{AreChallenges, challenge_by, challenge_to, is_between, with_challenge, without_between, without_challenges_of};
 
     /// No challenges; takes no memory.
     pub fn new(alloc: Global) -> MatchBook
@@ -49,7 +49,10 @@ impl MatchBook {
         ensures unchanged { OnErr result (self.new ≡ self.old) }
     {
         self.rows.reserve(1)?;
-        self.rows.retain(&OfAnotherPair(challenge));
+        self.rows.retain(&NotBetween {
+            from: challenge.from,
+            to: challenge.to,
+        });
         self.rows.push(challenge);
         Ok(())
     }
@@ -62,18 +65,35 @@ impl MatchBook {
         find(self.rows.as_slice(), &ToPlayer { from, to }).copied()
     }
 
+    /// The oldest challenge by this player, if there is one.
+    pub fn find_by(&self, from: u32) -> Option<Challenge>
+        ensures { result ≡ challenge_by self.now from }
+    {
+        find(self.rows.as_slice(), &ByPlayer(from)).copied()
+    }
+
     /// Takes away the challenge by the first player to the second, and tells whether there was one.
     pub fn remove(&mut self, from: u32, to: u32) -> bool
         ensures found { result ≡ list_any (is_between from to) self.old }
-        ensures after { self.new ≡ filter (λ challenge. not (is_between from to challenge)) self.old }
+        ensures after { self.new ≡ without_between from to self.old }
     {
         let found = has_between(self.rows.as_slice(), from, to);
-        self.rows.retain(&NotBetween { from, to });
-        if self.rows.is_empty() {
-            // a book that is left empty gives its block back
-            self.rows.take();
-        }
+        keep_challenges(&mut self.rows, &NotBetween { from, to });
         found
+    }
+
+    /// Takes away every challenge by this player and to it. It takes no memory and is never refused.
+    pub fn forget(&mut self, who: u32)
+        ensures { self.new ≡ without_challenges_of who self.old }
+    {
+        self.keep(&WithoutPlayer(who));
+    }
+
+    /// Keeps the challenges that pass `test`, in their order. It takes no memory and is never refused.
+    pub fn keep<P: Predicate<Challenge>>(&mut self, test: &P)
+        ensures { self.new ≡ filter (P.passes test.now) self.old }
+    {
+        keep_challenges(&mut self.rows, test);
     }
 
     /// The challenges, in the order of making.
@@ -90,6 +110,16 @@ impl Duplicate for MatchBook {
         Ok(MatchBook {
             rows: self.rows.duplicate()?,
         })
+    }
+}
+
+/// Keeps the challenges that pass `test`. A list that is left empty gives its block back.
+fn keep_challenges<P: Predicate<Challenge>>(challenges: &mut Reserved<Challenge>, test: &P)
+    ensures { challenges.new.items ≡ filter (P.passes test.now) challenges.old.items }
+{
+    challenges.retain(test);
+    if challenges.is_empty() {
+        challenges.take();
     }
 }
 

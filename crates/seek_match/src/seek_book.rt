@@ -35,7 +35,7 @@ impl SeekBook {
     ghost use Rattle.std.specs.Prelude.{◌≡◌, ◌<◌, [], length};
     ghost use Rattle.std.specs.List.{filter};
     ghost use Rattle.fics_words.specs.Effect.{Takes, answer_of, state_of};
-    ghost use Rattle.seek_match.specs.Seeks.{AreSeeks, posting, removing, seek_of};
+    ghost use Rattle.seek_match.specs.Seeks.{AreSeeks, posting, removing, seek_of, without_seeks_of};
 
     /// No seeks; takes no memory.
     pub fn new(alloc: Global) -> SeekBook
@@ -80,6 +80,16 @@ impl SeekBook {
         }
         keep_seeks(&mut self.rows, &NotBy { by, number });
         Ok(count as u16)
+    }
+
+    /// Takes away all seeks of this player. It takes no memory and is never refused.
+    pub fn forget(&mut self, who: u32)
+        ensures { self.new ≡ without_seeks_of who self.old }
+    {
+        self.keep(&NotBy {
+            by: who,
+            number: None,
+        });
     }
 
     /// Keeps the seeks that pass `test`, in their order. It takes no memory and is never refused.

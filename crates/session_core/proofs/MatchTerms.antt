@@ -11,7 +11,7 @@ use Rattle.chess_model.specs.declared.variant.Variant.{Variant}
 use Rattle.chess_model.specs.declared.variant.Variant.TheVariants.{Chess}
 use Rattle.fics_words.specs.declared.refusal.Refusal.{Refusal}
 use Rattle.fics_words.specs.declared.refusal.Refusal.TheVariants.{BadArguments, BadChannel, TooLong}
-use Rattle.lobby_state.specs.Acts.{AreTerms}
+use Rattle.lobby_state.specs.Terms.{AreTerms}
 use Rattle.command_words.specs.declared.aliases.Alias.{Alias}
 use Rattle.command_words.specs.declared.command.Command.{Command}
 use Rattle.command_words.specs.declared.command.Command.TheVariants as command

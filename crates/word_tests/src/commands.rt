@@ -1,6 +1,6 @@
 //! Lines of players, and the commands that they are read as.
 
-use crate::{lists, offers, simuls, watching};
+use crate::{lists, offers, resuming, simuls, watching};
 use chess_model::{Colour, Terms, variant_word};
 use command_words::{Aliases, Command, Style, read_command};
 use fics_words::{Fail as Failed, Handle, Line, NoMemory, write_number};
@@ -56,7 +56,8 @@ unalias X|refused 28
 unalias x y|refused 28
 un|refused 27
 resign|resign
-RES|resign
+RESI|resign
+RES|refused 27
 resign x|refused 28
 register secret|register secret
 reg A  b |register A  b
@@ -241,6 +242,7 @@ const TABLES: &[(&str, &str)] = &[
     ("reads_lines_about_lists", lists::LINES),
     ("reads_offers", offers::LINES),
     ("reads_lines_about_simuls", simuls::LINES),
+    ("reads_lines_about_stored_games", resuming::LINES),
     ("reads_lines_about_looking_on", watching::LINES),
 ];
 
@@ -426,6 +428,16 @@ fn told_of_simuls(alloc: Global, command: &Command) -> Result<Vec<u8>, NoMemory>
         Command::SimNext => of(alloc, b"simnext"),
         Command::SimPrev => of(alloc, b"simprev"),
         Command::GoBoard(name) => with_text(alloc, b"goboard ", name.letters()),
+        _ => told_of_stored_games(alloc, command),
+    }
+}
+
+/// The text of a command about adjourned games, or of a strange one.
+fn told_of_stored_games(alloc: Global, command: &Command) -> Result<Vec<u8>, NoMemory> {
+    match command {
+        Command::Adjourn => of(alloc, b"adjourn"),
+        Command::Stored => of(alloc, b"stored"),
+        Command::Resume(name) => with_text(alloc, b"resume ", name.letters()),
         _ => of(alloc, b"strange"),
     }
 }

@@ -15,6 +15,8 @@ mod logins;
 #[cfg(test)]
 mod offers;
 #[cfg(test)]
+mod resuming;
+#[cfg(test)]
 mod simuls;
 #[cfg(test)]
 mod spellings;

@@ -4,7 +4,7 @@ use Rattle.linked_desk.proofs.laws.acts_keep_the_game.Goals as goal
 
 pub returns : goal.returns
 returns c = record {
-  started = λ d serial terms seats moment pairs. IsSound-opened d.number serial terms seats moment pairs;
+  started = λ d. IsSound-opened d.number;
   game = sound-desk_after;
   answers = sound-desk_answer;
 }

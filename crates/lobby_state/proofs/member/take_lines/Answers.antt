@@ -22,11 +22,11 @@ pub returns-clause-lines : goal.returns-clause-lines
 returns-clause-lines c =
     let p = is_session c.args.session in
     let here : position p c.args.members.now ≡ Some c.in-Some.place = ap (position p) (sym c.deref.ensures.0) ∙ sym c.in-Some.ensures in
-    c.take.ensures.taken ∙ ap lines_in (sym (find-found p c.args.members.now c.in-Some.place here ∙ c.item_mut-member.ensures.value))
+    c.take_all.ensures.taken ∙ ap lines_in (sym (find-found p c.args.members.now c.in-Some.place here ∙ c.item_mut-member.ensures.value))
 
 pub returns-clause-emptied : goal.returns-clause-emptied
 returns-clause-emptied c =
     let p = is_session c.args.session in
     let here : position p c.args.members.now ≡ Some c.in-Some.place = ap (position p) (sym c.deref.ensures.0) ∙ sym c.in-Some.ensures in
-    ap (λ lines. set c.args.members.now c.in-Some.place (record c.item_mut-member.result.now { waiting = lines })) c.take.ensures.emptied
+    ap (λ lines. set c.args.members.now c.in-Some.place (record c.item_mut-member.result.now { waiting = lines })) c.take_all.ensures.emptied
     ∙ sym (change_first-found p emptied c.args.members.now c.in-Some.place _ here c.item_mut-member.ensures.value)

@@ -7,7 +7,7 @@ pub invariant_of-self : goal.invariant_of-self
 invariant_of-self c =
     let lobby = c.self.inside.register in
     IsWellFormed-taken lobby (lobby_effect lobby c.args.session c.args.act.now) c.act.new.self c.act.result
-    (keeps_act lobby c.args.session c.args.act.now) c.self.invariant c.act.ensures
+    ((keeps_act lobby c.args.session c.args.act.now).formed c.requires) c.self.invariant c.act.ensures
 
 pub act-requires-clause-numbers : goal.act-requires-clause-numbers
 act-requires-clause-numbers c = has_number_left c.self.inside.register c.self.invariant

@@ -1,8 +1,7 @@
-use Rattle.std.proofs.Common.{◌≡◌, List, [], ◌∷◌, ◌++◌, not, sym, ap, subst, ◌∙◌}
-use Rattle.std.specs.List.{filter}
+use Rattle.std.proofs.Common.{◌≡◌, List, [], ◌∷◌, ◌++◌, sym, ap, subst, ◌∙◌}
 use Rattle.collections.specs.ItemsWithRoom.{ItemsWithRoom}
 use Rattle.seek_match.specs.declared.challenge.Challenge.{Challenge}
-use Rattle.seek_match.specs.Matches.{AreChallenges, is_same_pair, with_challenge}
+use Rattle.seek_match.specs.Matches.{AreChallenges, with_challenge, without_between}
 use Rattle.seek_match.proofs.Pairs.{AreChallenges-with}
 use Rattle.seek_match.proofs.match_book.MatchBook.put.Goals as goal
 
@@ -14,9 +13,9 @@ unfolding items_of
 invariant_of-self-2 c =
     let new = c.args.challenge in
     let old = c.self.inside.rows.items in
-    let kept : c.retain.new.self.items ≡ filter (λ challenge. not (is_same_pair new challenge)) old =
+    let kept : c.retain.new.self.items ≡ without_between new.from new.to old =
     ap items_of c.retain.ensures
-    ∙ ap (λ (l : List Challenge). filter (λ challenge. not (is_same_pair new challenge)) l) (ap items_of c.in_ok-reserve.ensures.ok) in
+    ∙ ap (without_between new.from new.to) (ap items_of c.in_ok-reserve.ensures.ok) in
     let all : c.push.new.self.items ≡ with_challenge new old =
     ap items_of c.push.ensures ∙ ap (λ (l : List Challenge). l ++ new ∷ []) kept in
     subst AreChallenges (sym all) (AreChallenges-with new old c.self.invariant)

@@ -1,0 +1,9 @@
+pub mod BackSound
+pub mod BoardLists
+pub mod Halved
+pub mod Linking
+pub mod OneMore
+pub mod Pairs
+pub mod SoundHalves
+pub mod StaySound
+pub mod Stepped

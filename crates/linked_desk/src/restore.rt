@@ -1,0 +1,80 @@
+//! How a game that was adjourned goes on at a desk.
+ghost use Rattle.std.specs.Prelude.{◌≡◌, ◌≤◌, ◌^◌, ◌↔◌, IfOk, IsSome, None};
+ghost use Rattle.std.specs.Option.{option_map};
+ghost use Rattle.game_records.specs.Replays.{Replays};
+ghost use Rattle.linked_boards.specs.Replaying.{replayed};
+ghost use Rattle.linked_desk.specs.Restore.{finished_at, last_place, place_on, resumed};
+ghost use Rattle.linked_desk.specs.Seating.{AllDiffer, HasPairsFor, names_of, sessions_of};
+ghost use Rattle.linked_desk.specs.Shelve.{names_in};
+
+use crate::game::Game;
+use crate::occasion::Occasion;
+use crate::seating::{announced, game_at, show_each};
+use fics_words::{NoMemory, Seats};
+use game_records::{Half, StoredGame, is_game};
+use linked_boards::Boards;
+use std::alloc::Global;
+
+/// A stored game that goes on at a desk, or None where it doesn't replay.
+pub(crate) fn resumed(
+    alloc: Global,
+    desk: u8,
+    serial: u64,
+    stored: &StoredGame,
+    seats: &Seats,
+    moment: u64,
+) -> Result<Option<Game>, NoMemory>
+    requires low { 1 ≤ desk }
+    requires high { desk ≤ 128 }
+    requires moment { moment ≤ 2 ^ 48 }
+    requires sessions { AllDiffer (sessions_of seats.now) }
+    requires names { AllDiffer (names_of seats.now) }
+    requires players { names_in seats.now ≡ stored.now.names }
+    requires pairs { HasPairsFor stored.now.terms seats.now }
+    ensures replays { IfOk result (λ found. IsSome found ↔ Replays stored.now) }
+    ensures game { IfOk result (λ found. IsSome found → found
+        ≡ option_map (resumed desk serial stored.now seats.now moment) (replayed stored.now.terms stored.now.halves moment)) }
+{
+    if !is_game(stored) {
+        return Ok(None);
+    }
+    let mut feed = announced(alloc, Occasion::Resumption, desk, &stored.terms, seats)?;
+    let halves = stored.halves.as_slice();
+    let Some(boards) = Boards::replay(alloc, stored.terms, halves, moment)? else {
+        return Ok(None);
+    };
+    show_each(&mut feed, desk, seats, &boards);
+    let mut game = game_at(alloc, serial, stored.terms, seats, boards, feed, moment);
+    game.finish_at(desk, moment, last_place(halves));
+    Ok(Some(game))
+}
+
+impl Game {
+    /// Ends the running game where the position on the board in that place brings it, if there is one.
+    fn finish_at(&mut self, desk: u8, moment: u64, place: Option<u8>)
+        requires low { 1 ≤ desk }
+        requires high { desk ≤ 128 }
+        requires moment { moment ≤ 2 ^ 48 }
+        requires running { self.old.ended ≡ None }
+        ensures { self.new ≡ finished_at desk self.old moment place }
+    {
+        if let Some(place) = place {
+            self.finish(desk, moment, place);
+        }
+    }
+}
+
+/// The place of the board on which the last of these half-moves was made, if there is one.
+fn last_place(halves: &[Half]) -> Option<u8>
+    ensures { result ≡ last_place halves.now }
+{
+    let half = halves.last()?;
+    Some(place_on(half))
+}
+
+/// The place of the board on which a half-move was made.
+fn place_on(half: &Half) -> u8
+    ensures { result ≡ place_on half.now }
+{
+    if half.board == 2 { 1 } else { 0 }
+}

@@ -1,0 +1,18 @@
+-- How much of the shelf is taken: each game for which a desk is in use may be adjourned, and has its place there. This
+-- server's own.
+use Rattle.std.specs.Prelude.{ℕ, ◌+◌, Bool, nat_le, List, length, Option, is_some, count_by}
+use Rattle.game_shelf.specs.Shelf.{most_stored}
+use Rattle.lobby_state.specs.declared.game.Game.{Game}
+use Rattle.lobby_state.specs.Lobby.{LobbyState}
+
+-- how many desks are in use
+abbrev pub desks_used : List (Option Game) → ℕ
+desks_used games = count_by is_some games
+
+-- stored games and desks in use, together
+abbrev pub places_taken : LobbyState → ℕ
+places_taken lobby = length lobby.shelf.games + desks_used lobby.games
+
+-- these are 10,000
+abbrev pub is_shelf_full : LobbyState → Bool
+is_shelf_full lobby = nat_le most_stored (places_taken lobby)
