@@ -38,6 +38,18 @@ fn lines_wait_in_order(rt: HostRuntime) -> Result<(), Fail> {
 }
 
 #[test]
+fn the_last_line_is_taken_back(rt: HostRuntime) -> Result<(), Fail> {
+    let mut waiting = Waiting::new(rt.alloc());
+    waiting.take_back();
+    assert!(rt; puts(rt.alloc(), &mut waiting, b"first")?);
+    assert!(rt; puts(rt.alloc(), &mut waiting, b"second")?);
+    waiting.take_back();
+    assert_eq!(rt; waiting.lines().len(), 1);
+    assert_eq!(rt; waiting.lines()[0].bytes(), b"first".as_slice());
+    Ok(())
+}
+
+#[test]
 fn more_than_512_lines_never_wait(rt: HostRuntime) -> Result<(), Fail> {
     let mut waiting = Waiting::new(rt.alloc());
     assert_eq!(rt; count_of_waiting(rt.alloc(), &mut waiting)?, 512);

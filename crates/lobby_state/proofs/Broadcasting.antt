@@ -107,9 +107,9 @@ pub IsWellFormed-broadcast : (lobby : LobbyState) (test : Member → Bool) (line
     → IsWellFormed (record lobby { members = broadcast test line lobby.members })
 IsWellFormed-broadcast lobby test line h =
     let f = hearing test line in
-    kept lobby (broadcast test line lobby.members) lobby.challenges lobby.games lobby.started
+    kept lobby (broadcast test line lobby.members) lobby.challenges lobby.games lobby.started lobby.shelf
     (map-map_same (λ m. m.session) f (λ m. session_by_test (hears test m) line m) lobby.members)
     (map-map_same (λ m. key_of m.name) f (λ m. ap key_of (name_by_test (hears test m) line m)) lobby.members)
     h.challenges h.games h.serials
     (All-map_each (HasSeats lobby.games) (HasSeats lobby.games) f
-    (λ m has. places_by_test (HasSeats lobby.games) (hears test m) line m has has) lobby.members h.places) h
+    (λ m has. places_by_test (HasSeats lobby.games) (hears test m) line m has has) lobby.members h.places) h.shelf h.counted h

@@ -1,5 +1,5 @@
 -- How many desks are in use, once one of them is taken or freed.
-use Rattle.std.proofs.Common.{◌≡◌, ℕ, ◌+◌, zero, suc, Bool, cond, List, [], ◌∷◌, Option, None, Some, is_some, slice_get, sym, ap, ◌∙◌, arith}
+use Rattle.std.proofs.Common.{◌≡◌, ℕ, ◌+◌, ◌≤◌, zero, suc, cond, List, [], ◌∷◌, Option, None, Some, is_some, slice_get, ap, ◌∙◌, arith}
 use Rattle.std.proofs.Math.ListN.{set}
 use Rattle.std.proofs.lemmas.List.Sums.{sum_by-cons}
 use Rattle.lobby_state.specs.declared.game.Game.{Game}
@@ -21,6 +21,19 @@ desks_used-taken (slot ∷ games) (suc i) game free =
     let rest = desks_used-taken games i game free in
     let before = counted slot games in
     let after = counted slot (set games i (Some game)) in
+    omega (arith, before, after, rest)
+
+-- no more where a desk is freed
+pub desks_used-free : (games : List (Option Game)) (i : ℕ) → desks_used (set games i None) ≤ desks_used games
+desks_used-free [] i = omega arith
+desks_used-free (slot ∷ games) zero =
+    let before = counted slot games in
+    let after = counted None games in
+    omega (arith, before, after)
+desks_used-free (slot ∷ games) (suc i) =
+    let rest = desks_used-free games i in
+    let before = counted slot games in
+    let after = counted slot (set games i None) in
     omega (arith, before, after, rest)
 
 -- one less where a desk in use is freed

@@ -6,7 +6,7 @@ use Rattle.fics_words.specs.declared.fail.Fail.{Fail}
 use Rattle.fics_words.specs.declared.fail.Fail.TheVariants.{Refused, Memory}
 use Rattle.fics_words.specs.declared.refusal.Refusal.{Refusal}
 use Rattle.lobby_state.specs.declared.acts.LobbyAct.{LobbyAct}
-use Rattle.lobby_state.specs.declared.acts.LobbyAct.TheVariants.{Enter, Register, Match, Unpost, Sought, Who, Where, Fetch, Going, Bye, InUse, Var, Tell, Shout, Decline, Withdraw, Post, Channel, TellChannel, InChannel, Partner, Ptell, List, Pending, Games, Find, FindGame, SimOpen, SimNext, SimPrev, GoBoard}
+use Rattle.lobby_state.specs.declared.acts.LobbyAct.TheVariants.{Enter, Register, Match, Unpost, Sought, Who, Where, Fetch, Going, Bye, InUse, Var, Tell, Shout, Decline, Withdraw, Post, Channel, TellChannel, InChannel, Partner, Ptell, List, Pending, Games, Find, FindGame, SimOpen, SimNext, SimPrev, GoBoard, Stored, Orders, Saved}
 use Rattle.lobby_state.specs.declared.acts.LobbyReply.{LobbyReply}
 use Rattle.lobby_state.specs.Acts.{FitsLobby, LobbyNeedsNoMemory, lobby_after, lobby_answer, lobby_effect}
 use Rattle.lobby_state.specs.Keeps.{Keeps, KeepsWhere, TellsDesks}
@@ -28,7 +28,10 @@ use Rattle.lobby_state.proofs.KeepsGoing.{keeps_going}
 use Rattle.lobby_state.proofs.KeepsInUse.{keeps_in_use}
 use Rattle.lobby_state.proofs.KeepsMatch.{keeps_match}
 use Rattle.lobby_state.proofs.KeepsNameList.{keeps_list}
+use Rattle.lobby_state.proofs.KeepsOrders.{keeps_orders}
 use Rattle.lobby_state.proofs.KeepsPending.{keeps_pending}
+use Rattle.lobby_state.proofs.KeepsSaved.{keeps_saved}
+use Rattle.lobby_state.proofs.KeepsStored.{keeps_stored}
 use Rattle.lobby_state.proofs.KeepsPost.{keeps_post}
 use Rattle.lobby_state.proofs.KeepsRegistration.{keeps_registration}
 use Rattle.lobby_state.proofs.KeepsSimNext.{keeps_sim_next}
@@ -82,6 +85,9 @@ keeps_act lobby session Fetch = always (keeps_fetch lobby session)
 keeps_act lobby session Going = always (keeps_going lobby session)
 keeps_act lobby session Bye = always (keeps_bye lobby session)
 keeps_act lobby session InUse = always (keeps_in_use lobby)
+keeps_act lobby session Stored = always (keeps_stored lobby session)
+keeps_act lobby session Orders = always (keeps_orders lobby)
+keeps_act lobby session (Saved upto) = always (keeps_saved lobby upto)
 
 formed_unless : (refused : Option Refusal) (old new : LobbyState) → (refused ≡ None → IsWellFormed new) → IsWellFormed old
     → IsWellFormed (unless refused old new)

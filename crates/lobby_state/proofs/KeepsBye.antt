@@ -8,11 +8,13 @@ use Rattle.lobby_state.specs.declared.member.Member.{Member}
 use Rattle.lobby_state.specs.Bye.{bye_effect}
 use Rattle.lobby_state.specs.Keeps.{Keeps}
 use Rattle.lobby_state.specs.Lobby.{LobbyState, is_session}
-use Rattle.lobby_state.specs.WellFormed.{IsWellFormed, AreChallengesOf, AreSeeksOf, ArePartnersOf, HasSeats, sessions_of}
+use Rattle.lobby_state.specs.WellFormed.{IsWellFormed, AreChallengesOf, AreSeeksOf, ArePartnersOf, HasSeats, IsShelfOf, sessions_of}
 use Rattle.lobby_state.proofs.Lists.{map-filter}
 use Rattle.lobby_state.proofs.ChallengeRows.{AreChallengesOf-without}
 use Rattle.lobby_state.proofs.SeekRows.{AreSeeksOf-without}
 use Rattle.lobby_state.proofs.PartnerRows.{ArePartnersOf-without}
+use Rattle.game_shelf.specs.Shelf.{without_requests}
+use Rattle.lobby_state.proofs.ShelfRows.{IsShelfOf-without}
 use Rattle.partner_link.specs.Partners.{without}
 use Rattle.seek_match.specs.Matches.{without_challenges_of}
 use Rattle.seek_match.specs.Seeks.{without_seeks_of}
@@ -37,6 +39,9 @@ parted lobby session h =
       games = h.games;
       serials = h.serials;
       places = All-filter others (HasSeats lobby.games) lobby.members h.places;
+      shelf = subst (λ (ss : List ℕ). IsShelfOf ss (without_requests session lobby.shelf)) (sym sessions)
+          (IsShelfOf-without (sessions_of lobby.members) session lobby.shelf h.shelf);
+      counted = record { few = h.counted.few; room = h.counted.room; orders = h.counted.orders };
     }
 
 pub keeps_bye : (lobby : LobbyState) (session : ℕ) → Keeps lobby (bye_effect lobby session)

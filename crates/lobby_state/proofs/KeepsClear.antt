@@ -17,6 +17,7 @@ use Rattle.lobby_state.specs.Places.{is_elsewhere}
 use Rattle.lobby_state.specs.Plans.{committed, game_after}
 use Rattle.lobby_state.specs.WellFormed.{IsWellFormed, IsSeatOf, IsStarted, HasSeats}
 use Rattle.lobby_state.proofs.Lists.{map-map_same, All-map_each, All-filter_passing, get-set_other, get-set_same}
+use Rattle.lobby_state.proofs.DesksUsed.{desks_used-free}
 use Rattle.lobby_state.proofs.WellFormed.{kept, member_changed}
 
 pub keeps_clear : (lobby : LobbyState) (session desk serial : ℕ) → IsDesk desk → KeepsPlanned lobby (clear_effect lobby session desk serial)
@@ -45,7 +46,10 @@ IsSeatOf-cleared games desk session place is_desk else h =
 formed_cleared : (lobby : LobbyState) (desk : ℕ) → IsDesk desk → IsWellFormed lobby → IsWellFormed (cleared lobby desk)
 formed_cleared lobby desk is_desk h =
     let games = set lobby.games (desk - 1) None in
-    kept lobby (map (off_desk desk) lobby.members) lobby.challenges games lobby.started
+    let fewer = desks_used-free lobby.games (desk - 1) in
+    let room = h.counted.room in
+    let orders = h.counted.orders in
+    kept lobby (map (off_desk desk) lobby.members) lobby.challenges games lobby.started lobby.shelf
     (map-map_same (λ m. m.session) (off_desk desk) (λ _. refl) lobby.members)
     (map-map_same (λ m. key_of m.name) (off_desk desk) (λ _. refl) lobby.members)
     h.challenges
@@ -54,7 +58,8 @@ formed_cleared lobby desk is_desk h =
     (All-map_each (HasSeats lobby.games) (HasSeats games) (off_desk desk)
     (λ m has. All-filter_passing (IsSeatOf lobby.games m.session) (IsSeatOf games m.session) (is_elsewhere desk)
     (λ p else. IsSeatOf-cleared lobby.games desk m.session p is_desk else) m.places.rows has)
-    lobby.members h.places) h
+    lobby.members h.places) h.shelf
+    (record { few = h.counted.few; room = omega (arith, fewer, room); orders = omega (arith, fewer, orders) }) h
 
 formed_by : (lobby : LobbyState) (session desk serial : ℕ) → IsDesk desk → (is_cleared : Bool) → IsWellFormed lobby
     → IsWellFormed (committed lobby (Clear session desk serial) is_cleared)

@@ -15,11 +15,12 @@ use Rattle.login_handles.specs.declared.check.Check.TheVariants.{NeedPassword as
 use Rattle.lobby_state.specs.Enter.{enter_effect, entrant_of, guest_in, names_taken, newcomer, welcome, welcomed, with_newcomer}
 use Rattle.lobby_state.specs.Keeps.{Keeps, TellsDesks}
 use Rattle.lobby_state.specs.Lobby.{LobbyState, has_handle, holder_of, is_session, member_of}
-use Rattle.lobby_state.specs.WellFormed.{IsWellFormed, AreChallengesOf, AreSeeksOf, ArePartnersOf, IsSeatOf, HasSeats, sessions_of}
+use Rattle.lobby_state.specs.WellFormed.{IsWellFormed, AreChallengesOf, AreSeeksOf, ArePartnersOf, IsSeatOf, IsShelfOf, HasSeats, sessions_of}
 use Rattle.lobby_state.proofs.Lists.{find-none}
 use Rattle.lobby_state.proofs.ChallengeRows.{AreChallengesOf-more}
 use Rattle.lobby_state.proofs.SeekRows.{AreSeeksOf-more}
 use Rattle.lobby_state.proofs.PartnerRows.{ArePartnersOf-more}
+use Rattle.lobby_state.proofs.ShelfRows.{IsShelfOf-more}
 
 none_some : {X : Type 0} (o : Option X) → is_some o ≡ false → o ≡ None
 none_some None e = refl
@@ -60,6 +61,12 @@ with_one_more lobby session name few alone free h = record {
   games = h.games;
   serials = h.serials;
   places = All-push (HasSeats lobby.games) lobby.members (newcomer session name) h.places (All-nil (IsSeatOf lobby.games session));
+  shelf =
+      let more = map-append (λ (m : Member). m.session) lobby.members (newcomer session name ∷ []) in
+      subst (λ (ss : List ℕ). IsShelfOf ss lobby.shelf) (sym more)
+      (IsShelfOf-more (sessions_of lobby.members) (sessions_of lobby.members ++ session ∷ []) lobby.shelf
+      (Contains-append_left (sessions_of lobby.members) (session ∷ [])) h.shelf);
+  counted = h.counted;
 }
 
 -- whatever the accounts say, nobody comes in whose session or handle is there

@@ -1,10 +1,10 @@
 -- What a Going keeps.
-use Rattle.std.proofs.Common.{ℕ, None, not, refl}
+use Rattle.std.proofs.Common.{ℕ, None, not, eqb, refl}
 use Rattle.lobby_state.specs.Change.{change_first}
 use Rattle.lobby_state.specs.Going.{going_effect, leaving}
 use Rattle.lobby_state.specs.Keeps.{Keeps}
-use Rattle.lobby_state.specs.Lobby.{LobbyState, is_session, without_challenges, without_seeks}
-use Rattle.lobby_state.proofs.WellFormed.{challenges_gone, member_changed, places_at_desks, seeks_gone, with_partners}
+use Rattle.lobby_state.specs.Lobby.{LobbyState, is_session, without_challenges, without_partner, without_seeks}
+use Rattle.lobby_state.proofs.WellFormed.{challenges_gone, member_changed, places_at_desks, resumes_gone, seeks_gone, with_partners}
 use Rattle.lobby_state.specs.WellFormed.{IsWellFormed, sessions_of}
 use Rattle.lobby_state.proofs.PartnerRows.{ArePartnersOf-forgotten}
 use Rattle.partner_link.specs.Partners.{without}
@@ -20,7 +20,8 @@ keeps_going lobby session =
           let formed : IsWellFormed left = seeks_gone (without_challenges session gone) (λ seek. not (is_by session None seek))
           (challenges_gone gone (λ c. not (concerns session c))
           (member_changed lobby (is_session session) leaving (λ _. refl) (λ _. refl) (λ _ seats. seats) h)) in
-          with_partners left (without left.partners session) (ArePartnersOf-forgotten (sessions_of left.members) session left.partners formed.partners) formed;
+          resumes_gone (without_partner session left) (λ request. not (eqb request.by session))
+          (with_partners left (without left.partners session) (ArePartnersOf-forgotten (sessions_of left.members) session left.partners formed.partners) formed);
       games = refl;
       tells = places_at_desks lobby session;
     }

@@ -31,12 +31,12 @@ formed_challenged lobby session to terms (Some caller) (Some other) bounds first
       differ = λ e. eqb-false other.session session apart (sym e ∙ own);
       terms = bounds;
     } in
-    kept lobby (change_first (is_named to) line lobby.members) (with_challenge challenge lobby.challenges) lobby.games lobby.started
+    kept lobby (change_first (is_named to) line lobby.members) (with_challenge challenge lobby.challenges) lobby.games lobby.started lobby.shelf
     (map-change_first_same (λ m. m.session) (is_named to) line (λ _. refl) lobby.members)
     (map-change_first_same (λ m. key_of m.name) (is_named to) line (λ _. refl) lobby.members)
     (AreChallengesOf-with (sessions_of lobby.members) challenge lobby.challenges new h.challenges)
     h.games h.serials
-    (All-change_first (HasSeats lobby.games) (is_named to) line (λ _ seats. seats) lobby.members h.places) h
+    (All-change_first (HasSeats lobby.games) (is_named to) line (λ _ seats. seats) lobby.members h.places) h.shelf h.counted h
 
 games_challenged : (lobby : LobbyState) (to : List ℕ) (terms : Terms) (caller other : Option Member) → (challenged lobby caller other to terms).games ≡ lobby.games
 games_challenged lobby to terms None other = refl

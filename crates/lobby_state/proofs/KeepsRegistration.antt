@@ -12,8 +12,10 @@ use Rattle.lobby_state.specs.declared.member.Member.{Member}
 use Rattle.lobby_state.specs.Change.{holds}
 use Rattle.lobby_state.specs.Keeps.{Keeps}
 use Rattle.lobby_state.specs.Lobby.{LobbyState, has_account, is_registered, member_of}
-use Rattle.lobby_state.specs.Registration.{loading_effect, registered, registration_effect, with_account}
-use Rattle.lobby_state.specs.WellFormed.{IsWellFormed}
+use Rattle.lobby_state.specs.Registration.{loading_effect, registered, registration_effect, with_account, with_new_account}
+use Rattle.lobby_state.specs.WellFormed.{IsWellFormed, sessions_of}
+use Rattle.game_shelf.specs.Shelf.{account_order}
+use Rattle.lobby_state.proofs.ShelfRows.{AreCounted-account, AreCounted-new_account, IsShelfOf-ordered}
 use Rattle.lobby_state.proofs.Causes.{none_holds}
 
 none_there : (o : Option Account) → is_some o ≡ false → o ≡ None
@@ -40,13 +42,35 @@ with_one_account lobby account free room h = record {
   games = h.games;
   serials = h.serials;
   places = h.places;
+  shelf = h.shelf;
+  counted = AreCounted-account lobby.accounts account lobby.games lobby.started lobby.shelf h.counted;
 }
+
+-- and with the order that puts it into the store
+with_new_one : (lobby : LobbyState) (account : Account) → has_account lobby.accounts account.name ≡ false → leb 4096 (length lobby.accounts) ≡ false
+    → IsWellFormed lobby → IsWellFormed (with_new_account lobby account)
+with_new_one lobby account free room h =
+    let more = with_one_account lobby account free room h in
+    record {
+      accounts = more.accounts;
+      hall = h.hall;
+      sessions = h.sessions;
+      handles = h.handles;
+      challenges = h.challenges;
+      seeks = h.seeks;
+      partners = h.partners;
+      games = h.games;
+      serials = h.serials;
+      places = h.places;
+      shelf = IsShelfOf-ordered (sessions_of lobby.members) lobby.shelf (account_order lobby.shelf account) refl h.shelf;
+      counted = AreCounted-new_account lobby.accounts account lobby.games lobby.started lobby.shelf h.counted;
+    }
 
 formed_registered : (lobby : LobbyState) (member : Option Member) (digest : List ℕ) → holds (is_registered lobby.accounts) member ≡ false
     → leb 4096 (length lobby.accounts) ≡ false → IsWellFormed lobby → IsWellFormed (registered lobby member digest)
 formed_registered lobby None digest free room h = h
 formed_registered lobby (Some member) digest free room h =
-    with_one_account lobby (record { name = member.name; digest = digest }) free room h
+    with_new_one lobby (record { name = member.name; digest = digest }) free room h
 
 games_registered : (lobby : LobbyState) (member : Option Member) (digest : List ℕ) → (registered lobby member digest).games ≡ lobby.games
 games_registered lobby None digest = refl

@@ -30,7 +30,9 @@ use Rattle.lobby_state.specs.WellFormed.{IsWellFormed, IsSeatOf, IsStarted, HasS
 use Rattle.lobby_state.proofs.ChallengeRows.{AreChallengesOf-filter}
 use Rattle.lobby_state.proofs.First.{position-within, find-found}
 use Rattle.lobby_state.proofs.Lists.{map-map_same, All-map_each, find-passes, get-set_same, get-set_other, get_inside}
-use Rattle.lobby_state.proofs.WellFormed.{kept, seeks_gone}
+use Rattle.game_shelf.specs.Shelf.{is_by_seated as asks_seated}
+use Rattle.lobby_state.proofs.DesksUsed.{desks_used-taken}
+use Rattle.lobby_state.proofs.WellFormed.{kept, resumes_gone, seeks_gone}
 
 -- a number of a seat is that of the session's own
 record Sits (session : ℕ) (seats : Seats) (number : ℕ) : Type 0 where
@@ -128,8 +130,15 @@ formed_seated lobby desk serial terms seats can h =
       games = games;
       started = serial;
     } in
-    seeks_gone others (λ seek. not (is_by_seated seats seek))
-    (kept lobby (map sit lobby.members) (filter (λ c. not (is_settled lobby.members seats c)) lobby.challenges) games serial
+    let more = desks_used-taken lobby.games (desk - 1) game can.is_free in
+    let room = can.room in
+    let few = can.few in
+    let next = can.is_next in
+    let orders = h.counted.orders in
+    let left : LobbyState = record others { seeks = filter (λ seek. not (is_by_seated seats seek)) lobby.seeks } in
+    resumes_gone left (λ request. not (asks_seated seats request))
+    (seeks_gone others (λ seek. not (is_by_seated seats seek))
+    (kept lobby (map sit lobby.members) (filter (λ c. not (is_settled lobby.members seats c)) lobby.challenges) games serial lobby.shelf
     (map-map_same (λ m. m.session) sit (λ m. in_seat_session desk serial (seat_number m.session (seat_list seats)) m) lobby.members)
     (map-map_same (λ m. key_of m.name) sit (λ m. ap key_of (in_seat_name desk serial (seat_number m.session (seat_list seats)) m)) lobby.members)
     (AreChallengesOf-filter (sessions_of lobby.members) (λ c. not (is_settled lobby.members seats c)) lobby.challenges h.challenges)
@@ -138,7 +147,8 @@ formed_seated lobby desk serial terms seats can h =
     (All-map_each (HasSeats lobby.games) (HasSeats games) sit
     (λ m has. HasSeats-in_seat games desk serial terms seats m (seat_number m.session (seat_list seats)) can.is_desk in_use refl
     (All-weaker (IsSeatOf lobby.games m.session) (IsSeatOf games m.session) (λ p. IsSeatOf-started lobby.games (desk - 1) (Some game) m.session p can.is_free) m.places.rows has))
-    lobby.members h.places) h)
+    lobby.members h.places) h.shelf
+    (record { few = omega (arith, few, next); room = omega (arith, more, room); orders = omega (arith, more, next, orders) }) h))
 
 same_number : (one another : ℕ) → Some one ≡ Some another → one ≡ another
 same_number one another e = cc

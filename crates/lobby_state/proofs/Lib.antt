@@ -5,6 +5,7 @@ pub mod SeekRows
 pub mod ChallengeRows
 pub mod PartnerRows
 pub mod Causes
+pub mod ShelfRows
 pub mod WellFormed
 pub mod KeepsEnter
 pub mod KeepsRegistration
@@ -46,6 +47,9 @@ pub mod KeepsGoing
 pub mod KeepsBye
 pub mod RowsInUse
 pub mod KeepsInUse
+pub mod KeepsStored
+pub mod KeepsOrders
+pub mod KeepsSaved
 pub mod Listing
 pub mod Copying
 pub mod KeepsActs

@@ -22,13 +22,13 @@ formed_placed : (lobby : LobbyState) (session : ℕ) (places : PlaceList) → Al
 formed_placed lobby session places seats h =
     let own = is_session session in
     let put = with_places places in
-    kept lobby (change_first own put lobby.members) lobby.challenges lobby.games lobby.started
+    kept lobby (change_first own put lobby.members) lobby.challenges lobby.games lobby.started lobby.shelf
     (map-change_first_same (λ m. m.session) own put (λ _. refl) lobby.members)
     (map-change_first_same (λ m. key_of m.name) own put (λ _. refl) lobby.members)
     h.challenges h.games h.serials
     (All-change_first_passing (HasSeats lobby.games) own put
     (λ m passes _. subst (λ (s : ℕ). All (IsSeatOf lobby.games s) places.rows) (sym (eqb-true m.session session passes)) seats)
-    lobby.members h.places) h
+    lobby.members h.places) h.shelf h.counted h
 
 -- the places that the session has are seats of its own
 own_seats : (lobby : LobbyState) (session : ℕ) (found : Option Member) → member_of lobby session ≡ found → IsWellFormed lobby

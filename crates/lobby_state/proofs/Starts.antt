@@ -1,6 +1,6 @@
 -- A game between an offering and an accepting member can start, and in bughouse one of them and their partners.
 use Rattle.std.proofs.Common.{◌≡◌, ◌≢◌, ℕ, ◌+◌, ◌-◌, ◌<◌, zero, suc, Bool, true, false, ◌&&◌, ◌||◌, List, [], ◌∷◌, Option, None, Some, is_none, length, get_or, slice_get, refl, sym, ap, subst, ◌∙◌, inl, inr, arith}
-use Rattle.std.specs.Prelude.{All}
+use Rattle.std.specs.Prelude.{All, nat_le}
 use Rattle.std.specs.List.{AllPairs, find, position, position_or_len}
 use Rattle.std.proofs.lemmas.Bool.{cases_lt, eqb-true, eqb-false, leb-false}
 use Rattle.std.proofs.lemmas.Bool.Decides.{eqb_tells}
@@ -20,7 +20,7 @@ use Rattle.partner_link.proofs.Links.{partner_of-other, partner_of-partner_of}
 use Rattle.lobby_state.specs.declared.game.Game.{Game}
 use Rattle.lobby_state.specs.declared.member.Member.{Member}
 use Rattle.lobby_state.specs.Change.{holds}
-use Rattle.lobby_state.specs.Lobby.{LobbyState, free_slot, gives, is_session, member_of, partner_in}
+use Rattle.lobby_state.specs.Lobby.{LobbyState, free_slot, most_games, gives, is_session, member_of, partner_in}
 use Rattle.lobby_state.specs.Pairing.{are_partners, beside, lack_partner, member_at, needs_partners, paired}
 use Rattle.lobby_state.specs.Planned.{AreApart, FitsVariant, IsMember, IsPlanned, SitCrosswise}
 use Rattle.lobby_state.specs.Starting.{has_white, opponents_of, player_of, second_board, start_plan}
@@ -320,9 +320,9 @@ seats_fit lobby Bughouse white offering accepting (Some first) (Some second) one
 pub planned_where : (lobby : LobbyState) (session from : ℕ) (accepting : Member) (terms : Terms) (offering : Member) (slot : ℕ)
     → AreTerms terms → member_of lobby session ≡ Some accepting → member_of lobby from ≡ Some offering → from ≢ session
     → are_partners lobby (paired offering accepting terms) ≡ false → lack_partner lobby (paired offering accepting terms) ≡ false
-    → free_slot lobby ≡ Some slot → is_shelf_full lobby ≡ false → IsWellFormed lobby
+    → free_slot lobby ≡ Some slot → nat_le most_games lobby.started ≡ false → is_shelf_full lobby ≡ false → IsWellFormed lobby
     → IsPlanned lobby (start_plan lobby (Some (paired offering accepting terms)) (Some slot))
-planned_where lobby session from accepting terms offering slot bounds first third differ away full found room h =
+planned_where lobby session from accepting terms offering slot bounds first third differ away full found few room h =
     let own = found_there lobby session accepting first in
     let theirs = found_there lobby from offering third in
     let opposed : offering.session ≢ accepting.session = λ same. differ (sym theirs.0 ∙ same ∙ own.0) in
@@ -336,6 +336,7 @@ planned_where lobby session from accepting terms offering slot bounds first thir
       is_desk = (omega arith, omega (arith, long));
       is_free = ap (slice_get lobby.games) back ∙ free-is lobby.games slot found;
       is_next = refl;
+      few = leb-false most_games lobby.started few;
       room = leb-false 10000 (places_taken lobby) room;
       are_terms = bounds;
       members = fit.members;

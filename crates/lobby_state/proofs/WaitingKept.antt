@@ -14,7 +14,7 @@ use Rattle.fics_words.specs.declared.refusal.Refusal.{Refusal}
 use Rattle.login_handles.specs.declared.check.Check.{Check}
 use Rattle.login_handles.specs.declared.check.Check.TheVariants.{Free, Right, Wrong, NeedPassword}
 use Rattle.lobby_state.specs.declared.acts.LobbyAct.{LobbyAct}
-use Rattle.lobby_state.specs.declared.acts.LobbyAct.TheVariants.{Enter, Register, Match, Unpost, Sought, Who, Where, Fetch, Going, Bye, InUse, Var, Tell, Shout, Decline, Withdraw, Post, Channel, TellChannel, InChannel, Partner, Ptell, List as OnList, Pending, Games, Find, FindGame, SimOpen, SimNext, SimPrev, GoBoard}
+use Rattle.lobby_state.specs.declared.acts.LobbyAct.TheVariants.{Enter, Register, Match, Unpost, Sought, Who, Where, Fetch, Going, Bye, InUse, Var, Tell, Shout, Decline, Withdraw, Post, Channel, TellChannel, InChannel, Partner, Ptell, List as OnList, Pending, Games, Find, FindGame, SimOpen, SimNext, SimPrev, GoBoard, Stored, Orders, Saved}
 use Rattle.lobby_state.specs.declared.acts.Plan.{Plan}
 use Rattle.lobby_state.specs.declared.acts.Plan.TheVariants.{Start, Clear}
 use Rattle.seek_match.specs.declared.challenge.Challenge.{Challenge}
@@ -275,6 +275,9 @@ kept_act lobby by session Fetch f b = kept_fetched by session lobby.members (f r
 kept_act lobby by session Going f b = kept_change (is_session by) leaving (λ m. same_lines m (leaving m) refl refl) session lobby.members
 kept_act lobby by session Bye f b = kept_gone by session lobby.members (b refl)
 kept_act lobby by session InUse f b = kept_same session lobby.members
+kept_act lobby by session Stored f b = kept_same session lobby.members
+kept_act lobby by session Orders f b = kept_same session lobby.members
+kept_act lobby by session (Saved upto) f b = kept_same session lobby.members
 
 kept_unless : (refused : Option Refusal) (session : ℕ) (lobby after : LobbyState) → Kept session lobby.members after.members
     → BeginsWith (waiting_of lobby session) (waiting_of (unless refused lobby after) session)

@@ -1,6 +1,6 @@
 -- What leaves a lobby well-formed that was.
-use Rattle.std.proofs.Common.{◌≡◌, ℕ, ◌<◌, ◌≤◌, Bool, List, [], ◌∷◌, Option, None, Some, length, map, filter, refl, sym, ap, subst, ◌∙◌, inl, inr, arith}
-use Rattle.std.specs.Prelude.{All}
+use Rattle.std.proofs.Common.{◌≡◌, ℕ, ◌+◌, ◌^◌, ◌<◌, ◌≤◌, Bool, List, [], ◌∷◌, Option, None, Some, length, map, filter, refl, sym, ap, subst, ◌∙◌, inl, inr, arith}
+use Rattle.std.specs.Prelude.{All, Contains}
 use Rattle.std.specs.List.{find}
 use Rattle.std.proofs.lemmas.List.{length-map}
 use Rattle.std.proofs.lemmas.List.Elements.{All-nil, All-replicate, All-weaker, All-head, All-tail}
@@ -13,26 +13,31 @@ use Rattle.lobby_state.specs.Change.{change_first}
 use Rattle.lobby_state.specs.Places.{AreAtDesks}
 use Rattle.lobby_state.specs.Desks.{IsDesk, desks}
 use Rattle.lobby_state.specs.Lobby.{LobbyState, most_members, opening, is_session, member_of, places_in, places_of}
-use Rattle.lobby_state.specs.WellFormed.{IsWellFormed, IsBetweenMembers, AreChallengesOf, IsByMember, AreSeeksOf, IsAskedByMember, IsLinkOfMembers, ArePartnersOf, IsSeatOf, IsStarted, HasSeats, sessions_of}
+use Rattle.lobby_state.specs.WellFormed.{IsWellFormed, IsBetweenMembers, AreChallengesOf, IsByMember, AreSeeksOf, AreCounted, IsShelfOf, IsAskedByMember, IsLinkOfMembers, ArePartnersOf, IsSeatOf, IsStarted, HasSeats, sessions_of}
 use Rattle.lobby_state.proofs.Lists.{map-change_first_same, All-change_first, AllPairs-same, find-step}
 use Rattle.lobby_state.proofs.ChallengeRows.{AreChallengesOf-filter}
 use Rattle.lobby_state.proofs.SeekRows.{AreSeeksOf-filter, has_numbers_left}
 use Rattle.seek_match.specs.declared.seek.Seek.{Seek}
 use Rattle.partner_link.specs.Partners.{PartnerLists}
+use Rattle.game_shelf.specs.Shelf.{ShelfState}
+use Rattle.game_shelf.specs.declared.request.Request.{Request}
+use Rattle.game_shelf.proofs.Keeping.{IsShelf-empty}
+use Rattle.lobby_state.proofs.ShelfRows.{IsShelfOf-fewer}
 
 -- lists that show the same are of one length
 length-kept : {X Y : Type 0} (g : X → Y) (xs ys : List X) → map g xs ≡ map g ys → length xs ≡ length ys
 length-kept g xs ys e = sym (length-map xs g) ∙ ap length e ∙ length-map ys g
 
 -- the lobby has other members and challenges, where sessions and handles are those of before
-pub kept : (lobby : LobbyState) (members : List Member) (challenges : List Challenge) (games : List (Option Game)) (started : ℕ)
+pub kept : (lobby : LobbyState) (members : List Member) (challenges : List Challenge) (games : List (Option Game)) (started : ℕ) (shelf : ShelfState)
     → map (λ m. m.session) members ≡ map (λ m. m.session) lobby.members
     → map (λ m. key_of m.name) members ≡ map (λ m. key_of m.name) lobby.members
     → AreChallengesOf (sessions_of lobby.members) challenges
     → length games ≡ desks → All (IsStarted started) games → All (HasSeats games) members
+    → IsShelfOf (sessions_of lobby.members) shelf → AreCounted lobby.accounts games started shelf
     → IsWellFormed lobby
-    → IsWellFormed (record lobby { members = members; challenges = challenges; games = games; started = started })
-kept lobby members challenges games started sessions keys stand long serials places h = record {
+    → IsWellFormed (record lobby { members = members; challenges = challenges; games = games; started = started; shelf = shelf })
+kept lobby members challenges games started shelf sessions keys stand long serials places stored counted h = record {
   accounts = h.accounts;
   sessions = AllPairs-same (λ m. m.session) lobby.members members sessions h.sessions;
   handles = AllPairs-same (λ m. key_of m.name) lobby.members members keys h.handles;
@@ -43,6 +48,8 @@ kept lobby members challenges games started sessions keys stand long serials pla
   games = long;
   serials = serials;
   places = places;
+  shelf = subst (λ (ss : List ℕ). IsShelfOf ss shelf) (sym sessions) stored;
+  counted = counted;
 }
 
 -- one member changes, but not its session nor its name, and what places it has then are seats
@@ -51,11 +58,11 @@ pub member_changed : (lobby : LobbyState) (test : Member → Bool) (change : Mem
     → ((m : Member) → HasSeats lobby.games m → HasSeats lobby.games (change m))
     → IsWellFormed lobby → IsWellFormed (record lobby { members = change_first test change lobby.members })
 member_changed lobby test change session name seats h =
-    kept lobby (change_first test change lobby.members) lobby.challenges lobby.games lobby.started
+    kept lobby (change_first test change lobby.members) lobby.challenges lobby.games lobby.started lobby.shelf
     (map-change_first_same (λ m. m.session) test change session lobby.members)
     (map-change_first_same (λ m. key_of m.name) test change (λ m. ap key_of (name m)) lobby.members)
     h.challenges h.games h.serials
-    (All-change_first (HasSeats lobby.games) test change seats lobby.members h.places) h
+    (All-change_first (HasSeats lobby.games) test change seats lobby.members h.places) h.shelf h.counted h
 
 -- some challenges go
 pub challenges_gone : (lobby : LobbyState) (test : Challenge → Bool) → IsWellFormed lobby
@@ -71,6 +78,8 @@ challenges_gone lobby test h = record {
   games = h.games;
   serials = h.serials;
   places = h.places;
+  shelf = h.shelf;
+  counted = h.counted;
 }
 
 -- there are at most as many sessions as members
@@ -95,6 +104,8 @@ with_seeks lobby seeks are h = record {
   games = h.games;
   serials = h.serials;
   places = h.places;
+  shelf = h.shelf;
+  counted = h.counted;
 }
 
 -- some seeks go
@@ -115,6 +126,8 @@ with_channels lobby channels h = record {
   games = h.games;
   serials = h.serials;
   places = h.places;
+  shelf = h.shelf;
+  counted = h.counted;
 }
 
 -- there are other requests and links of partners
@@ -131,7 +144,35 @@ with_partners lobby partners are h = record {
   games = h.games;
   serials = h.serials;
   places = h.places;
+  shelf = h.shelf;
+  counted = h.counted;
 }
+
+-- some requests to resume go
+pub resumes_gone : (lobby : LobbyState) (test : Request → Bool) → IsWellFormed lobby
+    → IsWellFormed (record lobby { shelf = record lobby.shelf { requests = filter test lobby.shelf.requests } })
+resumes_gone lobby test h = record {
+  accounts = h.accounts;
+  hall = h.hall;
+  sessions = h.sessions;
+  handles = h.handles;
+  challenges = h.challenges;
+  seeks = h.seeks;
+  partners = h.partners;
+  games = h.games;
+  serials = h.serials;
+  places = h.places;
+  shelf = IsShelfOf-fewer (sessions_of lobby.members) lobby.shelf test h.shelf;
+  counted = record { few = h.counted.few; room = h.counted.room; orders = h.counted.orders };
+}
+
+-- another save order can be made
+pub one_more_order : (lobby : LobbyState) → IsWellFormed lobby → lobby.shelf.made + 1 < 2 ^ 64
+one_more_order lobby h =
+    let most = h.accounts.1 in
+    let started = h.counted.few in
+    let orders = h.counted.orders in
+    omega (arith, most, started, orders)
 
 pub IsWellFormed-opening : IsWellFormed opening
 IsWellFormed-opening = record {
@@ -145,6 +186,8 @@ IsWellFormed-opening = record {
   games = refl;
   serials = All-replicate (IsStarted 0) 128 None tt;
   places = All-nil (HasSeats opening.games);
+  shelf = record { sound = IsShelf-empty; members = All-nil (λ request. Contains [] request.by) };
+  counted = record { few = omega arith; room = omega arith; orders = omega arith };
 }
 
 -- what was found in a list has what each item has

@@ -1,11 +1,11 @@
 -- The lines that the lobby writes are lines: they are printable and short.
-use Rattle.std.proofs.Common.{◌≡◌, ℕ, ◌+◌, ◌%◌, ◌<◌, ◌≤◌, ◌^◌, Bool, true, List, ◌++◌, Option, None, Some, length, codes, decimal, refl, subst, inl, inr, arith, rules, tests, length-append, ◌&&◌, leb}
+use Rattle.std.proofs.Common.{◌≡◌, ℕ, ◌+◌, ◌%◌, ◌<◌, ◌≤◌, ◌^◌, Bool, true, List, [], ◌∷◌, ◌++◌, Option, None, Some, length, take, get_or, codes, decimal, refl, sym, ap, ◌∙◌, subst, inl, inr, arith, rules, tests, length-append, ◌&&◌, leb}
 use Rattle.std.specs.Prelude.{All}
 use Rattle.std.specs.Char.{IsAsciiAlphabetic}
 use Rattle.std.specs.List.{list_all}
 use Rattle.std.proofs.lemmas.Fmt.{decimal_is_IsNumeral, length-decimal-le}
 use Rattle.std.proofs.lemmas.Str.Parse.{digit_at}
-use Rattle.std.proofs.lemmas.List.{get_or_default}
+use Rattle.std.proofs.lemmas.List.{flat_map_more, get_or_default, take_more}
 use Rattle.std.proofs.lemmas.List.Elements.{All-append}
 use Rattle.std.proofs.lemmas.List.Sums.{AllPass-from_list_all}
 use Rattle.chess_model.specs.declared.man.Colour.{Colour}
@@ -25,6 +25,7 @@ use Rattle.lobby_state.specs.Pending.{pending_words, side_words}
 use Rattle.lobby_state.specs.Post.{seek_words}
 use Rattle.lobby_state.specs.Said.{IsText, IsWording, said}
 use Rattle.lobby_state.specs.Sought.{sought_words}
+use Rattle.lobby_state.specs.Stored.{names_words, stored_words}
 use Rattle.lobby_state.specs.TellChannel.{channel_words}
 use Rattle.lobby_state.specs.TermsText.{colour_words, terms_words}
 use Rattle.seek_match.specs.declared.seek.Seek.{Seek}
@@ -203,3 +204,29 @@ IsPrinted-board_words number white black terms w b small minutes increment =
     let join = IsPrinted-append in
     join 42 29 _ _ (join 41 1 _ _ (join 24 17 _ _ (join 23 1 _ _ (join 6 17 _ _ (join 5 1 _ _ (IsPrinted-decimal number small) IsPrinted-blank) w)
     IsPrinted-blank) b) IsPrinted-blank) (IsPrinted-terms_words (record terms { colour = None }) minutes increment)
+
+-- one name more, behind a blank
+pub IsPrinted-one_more : (most : ℕ) (text name : List ℕ) → IsPrinted most text → IsHandle name → IsPrinted (most + 18) (text ++ (codes " " ++ name))
+IsPrinted-one_more most text name h handle =
+    IsPrinted-append most 18 text (codes " " ++ name) h (IsPrinted-append 1 17 (codes " ") name IsPrinted-blank (IsPrinted-handle name handle))
+
+pub names_words-more : (names : List (List ℕ)) (i : ℕ) (name : List ℕ) → i < length names → name ≡ get_or names i name
+    → names_words (take (i + 1) names) ≡ names_words (take i names) ++ (codes " " ++ name)
+names_words-more names i name inside at =
+    ap names_words (take_more names i name inside) ∙ ap (λ (n : List ℕ). names_words (take i names ++ n ∷ [])) (sym at)
+    ∙ sym (flat_map_more (λ (n : List ℕ). codes " " ++ n) [] (take i names) name)
+
+IsPrinted-long_decimal : (n : ℕ) → n < 2 ^ 64 → IsPrinted 20 (decimal n)
+IsPrinted-long_decimal n fits = record {
+  short = length-decimal-le 20 n (omega arith) (omega arith) (omega arith);
+  shows = λ k d inside.
+      subst IsPrintable (get_or_default (decimal n) k 0 d inside)
+      (IsPrintable-digit _ (digit_at (decimal n) k (decimal_is_IsNumeral n fits).0.1 inside));
+}
+
+pub IsPrinted-stored_words : (number : ℕ) (names : List (List ℕ)) (terms : Terms) → number < 2 ^ 64 → IsPrinted 72 (names_words names)
+    → terms.minutes < 2 ^ 16 → terms.increment < 2 ^ 16 → IsPrinted 122 (stored_words number names terms)
+IsPrinted-stored_words number names terms small printed minutes increment =
+    let join = IsPrinted-append in
+    join 93 29 _ _ (join 92 1 _ _ (join 20 72 _ _ (IsPrinted-long_decimal number small) printed) IsPrinted-blank)
+    (IsPrinted-terms_words terms minutes increment)

@@ -3,7 +3,7 @@ use Rattle.std.specs.Prelude.{ℕ, ◌≤◌, length, Result}
 use Rattle.fics_words.specs.declared.refusal.Refusal.{Refusal}
 use Rattle.fics_words.specs.Effect.{Effect, answer_of, state_of}
 use Rattle.lobby_state.specs.declared.acts.LobbyAct.{LobbyAct}
-use Rattle.lobby_state.specs.declared.acts.LobbyAct.TheVariants.{Enter, Register, Match, Unpost, Sought, Who, Where, Fetch, Going, Bye, InUse, Var, Tell, Shout, Decline, Withdraw, Post, Channel, TellChannel, InChannel, Partner, Ptell, List, Pending, Games, Find, FindGame, SimOpen, SimNext, SimPrev, GoBoard}
+use Rattle.lobby_state.specs.declared.acts.LobbyAct.TheVariants.{Enter, Register, Match, Unpost, Sought, Who, Where, Fetch, Going, Bye, InUse, Var, Tell, Shout, Decline, Withdraw, Post, Channel, TellChannel, InChannel, Partner, Ptell, List, Pending, Games, Find, FindGame, SimOpen, SimNext, SimPrev, GoBoard, Stored, Orders, Saved}
 use Rattle.lobby_state.specs.declared.acts.LobbyReply.{LobbyReply}
 use Rattle.lobby_state.specs.Bye.{bye_effect}
 use Rattle.lobby_state.specs.Channel.{channel_effect}
@@ -21,7 +21,10 @@ use Rattle.lobby_state.specs.InUse.{in_use_effect}
 use Rattle.lobby_state.specs.Lobby.{LobbyState}
 use Rattle.lobby_state.specs.Match.{match_effect}
 use Rattle.lobby_state.specs.NameList.{list_effect}
+use Rattle.lobby_state.specs.Orders.{orders_effect}
 use Rattle.lobby_state.specs.Pending.{pending_effect}
+use Rattle.lobby_state.specs.Saved.{saved_effect}
+use Rattle.lobby_state.specs.Stored.{stored_effect}
 use Rattle.lobby_state.specs.Post.{post_effect}
 use Rattle.lobby_state.specs.Registration.{registration_effect}
 use Rattle.lobby_state.specs.SimNext.{sim_next_effect}
@@ -72,6 +75,9 @@ lobby_effect lobby session Fetch = fetch_effect lobby session
 lobby_effect lobby session Going = going_effect lobby session
 lobby_effect lobby session Bye = bye_effect lobby session
 lobby_effect lobby session InUse = in_use_effect lobby
+lobby_effect lobby session Stored = stored_effect lobby session
+lobby_effect lobby session Orders = orders_effect lobby
+lobby_effect lobby session (Saved upto) = saved_effect lobby upto
 
 -- the answer to a lobby act
 abbrev pub lobby_answer : LobbyState → ℕ → LobbyAct → Result LobbyReply Refusal

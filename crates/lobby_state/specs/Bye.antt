@@ -3,7 +3,7 @@ use Rattle.std.specs.Prelude.{ℕ, false, not, [], filter}
 use Rattle.fics_words.specs.Effect.{Effect}
 use Rattle.lobby_state.specs.declared.acts.LobbyReply.{LobbyReply}
 use Rattle.lobby_state.specs.declared.acts.LobbyReply.TheVariants.{Done}
-use Rattle.lobby_state.specs.Lobby.{LobbyState, is_session, without_challenges, without_channels, without_partner, without_seeks}
+use Rattle.lobby_state.specs.Lobby.{LobbyState, is_session, without_challenges, without_channels, without_partner, without_resumes, without_seeks}
 
 -- a Bye is never refused: the member is gone and is in no channel, and gone is each challenge, each seek, each request
 -- and the link that still named it
@@ -12,6 +12,6 @@ bye_effect lobby session = record {
   causes = [];
   memory = false;
   reply = Done;
-  after = without_partner session (without_channels session (without_seeks session (without_challenges session
-      (record lobby { members = filter (λ member. not (is_session session member)) lobby.members }))));
+  after = without_resumes session (without_partner session (without_channels session (without_seeks session (without_challenges session
+      (record lobby { members = filter (λ member. not (is_session session member)) lobby.members })))));
 }

@@ -5,7 +5,7 @@ use Rattle.lobby_state.specs.declared.acts.LobbyReply.{LobbyReply}
 use Rattle.lobby_state.specs.declared.acts.LobbyReply.TheVariants.{Places}
 use Rattle.lobby_state.specs.declared.member.Member.{Member}
 use Rattle.lobby_state.specs.Change.{change_first}
-use Rattle.lobby_state.specs.Lobby.{LobbyState, is_session, places_of, without_challenges, without_partner, without_seeks}
+use Rattle.lobby_state.specs.Lobby.{LobbyState, is_session, places_of, without_challenges, without_partner, without_resumes, without_seeks}
 
 -- the member that leaves, and can't be named from then on
 abbrev pub leaving : Member → Member
@@ -17,6 +17,6 @@ going_effect lobby session = record {
   causes = [];
   memory = false;
   reply = Places (places_of lobby session);
-  after = without_partner session (without_seeks session (without_challenges session
-      (record lobby { members = change_first (is_session session) leaving lobby.members })));
+  after = without_resumes session (without_partner session (without_seeks session (without_challenges session
+      (record lobby { members = change_first (is_session session) leaving lobby.members }))));
 }

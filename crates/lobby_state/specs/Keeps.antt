@@ -3,7 +3,7 @@
 use Rattle.std.specs.Prelude.{◌≡◌, ◌≢◌, ℕ, ◌-◌, ◌≤◌, All, Bool, IfSome, Option, Some, slice_get}
 use Rattle.fics_words.specs.Effect.{Effect, NoneHolds}
 use Rattle.lobby_state.specs.declared.acts.LobbyReply.{LobbyReply}
-use Rattle.lobby_state.specs.declared.acts.LobbyReply.TheVariants.{Done, Entered, NeedPassword, Lines, Places, Waiting, Desks, Told, Number, Asked, Found}
+use Rattle.lobby_state.specs.declared.acts.LobbyReply.TheVariants.{Done, Entered, NeedPassword, Lines, Places, Waiting, Desks, Told, Number, Asked, Found, Orders}
 use Rattle.lobby_state.specs.declared.acts.Plan.{Plan}
 use Rattle.lobby_state.specs.declared.game.Game.{Game}
 use Rattle.lobby_state.specs.Desks.{IsDesk}
@@ -26,6 +26,7 @@ TellsDesks (Found place) = IsDesk place.desk
 TellsDesks (Places places) = AreAtDesks places.rows
 TellsDesks (Waiting lines places) = AreAtDesks places.rows
 TellsDesks (Desks desks) = All (λ row. IsDesk row.desk) desks
+TellsDesks (Orders orders) = Unit {0}
 
 -- what a lobby act keeps: it leaves a lobby well-formed, it starts and ends no game, and it tells of desks alone
 pub record Keeps (lobby : LobbyState) (effect : Effect LobbyState LobbyReply) : Type 0 where

@@ -38,6 +38,9 @@ pub mod GoBoard
 pub mod Going
 pub mod Bye
 pub mod InUse
+pub mod Stored
+pub mod Orders
+pub mod Saved
 pub mod Told
 pub mod ShelfRoom
 pub mod Starting

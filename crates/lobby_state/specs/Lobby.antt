@@ -6,7 +6,7 @@ use Rattle.channel_feed.specs.declared.channels.Membership.{Membership}
 use Rattle.channel_feed.specs.Channels.{without_player}
 use Rattle.fics_words.specs.Handle.{key_of}
 use Rattle.fics_words.specs.declared.account.Account.{Account}
-use Rattle.game_shelf.specs.Shelf.{ShelfState, empty}
+use Rattle.game_shelf.specs.Shelf.{ShelfState, empty, without_requests}
 use Rattle.login_handles.specs.Accounts.{account_of}
 use Rattle.partner_link.specs.Partners.{PartnerLists, partner_of, without}
 use Rattle.seek_match.specs.declared.seek.Seek.{Seek}
@@ -155,3 +155,7 @@ partner_in lobby session = partner_of lobby.partners.links session
 -- the lobby without the requests and the link that name this session
 abbrev pub without_partner : ℕ → LobbyState → LobbyState
 without_partner session lobby = record lobby { partners = without lobby.partners session }
+
+-- the lobby without the requests of this session to resume a game
+abbrev pub without_resumes : ℕ → LobbyState → LobbyState
+without_resumes session lobby = record lobby { shelf = without_requests session lobby.shelf }

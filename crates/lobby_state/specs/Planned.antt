@@ -13,7 +13,7 @@ use Rattle.game_shelf.specs.Shelf.{most_stored}
 use Rattle.lobby_state.specs.declared.acts.Plan.{Plan}
 use Rattle.lobby_state.specs.declared.acts.Plan.TheVariants.{Start, Clear}
 use Rattle.lobby_state.specs.Desks.{IsDesk}
-use Rattle.lobby_state.specs.Lobby.{LobbyState, partner_in}
+use Rattle.lobby_state.specs.Lobby.{LobbyState, most_games, partner_in}
 use Rattle.lobby_state.specs.ShelfRoom.{places_taken}
 use Rattle.lobby_state.specs.Terms.{AreTerms}
 use Rattle.lobby_state.specs.WellFormed.{sessions_of}
@@ -43,12 +43,13 @@ SitCrosswise lobby first None = Unit {0}
 SitCrosswise lobby first (Some second) = HasPartner lobby first.white second.black × HasPartner lobby first.black second.white
 
 -- a game on these terms can start at this desk under this serial with these players: the desk is free, the serial is
--- the next one, there is a place on the shelf for the game, the terms are within their bounds, the players are members,
+-- the next one, fewer than 2^62 games were started, there is a place on the shelf for the game, the terms are within their bounds, the players are members,
 -- as many as the variant has, and apart, and partners have opposite colours
 pub record CanStart (lobby : LobbyState) (desk serial : ℕ) (terms : Terms) (seats : Seats) : Type 0 where
   pub is_desk : IsDesk desk
   pub is_free : slice_get lobby.games (desk - 1) ≡ Some None
   pub is_next : serial ≡ lobby.started + 1
+  pub few : lobby.started < most_games
   pub room : places_taken lobby < most_stored
   pub are_terms : AreTerms terms
   pub members : All (IsMember lobby) (seat_list seats)

@@ -5,6 +5,7 @@ use Rattle.chess_model.specs.declared.variant.Terms.{Terms}
 use Rattle.fics_words.specs.declared.seats.Seats.{Seats}
 use Rattle.fics_words.specs.Seats.{seat_list, seat_number}
 use Rattle.seek_match.specs.declared.challenge.Challenge.{Challenge}
+use Rattle.game_shelf.specs.Shelf.{without_seated}
 use Rattle.lobby_state.specs.declared.member.Member.{Member}
 use Rattle.lobby_state.specs.Change.{holds}
 use Rattle.lobby_state.specs.Lobby.{LobbyState, gives, is_session}
@@ -53,7 +54,7 @@ abbrev pub is_by_seated : Seats → Seek → Bool
 is_by_seated seats seek = is_seated seats seek.by
 
 -- the lobby once the game has started: the desk is in use, the players have their places, and their challenges go, but
--- for a giver's with others, and their seeks
+-- for a giver's with others, and their seeks and requests to resume
 abbrev pub seated : LobbyState → ℕ → ℕ → Terms → Seats → LobbyState
 seated lobby desk serial terms seats = record lobby {
   members = map (λ member. in_seat desk serial (seat_number member.session (seat_list seats)) member) lobby.members;
@@ -61,4 +62,5 @@ seated lobby desk serial terms seats = record lobby {
   seeks = filter (λ seek. not (is_by_seated seats seek)) lobby.seeks;
   games = slice_set lobby.games (desk - 1) (Some (record { serial = serial; terms = terms; seats = seats }));
   started = serial;
+  shelf = without_seated seats lobby.shelf;
 }

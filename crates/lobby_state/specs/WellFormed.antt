@@ -1,16 +1,20 @@
 -- What holds of a lobby at all times, from its opening on. This server's own.
-use Rattle.std.specs.Prelude.{◌≡◌, ◌≢◌, ℕ, ◌-◌, ◌≤◌, false, List, length, map, count_by, All, Contains, Option, None, Some, is_some, slice_get}
+use Rattle.std.specs.Prelude.{◌≡◌, ◌≢◌, ℕ, ◌+◌, ◌-◌, ◌*◌, ◌≤◌, false, List, length, map, count_by, All, Contains, Option, None, Some, is_some, slice_get}
 use Rattle.std.specs.List.{AllPairs}
 use Rattle.fics_words.specs.Handle.{key_of}
+use Rattle.fics_words.specs.declared.account.Account.{Account}
 use Rattle.fics_words.specs.declared.player.Player.{Player}
 use Rattle.fics_words.specs.Seats.{seat_list}
+use Rattle.game_shelf.specs.Facts.{IsShelf}
+use Rattle.game_shelf.specs.Shelf.{ShelfState, most_stored}
 use Rattle.login_handles.specs.Accounts.{AreAccounts}
 use Rattle.lobby_state.specs.declared.game.Game.{Game}
 use Rattle.lobby_state.specs.declared.member.Member.{Member}
 use Rattle.simul_control.specs.declared.place.Place.{Place}
 use Rattle.lobby_state.specs.Desks.{IsDesk, desks}
-use Rattle.lobby_state.specs.Lobby.{LobbyState, most_members}
+use Rattle.lobby_state.specs.Lobby.{LobbyState, most_games, most_members}
 use Rattle.lobby_state.specs.Pairing.{needs_partners}
+use Rattle.lobby_state.specs.ShelfRoom.{desks_used}
 use Rattle.lobby_state.specs.Terms.{AreTerms}
 use Rattle.partner_link.specs.declared.pairs.PartnerLink.{PartnerLink}
 use Rattle.partner_link.specs.declared.pairs.PartnerRequest.{PartnerRequest}
@@ -64,6 +68,19 @@ pub record ArePartnersOf (sessions : List ℕ) (partners : PartnerLists) : Type 
   pub links : All (IsLinkOfMembers sessions) partners.links
   pub apart : AreLinks partners.links
 
+-- the shelf is sound, and each request to resume is by a member
+pub record IsShelfOf (sessions : List ℕ) (shelf : ShelfState) : Type 0 where
+  pub sound : IsShelf shelf
+  pub members : All (λ request. Contains sessions request.by) shelf.requests
+
+-- at most 2^62 games were started; stored games and desks in use are at most 10,000 together, so that each game that runs
+-- has its place on the shelf; and a save order was made for an account at most once, and for a game at most as it was
+-- resumed and as it was adjourned, so that the numbers of orders stay below 2^64
+pub record AreCounted (accounts : List Account) (games : List (Option Game)) (started : ℕ) (shelf : ShelfState) : Type 0 where
+  pub few : started ≤ most_games
+  pub room : length shelf.games + desks_used games ≤ most_stored
+  pub orders : shelf.made + desks_used games ≤ 2 * started + length accounts
+
 -- the place is a seat of this session's, at a desk in use under that serial
 pub record IsSeatOf (games : List (Option Game)) (session : ℕ) (place : Place) : Type 0 where
   pub desk : IsDesk place.desk
@@ -95,7 +112,8 @@ IsStarted started (Some game) = IsStartedGame started game
 -- one session, and no two one handle; each challenge is by one member to another, and nobody has two to one player; the
 -- seeks are by members; the requests and links of partners are of members, and nobody has two partners; there are 128
 -- desks, and each game has a serial that was given out, and two boards exactly in bughouse; each place of a member is a
--- seat of its own in such a game; and the terms of challenges, seeks and games are within their bounds
+-- seat of its own in such a game; the terms of challenges, seeks and games are within their bounds; the shelf is sound, with
+-- requests by members; and games, orders and places on the shelf are as many as they can be
 pub record IsWellFormed (lobby : LobbyState) : Type 0 where
   pub accounts : AreAccounts lobby.accounts
   pub hall : length lobby.members ≤ most_members
@@ -107,3 +125,5 @@ pub record IsWellFormed (lobby : LobbyState) : Type 0 where
   pub games : length lobby.games ≡ desks
   pub serials : All (IsStarted lobby.started) lobby.games
   pub places : All (HasSeats lobby.games) lobby.members
+  pub shelf : IsShelfOf (sessions_of lobby.members) lobby.shelf
+  pub counted : AreCounted lobby.accounts lobby.games lobby.started lobby.shelf

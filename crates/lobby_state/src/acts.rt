@@ -10,6 +10,7 @@ use crate::var::Var;
 use chess_model::Terms;
 use collections::Listed;
 use fics_words::{Digest, Handle, HandleKey, Line, Seats};
+use game_shelf::Order;
 use simul_control::{Place, Places};
 
 /// An act that needs the lobby alone.
@@ -125,6 +126,14 @@ pub enum LobbyAct {
     Bye,
     /// Asks which desks are in use, and under which serials.
     InUse,
+    /// Asks which adjourned games of the member wait to be resumed.
+    Stored,
+    /// Asks for the first save orders.
+    Orders,
+    /// A store has carried out the save orders up to that number.
+    Saved {
+        upto: u64,
+    },
 }
 
 /// What a lobby act is answered.
@@ -149,6 +158,8 @@ pub enum LobbyReply {
     Waiting { lines: Listed<Line>, places: Places },
     /// The desks in use, in ascending order.
     Desks(Listed<DeskInUse>),
+    /// The first 16 save orders, in the order in which they were made.
+    Orders(Listed<Order>),
 }
 
 impl LobbyReply {
@@ -172,6 +183,7 @@ impl LobbyReply {
                 places: *places,
             },
             LobbyReply::Desks(_) => LobbyReply::Desks(lists.desks),
+            LobbyReply::Orders(_) => LobbyReply::Orders(lists.orders),
         }
     }
 }

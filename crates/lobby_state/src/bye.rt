@@ -32,6 +32,7 @@ impl Register {
         self.seeks.forget(session);
         self.channels.forget(session);
         self.partners.forget(session);
+        self.shelf.forget(session);
         LobbyReply::Done
     }
 }

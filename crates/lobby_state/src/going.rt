@@ -31,6 +31,7 @@ impl Register {
         self.challenges.forget(session);
         self.seeks.forget(session);
         self.partners.forget(session);
+        self.shelf.forget(session);
         LobbyReply::Places(places)
     }
 }

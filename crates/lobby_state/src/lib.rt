@@ -1,5 +1,6 @@
-//! The lobby: who is registered and who is in the hall, which challenges stand, who are partners, and which desks are in
-//! use for which game.
+//! The lobby: who is registered and who is in the hall, which seeks and challenges stand, who is in which channel, who are
+//! partners, which adjourned games lie on the shelf, and which desks are in use for which game. The lists of each kind are
+//! kept by crates of their own; here stands what the acts of members do to them all.
 //!
 //! The contract: what an act does, by the lobby before, the session and the act, stands in one record of its own file
 //! in `specs/`: why it is refused, what it replies, and what stands afterwards. A refusal and running out of memory
@@ -35,6 +36,7 @@ mod lobby;
 mod matching;
 mod member;
 mod name_list;
+mod orders;
 mod own_places;
 mod pairing;
 mod partner;
@@ -45,6 +47,7 @@ mod ptell;
 mod register;
 mod registration;
 mod said;
+mod saved;
 mod seeks;
 mod shelf_room;
 mod shout;
@@ -54,6 +57,7 @@ mod sim_prev;
 mod sought;
 mod start;
 mod starting;
+mod stored;
 mod table;
 mod tell;
 mod tell_channel;

@@ -1,4 +1,5 @@
 //! Register: a member makes an account of its handle.
+ghost use Rattle.std.specs.Prelude.{◌+◌, ◌<◌, ◌^◌};
 ghost use Rattle.fics_words.specs.Effect.{Takes};
 ghost use Rattle.lobby_state.specs.Registration.{loading_effect, registration_effect};
 
@@ -7,16 +8,22 @@ use crate::register::Register;
 use fics_words::{Account, Digest, Fail, Refusal};
 
 impl Register {
-    /// The member's handle has an account from now on. The causes of a refusal, in order: the session isn't a member;
+    /// The member's handle has an account from now on, and a save order puts it into the store. The causes of a refusal, in order: the session isn't a member;
     /// the handle has an account; there are 4,096 accounts.
     pub(crate) fn register(&mut self, session: u32, digest: Digest) -> Result<LobbyReply, Fail>
+        requires count { self.old.shelf.made + 1 < 2 ^ 64 }
         ensures { Takes (registration_effect self.old session digest) self.old self.new result }
     {
         let Some(member) = self.member(session) else {
             return Err(Fail::Refused(Refusal::NotIn));
         };
-        let name = member.name;
-        self.accounts.add(name, digest)?;
+        let account = Account {
+            name: member.name,
+            digest,
+        };
+        let saving = self.shelf.saving_of_account(&account)?;
+        self.accounts.add(account.name, account.digest)?;
+        self.shelf.order(saving);
         Ok(LobbyReply::Done)
     }
 

@@ -53,7 +53,7 @@ impl Change<Member> for Sit {
 
 impl Register {
     /// The game starts: the desk is in use, the players have their places, and their challenges go, but for a giver's
-    /// with others, and their seeks. It takes no memory.
+    /// with others, and their seeks and requests to resume. It takes no memory.
     pub(crate) fn start(&mut self, desk: u8, serial: u64, terms: Terms, seats: &Seats)
         requires { IsDesk desk }
         ensures { self.new ≡ seated self.old desk serial terms seats.now }
@@ -61,6 +61,7 @@ impl Register {
         drop_challenges(&mut self.challenges, &self.members, seats);
         sit_down(&mut self.members, desk, serial, seats);
         drop_seeks(&mut self.seeks, seats);
+        self.shelf.forget_seated(seats);
         let game = Game {
             serial,
             terms,

@@ -1,5 +1,5 @@
 //! Which act is carried out by which function.
-ghost use Rattle.std.specs.Prelude.{◌≡◌, ◌<◌, IfOk, IfSome, IsOk, length};
+ghost use Rattle.std.specs.Prelude.{◌≡◌, ◌+◌, ◌<◌, ◌^◌, IfOk, IfSome, IsOk, length};
 ghost use Rattle.fics_words.specs.Effect.{Takes};
 ghost use Rattle.lobby_state.specs.Acts.{FitsLobby, LobbyNeedsNoMemory, lobby_effect};
 ghost use Rattle.lobby_state.specs.Desks.{IsDesk};
@@ -12,12 +12,14 @@ use crate::register::Register;
 use crate::told::ReplyLists;
 use collections::Listed;
 use fics_words::{Fail, Line, NoMemory, Refusal};
+use game_shelf::Order;
 
 impl Register {
     /// Carries out an act that needs the lobby alone.
     pub(crate) fn act(&mut self, session: u32, act: &LobbyAct) -> Result<LobbyReply, Fail>
         requires fits { FitsLobby act.now }
         requires numbers { length self.old.seeks < 65535 }
+        requires count { self.old.shelf.made + 1 < 2 ^ 64 }
         ensures { Takes (lobby_effect self.old session act.now) self.old self.new result }
     {
         match act {
@@ -52,6 +54,9 @@ impl Register {
             LobbyAct::Going => Ok(self.going(session)),
             LobbyAct::Bye => Ok(self.bye(session)),
             LobbyAct::InUse => self.in_use(),
+            LobbyAct::Stored => self.stored(session),
+            LobbyAct::Orders => self.orders(),
+            LobbyAct::Saved { upto } => Ok(self.saved(*upto)),
         }
     }
 
@@ -62,7 +67,12 @@ impl Register {
     {
         let lines = self.lines_ahead(session, act)?;
         let desks = self.desks_ahead(session, act)?;
-        Ok(ReplyLists { lines, desks })
+        let orders = self.orders_ahead(session, act)?;
+        Ok(ReplyLists {
+            lines,
+            desks,
+            orders,
+        })
     }
 
     /// A copy of the lines that an act will answer.
@@ -78,6 +88,7 @@ impl Register {
             LobbyAct::Pending => self.pending_lines(session),
             LobbyAct::Games => self.games_lines(),
             LobbyAct::InChannel { channel } => self.in_channel_lines(*channel),
+            LobbyAct::Stored => self.stored_lines(session),
             _ => Ok(Listed::new(self.alloc)),
         }
     }
@@ -90,6 +101,18 @@ impl Register {
     {
         match act {
             LobbyAct::InUse => self.desks_in_use(),
+            _ => Ok(Listed::new(self.alloc)),
+        }
+    }
+
+    /// A copy of the save orders that an act will answer.
+    fn orders_ahead(&self, session: u32, act: &LobbyAct) -> Result<Listed<Order>, NoMemory>
+        ensures orders { IfOk result (λ orders.
+            orders ≡ (lists_told (lobby_effect self.now session act.now).reply).orders) }
+        ensures sure { LobbyNeedsNoMemory act.now → IsOk result }
+    {
+        match act {
+            LobbyAct::Orders => self.orders_copy(),
             _ => Ok(Listed::new(self.alloc)),
         }
     }

@@ -5,6 +5,7 @@ ghost use Rattle.lobby_state.specs.Told.{no_lists};
 use crate::desk_in_use::DeskInUse;
 use collections::Listed;
 use fics_words::Line;
+use game_shelf::Order;
 use std::alloc::Global;
 
 /// The lists that a reply tells, one field for each kind of list; a list that it doesn't tell is empty. A copy of them
@@ -13,6 +14,7 @@ use std::alloc::Global;
 pub struct ReplyLists {
     pub lines: Listed<Line>,
     pub desks: Listed<DeskInUse>,
+    pub orders: Listed<Order>,
 }
 
 impl ReplyLists {
@@ -23,6 +25,7 @@ impl ReplyLists {
         ReplyLists {
             lines: Listed::new(alloc),
             desks: Listed::new(alloc),
+            orders: Listed::new(alloc),
         }
     }
 }

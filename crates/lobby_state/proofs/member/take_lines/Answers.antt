@@ -1,9 +1,8 @@
 use Rattle.std.proofs.Common.{◌≡◌, None, Some, sym, ap, ◌∙◌}
 use Rattle.std.specs.List.{position}
-use Rattle.std.proofs.Math.ListN.{set}
 use Rattle.lobby_state.specs.Lobby.{is_session, lines_in}
 use Rattle.lobby_state.specs.Fetch.{emptied}
-use Rattle.lobby_state.proofs.First.{find-found, find-missing, change_first-found, change_first-missing}
+use Rattle.lobby_state.proofs.First.{changed_here, find-found, find-missing, unchanged}
 use Rattle.lobby_state.proofs.member.take_lines.Goals as goal
 
 pub returns-in_default-clause-lines : goal.returns-in_default-clause-lines
@@ -14,9 +13,7 @@ returns-in_default-clause-lines c =
 
 pub returns-in_default-clause-emptied : goal.returns-in_default-clause-emptied
 returns-in_default-clause-emptied c =
-    let p = is_session c.args.session in
-    let nowhere : position p c.args.members.now ≡ None = ap (position p) (sym c.deref.ensures.0) ∙ sym c.in_default.ensures in
-    sym (change_first-missing p emptied c.args.members.now nowhere)
+    unchanged (is_session c.args.session) emptied _ c.args.members.now c.deref.ensures.0 c.in_default.ensures
 
 pub returns-clause-lines : goal.returns-clause-lines
 returns-clause-lines c =
@@ -26,7 +23,6 @@ returns-clause-lines c =
 
 pub returns-clause-emptied : goal.returns-clause-emptied
 returns-clause-emptied c =
-    let p = is_session c.args.session in
-    let here : position p c.args.members.now ≡ Some c.in-Some.place = ap (position p) (sym c.deref.ensures.0) ∙ sym c.in-Some.ensures in
-    ap (λ lines. set c.args.members.now c.in-Some.place (record c.item_mut-member.result.now { waiting = lines })) c.take_all.ensures.emptied
-    ∙ sym (change_first-found p emptied c.args.members.now c.in-Some.place _ here c.item_mut-member.ensures.value)
+    changed_here (is_session c.args.session) emptied _ c.args.members.now c.in-Some.place c.item_mut-member.result.now _
+    c.deref.ensures.0 c.in-Some.ensures c.item_mut-member.ensures.value
+    (ap (λ lines. record c.item_mut-member.result.now { waiting = lines }) c.take_all.ensures.emptied)

@@ -1,6 +1,6 @@
 use Rattle.lobby_state.specs.Acts.{lobby_effect}
 use Rattle.lobby_state.proofs.KeepsActs.{IsWellFormed-taken, keeps_act}
-use Rattle.lobby_state.proofs.WellFormed.{has_number_left}
+use Rattle.lobby_state.proofs.WellFormed.{has_number_left, one_more_order}
 use Rattle.lobby_state.proofs.lobby.Lobby.act.Goals as goal
 
 pub invariant_of-self : goal.invariant_of-self
@@ -11,3 +11,6 @@ invariant_of-self c =
 
 pub act-requires-clause-numbers : goal.act-requires-clause-numbers
 act-requires-clause-numbers c = has_number_left c.self.inside.register c.self.invariant
+
+pub act-requires-clause-count : goal.act-requires-clause-count
+act-requires-clause-count c = one_more_order c.self.inside.register c.self.invariant

@@ -1,0 +1,89 @@
+//! Stored: a member asks which adjourned games of its own wait to be resumed.
+ghost use Rattle.std.specs.Prelude.{◌≡◌, ◌*◌, ◌≤◌, ◌++◌, IfOk, OnOk, All, length};
+ghost use Rattle.fics_words.specs.Effect.{Takes};
+ghost use Rattle.fics_words.specs.Line.{IsPrintable};
+ghost use Rattle.lobby_state.specs.Lobby.{member_of};
+ghost use Rattle.lobby_state.specs.Stored.{names_words, stored_effect, stored_lines, stored_words, lines_for};
+
+use crate::acts::LobbyReply;
+use crate::register::Register;
+use crate::terms::put_terms;
+use chess_model::Terms;
+use collections::Listed;
+use fics_words::{Fail, Handle, HandleKey, Line, NoMemory, Refusal, write_number};
+use game_shelf::has_player;
+use std::alloc::Global;
+
+impl Register {
+    /// The lines of the member's own games, in the order of their numbers. It is refused where the session isn't a
+    /// member.
+    pub(crate) fn stored(&self, session: u32) -> Result<LobbyReply, Fail>
+        ensures { Takes (stored_effect self.now session) self.now self.now result }
+    {
+        if self.member(session).is_none() {
+            return Err(Fail::Refused(Refusal::NotIn));
+        }
+        let lines = self.stored_lines(session)?;
+        Ok(LobbyReply::Lines(lines))
+    }
+
+    /// The list of these lines; none where the session isn't a member.
+    pub(crate) fn stored_lines(&self, session: u32) -> Result<Listed<Line>, NoMemory>
+        ensures { IfOk result (λ lines. lines ≡ stored_lines self.now session) }
+    {
+        match self.member(session) {
+            Some(member) => self.lines_for(member.name.key()),
+            None => Ok(Listed::new(self.alloc)),
+        }
+    }
+
+    /// The lines of the games that the handle with this key plays in.
+    fn lines_for(&self, key: HandleKey) -> Result<Listed<Line>, NoMemory>
+        ensures { IfOk result (λ lines. lines ≡ lines_for self.now.shelf.games key) }
+    {
+        let mut lines = Listed::new(self.alloc);
+        for row in self.shelf.games() {
+            if has_player(&row.game, key) {
+                lines.push(stored_line(
+                    self.alloc,
+                    row.number,
+                    &row.game.names,
+                    row.game.terms,
+                )?)?;
+            }
+        }
+        Ok(lines)
+    }
+}
+
+/// The line of a stored game, `N W B M I V`, and of a pair `N W B C D M I V`: its number, its players in the order of
+/// their seats, and its terms.
+fn stored_line(
+    alloc: Global,
+    number: u64,
+    names: &[Handle],
+    terms: Terms,
+) -> Result<Line, NoMemory>
+    requires players { length names.now ≤ 4 }
+    ensures { IfOk result (λ line. line ≡ stored_words number names.now terms) }
+{
+    let mut text = Vec::new(alloc);
+    write_number(&mut text, number)?;
+    put_names(&mut text, names)?;
+    text.push(b' ')?;
+    put_terms(alloc, terms, &mut text)?;
+    Ok(Line::from_bytes(text))
+}
+
+/// Appends the names, each behind a blank.
+fn put_names(text: &mut Vec<u8>, names: &[Handle]) -> Result<(), NoMemory>
+    ensures words { OnOk result (text.new.items ≡ text.old.items ++ names_words names.now) }
+    ensures short { OnOk result (length (names_words names.now) ≤ 18 * length names.now) }
+    ensures shows { OnOk result (All IsPrintable (names_words names.now)) }
+{
+    for name in names {
+        text.push(b' ')?;
+        text.extend_from_slice(name.letters())?;
+    }
+    Ok(())
+}
