@@ -1,17 +1,15 @@
 -- Boards from which half-moves were taken back are sound, and none of them is at an end.
-use Rattle.std.proofs.Common.{◌≡◌, ◌≢◌, ℕ, ◌+◌, ◌-◌, ◌≤◌, ◌<◌, zero, suc, Bool, true, false, ◌||◌, nat_eq, nat_lt, if◌then◌else◌, List, [], ◌∷◌, ◌++◌, map, length, drop, take, All, Option, Some, None, refl, sym, ap, subst, ◌∙◌, append_assoc, arith}
-use Rattle.std.specs.Prelude.{slice_get}
+use Rattle.std.proofs.Common.{◌≡◌, ◌≢◌, ℕ, ◌-◌, ◌≤◌, ◌<◌, zero, suc, Bool, true, false, ◌||◌, nat_eq, nat_lt, if◌then◌else◌, List, [], ◌∷◌, ◌++◌, map, length, drop, take, refl, sym, ap, subst, ◌∙◌, append_assoc, arith}
 use Rattle.std.specs.List.{AllByRecursion}
 use Rattle.std.proofs.lemmas.Bool.Decides.{nat_tests}
 use Rattle.std.proofs.lemmas.List.{length-map, map-append}
-use Rattle.std.proofs.lemmas.List.Elements.{All-nil, All-cons, All-head, All-tail}
+use Rattle.std.proofs.lemmas.List.Elements.{All-nil, All-cons, All-head}
 use Rattle.chess_model.specs.declared.variant.Terms.{Terms}
 use Rattle.chess_model.specs.declared.variant.Variant.{Variant}
 use Rattle.chess_model.specs.declared.variant.Variant.TheVariants.{Chess, Crazyhouse, Bughouse, Fischer}
 use Rattle.chess_model.specs.MoveList.{HalfMove}
-use Rattle.chess_model.specs.Position.{Position}
 use Rattle.game_board.specs.declared.played.Played.{Played}
-use Rattle.game_board.specs.Board.{Board, half_move, half_moves, position_of}
+use Rattle.game_board.specs.Board.{Board, half_moves, position_of}
 use Rattle.game_board.specs.Scoresheet.{IsTrueScore}
 use Rattle.game_board.specs.TakeBack.{has_too_few, take_back_after, taken_back}
 use Rattle.game_board.proofs.ScoreTakenBack.{IsTrueScore-take_back_after}
@@ -19,15 +17,14 @@ use Rattle.game_records.specs.declared.stored_game.Half.{Half}
 use Rattle.game_records.specs.Bounds.{IsHalf}
 use Rattle.game_records.specs.Replays as replays
 use Rattle.game_records.specs.Replays.{CanBePlayed, GoesOn, MayCome, position_on}
-use Rattle.linked_boards.specs.Boards.{board_numbers, latest}
+use Rattle.linked_boards.specs.Boards.{latest}
 use Rattle.linked_boards.specs.Halves.{halves_from, halves_of}
-use Rattle.linked_boards.specs.Sound.{AreSame, AreSoundBoards, GoOn}
+use Rattle.linked_boards.specs.Sound.{AreSoundBoards, GoOn}
 use Rattle.linked_boards.specs.TakenBack.{back_by, boards_taken_back}
-use Rattle.linked_boards.proofs.BoardLists.{All-at}
 use Rattle.linked_boards.proofs.Halved.{half_on}
 use Rattle.linked_boards.proofs.OneMore.{position_is}
 use Rattle.linked_boards.proofs.Pairs.{never_three, numbers_of_two}
-use Rattle.linked_boards.proofs.SoundHalves.{all_of, never_none, number_of_one}
+use Rattle.linked_boards.proofs.SoundHalves.{all_of, number_of_one}
 
 -- ---- the half-moves of the one board of a game are those of its list
 

@@ -1,12 +1,11 @@
 -- What the half-moves with their charges have of a list of half-moves and of the lists of the boards.
-use Rattle.std.proofs.Common.{◌≡◌, ◌≢◌, ℕ, ◌+◌, ◌≤◌, zero, suc, Bool, true, false, nat_eq, if◌then◌else◌, cond, List, [], ◌∷◌, ◌++◌, map, filter, length, drop, Option, Some, None, refl, sym, ap, subst, ◌∙◌, arith}
-use Rattle.std.specs.List.{AllByRecursion, count_by}
+use Rattle.std.proofs.Common.{◌≡◌, ℕ, ◌≤◌, zero, suc, Bool, true, false, nat_eq, if◌then◌else◌, List, [], ◌∷◌, ◌++◌, map, filter, drop, refl, sym, ap, ◌∙◌, arith}
+use Rattle.std.specs.List.{AllByRecursion}
 use Rattle.std.proofs.lemmas.Bool.Decides.{nat_tests}
 use Rattle.chess_model.specs.declared.moves.Move.{Move}
 use Rattle.chess_model.specs.MoveList.{HalfMove, moves_of}
 use Rattle.game_board.specs.declared.played.Played.{Played}
 use Rattle.game_records.specs.declared.stored_game.Half.{Half}
-use Rattle.game_records.specs.Bounds.{count_on}
 use Rattle.game_records.specs.Replays.{half_moves}
 use Rattle.linked_boards.specs.Halves.{first_charge, half_of, halves_from, list_on, played_of}
 

@@ -1,9 +1,15 @@
 pub mod BackSound
 pub mod BoardLists
+pub mod Distinct
+pub mod GoingOn
 pub mod Halved
 pub mod Linking
 pub mod OneMore
 pub mod Pairs
+pub mod Replayed
+pub mod Restored
 pub mod SoundHalves
+pub mod StartGoesOn
 pub mod StaySound
 pub mod Stepped
+pub mod StoredReplays

@@ -1,10 +1,10 @@
 -- Sound boards stay sound by one half-move more, which was allowed while no board was at an end.
-use Rattle.std.proofs.Common.{◌≡◌, ◌≢◌, ℕ, ◌+◌, ◌-◌, ◌≤◌, ◌<◌, zero, suc, Bool, true, false, List, [], ◌∷◌, ◌++◌, map, length, length-append, All, Option, Some, None, inl, inr, refl, sym, ap, subst, ◌∙◌, arith}
-use Rattle.std.specs.Prelude.{◌↔◌, IsSome, IsTrue, slice_get, nat_lt}
+use Rattle.std.proofs.Common.{◌≡◌, ◌≢◌, ℕ, ◌+◌, ◌-◌, ◌≤◌, zero, suc, List, [], ◌∷◌, ◌++◌, length, length-append, Option, Some, None, inl, inr, refl, sym, ap, subst, ◌∙◌, arith}
+use Rattle.std.specs.Prelude.{◌↔◌, IsSome, IsTrue, slice_get}
 use Rattle.std.specs.List.{AllByRecursion}
 use Rattle.std.proofs.lemmas.Bool.Decides.{Decides-ltb}
 use Rattle.std.proofs.lemmas.List.{length-map}
-use Rattle.std.proofs.lemmas.List.Elements.{All-nil, All-cons, All-head, All-tail}
+use Rattle.std.proofs.lemmas.List.Elements.{All-head, All-tail}
 use Rattle.chess_model.specs.declared.man.Kind.{Kind}
 use Rattle.chess_model.specs.declared.man.Kind.TheVariants.{Pawn, Knight, Bishop, Rook, Queen, King}
 use Rattle.chess_model.specs.declared.man.Man.{Man}
@@ -14,30 +14,27 @@ use Rattle.chess_model.specs.declared.variant.Terms.{Terms}
 use Rattle.chess_model.specs.declared.variant.Variant.{Variant}
 use Rattle.chess_model.specs.declared.variant.Variant.TheVariants.{Chess, Crazyhouse, Bughouse, Fischer}
 use Rattle.chess_model.specs.Allowed.{Allowed, GoesAs, HasPromotion, IsPromotion}
-use Rattle.chess_model.specs.Holdings.{other_board}
 use Rattle.chess_model.specs.MoveList.{HalfMove, moves_of}
 use Rattle.chess_model.specs.Placement.{man_at}
 use Rattle.chess_model.specs.Position.{Position, position_after}
 use Rattle.game_board.specs.declared.played.Played.{Played}
 use Rattle.game_board.specs.Board.{Board, position_of}
 use Rattle.game_board.specs.Charges.{is_timed}
-use Rattle.game_board.specs.Learn.{learnt}
 use Rattle.game_board.specs.Scoresheet.{IsTrueScore}
 use Rattle.game_board.proofs.LastPlayed.{slice_get-append_end}
-use Rattle.game_board.proofs.Scoresheet.{IsTrueScore-learnt}
 use Rattle.game_records.specs.declared.stored_game.Half.{Half}
 use Rattle.game_records.specs.Bounds as bounds
 use Rattle.game_records.specs.Bounds.{IsCharge, IsHalf}
 use Rattle.game_records.specs.Codes.{HasCode, MayBecome}
 use Rattle.game_records.specs.Replays.{AreTimed, CanBePlayed, GoesOn, MayCome, MayFollow, OtherGoesOn, half_moves, made_on, position_on}
 use Rattle.game_records.proofs.Played.{by_steps}
-use Rattle.linked_boards.specs.Boards.{board_numbers, changed_at, other_place}
-use Rattle.linked_boards.specs.Halves.{halves_from, halves_of}
-use Rattle.linked_boards.specs.Sound.{AreSame, AreSoundBoards}
+use Rattle.linked_boards.specs.Boards.{board_numbers, other_place}
+use Rattle.linked_boards.specs.Halves.{halves_of}
+use Rattle.linked_boards.specs.Sound.{AreSoundBoards}
 use Rattle.linked_boards.proofs.BoardLists.{All-at}
-use Rattle.linked_boards.proofs.Halved.{half_on, halves_from-one, halves_from-two, on}
-use Rattle.linked_boards.proofs.Pairs.{allowed_there, never_three, number_at, numbers_of_two, same_two}
-use Rattle.linked_boards.proofs.SoundHalves.{all_of, never_none, number_of_one, on_two, own_at}
+use Rattle.linked_boards.proofs.Halved.{half_on, on}
+use Rattle.linked_boards.proofs.Pairs.{never_three, number_at, numbers_of_two}
+use Rattle.linked_boards.proofs.SoundHalves.{all_of, never_none, number_of_one}
 
 -- ---- an allowed half-move has a code
 

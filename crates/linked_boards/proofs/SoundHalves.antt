@@ -1,6 +1,6 @@
 -- The half-moves of sound boards, with their charges, are those of the boards.
-use Rattle.std.proofs.Common.{◌≡◌, ◌≢◌, ℕ, ◌+◌, ◌*◌, ◌≤◌, zero, suc, Bool, true, false, nat_eq, cond, List, [], ◌∷◌, map, length, drop, All, refl, sym, ap, subst, ◌∙◌, arith}
-use Rattle.std.specs.List.{AllByRecursion, count_by, filter}
+use Rattle.std.proofs.Common.{◌≡◌, ◌≢◌, ℕ, ◌+◌, ◌≤◌, suc, true, false, nat_eq, List, [], ◌∷◌, map, length, drop, All, refl, sym, ap, ◌∙◌, arith}
+use Rattle.std.specs.List.{AllByRecursion, filter}
 use Rattle.std.proofs.lemmas.List.{length-map}
 use Rattle.std.proofs.lemmas.List.Sums.{count_by-le-length, length-filter}
 use Rattle.std.proofs.lemmas.List.Elements.{All-nil, All-cons, All-head, All-tail}
@@ -17,7 +17,7 @@ use Rattle.game_records.specs.Bounds.{AreHalves, IsHalf, count_on}
 use Rattle.game_records.specs.Replays.{half_moves}
 use Rattle.linked_boards.specs.Boards.{board_numbers}
 use Rattle.linked_boards.specs.Halves.{half_of, halves_from, halves_of, list_on, played_of}
-use Rattle.linked_boards.specs.Sound.{AreSame, AreSoundBoards}
+use Rattle.linked_boards.specs.Sound.{AreSoundBoards}
 use Rattle.linked_boards.proofs.Halved.{AreOnTwo, by_choice, half_moves-from, list_on-else, list_on-one, list_on-own, list_on-two, not_second, second}
 use Rattle.linked_boards.proofs.Pairs.{numbers_of_two, never_three}
 

@@ -1,5 +1,5 @@
 -- Boards are sound at the start, by words that are played, and whatever clients acknowledge.
-use Rattle.std.proofs.Common.{◌≡◌, ◌≢◌, ℕ, ◌+◌, ◌≤◌, ◌<◌, ◌^◌, ◌==◌, zero, suc, Bool, true, false, not, if◌then◌else◌, List, [], ◌∷◌, ◌++◌, map, length, All, Option, Some, None, Result, Ok, Err, IfSome, refl, sym, ap, subst, ◌∙◌, arith}
+use Rattle.std.proofs.Common.{◌≡◌, ℕ, ◌≤◌, ◌<◌, ◌^◌, ◌==◌, zero, suc, Bool, true, false, not, if◌then◌else◌, List, [], ◌∷◌, map, All, Option, Some, None, Result, Ok, Err, IfSome, refl, sym, ap, subst, ◌∙◌, arith}
 use Rattle.std.specs.Prelude.{slice_get}
 use Rattle.std.specs.List.{AllByRecursion}
 use Rattle.std.specs.Option.{option_map_or}
@@ -19,7 +19,6 @@ use Rattle.clock_ledger.specs.Span.{IsStamp}
 use Rattle.fics_words.specs.declared.refusal.Refusal.{Refusal}
 use Rattle.fics_words.specs.declared.refusal.Refusal.TheVariants.{NotYourTurn, TooManyMoves}
 use Rattle.fics_words.specs.Effect.{first_cause}
-use Rattle.game_board.specs.declared.played.Played.{Played}
 use Rattle.game_board.specs.Acked.{acknowledged}
 use Rattle.game_board.specs.Board.{Board, new_board, position_of, to_move}
 use Rattle.game_board.specs.Causes.{in_words}

@@ -23,8 +23,8 @@ first_charge (p ∷ list) = p.charge
 abbrev pub half_of : HalfMove → List Played → Half
 half_of h list = record { board = h.board; what = h.what; charge = first_charge list }
 
--- half-moves, each with the charge that stands for it in the list of its board: `one` are the half-moves of board 1 among
--- them, and `two` are those of board 2
+-- half-moves, each with the charge that stands for it in the list of its board: `one` are the half-moves of board 1
+-- among them, and `two` are those of board 2
 abbrev pub halves_from : List Played → List Played → List HalfMove → List Half
 halves_from one two [] = []
 halves_from one two (h ∷ T) =

@@ -1,6 +1,6 @@
 -- A game that is played again from its half-moves, each with the charge that it had: as where an adjourned game is
 -- resumed (FIDE Laws, Guidelines I: it goes on with the position and the times at which it was left).
-use Rattle.std.specs.Prelude.{◌≡◌, ℕ, ◌-◌, Bool, true, false, ◌&&◌, not, if◌then◌else◌, List, [], ◌∷◌, Option, Some, None}
+use Rattle.std.specs.Prelude.{ℕ, ◌-◌, Bool, true, false, ◌&&◌, not, if◌then◌else◌, List, [], ◌∷◌, length, Option, Some, None}
 use Rattle.chess_model.specs.declared.variant.Terms.{Terms}
 use Rattle.chess_model.specs.Holdings.{other_board}
 use Rattle.chess_model.specs.Result.{result, is_end}
@@ -46,3 +46,8 @@ played_on boards (h ∷ halves) =
 -- the boards of a game on these terms that was played so, and is resumed at that moment
 abbrev pub replayed : Terms → List Half → ℕ → Option (List Board)
 replayed terms halves moment = played_on (new_boards terms moment) halves
+
+-- a board as it is where its game is resumed at that moment: it has the half-moves and charges that it had, the player
+-- to move is thinking since then and hasn't acknowledged it, and what was taken back before counts no more as played
+abbrev pub resumed_at : ℕ → Board → Board
+resumed_at moment b = record b { begin = moment; kept = None; played = length b.list; resumed = length b.list }

@@ -29,7 +29,7 @@ pub record AreSoundBoards (t : Terms) (boards : List Board) : Type 0 where
   pub few : All (λ (b : Board). b.played ≤ most_played) boards
   -- those of a pair have one list of the half-moves of both, by which men come from one board to the other
   pub together : AreSame (map (λ (b : Board). b.all) boards)
-  -- a record can have each half-move with its charge, and they can be played again: each was allowed, none came after the
-  -- end of a board, and charges stand where they belong
+  -- a record can have each half-move with its charge, and they can be played again: each was allowed, none came after
+  -- the end of a board, and charges stand where they belong
   pub halves : AllByRecursion (IsHalf t.variant) (halves_of boards)
   pub played : CanBePlayed t (halves_of boards)

@@ -11,6 +11,8 @@ mod halves;
 mod laws;
 mod linked;
 mod replay;
+mod stored;
 
 pub use boards::{Boards, other_place};
-pub use laws::{boards_stay_sound, halves_are_the_boards};
+pub use laws::{boards_are_replayed, boards_stay_sound, ends_come_by_moves, halves_are_the_boards};
+pub use stored::replays;

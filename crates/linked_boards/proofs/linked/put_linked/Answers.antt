@@ -1,7 +1,6 @@
-use Rattle.std.proofs.Common.{ap, ◌∙◌}
-use Rattle.chess_model.specs.declared.variant.Terms.{Terms}
+use Rattle.std.proofs.Common.{◌∙◌}
 use Rattle.game_board.proofs.Takes.{takes_played-parts}
-use Rattle.linked_boards.proofs.Linking.{learn_allowed, learn_captured, learn_room, linked-put}
+use Rattle.linked_boards.proofs.Linking.{learn_allowed, learn_captured}
 use Rattle.linked_boards.proofs.linked.put_linked.Goals as goal
 
 pub learn-requires-clause-allowed : goal.learn-requires-clause-allowed
