@@ -1,1 +1,2 @@
 pub mod OrdersOut
+pub mod RowsRead

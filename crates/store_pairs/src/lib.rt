@@ -7,5 +7,7 @@
 #![tactic(auto)]
 
 mod carrying;
+mod reading;
 
 pub use carrying::{Carried, carry_out};
+pub use reading::{StoreRow, read_row};
