@@ -1,5 +1,5 @@
-//! Stored games that nobody adjourned, as they may lie in a store: one that its last half-move has ended is over at once,
-//! and one that doesn't replay is no game.
+//! Stored games that nobody adjourned, as they may lie in a store: one that its last half-move has ended is over at
+//! once, and one that doesn't replay is no game.
 ghost use Rattle.std.specs.Prelude.{◌≡◌, None};
 ghost use Rattle.linked_desk.specs.Seating.{AllDiffer, HasPairsFor, names_of, sessions_of};
 

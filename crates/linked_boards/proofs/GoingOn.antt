@@ -85,7 +85,7 @@ goes_still p white black pair goes =
 differ : (b : ℕ) → other_board b ≢ b
 differ b = λ e. omega arith
 
-learnt_goes : (b : Board) (m : Move) → b.terms.variant ≡ Bughouse → GoesOn (position_of b) → GoesOn (position_of (learnt b m))
+pub learnt_goes : (b : Board) (m : Move) → b.terms.variant ≡ Bughouse → GoesOn (position_of b) → GoesOn (position_of (learnt b m))
 unfolding position_of
 learnt_goes b m pair goes =
     let p : Position = position_after b.terms.variant b.all b.number in

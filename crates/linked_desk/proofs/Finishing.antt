@@ -43,5 +43,9 @@ goes_on-in number mover Stalemate e = absurd cc
 goes_on-in number mover Safe e = refl
 goes_on-in number mover Check e = refl
 
-pub goes_on : (b : Board) → end_on b ≡ None → is_end (result (position_of b)) ≡ false
+goes_on : (b : Board) → end_on b ≡ None → is_end (result (position_of b)) ≡ false
 goes_on b e = goes_on-in b.number (to_move b) (result (position_of b)) e
+
+pub goes_on_at : (o : Option Board) → option_and_then end_on o ≡ None → IfSome o (λ b. is_end (result (position_of b)) ≡ false)
+goes_on_at None e = tt
+goes_on_at (Some b) e = goes_on b e

@@ -1,5 +1,5 @@
 -- What an acknowledgement at a desk keeps.
-use Rattle.std.proofs.Common.{◌≡◌, ℕ, ◌≤◌, ◌^◌, Bool, true, false, if◌then◌else◌, List, Option, Some, None, refl, ◌∙◌, arith}
+use Rattle.std.proofs.Common.{◌≡◌, ℕ, ◌≤◌, ◌^◌, Bool, true, false, if◌then◌else◌, List, Option, Some, None, refl, arith}
 use Rattle.std.specs.Prelude.{is_some}
 use Rattle.chess_model.specs.declared.man.Colour.{Colour}
 use Rattle.chess_model.specs.Holdings.{same_colour}
@@ -13,7 +13,8 @@ use Rattle.linked_desk.specs.Seats.{place_of, colour_at}
 use Rattle.linked_desk.specs.Sound.{IsSound}
 use Rattle.linked_boards.proofs.BoardLists.{latest-changed_at}
 use Rattle.linked_desk.proofs.Keeps.{Keeps, IsSound-later, timely_at}
-use Rattle.linked_desk.proofs.TempLaws.{boards_stay_sound, ends_come_by_moves}
+use Rattle.linked_boards.proofs.StaySound.{sound_acked}
+use Rattle.linked_boards.proofs.GoingOn.{go_acked}
 
 -- what a board and the board with a stamp kept have alike, the acknowledged board has
 alike : {X : Type 0} (of : Board → X) (own : Bool) (b new : Board) → of new ≡ of b → of (if own then new else b) ≡ of b
@@ -39,8 +40,8 @@ IsSound-acked g moment place colour stamp stamped timely s =
     let early : latest g.boards ≤ moment_at g moment = omega (arith, s.order) in
     record {
       seated = s.seated;
-      boards = boards_stay_sound.acked g.terms g.boards place colour stamp s.boards stamped;
-      going = λ runs. ends_come_by_moves.acked g.boards place colour stamp (s.going runs);
+      boards = sound_acked g.terms g.boards place colour stamp s.boards stamped;
+      going = λ runs. go_acked g.boards place colour stamp (s.going runs);
       order = latest-changed_at g.boards place (moment_at g moment) after
           (λ b h. let same : (acknowledged b colour stamp).begin ≡ b.begin = same_acknowledged (λ c. c.begin) b colour stamp refl in omega arith) early;
       moment = timely_at g moment timely s;

@@ -1,16 +1,14 @@
 -- What a move at a desk keeps.
-use Rattle.std.proofs.Common.{◌≡◌, ◌≤◌, ◌^◌, ℕ, Bool, true, false, List, All, Option, Some, None, IfSome, Result, Ok, Err, refl, sym, subst, ◌∙◌, arith}
+use Rattle.std.proofs.Common.{◌≡◌, ◌≤◌, ◌^◌, ℕ, true, false, List, All, Option, Some, None, IfSome, Result, Ok, Err, refl, sym, subst, ◌∙◌, arith}
 use Rattle.std.specs.Prelude.{is_some, slice_get}
-use Rattle.std.specs.Option.{option_and_then, option_map}
+use Rattle.std.specs.Option.{option_map}
 use Rattle.std.proofs.lemmas.List.Elements.{All-push}
 use Rattle.chess_model.specs.declared.man.Man.{Man}
 use Rattle.chess_model.specs.declared.moves.Move.{Move}
 use Rattle.chess_model.specs.declared.moves.MoveWord.{MoveWord}
-use Rattle.chess_model.specs.Result.{result, is_end}
 use Rattle.clock_ledger.specs.Span.{IsStamp}
 use Rattle.fics_words.specs.declared.refusal.Refusal.{Refusal}
-use Rattle.fics_words.specs.Effect.{NoneHolds}
-use Rattle.game_board.specs.Board.{Board, position_of}
+use Rattle.game_board.specs.Board.{Board}
 use Rattle.game_board.specs.Play.{play_after}
 use Rattle.offer_book.specs.Offers.{after_half_move, where_stand}
 use Rattle.style12_writer.specs.declared.item.Item.{Item}
@@ -21,18 +19,19 @@ use Rattle.linked_boards.proofs.BoardLists.{latest-changed_at}
 use Rattle.linked_boards.proofs.Pairs.{same_told}
 use Rattle.linked_desk.specs.declared.ended.Ended.{Ended}
 use Rattle.linked_desk.specs.Desk.{GameState, seat_of, moment_at, occupant}
-use Rattle.linked_desk.specs.Finish.{end_at, end_on, finished}
+use Rattle.linked_desk.specs.Finish.{end_at, finished}
 use Rattle.linked_desk.specs.Hands.{hands_at, partner_hands_at}
-use Rattle.linked_desk.specs.Playing.{seat_word, captured_by, held_moved, moved, with_cleared, with_hands, with_partner_hands, moved_by, move_effect}
+use Rattle.linked_desk.specs.Playing.{seat_word, captured_by, moved, with_cleared, with_hands, with_partner_hands, moved_by, move_effect}
 use Rattle.linked_desk.specs.Seats.{place_of, colour_at}
 use Rattle.linked_desk.specs.Sound.{IsSound, Names, NamesWinner}
 use Rattle.linked_boards.specs.Sound.{GoOn}
 use Rattle.linked_desk.specs.Views.{feed_with, views_of, with_board_item}
-use Rattle.linked_desk.proofs.Finishing.{IsSound-with_end, end_on-names, goes_on, occupant-finished}
+use Rattle.linked_desk.proofs.Finishing.{IsSound-with_end, end_on-names, goes_on_at, occupant-finished}
 use Rattle.linked_desk.proofs.Holding.{names_hands_at, names_partner_hands_at}
 use Rattle.linked_desk.proofs.Keeps.{Keeps, IsSound-later, timely_at, occupant-with_view, occupant-with_item}
 use Rattle.linked_desk.proofs.Telling.{told_of, with_hands-told}
-use Rattle.linked_desk.proofs.TempLaws.{boards_stay_sound, ends_come_by_moves}
+use Rattle.linked_boards.proofs.StaySound.{sound_play}
+use Rattle.linked_boards.proofs.GoingOn.{go_played}
 
 -- who is to move thinks from no later moment than that of the act
 begin-played : (b : Board) (moment : ℕ) (stamp : Option ℕ) (answer : Result Move Refusal) → b.begin ≤ moment → (play_after b moment stamp answer).begin ≤ moment
@@ -60,7 +59,7 @@ IsSound-played : (g : GameState) (moment seat : ℕ) (word : MoveWord) (stamp : 
     IsSound (record (played g moment (place_of seat) stamp (seat_word g seat word)) { ended = end })
 IsSound-played g moment seat word stamp end timely stamped runs names going s = record {
   seated = s.seated;
-  boards = boards_stay_sound.play g.terms g.boards (place_of seat) (moment_at g moment) (colour_at seat) word stamp s.boards (s.going runs) (omega (arith, s.order))
+  boards = sound_play g.terms g.boards (place_of seat) (moment_at g moment) (colour_at seat) word stamp s.boards (s.going runs) (omega (arith, s.order))
       (timely_at g moment timely s) stamped;
   going = going;
   order = order_played g moment (place_of seat) stamp (seat_word g seat word) s.order;
@@ -92,10 +91,6 @@ IsSound-told_of desk g place man end s =
     IsSound-later (record g { ended = end }) (told_of desk g place man).feed g.viewers g.remarks g.last g.offers g.tally (omega arith) s.moment
     (names_told desk g place man s.winners) s
 
-goes_on_at : (o : Option Board) → option_and_then end_on o ≡ None → IfSome o (λ b. is_end (result (position_of b)) ≡ false)
-goes_on_at None e = tt
-goes_on_at (Some b) e = goes_on b e
-
 -- the man that a seat's word captures, if it does
 abbrev captured_of : GameState → ℕ → MoveWord → Option Man
 captured_of g seat word = captured_by (reply_at (slice_get g.boards (place_of seat)) (seat_word g seat word))
@@ -115,7 +110,7 @@ IsSound-moved desk g moment seat word stamp timely stamped runs s =
     let end : Option Ended = end_at after place in
     let names : IfSome end (λ e. Names e.why e.winner) = end_on-names (slice_get after.boards place) in
     let going : end ≡ None → GoOn after.boards = λ none.
-        ends_come_by_moves.play g.terms g.boards place (moment_at g moment) (colour_at seat) word stamp s.boards (s.going runs) (goes_on_at (slice_get after.boards place) none) in
+    go_played g.terms g.boards place (moment_at g moment) (colour_at seat) word stamp s.boards (s.going runs) (goes_on_at (slice_get after.boards place) none) in
     subst (λ (h : GameState). IsSound (finished desk h moment place)) (sym (with_hands-told desk after place man))
     (IsSound-with_end desk told moment end names timely runs
     (IsSound-told_of desk after place man end (IsSound-played g moment seat word stamp end timely stamped runs names going s)))

@@ -1,29 +1,24 @@
 -- What is kept where the offers at a desk change, and where one takes effect.
-use Rattle.std.proofs.Common.{◌≡◌, ℕ, ◌*◌, ◌≤◌, ◌^◌, ◌∷◌, [], Bool, true, false, List, map, All, Option, Some, None, IfSome, refl, sym, ap, subst, ◌∙◌, arith}
+use Rattle.std.proofs.Common.{◌≡◌, ℕ, ◌≤◌, ◌^◌, ◌∷◌, [], Bool, true, false, List, Option, Some, None, IfSome, refl, ◌∙◌, arith}
 use Rattle.std.specs.Prelude.{slice_get, if◌then◌else◌}
 use Rattle.std.specs.Option.{option_map, option_and_then}
-use Rattle.std.proofs.lemmas.List.Elements.{All-nil, All-head}
-use Rattle.chess_model.specs.declared.variant.Terms.{Terms}
 use Rattle.chess_model.specs.declared.variant.Variant.{Variant}
 use Rattle.chess_model.specs.declared.variant.Variant.TheVariants.{Chess, Crazyhouse, Bughouse, Fischer}
 use Rattle.chess_model.specs.declared.why.Why.TheVariants as why
-use Rattle.chess_model.specs.MoveList.{HalfMove}
 use Rattle.fics_words.specs.declared.player.Player.{Player}
 use Rattle.fics_words.specs.Seats.{seat_list}
 use Rattle.game_board.specs.Board.{Board}
-use Rattle.game_board.specs.Scoresheet.{IsTrueScore}
 use Rattle.game_board.specs.TakeBack.{has_too_few, taken_back}
-use Rattle.game_board.proofs.ScoreTakenBack.{IsTrueScore-take_back_after}
 use Rattle.offer_book.specs.declared.offer.Offer.{Offer}
 use Rattle.offer_book.specs.declared.offer.Offer.TheVariants.{Draw, Abort, Adjourn, Takeback}
 use Rattle.offer_book.specs.Offers.{OfferBook}
 use Rattle.style12_writer.specs.OfferLines.{decline_text, taken_text}
 use Rattle.style12_writer.specs.declared.item.Item.{Item}
 use Rattle.style12_writer.specs.declared.item.Item.TheVariants as item
-use Rattle.linked_boards.specs.Boards.{board_numbers, latest}
+use Rattle.linked_boards.specs.Boards.{latest}
 use Rattle.linked_desk.specs.Desk.{GameState, moment_at, occupant}
 use Rattle.linked_desk.specs.Hands.{first_hands}
-use Rattle.linked_boards.specs.TakenBack.{back_by, boards_taken_back}
+use Rattle.linked_boards.specs.TakenBack.{back_by}
 use Rattle.linked_desk.specs.Offering.{agreed, decline_item, end_without_winner, offer_item, offer_text, told, with_count, with_offers, with_taken}
 use Rattle.linked_desk.specs.Offering as offering
 use Rattle.linked_desk.specs.Sound.{IsSound, NamesWinner}
@@ -31,7 +26,7 @@ use Rattle.linked_desk.specs.Tally.{counted}
 use Rattle.linked_desk.specs.Views.{views_of, with_board_item, with_items}
 use Rattle.linked_boards.proofs.BoardLists.{latest-changed_at}
 use Rattle.linked_desk.proofs.Holding.{names_first}
-use Rattle.linked_desk.proofs.TempLaws.{boards_stay_sound, ends_come_by_moves}
+use Rattle.linked_boards.proofs.BackSound.{goes_back, sound_back}
 use Rattle.linked_desk.proofs.Keeps.{IsSound-ended_by, IsSound-later, timely_at, IsSound-with_view, IsSound-with_item, occupant-with_view, occupant-with_item}
 
 -- the game with other offers and counts, since a later moment
@@ -77,8 +72,8 @@ IsSound-with_taken g moment n timely s =
     let early : latest g.boards ≤ moment_at g moment = omega (arith, s.order) in
     record {
       seated = s.seated;
-      boards = boards_stay_sound.take_back g.terms g.boards n (moment_at g moment) s.boards early;
-      going = λ runs. ends_come_by_moves.take_back g.terms g.boards n (moment_at g moment) s.boards (s.going runs);
+      boards = sound_back g.terms g.boards n (moment_at g moment) s.boards early;
+      going = λ runs. goes_back g.terms g.boards n (moment_at g moment) s.boards early (s.going runs);
       order = latest-changed_at g.boards 0 (moment_at g moment) after (λ b. begin_back b.terms.variant b n (moment_at g moment)) early;
       moment = timely_at g moment timely s;
       winners = s.winners;

@@ -19,7 +19,8 @@ use Rattle.linked_boards.specs.Sound.{AreSoundBoards, GoOn}
 use Rattle.linked_desk.specs.Views.{each_board}
 use Rattle.linked_desk.proofs.Holding.{names_first}
 use Rattle.linked_desk.proofs.Keeps.{All-each_board}
-use Rattle.linked_desk.proofs.TempLaws.{boards_stay_sound, ends_come_by_moves}
+use Rattle.linked_boards.proofs.StaySound.{sound_start}
+use Rattle.linked_boards.proofs.GoingOn.{go_start}
 
 -- an item that is shown beside a board, if there is one
 All-option : {X : Type 0} (P : X → Type 0) (x : Option X) → IfSome x P → All P (option_to_list x)
@@ -67,5 +68,5 @@ latest_from (n ∷ ns) terms moment = let rest = latest_from ns terms moment in 
 
 pub IsSound-opened : (desk serial : ℕ) (terms : Terms) (seats : Seats) (moment : ℕ) → MayPlay terms seats → moment ≤ 2 ^ 48 → IsSound (opened desk serial terms seats moment)
 IsSound-opened desk serial terms seats moment seated timely =
-    IsSound-begun Start desk serial terms seats (new_boards terms moment) moment None seated (boards_stay_sound.start terms moment)
-    (latest_from (board_numbers terms.variant) terms moment) timely tt (λ runs. ends_come_by_moves.start terms moment)
+    IsSound-begun Start desk serial terms seats (new_boards terms moment) moment None seated (sound_start terms moment)
+    (latest_from (board_numbers terms.variant) terms moment) timely tt (λ runs. go_start terms moment)

@@ -2,6 +2,7 @@ pub mod Causes
 pub mod ClearedOffers
 pub mod Counting
 pub mod Finishing
+pub mod GoesOnAgain
 pub mod Holding
 pub mod Keeps
 pub mod KeepsAcceptOffer
@@ -14,6 +15,7 @@ pub mod KeepsLeave
 pub mod KeepsMake
 pub mod KeepsMove
 pub mod KeepsRemark
+pub mod KeepsRestored
 pub mod KeepsOffers
 pub mod KeepsResign
 pub mod KeepsShow
@@ -25,5 +27,4 @@ pub mod Resuming
 pub mod SeatNumbers
 pub mod Shelved
 pub mod Telling
-pub mod TempLaws
 pub mod WholeSets

@@ -1,5 +1,5 @@
 -- What a restored game has of the stored one, and of the game that was left.
-use Rattle.std.proofs.Common.{◌≡◌, ℕ, List, [], ◌∷◌, map, length, All, Option, Some, None, refl, sym, ap, subst, ◌∙◌}
+use Rattle.std.proofs.Common.{◌≡◌, ℕ, List, length, All, Option, Some, None, refl, sym, ap, subst, ◌∙◌}
 use Rattle.std.proofs.lemmas.List.{length-map}
 use Rattle.std.proofs.lemmas.List.Elements.{All-weaker}
 use Rattle.std.specs.Prelude.{IsSome, slice_get}
@@ -8,11 +8,9 @@ use Rattle.chess_model.specs.declared.man.Colour.{Colour}
 use Rattle.chess_model.specs.declared.variant.Terms.{Terms}
 use Rattle.chess_model.specs.Position.{position_after}
 use Rattle.fics_words.specs.declared.seats.Seats.{Seats}
-use Rattle.game_board.specs.declared.played.Played.{Played}
 use Rattle.game_board.specs.Board.{Board, position_of}
 use Rattle.game_board.specs.Charges.{clock_of, remaining_of}
 use Rattle.clock_ledger.specs.Clock as clock
-use Rattle.game_records.specs.declared.stored_game.Half.{Half}
 use Rattle.game_records.specs.declared.stored_game.StoredGame.{StoredGame}
 use Rattle.game_records.specs.Replays.{Replays, half_moves}
 use Rattle.linked_boards.specs.Boards.{board_numbers}
@@ -22,6 +20,7 @@ use Rattle.linked_boards.specs.Replaying.{replayed}
 use Rattle.linked_boards.specs.Sound.{AreSoundBoards}
 use Rattle.linked_boards.proofs.BoardLists.{All-at}
 use Rattle.linked_boards.proofs.Pairs.{number_at}
+use Rattle.linked_boards.proofs.SoundHalves.{all_of, each_of}
 use Rattle.linked_desk.specs.declared.ended.Ended.{Ended}
 use Rattle.linked_desk.specs.declared.occasion.Occasion.TheVariants.{Resumption}
 use Rattle.linked_desk.specs.Desk.{DeskState, GameState}
@@ -32,7 +31,7 @@ use Rattle.linked_desk.specs.ShelfLaws.{Gets, GoesOnFrom, IsAsBefore, IsOnAgain,
 use Rattle.linked_desk.specs.Shelve.{names_in, shelved}
 use Rattle.linked_desk.specs.Sound.{IsSound}
 use Rattle.linked_desk.proofs.Shelved.{shelved_replays}
-use Rattle.linked_desk.proofs.TempLaws.{are_replayed, halves_are_the_boards}
+use Rattle.linked_boards.proofs.Replayed.{replayed_at, replayed_exactly, replayed_fresh}
 
 -- an end changes neither the boards nor who plays
 same-with_end : {X : Type 0} (of : GameState → X) (desk : ℕ) (g : GameState) (moment : ℕ) (end : Option Ended) → ((e : Ended) → of (with_end desk g moment (Some e)) ≡ of g) →
@@ -51,7 +50,7 @@ some_is (Some x) s = (x, refl)
 
 -- the boards of a game that replays
 found : (g : StoredGame) (moment : ℕ) → Replays g → (boards : List Board) × (replayed g.terms g.halves moment ≡ Some boards)
-found g moment r = some_is (replayed g.terms g.halves moment) ((are_replayed.exactly g.terms g.halves moment r.spelled.halves.each).1 r.played)
+found g moment r = some_is (replayed g.terms g.halves moment) ((replayed_exactly g.terms g.halves moment r.spelled.halves.each).1 r.played)
 
 module _ (d : DeskState) (serial : ℕ) (g : StoredGame) (seats : Seats) (moment : ℕ) (boards : List Board) (is : replayed g.terms g.halves moment ≡ Some boards) where
   abbrev now : GameState
@@ -67,19 +66,20 @@ module _ (d : DeskState) (serial : ℕ) (g : StoredGame) (seats : Seats) (moment
   seats-now = same-finished_at (λ (h : GameState). h.seats) d.number (begun Resumption d.number serial g.terms seats boards moment) moment (last_place g.halves) (λ e. refl)
 
   gets : (P : GameState → Type 0) → P now → Gets (restored d serial g seats moment) P
-  gets P p =
-      (record d { game = Some now },
-      ap (option_map (λ (bs : List Board). record d { game = Some (resumed d.number serial g seats moment bs) })) is,
-      (now, refl, p))
+  gets P p = (
+    record d { game = Some now },
+    ap (option_map (λ (bs : List Board). record d { game = Some (resumed d.number serial g seats moment bs) })) is,
+    (now, refl, p),
+  )
 
   on_again : Replays g → names_in seats ≡ g.names → IsOnAgain g moment now
   on_again r names = record {
     terms = terms-now;
     names = ap names_in seats-now ∙ names;
-    halves = ap halves_of boards-now ∙ are_replayed.halves g.terms g.halves moment boards r.spelled.halves.each is;
+    halves = ap halves_of boards-now ∙ (replayed_at g.terms g.halves moment boards r.spelled.halves.each is).made;
     begin = subst (All (λ (b : Board). b.begin ≡ moment)) (sym boards-now)
         (All-weaker (IsFresh moment) (λ (b : Board). b.begin ≡ moment) (λ b fresh. fresh.begin) boards
-        (are_replayed.fresh g.terms g.halves moment boards r.spelled.halves.each is));
+        (replayed_fresh g.terms g.halves moment boards r.spelled.halves.each is));
   }
 
 stored : (d : DeskState) (serial : ℕ) (g : StoredGame) (seats : Seats) (moment : ℕ) → Replays g → names_in seats ≡ g.names →
@@ -107,13 +107,13 @@ as_before t before now place b c s n halves here there =
     let terms : c.terms ≡ uncoloured b.terms = of_c ∙ sym (ap uncoloured of_b) in
     let number : c.number ≡ b.number = some_same c.number b.number (sym (number_at t.variant now place c n.numbers there) ∙ number_at t.variant before place b s.numbers here) in
     let all : c.all ≡ b.all =
-    sym (All-at (λ (x : Board). half_moves (halves_of now) ≡ x.all) now place c (halves_are_the_boards.all (uncoloured t) now n) there)
+    sym (All-at (λ (x : Board). half_moves (halves_of now) ≡ x.all) now place c (all_of (uncoloured t) now n) there)
     ∙ ap half_moves halves
-    ∙ All-at (λ (x : Board). half_moves (halves_of before) ≡ x.all) before place b (halves_are_the_boards.all t before s) here in
+    ∙ All-at (λ (x : Board). half_moves (halves_of before) ≡ x.all) before place b (all_of t before s) here in
     let list : c.list ≡ b.list =
-    sym (All-at (λ (x : Board). list_on x.number (halves_of now) ≡ x.list) now place c (halves_are_the_boards.each (uncoloured t) now n) there)
+    sym (All-at (λ (x : Board). list_on x.number (halves_of now) ≡ x.list) now place c (each_of (uncoloured t) now n) there)
     ∙ (λ i. list_on (number i) (halves i))
-    ∙ All-at (λ (x : Board). list_on x.number (halves_of before) ≡ x.list) before place b (halves_are_the_boards.each t before s) here in
+    ∙ All-at (λ (x : Board). list_on x.number (halves_of before) ≡ x.list) before place b (each_of t before s) here in
     record { number = number; list = list; position = position_same b c terms all number; clocks = λ colour. clocks_same b c colour terms list }
 
 -- there are as many boards as the variant wants
@@ -126,8 +126,8 @@ kept d serial g seats moment s names =
     let r : Replays (shelved g) = shelved_replays g s in
     let there = found (shelved g) moment r in
     let boards : List Board = there.0 in
-    let sound : AreSoundBoards (uncoloured g.terms) boards = are_replayed.sound (uncoloured g.terms) (halves_of g.boards) moment boards r.spelled.halves.each there.1 in
-    let halves : halves_of boards ≡ halves_of g.boards = are_replayed.halves (uncoloured g.terms) (halves_of g.boards) moment boards r.spelled.halves.each there.1 in
+    let sound : AreSoundBoards (uncoloured g.terms) boards = (replayed_at (uncoloured g.terms) (halves_of g.boards) moment boards r.spelled.halves.each there.1).sound in
+    let halves : halves_of boards ≡ halves_of g.boards = (replayed_at (uncoloured g.terms) (halves_of g.boards) moment boards r.spelled.halves.each there.1).made in
     let same = boards-now d serial (shelved g) seats moment boards there.1 in
     gets d serial (shelved g) seats moment boards there.1 (GoesOnFrom g)
     (record {

@@ -1,5 +1,5 @@
 -- What is kept of a sound game replays.
-use Rattle.std.proofs.Common.{◌≡◌, ◌≢◌, Bool, true, false, ℕ, ◌*◌, List, [], ◌∷◌, map, length, refl, sym, ap, subst, ◌∙◌, arith}
+use Rattle.std.proofs.Common.{◌≡◌, ◌≢◌, Bool, true, false, ℕ, ◌*◌, List, [], ◌∷◌, map, length, refl, ap, subst, ◌∙◌}
 use Rattle.std.proofs.lemmas.List.{length-map}
 use Rattle.std.proofs.lemmas.Slice.Eq.{bytes_eq-Decides}
 use Rattle.std.specs.Bool.{Decides}
@@ -12,7 +12,7 @@ use Rattle.fics_words.specs.Handle.{key_of}
 use Rattle.fics_words.specs.declared.player.Player.{Player}
 use Rattle.fics_words.specs.Seats.{seat_list}
 use Rattle.game_records.specs.declared.stored_game.Half.{Half}
-use Rattle.game_records.specs.Bounds.{boards, seats}
+use Rattle.game_records.specs.Bounds.{seats}
 use Rattle.game_records.specs.Replays.{AreFour, CanBePlayed, MayCome, Replays}
 use Rattle.linked_boards.specs.Boards.{board_numbers}
 use Rattle.linked_boards.specs.Halves.{halves_of}
@@ -20,7 +20,7 @@ use Rattle.linked_desk.specs.Desk.{GameState}
 use Rattle.linked_desk.specs.Seating.{AllDiffer, NoneIs, uncoloured}
 use Rattle.linked_desk.specs.Shelve.{names_in, shelved}
 use Rattle.linked_desk.specs.Sound.{IsSound}
-use Rattle.linked_desk.proofs.TempLaws.{halves_are_the_boards}
+use Rattle.linked_boards.proofs.SoundHalves.{bounds_of}
 
 as_many : (v : Variant) → 2 * length (board_numbers v) ≡ seats v
 as_many Chess = refl
@@ -71,7 +71,7 @@ shelved_replays g s = record {
   spelled = record {
     terms = s.seated.fit;
     players = length-map (seat_list g.seats) (λ (p : Player). p.name) ∙ s.seated.pairs ∙ as_many g.terms.variant;
-    halves = halves_are_the_boards.bounds g.terms g.boards s.boards;
+    halves = bounds_of g.terms g.boards s.boards;
   };
   players = four g.terms.variant (names_in g.seats) (subst AllDiffer (keys_in (seat_list g.seats)) s.seated.names);
   played = without_colour g.terms (halves_of g.boards) s.boards.played;

@@ -1,5 +1,5 @@
--- Leaving a desk: a game between two players with accounts waits for them, as on FICS (help page `adjourn`); any other is
--- lost by who leaves it. That a pair is lost is this server's own.
+-- Leaving a desk: a game between two players with accounts waits for them, as on FICS; any other is lost by whoever
+-- leaves it. That a pair is lost is this server's own.
 use Rattle.std.specs.Prelude.{ℕ, ◌&&◌, Bool, false, is_some, not, if◌then◌else◌, [], Option, Some, None}
 use Rattle.chess_model.specs.declared.why.Why.TheVariants.{Adjourned, Left}
 use Rattle.chess_model.specs.Placement.{opposite}

@@ -1,5 +1,5 @@
 -- An offer at a desk. This server's own; that a claim of a draw counts as an offer of one is FIDE 9.1.2.
-use Rattle.std.specs.Prelude.{ℕ, Bool, true, not, if◌then◌else◌, [], ◌∷◌, List, Option, Some, None, slice_get}
+use Rattle.std.specs.Prelude.{ℕ, true, not, if◌then◌else◌, [], ◌∷◌, List, Option, Some, None, slice_get}
 use Rattle.chess_model.specs.declared.why.Why.{Why}
 use Rattle.fics_words.specs.Effect.{Cause, Effect, first_cause}
 use Rattle.fics_words.specs.declared.refusal.Refusal.{Refusal}
@@ -17,8 +17,8 @@ use Rattle.linked_desk.specs.Ends.{ended_by, no_seat_cause, over_cause}
 use Rattle.linked_desk.specs.Offering.{agreed, end_without_winner, offer_item, told, told_out_cause, with_count, with_offers}
 use Rattle.linked_desk.specs.Seats.{place_of}
 
--- why nobody at this desk may make an offer: only players with accounts adjourn; at a pair nothing is taken back; and as
--- many half-moves as are to be taken back have to be there, at least one
+-- why nobody at this desk may make an offer: only players with accounts adjourn; at a pair nothing is taken back; and
+-- as many half-moves as are to be taken back have to be there, at least one
 abbrev pub unfit_causes : GameState → Offer → List Cause
 unfit_causes g Draw = []
 unfit_causes g Abort = []

@@ -1,5 +1,5 @@
 -- What it means that a game is kept until its players resume it.
-use Rattle.std.specs.Prelude.{◌≡◌, ℕ, All, List, length, Option, Some, slice_get}
+use Rattle.std.specs.Prelude.{◌≡◌, ℕ, All, length, Option, Some, slice_get}
 use Rattle.chess_model.specs.declared.man.Colour.{Colour}
 use Rattle.fics_words.specs.declared.seats.Seats.{Seats}
 use Rattle.game_board.specs.Board.{Board, position_of}
@@ -17,15 +17,15 @@ use Rattle.linked_desk.specs.Sound.{IsSound}
 abbrev pub ShelvedGamesReplay : Type 0
 ShelvedGamesReplay = (g : GameState) → IsSound g → Replays (shelved g)
 
--- a stored game that is on since that moment: by its terms, players and half-moves with their charges
+-- a stored game that is on again: with its terms, its players and its half-moves with their charges. The clocks run
+-- from the moment of resuming
 pub record IsOnAgain (g : StoredGame) (moment : ℕ) (now : GameState) : Type 0 where
   pub terms : now.terms ≡ g.terms
   pub names : names_in now.seats ≡ g.names
   pub halves : halves_of now.boards ≡ g.halves
   pub begin : All (λ (b : Board). b.begin ≡ moment) now.boards
 
--- a board as it was before: it has the half-moves and charges of that one, its position with the men in hand, and its
--- clocks
+-- a board as it was: it has the half-moves and charges, the position with the men in hand, and the clocks of that one
 pub record IsAsBefore (before now : Board) : Type 0 where
   pub number : now.number ≡ before.number
   pub list : now.list ≡ before.list
@@ -37,17 +37,17 @@ pub record GoesOnFrom (before now : GameState) : Type 0 where
   pub terms : now.terms ≡ uncoloured before.terms
   pub names : names_in now.seats ≡ names_in before.seats
   pub many : length now.boards ≡ length before.boards
-  pub boards : (place : ℕ) (b c : Board) → slice_get before.boards place ≡ Some b → slice_get now.boards place ≡ Some c →
-      IsAsBefore b c
+  pub boards : (place : ℕ) (b c : Board) → slice_get before.boards place ≡ Some b →
+      slice_get now.boards place ≡ Some c → IsAsBefore b c
 
 -- a desk gets a game of which this holds
 abbrev pub Gets : Option DeskState → (GameState → Type 0) → Type 0
 Gets desk P = (d : DeskState) × (desk ≡ Some d) × ((g : GameState) × (d.game ≡ Some g) × P g)
 
--- a game that replays is restored as it is stored, and one that was kept goes on from where it was left, where the
--- players have the names
+-- where players of the same names sit down, a game that replays is restored as it is stored, and one that was kept
+-- goes on from where it was left
 pub record ResumingRestores : Type 0 where
-  pub stored : (d : DeskState) (serial : ℕ) (g : StoredGame) (seats : Seats) (moment : ℕ) → Replays g → names_in seats ≡ g.names →
-      Gets (restored d serial g seats moment) (IsOnAgain g moment)
-  pub kept : (d : DeskState) (serial : ℕ) (g : GameState) (seats : Seats) (moment : ℕ) → IsSound g → names_in seats ≡ names_in g.seats →
-      Gets (restored d serial (shelved g) seats moment) (GoesOnFrom g)
+  pub stored : (d : DeskState) (serial : ℕ) (g : StoredGame) (seats : Seats) (moment : ℕ) → Replays g →
+      names_in seats ≡ g.names → Gets (restored d serial g seats moment) (IsOnAgain g moment)
+  pub kept : (d : DeskState) (serial : ℕ) (g : GameState) (seats : Seats) (moment : ℕ) → IsSound g →
+      names_in seats ≡ names_in g.seats → Gets (restored d serial (shelved g) seats moment) (GoesOnFrom g)

@@ -1,5 +1,5 @@
 -- What holds of the game at a desk in every state.
-use Rattle.std.specs.Prelude.{◌≡◌, ◌≤◌, ◌^◌, ◌↔◌, IsSome, IsTrue, IfSome, All, List, Option, None, Result, Ok, Err}
+use Rattle.std.specs.Prelude.{◌≡◌, ◌≤◌, ◌^◌, ◌↔◌, IsSome, IsTrue, IfSome, All, Option, None, Result, Ok, Err}
 use Rattle.chess_model.specs.declared.man.Colour.{Colour}
 use Rattle.chess_model.specs.declared.why.Why.{Why}
 use Rattle.fics_words.specs.declared.refusal.Refusal.{Refusal}
@@ -22,14 +22,15 @@ abbrev pub NamesWinner : Item → Type 0
 NamesWinner (End view why winner own) = Names why winner
 NamesWinner _ = Unit {0}
 
+-- what holds of a game
 pub record IsSound (g : GameState) : Type 0 where
   -- these players may play on these terms
   pub seated : MayPlay g.terms g.seats
-  -- the boards are those of a game on these terms that was played as they say
+  -- the boards are those of such a game: each list is a true score, and the half-moves of all can be played again
   pub boards : AreSoundBoards g.terms g.boards
   -- while the game runs no board is at an end
   pub going : g.ended ≡ None → GoOn g.boards
-  -- nobody is thinking from a moment that is later than the last act, and no act was later than the server's last moment
+  -- nobody is thinking from a moment later than that of the last act, which was no later than the server's last moment
   pub order : latest g.boards ≤ g.last
   pub moment : g.last ≤ 2 ^ 48
   -- each end in the feed names its winner

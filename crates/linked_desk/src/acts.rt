@@ -21,10 +21,10 @@ pub enum DeskAct {
     Acked { stamp: u32 },
     /// Offers something to all others at the desk. It takes effect where every other seat has it standing, and else it
     /// stands and is told; an offer of a draw that may be claimed, in chess and Fischer random, ends the game at once.
-    /// Refused with `NotPlaying`, `GameOver`, `NotInVariant` for a takeback at a pair, `TooFewMoves` for a takeback of 0
-    /// and of more half-moves than the board's list has, `NotRegistered` for adjourning where a player has no account,
-    /// and then, unless a draw is claimed, `AlreadyOffered` where the seat has this very offer standing, `FeedFull`
-    /// where the seat has made 256 offers and declines.
+    /// Refused with `NotPlaying`, `GameOver`, `NotInVariant` for a takeback at a pair, `TooFewMoves` for a takeback of
+    /// 0 and of more half-moves than the board's list has, `NotRegistered` for adjourning where a player has no
+    /// account, and then, unless a draw is claimed, `AlreadyOffered` where the seat has this very offer standing,
+    /// `FeedFull` where the seat has made 256 offers and declines.
     Make { offer: Offer },
     /// Accepts the earliest offer of another seat that the own one lacks. Refused with `NotPlaying`, `GameOver`, then
     /// `NoSuchOffer`.
@@ -38,8 +38,8 @@ pub enum DeskAct {
     Flag,
     /// Asks for the items that the session hasn't been given. Refused with `NotWatching`.
     Fetch,
-    /// Leaves the desk. A player of a running game adjourns it where it has one board and all its players have accounts,
-    /// and else loses it. Never refused, and takes no memory.
+    /// Leaves the desk. A player of a running game adjourns it where it has one board and all its players have
+    /// accounts, and else loses it. Never refused, and takes no memory.
     Leave,
     /// Becomes a viewer, who is told what comes from now on, and is given the boards as they stand. Refused with
     /// `NoSuchGame`, then `AlreadyWatching`.

@@ -1,17 +1,20 @@
 //! What the table of acts keeps, as calls that do nothing: what they ensure are the laws.
-ghost use Rattle.std.specs.Prelude.{◌≡◌, ℕ, ◌≤◌, ◌^◌, Some};
+ghost use Rattle.std.specs.Prelude.{◌≡◌, ℕ, ◌≤◌, ◌^◌, IfSome, Some};
 ghost use Rattle.chess_model.specs.declared.variant.Terms.{Terms};
 ghost use Rattle.fics_words.specs.declared.seats.Seats.{Seats};
 ghost use Rattle.linked_desk.specs.declared.acts.DeskAct.{DeskAct};
 ghost use Rattle.linked_desk.specs.Desk.{DeskState, game_number, occupant_of};
-ghost use Rattle.linked_desk.specs.Seating.{MayPlay, started};
+ghost use Rattle.game_records.specs.declared.stored_game.StoredGame.{StoredGame};
+ghost use Rattle.game_records.specs.Replays.{Replays};
+ghost use Rattle.linked_desk.specs.Restore.{restored};
+ghost use Rattle.linked_desk.specs.Seating.{AllDiffer, HasPairsFor, MayPlay, names_of, started};
 ghost use Rattle.linked_desk.specs.Sight.{board_in};
 ghost use Rattle.linked_desk.specs.Sound.{AnswersSoundly, HasSoundGame};
 ghost use Rattle.linked_desk.specs.Acts.{FitsDeskAct, desk_answer, desk_after};
 ghost use Rattle.linked_desk.specs.WholeSets.{AllAt, HasPrintedHands, HasWholeSets};
 
-/// Who plays at a desk is settled when the game starts: no act changes the desk's number, nor the serial, the terms
-/// and the players of its game, and none makes it vacant or puts a game there.
+/// Who plays at a desk is settled when the game starts or is resumed: no act changes the desk's number, nor the serial,
+/// the terms and the players of its game, and none makes it vacant or puts a game there.
 pub fn acts_keep_the_players()
     ensures number { (d : DeskState) (session moment serial : ℕ) (a : DeskAct)
         → (desk_after d session moment serial a).number ≡ d.number }
@@ -20,16 +23,22 @@ pub fn acts_keep_the_players()
     ensures started { (d : DeskState) (serial : ℕ) (terms : Terms) (seats : Seats) (moment : ℕ) →
         occupant_of (started d serial terms seats moment)
         ≡ Some (record { serial = serial; terms = terms; seats = seats }) }
+    ensures restored { (d : DeskState) (serial : ℕ) (g : StoredGame) (seats : Seats) (moment : ℕ) →
+        IfSome (restored d serial g seats moment) (λ e. occupant_of e
+        ≡ Some (record { serial = serial; terms = g.terms; seats = seats })) }
 {}
 
-/// The game at a desk is sound from its start on, whatever acts are made: it has the boards and seats that its variant
-/// wants, the list of each board is a true score, the boards of a pair have one list of the half-moves of both, no
-/// half-move was made after mate or stalemate, on no board of a running game is anybody mated or stalemated, and each
-/// end that viewers are told names a winner exactly where somebody won.
+/// The game at a desk is sound from its start or resuming on, whatever acts are made: it has the boards and seats that
+/// its variant wants, the list of each board is a true score, the boards of a pair have one list of the half-moves of
+/// both, no half-move was made after mate or stalemate, on no board of a running game is anybody mated or stalemated,
+/// and each end that viewers are told names a winner exactly where somebody won.
 pub fn acts_keep_the_game()
     ensures started { (d : DeskState) (serial : ℕ) (terms : Terms) (seats : Seats) (moment : ℕ)
         → MayPlay terms seats → moment ≤ 2 ^ 48 →
         HasSoundGame (started d serial terms seats moment) }
+    ensures restored { (d : DeskState) (serial : ℕ) (g : StoredGame) (seats : Seats) (moment : ℕ) → Replays g
+        → HasPairsFor g.terms seats → AllDiffer (names_of seats) → moment ≤ 2 ^ 48 →
+        IfSome (restored d serial g seats moment) HasSoundGame }
     ensures game { (d : DeskState) (session moment serial : ℕ) (a : DeskAct) → moment ≤ 2 ^ 48 → FitsDeskAct a
         → HasSoundGame d → HasSoundGame (desk_after d session moment serial a) }
     ensures answers { (d : DeskState) (session moment serial : ℕ) (a : DeskAct) → HasSoundGame d

@@ -5,6 +5,9 @@
 //! (`specs/Acts.antt`), which says by the old desk, the session, the moment, the serial and the act alone why the act
 //! is refused, what it replies and what stands afterwards. A refusal changes nothing, and a player can always leave,
 //! since leaving takes no memory.
+//!
+//! A game that was adjourned is kept as `shelve` gives it, which always replays, and goes on at a desk by `restore`,
+//! which plays it again: boards, hands and clocks are as they were (`specs/ShelfLaws.antt`).
 #![tactic(auto)]
 
 mod accept_offer;

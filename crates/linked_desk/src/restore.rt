@@ -4,14 +4,13 @@ ghost use Rattle.std.specs.Option.{option_map};
 ghost use Rattle.game_records.specs.Replays.{Replays};
 ghost use Rattle.linked_boards.specs.Replaying.{replayed};
 ghost use Rattle.linked_desk.specs.Restore.{finished_at, last_place, place_on, resumed};
-ghost use Rattle.linked_desk.specs.Seating.{AllDiffer, HasPairsFor, names_of, sessions_of};
-ghost use Rattle.linked_desk.specs.Shelve.{names_in};
+ghost use Rattle.linked_desk.specs.Seating.{AllDiffer, HasPairsFor, sessions_of};
 
 use crate::game::Game;
 use crate::occasion::Occasion;
 use crate::seating::{announced, game_at, show_each};
 use fics_words::{NoMemory, Seats};
-use game_records::{Half, StoredGame, is_game};
+use game_records::{Half, StoredGame};
 use linked_boards::Boards;
 use std::alloc::Global;
 
@@ -28,24 +27,19 @@ pub(crate) fn resumed(
     requires high { desk ≤ 128 }
     requires moment { moment ≤ 2 ^ 48 }
     requires sessions { AllDiffer (sessions_of seats.now) }
-    requires names { AllDiffer (names_of seats.now) }
-    requires players { names_in seats.now ≡ stored.now.names }
     requires pairs { HasPairsFor stored.now.terms seats.now }
     ensures replays { IfOk result (λ found. IsSome found ↔ Replays stored.now) }
     ensures game { IfOk result (λ found. IsSome found → found
-        ≡ option_map (resumed desk serial stored.now seats.now moment) (replayed stored.now.terms stored.now.halves moment)) }
+        ≡ option_map (resumed desk serial stored.now seats.now moment)
+        (replayed stored.now.terms stored.now.halves moment)) }
 {
-    if !is_game(stored) {
-        return Ok(None);
-    }
     let mut feed = announced(alloc, Occasion::Resumption, desk, &stored.terms, seats)?;
-    let halves = stored.halves.as_slice();
-    let Some(boards) = Boards::replay(alloc, stored.terms, halves, moment)? else {
+    let Some(boards) = Boards::of_stored(alloc, stored, moment)? else {
         return Ok(None);
     };
     show_each(&mut feed, desk, seats, &boards);
     let mut game = game_at(alloc, serial, stored.terms, seats, boards, feed, moment);
-    game.finish_at(desk, moment, last_place(halves));
+    game.finish_at(desk, moment, last_place(stored.halves.as_slice()));
     Ok(Some(game))
 }
 

@@ -184,7 +184,13 @@ fn news(
     ensures { IfOk result (λ line. line ≡ news occasion game players.now.white.name players.now.black.name terms.now) }
 {
     match occasion {
-        Occasion::Start => created_line(alloc, game, &players.white.name, &players.black.name, terms),
+        Occasion::Start => created_line(
+            alloc,
+            game,
+            &players.white.name,
+            &players.black.name,
+            terms,
+        ),
         Occasion::Resumption => {
             continued_line(alloc, game, &players.white.name, &players.black.name, terms)
         }

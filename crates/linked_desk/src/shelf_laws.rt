@@ -7,9 +7,9 @@ pub fn shelved_games_replay()
     ensures { ShelvedGamesReplay }
 {}
 
-/// A game that replays is restored as it is stored: with its terms, players, half-moves and charges, and with clocks that
-/// run from the moment of resuming. So a game that was kept goes on from where it was left: each board has the same
-/// position, men in hand and clocks.
+/// A game that replays is restored as it is stored: with its terms, players, half-moves and charges, and with clocks
+/// that run from the moment of resuming. So a game that was kept goes on from where it was left: each board has the
+/// same position, men in hand and clocks.
 pub fn resuming_restores()
     ensures { ResumingRestores }
 {}

@@ -43,5 +43,4 @@ no_record pair none (AnAccount account) row = none (a.Account account) row.spell
 no_record pair none (AGame number game) row = none (a.Game game) row.spelled
 
 pub not_both : (b : Bool) → b ≡ true → not b ≡ true → ⊥
-not_both true yes no = cc
-not_both false yes no = cc
+not_both b yes no = let turned = ap not yes in cc
