@@ -1,5 +1,6 @@
 pub mod Boards
 pub mod Claims
+pub mod Examples
 pub mod Halves
 pub mod Laws
 pub mod Linked
