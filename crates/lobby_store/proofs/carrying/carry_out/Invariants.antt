@@ -1,6 +1,6 @@
 use Rattle.std.proofs.Common.{◌≡◌, ◌≤◌, take}
-use Rattle.store_pairs.specs.Carrying.{Carries}
-use Rattle.store_pairs.proofs.carrying.carry_out.Given as goal
+use Rattle.lobby_store.specs.Carrying.{Carries}
+use Rattle.lobby_store.proofs.carrying.carry_out.Given as goal
 
 abbrev pub invariant-loop-order : goal.invariant-loop-order
 invariant-loop-order g l = record {

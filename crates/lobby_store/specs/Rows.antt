@@ -7,8 +7,8 @@ use Rattle.game_records.specs.Replays.{Replays}
 use Rattle.game_records.specs.Spelling.{IsSpelled}
 use Rattle.game_records.specs.declared.records.Record.TheVariants as a
 use Rattle.game_records.specs.declared.stored_game.StoredGame.{StoredGame}
-use Rattle.store_pairs.specs.declared.reading.StoreRow.{StoreRow}
-use Rattle.store_pairs.specs.declared.reading.StoreRow.TheVariants.{Account as AnAccount, Game as AGame}
+use Rattle.lobby_store.specs.declared.reading.StoreRow.{StoreRow}
+use Rattle.lobby_store.specs.declared.reading.StoreRow.TheVariants.{Account as AnAccount, Game as AGame}
 
 -- the record is that of the account, under the key of its name
 pub record IsAccountRow (account : Account) (pair : List ℕ × List ℕ) : Type 0 where

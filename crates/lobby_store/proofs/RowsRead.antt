@@ -9,9 +9,9 @@ use Rattle.game_records.specs.declared.records.Record.{Record}
 use Rattle.game_records.specs.declared.records.Record.TheVariants as a
 use Rattle.game_records.specs.declared.stored_game.StoredGame.{StoredGame}
 use Rattle.game_records.proofs.ReadBack.{one_spelled}
-use Rattle.store_pairs.specs.declared.reading.StoreRow.{StoreRow}
-use Rattle.store_pairs.specs.declared.reading.StoreRow.TheVariants.{Account as AnAccount, Game as AGame}
-use Rattle.store_pairs.specs.Rows.{IsNoRow, IsRow}
+use Rattle.lobby_store.specs.declared.reading.StoreRow.{StoreRow}
+use Rattle.lobby_store.specs.declared.reading.StoreRow.TheVariants.{Account as AnAccount, Game as AGame}
+use Rattle.lobby_store.specs.Rows.{IsNoRow, IsRow}
 
 -- the fact of a record that is an account, or that is a game
 OfAccount : (Account → Type 0) → Record → Type 0
@@ -43,4 +43,4 @@ no_record pair none (AnAccount account) row = none (a.Account account) row.spell
 no_record pair none (AGame number game) row = none (a.Game game) row.spelled
 
 pub not_both : (b : Bool) → b ≡ true → not b ≡ true → ⊥
-not_both b yes no = let turned = ap not yes in cc
+not_both b so other = let turned = ap not so in cc

@@ -1,7 +1,7 @@
 use Rattle.std.proofs.Common.{List, ℕ, subst, sym, ap, ◌∙◌}
 use Rattle.edge_traits.specs.Keeper.{HasPut, HasRemoved}
-use Rattle.store_pairs.proofs.OrdersOut.{put_carries, removed_carries}
-use Rattle.store_pairs.proofs.carrying.carry_one.Goals as goal
+use Rattle.lobby_store.proofs.OrdersOut.{put_carries, removed_carries}
+use Rattle.lobby_store.proofs.carrying.carry_one.Goals as goal
 
 pub returns-in-Some-clause-carried : goal.returns-in-Some-clause-carried
 returns-in-Some-clause-carried g c =

@@ -16,7 +16,7 @@ use Rattle.edge_traits.specs.declared.keeper.Kept.{Kept}
 use Rattle.edge_traits.specs.declared.keeper.Kept.TheVariants.{Done, Failed, Memory}
 use Rattle.game_shelf.specs.Wanted.{Table as Records, table_with, with_order}
 use Rattle.game_shelf.specs.declared.order.Order.{Order}
-use Rattle.store_pairs.specs.Carrying.{Carries, CarriesOne, held}
+use Rattle.lobby_store.specs.Carrying.{Carries, CarriesOne, held}
 
 -- orders one after another
 pub table_with-append : (table : Records) (first rest : List Order) → table_with table (first ++ rest) ≡ table_with (table_with table first) rest

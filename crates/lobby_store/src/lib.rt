@@ -7,7 +7,9 @@
 #![tactic(auto)]
 
 mod carrying;
+mod laws;
 mod reading;
 
 pub use carrying::{Carried, carry_out};
+pub use laws::acts_lead_along;
 pub use reading::{StoreRow, read_row};

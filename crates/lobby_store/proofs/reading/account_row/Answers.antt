@@ -2,8 +2,8 @@ use Rattle.std.proofs.Common.{List, ℕ, Bool, not, true, sym, ap, ◌∙◌, re
 use Rattle.std.specs.Prelude.{bytes_eq}
 use Rattle.game_records.specs.Keys.{account_key}
 use Rattle.std.proofs.lemmas.Slice.Eq.{bytes_eq-Decides}
-use Rattle.store_pairs.proofs.RowsRead.{account_elsewhere, not_both}
-use Rattle.store_pairs.proofs.reading.account_row.Goals as goal
+use Rattle.lobby_store.proofs.RowsRead.{account_elsewhere, not_both}
+use Rattle.lobby_store.proofs.reading.account_row.Goals as goal
 
 pub returns-then-ne-clause-none : goal.returns-then-ne-clause-none
 returns-then-ne-clause-none c =

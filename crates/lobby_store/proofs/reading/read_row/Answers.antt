@@ -2,8 +2,8 @@ use Rattle.std.proofs.Common.{List, ℕ, Option, None, sym, ap, subst, ◌∙◌
 use Rattle.std.specs.Prelude.{IfNone}
 use Rattle.game_records.specs.Spelling.{IsSpelled}
 use Rattle.game_records.specs.declared.records.Record.{Record}
-use Rattle.store_pairs.proofs.RowsRead.{no_record}
-use Rattle.store_pairs.proofs.reading.read_row.Goals as goal
+use Rattle.lobby_store.proofs.RowsRead.{no_record}
+use Rattle.lobby_store.proofs.reading.read_row.Goals as goal
 
 pub returns-in-None-clause-none : goal.returns-in-None-clause-none
 returns-in-None-clause-none c =

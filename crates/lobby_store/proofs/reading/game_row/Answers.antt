@@ -1,6 +1,6 @@
 use Rattle.std.proofs.Common.{true, ◌≡◌}
-use Rattle.store_pairs.proofs.RowsRead.{game_not_replayed}
-use Rattle.store_pairs.proofs.reading.game_row.Goals as goal
+use Rattle.lobby_store.proofs.RowsRead.{game_not_replayed}
+use Rattle.lobby_store.proofs.reading.game_row.Goals as goal
 
 pub returns-then-not-branch-clause-none : goal.returns-then-not-branch-clause-none
 returns-then-not-branch-clause-none c =

@@ -2,9 +2,9 @@ use Rattle.std.proofs.Common.{List, take, sym, subst, ◌+◌, ◌++◌, ◌∙�
 use Rattle.std.proofs.lemmas.List.{take_more}
 use Rattle.game_shelf.specs.declared.order.Order.{Order}
 use Rattle.edge_traits.specs.declared.keeper.Kept.{Kept}
-use Rattle.store_pairs.specs.Carrying.{Carries, CarriesOne}
-use Rattle.store_pairs.proofs.OrdersOut.{carries_then}
-use Rattle.store_pairs.proofs.carrying.carry_out.Goals as goal
+use Rattle.lobby_store.specs.Carrying.{Carries, CarriesOne}
+use Rattle.lobby_store.proofs.OrdersOut.{carries_then}
+use Rattle.lobby_store.proofs.carrying.carry_out.Goals as goal
 
 pub loop-order-preserved : goal.loop-order-preserved
 loop-order-preserved g c =

@@ -1,2 +1,3 @@
 pub mod OrdersOut
 pub mod RowsRead
+pub mod LeadingAlong

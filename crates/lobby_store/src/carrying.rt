@@ -3,7 +3,7 @@ ghost use Rattle.std.specs.Prelude.{◌≡◌, ◌≤◌, length, take};
 ghost use Rattle.edge_traits.specs.Faults.{Rose};
 ghost use Rattle.edge_traits.specs.Keeper.{OnKeepFailed};
 ghost use Rattle.edge_traits.specs.declared.keeper.Kept.{Kept};
-ghost use Rattle.store_pairs.specs.Carrying.{Carries, CarriesOne};
+ghost use Rattle.lobby_store.specs.Carrying.{Carries, CarriesOne};
 
 use edge_traits::{Keeper, Kept};
 use game_shelf::Order;

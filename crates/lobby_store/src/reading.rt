@@ -2,7 +2,7 @@
 ghost use Rattle.std.specs.Prelude.{IfOk, IfSome, IfNone};
 ghost use Rattle.game_records.specs.Spelling.{IsSpelled};
 ghost use Rattle.game_records.specs.declared.records.Record.{Record};
-ghost use Rattle.store_pairs.specs.Rows.{IsNoRow, IsRow};
+ghost use Rattle.lobby_store.specs.Rows.{IsNoRow, IsRow};
 
 use edge_traits::Pair;
 use fics_words::{Account, NoMemory};
