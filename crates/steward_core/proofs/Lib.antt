@@ -1,1 +1,3 @@
-pub mod Clearing
+pub mod DesksCleared
+pub mod OrdersSaved
+pub mod OrdersTold
