@@ -1,5 +1,5 @@
 -- Each act of a lobby and each plan leads a store along.
-use Rattle.std.proofs.Common.{◌≡◌, ℕ, Bool, true, false, cond, List, [], ◌∷◌, ◌++◌, Option, None, Some, refl, sym, ap, subst, ◌∙◌, append-nil}
+use Rattle.std.proofs.Common.{◌≡◌, ℕ, Bool, true, false, cond, List, [], ◌∷◌, ◌++◌, Option, None, Some, refl, sym, ap, subst, ◌∙◌, append-nil, append_assoc}
 use Rattle.std.specs.Prelude.{bytes_eq, is_some}
 use Rattle.std.specs.List.{find}
 use Rattle.fics_words.specs.Effect.{Effect, NoneHolds, first_cause, unless}
@@ -18,7 +18,9 @@ use Rattle.lobby_state.specs.declared.acts.LobbyAct.TheVariants.{Enter, Register
 use Rattle.lobby_state.specs.declared.acts.LobbyReply.{LobbyReply}
 use Rattle.lobby_state.specs.Acts.{lobby_after, lobby_effect}
 use Rattle.lobby_state.specs.Lobby.{LobbyState, has_account}
-use Rattle.lobby_state.specs.WellFormed.{IsWellFormed}
+use Rattle.lobby_state.specs.declared.acts.Plan.{Plan}
+use Rattle.lobby_state.specs.declared.acts.Plan.TheVariants.{Start, Clear}
+use Rattle.lobby_state.specs.Plans.{committed}
 use Rattle.chess_model.specs.declared.variant.Terms.{Terms}
 use Rattle.seek_match.specs.declared.challenge.Challenge.{Challenge}
 use Rattle.lobby_state.specs.declared.member.Member.{Member}
@@ -167,3 +169,20 @@ leads_act lobby session act other =
     let effect = lobby_effect lobby session act in
     leads_unless (first_cause effect.causes) lobby effect.after
     (λ none. leads_after lobby session act other (none_holds effect.causes none))
+
+-- ---- plans
+
+pub leads_plan : (lobby : LobbyState) (plan : Plan) (is_cleared : Bool) → LeadsAlong lobby (committed lobby plan is_cleared)
+leads_plan lobby (Start desk serial terms seats) is_cleared = leads_same lobby _ (record { accounts = refl; games = refl; orders = refl })
+leads_plan lobby (Clear session desk serial) true = leads_same lobby _ (record { accounts = refl; games = refl; orders = refl })
+leads_plan lobby (Clear session desk serial) false = leads_same lobby _ (record { accounts = refl; games = refl; orders = refl })
+
+pub leads_then : (old mid new : LobbyState) → LeadsAlong old mid → LeadsAlong mid new → LeadsAlong old new
+leads_then old mid new p q = record {
+  agrees = λ table agreed. q.agrees table (p.agrees table agreed);
+  more = p.more ++ q.more;
+  orders = q.orders ∙ ap (λ (l : List Order). l ++ q.more) p.orders ∙ append_assoc old.shelf.orders p.more q.more;
+}
+
+pub leads_nowhere : (lobby : LobbyState) → LeadsAlong lobby lobby
+leads_nowhere lobby = leads_same lobby lobby (same_store lobby)

@@ -234,7 +234,7 @@ module _ {C : Type 0} (shows : C → ℕ → Bool) (hall : TableId) (clock : C) 
       entries = t.made.turn.entries;
       moment = t.made.moment;
       made_is = own_calls ∙ turn_made t.end pass t.mid t.made;
-      turn = t.made.turn.turn;
+      turn = t.made.turn.cleared;
     };
     turns = λ w. told_as door (λ tale. asked t.mid.made ≡ tale.quiets + 1) (λ tale. asked (calls_of 0 new.seen) ≡ tale.quiets + 1) (λ tale n. ap asked own_calls ∙ n) (asks_then t.end supply door pass t.mid k.turns t.made (sym t.supply ∙ whole w));
     whole_turns = λ w. subst (λ (l : Log). HasTurns 1 door l) (sym own_calls) (whole_then t.end supply door pass t.mid k.whole_turns t.made (sym t.supply ∙ whole w));

@@ -72,11 +72,11 @@ module _ (end : ClearingEnd) (old new : PassState) (turn : MadeTurn end old new)
   turn_made = turn.turn.grew.more
 
   pub turn_all : AreStewards old.made → AreStewards new.made
-  turn_all p = subst AreStewards (sym turn_made) (stewards_append old.made turn.turn.entries p (turn_stewards end turn.moment turn.turn.entries turn.turn.turn))
+  turn_all p = subst AreStewards (sym turn_made) (stewards_append old.made turn.turn.entries p (turn_stewards end turn.moment turn.turn.entries turn.turn.cleared))
 
 pub turn_asked : (old new : PassState) → MadeTurn Done old new → asked new.made ≡ asked old.made + 1
 turn_asked old new turn =
-    let once = (stewards_turn Done turn.moment turn.turn.entries turn.turn.turn).1 in
+    let once = (stewards_turn Done turn.moment turn.turn.entries turn.turn.cleared).1 in
     ap asked (turn_made Done old new turn) ∙ asked_append old.made turn.turn.entries ∙ ap (λ n. asked old.made + n) once
 
 -- ---- whole turns
@@ -85,7 +85,7 @@ turn_asked old new turn =
 pub turns_more : (door : Option DoorTale) (old new : PassState) → HasTurns 0 door old.made → MadeTurn Done old new → HasTurns 1 door new.made
 turns_more door old new t turn = (
   suc t.0,
-  (old.made, turn.turn.entries, turn.moment, t.1, turn.turn.turn, turn_made Done old new turn),
+  (old.made, turn.turn.entries, turn.moment, t.1, turn.turn.cleared, turn_made Done old new turn),
   told_as door (λ tale. t.0 ≡ tale.quiets + 0) (λ tale. suc t.0 ≡ tale.quiets + 1) (λ tale n. omega (arith, n)) t.2,
 )
 

@@ -1,3 +1,4 @@
 pub mod DesksCleared
 pub mod OrdersSaved
 pub mod OrdersTold
+pub mod StatesLead

@@ -47,4 +47,5 @@ pub record NoOthersSave (old new : RunnerState) : Type 0 where
 abbrev pub StaysAgreed : Option Table → Option Table → RunnerState → RunnerState → Type 0
 StaysAgreed (Some before) (Some after) old new =
     IsWhole old.opening → NoOthersSave old new → AgreesSeen before old → AgreesSeen after new
-StaysAgreed _ _ old new = ⊤
+StaysAgreed (Some before) None old new = ⊥
+StaysAgreed None after old new = ⊤
