@@ -49,18 +49,25 @@ fn move_of(word: &[u8]) -> Move {
     }
 }
 
-/// The half-move of a word.
-pub fn half_of(word: &str) -> Half {
-    let word = word.as_bytes();
-    let charge = if at(word, 5) == b'+' {
+fn board_of(word: &[u8]) -> u8 {
+    at(word, 0).wrapping_sub(b'0')
+}
+
+fn charge_of(word: &[u8]) -> Option<Charge> {
+    if at(word, 5) == b'+' {
         Some(SECOND)
     } else {
         None
-    };
+    }
+}
+
+/// The half-move of a word.
+pub fn half_of(word: &str) -> Half {
+    let word = word.as_bytes();
     Half {
-        board: at(word, 0).wrapping_sub(b'0'),
+        board: board_of(word),
         what: move_of(word),
-        charge,
+        charge: charge_of(word),
     }
 }
 
@@ -68,11 +75,31 @@ pub fn half_of(word: &str) -> Half {
 pub fn halves_of(alloc: Global, words: Halves, times: u16) -> Result<Listed<Half>, NoMemory> {
     let mut halves = Listed::new(alloc);
     for _time in 0..times {
-        for word in words {
-            halves.push(half_of(word))?;
-        }
+        push_each(&mut halves, words)?;
     }
     Ok(halves)
+}
+
+/// Puts the half-moves of words behind the others.
+pub fn push_each(halves: &mut Listed<Half>, words: Halves) -> Result<(), NoMemory> {
+    for word in words {
+        push(halves, word)?;
+    }
+    Ok(())
+}
+
+/// Puts the half-move of a word behind the others.
+fn push(halves: &mut Listed<Half>, word: &str) -> Result<(), NoMemory> {
+    let word = word.as_bytes();
+    let board = board_of(word);
+    let what = move_of(word);
+    let charge = charge_of(word);
+    halves.push(Half {
+        board,
+        what,
+        charge,
+    })?;
+    Ok(())
 }
 
 /// The names that are handles.

@@ -1,6 +1,6 @@
 //! The 1,200 half-moves of a board, and the one that isn't taken.
 
-use crate::games::{Game, Halves, half_of, halves_of, players, stored};
+use crate::games::{Game, Halves, halves_of, players, push_each, stored};
 use chess_model::Variant::{Bughouse, Chess};
 use fics_words::NoMemory;
 use linked_boards::replays;
@@ -27,9 +27,7 @@ const ROWS: &[(Game, u16, Halves, bool)] = &[
 /// Whether a row's game is played again.
 fn is_replayed(alloc: Global, game: Game, times: u16, behind: Halves) -> Result<bool, NoMemory> {
     let mut halves = halves_of(alloc, game.2, times)?;
-    for word in behind {
-        halves.push(half_of(word))?;
-    }
+    push_each(&mut halves, behind)?;
     let game = stored(alloc, game, players(game.1), halves)?;
     replays(alloc, &game)
 }

@@ -258,16 +258,20 @@ const CASES: &[Case] = &[
     },
 ];
 
-/// The half-move of a row, if it is one.
-fn half_of(made: &Made) -> Option<Half> {
-    let MoveWord::Coordinate { from, to, promo } = word_of(made.1.as_bytes())? else {
-        return None;
-    };
-    Some(Half {
+/// The half-move by two squares, if the text is one.
+fn move_of(text: &str) -> Option<Move> {
+    match word_of(text.as_bytes())? {
+        MoveWord::Coordinate { from, to, promo } => Some(Move::Plain { from, to, promo }),
+        _ => None,
+    }
+}
+
+fn half_of(made: &Made, what: Move) -> Half {
+    Half {
         board: made.0,
-        what: Move::Plain { from, to, promo },
+        what,
         charge: charge_of(made.2),
-    })
+    }
 }
 
 fn charge_of(moments: Option<(u64, u64)>) -> Option<Charge> {
@@ -283,11 +287,17 @@ fn charge_of(moments: Option<(u64, u64)>) -> Option<Charge> {
 fn halves_of(alloc: Global, made: &[Made]) -> Result<Listed<Half>, NoMemory> {
     let mut halves = Listed::new(alloc);
     for row in made {
-        if let Some(half) = half_of(row) {
-            halves.push(half)?;
-        }
+        add_half(&mut halves, row)?;
     }
     Ok(halves)
+}
+
+/// Adds the half-move of a row, if it is one.
+fn add_half(halves: &mut Listed<Half>, made: &Made) -> Result<(), NoMemory> {
+    let Some(what) = move_of(made.1) else {
+        return Ok(());
+    };
+    halves.push(half_of(made, what))
 }
 
 /// Whether that comes of a stored game at a desk.

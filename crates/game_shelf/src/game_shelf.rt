@@ -1,5 +1,6 @@
 //! The shelf, and the look-ups in it.
 ghost use Rattle.std.specs.Prelude.{◌≡◌, ◌≤◌, ◌&&◌, length, option_copied};
+ghost use Rattle.game_records.specs.Replays.{Replays};
 ghost use Rattle.game_shelf.specs.Numbers.{stored_game};
 ghost use Rattle.game_shelf.specs.Players.{has_player, is_of_both, least_of};
 ghost use Rattle.game_shelf.specs.Shelf.{most_stored};
@@ -78,7 +79,8 @@ impl Predicate<Shelved> for OfBoth {
 }
 
 impl GameShelf {
-    ghost use Rattle.std.specs.Prelude.{◌≡◌, ◌≤◌, IfOk, length, option_copied};
+    ghost use Rattle.std.specs.Prelude.{◌≡◌, ◌≤◌, IfOk, IfSome, length, option_copied};
+    ghost use Rattle.game_records.specs.Replays.{Replays};
     ghost use Rattle.game_shelf.specs.Shelf.{empty, most_stored};
     ghost use Rattle.game_shelf.specs.Facts.{IsShelf};
     ghost use Rattle.game_shelf.specs.Numbers.{stored_game};
@@ -122,7 +124,8 @@ impl GameShelf {
 
     /// The stored game of least number that has both handles among its players, if there is one.
     pub fn least_of(&self, one: HandleKey, other: HandleKey) -> Option<&Shelved>
-        ensures { option_copied result ≡ least_of self.now.games one other }
+        ensures row { option_copied result ≡ least_of self.now.games one other }
+        ensures replays { IfSome result (λ row. Replays row.now.game) }
     {
         find(self.games.rows(), &OfBoth { one, other })
     }

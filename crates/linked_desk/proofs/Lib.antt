@@ -21,6 +21,7 @@ pub mod KeepsResign
 pub mod KeepsShow
 pub mod KeepsStart
 pub mod KeepsWatch
+pub mod Leaving
 pub mod Opening
 pub mod Restored
 pub mod Resuming

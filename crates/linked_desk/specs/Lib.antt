@@ -10,6 +10,7 @@ pub mod Flag
 pub mod Hands
 pub mod Holds
 pub mod Leave
+pub mod LeaveLaws
 pub mod Make
 pub mod OfferLaws
 pub mod Offering

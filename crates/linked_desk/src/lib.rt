@@ -24,6 +24,7 @@ mod game;
 mod hands;
 mod laws;
 mod leave;
+mod leave_laws;
 mod make;
 mod occasion;
 mod offer_laws;
@@ -50,6 +51,7 @@ pub use ended::Ended;
 pub use laws::{
     acts_keep_the_game, acts_keep_the_players, boards_are_known_by_their_games, men_stay_whole,
 };
+pub use leave_laws::leaving_adjourns_or_loses;
 pub use observer_feed::Cursor;
 pub use offer_book::Offer;
 pub use offer_laws::half_moves_clear_offers;

@@ -1,5 +1,5 @@
 -- What a Clear keeps: the plan of it, and the carrying out.
-use Rattle.std.proofs.Common.{◌≡◌, ◌≢◌, ℕ, ◌-◌, ◌≤◌, Bool, true, false, eqb, List, Option, None, Some, map, slice_get, refl, ap, ◌∙◌, arith, sym, subst}
+use Rattle.std.proofs.Common.{◌≡◌, ◌≢◌, ℕ, ◌-◌, ◌<◌, ◌≤◌, Bool, true, false, eqb, List, length, Option, None, Some, map, slice_get, refl, ap, ◌∙◌, arith, sym, subst}
 use Rattle.std.proofs.Math.ListN.{set}
 use Rattle.std.proofs.lemmas.Bool.{eqb-false, not-true}
 use Rattle.std.proofs.lemmas.List.{length-set}
@@ -12,12 +12,21 @@ use Rattle.simul_control.specs.declared.place.Place.{Place}
 use Rattle.lobby_state.specs.Clear.{clear_effect, off_desk, freed, cleared}
 use Rattle.lobby_state.specs.Keeps.{KeepsPlan, KeepsPlanned}
 use Rattle.lobby_state.specs.Desks.{IsDesk}
-use Rattle.lobby_state.specs.Lobby.{LobbyState, is_session}
+use Rattle.lobby_state.specs.Lobby.{LobbyState, game_at, game_in, is_session}
 use Rattle.lobby_state.specs.Places.{is_elsewhere}
-use Rattle.lobby_state.specs.Plans.{committed, game_after}
+use Rattle.lobby_state.specs.Plans.{committed, game_after, put_away}
 use Rattle.lobby_state.specs.WellFormed.{IsWellFormed, IsSeatOf, IsStarted, HasSeats}
 use Rattle.lobby_state.proofs.Lists.{map-map_same, All-map_each, All-filter_passing, get-set_other, get-set_same}
-use Rattle.lobby_state.proofs.DesksUsed.{desks_used-free}
+use Rattle.std.specs.Prelude.{IfSome, IsSome}
+use Rattle.game_records.specs.Replays.{Replays}
+use Rattle.game_records.specs.declared.stored_game.StoredGame.{StoredGame}
+use Rattle.game_shelf.specs.Numbers.{next_number}
+use Rattle.game_shelf.specs.Shelf.{most_stored, shelved}
+use Rattle.game_shelf.specs.declared.shelved.Shelved.{Shelved}
+use Rattle.game_shelf.proofs.Keeping.{IsShelf-shelved, length-with}
+use Rattle.game_shelf.proofs.Rising.{next_number-least}
+use Rattle.lobby_state.specs.Reserve.{CanShelve}
+use Rattle.lobby_state.proofs.DesksUsed.{desks_used-free, desks_used-freed}
 use Rattle.lobby_state.proofs.WellFormed.{kept, member_changed}
 
 pub keeps_clear : (lobby : LobbyState) (session desk serial : ℕ) → IsDesk desk → KeepsPlanned lobby (clear_effect lobby session desk serial)
@@ -61,32 +70,86 @@ formed_cleared lobby desk is_desk h =
     lobby.members h.places) h.shelf
     (record { few = h.counted.few; room = omega (arith, fewer, room); orders = omega (arith, fewer, orders) }) h
 
-formed_by : (lobby : LobbyState) (session desk serial : ℕ) → IsDesk desk → (is_cleared : Bool) → IsWellFormed lobby
-    → IsWellFormed (committed lobby (Clear session desk serial) is_cleared)
-formed_by lobby session desk serial is_desk true h = formed_cleared lobby desk is_desk h
-formed_by lobby session desk serial is_desk false h = formed_freed lobby session desk h
+-- what a desk in use holds
+used_game : (o : Option (Option Game)) → IsSome (game_in o) → (game : Game) × (o ≡ Some (Some game))
+used_game None there = absurd (let bad : false ≡ true = there in cc)
+used_game (Some None) there = absurd (let bad : false ≡ true = there in cc)
+used_game (Some (Some game)) there = (game, refl)
 
-others_by : (lobby : LobbyState) (session desk serial : ℕ) → IsDesk desk → (is_cleared : Bool) (number : ℕ) → 1 ≤ number → Some desk ≢ Some number
-    → slice_get (committed lobby (Clear session desk serial) is_cleared).games (number - 1) ≡ slice_get lobby.games (number - 1)
-others_by lobby session desk serial is_desk true number low other =
-    get-set_other lobby.games (desk - 1) (number - 1) None (λ e. other (ap Some (omega (arith, is_desk))))
-others_by lobby session desk serial is_desk false number low other = refl
+-- the desk's game goes on the shelf
+formed_shelved : (lobby : LobbyState) (desk : ℕ) (game : StoredGame) → IsDesk desk → Replays game → IsSome (game_at lobby desk) → IsWellFormed lobby
+    → IsWellFormed (record (cleared lobby desk) { shelf = shelved lobby.shelf game })
+formed_shelved lobby desk game is_desk replays there h =
+    let left = formed_cleared lobby desk is_desk h in
+    let used = used_game (slice_get lobby.games (desk - 1)) there in
+    let fewer = desks_used-freed lobby.games (desk - 1) used.0 used.1 in
+    let sound = h.shelf.sound in
+    let least = next_number-least lobby.shelf.games sound.numbers in
+    let new : Shelved = record { number = next_number lobby.shelf.games; game = game } in
+    let long = length-with new 0 lobby.shelf.games least.unused sound.numbers in
+    let room = h.counted.room in
+    let orders = h.counted.orders in
+    record {
+      accounts = left.accounts;
+      hall = left.hall;
+      sessions = left.sessions;
+      handles = left.handles;
+      challenges = left.challenges;
+      seeks = left.seeks;
+      partners = left.partners;
+      games = left.games;
+      serials = left.serials;
+      places = left.places;
+      shelf = record { sound = IsShelf-shelved lobby.shelf game (omega (arith, fewer, room)) replays sound; members = left.shelf.members };
+      counted = record { few = h.counted.few; room = omega (arith, fewer, long, room); orders = omega (arith, fewer, orders) };
+    }
+
+formed_by : (lobby : LobbyState) (session desk serial : ℕ) → IsDesk desk → (game : Option StoredGame) (is_cleared : Bool)
+    → CanShelve lobby (Clear session desk serial) game → IsWellFormed lobby → IsWellFormed (committed lobby (Clear session desk serial) game is_cleared)
+formed_by lobby session desk serial is_desk None true can h = formed_cleared lobby desk is_desk h
+formed_by lobby session desk serial is_desk (Some game) true can h = formed_shelved lobby desk game is_desk can.0 can.1 h
+formed_by lobby session desk serial is_desk game false can h = formed_freed lobby session desk h
+
+-- the games of the lobby don't ask whether one goes on the shelf
+games-put_away : (lobby : LobbyState) (desk : ℕ) (game : Option StoredGame) → (put_away lobby desk game).games ≡ set lobby.games (desk - 1) None
+games-put_away lobby desk None = refl
+games-put_away lobby desk (Some game) = refl
+
+others_by : (lobby : LobbyState) (session desk serial : ℕ) → IsDesk desk → (game : Option StoredGame) (is_cleared : Bool) (number : ℕ) → 1 ≤ number
+    → Some desk ≢ Some number
+    → slice_get (committed lobby (Clear session desk serial) game is_cleared).games (number - 1) ≡ slice_get lobby.games (number - 1)
+others_by lobby session desk serial is_desk game true number low other =
+    ap (λ games. slice_get games (number - 1)) (games-put_away lobby desk game)
+    ∙ get-set_other lobby.games (desk - 1) (number - 1) None (λ e. other (ap Some (omega (arith, is_desk))))
+others_by lobby session desk serial is_desk game false number low other = refl
 
 same_number : (one another : ℕ) → Some one ≡ Some another → one ≡ another
 same_number one another e = cc
 
-own_by : (lobby : LobbyState) (session desk serial : ℕ) (is_cleared : Bool) (number : ℕ) (before : Option Game) → desk ≡ number
+own_by : (lobby : LobbyState) (session desk serial : ℕ) (game : Option StoredGame) (is_cleared : Bool) (number : ℕ) (before : Option Game) → desk ≡ number
     → slice_get lobby.games (number - 1) ≡ Some before
-    → slice_get (committed lobby (Clear session desk serial) is_cleared).games (number - 1) ≡ Some (game_after (Clear session desk serial) is_cleared before)
-own_by lobby session desk serial true number before same there =
-    subst (λ (n : ℕ). slice_get (set lobby.games (n - 1) None) (number - 1) ≡ Some None) (sym same)
+    → slice_get (committed lobby (Clear session desk serial) game is_cleared).games (number - 1)
+    ≡ Some (game_after (Clear session desk serial) is_cleared before)
+own_by lobby session desk serial game true number before same there =
+    ap (λ games. slice_get games (number - 1)) (games-put_away lobby desk game)
+    ∙ subst (λ (n : ℕ). slice_get (set lobby.games (n - 1) None) (number - 1) ≡ Some None) (sym same)
     (get-set_same lobby.games (number - 1) None (slice_get_within lobby.games (number - 1) before there))
-own_by lobby session desk serial false number before same there = there
+own_by lobby session desk serial game false number before same there = there
 
 pub keeps_cleared : (lobby : LobbyState) (session desk serial : ℕ) → IsDesk desk → KeepsPlan lobby (Clear session desk serial)
 keeps_cleared lobby session desk serial is_desk = record {
   is_desk = is_desk;
   formed = formed_by lobby session desk serial is_desk;
-  own = λ is_cleared number before e there. own_by lobby session desk serial is_cleared number before (same_number desk number e) there;
+  own = λ game is_cleared number before e there. own_by lobby session desk serial game is_cleared number before (same_number desk number e) there;
   others = others_by lobby session desk serial is_desk;
 }
+
+-- there is a place on the shelf for the game of the desk that is cleared
+pub place-left : (lobby : LobbyState) (session desk serial : ℕ) (game : Option StoredGame) → CanShelve lobby (Clear session desk serial) game
+    → IsWellFormed lobby → IfSome game (λ _. length lobby.shelf.games < most_stored)
+place-left lobby session desk serial None can h = tt
+place-left lobby session desk serial (Some game) can h =
+    let used = used_game (slice_get lobby.games (desk - 1)) can.1 in
+    let fewer = desks_used-freed lobby.games (desk - 1) used.0 used.1 in
+    let room = h.counted.room in
+    omega (arith, fewer, room)

@@ -4,19 +4,23 @@ use Rattle.std.specs.Prelude.{Bool, IfOk, IfSome}
 use Rattle.fics_words.specs.Effect.{answered, first_cause}
 use Rattle.fics_words.specs.declared.refusal.Refusal.{Refusal}
 use Rattle.lobby_state.specs.declared.acts.PairAct.{PairAct}
-use Rattle.lobby_state.specs.declared.acts.PairAct.TheVariants.{Accept, Play, Clear}
+use Rattle.lobby_state.specs.declared.acts.PairAct.TheVariants.{Accept, Play, Clear, Resume}
 use Rattle.lobby_state.specs.declared.acts.Plan.{Plan}
-use Rattle.lobby_state.specs.declared.acts.Plan.TheVariants.{Start, Clear as Clearing}
+use Rattle.lobby_state.specs.declared.acts.Plan.TheVariants.{Start, Clear as Clearing, Resume as Resuming, Ask}
 use Rattle.lobby_state.specs.Keeps.{KeepsPlan, KeepsPlanned}
 use Rattle.lobby_state.specs.Desks.{IsDesk}
 use Rattle.lobby_state.specs.Lobby.{LobbyState}
 use Rattle.lobby_state.specs.Planned.{IsPlanned}
 use Rattle.lobby_state.specs.Plans.{NamesDesk, committed, desk_of, plan_effect, plan_of}
+use Rattle.game_records.specs.declared.stored_game.StoredGame.{StoredGame}
+use Rattle.lobby_state.specs.Reserve.{CanShelve}
 use Rattle.lobby_state.specs.WellFormed.{IsWellFormed}
 use Rattle.lobby_state.proofs.Causes.{none_holds}
 use Rattle.lobby_state.proofs.KeepsAccept.{keeps_accept}
 use Rattle.lobby_state.proofs.KeepsClear.{keeps_clear, keeps_cleared}
 use Rattle.lobby_state.proofs.KeepsPlay.{keeps_play}
+use Rattle.lobby_state.proofs.KeepsResume.{keeps_resume}
+use Rattle.lobby_state.proofs.KeepsResumed.{keeps_asked, keeps_resumed}
 use Rattle.lobby_state.proofs.KeepsStart.{keeps_started}
 
 -- the table: what each pair act keeps
@@ -24,11 +28,14 @@ pub keeps_pair : (lobby : LobbyState) (session : ℕ) (act : PairAct) → NamesD
 keeps_pair lobby session (Accept name) names = keeps_accept lobby session name
 keeps_pair lobby session (Play number) names = keeps_play lobby session number
 keeps_pair lobby session (Clear desk serial) names = keeps_clear lobby session desk serial names
+keeps_pair lobby session (Resume name) names = keeps_resume lobby session name
 
 -- and what each plan keeps
 pub keeps_plan : (lobby : LobbyState) (plan : Plan) → IsPlanned lobby plan → KeepsPlan lobby plan
 keeps_plan lobby (Start desk serial terms seats) can = keeps_started lobby desk serial terms seats can
 keeps_plan lobby (Clearing session desk serial) is_desk = keeps_cleared lobby session desk serial is_desk
+keeps_plan lobby (Resuming desk serial number terms seats) can = keeps_resumed lobby desk serial number terms seats can
+keeps_plan lobby (Ask from to number) can = keeps_asked lobby from to number can
 
 planned_if : (lobby : LobbyState) (refused : Option Refusal) (plan : Plan) → (refused ≡ None → IsPlanned lobby plan)
     → IfOk (answered refused plan) (IsPlanned lobby)
@@ -56,6 +63,6 @@ IfOk-desk_of lobby (Ok plan) can = desk_of-is lobby plan can
 IfOk-desk_of lobby (Err cause) can = tt
 
 -- a lobby in which a plan was carried out is well-formed
-pub IsWellFormed-committed : (lobby : LobbyState) (plan : Plan) (is_cleared : Bool) → IsPlanned lobby plan → IsWellFormed lobby
-    → IsWellFormed (committed lobby plan is_cleared)
-IsWellFormed-committed lobby plan is_cleared can h = (keeps_plan lobby plan can).formed is_cleared h
+pub IsWellFormed-committed : (lobby : LobbyState) (plan : Plan) (game : Option StoredGame) (is_cleared : Bool) → IsPlanned lobby plan
+    → CanShelve lobby plan game → IsWellFormed lobby → IsWellFormed (committed lobby plan game is_cleared)
+IsWellFormed-committed lobby plan game is_cleared can shelving h = (keeps_plan lobby plan can).formed game is_cleared shelving h

@@ -26,11 +26,12 @@ use Rattle.lobby_state.specs.Places.{PlaceList, is_full}
 use Rattle.lobby_state.specs.Pairing.{needs_partners}
 use Rattle.lobby_state.specs.Planned.{CanStart, FitsVariant}
 use Rattle.lobby_state.specs.Start.{in_seat, is_by_seated, is_settled, seated}
-use Rattle.lobby_state.specs.WellFormed.{IsWellFormed, IsSeatOf, IsStarted, HasSeats, sessions_of}
+use Rattle.lobby_state.specs.WellFormed.{AreCounted, IsShelfOf, IsWellFormed, IsSeatOf, IsStarted, HasSeats, sessions_of}
 use Rattle.lobby_state.proofs.ChallengeRows.{AreChallengesOf-filter}
 use Rattle.lobby_state.proofs.First.{position-within, find-found}
 use Rattle.lobby_state.proofs.Lists.{map-map_same, All-map_each, find-passes, get-set_same, get-set_other, get_inside}
-use Rattle.game_shelf.specs.Shelf.{is_by_seated as asks_seated}
+use Rattle.game_shelf.specs.Shelf.{ShelfState, is_by_seated as asks_seated}
+use Rattle.lobby_state.specs.Terms.{AreTerms}
 use Rattle.lobby_state.proofs.DesksUsed.{desks_used-taken}
 use Rattle.lobby_state.proofs.WellFormed.{kept, resumes_gone, seeks_gone}
 
@@ -108,52 +109,62 @@ in_seat_name : (desk serial : ℕ) (number : Option ℕ) (m : Member) → (in_se
 in_seat_name desk serial None m = refl
 in_seat_name desk serial (Some number) m = refl
 
-formed_seated : (lobby : LobbyState) (desk serial : ℕ) (terms : Terms) (seats : Seats) → CanStart lobby desk serial terms seats
-    → IsWellFormed lobby → IsWellFormed (seated lobby desk serial terms seats)
-formed_seated lobby desk serial terms seats can h =
+-- a game starts at a free desk, with this shelf
+pub formed_at : (lobby : LobbyState) (shelf : ShelfState) (desk serial : ℕ) (terms : Terms) (seats : Seats) → IsDesk desk
+    → slice_get lobby.games (desk - 1) ≡ Some None → serial ≡ lobby.started + 1 → AreTerms terms → FitsVariant terms.variant seats
+    → IsShelfOf (sessions_of lobby.members) shelf
+    → AreCounted lobby.accounts (set lobby.games (desk - 1) (Some (record { serial = serial; terms = terms; seats = seats }))) serial shelf
+    → IsWellFormed lobby → IsWellFormed (seated (record lobby { shelf = shelf }) desk serial terms seats)
+formed_at lobby shelf desk serial terms seats is_desk is_free is_next are_terms fits stored counted h =
     let game : Game = record { serial = serial; terms = terms; seats = seats } in
     let games = set lobby.games (desk - 1) (Some game) in
     let sit : Member → Member = λ m. in_seat desk serial (seat_number m.session (seat_list seats)) m in
-    let inside : desk - 1 < length lobby.games = slice_get_within lobby.games (desk - 1) None can.is_free in
+    let inside : desk - 1 < length lobby.games = slice_get_within lobby.games (desk - 1) None is_free in
     let in_use = get-set_same lobby.games (desk - 1) (Some game) inside in
     let rising : All (IsStarted serial) lobby.games =
-    subst (λ (n : ℕ). All (IsStarted n) lobby.games) (sym can.is_next) (All-weaker (IsStarted lobby.started) (IsStarted (lobby.started + 1)) (IsStarted-later lobby.started) lobby.games h.serials) in
+    subst (λ (n : ℕ). All (IsStarted n) lobby.games) (sym is_next) (All-weaker (IsStarted lobby.started) (IsStarted (lobby.started + 1)) (IsStarted-later lobby.started) lobby.games h.serials) in
     let new : IsStarted serial (Some game) = record {
-      positive = omega (arith, can.is_next);
+      positive = omega (arith, is_next);
       given_out = omega arith;
-      terms = can.are_terms;
-      boards = boards_by terms.variant seats can.boards;
+      terms = are_terms;
+      boards = boards_by terms.variant seats fits;
     } in
     let others : LobbyState = record lobby {
       members = map sit lobby.members;
       challenges = filter (λ c. not (is_settled lobby.members seats c)) lobby.challenges;
       games = games;
       started = serial;
+      shelf = shelf;
     } in
-    let more = desks_used-taken lobby.games (desk - 1) game can.is_free in
-    let room = can.room in
-    let few = can.few in
-    let next = can.is_next in
-    let orders = h.counted.orders in
     let left : LobbyState = record others { seeks = filter (λ seek. not (is_by_seated seats seek)) lobby.seeks } in
     resumes_gone left (λ request. not (asks_seated seats request))
     (seeks_gone others (λ seek. not (is_by_seated seats seek))
-    (kept lobby (map sit lobby.members) (filter (λ c. not (is_settled lobby.members seats c)) lobby.challenges) games serial lobby.shelf
+    (kept lobby (map sit lobby.members) (filter (λ c. not (is_settled lobby.members seats c)) lobby.challenges) games serial shelf
     (map-map_same (λ m. m.session) sit (λ m. in_seat_session desk serial (seat_number m.session (seat_list seats)) m) lobby.members)
     (map-map_same (λ m. key_of m.name) sit (λ m. ap key_of (in_seat_name desk serial (seat_number m.session (seat_list seats)) m)) lobby.members)
     (AreChallengesOf-filter (sessions_of lobby.members) (λ c. not (is_settled lobby.members seats c)) lobby.challenges h.challenges)
     (length-set lobby.games (desk - 1) (Some game) ∙ h.games)
     (All-set (IsStarted serial) lobby.games (desk - 1) (Some game) new rising)
     (All-map_each (HasSeats lobby.games) (HasSeats games) sit
-    (λ m has. HasSeats-in_seat games desk serial terms seats m (seat_number m.session (seat_list seats)) can.is_desk in_use refl
-    (All-weaker (IsSeatOf lobby.games m.session) (IsSeatOf games m.session) (λ p. IsSeatOf-started lobby.games (desk - 1) (Some game) m.session p can.is_free) m.places.rows has))
-    lobby.members h.places) h.shelf
-    (record { few = omega (arith, few, next); room = omega (arith, more, room); orders = omega (arith, more, next, orders) }) h))
+    (λ m has. HasSeats-in_seat games desk serial terms seats m (seat_number m.session (seat_list seats)) is_desk in_use refl
+    (All-weaker (IsSeatOf lobby.games m.session) (IsSeatOf games m.session) (λ p. IsSeatOf-started lobby.games (desk - 1) (Some game) m.session p is_free) m.places.rows has))
+    lobby.members h.places) stored counted h))
 
-same_number : (one another : ℕ) → Some one ≡ Some another → one ≡ another
+formed_seated : (lobby : LobbyState) (desk serial : ℕ) (terms : Terms) (seats : Seats) → CanStart lobby desk serial terms seats
+    → IsWellFormed lobby → IsWellFormed (seated lobby desk serial terms seats)
+formed_seated lobby desk serial terms seats can h =
+    let more = desks_used-taken lobby.games (desk - 1) (record { serial = serial; terms = terms; seats = seats }) can.is_free in
+    let room = can.room in
+    let few = can.few in
+    let next = can.is_next in
+    let orders = h.counted.orders in
+    formed_at lobby lobby.shelf desk serial terms seats can.is_desk can.is_free can.is_next can.are_terms can.boards h.shelf
+    (record { few = omega (arith, few, next); room = omega (arith, more, room); orders = omega (arith, more, next, orders) }) h
+
+pub same_number : (one another : ℕ) → Some one ≡ Some another → one ≡ another
 same_number one another e = cc
 
-own_started : (lobby : LobbyState) (desk number : ℕ) (game : Game) (before : Option Game) → desk ≡ number → slice_get lobby.games (number - 1) ≡ Some before
+pub own_started : (lobby : LobbyState) (desk number : ℕ) (game : Game) (before : Option Game) → desk ≡ number → slice_get lobby.games (number - 1) ≡ Some before
     → slice_get (set lobby.games (desk - 1) (Some game)) (number - 1) ≡ Some (Some game)
 own_started lobby desk number game before same there =
     subst (λ (n : ℕ). slice_get (set lobby.games (n - 1) (Some game)) (number - 1) ≡ Some (Some game)) (sym same)
@@ -163,10 +174,10 @@ pub keeps_started : (lobby : LobbyState) (desk serial : ℕ) (terms : Terms) (se
     → KeepsPlan lobby (Start desk serial terms seats)
 keeps_started lobby desk serial terms seats can = record {
   is_desk = can.is_desk;
-  formed = λ _ h. formed_seated lobby desk serial terms seats can h;
-  own = λ _ number before e there.
+  formed = λ _ _ _ h. formed_seated lobby desk serial terms seats can h;
+  own = λ _ _ number before e there.
       own_started lobby desk number (record { serial = serial; terms = terms; seats = seats }) before (same_number desk number e) there;
-  others = λ _ number low other.
+  others = λ _ _ number low other.
       let d = can.is_desk in
       get-set_other lobby.games (desk - 1) (number - 1) (Some (record { serial = serial; terms = terms; seats = seats }))
       (λ e. other (ap Some (omega (arith, d))));

@@ -59,6 +59,9 @@ pub mod KeepsAccept
 pub mod KeepsPlay
 pub mod KeepingAway
 pub mod KeepsStart
+pub mod KeepsStoring
+pub mod KeepsResumed
+pub mod KeepsResume
 pub mod KeepsClear
 pub mod KeepsPlans
 pub mod Meeting

@@ -1,6 +1,6 @@
 -- The shelf of a lobby: its requests are by members, and the counts of games, orders and places.
-use Rattle.std.proofs.Common.{◌≡◌, ℕ, ◌+◌, ◌<◌, ◌≤◌, Bool, not, eqb, List, [], ◌∷◌, ◌++◌, Option, None, Some, length, filter, length-append, refl, sym, arith}
-use Rattle.std.specs.Prelude.{All, Contains}
+use Rattle.std.proofs.Common.{◌≡◌, ℕ, ◌+◌, Bool, not, eqb, List, [], ◌∷◌, ◌++◌, Option, filter, length-append, arith}
+use Rattle.std.specs.Prelude.{Contains}
 use Rattle.std.proofs.lemmas.List.Elements.{All-filter, All-weaker}
 use Rattle.fics_words.specs.declared.account.Account.{Account}
 use Rattle.game_shelf.specs.Shelf.{ShelfState, account_order, ordered, without_requests}

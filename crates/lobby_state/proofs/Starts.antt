@@ -35,7 +35,7 @@ none_there None e = refl
 none_there (Some x) e = cc
 
 -- the slot that was found is free
-free-is : (games : List (Option Game)) (slot : ℕ) → position is_none games ≡ Some slot → slice_get games slot ≡ Some None
+pub free-is : (games : List (Option Game)) (slot : ℕ) → position is_none games ≡ Some slot → slice_get games slot ≡ Some None
 free-is games slot e =
     let item = get_inside games slot (position-within is_none games slot e) in
     let passes = find-passes is_none games item.0 (find-found is_none games slot e ∙ item.1) in
@@ -72,10 +72,10 @@ inside_some a b e = cc
 -- ---- members who are found and differ
 
 -- the member is the one of its session
-abbrev IsThere : LobbyState → Member → Type 0
+abbrev pub IsThere : LobbyState → Member → Type 0
 IsThere lobby member = member_of lobby member.session ≡ Some member
 
-found_there : (lobby : LobbyState) (session : ℕ) (member : Member) → member_of lobby session ≡ Some member → (member.session ≡ session) × IsThere lobby member
+pub found_there : (lobby : LobbyState) (session : ℕ) (member : Member) → member_of lobby session ≡ Some member → (member.session ≡ session) × IsThere lobby member
 found_there lobby session member found =
     let own : member.session ≡ session = eqb-true _ _ (find-passes (is_session session) lobby.members member found) in
     (own, subst (λ (s : ℕ). member_of lobby s ≡ Some member) (sym own) found)
@@ -84,14 +84,14 @@ member_there : (lobby : LobbyState) (member : Member) → IsThere lobby member �
 member_there lobby member there = find-contained (λ (m : Member). m.session) (is_session member.session) lobby.members member there
 
 -- two members are two players
-record Apart (one another : Member) : Type 0 where
-  sessions : one.session ≢ another.session
-  handles : key_of one.name ≢ key_of another.name
+pub record Apart (one another : Member) : Type 0 where
+  pub sessions : one.session ≢ another.session
+  pub handles : key_of one.name ≢ key_of another.name
 
 turned : (one another : Member) → Apart one another → Apart another one
 turned one another apart = record { sessions = λ e. apart.sessions (sym e); handles = λ e. apart.handles (sym e) }
 
-members_apart : (lobby : LobbyState) (one another : Member) → IsThere lobby one → IsThere lobby another → one.session ≢ another.session
+pub members_apart : (lobby : LobbyState) (one another : Member) → IsThere lobby one → IsThere lobby another → one.session ≢ another.session
     → IsWellFormed lobby → Apart one another
 members_apart lobby one another here there differ h = record {
   sessions = differ;
@@ -100,22 +100,22 @@ members_apart lobby one another here there differ h = record {
 
 -- ---- lists of two and of four
 
-pairs_of_two : {X : Type 0} (R : X → X → Type 0) (a b : X) → R a b → AllPairs R (a ∷ b ∷ [])
+pub pairs_of_two : {X : Type 0} (R : X → X → Type 0) (a b : X) → R a b → AllPairs R (a ∷ b ∷ [])
 pairs_of_two R a b ab zero zero d before inside = absurd (omega arith)
 pairs_of_two R a b ab zero (suc zero) d before inside = ab
 pairs_of_two R a b ab zero (suc (suc j)) d before inside = absurd (omega arith)
 pairs_of_two R a b ab (suc i) j d before inside = absurd (omega arith)
 
-pairs_of_four : {X : Type 0} (R : X → X → Type 0) (a b c d : X) → R a b → R a c → R a d → R b c → R b d → R c d → AllPairs R (a ∷ b ∷ c ∷ d ∷ [])
+pub pairs_of_four : {X : Type 0} (R : X → X → Type 0) (a b c d : X) → R a b → R a c → R a d → R b c → R b d → R c d → AllPairs R (a ∷ b ∷ c ∷ d ∷ [])
 pairs_of_four R a b c d ab ac ad bc bd cd =
     AllPairs-cons R a (b ∷ c ∷ d ∷ [])
     (All-cons (R a) b (c ∷ d ∷ []) ab (All-cons (R a) c (d ∷ []) ac (All-cons (R a) d [] ad (All-nil (R a)))))
     (AllPairs-cons R b (c ∷ d ∷ []) (All-cons (R b) c (d ∷ []) bc (All-cons (R b) d [] bd (All-nil (R b)))) (pairs_of_two R c d cd))
 
-all_of_two : {X : Type 0} (P : X → Type 0) (a b : X) → P a → P b → All P (a ∷ b ∷ [])
+pub all_of_two : {X : Type 0} (P : X → Type 0) (a b : X) → P a → P b → All P (a ∷ b ∷ [])
 all_of_two P a b ha hb = All-cons P a (b ∷ []) ha (All-cons P b [] hb (All-nil P))
 
-all_of_four : {X : Type 0} (P : X → Type 0) (a b c d : X) → P a → P b → P c → P d → All P (a ∷ b ∷ c ∷ d ∷ [])
+pub all_of_four : {X : Type 0} (P : X → Type 0) (a b c d : X) → P a → P b → P c → P d → All P (a ∷ b ∷ c ∷ d ∷ [])
 all_of_four P a b c d ha hb hc hd = All-cons P a (b ∷ c ∷ d ∷ []) ha (All-cons P b (c ∷ d ∷ []) hb (all_of_two P c d hc hd))
 
 -- ---- the seats of two and of four members

@@ -16,7 +16,7 @@ use Rattle.login_handles.specs.declared.check.Check.TheVariants.{Free, Right, Wr
 use Rattle.lobby_state.specs.declared.acts.LobbyAct.{LobbyAct}
 use Rattle.lobby_state.specs.declared.acts.LobbyAct.TheVariants.{Enter, Register, Match, Unpost, Sought, Who, Where, Fetch, Going, Bye, InUse, Var, Tell, Shout, Decline, Withdraw, Post, Channel, TellChannel, InChannel, Partner, Ptell, List as OnList, Pending, Games, Find, FindGame, SimOpen, SimNext, SimPrev, GoBoard, Stored, Orders, Saved}
 use Rattle.lobby_state.specs.declared.acts.Plan.{Plan}
-use Rattle.lobby_state.specs.declared.acts.Plan.TheVariants.{Start, Clear}
+use Rattle.lobby_state.specs.declared.acts.Plan.TheVariants.{Start, Clear, Resume, Ask}
 use Rattle.seek_match.specs.declared.challenge.Challenge.{Challenge}
 use Rattle.lobby_state.specs.declared.member.Member.{Member}
 use Rattle.lobby_state.specs.declared.name_list.WhichList.{WhichList}
@@ -36,7 +36,10 @@ use Rattle.lobby_state.specs.NameList.{listing, with_names_on}
 use Rattle.lobby_state.specs.OwnPlaces.{placed, with_places}
 use Rattle.lobby_state.specs.Partner.{partner_effect, partnered, single}
 use Rattle.lobby_state.specs.Places.{PlaceList}
+use Rattle.game_records.specs.declared.stored_game.StoredGame.{StoredGame}
 use Rattle.lobby_state.specs.Plans.{committed}
+use Rattle.fics_words.specs.declared.seats.Seats.{Seats}
+use Rattle.lobby_state.specs.Resumed.{ask_line}
 use Rattle.lobby_state.specs.Post.{posted}
 use Rattle.lobby_state.specs.Ptell.{confided}
 use Rattle.lobby_state.specs.Registration.{registered}
@@ -351,12 +354,22 @@ seat_lines : (desk serial : ℕ) (number : Option ℕ) (m : Member) → Longer m
 seat_lines desk serial None m = same_lines m m refl refl
 seat_lines desk serial (Some number) m = same_lines m (in_seat desk serial (Some number) m) refl refl
 
-pub kept_plan : (lobby : LobbyState) (session : ℕ) (plan : Plan) (is_cleared : Bool)
-    → BeginsWith (waiting_of lobby session) (waiting_of (committed lobby plan is_cleared) session)
-kept_plan lobby session (Start desk serial terms seats) is_cleared =
+kept_start : (lobby : LobbyState) (session desk serial : ℕ) (seats : Seats)
+    → Kept session lobby.members (map (λ m. in_seat desk serial (seat_number m.session (seat_list seats)) m) lobby.members)
+kept_start lobby session desk serial seats =
     kept_map (λ m. in_seat desk serial (seat_number m.session (seat_list seats)) m)
     (λ m. seat_lines desk serial (seat_number m.session (seat_list seats)) m) session lobby.members
-kept_plan lobby session (Clear by desk serial) true =
-    kept_map (off_desk desk) (λ m. same_lines m (off_desk desk m) refl refl) session lobby.members
-kept_plan lobby session (Clear by desk serial) false =
+
+kept_clear : (lobby : LobbyState) (session desk : ℕ) → Kept session lobby.members (map (off_desk desk) lobby.members)
+kept_clear lobby session desk = kept_map (off_desk desk) (λ m. same_lines m (off_desk desk m) refl refl) session lobby.members
+
+pub kept_plan : (lobby : LobbyState) (session : ℕ) (plan : Plan) (game : Option StoredGame) (is_cleared : Bool)
+    → BeginsWith (waiting_of lobby session) (waiting_of (committed lobby plan game is_cleared) session)
+kept_plan lobby session (Start desk serial terms seats) game is_cleared = kept_start lobby session desk serial seats
+kept_plan lobby session (Resume desk serial number terms seats) game is_cleared = kept_start lobby session desk serial seats
+kept_plan lobby session (Ask from to number) game is_cleared =
+    kept_change (is_session to) (with_line (ask_line lobby from)) (one_line (ask_line lobby from)) session lobby.members
+kept_plan lobby session (Clear by desk serial) None true = kept_clear lobby session desk
+kept_plan lobby session (Clear by desk serial) (Some game) true = kept_clear lobby session desk
+kept_plan lobby session (Clear by desk serial) game false =
     kept_change (is_session by) (off_desk desk) (λ m. same_lines m (off_desk desk m) refl refl) session lobby.members

@@ -23,6 +23,7 @@ use Rattle.lobby_state.specs.Match.{challenge_words}
 use Rattle.lobby_state.specs.Partner.{partner_words}
 use Rattle.lobby_state.specs.Pending.{pending_words, side_words}
 use Rattle.lobby_state.specs.Post.{seek_words}
+use Rattle.lobby_state.specs.Resumed.{resume_words}
 use Rattle.lobby_state.specs.Said.{IsText, IsWording, said}
 use Rattle.lobby_state.specs.Sought.{sought_words}
 use Rattle.lobby_state.specs.Stored.{names_words, stored_words}
@@ -230,3 +231,11 @@ IsPrinted-stored_words number names terms small printed minutes increment =
     let join = IsPrinted-append in
     join 93 29 _ _ (join 92 1 _ _ (join 20 72 _ _ (IsPrinted-long_decimal number small) printed) IsPrinted-blank)
     (IsPrinted-terms_words terms minutes increment)
+
+IsPrinted-asks : IsPrinted 16 (codes " asks to resume.")
+IsPrinted-asks = IsPrinted-from_test 16 (codes " asks to resume.") (omega arith) refl
+
+pub IsPrinted-resume_words : (name : List ℕ) → IsPrinted 17 name → IsPrinted 33 (resume_words name)
+IsPrinted-resume_words name h =
+    IsPrinted-append 33 0 (name ++ codes " asks to resume.") [] (IsPrinted-append 17 16 name (codes " asks to resume.") h IsPrinted-asks)
+    (IsPrinted-from_test 0 [] (omega arith) refl)

@@ -2,6 +2,7 @@
 -- parts of the server above the lobby learn all that they need of any act. This server's own.
 use Rattle.std.specs.Prelude.{◌≡◌, ◌≢◌, ℕ, ◌-◌, ◌≤◌, All, Bool, IfSome, Option, Some, slice_get}
 use Rattle.fics_words.specs.Effect.{Effect, NoneHolds}
+use Rattle.game_records.specs.declared.stored_game.StoredGame.{StoredGame}
 use Rattle.lobby_state.specs.declared.acts.LobbyReply.{LobbyReply}
 use Rattle.lobby_state.specs.declared.acts.LobbyReply.TheVariants.{Done, Entered, NeedPassword, Lines, Places, Waiting, Desks, Told, Number, Asked, Found, Orders}
 use Rattle.lobby_state.specs.declared.acts.Plan.{Plan}
@@ -11,6 +12,7 @@ use Rattle.lobby_state.specs.Lobby.{LobbyState}
 use Rattle.lobby_state.specs.Places.{AreAtDesks}
 use Rattle.lobby_state.specs.Planned.{IsPlanned}
 use Rattle.lobby_state.specs.Plans.{committed, desk_of, game_after}
+use Rattle.lobby_state.specs.Reserve.{CanShelve}
 use Rattle.lobby_state.specs.WellFormed.{IsWellFormed}
 
 -- each place and each desk that the reply tells is at a desk from 1 to 128
@@ -48,9 +50,10 @@ pub record KeepsPlanned (lobby : LobbyState) (effect : Effect LobbyState Plan) :
 -- changes the game of no desk but its own
 pub record KeepsPlan (lobby : LobbyState) (plan : Plan) : Type 0 where
   pub is_desk : IfSome (desk_of plan) IsDesk
-  pub formed : (is_cleared : Bool) → IsWellFormed lobby → IsWellFormed (committed lobby plan is_cleared)
-  pub own : (is_cleared : Bool) (number : ℕ) (before : Option Game) → desk_of plan ≡ Some number
-      → slice_get lobby.games (number - 1) ≡ Some before
-      → slice_get (committed lobby plan is_cleared).games (number - 1) ≡ Some (game_after plan is_cleared before)
-  pub others : (is_cleared : Bool) (number : ℕ) → 1 ≤ number → desk_of plan ≢ Some number
-      → slice_get (committed lobby plan is_cleared).games (number - 1) ≡ slice_get lobby.games (number - 1)
+  pub formed : (game : Option StoredGame) (is_cleared : Bool) → CanShelve lobby plan game → IsWellFormed lobby
+      → IsWellFormed (committed lobby plan game is_cleared)
+  pub own : (game : Option StoredGame) (is_cleared : Bool) (number : ℕ) (before : Option Game)
+      → desk_of plan ≡ Some number → slice_get lobby.games (number - 1) ≡ Some before
+      → slice_get (committed lobby plan game is_cleared).games (number - 1) ≡ Some (game_after plan is_cleared before)
+  pub others : (game : Option StoredGame) (is_cleared : Bool) (number : ℕ) → 1 ≤ number → desk_of plan ≢ Some number
+      → slice_get (committed lobby plan game is_cleared).games (number - 1) ≡ slice_get lobby.games (number - 1)

@@ -52,6 +52,9 @@ pub mod Withdraw
 pub mod Partner
 pub mod Ptell
 pub mod Start
+pub mod Resume
+pub mod Resumed
+pub mod Reserve
 pub mod Clear
 pub mod Acts
 pub mod Plans

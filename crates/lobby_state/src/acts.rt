@@ -195,6 +195,8 @@ pub enum PairAct {
     Accept(Option<HandleKey>),
     /// Takes the seek of that number.
     Play(u16),
+    /// Asks to resume the adjourned game of least number that the player with this handle and the member both play in.
+    Resume(HandleKey),
     /// Gives up the place at a desk whose game has ended, and frees the desk where nobody looks on any more.
     Clear { desk: u8, serial: u64 },
 }
@@ -215,6 +217,20 @@ pub enum Plan {
         desk: u8,
         serial: u64,
     },
+    /// The adjourned game of that number starts again.
+    Resume {
+        desk: u8,
+        serial: u64,
+        number: u64,
+        terms: Terms,
+        seats: Seats,
+    },
+    /// A session asks another to resume the adjourned game of that number.
+    Ask {
+        from: u32,
+        to: u32,
+        number: u64,
+    },
 }
 
 impl Plan {
@@ -225,6 +241,8 @@ impl Plan {
         match self {
             Plan::Start { desk, .. } => Some(*desk),
             Plan::Clear { desk, .. } => Some(*desk),
+            Plan::Resume { desk, .. } => Some(*desk),
+            Plan::Ask { .. } => None,
         }
     }
 }

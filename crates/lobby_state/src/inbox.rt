@@ -73,6 +73,15 @@ impl Inbox {
         self.waiting.take_all()
     }
 
+    /// An inbox with the same lines; it fails only when out of memory.
+    pub(crate) fn twin(&self) -> Result<Inbox, NoMemory>
+        ensures { IfOk result (λ inbox. inbox ≡ self.now) }
+    {
+        Ok(Inbox {
+            waiting: self.waiting.duplicate()?,
+        })
+    }
+
     /// A copy of the lines; it fails only when out of memory.
     pub(crate) fn copy(&self) -> Result<Listed<Line>, NoMemory>
         ensures { IfOk result (λ lines. lines ≡ self.now) }

@@ -1,5 +1,6 @@
 //! What holds of every lobby and of every act, as calls that do nothing: each says by its contract what was proved.
-ghost use Rattle.std.specs.Prelude.{◌≡◌, ◌≢◌, ◌<◌, ◌++◌, ℕ, All, Bool, List, Ok, [], filter, length};
+ghost use Rattle.std.specs.Prelude.{◌≡◌, ◌≢◌, ◌<◌, ◌++◌, ℕ, All, Bool, List, Ok, Option, [], filter, length};
+ghost use Rattle.game_records.specs.declared.stored_game.StoredGame.{StoredGame};
 ghost use Rattle.fics_words.specs.Effect.{answer_of, state_of};
 ghost use Rattle.chess_model.specs.declared.variant.Terms.{Terms};
 ghost use Rattle.fics_words.specs.declared.seats.Seats.{Seats};
@@ -101,8 +102,8 @@ pub fn waiting_lines_are_given_in_order(lobby: &Lobby, session: u32)
     ensures emptied { waiting_of (lobby_after lobby.now session LobbyAct.Fetch) session ≡ [] }
     ensures others { (deed : Deed) → Stays session deed → (deed.by ≡ session → deed.act ≢ LobbyAct.Fetch)
         → BeginsWith (waiting_of lobby.now session) (waiting_of (lobby_after lobby.now deed.by deed.act) session) }
-    ensures plans { (plan : Plan) (cleared : Bool)
-        → BeginsWith (waiting_of lobby.now session) (waiting_of (committed lobby.now plan cleared) session) }
+    ensures plans { (plan : Plan) (game : Option StoredGame) (cleared : Bool)
+        → BeginsWith (waiting_of lobby.now session) (waiting_of (committed lobby.now plan game cleared) session) }
     ensures run { (deeds : List Deed) → All (Stays session) deeds
         → BeginsWith (waiting_of lobby.now session)
         (all_given lobby.now session deeds ++ waiting_of (after_all lobby.now deeds) session) }

@@ -46,6 +46,9 @@ mod post;
 mod ptell;
 mod register;
 mod registration;
+mod reserve;
+mod resume;
+mod resumed;
 mod said;
 mod saved;
 mod seeks;
@@ -82,6 +85,7 @@ pub use laws::{
 pub use lobby::Lobby;
 pub use member::Member;
 pub use name_list::WhichList;
+pub use reserve::Ready;
 pub use said::said_line;
 pub use simul_control::{Place, Places};
 pub use told::ReplyLists;

@@ -1,6 +1,8 @@
 //! The lobby itself: which act is carried out by which function, and that every lobby is well-formed.
-ghost use Rattle.std.specs.Prelude.{◌≡◌, IfOk, IfSome, IsOk};
+ghost use Rattle.std.specs.Prelude.{◌≡◌, ◌≤◌, IfOk, IfSome, IsOk, None, length, option_copied};
 ghost use Rattle.fics_words.specs.Effect.{Takes};
+ghost use Rattle.game_records.specs.Replays.{Replays};
+ghost use Rattle.game_shelf.specs.Numbers.{stored_game};
 ghost use Rattle.lobby_state.specs.Acts.{FitsLobby, LobbyNeedsNoMemory, lobby_effect};
 ghost use Rattle.lobby_state.specs.Desks.{IsDesk};
 ghost use Rattle.lobby_state.specs.Lobby.{game_at, opening, places_of, waiting_of};
@@ -8,12 +10,16 @@ ghost use Rattle.lobby_state.specs.Told.{lists_told};
 ghost use Rattle.lobby_state.specs.Planned.{IsPlanned};
 ghost use Rattle.lobby_state.specs.Plans.{NamesDesk, committed, desk_of, plan_of};
 ghost use Rattle.lobby_state.specs.Registration.{loading_effect};
+ghost use Rattle.lobby_state.specs.Reserve.{CanShelve, IsReady, shelved_in};
+ghost use Rattle.lobby_state.specs.ShelfRoom.{storing_effect};
 
 use crate::acts::{LobbyAct, LobbyReply, PairAct, Plan};
 use crate::game::Game;
 use crate::register::Register;
+use crate::reserve::Ready;
 use crate::told::ReplyLists;
 use fics_words::{Account, Fail, Line, NoMemory, Refusal};
+use game_shelf::{Shelved, StoredGame};
 use simul_control::Places;
 use std::alloc::Global;
 use std::marker::Model;
@@ -58,6 +64,41 @@ impl Lobby {
         ensures { Takes (loading_effect self.old account) self.old self.new result }
     {
         self.register.add_account(account)
+    }
+
+    /// Puts a game that was kept elsewhere on the shelf, under its number there, and makes no save order. Refuses with
+    /// `ShelfFull` where stored games and desks in use are 10,000 together, and takes no memory.
+    pub fn add_stored(&mut self, number: u64, game: StoredGame) -> Result<(), Fail>
+        requires positive { 1 ≤ number }
+        requires unused { stored_game self.old.shelf.games number ≡ None }
+        requires replays { Replays game }
+        ensures { Takes (storing_effect self.old number game) self.old self.new result }
+    {
+        self.register.add_stored(number, game)
+    }
+
+    /// How many accounts there are, and how many stored games.
+    pub fn sizes(&self) -> (u32, u32)
+        ensures accounts { result.0 ≡ length self.now.accounts }
+        ensures games { result.1 ≡ length self.now.shelf.games }
+    {
+        let accounts = self.register.accounts.rows().len();
+        let games = self.register.shelf.games().len();
+        (accounts as u32, games as u32)
+    }
+
+    /// The stored game of that number, if there is one.
+    pub fn stored(&self, number: u64) -> Option<&StoredGame>
+        ensures { option_copied result ≡ stored_game self.now.shelf.games number }
+    {
+        self.register.shelf.stored(number)
+    }
+
+    /// The adjourned games on the shelf, in the order of their numbers.
+    pub fn shelf(&self) -> &[Shelved]
+        ensures { result.now ≡ self.now.shelf.games }
+    {
+        self.register.shelf.games()
     }
 
     /// The accounts, in the order in which they were made.
@@ -116,12 +157,24 @@ impl Lobby {
         self.register.plan(session, act)
     }
 
+    /// Makes ready what a plan needs of memory, and changes nothing; it fails only when out of memory. A game is given
+    /// exactly where a Clear empties the desk of an adjourned game: it goes on the shelf.
+    pub fn reserve(&self, plan: &Plan, shelved: Option<StoredGame>) -> Result<Ready, NoMemory>
+        requires planned { IsPlanned self.now plan.now }
+        requires shelving { CanShelve self.now plan.now shelved }
+        ensures ready { IfOk result (IsReady self.now plan.now) }
+        ensures game { IfOk result (λ ready. shelved_in ready ≡ shelved) }
+    {
+        self.register.reserve(plan, shelved)
+    }
+
     /// Carries out the lobby's share of a plan, and takes no memory. `cleared` says of a Clear whether the desk is
     /// vacant from now on; else it stays in use, and the caller alone gets up.
-    pub fn commit(&mut self, plan: &Plan, cleared: bool)
-        requires { IsPlanned self.old plan.now }
-        ensures { self.new ≡ committed self.old plan.now cleared }
+    pub fn commit(&mut self, plan: &Plan, ready: Ready, cleared: bool)
+        requires planned { IsPlanned self.old plan.now }
+        requires ready { IsReady self.old plan.now ready }
+        ensures { self.new ≡ committed self.old plan.now (shelved_in ready) cleared }
     {
-        self.register.commit(plan, cleared);
+        self.register.commit(plan, ready, cleared);
     }
 }

@@ -1,8 +1,13 @@
 //! How much of the shelf is taken.
-ghost use Rattle.std.specs.Prelude.{◌≡◌};
-ghost use Rattle.lobby_state.specs.ShelfRoom.{desks_used, is_shelf_full};
+ghost use Rattle.std.specs.Prelude.{◌≡◌, ◌≤◌, false};
+ghost use Rattle.fics_words.specs.Effect.{Takes};
+ghost use Rattle.game_records.specs.Replays.{Replays};
+ghost use Rattle.game_shelf.specs.Numbers.{is_used};
+ghost use Rattle.lobby_state.specs.ShelfRoom.{desks_used, is_shelf_full, storing_effect};
 
 use crate::register::Register;
+use fics_words::{Fail, Refusal};
+use game_shelf::StoredGame;
 
 /// The most stored games and desks in use, together.
 const MOST_STORED: usize = 10_000;
@@ -14,6 +19,21 @@ impl Register {
         ensures { result ≡ is_shelf_full self.now }
     {
         self.shelf.games().len() + self.desks_used() >= MOST_STORED
+    }
+
+    /// Puts a game that was kept elsewhere on the shelf, under its number there, and makes no order. Refused where stored
+    /// games and desks in use are 10,000 together.
+    pub(crate) fn add_stored(&mut self, number: u64, game: StoredGame) -> Result<(), Fail>
+        requires positive { 1 ≤ number }
+        requires unused { is_used self.old.shelf.games number ≡ false }
+        requires replays { Replays game }
+        ensures { Takes (storing_effect self.old number game) self.old self.new result }
+    {
+        if self.is_shelf_full() {
+            return Err(Fail::Refused(Refusal::ShelfFull));
+        }
+        self.shelf.add(number, game);
+        Ok(())
     }
 
     /// How many desks are in use.

@@ -13,7 +13,7 @@ use fics_words::{Opponents, Player, Refusal, Seats};
 use login_handles::Accounts;
 
 /// The most games that are ever started, which keeps serials below 2^64.
-const MOST_GAMES: u64 = 1 << 62;
+pub(crate) const MOST_GAMES: u64 = 1 << 62;
 
 impl Register {
     /// The plan of a game of the two on these terms. The causes of a refusal, in order: one of those who would be seated

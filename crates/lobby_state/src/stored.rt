@@ -44,12 +44,7 @@ impl Register {
         let mut lines = Listed::new(self.alloc);
         for row in self.shelf.games() {
             if has_player(&row.game, key) {
-                lines.push(stored_line(
-                    self.alloc,
-                    row.number,
-                    &row.game.names,
-                    row.game.terms,
-                )?)?;
+                lines.push(stored_line(self.alloc, row.number, &row.game.names, row.game.terms)?)?;
             }
         }
         Ok(lines)
@@ -58,12 +53,7 @@ impl Register {
 
 /// The line of a stored game, `N W B M I V`, and of a pair `N W B C D M I V`: its number, its players in the order of
 /// their seats, and its terms.
-fn stored_line(
-    alloc: Global,
-    number: u64,
-    names: &[Handle],
-    terms: Terms,
-) -> Result<Line, NoMemory>
+fn stored_line(alloc: Global, number: u64, names: &[Handle], terms: Terms) -> Result<Line, NoMemory>
     requires players { length names.now ≤ 4 }
     ensures { IfOk result (λ line. line ≡ stored_words number names.now terms) }
 {

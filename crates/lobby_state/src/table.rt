@@ -4,11 +4,15 @@ ghost use Rattle.fics_words.specs.Effect.{Takes};
 ghost use Rattle.lobby_state.specs.Acts.{FitsLobby, LobbyNeedsNoMemory, lobby_effect};
 ghost use Rattle.lobby_state.specs.Desks.{IsDesk};
 ghost use Rattle.lobby_state.specs.Told.{lists_told};
-ghost use Rattle.lobby_state.specs.Plans.{committed, desk_of, plan_of};
+ghost use Rattle.lobby_state.specs.Planned.{IsPlanned};
+ghost use Rattle.lobby_state.specs.Plans.{committed, plan_of};
+ghost use Rattle.lobby_state.specs.Reserve.{IsReady, shelved_in};
+ghost use Rattle.lobby_state.specs.WellFormed.{IsWellFormed};
 
 use crate::acts::{LobbyAct, LobbyReply, PairAct, Plan};
 use crate::desk_in_use::DeskInUse;
 use crate::register::Register;
+use crate::reserve::Ready;
 use crate::told::ReplyLists;
 use collections::Listed;
 use fics_words::{Fail, Line, NoMemory, Refusal};
@@ -124,6 +128,7 @@ impl Register {
         match act {
             PairAct::Accept(name) => self.accept_plan(session, *name),
             PairAct::Play(number) => self.play_plan(session, *number),
+            PairAct::Resume(name) => self.resume_plan(session, *name),
             PairAct::Clear { desk, serial } => Ok(Plan::Clear {
                 by: session,
                 desk: *desk,
@@ -133,9 +138,11 @@ impl Register {
     }
 
     /// Carries out the lobby's share of a plan. `cleared` says of a Clear whether the desk is vacant from now on.
-    pub(crate) fn commit(&mut self, plan: &Plan, cleared: bool)
-        requires { IfSome (desk_of plan.now) IsDesk }
-        ensures { self.new ≡ committed self.old plan.now cleared }
+    pub(crate) fn commit(&mut self, plan: &Plan, ready: Ready, cleared: bool)
+        requires formed { IsWellFormed self.old }
+        requires planned { IsPlanned self.old plan.now }
+        requires ready { IsReady self.old plan.now ready }
+        ensures { self.new ≡ committed self.old plan.now (shelved_in ready) cleared }
     {
         match plan {
             Plan::Start {
@@ -146,11 +153,22 @@ impl Register {
             } => self.start(*desk, *serial, *terms, seats),
             Plan::Clear { by, desk, .. } => {
                 if cleared {
-                    self.clear(*desk);
+                    self.put_away(*desk, ready);
                 } else {
                     self.free(*by, *desk);
                 }
             }
+            Plan::Resume {
+                desk,
+                serial,
+                number,
+                terms,
+                seats,
+            } => {
+                self.take_off(*number, ready);
+                self.start(*desk, *serial, *terms, seats);
+            }
+            Plan::Ask { from, to, number } => self.ask(*from, *to, *number, ready),
         }
     }
 }

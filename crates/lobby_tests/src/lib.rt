@@ -26,6 +26,12 @@ mod paths;
 #[cfg(test)]
 mod refusals;
 #[cfg(test)]
+mod resuming;
+#[cfg(test)]
+mod resuming_steps;
+#[cfg(test)]
+mod saving;
+#[cfg(test)]
 mod seek_steps;
 #[cfg(test)]
 mod seeks;

@@ -100,7 +100,8 @@ fn is_welcome(reply: &LobbyReply, met: Met) -> bool {
     }
 }
 
-fn registering(lobby: &mut Lobby, session: u32, password: u8) -> u8 {
+/// Makes an account, and says the number of the refusal.
+pub fn registering(lobby: &mut Lobby, session: u32, password: u8) -> u8 {
     let digest = [password; 32];
     number_if_done(&acted(lobby, session, &LobbyAct::Register { digest }))
 }

@@ -244,7 +244,10 @@ pub fn carried_out(lobby: &mut Lobby, session: u32, act: &PairAct, cleared: bool
     let Ok(plan) = lobby.plan(session, act) else {
         return None;
     };
-    lobby.commit(&plan, cleared);
+    let Ok(ready) = lobby.reserve(&plan, None) else {
+        return None;
+    };
+    lobby.commit(&plan, ready, cleared);
     Some(plan)
 }
 

@@ -20,11 +20,11 @@ use Rattle.one_server.specs.declared.act.Act.TheVariants.{Lobby, Desk, Pair}
 use Rattle.one_server.specs.declared.part.Part.{Part}
 use Rattle.one_server.specs.declared.part.Part.TheVariants.{Lobby as TheLobby, Desk as ADesk}
 use Rattle.one_server.specs.Acts.{FitsAct, first_part, planned_desk, second_part}
+use Rattle.one_server.specs.CarryingProof.{carried_by}
 use Rattle.one_server.specs.Lent.{AreBothOf, IsCarried, IsFirstOf}
 use Rattle.one_server.specs.Whole.{IsWhole}
 use Rattle.one_server.specs.WholeProof.{desk_at, formed_is, place_is}
 use Rattle.one_server.proofs.Serving.{front}
-use Rattle.one_server.proofs.Stepping.{carried_by}
 
 -- what stands first is the lobby, and what stands at a desk's number is a desk
 pub lends_first : (parts : List Part) (act : Act) (one : Part) → IsWhole parts → FitsAct act → slice_get parts (first_part act) ≡ Some one → IsFirstOf one act
@@ -40,7 +40,7 @@ some_is o number e = subst IsSome (sym e) refl
 -- a plan is carried out at the desk with its number
 lends_carried : (parts : List Part) (lobby : LobbyState) (session : ℕ) (act : PairAct) (two : Part) (number : ℕ) (r : Result Plan Refusal) → IsWhole parts → NamesDesk act
     → slice_get parts 0 ≡ Some (TheLobby lobby) → plan_of lobby session act ≡ r → planned_desk r ≡ Some number → slice_get parts number ≡ Some two
-    → (desk : DeskState) × (two ≡ ADesk desk) × IsCarried r desk
+    → (desk : DeskState) × (two ≡ ADesk desk) × IsCarried lobby r desk
 lends_carried parts lobby session act two number (Err cause) w names e is s t = absurd cc
 lends_carried parts lobby session act two number (Ok plan) w names e is s t =
     let planned : IsPlanned lobby plan = plan_of-is lobby session act plan (formed_is parts lobby w e) names is in
@@ -50,7 +50,7 @@ lends_carried parts lobby session act two number (Ok plan) w names e is s t =
     let place = place_is parts lobby w e number (ADesk found.0) found.1 in (
       found.0,
       front two (ADesk found.0) (sym t ∙ found.1),
-      (some_is (desk_of plan) number s, own, carried_by lobby plan number found.0 s place.1 planned),
+      (some_is (desk_of plan) number s, own, carried_by lobby plan number found.0 (formed_is parts lobby w e) s place.1 planned),
     )
 
 lends_pair : (parts : List Part) (lobby : LobbyState) (session : ℕ) (act : PairAct) (two : Part) (number : ℕ) → IsWhole parts → NamesDesk act → slice_get parts 0 ≡ Some (TheLobby lobby)

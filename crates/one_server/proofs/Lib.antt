@@ -5,3 +5,4 @@ pub mod Opens
 pub mod Replies
 pub mod Lending
 pub mod Effects
+pub mod Resumed

@@ -14,14 +14,10 @@ use Rattle.histories.proofs.Parts.{get_within}
 use Rattle.histories.proofs.Steps.{after_alone, after_together, reply_alone, reply_together}
 use Rattle.linked_desk.specs.declared.acts.DeskAct.{DeskAct}
 use Rattle.linked_desk.specs.Acts.{desk_answer, desk_after}
-use Rattle.linked_desk.specs.Desk.{GameState, DeskState, occupant}
+use Rattle.linked_desk.specs.Desk.{DeskState}
 use Rattle.lobby_state.specs.declared.acts.LobbyAct.{LobbyAct}
 use Rattle.lobby_state.specs.declared.acts.PairAct.{PairAct}
 use Rattle.lobby_state.specs.declared.acts.Plan.{Plan}
-use Rattle.lobby_state.specs.declared.acts.Plan.TheVariants.{Start, Clear}
-use Rattle.lobby_state.specs.declared.game.Game.{Game}
-use Rattle.fics_words.specs.Handle.{key_of}
-use Rattle.fics_words.specs.Seats.{seat_list}
 use Rattle.lobby_state.specs.Acts.{lobby_answer, lobby_after}
 use Rattle.lobby_state.specs.Desks.{IsDesk, desks as desk_count}
 use Rattle.lobby_state.specs.Lobby.{LobbyState}
@@ -35,12 +31,11 @@ use Rattle.one_server.specs.declared.act.Timed.{Timed}
 use Rattle.one_server.specs.declared.part.Part.TheVariants.{Lobby as TheLobby, Desk as ADesk}
 use Rattle.one_server.specs.declared.reply.Reply.{Reply}
 use Rattle.one_server.specs.declared.reply.Reply.TheVariants.{Refused, Pair as PairReplied}
-use Rattle.one_server.specs.StartingProof.{all_differ, pairs_for}
+use Rattle.one_server.specs.CarryingProof.{carried_by}
 use Rattle.one_server.specs.Acts.{planned_desk, lobby_reply, desk_reply}
-use Rattle.one_server.specs.Desks.{listing, game_of}
-use Rattle.one_server.specs.House.{house, no_parts, pair_reply, pair_lobby, pair_desk}
-use Rattle.one_server.specs.Plans.{CanCarry, plan_reply, plan_lobby, plan_desk}
-use Rattle.one_server.specs.Whole.{IsListed, IsWhole, parts_of}
+use Rattle.one_server.specs.House.{house, pair_reply, pair_lobby, pair_desk}
+use Rattle.one_server.specs.Plans.{CanCarry, alone_lobby, alone_reply, plan_desk, plan_lobby, plan_reply}
+use Rattle.one_server.specs.Whole.{IsWhole, parts_of}
 use Rattle.one_server.specs.WholeProof.{formed_is, place_is}
 
 -- the desk with a number stands at its place in the list of parts
@@ -125,17 +120,19 @@ module _ (lobby : LobbyState) (desks : List DeskState) (session moment : ℕ) wh
         ∙ ap (λ r. parts_of (pair_lobby lobby r None) desks) (sym is)
 
   module _ (act : PairAct) (plan : Plan) (is : Ok plan ≡ plan_of lobby session act) (none : desk_of plan ≡ None) where
-    pub reply_nowhere : reply house (parts_of lobby desks) session (record { moment = moment; act = Pair act }) ≡ Some no_parts
-    reply_nowhere =
+    pub reply_nowhere : (r : Reply) → r ≡ PairReplied (alone_reply plan)
+        → reply house (parts_of lobby desks) session (record { moment = moment; act = Pair act }) ≡ Some r
+    reply_nowhere r e =
         let timed : Timed = record { moment = moment; act = Pair act } in
         reply_alone house (parts_of lobby desks) session timed (TheLobby lobby) refl (ap planned_desk (sym is) ∙ none)
-        ∙ ap (λ r. Some (pair_reply r None)) (sym is)
+        ∙ ap (λ p. Some (pair_reply p None)) (sym is) ∙ ap Some (sym e)
 
-    pub after_nowhere : after house (parts_of lobby desks) session (record { moment = moment; act = Pair act }) ≡ parts_of lobby desks
-    after_nowhere =
+    pub after_nowhere : (new : LobbyState) → new ≡ alone_lobby lobby plan
+        → after house (parts_of lobby desks) session (record { moment = moment; act = Pair act }) ≡ parts_of new desks
+    after_nowhere new e =
         let timed : Timed = record { moment = moment; act = Pair act } in
         after_alone house (parts_of lobby desks) session timed (TheLobby lobby) refl (ap planned_desk (sym is) ∙ none)
-        ∙ ap (λ r. parts_of (pair_lobby lobby r None) desks) (sym is)
+        ∙ ap (λ p. parts_of (pair_lobby lobby p None) desks) (sym is) ∙ ap (λ l. parts_of l desks) (sym e)
 
   module _ (act : PairAct) (plan : Plan) (number : ℕ) (desk : DeskState) (is : Ok plan ≡ plan_of lobby session act) (own : desk_of plan ≡ Some number) (d : IsDesk number)
       (there : slice_get desks (number - 1) ≡ Some desk) where
@@ -147,42 +144,20 @@ module _ (lobby : LobbyState) (desks : List DeskState) (session moment : ℕ) wh
         (part_there lobby desks number desk d.0 there)
         ∙ ap (λ p. Some (pair_reply p (Some (ADesk desk)))) (sym is) ∙ ap Some (sym e)
 
-    pub after_planned : (new : LobbyState) (news : List DeskState) → new ≡ plan_lobby lobby plan desk → news ≡ set desks (number - 1) (plan_desk plan desk moment)
+    pub after_planned : (new : LobbyState) (news : List DeskState) → new ≡ plan_lobby lobby plan desk → news ≡ set desks (number - 1) (plan_desk lobby plan desk moment)
         → after house (parts_of lobby desks) session (record { moment = moment; act = Pair act }) ≡ parts_of new news
     after_planned new news e f =
         let timed : Timed = record { moment = moment; act = Pair act } in
         let both = after_together house (parts_of lobby desks) session timed (TheLobby lobby) (ADesk desk) number refl (ap planned_desk (sym is) ∙ own)
         (part_there lobby desks number desk d.0 there) in
         both
-        ∙ ap (λ p. set (parts_of (pair_lobby lobby p (Some (ADesk desk))) desks) number (ADesk (pair_desk p desk moment))) (sym is)
-        ∙ written (plan_lobby lobby plan desk) desks number (plan_desk plan desk moment) d.0
+        ∙ ap (λ p. set (parts_of (pair_lobby lobby p (Some (ADesk desk))) desks) number (ADesk (pair_desk lobby p desk moment))) (sym is)
+        ∙ written (plan_lobby lobby plan desk) desks number (plan_desk lobby plan desk moment) d.0
         ∙ (λ i. parts_of (sym e i) (sym f i))
 
 -- each number of a desk has its desk
 pub desk_with : (lobby : LobbyState) (desks : List DeskState) (number : ℕ) → length desks ≡ desk_count → IsDesk number → (desk : DeskState) × (slice_get desks (number - 1) ≡ Some desk)
 desk_with lobby desks number count d = get_within desks (number - 1) (omega (arith, count, d))
-
--- a desk for which the lobby lists nothing is vacant
-vacant_in : (game : Option GameState) → None ≡ option_map listing (option_map occupant game) → game ≡ None
-vacant_in None e = refl
-vacant_in (Some g) e = absurd cc
-
-nothing_listed : (game : Option Game) → Some None ≡ Some game → None ≡ game
-nothing_listed game e = cc
-
-vacant_by : (desk : DeskState) → Some None ≡ Some (game_of desk) → desk.game ≡ None
-vacant_by desk e = vacant_in desk.game (nothing_listed (game_of desk) e)
-
-pub carried_by : (lobby : LobbyState) (plan : Plan) (number : ℕ) (desk : DeskState) → desk_of plan ≡ Some number → IsListed lobby number desk → IsPlanned lobby plan → CanCarry plan desk
-carried_by lobby (Start own serial terms seats) number desk o listed planned =
-    let same : own ≡ number = cc in
-    record {
-      vacant = vacant_by desk (sym planned.is_free ∙ ap (λ n. slice_get lobby.games (n - 1)) same ∙ listed.listed);
-      sessions = all_differ (λ p. p.session) (seat_list seats) planned.apart.sessions;
-      names = all_differ (λ p. key_of p.name) (seat_list seats) planned.apart.handles;
-      pairs = pairs_for terms.variant seats.first seats.second planned.boards;
-    }
-carried_by lobby (Clear session own serial) number desk o listed planned = tt
 
 -- a plan that the lobby gave can be carried out at its desk
 module _ (lobby : LobbyState) (desks : List DeskState) (session : ℕ) (act : PairAct) (plan : Plan) (w : IsWhole (parts_of lobby desks)) (names : NamesDesk act) (is : Ok plan ≡ plan_of lobby session act)
@@ -193,10 +168,10 @@ module _ (lobby : LobbyState) (desks : List DeskState) (session : ℕ) (act : Pa
   pub planned_number : IsDesk number
   planned_number = subst (λ (x : Option ℕ). IfSome x IsDesk) own (desk_of-is lobby plan planned_now)
 
-  pub can_carry : (desk : DeskState) → slice_get desks (number - 1) ≡ Some desk → CanCarry plan desk
+  pub can_carry : (desk : DeskState) → slice_get desks (number - 1) ≡ Some desk → CanCarry lobby plan desk
   can_carry desk there =
       let place = place_is (parts_of lobby desks) lobby w refl number (ADesk desk) (part_there lobby desks number desk planned_number.0 there) in
-      carried_by lobby plan number desk own place.1 planned_now
+      carried_by lobby plan number desk (formed_is (parts_of lobby desks) lobby w refl) own place.1 planned_now
 
 -- an act behind its moment
 pub at_act : (timed : Timed) (act : Act) (Q : Timed → Type 0) → timed.act ≡ act → Q (record { moment = timed.moment; act = act }) → Q timed

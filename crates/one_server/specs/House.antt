@@ -18,28 +18,30 @@ use Rattle.one_server.specs.declared.reply.Reply.{Reply}
 use Rattle.one_server.specs.declared.reply.Reply.TheVariants as reply
 use Rattle.one_server.specs.declared.reply.PairReply.TheVariants.{Kept}
 use Rattle.one_server.specs.Acts.{first_part, second_part, IsEvent, lobby_reply, desk_reply}
-use Rattle.one_server.specs.Plans.{plan_reply, plan_lobby, plan_desk}
+use Rattle.one_server.specs.Plans.{alone_lobby, alone_reply, plan_desk, plan_lobby, plan_reply}
 use Rattle.one_server.specs.Whole.{IsWhole}
 
 -- what is replied where an act lacks its parts, which it has in every whole state: nothing was done
 abbrev pub no_parts : Reply
 no_parts = reply.Pair Kept
 
--- the reply to a pair act: a refusal by the lobby, or what the plan replies with its desk in hand
+-- the reply to a pair act: a refusal by the lobby, or what the plan replies with its desk in hand, or by the lobby alone
+-- where it has none
 abbrev pub pair_reply : Result Plan Refusal → Option Part → Reply
 pair_reply (Err cause) other = reply.Refused cause
 pair_reply (Ok plan) (Some (ADesk desk)) = reply.Pair (plan_reply plan desk)
-pair_reply (Ok plan) _ = no_parts
+pair_reply (Ok plan) _ = reply.Pair (alone_reply plan)
 
 -- the lobby after a pair act
 abbrev pub pair_lobby : LobbyState → Result Plan Refusal → Option Part → LobbyState
 pair_lobby lobby (Ok plan) (Some (ADesk desk)) = plan_lobby lobby plan desk
-pair_lobby lobby _ _ = lobby
+pair_lobby lobby (Ok plan) _ = alone_lobby lobby plan
+pair_lobby lobby (Err cause) _ = lobby
 
 -- the desk after a pair act
-abbrev pub pair_desk : Result Plan Refusal → DeskState → ℕ → DeskState
-pair_desk (Ok plan) desk moment = plan_desk plan desk moment
-pair_desk (Err cause) desk moment = desk
+abbrev pub pair_desk : LobbyState → Result Plan Refusal → DeskState → ℕ → DeskState
+pair_desk lobby (Ok plan) desk moment = plan_desk lobby plan desk moment
+pair_desk lobby (Err cause) desk moment = desk
 
 -- the reply to an act, whose first part is the one that it needs in every whole state
 abbrev pub house_answer : Part → Option Part → ℕ → ℕ → Act → Reply
@@ -60,7 +62,7 @@ house_one part other session moment _ = part
 -- the second part afterwards: the desk of a pair act
 abbrev pub house_two : Part → Part → ℕ → ℕ → Act → Part
 house_two (TheLobby lobby) (ADesk desk) session moment (Pair act) =
-    ADesk (pair_desk (plan_of lobby session act) desk moment)
+    ADesk (pair_desk lobby (plan_of lobby session act) desk moment)
 house_two _ other session moment _ = other
 
 abbrev pub house : Core Part Timed Reply

@@ -1,7 +1,11 @@
 -- What holds in every state. This server's own.
-use Rattle.std.specs.Prelude.{◌≡◌, ℕ, ◌-◌, List, All, Some, slice_get}
+use Rattle.std.specs.Prelude.{◌≡◌, ℕ, ◌-◌, List, All, None, Some, slice_get}
 use Rattle.game_board.specs.Scoresheet.{IsTrueScore}
+use Rattle.game_records.specs.Replays.{Replays}
+use Rattle.game_shelf.specs.declared.shelved.Shelved.{Shelved}
+use Rattle.game_shelf.specs.Facts.{OrdersRise}
 use Rattle.histories.specs.History.{state, Legal}
+use Rattle.linked_boards.specs.Sound.{GoOn}
 use Rattle.linked_desk.specs.Desk.{GameState, DeskState}
 use Rattle.linked_desk.specs.Sound.{NamesWinner}
 use Rattle.linked_desk.specs.WholeSets.{HasWholeSets}
@@ -47,6 +51,23 @@ KeepsTrueScores parts =
 abbrev pub KeepsMen : List Part → Type 0
 KeepsMen parts =
     (number : ℕ) (desk : DeskState) → slice_get parts number ≡ Some (ADesk desk) → HasWholeSets desk
+
+-- while a game at a desk runs none of its boards is at an end: nobody who is to move is mated or stalemated
+abbrev pub GoesOnWhileItRuns : List Part → Type 0
+GoesOnWhileItRuns parts =
+    (number : ℕ) (desk : DeskState) (game : GameState) → slice_get parts number ≡ Some (ADesk desk)
+    → desk.game ≡ Some game → game.ended ≡ None → GoOn game.boards
+
+-- each game on the shelf can be played again as it is stored
+abbrev pub StoresWhatReplays : List Part → Type 0
+StoresWhatReplays parts = (lobby : LobbyState) → slice_get parts 0 ≡ Some (TheLobby lobby)
+    → All (λ (row : Shelved). Replays row.game) lobby.shelf.games
+
+-- the save orders that aren't told as saved stand in the order of their numbers, which rise up to that of the last one
+-- that was made
+abbrev pub NumbersItsOrders : List Part → Type 0
+NumbersItsOrders parts = (lobby : LobbyState) → slice_get parts 0 ≡ Some (TheLobby lobby)
+    → OrdersRise 0 lobby.shelf.made lobby.shelf.orders
 
 -- each end in the feed of a desk's game names a winner exactly where somebody won
 abbrev pub NamesItsWinners : List Part → Type 0

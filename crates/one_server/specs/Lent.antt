@@ -4,6 +4,7 @@ use Rattle.fics_words.specs.declared.refusal.Refusal.{Refusal}
 use Rattle.linked_desk.specs.Desk.{DeskState}
 use Rattle.lobby_state.specs.declared.acts.Plan.{Plan}
 use Rattle.lobby_state.specs.Desks.{IsDesk}
+use Rattle.lobby_state.specs.Lobby.{LobbyState}
 use Rattle.lobby_state.specs.Plans.{plan_of, desk_of}
 use Rattle.one_server.specs.declared.act.Act.{Act}
 use Rattle.one_server.specs.declared.act.Act.TheVariants.{Lobby, Desk, Pair}
@@ -19,11 +20,11 @@ IsFirstOf (ADesk desk) (Desk number serial act) = Unit {0}
 IsFirstOf _ _ = ⊥
 
 -- there is a plan with a desk, and it can be carried out there
-abbrev pub IsCarried : Result Plan Refusal → DeskState → Type 0
-IsCarried (Ok plan) desk = IsSome (desk_of plan) × IfSome (desk_of plan) IsDesk × CanCarry plan desk
-IsCarried (Err cause) desk = ⊥
+abbrev pub IsCarried : LobbyState → Result Plan Refusal → DeskState → Type 0
+IsCarried lobby (Ok plan) desk = IsSome (desk_of plan) × IfSome (desk_of plan) IsDesk × CanCarry lobby plan desk
+IsCarried lobby (Err cause) desk = ⊥
 
 -- the parts are the lobby and the desk of the plan that a pair act has
 abbrev pub AreBothOf : Part → Part → ℕ → Act → Type 0
-AreBothOf (TheLobby lobby) (ADesk desk) session (Pair act) = IsCarried (plan_of lobby session act) desk
+AreBothOf (TheLobby lobby) (ADesk desk) session (Pair act) = IsCarried lobby (plan_of lobby session act) desk
 AreBothOf _ _ session _ = ⊥

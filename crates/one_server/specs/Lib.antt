@@ -1,6 +1,8 @@
 pub mod Desks
 pub mod Acts
 pub mod Replies
+pub mod Clearing
+pub mod Resuming
 pub mod Plans
 pub mod Whole
 pub mod House
@@ -8,7 +10,10 @@ pub mod Copies
 pub mod Running
 pub mod Server
 pub mod Lent
+pub mod ResumedGames
 pub mod Laws
 pub mod StartingProof
+pub mod CarryingProof
 pub mod WholeProof
+pub mod ResumedProof
 pub mod LawfulProof

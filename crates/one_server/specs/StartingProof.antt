@@ -1,13 +1,17 @@
 -- What a plan of a game asks of its desk: players who are apart, and as many as the variant has.
 use Rattle.std.proofs.Common.{◌≡◌, ◌≢◌, ℕ, ◌<◌, ◌*◌, suc, List, [], ◌∷◌, length, map, slice_index_or, refl, arith, Option, None, Some}
 use Rattle.std.specs.List.{AllPairs}
+use Rattle.chess_model.specs.declared.variant.Terms.{Terms}
 use Rattle.chess_model.specs.declared.variant.Variant.{Variant}
 use Rattle.chess_model.specs.declared.variant.Variant.TheVariants.{Chess, Crazyhouse, Bughouse, Fischer}
 use Rattle.fics_words.specs.declared.seats.Opponents.{Opponents}
+use Rattle.fics_words.specs.declared.seats.Seats.{Seats}
+use Rattle.fics_words.specs.Handle.{key_of}
 use Rattle.fics_words.specs.Seats.{seat_list}
 use Rattle.linked_boards.specs.Boards.{board_numbers}
-use Rattle.linked_desk.specs.Seating.{AllDiffer, NoneIs}
-use Rattle.lobby_state.specs.Planned.{FitsVariant}
+use Rattle.linked_desk.specs.Seating.{AllDiffer, MayPlay, NoneIs}
+use Rattle.lobby_state.specs.Planned.{AreApart, FitsVariant}
+use Rattle.lobby_state.specs.Terms.{AreTerms}
 
 none_is : {X Y : Type 0} (f : X → Y) (x : X) (xs : List X) → ((j : ℕ) (d : X) → j < length xs → f x ≢ f (slice_index_or xs j d)) → NoneIs (f x) (map f xs)
 none_is f x [] h = tt
@@ -32,3 +36,11 @@ pairs_for (Fischer number) first None fits = refl
 pairs_for (Fischer number) first (Some more) fits = cc
 pairs_for Bughouse first None fits = cc
 pairs_for Bughouse first (Some more) fits = refl
+
+-- these players may play on these terms
+pub may_play : (terms : Terms) (seats : Seats) → AreTerms terms → AreApart seats → FitsVariant terms.variant seats → MayPlay terms seats
+may_play terms seats bounded apart fits = record {
+  pairs = pairs_for terms.variant seats.first seats.second fits;
+  names = all_differ (λ p. key_of p.name) (seat_list seats) apart.handles;
+  fit = record { minutes = bounded.minutes; increment = bounded.increment; array = bounded.numbered; colour = refl };
+}

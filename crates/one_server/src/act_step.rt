@@ -13,7 +13,8 @@ ghost use Rattle.one_server.specs.Plans.{CanCarry, plan_reply, plan_lobby, plan_
 ghost use Rattle.one_server.specs.Whole.{IsWhole, parts_of};
 
 use crate::act::{Act, Timed};
-use crate::reply::{PairReply, Reply};
+use crate::reply::Reply;
+use crate::resuming::alone_step;
 use crate::steps::{desk_step, lobby_step, pair_step};
 use collections::Listed;
 use linked_desk::{Desk, DeskAct};
@@ -69,7 +70,7 @@ fn step_at_desk(
     desk_step(desk, session, moment, serial, act)
 }
 
-/// Makes a pair act: what the lobby plans is carried out with the plan's desk, and nothing is done where it has none.
+/// Makes a pair act: what the lobby plans is carried out with the plan's desk, or by the lobby alone where it has none.
 fn planned_step(
     alloc: Global,
     lobby: &mut Lobby,
@@ -96,7 +97,7 @@ fn planned_step(
     };
     match plan.desk() {
         Some(number) => carry_out(alloc, lobby, desks, moment, number, &plan),
-        None => Ok(Reply::Pair(PairReply::Kept)),
+        None => Ok(Reply::Pair(alone_step(lobby, &plan)?)),
     }
 }
 
@@ -114,13 +115,13 @@ fn carry_out(
     requires planned { IsPlanned lobby.old plan.now }
     requires count { length desks.old ≡ desk_count }
     requires ready { (desk : DeskState) → slice_get desks.old (number - 1) ≡ Some desk
-        → CanCarry plan.now desk }
+        → CanCarry lobby.old plan.now desk }
     ensures reply { (desk : DeskState) → slice_get desks.old (number - 1) ≡ Some desk
         → IfOk result (λ r. r ≡ Reply.Pair (plan_reply plan.now desk)) }
     ensures lobby { (desk : DeskState) → slice_get desks.old (number - 1) ≡ Some desk
         → OnOk result (lobby.new ≡ plan_lobby lobby.old plan.now desk) }
     ensures desks { (desk : DeskState) → slice_get desks.old (number - 1) ≡ Some desk
-        → OnOk result (desks.new ≡ slice_set desks.old (number - 1) (plan_desk plan.now desk moment)) }
+        → OnOk result (desks.new ≡ slice_set desks.old (number - 1) (plan_desk lobby.old plan.now desk moment)) }
     ensures err_lobby { OnErr result (lobby.new ≡ lobby.old) }
     ensures err_desks { OnErr result (desks.new ≡ desks.old) }
 {

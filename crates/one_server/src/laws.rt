@@ -3,8 +3,10 @@ ghost use Rattle.histories.specs.Laws.{LeavesOthers, RepliesLocally, ChangesLoca
 ghost use Rattle.lobby_state.specs.Lobby.{LobbyState, opening};
 ghost use Rattle.one_server.specs.House.{house};
 ghost use Rattle.lobby_state.specs.WellFormed.{IsWellFormed};
-ghost use Rattle.one_server.specs.Laws.{HoldsInEachState, KeepsMen, KeepsTrueScores, LendsFirst, LendsSecond};
-ghost use Rattle.one_server.specs.Laws.{ListsItsDesks, NamesItsWinners, RepliesWell, SeatsItsMembers};
+ghost use Rattle.one_server.specs.Laws.{GoesOnWhileItRuns, HoldsInEachState, KeepsMen, KeepsTrueScores, LendsFirst};
+ghost use Rattle.one_server.specs.Laws.{LendsSecond, ListsItsDesks, NamesItsWinners, NumbersItsOrders, RepliesWell};
+ghost use Rattle.one_server.specs.Laws.{SeatsItsMembers, StoresWhatReplays};
+ghost use Rattle.one_server.specs.ResumedGames.{ResumesAsLeft};
 ghost use Rattle.one_server.specs.Whole.{IsOpening, IsWhole, opened};
 
 use crate::house::House;
@@ -44,6 +46,21 @@ pub fn every_board_keeps_a_true_score()
 /// or of a pair.
 pub fn every_game_keeps_its_men()
     ensures { HoldsInEachState KeepsMen }
+{}
+
+/// In every state no board of a game that runs is at an end, each game on the shelf can be played again as it is stored,
+/// and the save orders stand in the order in which they were made.
+pub fn every_stored_game_replays()
+    ensures running { HoldsInEachState GoesOnWhileItRuns }
+    ensures stored { HoldsInEachState StoresWhatReplays }
+    ensures orders { HoldsInEachState NumbersItsOrders }
+{}
+
+/// In every state a Resume that is answered Started takes the stored game of least number in which both play off the
+/// shelf, and restores it at a vacant desk: with its terms, names and half-moves with their charges, and so with its
+/// positions, the men in hand and the clocks; these run again from the moment of the Resume.
+pub fn resuming_restores()
+    ensures { HoldsInEachState ResumesAsLeft }
 {}
 
 /// In every state each end that the viewers of a desk are told names a winner exactly where somebody won, so its line

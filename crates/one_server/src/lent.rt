@@ -7,7 +7,8 @@ ghost use Rattle.one_server.specs.Lent.{IsFirstOf, AreBothOf};
 
 use crate::act::{Act, Timed};
 use crate::part::Part;
-use crate::reply::{PairReply, Reply};
+use crate::reply::Reply;
+use crate::resuming::alone_step;
 use crate::steps::{desk_step, lobby_step, pair_step};
 use lobby_state::Lobby;
 use memory::NoMemory;
@@ -54,7 +55,7 @@ pub fn alone(one: &mut Part, session: u32, timed: &Timed) -> Result<Reply, NoMem
             Act::Lobby(act) => lobby_step(lobby, session, timed.moment, act),
             Act::Pair(act) => match lobby.plan(session, act) {
                 Err(cause) => Ok(Reply::Refused(cause)),
-                Ok(_) => Ok(Reply::Pair(PairReply::Kept)),
+                Ok(plan) => Ok(Reply::Pair(alone_step(lobby, &plan)?)),
             },
             Act::Desk { .. } => unreachable!(),
         },

@@ -9,12 +9,14 @@
 
 mod act;
 mod act_step;
+mod clearing;
 mod copies;
 mod house;
 mod laws;
 mod lent;
 mod part;
 mod reply;
+mod resuming;
 mod runner;
 mod seat;
 mod server;
@@ -24,7 +26,8 @@ pub use act::{Act, Timed};
 pub use house::House;
 pub use laws::{
     acts_keep_to_their_parts, every_board_keeps_a_true_score, every_end_names_its_winner,
-    every_game_keeps_its_men, every_reply_can_be_told, every_state_agrees, parts_are_lent,
+    every_game_keeps_its_men, every_reply_can_be_told, every_state_agrees,
+    every_stored_game_replays, parts_are_lent, resuming_restores,
 };
 pub use lent::{alone, first_part, second_part, together};
 pub use part::Part;

@@ -20,8 +20,10 @@ pub enum Reply {
 /// What the lobby and a desk answer together.
 #[derive(Clone, Copy)]
 pub enum PairReply {
-    /// A game has started.
+    /// A game has started, or goes on that was adjourned.
     Started,
+    /// Another is asked to resume an adjourned game.
+    Asked,
     /// There is nothing to clear at the desk.
     Kept,
     /// The caller has no place at the desk any more, at which others still look on.

@@ -4,13 +4,14 @@ ghost use Rattle.linked_desk.specs.Acts.{FitsDeskAct, desk_answer, desk_after, n
 ghost use Rattle.lobby_state.specs.Acts.{FitsLobby, LobbyNeedsNoMemory, lobby_answer, lobby_after};
 ghost use Rattle.lobby_state.specs.Planned.{IsPlanned};
 ghost use Rattle.one_server.specs.Acts.{lobby_reply, desk_reply};
-ghost use Rattle.one_server.specs.Desks.{has_ended, is_left};
-ghost use Rattle.one_server.specs.Plans.{CanCarry, StartsGame, plan_reply, plan_lobby, plan_desk};
+ghost use Rattle.one_server.specs.Plans.{CanCarry, plan_desk, plan_lobby, plan_reply};
 
+use crate::clearing::clear_step;
 use crate::reply::{PairReply, Reply};
+use crate::resuming::{alone_step, restore};
 use fics_words::Fail;
 use linked_desk::{Desk, DeskAct};
-use lobby_state::{Lobby, LobbyAct, Plan};
+use lobby_state::{Lobby, LobbyAct, Plan, Ready};
 use memory::NoMemory;
 use std::alloc::Global;
 
@@ -58,8 +59,8 @@ pub fn desk_step(
     }
 }
 
-/// Carries out a plan with its lobby and its desk: a game starts there, or the caller gives up its place. Want of
-/// memory, which a game's start alone can meet, changes neither.
+/// Carries out a plan with its lobby and its desk: a game starts there, or goes on that leaves the shelf, or the caller
+/// gives up its place. Want of memory changes neither.
 pub fn pair_step(
     alloc: Global,
     lobby: &mut Lobby,
@@ -69,13 +70,12 @@ pub fn pair_step(
 ) -> Result<Reply, NoMemory>
     requires moment { moment ≤ 2 ^ 48 }
     requires planned { IsPlanned lobby.old plan.now }
-    requires ready { CanCarry plan.now desk.old }
+    requires ready { CanCarry lobby.old plan.now desk.old }
     ensures reply { IfOk result (λ reply. reply ≡ Reply.Pair (plan_reply plan.now desk.old)) }
     ensures lobby { OnOk result (lobby.new ≡ plan_lobby lobby.old plan.now desk.old) }
-    ensures desk { OnOk result (desk.new ≡ plan_desk plan.now desk.old moment) }
+    ensures desk { OnOk result (desk.new ≡ plan_desk lobby.old plan.now desk.old moment) }
     ensures err_lobby { OnErr result (lobby.new ≡ lobby.old) }
     ensures err_desk { OnErr result (desk.new ≡ desk.old) }
-    ensures memory { OnErr result (StartsGame plan.now) }
 {
     match plan {
         Plan::Start {
@@ -85,37 +85,27 @@ pub fn pair_step(
             ..
         } => {
             desk.start(alloc, *serial, *terms, seats, moment)?;
-            lobby.commit(plan, true);
+            lobby.commit(plan, Ready::Nothing, true);
             Ok(Reply::Pair(PairReply::Started))
         }
-        Plan::Clear { serial, .. } => {
-            if !has_ended(desk, *serial) {
-                return Ok(Reply::Pair(PairReply::Kept));
-            }
-            let left = is_left(desk);
-            lobby.commit(plan, left);
-            if !left {
-                return Ok(Reply::Pair(PairReply::Freed));
-            }
-            desk.clear();
-            Ok(Reply::Pair(PairReply::Cleared))
+        Plan::Resume {
+            serial,
+            number,
+            seats,
+            ..
+        } => {
+            let ready = lobby.reserve(plan, None)?;
+            restore(alloc, lobby, desk, moment, *serial, *number, seats)?;
+            lobby.commit(plan, ready, true);
+            Ok(Reply::Pair(PairReply::Started))
         }
+        Plan::Clear {
+            by,
+            desk: number,
+            serial,
+        } => Ok(Reply::Pair(clear_step(
+            alloc, lobby, desk, *by, *number, *serial,
+        )?)),
+        Plan::Ask { .. } => Ok(Reply::Pair(alone_step(lobby, plan)?)),
     }
-}
-
-/// Whether the game of that serial stands at the desk and has ended.
-fn has_ended(desk: &Desk, serial: u64) -> bool
-    ensures { result ≡ has_ended desk.now serial }
-{
-    let Some(present) = desk.serial() else {
-        return false;
-    };
-    present == serial && desk.ended().is_some()
-}
-
-/// Whether nobody looks on at the desk any more.
-fn is_left(desk: &Desk) -> bool
-    ensures { result ≡ is_left desk.now }
-{
-    desk.viewers() == 0
 }

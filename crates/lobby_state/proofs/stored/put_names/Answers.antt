@@ -1,4 +1,4 @@
-use Rattle.std.proofs.Common.{◌≡◌, ◌<◌, ◌*◌, ◌+◌, ◌≤◌, ◌++◌, ◌∷◌, [], List, ℕ, length, take, codes, sym, ap, subst, ◌∙◌, append_assoc, arith}
+use Rattle.std.proofs.Common.{◌≡◌, ◌<◌, ◌*◌, ◌+◌, ◌++◌, ◌∷◌, [], List, ℕ, length, take, codes, sym, ap, subst, ◌∙◌, append_assoc, arith}
 use Rattle.lobby_state.specs.Stored.{names_words}
 use Rattle.lobby_state.proofs.Words.{IsPrinted, IsPrinted-one_more, names_words-more}
 use Rattle.lobby_state.proofs.stored.put_names.Goals as goal

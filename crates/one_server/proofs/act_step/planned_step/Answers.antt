@@ -1,4 +1,4 @@
-use Rattle.std.proofs.Common.{◌≡◌, Some, List, set, sym, ◌-◌}
+use Rattle.std.proofs.Common.{◌≡◌, Some, List, set, ap, sym, ◌-◌}
 use Rattle.histories.specs.Core.{reply, after}
 use Rattle.linked_desk.specs.Desk.{DeskState}
 use Rattle.lobby_state.specs.Lobby.{LobbyState}
@@ -17,13 +17,15 @@ returns-in-Err-clause-reply c = reply_refused c.args.lobby.now c.args.desks.now 
 pub returns-in-Err-clause-after : goal.returns-in-Err-clause-after
 returns-in-Err-clause-after c = after_refused c.args.lobby.now c.args.desks.now c.args.session c.args.moment c.args.act.now c.in-Err.cause c.in-Err.ensures.plan
 
-pub returns-in-None-clause-reply : goal.returns-in-None-clause-reply
-returns-in-None-clause-reply c =
+pub returns-in_ok-alone_step-in-None-clause-reply : goal.returns-in_ok-alone_step-in-None-clause-reply
+returns-in_ok-alone_step-in-None-clause-reply c =
     reply_nowhere c.args.lobby.now c.args.desks.now c.args.session c.args.moment c.args.act.now c.in-Ok.plan c.in-Ok.ensures.plan (sym c.in-None.ensures)
+    (PairReplied c.in_ok-alone_step-in-None.field-0) (ap PairReplied c.in_ok-alone_step-in-None.ensures.reply)
 
-pub returns-in-None-clause-after : goal.returns-in-None-clause-after
-returns-in-None-clause-after c =
+pub returns-in_ok-alone_step-in-None-clause-after : goal.returns-in_ok-alone_step-in-None-clause-after
+returns-in_ok-alone_step-in-None-clause-after c =
     after_nowhere c.args.lobby.now c.args.desks.now c.args.session c.args.moment c.args.act.now c.in-Ok.plan c.in-Ok.ensures.plan (sym c.in-None.ensures)
+    c.alone_step.new.lobby c.in_ok-alone_step-in-None.ensures.lobby
 
 pub carry_out-requires-clause-ready : goal.carry_out-requires-clause-ready
 carry_out-requires-clause-ready c =
@@ -50,7 +52,7 @@ returns-in-Some-clause-after c =
     let d = planned_number lobby desks c.args.session c.args.act.now c.in-Ok.plan c.requires.whole c.requires.names c.in-Ok.ensures.plan c.in-Some.number own in
     let found = desk_with lobby desks c.in-Some.number (count_of_desks lobby desks c.requires.whole) d in
     on_both (c.carry_out.new.lobby ≡ plan_lobby lobby c.in-Ok.plan found.0)
-    (c.carry_out.new.desks ≡ set desks (c.in-Some.number - 1) (plan_desk c.in-Ok.plan found.0 c.args.moment))
+    (c.carry_out.new.desks ≡ set desks (c.in-Some.number - 1) (plan_desk lobby c.in-Ok.plan found.0 c.args.moment))
     (after house (parts_of lobby desks) c.args.session (record { moment = c.args.moment; act = Pair c.args.act.now }) ≡ parts_of c.carry_out.new.lobby c.carry_out.new.desks)
     c.carry_out.result
     (λ e f. after_planned lobby desks c.args.session c.args.moment c.args.act.now c.in-Ok.plan c.in-Some.number found.0 c.in-Ok.ensures.plan own d found.1 c.carry_out.new.lobby c.carry_out.new.desks e f)

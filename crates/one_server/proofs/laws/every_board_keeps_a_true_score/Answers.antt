@@ -12,4 +12,4 @@ use Rattle.one_server.proofs.laws.every_board_keeps_a_true_score.Goals as goal
 pub returns : goal.returns
 returns c = λ xs es w l number desk game e g.
     let whole = stays_whole house house_lawful xs es w l in
-    (subst (λ (o : Option GameState). IfSome o IsSound) g (whole.places number (ADesk desk) e).1.sound).scores
+    (subst (λ (o : Option GameState). IfSome o IsSound) g (whole.places number (ADesk desk) e).1.sound).boards.scores
