@@ -45,8 +45,8 @@ SitCrosswise lobby first None = Unit {0}
 SitCrosswise lobby first (Some second) = HasPartner lobby first.white second.black × HasPartner lobby first.black second.white
 
 -- a game on these terms can start at this desk under this serial with these players: the desk is free, the serial is
--- the next one, fewer than 2^62 games were started, there is a place on the shelf for the game, the terms are within their bounds, the players are members,
--- as many as the variant has, and apart, and partners have opposite colours
+-- the next one, fewer than 2^62 games were started, there is a place on the shelf for the game, the terms are within
+-- their bounds, the players are members, as many as the variant has, and apart, and partners have opposite colours
 pub record CanStart (lobby : LobbyState) (desk serial : ℕ) (terms : Terms) (seats : Seats) : Type 0 where
   pub is_desk : IsDesk desk
   pub is_free : slice_get lobby.games (desk - 1) ≡ Some None

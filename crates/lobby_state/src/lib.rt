@@ -1,12 +1,12 @@
-//! The lobby: who is registered and who is in the hall, which seeks and challenges stand, who is in which channel, who are
-//! partners, which adjourned games lie on the shelf, and which desks are in use for which game. The lists of each kind are
-//! kept by crates of their own; here stands what the acts of members do to them all.
+//! The lobby: who is registered and who is in the hall, which seeks and challenges stand, who is in which channel, who
+//! are partners, which adjourned games lie on the shelf and who asks to resume them, and which desks are in use for which
+//! game. The lists of each kind are kept by crates of their own; here stands what the acts of members do to them all.
 //!
 //! The contract: what an act does, by the lobby before, the session and the act, stands in one record of its own file
 //! in `specs/`: why it is refused, what it replies, and what stands afterwards. A refusal and running out of memory
-//! leave the lobby as it was, and every lobby is well-formed. What needs a desk too is done in two steps: `plan` says
-//! by the lobby alone which desk and what is to be done there, and `commit`, which takes no memory, does the lobby's
-//! share.
+//! leave the lobby as it was, and every lobby is well-formed. What may need a desk too is done in three steps: `plan`
+//! says by the lobby alone which desk and what is to be done there, `reserve` makes ready what that needs of memory and
+//! changes nothing, and `commit`, which takes no memory, does the lobby's share.
 //!
 //! An act is a room of its own: a file of `src/`, one of `specs/` and one of `proofs/` that says what the act keeps.
 #![tactic(auto)]

@@ -8,8 +8,8 @@ use crate::register::Register;
 use fics_words::{Account, Digest, Fail, Refusal};
 
 impl Register {
-    /// The member's handle has an account from now on, and a save order puts it into the store. The causes of a refusal, in order: the session isn't a member;
-    /// the handle has an account; there are 4,096 accounts.
+    /// The member's handle has an account from now on, and a save order puts it into the store. The causes of a
+    /// refusal, in order: the session isn't a member; the handle has an account; there are 4,096 accounts.
     pub(crate) fn register(&mut self, session: u32, digest: Digest) -> Result<LobbyReply, Fail>
         requires count { self.old.shelf.made + 1 < 2 ^ 64 }
         ensures { Takes (registration_effect self.old session digest) self.old self.new result }

@@ -1,5 +1,6 @@
 //! Steps of adjourned games, each with its expected answer. No game of these steps has a half-move.
-ghost use Rattle.std.specs.Prelude.{◌≡◌, IfOk, IfSome, IsTrue, bytes_eq, false};
+ghost use Rattle.std.specs.Prelude.{◌≡◌, IfOk, IfSome, IsTrue, false, [], ◌∷◌, bytes_eq, map};
+ghost use Rattle.std.specs.List.{IsDistinct};
 ghost use Rattle.fics_words.specs.Handle.{key_of};
 ghost use Rattle.game_records.specs.Replays.{Replays};
 
@@ -133,6 +134,7 @@ fn two_of(alloc: Global, white: Handle, black: Handle) -> Result<StoredGame, NoM
 }
 
 /// A pair of the four without a half-move.
+#[tactic(auto, using(crate::proofs::Apart::are_distinct))]
 fn pair_of(alloc: Global, letters: &[[u8; 3]; 4]) -> Option<StoredGame>
     ensures { IfSome result Replays }
 {
@@ -161,12 +163,7 @@ fn four_of(
     three: Handle,
     four: Handle,
 ) -> Result<StoredGame, NoMemory>
-    requires one_two { bytes_eq (key_of one) (key_of two) ≡ false }
-    requires one_three { bytes_eq (key_of one) (key_of three) ≡ false }
-    requires one_four { bytes_eq (key_of one) (key_of four) ≡ false }
-    requires two_three { bytes_eq (key_of two) (key_of three) ≡ false }
-    requires two_four { bytes_eq (key_of two) (key_of four) ≡ false }
-    requires three_four { bytes_eq (key_of three) (key_of four) ≡ false }
+    requires { IsDistinct bytes_eq (map key_of (one ∷ two ∷ three ∷ four ∷ [])) }
     ensures { IfOk result Replays }
 {
     played_by_steps();
