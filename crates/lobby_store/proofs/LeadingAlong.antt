@@ -1,13 +1,17 @@
 -- Each act of a lobby and each plan leads a store along.
-use Rattle.std.proofs.Common.{◌≡◌, ℕ, Bool, true, false, cond, List, [], ◌∷◌, ◌++◌, Option, None, Some, refl, sym, ap, subst, ◌∙◌, append-nil, append_assoc}
+use Rattle.std.proofs.Common.{◌≡◌, ℕ, ◌<◌, ◌^◌, arith, Bool, true, false, cond, List, [], ◌∷◌, ◌++◌, Option, None, Some, refl, sym, ap, subst, ◌∙◌, append-nil, append_assoc}
 use Rattle.std.specs.Prelude.{bytes_eq, is_some}
+use Rattle.std.proofs.lemmas.Bool.{eqb-true}
 use Rattle.std.specs.List.{find}
 use Rattle.fics_words.specs.Effect.{Effect, NoneHolds, first_cause, unless}
 use Rattle.fics_words.specs.Handle.{key_of}
 use Rattle.fics_words.specs.declared.account.Account.{Account}
 use Rattle.fics_words.specs.declared.refusal.Refusal.{Refusal}
 use Rattle.game_records.specs.Keys.{account_key}
-use Rattle.game_shelf.specs.Shelf.{account_order, ordered}
+use Rattle.fics_words.specs.declared.seats.Seats.{Seats}
+use Rattle.game_records.specs.declared.stored_game.StoredGame.{StoredGame}
+use Rattle.game_shelf.specs.Numbers.{RiseAbove, game_in as row_game, has_number, stored_game}
+use Rattle.game_shelf.specs.Shelf.{account_order, game_order, ordered, removal_order}
 use Rattle.game_shelf.specs.Wanted.{Table, is_account_at, table_with, wanted}
 use Rattle.game_shelf.specs.declared.order.Order.{Order}
 use Rattle.game_shelf.specs.declared.shelved.Shelved.{Shelved}
@@ -19,8 +23,13 @@ use Rattle.lobby_state.specs.declared.acts.LobbyReply.{LobbyReply}
 use Rattle.lobby_state.specs.Acts.{lobby_after, lobby_effect}
 use Rattle.lobby_state.specs.Lobby.{LobbyState, has_account}
 use Rattle.lobby_state.specs.declared.acts.Plan.{Plan}
-use Rattle.lobby_state.specs.declared.acts.Plan.TheVariants.{Start, Clear}
-use Rattle.lobby_state.specs.Plans.{committed}
+use Rattle.lobby_state.specs.declared.acts.Plan.TheVariants.{Start, Clear, Resume, Ask}
+use Rattle.lobby_state.specs.Planned.{CanResume, IsPlanned}
+use Rattle.lobby_state.specs.Plans.{committed, put_away}
+use Rattle.lobby_state.specs.Reserve.{CanShelve}
+use Rattle.lobby_state.specs.Resumed.{resumed}
+use Rattle.lobby_state.specs.WellFormed.{IsWellFormed}
+use Rattle.lobby_state.proofs.KeepsClear.{place-left}
 use Rattle.chess_model.specs.declared.variant.Terms.{Terms}
 use Rattle.seek_match.specs.declared.challenge.Challenge.{Challenge}
 use Rattle.lobby_state.specs.declared.member.Member.{Member}
@@ -172,10 +181,40 @@ leads_act lobby session act other =
 
 -- ---- plans
 
-pub leads_plan : (lobby : LobbyState) (plan : Plan) (is_cleared : Bool) → LeadsAlong lobby (committed lobby plan is_cleared)
-leads_plan lobby (Start desk serial terms seats) is_cleared = leads_same lobby _ (record { accounts = refl; games = refl; orders = refl })
-leads_plan lobby (Clear session desk serial) true = leads_same lobby _ (record { accounts = refl; games = refl; orders = refl })
-leads_plan lobby (Clear session desk serial) false = leads_same lobby _ (record { accounts = refl; games = refl; orders = refl })
+-- the number of a stored game is below 2^64
+small_number : (low : ℕ) (games : List Shelved) (number : ℕ) (game : StoredGame) → RiseAbove low games → stored_game games number ≡ Some game → number < 2 ^ 64
+small_number low [] number game rise lies = cc
+small_number low (row ∷ games) number game rise lies =
+    elim (has_number number row) as (λ t. has_number number row ≡ t → row_game (cond t (Some row) (find (has_number number) games)) ≡ Some game → number < 2 ^ 64) [
+      | true ↦ λ is here. let same = eqb-true row.number number is in let small = rise.1 in omega (arith, same, small)
+      | false ↦ λ is rest. small_number row.number games number game rise.2 rest
+    ] refl lies
+
+leads_shelved : (lobby : LobbyState) (session desk serial : ℕ) (game : StoredGame) → IsWellFormed lobby → CanShelve lobby (Clear session desk serial) (Some game)
+    → LeadsAlong lobby (put_away lobby desk (Some game))
+leads_shelved lobby session desk serial game h can = record {
+  agrees = λ table agreed. orders-lead.goes_on table lobby.accounts lobby.shelf game h.shelf.sound (place-left lobby session desk serial (Some game) can h) agreed;
+  more = game_order lobby.shelf game ∷ [];
+  orders = refl;
+}
+
+leads_resumed : (lobby : LobbyState) (desk serial number : ℕ) (terms : Terms) (seats : Seats) → IsWellFormed lobby → CanResume lobby desk serial number terms seats
+    → LeadsAlong lobby (resumed lobby desk serial number terms seats)
+leads_resumed lobby desk serial number terms seats h can = record {
+  agrees = λ table agreed. orders-lead.comes_off table lobby.accounts lobby.shelf number h.shelf.sound
+      (small_number 0 lobby.shelf.games number can.game h.shelf.sound.numbers can.lies) agreed;
+  more = removal_order lobby.shelf number ∷ [];
+  orders = refl;
+}
+
+pub leads_plan : (lobby : LobbyState) (plan : Plan) (game : Option StoredGame) (is_cleared : Bool) → IsWellFormed lobby → IsPlanned lobby plan → CanShelve lobby plan game
+    → LeadsAlong lobby (committed lobby plan game is_cleared)
+leads_plan lobby (Start desk serial terms seats) game is_cleared h can shelving = leads_same lobby _ (record { accounts = refl; games = refl; orders = refl })
+leads_plan lobby (Clear session desk serial) None true h can shelving = leads_same lobby _ (record { accounts = refl; games = refl; orders = refl })
+leads_plan lobby (Clear session desk serial) (Some game) true h can shelving = leads_shelved lobby session desk serial game h shelving
+leads_plan lobby (Clear session desk serial) game false h can shelving = leads_same lobby _ (record { accounts = refl; games = refl; orders = refl })
+leads_plan lobby (Resume desk serial number terms seats) game is_cleared h can shelving = leads_resumed lobby desk serial number terms seats h can
+leads_plan lobby (Ask from to number) game is_cleared h can shelving = leads_same lobby _ (record { accounts = refl; games = refl; orders = refl })
 
 pub leads_then : (old mid new : LobbyState) → LeadsAlong old mid → LeadsAlong mid new → LeadsAlong old new
 leads_then old mid new p q = record {
