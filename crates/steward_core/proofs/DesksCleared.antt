@@ -60,7 +60,7 @@ module _ (moment : ℕ) where
       (subst (λ (t : Timed). IsPartOf (acts_of entries ++ e.act ∷ []) (map (clears moment) rows ++ t ∷ [])) is (part_of_more (acts_of entries) (map (clears moment) rows) e.act p)))
 
   -- in each case some were cleared
-  some_cleared : (end : ClearingEnd) (rows : List DeskInUse) (entries : Log) → AreClears end moment rows entries → AreClears Memory moment rows entries
+  pub some_cleared : (end : ClearingEnd) (rows : List DeskInUse) (entries : Log) → AreClears end moment rows entries → AreClears Memory moment rows entries
   some_cleared Done rows entries p = subst (λ (l : List Timed). IsPartOf (acts_of entries) l) p (part_of_itself (acts_of entries))
   some_cleared Memory rows entries p = p
 

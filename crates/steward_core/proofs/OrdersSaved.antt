@@ -85,10 +85,10 @@ ended_most moment rounds before after old new most s = record {
 -- ---- one round
 
 -- what telling made, and whether it was made
-abbrev Said : ℕ → Option ℕ → Told → RunnerState → RunnerState → Type 0
+abbrev pub Said : ℕ → Option ℕ → Told → RunnerState → RunnerState → Type 0
 Said moment upto said old new = (entries : Log) × Made old entries new × ((said ≡ told.Done → acts_of entries ≡ tells_upto moment upto) × (said ≡ told.Memory → entries ≡ []))
 
-said_made : (moment : ℕ) (upto : Option ℕ) (said : Told) (old new : RunnerState) → IsKnown old → TellsUpTo moment upto said old new → Said moment upto said old new
+pub said_made : (moment : ℕ) (upto : Option ℕ) (said : Told) (old new : RunnerState) → IsKnown old → TellsUpTo moment upto said old new → Said moment upto said old new
 said_made moment None said old new known t = ([], subst (λ (s : RunnerState). Made old [] s) (sym t.1) (made_none old known), (λ _. refl, λ _. refl))
 said_made moment (Some upto) told.Done old new known t = (entry old.number (says_saved moment upto) t.0 ∷ [], t.1.grew, (λ _. refl, λ bad. cc))
 said_made moment (Some upto) told.Memory old new known t = ([], t, (λ bad. cc, λ _. refl))

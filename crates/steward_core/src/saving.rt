@@ -2,6 +2,7 @@
 ghost use Rattle.std.specs.Prelude.{◌≡◌, ◌≤◌, ◌^◌, length};
 ghost use Rattle.edge_traits.specs.Faults.{Rose};
 ghost use Rattle.one_server.specs.Running.{IsKnown};
+ghost use Rattle.steward_core.specs.Agreement.{StaysAgreed};
 ghost use Rattle.steward_core.specs.Saving.{RunsRound, SavesTold, TakesSaving, Tells, orders_in, round_of};
 ghost use Rattle.steward_core.specs.declared.saving.Round.{Round};
 ghost use Rattle.steward_core.specs.declared.turn.StewardEnd.{StewardEnd};
@@ -54,6 +55,7 @@ pub(crate) fn save_orders<R: Runner, P: Keeper>(
     ensures home { R.home runner.new ≡ R.home runner.old }
     ensures saving { TakesSaving moment result (P.table keeper.old) (P.table keeper.new) (R.state runner.old)
         (R.state runner.new) }
+    ensures agrees { StaysAgreed (P.table keeper.old) (P.table keeper.new) (R.state runner.old) (R.state runner.new) }
     ensures fault { result ≡ StewardEnd.KeeperFault → Rose (P.faults keeper.old) (P.faults keeper.new) }
     ensures counted { P.faults keeper.old ≤ P.faults keeper.new }
 {
@@ -83,6 +85,7 @@ fn save_round<R: Runner, P: Keeper>(
     ensures home { R.home runner.new ≡ R.home runner.old }
     ensures round { RunsRound moment result (P.table keeper.old) (P.table keeper.new) (R.state runner.old)
         (R.state runner.new) }
+    ensures agrees { StaysAgreed (P.table keeper.old) (P.table keeper.new) (R.state runner.old) (R.state runner.new) }
     ensures fault { result ≡ Round.KeeperFault → Rose (P.faults keeper.old) (P.faults keeper.new) }
     ensures counted { P.faults keeper.old ≤ P.faults keeper.new }
 {

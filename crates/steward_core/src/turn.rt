@@ -1,6 +1,7 @@
 //! A whole turn of the steward.
 ghost use Rattle.std.specs.Prelude.{◌≡◌, ◌≤◌, ◌^◌};
 ghost use Rattle.edge_traits.specs.Faults.{Rose};
+ghost use Rattle.steward_core.specs.Agreement.{StaysAgreed};
 ghost use Rattle.steward_core.specs.Turn.{TakesTurn, end_of_turn};
 ghost use Rattle.steward_core.specs.declared.turn.StewardEnd.{StewardEnd};
 
@@ -36,9 +37,12 @@ pub fn steward_turn<R: Runner, P: Keeper>(
     ensures home { R.home runner.new ≡ R.home runner.old }
     ensures turn { TakesTurn moment result (P.table keeper.old) (P.table keeper.new) (R.state runner.old)
         (R.state runner.new) }
+    ensures agrees { StaysAgreed (P.table keeper.old) (P.table keeper.new) (R.state runner.old) (R.state runner.new) }
     ensures fault { result ≡ StewardEnd.KeeperFault → Rose (P.faults keeper.old) (P.faults keeper.new) }
     ensures counted { P.faults keeper.old ≤ P.faults keeper.new }
 {
+    // What is known of every runner is known from here on.
+    let _session = runner.session();
     let cleared = clearing_turn(alloc, runner, moment);
     let saved = save_orders(alloc, runner, keeper, moment);
     end_of_turn(cleared, saved)

@@ -3,6 +3,7 @@ use Rattle.steward_core.specs.Saving.{RunsRound, TakesSaving}
 use Rattle.steward_core.specs.declared.saving.Round.{Round}
 use Rattle.steward_core.specs.declared.turn.StewardEnd.{StewardEnd}
 use Rattle.steward_core.specs.declared.turn.StewardEnd.TheVariants.{Done, KeeperFault, Memory}
+use Rattle.steward_core.proofs.AgreedStill.{agreed_still, agreed_then}
 use Rattle.steward_core.proofs.OrdersSaved.{HasSaved, ended_fault, ended_last, ended_most, ended_short, none_saved, saved_next}
 use Rattle.steward_core.proofs.saving.save_orders.Goals as goal
 
@@ -12,6 +13,7 @@ loop-answer-init g c = record {
   known = c.session-session.ensures.known;
   count = refl;
   saved = none_saved c.args.moment (g.P.Keeper.table c.args.keeper.now) (g.R.Runner.state c.args.runner.now) c.session-session.ensures.known;
+  agreed = agreed_still (g.P.Keeper.table c.args.keeper.now) (g.R.Runner.state c.args.runner.now);
   counted = omega arith;
 }
 
@@ -33,6 +35,7 @@ loop-answer-preserved g c =
       known = round.grew.known;
       count = omega (arith, count);
       saved = subst (λ n. HasSaved c.args.moment n t0 t2 s0 s2) (sym (add-one i)) (saved_next c.args.moment i t0 t1 t2 s0 s1 s2 c.loop-answer.invariant.saved round);
+      agreed = agreed_then t0 t1 t2 s0 s1 s2 c.loop-answer.invariant.saved.entries round.entries c.loop-answer.invariant.saved.grew round.grew c.loop-answer.invariant.agreed c.save_round.ensures.agrees;
       counted = omega (arith, counted, more);
     }
 
@@ -81,3 +84,27 @@ returns-clause-saving g c =
     let end = c.loop-answer.auto.answer-end in
     subst (λ n. TakesSaving c.args.moment (Done n) t0 t1 s0 s1) (sym c.loop-answer.invariant.count)
     (ended_most c.args.moment c.loop-answer.answer t0 t1 s0 s1 (omega (arith, most, end)) c.loop-answer.invariant.saved)
+
+pub returns-in-Last-clause-agrees : goal.returns-in-Last-clause-agrees
+returns-in-Last-clause-agrees g c =
+    let round = c.save_round.ensures.round in
+    let so_far = c.loop-answer.invariant.saved in
+    agreed_then (g.P.Keeper.table c.args.keeper.now) (g.P.Keeper.table c.loop-answer.keeper) (g.P.Keeper.table c.save_round.new.keeper)
+    (g.R.Runner.state c.args.runner.now) (g.R.Runner.state c.loop-answer.runner) (g.R.Runner.state c.save_round.new.runner)
+    so_far.entries round.entries so_far.grew round.grew c.loop-answer.invariant.agreed c.save_round.ensures.agrees
+
+pub returns-in-KeeperFault-clause-agrees : goal.returns-in-KeeperFault-clause-agrees
+returns-in-KeeperFault-clause-agrees g c =
+    let round = c.save_round.ensures.round in
+    let so_far = c.loop-answer.invariant.saved in
+    agreed_then (g.P.Keeper.table c.args.keeper.now) (g.P.Keeper.table c.loop-answer.keeper) (g.P.Keeper.table c.save_round.new.keeper)
+    (g.R.Runner.state c.args.runner.now) (g.R.Runner.state c.loop-answer.runner) (g.R.Runner.state c.save_round.new.runner)
+    so_far.entries round.entries so_far.grew round.grew c.loop-answer.invariant.agreed c.save_round.ensures.agrees
+
+pub returns-in-Memory-clause-agrees : goal.returns-in-Memory-clause-agrees
+returns-in-Memory-clause-agrees g c =
+    let round = c.save_round.ensures.round in
+    let so_far = c.loop-answer.invariant.saved in
+    agreed_then (g.P.Keeper.table c.args.keeper.now) (g.P.Keeper.table c.loop-answer.keeper) (g.P.Keeper.table c.save_round.new.keeper)
+    (g.R.Runner.state c.args.runner.now) (g.R.Runner.state c.loop-answer.runner) (g.R.Runner.state c.save_round.new.runner)
+    so_far.entries round.entries so_far.grew round.grew c.loop-answer.invariant.agreed c.save_round.ensures.agrees

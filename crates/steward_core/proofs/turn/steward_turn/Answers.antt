@@ -1,4 +1,5 @@
 use Rattle.std.proofs.Common.{◌++◌, refl}
+use Rattle.steward_core.proofs.AgreedStill.{agreed_then, agreed_unsaved, clearing_unsaved}
 use Rattle.steward_core.proofs.DesksCleared.{made_then}
 use Rattle.steward_core.proofs.turn.steward_turn.Goals as goal
 
@@ -22,3 +23,15 @@ returns-clause-turn g c =
       };
       kept = two.kept;
     }
+
+pub returns-clause-agrees : goal.returns-clause-agrees
+returns-clause-agrees g c =
+    let old = g.R.Runner.state c.args.runner.now in
+    let mid = g.R.Runner.state c.clearing_turn-cleared.new.runner in
+    let new = g.R.Runner.state c.save_orders-saved.new.runner in
+    let table = g.P.Keeper.table c.args.keeper.now in
+    let one = c.clearing_turn-cleared.ensures.cleared in
+    let two = c.save_orders-saved.ensures.saving in
+    agreed_then table table (g.P.Keeper.table c.save_orders-saved.new.keeper) old mid new one.entries two.entries one.grew two.grew
+    (agreed_unsaved table old mid one.entries c.session-session.ensures.known one.grew (clearing_unsaved c.args.moment c.clearing_turn-cleared.result one.entries one.cleared))
+    c.save_orders-saved.ensures.agrees
