@@ -136,7 +136,7 @@ module _ (lobby : LobbyState) (session : ℕ) where
   none_found [] key none = refl
   none_found (account ∷ accounts) key none =
       elim (bytes_eq (key_of account.name) key) as (λ t. is_some (cond t (Some account) (account_of accounts key)) ≡ false
-          → cond t (Some account) (find (is_account_at (account_key key)) accounts) ≡ None) [
+      → cond t (Some account) (find (is_account_at (account_key key)) accounts) ≡ None) [
         | true ↦ λ bad. cc
         | false ↦ λ rest. none_found accounts key rest
       ] none

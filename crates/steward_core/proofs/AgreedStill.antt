@@ -133,9 +133,8 @@ split_none : (old mid new : RunnerState) → mid.number ≡ old.number → IsPre
     → NoOthersSave old mid × NoOthersSave mid new
 split_none old mid new same p q none =
     let both : none.gained ≡ p.0 ++ q.0 = append_cancel old.seen none.gained (p.0 ++ q.0)
-        (sym none.is ∙ sym q.1 ∙ ap (λ (l : Log). l ++ q.0) (sym p.1) ∙ append_assoc old.seen p.0 q.0) in
-    let all = subst (AllByRecursion (IsNoOthers old.number)) both none.none in
-    (
+    (sym none.is ∙ sym q.1 ∙ ap (λ (l : Log). l ++ q.0) (sym p.1) ∙ append_assoc old.seen p.0 q.0) in
+    let all = subst (AllByRecursion (IsNoOthers old.number)) both none.none in (
       record { gained = p.0; is = sym p.1; none = all_front (IsNoOthers old.number) p.0 q.0 all },
       record { gained = q.0; is = sym q.1; none = subst (λ (n : ℕ). AllByRecursion (IsNoOthers n) q.0) (sym same) (all_back (IsNoOthers old.number) p.0 q.0 all) },
     )
@@ -221,7 +220,7 @@ module _ (moment : ℕ) (orders carried left : List Order) (before after_all : T
       let mine = calls_gained old new (e ∷ []) ran.grew known (others ++ e ∷ []) is in
       let nobody = no_more (calls_of old.number others) e (sym (calls_own old.number others e refl) ∙ mine) in
       let unsaved = not_saved old.number others (subst (AllByRecursion NotSaved) (sym nobody) tt)
-          (all_front (IsNoOthers old.number) others (e ∷ []) (subst (AllByRecursion (IsNoOthers old.number)) gained none.none)) in
+      (all_front (IsNoOthers old.number) others (e ∷ []) (subst (AllByRecursion (IsNoOthers old.number)) gained none.none)) in
       let legal = legal_front house (state_seen old) others (e ∷ []) (legal_gained old new (e ∷ []) ran.grew (others ++ e ∷ []) is) in
       let led = leads_log (state_seen old) others (whole_seen old whole known) legal unsaved in
       let r = led.0 in
@@ -233,7 +232,7 @@ module _ (moment : ℕ) (orders carried left : List Order) (before after_all : T
       let after_it : LobbyState = record r.new { shelf = saved r.new.shelf upto } in
       let alone : after house parts old.number a ≡ set parts 0 (TheLobby after_it) = after_alone house parts old.number a (TheLobby r.new) r.there_now refl in
       let path : state_seen new ≡ after house parts old.number a =
-          state_gained old new (e ∷ []) ran.grew (others ++ e ∷ []) is ∙ steps_once house (state_seen old) others e in
+      state_gained old new (e ∷ []) ran.grew (others ++ e ∷ []) is ∙ steps_once house (state_seen old) others e in
       let found = one_lobby (state_seen new) lobby after_it there (ap (λ (l : List Part). slice_get l 0) (path ∙ alone) ∙ put_lobby parts r.new after_it r.there_now) in
       subst (AgreesWith (held after_all)) (sym found)
       (saved_prefix (held before) (held after_all) r.new carried (more.0 ++ r.leads.more) upto shelf orders_now last holds (r.leads.agrees (held before) (agreed r.old r.there)))
@@ -266,9 +265,10 @@ unsaved_part moment (e ∷ es) (row ∷ rows) (inr p) = unsaved_part moment (e �
 
 asks_unsaved : (moment : ℕ) (end : ClearingEnd) (entries : Log) → AsksAndClears end moment entries → AllByRecursion NotSaved entries
 asks_unsaved moment end entries p =
-    subst (AllByRecursion NotSaved) (sym p.all)
-    (subst (λ (t : Timed). SaysSaved t.act → ⊥) (sym p.asks) (λ bad. bad),
-    unsaved_part moment p.rest (rows_told p.first.reply) (some_cleared moment end (rows_told p.first.reply) p.rest p.clears))
+    subst (AllByRecursion NotSaved) (sym p.all) (
+      subst (λ (t : Timed). SaysSaved t.act → ⊥) (sym p.asks) (λ bad. bad),
+      unsaved_part moment p.rest (rows_told p.first.reply) (some_cleared moment end (rows_told p.first.reply) p.rest p.clears),
+    )
 
 pub clearing_unsaved : (moment : ℕ) (end : ClearingEnd) (entries : Log) → IsClearing end moment entries → AllByRecursion NotSaved entries
 clearing_unsaved moment clearing.Done entries p = asks_unsaved moment clearing.Done entries p

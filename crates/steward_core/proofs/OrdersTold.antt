@@ -62,7 +62,7 @@ told_in xs k moment answer (Some (TheLobby lobby)) there told =
     let same : answer ≡ one = cc in
     let alone : after house xs k a ≡ set xs 0 (TheLobby lobby) = after_alone house xs k a (TheLobby lobby) there refl in
     let there_now : slice_get (after house xs k a) 0 ≡ Some (TheLobby lobby) =
-        ap (λ (l : List Part). slice_get l 0) alone ∙ get_set_same xs 0 (TheLobby lobby) (slice_get_length xs 0 (TheLobby lobby) there) in
+    ap (λ (l : List Part). slice_get l 0) alone ∙ get_set_same xs 0 (TheLobby lobby) (slice_get_length xs 0 (TheLobby lobby) there) in
     subst (λ (orders : List Order). StandFirst orders (after house xs k a)) (sym (ap orders_in same))
     (record {
       few = few_told lobby.shelf.orders;

@@ -96,7 +96,9 @@ module _ (xs : List Part) (w : IsWhole xs) (session moment : ℕ) where
       let alone : after house xs session timed ≡ set xs 0 (TheLobby (pair_lobby w.lobby (plan_of w.lobby session act) None)) =
       after_alone house xs session timed (TheLobby w.lobby) w.first (ap planned_desk is ∙ none) in
       record {
-        old = w.lobby; new = new; there = w.first;
+        old = w.lobby;
+        new = new;
+        there = w.first;
         there_now = ap (λ (l : List Part). slice_get l 0) (alone ∙ ap (λ (p : Result Plan Refusal). set xs 0 (TheLobby (pair_lobby w.lobby p None))) is) ∙ put_lobby xs w.lobby new w.first;
         leads = leads_left act r names is;
       }
@@ -111,7 +113,9 @@ module _ (xs : List Part) (w : IsWhole xs) (session moment : ℕ) where
       let new = plan_lobby w.lobby plan found.0 in
       let both = after_together house xs session timed (TheLobby w.lobby) (ADesk found.0) number w.first (ap planned_desk is ∙ o) found.1 in
       record {
-        old = w.lobby; new = new; there = w.first;
+        old = w.lobby;
+        new = new;
+        there = w.first;
         there_now = ap (λ (l : List Part). slice_get l 0) both
             ∙ get_set_else (set xs 0 (TheLobby (pair_lobby w.lobby (plan_of w.lobby session act) (Some (ADesk found.0))))) number 0 _ (λ z. omega (arith, is_desk))
             ∙ ap (λ (p : Result Plan Refusal). slice_get (set xs 0 (TheLobby (pair_lobby w.lobby p (Some (ADesk found.0))))) 0) is
@@ -141,7 +145,9 @@ module _ (xs : List Part) (w : IsWhole xs) (session moment : ℕ) where
       let found = desk_at xs number w is_desk in
       let alone = after_alone house xs session timed (ADesk found.0) found.1 refl in
       record {
-        old = w.lobby; new = w.lobby; there = w.first;
+        old = w.lobby;
+        new = w.lobby;
+        there = w.first;
         there_now = ap (λ (l : List Part). slice_get l 0) alone ∙ get_set_else xs number 0 _ (λ z. omega (arith, is_desk)) ∙ w.first;
         leads = leads_nowhere w.lobby;
       }

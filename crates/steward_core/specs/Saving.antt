@@ -100,12 +100,12 @@ pub record IsSaving (moment : ℕ) (end : StewardEnd) (entries : Log) (carried :
 
 -- a session had save orders carried out, and a keeper carried them out
 pub record TakesSaving (moment : ℕ) (end : StewardEnd) (before after : Option Table) (old new : RunnerState) : Type 0
-    where
-  pub entries : Log
-  pub carried : List Order
-  pub grew : Made old entries new
-  pub saving : IsSaving moment end entries carried
-  pub kept : Carries before after carried
+  where
+    pub entries : Log
+    pub carried : List Order
+    pub grew : Made old entries new
+    pub saving : IsSaving moment end entries carried
+    pub kept : Carries before after carried
 
 -- orders were told as saved, up to a number, where there is one
 abbrev pub TellsUpTo : ℕ → Option ℕ → Told → RunnerState → RunnerState → Type 0

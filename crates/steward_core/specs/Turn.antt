@@ -30,9 +30,9 @@ pub record IsTurn (moment : ℕ) (end : StewardEnd) (entries : Log) (carried : L
 
 -- a session made a turn, in which a keeper carried these orders out
 pub record TakesTurn (moment : ℕ) (end : StewardEnd) (before after : Option Table) (old new : RunnerState) : Type 0
-    where
-  pub entries : Log
-  pub carried : List Order
-  pub grew : Made old entries new
-  pub turn : IsTurn moment end entries carried
-  pub kept : Carries before after carried
+  where
+    pub entries : Log
+    pub carried : List Order
+    pub grew : Made old entries new
+    pub turn : IsTurn moment end entries carried
+    pub kept : Carries before after carried
