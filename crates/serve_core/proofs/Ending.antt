@@ -8,8 +8,8 @@ use Rattle.edge_traits.specs.Door.{DoorTale, IfTold}
 use Rattle.edge_traits.specs.Sink.{AppendsFront, OnWriteFailed, Wrote}
 use Rattle.std.specs.Io.KnownBytes.{Appends}
 use Rattle.one_server.specs.Whole.{IsWhole}
-use Rattle.steward_core.specs.declared.turn.StewardEnd.{StewardEnd}
-use Rattle.steward_core.specs.declared.turn.StewardEnd.TheVariants as steward
+use Rattle.steward_core.specs.declared.clearing.ClearingEnd.{ClearingEnd}
+use Rattle.steward_core.specs.declared.clearing.ClearingEnd.TheVariants as steward
 use Rattle.edge_traits.specs.declared.sink.Sent.{Sent}
 use Rattle.edge_traits.specs.declared.sink.Sent.TheVariants as sent
 use Rattle.histories.specs.History.{calls_of}
@@ -211,7 +211,7 @@ module _ {C : Type 0} (shows : C → ℕ → Bool) (hall : TableId) (clock : C) 
 
   -- a turn that ran out of memory
   turn_short : t.end ≡ steward.Memory → last ≡ Short
-  turn_short e = t.supply ∙ ap (λ (x : StewardEnd). supply_then x supply) e
+  turn_short e = t.supply ∙ ap (λ (x : ClearingEnd). supply_then x supply) e
 
   pub served_all : (end : ServeEnd) (before after : Sheet) → IsWhole pass.opening → (IsClean end → last ≡ Enough) → Closes end door before after pass.splits → HasServedAll (shows clock) pass.opening end door before after new
   served_all end before after opens_whole whole leaves = record {
@@ -234,7 +234,7 @@ module _ {C : Type 0} (shows : C → ℕ → Bool) (hall : TableId) (clock : C) 
       entries = t.made.turn.entries;
       moment = t.made.moment;
       made_is = own_calls ∙ turn_made t.end pass t.mid t.made;
-      turn = t.made.turn.turn;
+      turn = t.made.turn.cleared;
     };
     turns = λ w. told_as door (λ tale. asked t.mid.made ≡ tale.quiets + 1) (λ tale. asked (calls_of 0 new.seen) ≡ tale.quiets + 1) (λ tale n. ap asked own_calls ∙ n) (asks_then t.end supply door pass t.mid k.turns t.made (sym t.supply ∙ whole w));
     whole_turns = λ w. subst (λ (l : Log). HasTurns 1 door l) (sym own_calls) (whole_then t.end supply door pass t.mid k.whole_turns t.made (sym t.supply ∙ whole w));

@@ -15,8 +15,8 @@ use Rattle.hall_core.specs.Passes.{IsJoined, PassState, divided, first_pass}
 use Rattle.link_core.specs.declared.link_end.LinkEnd.{LinkEnd}
 use Rattle.link_core.specs.declared.link_end.LinkEnd.TheVariants as link_end
 use Rattle.link_core.specs.Served.{WasServed}
-use Rattle.steward_core.specs.declared.turn.StewardEnd.{StewardEnd}
-use Rattle.steward_core.specs.declared.turn.StewardEnd.TheVariants as steward
+use Rattle.steward_core.specs.declared.clearing.ClearingEnd.{ClearingEnd}
+use Rattle.steward_core.specs.declared.clearing.ClearingEnd.TheVariants as steward
 use Rattle.serve_core.specs.declared.settle.Supply.{Supply}
 use Rattle.serve_core.specs.declared.settle.Supply.TheVariants.{Enough, Short}
 use Rattle.serve_core.specs.Stewarding.{AreStewards, HasTurns, asked}
@@ -54,23 +54,23 @@ now_short end supply e = ap (λ x. supply_after x supply) e
 stays_short : (end : LinkEnd) (supply : Supply) → supply ≡ Short → supply_after end supply ≡ Short
 stays_short end supply e = ap (supply_after end) e ∙ still_short end
 
-pub then_short : (end : StewardEnd) (supply : Supply) → supply ≡ Short → supply_then end supply ≡ Short
+pub then_short : (end : ClearingEnd) (supply : Supply) → supply ≡ Short → supply_then end supply ≡ Short
 then_short steward.Done supply e = e
 then_short steward.Memory supply e = refl
 
 -- what was made and how many Quiets there were, after a turn
-asked_then : (end : StewardEnd) (supply : Supply) (door : Option DoorTale) (old new : PassState) → (supply ≡ Enough → IfTold door (λ tale. asked old.made ≡ tale.quiets)) → MadeTurn end old new
+asked_then : (end : ClearingEnd) (supply : Supply) (door : Option DoorTale) (old new : PassState) → (supply ≡ Enough → IfTold door (λ tale. asked old.made ≡ tale.quiets)) → MadeTurn end old new
     → supply_then end supply ≡ Enough → IfTold door (λ tale. asked new.made ≡ tale.quiets + 1)
 asked_then steward.Done supply door old new turns turn e =
     told_as door (λ tale. asked old.made ≡ tale.quiets) (λ tale. asked new.made ≡ tale.quiets + 1) (λ tale n. turn_asked old new turn ∙ ap (λ k. k + 1) n) (turns e)
 asked_then steward.Memory supply door old new turns turn e = absurd cc
 
-pub asks_then : (end : StewardEnd) (supply : Supply) (door : Option DoorTale) (old new : PassState) → (supply ≡ Enough → IfTold door (λ tale. asked old.made ≡ tale.quiets)) → MadeTurn end old new
+pub asks_then : (end : ClearingEnd) (supply : Supply) (door : Option DoorTale) (old new : PassState) → (supply ≡ Enough → IfTold door (λ tale. asked old.made ≡ tale.quiets)) → MadeTurn end old new
     → supply_then end supply ≡ Enough → IfTold door (λ tale. asked new.made ≡ tale.quiets + 1)
 asks_then end supply door old new turns turn e = asked_then end supply door old new turns turn e
 
 -- the whole turns that were made, after one more
-pub whole_then : (end : StewardEnd) (supply : Supply) (door : Option DoorTale) (old new : PassState) → (supply ≡ Enough → HasTurns 0 door old.made) → MadeTurn end old new → supply_then end supply ≡ Enough → HasTurns 1 door new.made
+pub whole_then : (end : ClearingEnd) (supply : Supply) (door : Option DoorTale) (old new : PassState) → (supply ≡ Enough → HasTurns 0 door old.made) → MadeTurn end old new → supply_then end supply ≡ Enough → HasTurns 1 door new.made
 whole_then steward.Done supply door old new turns turn e = turns_more door old new (turns e) turn
 whole_then steward.Memory supply door old new turns turn e = absurd cc
 
@@ -161,7 +161,7 @@ module _ {C : Type 0} (shows : C → ℕ → Bool) (hall : TableId) (clock : C) 
     }
 
   -- a Quiet, and a turn of the steward
-  pub kept_quiet : (supply : Supply) (end : StewardEnd) (door door' : Option DoorTale) (pass new : PassState) (waiting : List (Due C)) → Underway shows hall clock supply door pass waiting
+  pub kept_quiet : (supply : Supply) (end : ClearingEnd) (door door' : Option DoorTale) (pass new : PassState) (waiting : List (Due C)) → Underway shows hall clock supply door pass waiting
       → Goes door door' (λ before after. after ≡ record before { quiets = before.quiets + 1 }) → MadeTurn end pass new → Underway shows hall clock (supply_then end supply) door' new waiting
   kept_quiet supply end door door' pass new waiting k goes turn =
       let R : DoorTale → DoorTale → Type 0 = λ before after. after ≡ record before { quiets = before.quiets + 1 } in

@@ -4,9 +4,9 @@ use Rattle.lobby_state.specs.declared.desk_in_use.DeskInUse.{DeskInUse}
 use Rattle.one_server.specs.declared.act.Timed.{Timed}
 use Rattle.one_server.specs.Running.{Log, RunnerState}
 use Rattle.hall_core.specs.Passes.{PassState, Place}
-use Rattle.steward_core.specs.declared.turn.StewardEnd.{StewardEnd}
-use Rattle.steward_core.specs.declared.turn.StewardEnd.TheVariants.{Done, Memory}
-use Rattle.steward_core.specs.Turn.{AreClears, AsksAndClears, IsPartOf, IsTurn, acts_of, clears, rows_told}
+use Rattle.steward_core.specs.declared.clearing.ClearingEnd.{ClearingEnd}
+use Rattle.steward_core.specs.declared.clearing.ClearingEnd.TheVariants.{Done, Memory}
+use Rattle.steward_core.specs.Clearing.{AreClears, AsksAndClears, IsPartOf, IsClearing, acts_of, clears, rows_told}
 use Rattle.std.specs.declared.option.Option.{Option}
 use Rattle.edge_traits.specs.Door.{DoorTale, Goes}
 use Rattle.serve_core.specs.Stewarding.{AreStewards, HasTurns, IsStewards, asked, asks_once}
@@ -37,11 +37,11 @@ part_of_itself : {T : Type 0} (xs : List T) → IsPartOf xs xs
 part_of_itself [] = tt
 part_of_itself (x ∷ xs) = inl (refl, part_of_itself xs)
 
-stewards_rest : (end : StewardEnd) (moment : ℕ) (rows : List DeskInUse) (es : Log) → AreClears end moment rows es → AreStewards es × (asked es ≡ 0)
+stewards_rest : (end : ClearingEnd) (moment : ℕ) (rows : List DeskInUse) (es : Log) → AreClears end moment rows es → AreStewards es × (asked es ≡ 0)
 stewards_rest Done moment rows es p = stewards_some moment es rows (subst (λ (l : List Timed). IsPartOf (acts_of es) l) p (part_of_itself (acts_of es)))
 stewards_rest Memory moment rows es p = stewards_some moment es rows p
 
-stewards_turn : (end : StewardEnd) (moment : ℕ) (es : Log) → AsksAndClears end moment es → AreStewards es × (asked es ≡ 1)
+stewards_turn : (end : ClearingEnd) (moment : ℕ) (es : Log) → AsksAndClears end moment es → AreStewards es × (asked es ≡ 1)
 stewards_turn end moment es p =
     let rest = stewards_rest end moment (rows_told p.first.reply) p.rest p.clears in
     let both : AreStewards (p.first ∷ p.rest) × (asked (p.first ∷ p.rest) ≡ 1) = (
@@ -50,12 +50,12 @@ stewards_turn end moment es p =
     ) in
     subst (λ (l : Log). AreStewards l × (asked l ≡ 1)) (sym p.all) both
 
-pub turn_stewards : (end : StewardEnd) (moment : ℕ) (es : Log) → IsTurn end moment es → AreStewards es
+pub turn_stewards : (end : ClearingEnd) (moment : ℕ) (es : Log) → IsClearing end moment es → AreStewards es
 turn_stewards Done moment es p = (stewards_turn Done moment es p).0
 turn_stewards Memory moment es (inl e) = subst AreStewards (sym e) tt
 turn_stewards Memory moment es (inr p) = (stewards_turn Memory moment es p).0
 
-module _ (end : StewardEnd) (old new : PassState) (turn : MadeTurn end old new) where
+module _ (end : ClearingEnd) (old new : PassState) (turn : MadeTurn end old new) where
   pub turn_home : new.home ≡ old.home
   turn_home = ap (λ (p : Place). p.hall) turn.place
 
@@ -72,11 +72,11 @@ module _ (end : StewardEnd) (old new : PassState) (turn : MadeTurn end old new) 
   turn_made = turn.turn.grew.more
 
   pub turn_all : AreStewards old.made → AreStewards new.made
-  turn_all p = subst AreStewards (sym turn_made) (stewards_append old.made turn.turn.entries p (turn_stewards end turn.moment turn.turn.entries turn.turn.turn))
+  turn_all p = subst AreStewards (sym turn_made) (stewards_append old.made turn.turn.entries p (turn_stewards end turn.moment turn.turn.entries turn.turn.cleared))
 
 pub turn_asked : (old new : PassState) → MadeTurn Done old new → asked new.made ≡ asked old.made + 1
 turn_asked old new turn =
-    let once = (stewards_turn Done turn.moment turn.turn.entries turn.turn.turn).1 in
+    let once = (stewards_turn Done turn.moment turn.turn.entries turn.turn.cleared).1 in
     ap asked (turn_made Done old new turn) ∙ asked_append old.made turn.turn.entries ∙ ap (λ n. asked old.made + n) once
 
 -- ---- whole turns
@@ -85,7 +85,7 @@ turn_asked old new turn =
 pub turns_more : (door : Option DoorTale) (old new : PassState) → HasTurns 0 door old.made → MadeTurn Done old new → HasTurns 1 door new.made
 turns_more door old new t turn = (
   suc t.0,
-  (old.made, turn.turn.entries, turn.moment, t.1, turn.turn.turn, turn_made Done old new turn),
+  (old.made, turn.turn.entries, turn.moment, t.1, turn.turn.cleared, turn_made Done old new turn),
   told_as door (λ tale. t.0 ≡ tale.quiets + 0) (λ tale. suc t.0 ≡ tale.quiets + 1) (λ tale n. omega (arith, n)) t.2,
 )
 

@@ -7,9 +7,9 @@ use Rattle.lobby_state.specs.declared.acts.PairAct.TheVariants.{Clear}
 use Rattle.one_server.specs.declared.act.Act.{Act}
 use Rattle.one_server.specs.declared.act.Act.TheVariants.{Lobby, Pair}
 use Rattle.one_server.specs.Running.{Log}
-use Rattle.steward_core.specs.declared.turn.StewardEnd.{StewardEnd}
-use Rattle.steward_core.specs.declared.turn.StewardEnd.TheVariants.{Done, Memory}
-use Rattle.steward_core.specs.Turn.{IsTurn}
+use Rattle.steward_core.specs.declared.clearing.ClearingEnd.{ClearingEnd}
+use Rattle.steward_core.specs.declared.clearing.ClearingEnd.TheVariants.{Done, Memory}
+use Rattle.steward_core.specs.Clearing.{IsClearing}
 
 -- an act that a steward makes: the question which desks are in use, or a Clear
 abbrev pub IsStewards : Act → Type 0
@@ -35,19 +35,19 @@ asked (e ∷ es) = asks_once e.act.act + asked es
 -- the last entries are those of one turn, which made all its acts; but for those that ran out of memory, where memory
 -- may have run short
 pub record EndsWithTurn (lack : Type 0) (made : Log) : Type 0 where
-  pub end : StewardEnd
+  pub end : ClearingEnd
   pub short : end ≡ Memory → lack
   pub before : Log
   pub entries : Log
   pub moment : ℕ
   pub made_is : made ≡ before ++ entries
-  pub turn : IsTurn end moment entries
+  pub turn : IsClearing end moment entries
 
 -- the entries are those of so many turns, one after the other, in each of which every act was made
 abbrev pub AreTurns : ℕ → Log → Type 0
 AreTurns zero made = made ≡ []
 AreTurns (suc n) made = (before : Log) × (entries : Log) × (moment : ℕ) × AreTurns n before
-    × IsTurn Done moment entries × (made ≡ before ++ entries)
+    × IsClearing Done moment entries × (made ≡ before ++ entries)
 
 -- all entries are those of such turns, of which there are as many as the door gave Quiets, and so many more
 abbrev pub HasTurns : ℕ → Option DoorTale → Log → Type 0

@@ -7,7 +7,7 @@ ghost use Rattle.serve_core.specs.Stopping.{Stopped};
 ghost use Rattle.serve_core.specs.Turns.{MadeTurn, supply_then};
 ghost use Rattle.serve_core.specs.declared.end.DoorEnd.{DoorEnd};
 ghost use Rattle.serve_core.specs.declared.end.DoorEnd.TheVariants.{Spent};
-ghost use Rattle.steward_core.specs.declared.turn.StewardEnd.{StewardEnd};
+ghost use Rattle.steward_core.specs.declared.clearing.ClearingEnd.{ClearingEnd};
 
 use crate::attend::attend;
 use crate::end::DoorEnd;
@@ -18,7 +18,7 @@ use edge_traits::{Came, Clock, Doorway, Gate, Link};
 use hall_core::HallPass;
 use std::sync::Wait;
 use std::thread::{Scope, Threads};
-use steward_core::StewardEnd;
+use steward_core::ClearingEnd;
 
 /// How many links are taken at most.
 const MOST_LINKS: u32 = 1 << 31;
@@ -72,7 +72,7 @@ fn at_quiet<T: Threads + Wait, C: Clock, G: Gate, L: Link + Drop>(
     host: Host<L, C>,
 ) -> Host<L, C>
     requires here { host.pass.home ≡ place.now.hall.now }
-    ensures turn { (end : StewardEnd) × MadeTurn end host.pass result.pass
+    ensures turn { (end : ClearingEnd) × MadeTurn end host.pass result.pass
         × (result.supply ≡ supply_then end host.supply) }
     ensures waiting { result.waiting ≡ host.waiting }
 {
@@ -90,12 +90,12 @@ fn at_quiet<T: Threads + Wait, C: Clock, G: Gate, L: Link + Drop>(
 }
 
 /// Whether something ran out of memory, once a turn of the steward ended like this.
-pub(crate) fn supply_then(end: StewardEnd, before: Supply) -> Supply
+pub(crate) fn supply_then(end: ClearingEnd, before: Supply) -> Supply
     ensures { result ≡ supply_then end before }
 {
     match end {
-        StewardEnd::Done => before,
-        StewardEnd::Memory => Supply::Short,
+        ClearingEnd::Done => before,
+        ClearingEnd::Memory => Supply::Short,
     }
 }
 

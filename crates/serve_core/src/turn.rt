@@ -8,7 +8,7 @@ use edge_traits::{Clock, Gate};
 use hall_core::HallPass;
 use std::sync::Wait;
 use std::thread::Threads;
-use steward_core::{StewardEnd, steward_turn};
+use steward_core::{ClearingEnd, clearing_turn};
 
 /// The latest moment that an act may have, in milliseconds.
 const LATEST: u64 = 1 << 48;
@@ -17,13 +17,13 @@ const LATEST: u64 = 1 << 48;
 pub fn turn<T: Threads + Wait, C: Clock, G: Gate>(
     place: &Place<'_, T, C, G>,
     pass: HallPass,
-) -> (HallPass, StewardEnd)
+) -> (HallPass, ClearingEnd)
     requires here { pass.home ≡ place.now.hall.now }
     ensures { MadeTurn result.1 pass result.0 }
 {
     let moment = present(place.clock);
     let mut seat = place.hall.seat(pass, place.gate, place.rt);
-    let end = steward_turn(place.alloc, &mut seat, moment);
+    let end = clearing_turn(place.alloc, &mut seat, moment);
     (seat.into_pass(), end)
 }
 

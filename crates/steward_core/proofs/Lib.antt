@@ -1,1 +1,5 @@
-pub mod Clearing
+pub mod DesksCleared
+pub mod OrdersSaved
+pub mod OrdersTold
+pub mod StatesLead
+pub mod AgreedStill

@@ -1,14 +1,37 @@
-use Rattle.std.proofs.Common.{List, subst, ◌∙◌, sym, ap}
-use Rattle.lobby_state.specs.declared.desk_in_use.DeskInUse.{DeskInUse}
-use Rattle.lobby_state.specs.declared.acts.LobbyReply.{LobbyReply}
-use Rattle.one_server.specs.declared.reply.Reply.TheVariants.{Lobby}
-use Rattle.steward_core.specs.Turn.{Cleared, rows_told}
-use Rattle.steward_core.proofs.Clearing.{whole_turn}
+use Rattle.std.proofs.Common.{◌++◌, refl}
+use Rattle.steward_core.proofs.AgreedStill.{agreed_then, agreed_unsaved, clearing_unsaved}
+use Rattle.steward_core.proofs.DesksCleared.{made_then}
 use Rattle.steward_core.proofs.turn.steward_turn.Goals as goal
 
-pub returns-in-Ok-Lobby-Desks-clause-turn : goal.returns-in-Ok-Lobby-Desks-clause-turn
-returns-in-Ok-Lobby-Desks-clause-turn g c =
-    let w = c.in-Ok-Lobby-Desks in
-    whole_turn c.args.moment c.clear_each.result w.field-0 (g.R.Runner.state c.args.runner.now) (g.R.Runner.state c.run.new.self) (g.R.Runner.state c.clear_each.new.runner) w.ensures.ran
-    (subst (λ (rows : List DeskInUse). Cleared c.args.moment c.clear_each.result rows (g.R.Runner.state c.run.new.self) (g.R.Runner.state c.clear_each.new.runner))
-    (c.as_slice.ensures ∙ (sym (ap (λ (r : LobbyReply). rows_told (Lobby r)) w.field-0-0-is) ∙ sym (ap rows_told w.field-0-is))) c.clear_each.ensures.cleared)
+pub returns-clause-turn : goal.returns-clause-turn
+returns-clause-turn g c =
+    let one = c.clearing_turn-cleared.ensures.cleared in
+    let two = c.save_orders-saved.ensures.saving in
+    record {
+      entries = one.entries ++ two.entries;
+      carried = two.carried;
+      grew = made_then (g.R.Runner.state c.args.runner.now) (g.R.Runner.state c.clearing_turn-cleared.new.runner) (g.R.Runner.state c.save_orders-saved.new.runner) one.entries two.entries one.grew two.grew;
+      turn = record {
+        cleared = c.clearing_turn-cleared.result;
+        saved = c.save_orders-saved.result;
+        first = one.entries;
+        rest = two.entries;
+        all = refl;
+        clearing = one.cleared;
+        saving = two.saving;
+        ends = c.end_of_turn.ensures;
+      };
+      kept = two.kept;
+    }
+
+pub returns-clause-agrees : goal.returns-clause-agrees
+returns-clause-agrees g c =
+    let old = g.R.Runner.state c.args.runner.now in
+    let mid = g.R.Runner.state c.clearing_turn-cleared.new.runner in
+    let new = g.R.Runner.state c.save_orders-saved.new.runner in
+    let table = g.P.Keeper.table c.args.keeper.now in
+    let one = c.clearing_turn-cleared.ensures.cleared in
+    let two = c.save_orders-saved.ensures.saving in
+    agreed_then table table (g.P.Keeper.table c.save_orders-saved.new.keeper) old mid new one.entries two.entries one.grew two.grew
+    (agreed_unsaved table old mid one.entries c.session-session.ensures.known one.grew (clearing_unsaved c.args.moment c.clearing_turn-cleared.result one.entries one.cleared))
+    c.save_orders-saved.ensures.agrees

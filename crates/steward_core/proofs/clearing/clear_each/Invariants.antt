@@ -1,6 +1,6 @@
 use Rattle.std.proofs.Common.{◌≡◌, take}
-use Rattle.steward_core.specs.Turn.{Cleared}
-use Rattle.steward_core.proofs.turn.clear_each.Given as goal
+use Rattle.steward_core.specs.Clearing.{Cleared}
+use Rattle.steward_core.proofs.clearing.clear_each.Given as goal
 
 abbrev pub invariant-loop-row : goal.invariant-loop-row
 invariant-loop-row g l = record {

@@ -1,10 +1,10 @@
 use Rattle.std.proofs.Common.{List, take, refl, subst, ◌∙◌, sym, ◌+◌}
 use Rattle.std.proofs.lemmas.List.{take_all, take_more}
 use Rattle.lobby_state.specs.declared.desk_in_use.DeskInUse.{DeskInUse}
-use Rattle.steward_core.specs.declared.turn.StewardEnd.{StewardEnd}
-use Rattle.steward_core.specs.Turn.{Cleared, end_of_both}
-use Rattle.steward_core.proofs.Clearing.{cleared_next, none_cleared}
-use Rattle.steward_core.proofs.turn.clear_each.Goals as goal
+use Rattle.steward_core.specs.declared.clearing.ClearingEnd.{ClearingEnd}
+use Rattle.steward_core.specs.Clearing.{Cleared, end_of_both}
+use Rattle.steward_core.proofs.DesksCleared.{cleared_next, none_cleared}
+use Rattle.steward_core.proofs.clearing.clear_each.Goals as goal
 
 pub loop-row-init : goal.loop-row-init
 loop-row-init g c = record { home = refl; cleared = none_cleared c.args.moment (g.R.Runner.state c.args.runner.now) c.requires.known }
@@ -18,7 +18,7 @@ loop-row-preserved g c =
     record {
       home = c.clear_one-one.ensures.home ∙ c.loop-row.invariant.home;
       cleared =
-          subst (λ (end : StewardEnd). Cleared c.args.moment end (take (c.loop-row.row-index + 1) c.args.rows.now) old new) (sym c.and-end.ensures)
+          subst (λ (end : ClearingEnd). Cleared c.args.moment end (take (c.loop-row.row-index + 1) c.args.rows.now) old new) (sym c.and-end.ensures)
           (subst (λ (rows : List DeskInUse). Cleared c.args.moment (end_of_both c.loop-row.end c.clear_one-one.result) rows old new) (sym (take_more c.args.rows.now c.loop-row.row-index _ c.loop-row-test.true)) more);
     }
 

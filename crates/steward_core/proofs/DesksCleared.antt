@@ -7,14 +7,14 @@ use Rattle.lobby_state.specs.declared.desk_in_use.DeskInUse.{DeskInUse}
 use Rattle.one_server.specs.declared.act.Timed.{Timed}
 use Rattle.one_server.specs.declared.reply.Reply.{Reply}
 use Rattle.one_server.specs.Running.{IsKnown, Log, Made, Ran, RunnerState}
-use Rattle.steward_core.specs.declared.turn.StewardEnd.{StewardEnd}
-use Rattle.steward_core.specs.declared.turn.StewardEnd.TheVariants.{Done, Memory}
-use Rattle.steward_core.specs.Turn.{AreClears, AsksAndClears, Cleared, ClearsOne, IsPartOf, TakesTurn, acts_of, asks_in_use, clears, end_of_both, rows_told}
+use Rattle.steward_core.specs.declared.clearing.ClearingEnd.{ClearingEnd}
+use Rattle.steward_core.specs.declared.clearing.ClearingEnd.TheVariants.{Done, Memory}
+use Rattle.steward_core.specs.Clearing.{AreClears, AsksAndClears, Cleared, ClearsOne, IsPartOf, TakesClearing, acts_of, asks_in_use, clears, end_of_both, rows_told}
 
-made_none : (old : RunnerState) → IsKnown old → Made old [] old
+pub made_none : (old : RunnerState) → IsKnown old → Made old [] old
 made_none old known = record { same = refl; begins = ([], append-nil old.seen); known = known; more = sym (append-nil old.made); only = λ e. sym (append-nil old.seen) }
 
-made_then : (old mid new : RunnerState) (one two : Log) → Made old one mid → Made mid two new → Made old (one ++ two) new
+pub made_then : (old mid new : RunnerState) (one two : Log) → Made old one mid → Made mid two new → Made old (one ++ two) new
 made_then old mid new one two p q = record {
   same = q.same ∙ ap (λ (s : RunnerState). record s { seen = new.seen; made = new.made }) p.same;
   begins = (p.begins.0 ++ q.begins.0, sym (append_assoc old.seen p.begins.0 q.begins.0) ∙ ap (λ (l : Log). l ++ q.begins.0) p.begins.1 ∙ q.begins.1);
@@ -51,7 +51,7 @@ module _ (moment : ℕ) where
   more_rows : (rows : List DeskInUse) (row : DeskInUse) → map (clears moment) (rows ++ row ∷ []) ≡ map (clears moment) rows ++ clears moment row ∷ []
   more_rows rows row = map-append (clears moment) rows (row ∷ [])
 
-  cleared_more : (end : StewardEnd) (rows : List DeskInUse) (row : DeskInUse) (entries : Log) (e : Entry Timed Reply) → e.act ≡ clears moment row → AreClears end moment rows entries → AreClears end moment (rows ++ row ∷ []) (entries ++ e ∷ [])
+  cleared_more : (end : ClearingEnd) (rows : List DeskInUse) (row : DeskInUse) (entries : Log) (e : Entry Timed Reply) → e.act ≡ clears moment row → AreClears end moment rows entries → AreClears end moment (rows ++ row ∷ []) (entries ++ e ∷ [])
   cleared_more Done rows row entries e is p =
       more_acts entries e ∙ ap (λ (l : List Timed). l ++ e.act ∷ []) p ∙ ap (λ (t : Timed). map (clears moment) rows ++ t ∷ []) is ∙ sym (more_rows rows row)
   cleared_more Memory rows row entries e is p =
@@ -60,7 +60,7 @@ module _ (moment : ℕ) where
       (subst (λ (t : Timed). IsPartOf (acts_of entries ++ e.act ∷ []) (map (clears moment) rows ++ t ∷ [])) is (part_of_more (acts_of entries) (map (clears moment) rows) e.act p)))
 
   -- in each case some were cleared
-  some_cleared : (end : StewardEnd) (rows : List DeskInUse) (entries : Log) → AreClears end moment rows entries → AreClears Memory moment rows entries
+  pub some_cleared : (end : ClearingEnd) (rows : List DeskInUse) (entries : Log) → AreClears end moment rows entries → AreClears Memory moment rows entries
   some_cleared Done rows entries p = subst (λ (l : List Timed). IsPartOf (acts_of entries) l) p (part_of_itself (acts_of entries))
   some_cleared Memory rows entries p = p
 
@@ -71,14 +71,14 @@ module _ (moment : ℕ) where
   pub none_cleared : (old : RunnerState) → IsKnown old → Cleared moment Done [] old old
   none_cleared old known = record { entries = []; grew = made_none old known; clears = refl }
 
-  cleared_then : (end : StewardEnd) (rows : List DeskInUse) (row : DeskInUse) (old mid new : RunnerState) → Cleared moment end rows old mid → ClearsOne moment Done row mid new → Cleared moment end (rows ++ row ∷ []) old new
+  cleared_then : (end : ClearingEnd) (rows : List DeskInUse) (row : DeskInUse) (old mid new : RunnerState) → Cleared moment end rows old mid → ClearsOne moment Done row mid new → Cleared moment end (rows ++ row ∷ []) old new
   cleared_then end rows row old mid new p one = record {
     entries = p.entries ++ entry mid.number (clears moment row) one.0 ∷ [];
     grew = made_then old mid new p.entries (entry mid.number (clears moment row) one.0 ∷ []) p.grew one.1.grew;
     clears = cleared_more end rows row p.entries (entry mid.number (clears moment row) one.0) refl p.clears;
   }
 
-  passed_then : (end : StewardEnd) (rows : List DeskInUse) (row : DeskInUse) (old mid new : RunnerState) → Cleared moment end rows old mid → Made mid [] new → Cleared moment Memory (rows ++ row ∷ []) old new
+  passed_then : (end : ClearingEnd) (rows : List DeskInUse) (row : DeskInUse) (old mid new : RunnerState) → Cleared moment end rows old mid → Made mid [] new → Cleared moment Memory (rows ++ row ∷ []) old new
   passed_then end rows row old mid new p made = record {
     entries = p.entries ++ [];
     grew = made_then old mid new p.entries [] p.grew made;
@@ -86,28 +86,28 @@ module _ (moment : ℕ) where
   }
 
   -- one more desk
-  pub cleared_next : (end one : StewardEnd) (rows : List DeskInUse) (row : DeskInUse) (old mid new : RunnerState) → Cleared moment end rows old mid → ClearsOne moment one row mid new → Cleared moment (end_of_both end one) (rows ++ row ∷ []) old new
+  pub cleared_next : (end one : ClearingEnd) (rows : List DeskInUse) (row : DeskInUse) (old mid new : RunnerState) → Cleared moment end rows old mid → ClearsOne moment one row mid new → Cleared moment (end_of_both end one) (rows ++ row ∷ []) old new
   cleared_next Done Done rows row old mid new p one = cleared_then Done rows row old mid new p one
   cleared_next Memory Done rows row old mid new p one = cleared_then Memory rows row old mid new p one
   cleared_next Done Memory rows row old mid new p made = passed_then Done rows row old mid new p made
   cleared_next Memory Memory rows row old mid new p made = passed_then Memory rows row old mid new p made
 
-  asks : (end : StewardEnd) (reply : Reply) (number : ℕ) (rest : Log) → AreClears end moment (rows_told reply) rest → AsksAndClears end moment (entry number (asks_in_use moment) reply ∷ rest)
+  asks : (end : ClearingEnd) (reply : Reply) (number : ℕ) (rest : Log) → AreClears end moment (rows_told reply) rest → AsksAndClears end moment (entry number (asks_in_use moment) reply ∷ rest)
   asks end reply number rest p = record { first = entry number (asks_in_use moment) reply; rest = rest; all = refl; asks = refl; clears = p }
 
-  -- the whole turn
-  pub whole_turn : (end : StewardEnd) (reply : Reply) (old mid new : RunnerState) → Ran old (asks_in_use moment) reply mid → Cleared moment end (rows_told reply) mid new → TakesTurn moment end old new
-  whole_turn Done reply old mid new ran p = record {
+  -- the whole clearing
+  pub whole_clearing : (end : ClearingEnd) (reply : Reply) (old mid new : RunnerState) → Ran old (asks_in_use moment) reply mid → Cleared moment end (rows_told reply) mid new → TakesClearing moment end old new
+  whole_clearing Done reply old mid new ran p = record {
     entries = entry old.number (asks_in_use moment) reply ∷ p.entries;
     grew = made_then old mid new (entry old.number (asks_in_use moment) reply ∷ []) p.entries ran.grew p.grew;
-    turn = asks Done reply old.number p.entries p.clears;
+    cleared = asks Done reply old.number p.entries p.clears;
   }
-  whole_turn Memory reply old mid new ran p = record {
+  whole_clearing Memory reply old mid new ran p = record {
     entries = entry old.number (asks_in_use moment) reply ∷ p.entries;
     grew = made_then old mid new (entry old.number (asks_in_use moment) reply ∷ []) p.entries ran.grew p.grew;
-    turn = inr (asks Memory reply old.number p.entries p.clears);
+    cleared = inr (asks Memory reply old.number p.entries p.clears);
   }
 
-  -- a turn whose question ran out of memory
-  pub no_turn : (old new : RunnerState) → Made old [] new → TakesTurn moment Memory old new
-  no_turn old new made = record { entries = []; grew = made; turn = inl refl }
+  -- a clearing whose question ran out of memory
+  pub no_clearing : (old new : RunnerState) → Made old [] new → TakesClearing moment Memory old new
+  no_clearing old new made = record { entries = []; grew = made; cleared = inl refl }

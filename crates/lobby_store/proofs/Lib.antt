@@ -1,0 +1,3 @@
+pub mod OrdersOut
+pub mod RowsRead
+pub mod LeadingAlong

@@ -1,0 +1,100 @@
+-- Orders that are carried out one after another.
+use Rattle.std.proofs.Common.{◌≡◌, ℕ, Bool, true, false, cond, List, [], ◌∷◌, ◌++◌, Option, None, Some, refl, sym, ap, subst, ◌∙◌}
+use Rattle.std.specs.Prelude.{bytes_eq}
+use Rattle.std.specs.Ordering.{eq_by_cmp, is_eq}
+use Rattle.std.specs.declared.cmp.Ordering.{Ordering}
+use Rattle.std.specs.declared.cmp.Ordering.TheVariants.{Less, Equal, Greater}
+use Rattle.std.specs.Cmp.{eq_by_cmp_equiv}
+use Rattle.std.specs.Cmp.Lexicographic.{nat_list_cmp_total}
+use Rattle.std.specs.FinMap as map
+use Rattle.std.specs.FinMap.{get-insert, get-remove, nat_cmp-IsAntisymmetric, slice_cmp-IsAntisymmetric}
+use Rattle.std.proofs.lemmas.Bool.{false_from_ne_true}
+use Rattle.std.proofs.lemmas.Slice.Eq.{bytes_eq-Decides}
+use Rattle.edge_traits.specs.Keeper.{HasPut, HasRemoved, Stays}
+use Rattle.edge_traits.specs.Pairs.{Table, keys_order}
+use Rattle.edge_traits.specs.declared.keeper.Kept.{Kept}
+use Rattle.edge_traits.specs.declared.keeper.Kept.TheVariants.{Done, Failed, Memory}
+use Rattle.game_shelf.specs.Wanted.{Table as Records, table_with, with_order}
+use Rattle.game_shelf.specs.declared.order.Order.{Order}
+use Rattle.lobby_store.specs.Carrying.{Carries, CarriesOne, held}
+
+-- orders one after another
+pub table_with-append : (table : Records) (first rest : List Order) → table_with table (first ++ rest) ≡ table_with (table_with table first) rest
+table_with-append table [] rest = refl
+table_with-append table (order ∷ orders) rest = table_with-append (with_order table order) orders rest
+
+-- tables that hold the same under a key still do after the same orders
+pub same_table : (one other : Records) (orders : List Order) (key : List ℕ) → one key ≡ other key → table_with one orders key ≡ table_with other orders key
+same_table one other [] key same = same
+same_table one other (order ∷ orders) key same =
+    same_table (with_order one order) (with_order other order) orders key (ap (λ r. cond (bytes_eq order.key key) order.bytes r) same)
+
+-- no orders, and more of them
+pub carries_none : (table : Option Table) → Carries table table []
+carries_none None = tt
+carries_none (Some table) = λ key. refl
+
+pub carries_stay : (old new : Option Table) → Stays old new → Carries old new []
+carries_stay None new stays = tt
+carries_stay (Some old) None stays = absurd stays
+carries_stay (Some old) (Some new) stays = λ key. ap (λ (t : Table). held t key) stays
+
+pub carries_then : (old mid new : Option Table) (first rest : List Order) → Carries old mid first → Carries mid new rest → Carries old new (first ++ rest)
+carries_then None mid new first rest p q = tt
+carries_then (Some old) None new first rest p q = absurd p
+carries_then (Some old) (Some mid) None first rest p q = absurd q
+carries_then (Some old) (Some mid) (Some new) first rest p q = λ key.
+    q key ∙ same_table (held mid) (table_with (held old) first) rest key (p key)
+    ∙ ap (λ (t : Records). t key) (sym (table_with-append (held old) first rest))
+
+-- the two tests of keys say the same
+is_tied : (o : Ordering) → is_eq o ≡ true → o ≡ Equal
+is_tied Less e = cc
+is_tied Equal e = refl
+is_tied Greater e = cc
+
+pub tied_same : (one other : List ℕ) → eq_by_cmp keys_order one other ≡ true → one ≡ other
+tied_same one other tied = slice_cmp-IsAntisymmetric nat_cmp-IsAntisymmetric one other (is_tied (keys_order one other) tied)
+
+same_answers : (one other : Bool) → (one ≡ true → other ≡ true) → (other ≡ true → one ≡ true) → one ≡ other
+same_answers true other f g = sym (f refl)
+same_answers false true f g = g refl
+same_answers false false f g = refl
+
+pub same_test : (key order : List ℕ) → eq_by_cmp keys_order key order ≡ bytes_eq order key
+same_test key order = same_answers (eq_by_cmp keys_order key order) (bytes_eq order key)
+    (λ tied. (bytes_eq-Decides order key).1 (sym (tied_same key order tied)))
+    (λ same. subst (λ k. eq_by_cmp keys_order k order ≡ true) ((bytes_eq-Decides order key).0 same) ((eq_by_cmp_equiv nat_list_cmp_total).refl order))
+
+put_held : (old : Table) (order : Order) (bytes : List ℕ) (key : List ℕ) → order.bytes ≡ Some bytes
+    → held (map.insert old order.key bytes) key ≡ table_with (held old) (order ∷ []) key
+put_held old order bytes key is =
+    get-insert nat_list_cmp_total old order.key bytes key
+    ∙ ap (λ t. cond t (Some bytes) (held old key)) (same_test key order.key)
+    ∙ ap (λ r. cond (bytes_eq order.key key) r (held old key)) (sym is)
+
+removed_held : (old : Table) (order : Order) (key : List ℕ) → order.bytes ≡ None
+    → held (map.remove old order.key) key ≡ table_with (held old) (order ∷ []) key
+removed_held old order key is =
+    get-remove nat_list_cmp_total old order.key key
+    ∙ ap (λ t. cond t None (held old key)) (same_test key order.key)
+    ∙ ap (λ r. cond (bytes_eq order.key key) r (held old key)) (sym is)
+
+-- what a keeper answers to a put and to a removal
+pub put_carries : (old new : Option Table) (order : Order) (bytes : List ℕ) (kept : Kept) → order.bytes ≡ Some bytes
+    → HasPut old new order.key bytes kept → CarriesOne old new order kept
+put_carries None new order bytes Done is p = tt
+put_carries (Some old) None order bytes Done is p = absurd p
+put_carries (Some old) (Some new) order bytes Done is p = λ key.
+    ap (λ (t : Table). held t key) p ∙ put_held old order bytes key is
+put_carries old new order bytes Failed is p = p
+put_carries old new order bytes Memory is p = p
+
+pub removed_carries : (old new : Option Table) (order : Order) (kept : Kept) → order.bytes ≡ None
+    → HasRemoved old new order.key kept → CarriesOne old new order kept
+removed_carries None new order Done is p = tt
+removed_carries (Some old) None order Done is p = absurd p
+removed_carries (Some old) (Some new) order Done is p = λ key.
+    ap (λ (t : Table). held t key) p ∙ removed_held old order key is
+removed_carries old new order Failed is p = p
+removed_carries old new order Memory is p = p

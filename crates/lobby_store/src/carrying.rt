@@ -1,0 +1,52 @@
+//! Save orders are carried out at a keeper.
+ghost use Rattle.std.specs.Prelude.{◌≡◌, ◌≤◌, length, take};
+ghost use Rattle.edge_traits.specs.Faults.{Rose};
+ghost use Rattle.edge_traits.specs.Keeper.{OnKeepFailed};
+ghost use Rattle.edge_traits.specs.declared.keeper.Kept.{Kept};
+ghost use Rattle.lobby_store.specs.Carrying.{Carries, CarriesOne};
+
+use edge_traits::{Keeper, Kept};
+use game_shelf::Order;
+
+/// How far a keeper came with save orders.
+#[derive(Clone, Copy)]
+pub struct Carried {
+    /// How many of them were carried out, from the first one on.
+    pub count: usize,
+    /// What became of the one behind them; `Done` where all were carried out.
+    pub end: Kept,
+}
+
+/// Hands the orders to the keeper, one after another, until one isn't carried out: it puts the record of an order under
+/// the order's key, or removes the key where the order has no record. What was carried out stays so.
+pub fn carry_out<P: Keeper>(keeper: &mut P, orders: &[Order]) -> Carried
+    ensures few { result.count ≤ length orders.now }
+    ensures all { result.end ≡ Kept.Done → result.count ≡ length orders.now }
+    ensures carried { Carries (P.table keeper.old) (P.table keeper.new) (take result.count orders.now) }
+    ensures cause { OnKeepFailed result.end (Rose (P.faults keeper.old) (P.faults keeper.new)) }
+    ensures counted { P.faults keeper.old ≤ P.faults keeper.new }
+{
+    let mut count = 0;
+    for order in orders {
+        match carry_one(keeper, order) {
+            Kept::Done => count += 1,
+            end => return Carried { count, end },
+        }
+    }
+    Carried {
+        count,
+        end: Kept::Done,
+    }
+}
+
+/// Hands the order to the keeper.
+fn carry_one<P: Keeper>(keeper: &mut P, order: &Order) -> Kept
+    ensures carried { CarriesOne (P.table keeper.old) (P.table keeper.new) order.now result }
+    ensures cause { OnKeepFailed result (Rose (P.faults keeper.old) (P.faults keeper.new)) }
+    ensures counted { P.faults keeper.old ≤ P.faults keeper.new }
+{
+    match &order.bytes {
+        Some(bytes) => keeper.put(order.key.as_slice(), bytes.as_slice()),
+        None => keeper.remove(order.key.as_slice()),
+    }
+}

@@ -1,0 +1,149 @@
+-- Rounds of save orders, one after another.
+use Rattle.std.proofs.Common.{◌≡◌, ℕ, ◌+◌, ◌*◌, ◌<◌, ◌≤◌, zero, suc, inl, inr, Bool, true, false, cond, List, [], ◌∷◌, ◌++◌, Option, None, Some, length, refl, sym, ap, subst, ◌∙◌, append_assoc, append-nil, arith, ◌⊎◌, ◌==◌, ◌^◌, ◌-◌}
+use Rattle.std.proofs.lemmas.Bool.{eqb-true, eqb-false}
+use Rattle.edge_traits.specs.Pairs.{Table}
+use Rattle.edge_traits.specs.declared.keeper.Kept.{Kept}
+use Rattle.edge_traits.specs.declared.keeper.Kept.TheVariants as kept
+use Rattle.game_shelf.specs.declared.order.Order.{Order}
+use Rattle.histories.specs.declared.entry.Entry.{Entry}
+use Rattle.histories.specs.History.{entry}
+use Rattle.lobby_store.specs.Carrying.{Carries}
+use Rattle.lobby_store.proofs.OrdersOut.{carries_none, carries_then}
+use Rattle.one_server.specs.declared.act.Timed.{Timed}
+use Rattle.one_server.specs.declared.reply.Reply.{Reply}
+use Rattle.one_server.specs.Running.{IsKnown, Log, Made, Ran, RunnerState}
+use Rattle.steward_core.specs.Clearing.{acts_of}
+use Rattle.steward_core.specs.Saving.{AreFullRounds, EndsRound, EndsSaving, IsCutShort, IsRound, IsSaving, RunsRound, SavesTold, TakesSaving, TellsUpTo, asks_orders, last_number, orders_in, round_of, says_saved, tells_upto}
+use Rattle.steward_core.specs.declared.saving.Round.{Round}
+use Rattle.steward_core.specs.declared.saving.Round.TheVariants as round
+use Rattle.steward_core.specs.declared.saving.Told.{Told}
+use Rattle.steward_core.specs.declared.saving.Told.TheVariants as told
+use Rattle.steward_core.specs.declared.turn.StewardEnd.{StewardEnd}
+use Rattle.steward_core.specs.declared.turn.StewardEnd.TheVariants.{Done, KeeperFault, Memory}
+use Rattle.steward_core.proofs.DesksCleared.{made_none, made_then}
+
+-- so many full rounds were run
+pub record HasSaved (moment rounds : ℕ) (before after : Option Table) (old new : RunnerState) : Type 0 where
+  pub entries : Log
+  pub carried : List Order
+  pub grew : Made old entries new
+  pub full : AreFullRounds moment rounds entries carried
+  pub kept : Carries before after carried
+
+pub none_saved : (moment : ℕ) (table : Option Table) (old : RunnerState) → IsKnown old → HasSaved moment 0 table table old old
+none_saved moment table old known = record { entries = []; carried = []; grew = made_none old known; full = (refl, refl); kept = carries_none table }
+
+module _ (moment rounds : ℕ) (before mid after : Option Table) (old between new : RunnerState) (so_far : HasSaved moment rounds before mid old between) where
+  grown : (entries : Log) → Made between entries new → Made old (so_far.entries ++ entries) new
+  grown entries grew = made_then old between new so_far.entries entries so_far.grew grew
+
+  carried_on : (carried : List Order) → Carries mid after carried → Carries before after (so_far.carried ++ carried)
+  carried_on carried kept = carries_then before mid after so_far.carried carried so_far.kept kept
+
+  -- one more full round
+  pub saved_next : RunsRound moment round.Full mid after between new → HasSaved moment (suc rounds) before after old new
+  saved_next r = record {
+    entries = so_far.entries ++ r.entries;
+    carried = so_far.carried ++ r.carried;
+    grew = grown r.entries r.grew;
+    full = (so_far.entries, r.entries, so_far.carried, r.carried, so_far.full, r.ends.0, r.ends.1, refl, refl);
+    kept = carried_on r.carried r.kept;
+  }
+
+  -- a round that is the last one
+  ended : (end : StewardEnd) (entries : Log) (carried : List Order) → Made between entries new → EndsSaving moment end rounds entries carried → Carries mid after carried
+      → TakesSaving moment end before after old new
+  ended end entries carried grew ends kept = record {
+    entries = so_far.entries ++ entries;
+    carried = so_far.carried ++ carried;
+    grew = grown entries grew;
+    saving = record { rounds = rounds; full = so_far.entries; first = so_far.carried; rest = entries; last = carried; are_full = so_far.full; ends = ends; all = refl; orders = refl };
+    kept = carried_on carried kept;
+  }
+
+  pub ended_last : (few : ℕ) → RunsRound moment (round.Last few) mid after between new → TakesSaving moment (Done (rounds * 16 + few)) before after old new
+  ended_last few r = ended (Done (rounds * 16 + few)) r.entries r.carried r.grew
+      (inl (r.ends.0, r.ends.1, ap (λ n. rounds * 16 + n) r.ends.2)) r.kept
+
+  pub ended_fault : RunsRound moment round.KeeperFault mid after between new → TakesSaving moment KeeperFault before after old new
+  ended_fault r = ended KeeperFault r.entries r.carried r.grew r.ends r.kept
+
+  pub ended_short : RunsRound moment round.Memory mid after between new → TakesSaving moment Memory before after old new
+  ended_short r = ended Memory r.entries r.carried r.grew r.ends r.kept
+
+-- the most rounds
+pub ended_most : (moment rounds : ℕ) (before after : Option Table) (old new : RunnerState) → rounds ≡ 2 ^ 28 - 1 → HasSaved moment rounds before after old new
+    → TakesSaving moment (Done (rounds * 16)) before after old new
+ended_most moment rounds before after old new most s = record {
+  entries = s.entries;
+  carried = s.carried;
+  grew = s.grew;
+  saving = record { rounds = rounds; full = s.entries; first = s.carried; rest = []; last = []; are_full = s.full; ends = inr (most, refl, refl, refl); all = sym (append-nil s.entries); orders = sym (append-nil s.carried) };
+  kept = s.kept;
+}
+
+-- ---- one round
+
+-- what telling made, and whether it was made
+abbrev pub Said : ℕ → Option ℕ → Told → RunnerState → RunnerState → Type 0
+Said moment upto said old new = (entries : Log) × Made old entries new × ((said ≡ told.Done → acts_of entries ≡ tells_upto moment upto) × (said ≡ told.Memory → entries ≡ []))
+
+pub said_made : (moment : ℕ) (upto : Option ℕ) (said : Told) (old new : RunnerState) → IsKnown old → TellsUpTo moment upto said old new → Said moment upto said old new
+said_made moment None said old new known t = ([], subst (λ (s : RunnerState). Made old [] s) (sym t.1) (made_none old known), (λ _. refl, λ _. refl))
+said_made moment (Some upto) told.Done old new known t = (entry old.number (says_saved moment upto) t.0 ∷ [], t.1.grew, (λ _. refl, λ bad. cc))
+said_made moment (Some upto) told.Memory old new known t = ([], t, (λ bad. cc, λ _. refl))
+
+module _ (moment : ℕ) (orders : List Order) (before after : Option Table) (answer : Reply) (old mid new : RunnerState) (known : IsKnown mid)
+    (ran : Ran old (asks_orders moment) answer mid) (tells : orders_in answer ≡ orders) (few : length orders ≤ 16) where
+  asked : Entry Timed Reply
+  asked = entry old.number (asks_orders moment) answer
+
+  round_made : (said : Log) → Made mid said new → Made old (asked ∷ said) new
+  unfolding asked
+  round_made said made = made_then old mid new (asked ∷ []) said ran.grew made
+
+  whole_round : (carried left : List Order) (said : Log) → orders ≡ carried ++ left → left ≡ [] → acts_of said ≡ tells_upto moment (last_number carried) → IsRound moment (asked ∷ said) carried
+  unfolding asked
+  whole_round carried left said all none acts = record { first = asked; rest = said; all = refl; asks = refl; told = tells ∙ all ∙ ap (λ l. carried ++ l) none ∙ append-nil carried; saved = acts }
+
+  cut_round : (carried left : List Order) (said : Log) → orders ≡ carried ++ left → (acts_of said ≡ tells_upto moment (last_number carried)) ⊎ (said ≡ []) → IsCutShort moment (asked ∷ said) carried
+  unfolding asked
+  cut_round carried left said all acts = record { first = asked; rest = said; all = refl; asks = refl; left = left; told = tells ∙ all; saved = acts }
+
+  same_length : (carried left : List Order) → orders ≡ carried ++ left → left ≡ [] → length orders ≡ length carried
+  same_length carried left all none = ap length (all ∙ ap (λ l. carried ++ l) none ∙ append-nil carried)
+
+  ends_whole : (carried left : List Order) (said : Log) → orders ≡ carried ++ left → left ≡ [] → acts_of said ≡ tells_upto moment (last_number carried)
+      → (is_full : Bool) → (length orders == 16) ≡ is_full → EndsRound moment (cond is_full round.Full (round.Last (length orders))) (asked ∷ said) carried
+  ends_whole carried left said all none acts true full =
+      let same = same_length carried left all none in
+      (whole_round carried left said all none acts, let sixteen = eqb-true (length orders) 16 full in omega (arith, same, sixteen))
+  ends_whole carried left said all none acts false full =
+      let same = same_length carried left all none in
+      (whole_round carried left said all none acts, let other = eqb-false (length orders) 16 full in omega (arith, same, few, other), same)
+
+  ends_by : (outcome : Kept) (said : Told) (carried left : List Order) (entries : Log) → orders ≡ carried ++ left → (outcome ≡ kept.Done → left ≡ [])
+      → (said ≡ told.Done → acts_of entries ≡ tells_upto moment (last_number carried)) → (said ≡ told.Memory → entries ≡ [])
+      → EndsRound moment (round_of outcome said (length orders)) (asked ∷ entries) carried
+  ends_by kept.Failed told.Done carried left entries all whole acts none = cut_round carried left entries all (inl (acts refl))
+  ends_by kept.Failed told.Memory carried left entries all whole acts none = cut_round carried left entries all (inr (none refl))
+  ends_by kept.Memory told.Done carried left entries all whole acts none = inl (cut_round carried left entries all (inl (acts refl)))
+  ends_by kept.Memory told.Memory carried left entries all whole acts none = inl (cut_round carried left entries all (inr (none refl)))
+  ends_by kept.Done told.Memory carried left entries all whole acts none = inl (cut_round carried left entries all (inr (none refl)))
+  ends_by kept.Done told.Done carried left entries all whole acts none = ends_whole carried left entries all (whole refl) (acts refl) (length orders == 16) refl
+
+  pub round_run : (end : Round) → SavesTold moment end orders before after mid new → RunsRound moment end before after old new
+  round_run end s =
+      let said = said_made moment (last_number s.carried) s.said mid new known s.tells in
+      record {
+        entries = asked ∷ said.0;
+        carried = s.carried;
+        grew = round_made said.0 said.1;
+        ends = subst (λ (r : Round). EndsRound moment r (asked ∷ said.0) s.carried) (sym s.ends)
+            (ends_by s.outcome s.said s.carried s.left said.0 s.all s.whole said.2.0 said.2.1);
+        kept = s.table;
+      }
+
+-- a round whose question ran out of memory
+pub round_short : (moment : ℕ) (table : Option Table) (old new : RunnerState) → Made old [] new → RunsRound moment round.Memory table table old new
+round_short moment table old new made = record { entries = []; carried = []; grew = made; ends = inr (refl, refl); kept = carries_none table }

@@ -1,0 +1,20 @@
+use Rattle.std.proofs.Common.{◌≡◌, List, [], take, drop, length, sym, ap, subst, ◌∙◌, take-append-drop, arith}
+use Rattle.std.proofs.Math.Seq.{drop-length}
+use Rattle.steward_core.specs.Saving.{Tells}
+use Rattle.steward_core.proofs.saving.save_told.Goals as goal
+
+pub returns-clause-saves : goal.returns-clause-saves
+returns-clause-saves g c =
+    let orders = c.args.orders.now in
+    let count = c.carry_out-carried.result.count in
+    record {
+      carried = take count orders;
+      left = drop count orders;
+      outcome = c.carry_out-carried.result.end;
+      said = c.tell_saved-told.result;
+      all = sym (take-append-drop count orders);
+      whole = λ done. ap (λ n. drop n orders) (c.carry_out-carried.ensures.all done) ∙ drop-length orders;
+      table = c.carry_out-carried.ensures.carried;
+      tells = c.tell_saved-told.ensures.told;
+      ends = c.round_of.ensures;
+    }

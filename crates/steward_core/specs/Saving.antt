@@ -1,0 +1,155 @@
+-- The acts by which a steward has save orders carried out. This server's own.
+use Rattle.std.specs.Prelude.{◌≡◌, ℕ, ◌+◌, ◌-◌, ◌*◌, ◌<◌, ◌^◌, ◌==◌, ◌⊎◌, Bool, if◌then◌else◌, List, [], ◌∷◌, ◌++◌, Option, None, Some, length, zero, suc}
+use Rattle.edge_traits.specs.Pairs.{Table}
+use Rattle.edge_traits.specs.declared.keeper.Kept.{Kept}
+use Rattle.edge_traits.specs.declared.keeper.Kept.TheVariants as kept
+use Rattle.game_shelf.specs.declared.order.Order.{Order}
+use Rattle.histories.specs.declared.entry.Entry.{Entry}
+use Rattle.lobby_state.specs.declared.acts.LobbyAct.TheVariants.{Orders as AskOrders, Saved}
+use Rattle.lobby_state.specs.declared.acts.LobbyReply.TheVariants.{Orders}
+use Rattle.lobby_store.specs.Carrying.{Carries}
+use Rattle.one_server.specs.declared.act.Act.TheVariants.{Lobby}
+use Rattle.one_server.specs.declared.act.Timed.{Timed}
+use Rattle.one_server.specs.declared.reply.Reply.{Reply}
+use Rattle.one_server.specs.declared.reply.Reply.TheVariants as reply
+use Rattle.one_server.specs.Running.{Log, Made, Ran, RunnerState}
+use Rattle.steward_core.specs.Clearing.{acts_of}
+use Rattle.steward_core.specs.declared.saving.Round.{Round}
+use Rattle.steward_core.specs.declared.saving.Round.TheVariants as round
+use Rattle.steward_core.specs.declared.saving.Told.{Told}
+use Rattle.steward_core.specs.declared.saving.Told.TheVariants as told
+use Rattle.steward_core.specs.declared.turn.StewardEnd.{StewardEnd}
+use Rattle.steward_core.specs.declared.turn.StewardEnd.TheVariants.{Done, KeeperFault, Memory}
+
+-- the question for save orders
+abbrev pub asks_orders : ℕ → Timed
+asks_orders moment = record { moment = moment; act = Lobby AskOrders }
+
+-- the save orders that a reply tells
+abbrev pub orders_in : Reply → List Order
+orders_in (reply.Lobby (Orders orders)) = orders
+orders_in _ = []
+
+-- the act that tells the orders up to a number as saved
+abbrev pub says_saved : ℕ → ℕ → Timed
+says_saved moment upto = record { moment = moment; act = Lobby (Saved upto) }
+
+-- the number of the last of these orders, if there is one
+abbrev pub last_number : List Order → Option ℕ
+last_number [] = None
+last_number (order ∷ []) = Some order.number
+last_number (order ∷ (more ∷ orders)) = last_number (more ∷ orders)
+
+-- the acts that tell orders as saved: one, up to this number, where there is one
+abbrev pub tells_upto : ℕ → Option ℕ → List Timed
+tells_upto moment None = []
+tells_upto moment (Some upto) = says_saved moment upto ∷ []
+
+-- a whole round: the steward asks for orders, and tells all that it is told as saved
+pub record IsRound (moment : ℕ) (entries : Log) (orders : List Order) : Type 0 where
+  pub first : Entry Timed Reply
+  pub rest : Log
+  pub all : entries ≡ first ∷ rest
+  pub asks : first.act ≡ asks_orders moment
+  pub told : orders_in first.reply ≡ orders
+  pub saved : acts_of rest ≡ tells_upto moment (last_number orders)
+
+-- a round that was cut short: of the orders that were told some were carried out, from the first one on. These were told
+-- as saved, or that ran out of memory
+pub record IsCutShort (moment : ℕ) (entries : Log) (carried : List Order) : Type 0 where
+  pub first : Entry Timed Reply
+  pub rest : Log
+  pub all : entries ≡ first ∷ rest
+  pub asks : first.act ≡ asks_orders moment
+  pub left : List Order
+  pub told : orders_in first.reply ≡ carried ++ left
+  pub saved : (acts_of rest ≡ tells_upto moment (last_number carried)) ⊎ (rest ≡ [])
+
+-- so many whole rounds, one after another, in each of which 16 orders were told: these are their entries, and these all
+-- their orders
+abbrev pub AreFullRounds : ℕ → ℕ → Log → List Order → Type 0
+AreFullRounds moment zero entries orders = (entries ≡ []) × (orders ≡ [])
+AreFullRounds moment (suc n) entries orders =
+    (before : Log) × (after : Log) × (first : List Order) × (last : List Order) × AreFullRounds moment n before first
+    × IsRound moment after last × (length last ≡ 16) × (entries ≡ before ++ after) × (orders ≡ first ++ last)
+
+-- how many answers a turn asks for at most
+abbrev pub most_answers : ℕ
+most_answers = 2 ^ 28 - 1
+
+-- how the rounds end behind so many full ones: all orders are told as saved in a round with fewer than 16, or there were
+-- the most answers; or a round was cut short; or the question ran out of memory
+abbrev pub EndsSaving : ℕ → StewardEnd → ℕ → Log → List Order → Type 0
+EndsSaving moment (Done count) rounds entries orders =
+    (IsRound moment entries orders × (length orders < 16) × (count ≡ rounds * 16 + length orders))
+    ⊎ ((rounds ≡ most_answers) × (entries ≡ []) × (orders ≡ []) × (count ≡ rounds * 16))
+EndsSaving moment KeeperFault rounds entries orders = IsCutShort moment entries orders
+EndsSaving moment Memory rounds entries orders = IsCutShort moment entries orders ⊎ ((entries ≡ []) × (orders ≡ []))
+
+-- the entries of saving, in which these orders were carried out
+pub record IsSaving (moment : ℕ) (end : StewardEnd) (entries : Log) (carried : List Order) : Type 0 where
+  pub rounds : ℕ
+  pub full : Log
+  pub first : List Order
+  pub rest : Log
+  pub last : List Order
+  pub are_full : AreFullRounds moment rounds full first
+  pub ends : EndsSaving moment end rounds rest last
+  pub all : entries ≡ full ++ rest
+  pub orders : carried ≡ first ++ last
+
+-- a session had save orders carried out, and a keeper carried them out
+pub record TakesSaving (moment : ℕ) (end : StewardEnd) (before after : Option Table) (old new : RunnerState) : Type 0
+  where
+    pub entries : Log
+    pub carried : List Order
+    pub grew : Made old entries new
+    pub saving : IsSaving moment end entries carried
+    pub kept : Carries before after carried
+
+-- orders were told as saved, up to a number, where there is one
+abbrev pub TellsUpTo : ℕ → Option ℕ → Told → RunnerState → RunnerState → Type 0
+TellsUpTo moment None end old new = (end ≡ told.Done) × (new ≡ old)
+TellsUpTo moment (Some upto) told.Done old new = (answer : Reply) × Ran old (says_saved moment upto) answer new
+TellsUpTo moment (Some upto) told.Memory old new = Made old [] new
+
+-- these orders were told as saved
+abbrev pub Tells : ℕ → List Order → Told → RunnerState → RunnerState → Type 0
+Tells moment orders end old new = TellsUpTo moment (last_number orders) end old new
+
+-- how a round ended in which so many orders were told
+abbrev pub round_of : Kept → Told → ℕ → Round
+round_of kept.Failed end count = round.KeeperFault
+round_of kept.Memory end count = round.Memory
+round_of kept.Done told.Memory count = round.Memory
+round_of kept.Done told.Done count = if count == 16 then round.Full else round.Last count
+
+-- the orders that were told were handed to a keeper: some were carried out, from the first one on, all where that ended
+-- well, and then told as saved
+pub record SavesTold (moment : ℕ) (end : Round) (orders : List Order) (before after : Option Table)
+    (old new : RunnerState) : Type 0 where
+  pub carried : List Order
+  pub left : List Order
+  pub outcome : Kept
+  pub said : Told
+  pub all : orders ≡ carried ++ left
+  pub whole : outcome ≡ kept.Done → left ≡ []
+  pub table : Carries before after carried
+  pub tells : Tells moment carried said old new
+  pub ends : end ≡ round_of outcome said (length orders)
+
+-- what a round carried out, by how it ended
+abbrev pub EndsRound : ℕ → Round → Log → List Order → Type 0
+EndsRound moment round.Full entries orders = IsRound moment entries orders × (length orders ≡ 16)
+EndsRound moment (round.Last count) entries orders =
+    IsRound moment entries orders × (length orders < 16) × (count ≡ length orders)
+EndsRound moment round.KeeperFault entries orders = IsCutShort moment entries orders
+EndsRound moment round.Memory entries orders = IsCutShort moment entries orders ⊎ ((entries ≡ []) × (orders ≡ []))
+
+-- a session ran a round, in which a keeper carried orders out
+pub record RunsRound (moment : ℕ) (end : Round) (before after : Option Table) (old new : RunnerState) : Type 0 where
+  pub entries : Log
+  pub carried : List Order
+  pub grew : Made old entries new
+  pub ends : EndsRound moment end entries carried
+  pub kept : Carries before after carried

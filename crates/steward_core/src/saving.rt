@@ -1,0 +1,164 @@
+//! The second half of a turn of the steward: save orders are carried out and told as saved.
+ghost use Rattle.std.specs.Prelude.{◌≡◌, ◌≤◌, ◌^◌, length};
+ghost use Rattle.edge_traits.specs.Faults.{Rose};
+ghost use Rattle.one_server.specs.Running.{IsKnown};
+ghost use Rattle.steward_core.specs.Agreement.{StaysAgreed};
+ghost use Rattle.steward_core.specs.Saving.{RunsRound, SavesTold, TakesSaving, Tells, orders_in, round_of};
+ghost use Rattle.steward_core.specs.declared.saving.Round.{Round};
+ghost use Rattle.steward_core.specs.declared.turn.StewardEnd.{StewardEnd};
+
+use crate::turn::StewardEnd;
+use collections::Listed;
+use edge_traits::{Keeper, Kept};
+use game_shelf::Order;
+use lobby_state::{LobbyAct, LobbyReply};
+use lobby_store::carry_out;
+use memory::NoMemory;
+use one_server::{Act, Reply, Runner};
+use std::alloc::Global;
+
+/// How many answers a turn asks for at most, so that what it counts stays below 2^32.
+const MOST_ANSWERS: u32 = (1 << 28) - 1;
+
+/// How many orders an answer tells where there are so many.
+const ORDERS_AT_ONCE: usize = 16;
+
+/// How a round of saving ended.
+#[derive(Clone, Copy)]
+pub(crate) enum Round {
+    /// 16 orders were told, and all were carried out and told as saved.
+    Full,
+    /// So many orders were told, fewer than 16, and all were carried out and told as saved.
+    Last(u32),
+    /// The keeper failed.
+    KeeperFault,
+    /// Memory ran out.
+    Memory,
+}
+
+/// Whether orders were told as saved.
+#[derive(Clone, Copy)]
+pub(crate) enum Told {
+    Done,
+    /// Memory ran out, and nothing was told.
+    Memory,
+}
+
+/// Carries out save orders and tells them as saved, round by round, until a round had fewer than 16.
+pub(crate) fn save_orders<R: Runner, P: Keeper>(
+    alloc: Global,
+    runner: &mut R,
+    keeper: &mut P,
+    moment: u64,
+) -> StewardEnd
+    requires { moment ≤ 2 ^ 48 }
+    ensures home { R.home runner.new ≡ R.home runner.old }
+    ensures saving { TakesSaving moment result (P.table keeper.old) (P.table keeper.new) (R.state runner.old)
+        (R.state runner.new) }
+    ensures agrees { StaysAgreed (P.table keeper.old) (P.table keeper.new) (R.state runner.old) (R.state runner.new) }
+    ensures fault { result ≡ StewardEnd.KeeperFault → Rose (P.faults keeper.old) (P.faults keeper.new) }
+    ensures counted { P.faults keeper.old ≤ P.faults keeper.new }
+{
+    // What is known of every runner is known from here on.
+    let _session = runner.session();
+    let mut count = 0;
+    for answer in 0..MOST_ANSWERS {
+        match save_round(alloc, runner, keeper, moment) {
+            Round::Full => count += 16,
+            Round::Last(few) => return StewardEnd::Done(count + few),
+            Round::KeeperFault => return StewardEnd::KeeperFault,
+            Round::Memory => return StewardEnd::Memory,
+        }
+    }
+    StewardEnd::Done(count)
+}
+
+/// Asks for orders, carries them out and tells them as saved.
+fn save_round<R: Runner, P: Keeper>(
+    alloc: Global,
+    runner: &mut R,
+    keeper: &mut P,
+    moment: u64,
+) -> Round
+    requires moment { moment ≤ 2 ^ 48 }
+    requires known { IsKnown (R.state runner.old) }
+    ensures home { R.home runner.new ≡ R.home runner.old }
+    ensures round { RunsRound moment result (P.table keeper.old) (P.table keeper.new) (R.state runner.old)
+        (R.state runner.new) }
+    ensures agrees { StaysAgreed (P.table keeper.old) (P.table keeper.new) (R.state runner.old) (R.state runner.new) }
+    ensures fault { result ≡ Round.KeeperFault → Rose (P.faults keeper.old) (P.faults keeper.new) }
+    ensures counted { P.faults keeper.old ≤ P.faults keeper.new }
+{
+    let reply = match runner.run(alloc, moment, Act::Lobby(LobbyAct::Orders)) {
+        Ok(reply) => reply,
+        Err(NoMemory) => return Round::Memory,
+    };
+    let orders = orders_in(alloc, reply);
+    save_told(alloc, runner, keeper, moment, orders.as_slice())
+}
+
+/// The save orders that a reply tells.
+fn orders_in(alloc: Global, reply: Reply) -> Listed<Order>
+    ensures { result ≡ orders_in reply }
+{
+    match reply {
+        Reply::Lobby(LobbyReply::Orders(orders)) => orders,
+        _ => Listed::new(alloc),
+    }
+}
+
+/// Carries out the orders that were told, and tells those that were carried out as saved.
+fn save_told<R: Runner, P: Keeper>(
+    alloc: Global,
+    runner: &mut R,
+    keeper: &mut P,
+    moment: u64,
+    orders: &[Order],
+) -> Round
+    requires moment { moment ≤ 2 ^ 48 }
+    requires known { IsKnown (R.state runner.old) }
+    requires few { length orders.now ≤ 16 }
+    ensures home { R.home runner.new ≡ R.home runner.old }
+    ensures saves { SavesTold moment result orders.now (P.table keeper.old) (P.table keeper.new) (R.state runner.old)
+        (R.state runner.new) }
+    ensures fault { result ≡ Round.KeeperFault → Rose (P.faults keeper.old) (P.faults keeper.new) }
+    ensures counted { P.faults keeper.old ≤ P.faults keeper.new }
+{
+    let carried = carry_out(keeper, orders);
+    let told = tell_saved(alloc, runner, moment, &orders[..carried.count]);
+    round_of(carried.end, told, orders.len())
+}
+
+/// How a round ended in which so many orders were told.
+fn round_of(end: Kept, told: Told, count: usize) -> Round
+    requires { count ≤ 16 }
+    ensures { result ≡ round_of end told count }
+{
+    match (end, told) {
+        (Kept::Failed, _) => Round::KeeperFault,
+        (Kept::Memory, _) | (_, Told::Memory) => Round::Memory,
+        (Kept::Done, Told::Done) => {
+            if count == ORDERS_AT_ONCE {
+                Round::Full
+            } else {
+                Round::Last(count as u32)
+            }
+        }
+    }
+}
+
+/// Tells these orders as saved: those up to the last of them. Nothing is told where there are none.
+fn tell_saved<R: Runner>(alloc: Global, runner: &mut R, moment: u64, orders: &[Order]) -> Told
+    requires moment { moment ≤ 2 ^ 48 }
+    ensures home { R.home runner.new ≡ R.home runner.old }
+    ensures told { Tells moment orders.now result (R.state runner.old) (R.state runner.new) }
+{
+    let Some(last) = orders.last() else {
+        return Told::Done;
+    };
+    let act = Act::Lobby(LobbyAct::Saved { upto: last.number });
+    match runner.run(alloc, moment, act) {
+        Ok(_) => Told::Done,
+        Err(NoMemory) => Told::Memory,
+    }
+}
