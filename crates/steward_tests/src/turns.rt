@@ -122,13 +122,11 @@ fn turns_go(alloc: Global, mut server: OneServer, mut keeper: MemKeeper, row: &R
 
 /// How often orders were asked for.
 fn asked(server: &OneServer) -> usize {
-    let mut count = 0;
-    for entry in server.history() {
-        if let Act::Lobby(LobbyAct::Orders) = &entry.act.act {
-            count += 1;
-        }
-    }
-    count
+    server
+        .history()
+        .iter()
+        .filter(|entry| matches!(&entry.act.act, Act::Lobby(LobbyAct::Orders)))
+        .count()
 }
 
 /// Whether the turn ended so.
@@ -171,14 +169,14 @@ fn served(alloc: Global, members: u32) -> Result<OneServer, NoMemory> {
 
 /// A member comes in and registers.
 fn comes(server: &mut OneServer, number: u32) -> Result<(), NoMemory> {
-    let name = Handle::read(&[letter(number / 26), letter(number % 26), b'x']);
+    let name = Handle::read(&[letter(number / 26), letter(number), b'x']);
     runs(server, number + 1, LobbyAct::Enter { name, digest: None })?;
     runs(server, number + 1, LobbyAct::Register { digest: DIGEST })
 }
 
-/// The small letter of that number, from 0.
+/// The small letter of that number, counted from 0 and round again behind the last one.
 fn letter(number: u32) -> u8 {
-    b'a'.wrapping_add(number as u8)
+    b'a' + (number % 26) as u8
 }
 
 /// Makes a lobby act.
