@@ -5,7 +5,7 @@ use Rattle.chess_model.specs.declared.moves.Move.{Move}
 use Rattle.chess_model.specs.AllMoves.{allowed_moves}
 use Rattle.chess_model.specs.Holdings.{same_colour}
 use Rattle.game_board.specs.Board.{Board, position_of, to_move}
-use Rattle.linked_desk.specs.Boards.{numbered}
+use Rattle.linked_boards.specs.Boards.{numbered}
 use Rattle.linked_desk.specs.Desk.{DeskState, boards_at, end_of}
 use Rattle.linked_desk.specs.Seats.{board_of, colour_at}
 use Rattle.lobby_state.specs.Lobby.{places_of}
