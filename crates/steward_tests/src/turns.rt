@@ -23,7 +23,7 @@ struct Turn(Ends, usize);
 /// So many members register; of the keeper's calls those of these numbers, from 0, fail; the turns; and how often the
 /// steward has asked for orders in all of them.
 struct Row {
-    members: u32,
+    members: u16,
     fails: &'static [u64],
     turns: &'static [Turn],
     asked: usize,
@@ -159,7 +159,7 @@ fn is_record(bytes: &[u8]) -> bool {
 
 /// A server where so many members have come in and have registered.
 #[tactic(auto, using(one_server::proofs::Opens::opening_is))]
-fn served(alloc: Global, members: u32) -> Result<OneServer, NoMemory> {
+fn served(alloc: Global, members: u16) -> Result<OneServer, NoMemory> {
     let mut server = OneServer::new(alloc, Lobby::new(alloc)?)?;
     for number in 0..members {
         comes(&mut server, number)?;
@@ -168,14 +168,15 @@ fn served(alloc: Global, members: u32) -> Result<OneServer, NoMemory> {
 }
 
 /// A member comes in and registers.
-fn comes(server: &mut OneServer, number: u32) -> Result<(), NoMemory> {
+fn comes(server: &mut OneServer, number: u16) -> Result<(), NoMemory> {
     let name = Handle::read(&[letter(number / 26), letter(number), b'x']);
-    runs(server, number + 1, LobbyAct::Enter { name, digest: None })?;
-    runs(server, number + 1, LobbyAct::Register { digest: DIGEST })
+    let session = u32::from(number) + 1;
+    runs(server, session, LobbyAct::Enter { name, digest: None })?;
+    runs(server, session, LobbyAct::Register { digest: DIGEST })
 }
 
 /// The small letter of that number, counted from 0 and round again behind the last one.
-fn letter(number: u32) -> u8 {
+fn letter(number: u16) -> u8 {
     b'a' + (number % 26) as u8
 }
 
