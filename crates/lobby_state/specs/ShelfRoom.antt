@@ -1,12 +1,17 @@
 -- How much of the shelf is taken: each game for which a desk is in use may be adjourned, and has its place there. This
 -- server's own.
-use Rattle.std.specs.Prelude.{ℕ, ◌+◌, Bool, false, nat_le, List, [], ◌∷◌, length, Option, is_some, count_by}
+use Rattle.std.specs.Prelude.{ℕ, ◌+◌, Bool, false, nat_le, List, [], ◌∷◌, length, map, Option, is_some, count_by}
 use Rattle.fics_words.specs.Effect.{Effect}
 use Rattle.fics_words.specs.declared.refusal.Refusal.TheVariants.{ShelfFull}
 use Rattle.game_records.specs.declared.stored_game.StoredGame.{StoredGame}
 use Rattle.game_shelf.specs.Shelf.{most_stored, with_stored}
+use Rattle.game_shelf.specs.declared.shelved.Shelved.{Shelved}
 use Rattle.lobby_state.specs.declared.game.Game.{Game}
 use Rattle.lobby_state.specs.Lobby.{LobbyState}
+
+-- the numbers of these games, in their order
+abbrev pub numbers_of : List Shelved → List ℕ
+numbers_of games = map (λ row. row.number) games
 
 -- how many desks are in use
 abbrev pub desks_used : List (Option Game) → ℕ

@@ -11,7 +11,7 @@ ghost use Rattle.lobby_state.specs.Planned.{IsPlanned};
 ghost use Rattle.lobby_state.specs.Plans.{NamesDesk, committed, desk_of, plan_of};
 ghost use Rattle.lobby_state.specs.Registration.{loading_effect};
 ghost use Rattle.lobby_state.specs.Reserve.{CanShelve, IsReady, shelved_in};
-ghost use Rattle.lobby_state.specs.ShelfRoom.{storing_effect};
+ghost use Rattle.lobby_state.specs.ShelfRoom.{numbers_of, storing_effect};
 
 use crate::acts::{LobbyAct, LobbyReply, PairAct, Plan};
 use crate::game::Game;
@@ -99,6 +99,17 @@ impl Lobby {
         ensures { result.now ≡ self.now.shelf.games }
     {
         self.register.shelf.games()
+    }
+
+    /// The numbers of the adjourned games on the shelf, from the least on. It fails only when out of memory.
+    pub fn numbers(&self, alloc: Global) -> Result<Vec<u64>, NoMemory>
+        ensures { IfOk result (λ numbers. numbers.items ≡ numbers_of self.now.shelf.games) }
+    {
+        let mut numbers = Vec::new(alloc);
+        for row in self.register.shelf.games() {
+            numbers.push(row.number)?;
+        }
+        Ok(numbers)
     }
 
     /// The accounts, in the order in which they were made.
