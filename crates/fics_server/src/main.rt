@@ -2,7 +2,8 @@
 //! standard streams; it ends with their status.
 #![tactic(auto)]
 
-use edge_traits::OpenGate;
+use edge_traits::{Keeper, OpenGate};
+use file_keeper::{SqliteKeeper, StoreReader};
 use job_words::{Job, JobFail, read_job};
 use line_answers::{End, status};
 use real_edges::{NoStore, StdSink, StdSource, TcpDoor, WallClock};
@@ -21,49 +22,75 @@ fn main(rt: HostRuntime) -> ExitCode {
     let Ok(words) = words_of(&rt) else {
         return ExitCode::from(status(End::Memory));
     };
-    let mut sink = StdSink::new(io::writer(&rt));
-    match read_job(rt.alloc(), words.as_slice()) {
-        Ok(Job::Serve { port, bind, count }) => {
+    let words = words.as_slice();
+    match read_job(rt.alloc(), words) {
+        Ok(Job::Serve {
+            port,
+            bind,
+            store,
+            count,
+        }) => {
             let door = TcpDoor::new(&rt, bind.as_str(), port, count);
-            ExitCode::from(serve_at(&rt, rt.alloc(), words.as_slice(), door, &mut sink))
+            ExitCode::from(serve_with(rt, words, door, store))
+        }
+        Ok(Job::Check { store } | Job::Pgn { store } | Job::Examine { store, .. }) => {
+            run_over(&rt, words, &mut StoreReader::new(rt, store))
         }
         Err(JobFail::Memory) => ExitCode::from(status(End::Memory)),
-        Ok(_) | Err(JobFail::Usage) => {
-            let mut source = StdSource::new(rt.reader());
-            let mut keeper = NoStore::new();
-            ExitCode::from(run(
-                rt.alloc(),
-                words.as_slice(),
-                &mut source,
-                &mut sink,
-                &mut keeper,
-            ))
-        }
+        Ok(_) | Err(JobFail::Usage) => run_over(&rt, words, &mut NoStore::new(rt.alloc())),
     }
 }
 
+/// Runs a command over the standard streams.
+fn run_over<P: Keeper>(rt: &HostRuntime, words: &[String], keeper: &mut P) -> ExitCode {
+    let mut source = StdSource::new(rt.reader());
+    let mut sink = StdSink::new(io::writer(rt));
+    ExitCode::from(run(rt.alloc(), words, &mut source, &mut sink, keeper))
+}
+
+/// Serves at a door on TCP over the store at the path, which is let go once all is served; without a path nothing is
+/// kept.
+fn serve_with(
+    rt: HostRuntime,
+    words: &[String],
+    door: TcpDoor<'_, HostRuntime>,
+    store: Option<String>,
+) -> u8 {
+    let mut sink = StdSink::new(io::writer(&rt));
+    let Some(path) = store else {
+        let mut keeper = NoStore::new(rt.alloc());
+        return serve_at(&rt, rt.alloc(), words, door, &mut keeper, &mut sink);
+    };
+    let mut keeper = SqliteKeeper::new(rt, path);
+    let status = serve_at(&rt, rt.alloc(), words, door, &mut keeper, &mut sink);
+    // Where this fails, the file and the log beside it hold the records together, and the next server reads both.
+    let _closed = keeper.close();
+    status
+}
+
 /// Serves at a door on TCP, by the system's clock, and closes the hall once all is served.
-fn serve_at<T, W>(
+fn serve_at<T, P, W>(
     rt: &T,
     alloc: Global,
     words: &[String],
     mut door: TcpDoor<'_, T>,
+    keeper: &mut P,
     sink: &mut StdSink<W>,
 ) -> u8
 where
     T: Net<Listener = TcpListener, Stream = TcpStream> + Clock + Threads + Wait + Sync,
+    P: Keeper,
     W: io::Write,
 {
     let clock = WallClock::new(rt);
     let gate = OpenGate::new();
-    let mut keeper = NoStore::new();
     let (status, served) = serve(
         rt,
         alloc,
         words,
         &mut door,
         &clock,
-        &mut keeper,
+        keeper,
         sink,
         &gate,
     );
