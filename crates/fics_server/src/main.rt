@@ -31,7 +31,7 @@ fn main(rt: HostRuntime) -> ExitCode {
             count,
         }) => {
             let door = TcpDoor::new(&rt, bind.as_str(), port, count);
-            ExitCode::from(serve_with(rt, words, door, store))
+            ExitCode::from(serve_with(&rt, rt, words, door, store))
         }
         Ok(Job::Check { store } | Job::Pgn { store } | Job::Examine { store, .. }) => {
             run_over(&rt, words, &mut StoreReader::new(rt, store))
@@ -49,20 +49,24 @@ fn run_over<P: Keeper>(rt: &HostRuntime, words: &[String], keeper: &mut P) -> Ex
 }
 
 /// Serves at a door on TCP over the store at the path, which is let go once all is served; without a path nothing is
-/// kept.
-fn serve_with(
-    rt: HostRuntime,
+/// kept. Threads are started by `rt` alone, which is `host` as `main` has it.
+fn serve_with<T>(
+    rt: &T,
+    host: HostRuntime,
     words: &[String],
-    door: TcpDoor<'_, HostRuntime>,
+    door: TcpDoor<'_, T>,
     store: Option<String>,
-) -> u8 {
-    let mut sink = StdSink::new(io::writer(&rt));
+) -> u8
+where
+    T: Net<Listener = TcpListener, Stream = TcpStream> + Clock + Threads + Wait + Sync,
+{
+    let mut sink = StdSink::new(io::writer(&host));
     let Some(path) = store else {
-        let mut keeper = NoStore::new(rt.alloc());
-        return serve_at(&rt, rt.alloc(), words, door, &mut keeper, &mut sink);
+        let mut keeper = NoStore::new(host.alloc());
+        return serve_at(rt, host.alloc(), words, door, &mut keeper, &mut sink);
     };
-    let mut keeper = SqliteKeeper::new(rt, path);
-    let status = serve_at(&rt, rt.alloc(), words, door, &mut keeper, &mut sink);
+    let mut keeper = SqliteKeeper::new(host, path);
+    let status = serve_at(rt, host.alloc(), words, door, &mut keeper, &mut sink);
     // Where this fails, the file and the log beside it hold the records together, and the next server reads both.
     let _closed = keeper.close();
     status
