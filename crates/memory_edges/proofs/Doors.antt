@@ -4,9 +4,8 @@ use Rattle.std.proofs.Math.Seq.{take-add}
 use Rattle.std.proofs.lemmas.List.{drop-drop, drop_more, length-drop, map-append, take_all}
 use Rattle.std.proofs.lemmas.List.Elements.{Contains-append_cases, Contains-append_right}
 use Rattle.std.specs.List.{Contains, remove, slice_index_or}
-use Rattle.std.specs.declared.option.Option.{Option}
 use Rattle.std.specs.declared.option.Option.TheVariants.{Some}
-use Rattle.edge_traits.specs.Link.{Handed, Tale}
+use Rattle.edge_traits.specs.Link.{Handed}
 use Rattle.memory_edges.specs.Wire.{Wire}
 use Rattle.edge_traits.specs.Door.{IsNew}
 use Rattle.memory_edges.specs.MemDoor.{AreNew, told_by, handed, numbered}

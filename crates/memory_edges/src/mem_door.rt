@@ -95,9 +95,9 @@ fn written_in(links: &[MemLink], number: u64) -> Option<&[u8]>
 }
 
 impl Doorway for MemDoor {
-    ghost use Rattle.std.specs.Prelude.{◌≡◌, ◌≤◌, Some};
+    ghost use Rattle.std.specs.Prelude.{◌≡◌, ◌↔◌, ◌≤◌, Some};
     ghost use Rattle.edge_traits.specs.Faults.{Rose};
-    ghost use Rattle.memory_edges.specs.Plan.{after_call};
+    ghost use Rattle.memory_edges.specs.Plan.{IsToFail, after_call};
     ghost use Rattle.edge_traits.specs.Door.{Gives, Goes, IfCame, IsNew, IsOut, IfTold, TakesBack, OnDoorFailed, door_failed, IsQuiet};
 
     type Link = MemLink;
@@ -111,6 +111,7 @@ impl Doorway for MemDoor {
         ensures fresh { IfCame result (λ link. IsNew link.plan.faults (Some link.tale)) }
         ensures cause { OnDoorFailed result (Rose self.old.plan.faults self.new.plan.faults) }
         ensures counted { self.old.plan.faults ≤ self.new.plan.faults }
+        ensures failed { (result ≡ Came.Failed) ↔ IsToFail self.old.plan }
         ensures plan { self.new.plan ≡ after_call self.old.plan (door_failed result) }
         ensures no_quiet { IsQuiet result → ⊥ }
     {
