@@ -1,5 +1,5 @@
 -- How many rows come before a key.
-use Rattle.std.proofs.Common.{◌≡◌, ℕ, ◌+◌, ◌≤◌, Bool, true, false, cond, ◌&&◌, List, [], ◌∷◌, ◌++◌, Option, None, Some, All, count_by, get_or, is_eq, is_lt, Ordering, Less, Equal, Greater, refl, sym, ap, subst, ◌∙◌, arith}
+use Rattle.std.proofs.Common.{◌≡◌, ℕ, ◌+◌, ◌≤◌, Bool, true, false, cond, ◌&&◌, List, [], ◌∷◌, ◌++◌, Some, All, count_by, get_or, is_lt, Ordering, Less, Greater, refl, sym, ap, subst, ◌∙◌, arith}
 use Rattle.std.specs.Ordering.{eq_by_cmp}
 use Rattle.std.specs.Cmp.{tied_itself}
 use Rattle.std.specs.Cmp.Lexicographic.{nat_list_cmp_total}
@@ -11,7 +11,7 @@ use Rattle.edge_traits.specs.Pairs.{IsAscending, Pairs, keys_order}
 use Rattle.lobby_store.proofs.OrdersOut.{tied_same}
 use Rattle.lobby_load.specs.BadRows.{ComesBefore, HasBefore, Row}
 use Rattle.lobby_load.specs.Filling.{count_of}
-use Rattle.lobby_load.proofs.RowsSorted.{IsBelow-all, all_before, all_behind, both_true, first_true, found_is, is_less, second_true, turned}
+use Rattle.lobby_load.proofs.RowsSorted.{IsBelow-all, all_before, all_behind, both_true, first_true, is_less, second_true, turned}
 
 -- one row more
 pub count_cons : (p : Row → Bool) (row : Row) (rows : Pairs) → count_by p (row ∷ rows) ≡ cond (p row) 1 0 + count_by p rows
@@ -64,14 +64,14 @@ fewer pick kind key bytes (e ∷ done) rest rise found is of before =
     let picked = count_cons pick e all in
     let of_kind = count_cons (λ row. kind row.0) e done in
     elim (eq_by_cmp keys_order key e.0) as (λ t. eq_by_cmp keys_order key e.0 ≡ t → cond t (Some e.1) (find keys_order key done) ≡ Some bytes
-        → count_by pick (e ∷ all) + 1 ≤ count_of kind (e ∷ done)) [
+    → count_by pick (e ∷ all) + 1 ≤ count_of kind (e ∷ done)) [
       | true ↦ λ same here.
           let own : key ≡ e.0 = tied_same key e.0 same in
           let behind = IsBelow-all e.0 all (first_true _ _ rise) in
           let none = count_none pick all (λ k d lt. not_picked_behind pick key (get_or all k d)
-              (subst (λ l. ComesBefore l (get_or all k d).0) (sym own) (behind k d lt)) (All-tail Q e all before k d lt)) in
+          (subst (λ l. ComesBefore l (get_or all k d).0) (sym own) (behind k d lt)) (All-tail Q e all before k d lt)) in
           let not_here : pick e ≡ false = false_from_ne_true (pick e)
-              (λ so. not_Less_itself key (subst (λ l. ComesBefore l key) (sym own) (All-head Q e all before so))) in
+          (λ so. not_Less_itself key (subst (λ l. ComesBefore l key) (sym own) (All-head Q e all before so))) in
           let without = as_number not_here in
           let with_it = as_number (subst (λ l. kind l ≡ true) own is) in
           omega (arith, picked, of_kind, none, without, with_it)

@@ -1,5 +1,5 @@
 -- A lobby that was made of rows, as one row more is added to it.
-use Rattle.std.proofs.Common.{◌≡◌, ◌⊎◌, inl, inr, ℕ, ◌+◌, ◌^◌, ◌<◌, ◌≤◌, Bool, true, false, cond, List, [], ◌∷◌, ◌++◌, Option, None, Some, All, filter, length, length-append, refl, sym, ap, subst, ◌∙◌, arith}
+use Rattle.std.proofs.Common.{◌≡◌, ◌⊎◌, inl, inr, ℕ, ◌+◌, ◌<◌, cond, List, [], ◌∷◌, ◌++◌, Option, None, Some, filter, length, length-append, refl, sym, ap, subst, ◌∙◌, arith}
 use Rattle.std.specs.Prelude.{bytes_eq}
 use Rattle.std.specs.Ordering.{eq_by_cmp}
 use Rattle.std.specs.Cmp.Lexicographic.{nat_list_cmp_total}
@@ -14,7 +14,7 @@ use Rattle.game_records.specs.declared.records.Record.{Record}
 use Rattle.game_records.specs.declared.records.Record.TheVariants as a
 use Rattle.game_records.specs.declared.stored_game.StoredGame.{StoredGame}
 use Rattle.game_shelf.specs.declared.shelved.Shelved.{Shelved}
-use Rattle.game_shelf.specs.Numbers.{is_above, is_below, stored_game, with_game}
+use Rattle.game_shelf.specs.Numbers.{is_above, is_below}
 use Rattle.game_shelf.specs.Shelf.{most_stored, with_stored}
 use Rattle.game_shelf.proofs.Keeping.{length-with}
 use Rattle.game_shelf.proofs.Rising.{RiseAbove-with}
@@ -27,8 +27,7 @@ use Rattle.lobby_store.specs.Agreeing.{wanted_by}
 use Rattle.lobby_store.specs.Rows.{IsAccountRow, IsGameRow}
 use Rattle.lobby_store.proofs.OrdersOut.{same_test}
 use Rattle.lobby_load.specs.BadRows.{IsAccount, IsGame, Row}
-use Rattle.lobby_load.specs.Filling.{AddsAccount, AddsGame, AddsRow, HasRows, is_of_account, is_of_game}
-use Rattle.lobby_load.specs.Loaded.{AreSpelled, IsAtOpening, opening_with}
+use Rattle.lobby_load.specs.Filling.{AddsRow, HasRows, is_of_account, is_of_game}
 use Rattle.lobby_load.proofs.Counting.{count_push_no, count_push_yes}
 use Rattle.lobby_load.proofs.Growing.{wanted_account, wanted_game}
 use Rattle.lobby_load.proofs.Unheld.{no_account_at, not_stored}

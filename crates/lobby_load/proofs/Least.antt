@@ -1,19 +1,15 @@
 -- Rows of which a lobby was made have no bad key, and the first one that a lobby can't take is the least bad one.
-use Rattle.std.proofs.Common.{◌≡◌, ◌⊎◌, inl, inr, ℕ, ◌+◌, ◌<◌, ◌≤◌, Bool, true, false, List, [], ◌∷◌, ◌++◌, Option, None, Some, All, length, refl, sym, ap, subst, ◌∙◌, arith, append-nil}
+use Rattle.std.proofs.Common.{◌≡◌, ◌⊎◌, inl, inr, ℕ, ◌≤◌, Bool, true, false, List, [], ◌∷◌, ◌++◌, Some, All, length, sym, ap, subst, ◌∙◌, arith, append-nil}
 use Rattle.std.specs.FinMap as map
 use Rattle.std.specs.FinMap.{find, get-entries}
-use Rattle.std.specs.declared.option.Option.{Option as Maybe}
-use Rattle.fics_words.specs.Handle.{key_of}
-use Rattle.game_records.specs.Keys.{account_key, game_key}
 use Rattle.game_shelf.specs.Shelf.{most_stored}
 use Rattle.edge_traits.specs.Pairs.{IsAscending, Pairs, Table, keys_order}
-use Rattle.lobby_state.specs.Desks.{desks}
 use Rattle.lobby_state.specs.Lobby.{LobbyState, most_accounts}
-use Rattle.lobby_state.specs.ShelfRoom.{desks_used, places_taken}
+use Rattle.lobby_state.specs.ShelfRoom.{desks_used}
 use Rattle.lobby_store.specs.Carrying.{held}
 use Rattle.lobby_store.specs.Rows.{IsNoRow}
 use Rattle.lobby_store.specs.declared.reading.StoreRow.TheVariants.{Account as AnAccount, Game as AGame}
-use Rattle.lobby_load.specs.BadRows.{ComesBefore, HasBefore, IsAccount, IsBad, IsBeyond, IsGame, IsGoodStore, IsLeastBad, Row}
+use Rattle.lobby_load.specs.BadRows.{HasBefore, IsAccount, IsBeyond, IsGame, IsGoodStore, Row}
 use Rattle.lobby_load.specs.Filling.{CannotTake, HasRows, IsLeastBadOf, count_of, is_of_account, is_of_game}
 use Rattle.lobby_load.specs.Loaded.{HasCount, HasLoaded, HasSizes}
 use Rattle.lobby_load.proofs.Counting.{enough, fewer}

@@ -1,15 +1,15 @@
 -- A key under which a lobby wants nothing is that of no account and of no stored game.
-use Rattle.std.proofs.Common.{◌≡◌, ℕ, Bool, true, false, cond, List, [], ◌∷◌, Option, None, Some, refl, sym, ap, subst, ◌∙◌}
-use Rattle.std.specs.Prelude.{◌==◌, bytes_eq, is_some}
+use Rattle.std.proofs.Common.{◌≡◌, ℕ, true, false, cond, List, [], ◌∷◌, Option, None, Some, refl, sym, ap, ◌∙◌}
+use Rattle.std.specs.Prelude.{bytes_eq, is_some}
 use Rattle.std.specs.List.{find}
-use Rattle.std.proofs.lemmas.Bool.{eqb-true, false_from_ne_true}
+use Rattle.std.proofs.lemmas.Bool.{eqb-true}
 use Rattle.std.proofs.lemmas.Slice.Eq.{bytes_eq-Decides}
 use Rattle.fics_words.specs.Handle.{key_of}
 use Rattle.fics_words.specs.declared.account.Account.{Account}
 use Rattle.game_records.specs.Keys.{account_key, game_key}
 use Rattle.game_shelf.specs.declared.shelved.Shelved.{Shelved}
 use Rattle.game_shelf.specs.Numbers.{game_in, has_number, stored_game}
-use Rattle.game_shelf.specs.Wanted.{account_record, either_record, game_record, is_account_at, is_game_at, wanted}
+use Rattle.game_shelf.specs.Wanted.{account_record, either_record, game_record, is_account_at, is_game_at}
 use Rattle.login_handles.specs.Accounts.{account_of}
 use Rattle.lobby_state.specs.Lobby.{LobbyState, has_account}
 use Rattle.lobby_store.specs.Agreeing.{wanted_by}
@@ -38,7 +38,7 @@ none_named : (accounts : List Account) (letters : List ℕ) → find (is_account
 none_named [] letters none = refl
 none_named (account ∷ accounts) letters none =
     elim (bytes_eq (key_of account.name) letters) as (λ t. cond t (Some account) (find (is_account_at (account_key letters)) accounts) ≡ None
-        → is_some (cond t (Some account) (account_of accounts letters)) ≡ false) [
+    → is_some (cond t (Some account) (account_of accounts letters)) ≡ false) [
       | true ↦ λ bad. absurd cc
       | false ↦ λ rest. none_named accounts letters rest
     ] none
@@ -52,7 +52,7 @@ none_stored : (games : List Shelved) (number : ℕ) → find (is_game_at (game_k
 none_stored [] number none = refl
 none_stored (row ∷ games) number none =
     elim (has_number number row) as (λ t. has_number number row ≡ t → stored_game (row ∷ games) number ≡ game_in (cond t (Some row) (find (has_number number) games))
-        → stored_game (row ∷ games) number ≡ None) [
+    → stored_game (row ∷ games) number ≡ None) [
       | true ↦ λ is same. absurd (here row games number (eqb-true row.number number is) none)
       | false ↦ λ is same. same ∙ none_stored games number (there row games number none)
     ] refl refl

@@ -1,6 +1,6 @@
 -- Which keys of a store are bad: what stands under them is no account under the key of its name and no game that
 -- replays under the key of its number, or it is one account or game more than a server holds. This server's own.
-use Rattle.std.specs.Prelude.{◌≡◌, ◌⊎◌, ℕ, ◌≤◌, Bool, true, List, All, Some, count_by}
+use Rattle.std.specs.Prelude.{◌≡◌, ◌⊎◌, ℕ, ◌≤◌, Bool, true, List, All, Some, codes, count_by, refl}
 use Rattle.std.specs.FinMap as map
 use Rattle.std.specs.declared.cmp.Ordering.TheVariants.{Less}
 use Rattle.fics_words.specs.declared.account.Account.{Account}
@@ -26,6 +26,12 @@ IsGame row = (number : ℕ) × (game : StoredGame) × IsGameRow number game row
 -- the one key comes before the other
 abbrev pub ComesBefore : List ℕ → List ℕ → Type 0
 ComesBefore one other = keys_order one other ≡ Less
+
+example_byte_by_byte : ComesBefore (codes "aann") (codes "aben")
+example_byte_by_byte = refl
+
+example_prefix_first : ComesBefore (codes "aann") (codes "aanna")
+example_prefix_first = refl
 
 -- the rows have at least so many of a kind at keys before this one: so many can be picked, all of the kind and before
 pub record HasBefore (IsOfKind : Row → Type 0) (count : ℕ) (rows : Pairs) (key : List ℕ) : Type 0 where

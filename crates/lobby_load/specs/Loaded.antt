@@ -1,5 +1,5 @@
 -- What a lobby is that was loaded from a store. This server's own.
-use Rattle.std.specs.Prelude.{◌≡◌, ◌↔◌, ℕ, Bool, true, List, [], length, All, None, count_by, replicate}
+use Rattle.std.specs.Prelude.{◌≡◌, ◌↔◌, ℕ, Bool, true, List, [], length, All, None, count_by, refl, replicate}
 use Rattle.std.specs.FinMap as map
 use Rattle.fics_words.specs.declared.account.Account.{Account}
 use Rattle.edge_traits.specs.Pairs.{Pairs, Table}
@@ -21,6 +21,9 @@ HasLoaded table lobby = (key : List ℕ) → wanted_by lobby key ≡ held table 
 -- a lobby at its opening that has these accounts and these stored games
 abbrev pub opening_with : List Account → List Shelved → LobbyState
 opening_with accounts games = record opening { accounts = accounts; shelf = record empty { games = games } }
+
+example_of_none : opening_with [] [] ≡ opening
+example_of_none = refl
 
 -- nobody is there, no desk is in use, no save order stands, and but for its accounts and its stored games the lobby is
 -- as it is at its opening

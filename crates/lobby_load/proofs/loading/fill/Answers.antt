@@ -1,5 +1,5 @@
-use Rattle.std.proofs.Common.{◌≡◌, List, ℕ, ◌+◌, ◌++◌, ◌∷◌, [], None, take, drop, sym, ap, subst, ◌∙◌}
-use Rattle.std.proofs.lemmas.List.{take_all, take_more}
+use Rattle.std.proofs.Common.{◌≡◌, ◌+◌, ◌++◌, ◌∷◌, [], take, drop, sym, ap, subst, ◌∙◌}
+use Rattle.std.proofs.lemmas.List.{take_more}
 use Rattle.edge_traits.specs.Pairs.{IsAscending, Pairs}
 use Rattle.lobby_load.specs.BadRows.{Row}
 use Rattle.lobby_load.specs.Filling.{AddsRow, CannotTake, HasRows, IsLeastBadOf, OnTaken}

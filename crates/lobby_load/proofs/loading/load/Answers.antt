@@ -1,6 +1,6 @@
-use Rattle.std.proofs.Common.{List, ℕ, subst, sym}
+use Rattle.std.proofs.Common.{subst, sym}
 use Rattle.edge_traits.specs.Keeper.{AreAllOf}
-use Rattle.edge_traits.specs.Pairs.{IsAscending, Pairs}
+use Rattle.edge_traits.specs.Pairs.{IsAscending}
 use Rattle.lobby_load.proofs.Answering.{good_told, loaded_told, sized_told}
 use Rattle.lobby_load.proofs.loading.load.Goals as goal
 

@@ -1,4 +1,4 @@
-use Rattle.std.proofs.Common.{List, ℕ, Err, subst, sym}
+use Rattle.std.proofs.Common.{List, ℕ, Err, subst}
 use Rattle.lobby_state.specs.Lobby.{LobbyState}
 use Rattle.lobby_load.specs.Refused.{OnBadRecord}
 use Rattle.lobby_load.specs.Telling.{IsFirstBad, TellsKey}

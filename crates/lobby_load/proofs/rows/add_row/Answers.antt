@@ -1,9 +1,7 @@
-use Rattle.std.proofs.Common.{◌≡◌, List, ℕ, Option, None, Some, IfSome, sym, ap, subst, ◌∙◌}
-use Rattle.game_records.specs.Keys.{game_key}
+use Rattle.std.proofs.Common.{◌≡◌, List, ℕ, Option, None, IfSome, subst}
 use Rattle.lobby_store.specs.Agreeing.{wanted_by}
 use Rattle.lobby_store.specs.Rows.{IsGameRow, IsRow}
 use Rattle.lobby_store.specs.declared.reading.StoreRow.{StoreRow}
-use Rattle.lobby_store.specs.declared.reading.StoreRow.TheVariants.{Game}
 use Rattle.lobby_load.proofs.Unheld.{not_stored}
 use Rattle.lobby_load.proofs.rows.add_row.Goals as goal
 
