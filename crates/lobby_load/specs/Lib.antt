@@ -1,0 +1,6 @@
+-- What the contracts of this crate cite.
+pub mod BadRows
+pub mod Loaded
+pub mod Refused
+pub mod Telling
+pub mod Filling
