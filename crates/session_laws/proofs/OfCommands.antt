@@ -68,9 +68,12 @@ never_remark act memory = (λ is. is, λ r. never_present act (remark_place (tol
 
 never_moving : (word : MoveWord) (stamp : Option ℕ) (place : Option Place) (memory : MemoryState) → NeverSaves (moving_at word stamp place memory)
 never_moving word stamp None memory = never_round memory
-never_moving word stamp (Some place) memory = (λ is. is, λ r.
-    never_either (turns r memory) (Asks (one_act.Lobby lobby_act.SimNext) (λ turned. round memory)) (round memory)
-    (λ is. is, λ turned. never_round memory) (never_round memory))
+never_moving word stamp (Some place) memory = (
+  λ is. is,
+  λ r.
+      never_either (turns r memory) (Asks (one_act.Lobby lobby_act.SimNext) (λ turned. round memory)) (round memory)
+      (λ is. is, λ turned. never_round memory) (never_round memory),
+)
 
 never_move : (word : MoveWord) (stamp : Option ℕ) (memory : MemoryState) → NeverSaves (to_move word stamp memory)
 never_move word stamp memory = (λ is. is, λ r. never_moving word stamp (present_in (told memory r)) (told memory r))
@@ -83,8 +86,11 @@ reacting_with desk lobby (Some place) memory =
 
 never_reacting : (desk : DeskAct) (lobby : Act) (place : Option Place) (memory : MemoryState) → (SaysSaved lobby → ⊥) → NeverSaves (reacting_with desk lobby place memory)
 never_reacting desk lobby None memory other = never_server lobby memory other
-never_reacting desk lobby (Some place) memory other = (λ is. is, λ r.
-    never_either (says_no_offer r) (to_server lobby memory) (answered r memory) (never_server lobby memory other) (never_round memory))
+never_reacting desk lobby (Some place) memory other = (
+  λ is. is,
+  λ r.
+      never_either (says_no_offer r) (to_server lobby memory) (answered r memory) (never_server lobby memory other) (never_round memory),
+)
 
 never_finding : (r : Reply) (memory : MemoryState) → NeverSaves (finding r memory)
 never_finding (reply.Lobby (lobby_reply.Found place)) memory = (λ is. is, λ r. never_round (watched place r memory))
