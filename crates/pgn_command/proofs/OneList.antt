@@ -1,31 +1,10 @@
 -- Two lists that rise and have the same games are the same.
-use Rattle.std.proofs.Common.{arith, ◌≡◌, ℕ, zero, suc, ◌<◌, List, [], ◌∷◌, length, get_or, refl, sym, ap, subst, ◌∙◌, inl, inr}
+use Rattle.std.proofs.Common.{arith, ◌≡◌, ℕ, ◌<◌, List, [], ◌∷◌, refl, sym, ap, subst, ◌∙◌, inl, inr}
 use Rattle.std.specs.Prelude.{◌↔◌, ◌⊎◌, Contains}
 use Rattle.game_shelf.specs.declared.shelved.Shelved.{Shelved}
 use Rattle.game_shelf.specs.Numbers.{RiseAbove}
-use Rattle.game_shelf.proofs.Rising.{rises_at}
 use Rattle.pgn_command.specs.Games.{HasOneList}
-
--- the first of a row, and those behind it
-contains_first : (row : Shelved) (games : List Shelved) → Contains (row ∷ games) row
-contains_first row games = (0, omega arith, refl)
-
-contains_behind : (row another : Shelved) (games : List Shelved) → Contains games another → Contains (row ∷ games) another
-contains_behind row another games c = (suc c.0, omega (arith, c.1), c.2)
-
-contains_cases : (row another : Shelved) (games : List Shelved) → Contains (row ∷ games) another → (row ≡ another) ⊎ Contains games another
-contains_cases row another games c = at c.0 c.1 c.2
-  where
-    at : (k : ℕ) → k < length (row ∷ games) → get_or (row ∷ games) k another ≡ another → (row ≡ another) ⊎ Contains games another
-    at zero h e = inl e
-    at (suc k) h e = inr (k, omega arith, e)
-
--- those in a row that rises are above its start
-contains_above : (low : ℕ) (games : List Shelved) (row : Shelved) → RiseAbove low games → Contains games row → low < row.number
-contains_above low games row rise c =
-    let above = rises_at low games c.0 row rise c.1 in
-    let same = ap (λ (x : Shelved). x.number) c.2 in
-    omega (arith, above, same)
+use Rattle.pgn_command.proofs.Listed.{contains_above, contains_behind, contains_cases, contains_first, contains_none}
 
 same_first : (low : ℕ) (row other : Shelved) (games others : List Shelved) → RiseAbove low (row ∷ games) → RiseAbove low (other ∷ others)
     → ((x : Shelved) → Contains (row ∷ games) x → Contains (other ∷ others) x) → ((x : Shelved) → Contains (other ∷ others) x → Contains (row ∷ games) x) → row ≡ other
@@ -43,8 +22,8 @@ same_first low row other games others rise rises to back =
 one_list : (low : ℕ) (games others : List Shelved) → RiseAbove low games → RiseAbove low others
     → ((x : Shelved) → Contains games x → Contains others x) → ((x : Shelved) → Contains others x → Contains games x) → games ≡ others
 one_list low [] [] rise rises to back = refl
-one_list low [] (other ∷ others) rise rises to back = let none = (back other (contains_first other others)).1 in absurd (omega (arith, none))
-one_list low (row ∷ games) [] rise rises to back = let none = (to row (contains_first row games)).1 in absurd (omega (arith, none))
+one_list low [] (other ∷ others) rise rises to back = absurd (contains_none other (back other (contains_first other others)))
+one_list low (row ∷ games) [] rise rises to back = absurd (contains_none row (to row (contains_first row games)))
 one_list low (row ∷ games) (other ∷ others) rise rises to back =
     let first : row ≡ other = same_first low row other games others rise rises to back in
     ap (λ (x : Shelved). x ∷ games) first
