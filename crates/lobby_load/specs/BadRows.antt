@@ -1,6 +1,6 @@
 -- Which keys of a store are bad: what stands under them is no account under the key of its name and no game that replays
 -- under the key of its number, or it is one account or game more than a server holds. This server's own.
-use Rattle.std.specs.Prelude.{◌≡◌, ◌⊎◌, ℕ, ◌≤◌, ◌×◌, Bool, true, List, All, Some, count_by}
+use Rattle.std.specs.Prelude.{◌≡◌, ◌⊎◌, ℕ, ◌≤◌, Bool, true, List, All, Some, count_by}
 use Rattle.std.specs.FinMap as map
 use Rattle.std.specs.declared.cmp.Ordering.TheVariants.{Less}
 use Rattle.fics_words.specs.declared.account.Account.{Account}

@@ -1,38 +1,22 @@
--- How `pgn` ends, by what became of the store and of its games.
-use Rattle.std.proofs.Common.{ℕ, List, [], ◌++◌, Option, Ok, Err, subst, inl, inr}
+-- How `pgn` ends where the store is opened.
+use Rattle.std.proofs.Common.{ℕ, List, [], Option, inl, inr}
 use Rattle.std.specs.Prelude.{IfSome}
 use Rattle.std.specs.Io.KnownBytes.{Appends}
 use Rattle.std.proofs.KnownBytes.{Appends-trans}
 use Rattle.edge_traits.specs.Pairs.{Table}
-use Rattle.edge_traits.specs.Sink.{AppendsFront}
 use Rattle.game_shelf.specs.declared.shelved.Shelved.{Shelved}
-use Rattle.line_answers.specs.Reading.{AfterSend}
-use Rattle.line_answers.specs.declared.end.End.{End}
 use Rattle.line_answers.specs.declared.end.End.TheVariants.{Done, ReadFault, WriteFault, Memory, BadLine, Spent}
 use Rattle.line_answers.proofs.Sending.{AppendsFront-behind}
 use Rattle.lobby_load.specs.BadRows.{IsGoodStore}
 use Rattle.lobby_load.specs.Loaded.{AreSpelled, HasLoaded}
-use Rattle.lobby_load.specs.Telling.{Tells}
-use Rattle.lobby_load.specs.declared.refusals.StoreFault.{StoreFault}
-use Rattle.lobby_load.specs.declared.refusals.StoreFault.TheVariants as fault
 use Rattle.lobby_state.specs.Lobby.{LobbyState}
 use Rattle.lobby_state.specs.WellFormed.{IsWellFormed}
 use Rattle.store_ends.specs.declared.outcome.Outcome.{Outcome}
 use Rattle.store_ends.specs.declared.outcome.Outcome.TheVariants as outcome
-use Rattle.store_ends.specs.Outcomes.{outcome_of}
 use Rattle.pgn_command.specs.Exports.{exports}
 use Rattle.pgn_command.specs.Games.{AreStoreGames}
 use Rattle.pgn_command.specs.PgnEnds.{PgnEnds, Writes}
 use Rattle.pgn_command.proofs.StoreGames.{store_games}
-
--- the games weren't all written
-pub unwritten : {A : Type 0} (old new : Option (List ℕ)) (text : List ℕ) (end : End) → AfterSend {A = A} old new text (Err end) → Writes old new text (outcome.Read end)
-unwritten old new text Done h = absurd h
-unwritten old new text ReadFault h = absurd h
-unwritten old new text WriteFault h = h
-unwritten old new text Memory h = h
-unwritten old new text BadLine h = absurd h
-unwritten old new text Spent h = absurd h
 
 -- the store was opened, which wrote nothing, and then its games were written
 exported : (table : Option Table) (old mid new : Option (List ℕ)) (games : List Shelved) (end : Outcome) → AreStoreGames table games → Appends old mid []
@@ -54,11 +38,3 @@ pub store_exported : (table : Option Table) (old mid new : Option (List ℕ)) (l
     → IfSome table (λ told. HasLoaded told lobby) → IfSome table IsGoodStore → Appends old mid [] → Writes mid new (exports lobby.shelf.games) end → PgnEnds table old new end
 store_exported table old mid new lobby end formed spelled loaded good none w =
     exported table old mid new lobby.shelf.games end (store_games table lobby formed spelled loaded good) none w
-
--- the store wasn't opened
-pub not_opened : {A : Type 0} (table : Option Table) (old new : Option (List ℕ)) (why : StoreFault) → Tells {A = A} table old new (Err why) → PgnEnds table old new (outcome_of why)
-not_opened table old new fault.BadRecord told = record { key = told.0; bad = told.1; text = told.2 }
-not_opened table old new fault.KeeperFault told = told
-not_opened table old new fault.WriteFault told = inr told
-not_opened table old new fault.Memory (inl none) = inl none
-not_opened table old new fault.Memory (inr front) = inr (inr front)

@@ -31,8 +31,8 @@ contains_above low games row rise c =
 
 pub contains_small : (low : ℕ) (games : List Shelved) (row : Shelved) → RiseAbove low games → Contains games row → row.number < 2 ^ 64
 contains_small low [] row rise c = absurd (contains_none row c)
-contains_small low (first ∷ games) row rise c = by (contains_cases first row games c)
+contains_small low (first ∷ games) row rise c = by (contains_cases first row games c) (λ behind. contains_small first.number games row rise.2 behind)
   where
-    by : (first ≡ row) ⊎ Contains games row → row.number < 2 ^ 64
-    by (inl e) = let same = ap (λ (x : Shelved). x.number) e in let small = rise.1 in omega (arith, small, same)
-    by (inr c) = contains_small first.number games row rise.2 c
+    by : (first ≡ row) ⊎ Contains games row → (Contains games row → row.number < 2 ^ 64) → row.number < 2 ^ 64
+    by (inl e) rest = let same = ap (λ (x : Shelved). x.number) e in let small = rise.1 in omega (arith, small, same)
+    by (inr behind) rest = rest behind

@@ -58,20 +58,21 @@ wanted_game accounts games number =
 -- the game of that key is found
 found_there : (low : ℕ) (games : List Shelved) (row : Shelved) → RiseAbove low games → Contains games row → find (is_game_at (game_key row.number)) games ≡ Some row
 found_there low [] row rise c = absurd (contains_none row c)
-found_there low (first ∷ games) row rise c = by (contains_cases first row games c)
+found_there low (first ∷ games) row rise c = by (contains_cases first row games c) (λ behind. found_there first.number games row rise.2 behind)
   where
-    by : (first ≡ row) ⊎ Contains games row → find (is_game_at (game_key row.number)) (first ∷ games) ≡ Some row
-    by (inl e) =
+    by : (first ≡ row) ⊎ Contains games row → (Contains games row → find (is_game_at (game_key row.number)) games ≡ Some row)
+        → find (is_game_at (game_key row.number)) (first ∷ games) ≡ Some row
+    by (inl e) rest =
         let own : is_game_at (game_key row.number) first ≡ true =
         (bytes_eq-Decides (game_key first.number) (game_key row.number)).1 (ap (λ (x : Shelved). game_key x.number) e) in
         ap (λ t. cond t (Some first) (find (is_game_at (game_key row.number)) games)) own ∙ ap (λ (x : Shelved). Some x) e
-    by (inr behind) =
+    by (inr behind) rest =
         let above = contains_above first.number games row rise.2 behind in
         let small = contains_small first.number games row rise.2 behind in
         let other : is_game_at (game_key row.number) first ≡ false =
         other_key (game_key first.number) (game_key row.number)
         (λ e. let same = one_game first.number row.number rise.1 small e in omega (arith, above, same)) in
-        ap (λ t. cond t (Some first) (find (is_game_at (game_key row.number)) games)) other ∙ found_there first.number games row rise.2 behind
+        ap (λ t. cond t (Some first) (find (is_game_at (game_key row.number)) games)) other ∙ rest behind
 
 -- what is found is one of the games, under that key
 pub record IsFound (games : List Shelved) (key : List ℕ) (row : Shelved) : Type 0 where

@@ -1,5 +1,6 @@
 -- Exports of games, one behind the other.
-use Rattle.std.proofs.Common.{arith, ◌≡◌, ℕ, zero, suc, ◌+◌, ◌<◌, ◌≤◌, List, [], ◌∷◌, ◌++◌, Option, Err, length, take, drop, get_or, refl, sym, ap, subst, ◌∙◌, append-nil}
+use Rattle.std.proofs.Common.{arith, ◌≡◌, ℕ, zero, suc, ◌+◌, ◌<◌, ◌≤◌, List, [], ◌∷◌, ◌++◌, Option, Some, Err, length, take, drop, get_or, refl, sym, ap, subst, ◌∙◌, append-nil}
+use Rattle.std.specs.Prelude.{IfSome}
 use Rattle.std.specs.Io.KnownBytes.{Appends}
 use Rattle.std.proofs.KnownBytes.{Appends-trans}
 use Rattle.std.proofs.lemmas.List.{take_more, take_all, take-append-drop}
@@ -48,13 +49,13 @@ module _ (old mid new : Option (List ℕ)) (games : List Shelved) (k : ℕ) (row
       (front_longer old new (exports (take k games) ++ game_export row.game) (exports (drop (k + 1) games))
       (AppendsFront-behind old mid new (exports (take k games)) (game_export row.game) so_far p))
 
-  pub sent_part : {A B : Type 0} (end : End) → AfterSend {A = A} mid new (game_export row.game) (Err end) → AfterSend {A = B} old new (exports games) (Err end)
-  sent_part Done h = absurd h
-  sent_part ReadFault h = absurd h
-  sent_part WriteFault h = front h
-  sent_part Memory h = front h
-  sent_part BadLine h = absurd h
-  sent_part Spent h = absurd h
+  pub sent_part : (A B : Type 0) (end : End) → AfterSend {A = A} mid new (game_export row.game) (Err end) → AfterSend {A = B} old new (exports games) (Err end)
+  sent_part A B Done h = absurd h
+  sent_part A B ReadFault h = absurd h
+  sent_part A B WriteFault h = front h
+  sent_part A B Memory h = front h
+  sent_part A B BadLine h = absurd h
+  sent_part A B Spent h = absurd h
 
   pub sent_next : Appends mid new (game_export row.game) → Appends old new (exports (take (k + 1) games))
   sent_next p = subst (Appends old new) (sym (exports_more games k row within is)) (Appends-trans old mid new (exports (take k games)) (game_export row.game) so_far p)
@@ -75,5 +76,12 @@ passed_over game (Fischer number) e replays none = refl
 pub no_export : (game : StoredGame) → Replays game → (IsStoredChess game → ⊥) → game_export game ≡ []
 no_export game replays none = passed_over game game.terms.variant refl replays none
 
-pub own_export : (game : StoredGame) (made : PgnGame) → made ≡ stored_text game → IsStoredChess game → export_text made ≡ game_export game
+own_export : (game : StoredGame) (made : PgnGame) → made ≡ stored_text game → IsStoredChess game → export_text made ≡ game_export game
 own_export game made is chess = ap export_text is ∙ sym (ap (λ (v : Variant). export_as v game) chess.variant)
+
+-- what is made of a game is exported
+pub made_export : (game : StoredGame) (found : Option PgnGame) (made : PgnGame) → found ≡ Some made → IfSome found (λ g. (g ≡ stored_text game) × IsStoredChess game) →
+    export_text made ≡ game_export game
+made_export game found made e told =
+    let own = subst (λ (r : Option PgnGame). IfSome r (λ g. (g ≡ stored_text game) × IsStoredChess game)) e told in
+    own_export game made own.0 own.1
