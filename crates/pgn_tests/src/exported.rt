@@ -90,10 +90,7 @@ const ROWS: &[Row] = &[
             (ONE, CRAZYHOUSE),
             (TWO, ANN_BEN),
             (THREE_HUNDRED, FISCHER),
-            (
-                b"aann",
-                b"\x01\x41\x03Ann0123456789abcdef0123456789abcdef",
-            ),
+            (b"aann", b"\x01\x41\x03Ann0123456789abcdef0123456789abcdef"),
         ],
         keeper: &[],
         sink: &[],
