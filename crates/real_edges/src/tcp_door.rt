@@ -15,13 +15,16 @@ const REST_MILLIS: u64 = 10;
 
 /// A door on a TCP port of an address. It listens from the moment when it is made, so whoever connects from then on
 /// waits for a `next`; where it can't listen, each `next` fails, unless no connection may come. It answers Quiet after
-/// 100 ms without a connection and at least that often while connections come, and is closed after so many of them,
-/// where a count is given. A connection that is handed back is dropped. What comes isn't told.
+/// 100 ms without a connection and at least that often while connections come. Where a count is given it takes so many
+/// connections, answers Quiet as long as one of them is out, and is closed then. A connection that is handed back is
+/// dropped. What comes isn't told.
 #[derive(Drop)]
 pub struct TcpDoor<'a, R: Net<Listener = TcpListener, Stream = TcpStream> + Clock> {
     rt: &'a R,
     /// How many connections may still come; none for ever.
     left: Option<u64>,
+    /// How many connections were given and not handed back.
+    out: u64,
     /// None where the port of that address couldn't be had.
     listener: Option<TcpListener>,
     /// When the last Quiet was answered, by the system's clock.
@@ -38,6 +41,7 @@ impl<'a, R: Net<Listener = TcpListener, Stream = TcpStream> + Clock> TcpDoor<'a,
         TcpDoor {
             rt,
             left: count,
+            out: 0,
             listener: listen(rt, bind, port).ok(),
             quiet: reading(rt),
             faults: 0,
@@ -63,6 +67,17 @@ impl<'a, R: Net<Listener = TcpListener, Stream = TcpStream> + Clock> TcpDoor<'a,
         Came::Failed
     }
 
+    /// Answers that the door is closed, or Quiet after a pause while a connection is out.
+    fn wait_for_the_last(&mut self) -> Came<TcpPeer>
+        ensures { self.new.faults ≡ self.old.faults }
+    {
+        if self.out == 0 {
+            return Came::Closed;
+        }
+        self.rt.sleep(Duration::from_millis(PAUSE_MILLIS));
+        self.rest()
+    }
+
     /// Whether the last Quiet is long ago.
     fn is_quiet_due(&self) -> bool {
         reading(self.rt).saturating_sub(self.quiet) >= Duration::from_millis(PAUSE_MILLIS)
@@ -80,7 +95,7 @@ impl<R: Net<Listener = TcpListener, Stream = TcpStream> + Clock> Doorway for Tcp
 
     fn next(&mut self) -> Came<TcpPeer> {
         if self.left == Some(0) {
-            return Came::Closed;
+            return self.wait_for_the_last();
         }
         let Some(listener) = &self.listener else {
             return self.fail();
@@ -92,6 +107,7 @@ impl<R: Net<Listener = TcpListener, Stream = TcpStream> + Clock> Doorway for Tcp
             Ok((stream, _)) => match TcpPeer::new(stream) {
                 Ok(peer) => {
                     self.left = self.left.map(|left| left.saturating_sub(1));
+                    self.out = self.out.saturating_add(1);
                     Came::Link(peer)
                 }
                 Err(_) => self.rest(),
@@ -106,6 +122,7 @@ impl<R: Net<Listener = TcpListener, Stream = TcpStream> + Clock> Doorway for Tcp
     }
 
     fn back(&mut self, _number: u64, link: TcpPeer) {
+        self.out = self.out.saturating_sub(1);
         drop(link);
     }
 }
