@@ -7,7 +7,7 @@ use std::net::{Net, TcpListener, TcpStream};
 use std::os::fd::OwnedFd;
 use std::time::{Clock, Duration};
 
-/// How long `next` waits for a connection before it answers Quiet, and the longest time without a Quiet.
+/// How long `next` waits for a connection before it answers Quiet, and for how long connections may come without one.
 const PAUSE_MILLIS: u64 = 100;
 
 /// How long it rests where the system can't give a connection, as for want of descriptors.
@@ -27,8 +27,9 @@ pub struct TcpDoor<'a, R: Net<Listener = TcpListener, Stream = TcpStream> + Cloc
     out: u64,
     /// None where the port of that address couldn't be had.
     listener: Option<TcpListener>,
-    /// When the last Quiet was answered, by the system's clock.
-    quiet: Duration,
+    /// When the first `next` behind the last Quiet began, by the system's clock; none where there was none yet. What is
+    /// done at a Quiet may take longer than the pause, and connections are to be taken all the same.
+    since: Option<Duration>,
     faults: u64,
 }
 
@@ -43,7 +44,7 @@ impl<'a, R: Net<Listener = TcpListener, Stream = TcpStream> + Clock> TcpDoor<'a,
             left: count,
             out: 0,
             listener: listen(rt, bind, port).ok(),
-            quiet: reading(rt),
+            since: None,
             faults: 0,
         }
     }
@@ -53,7 +54,7 @@ impl<'a, R: Net<Listener = TcpListener, Stream = TcpStream> + Clock> TcpDoor<'a,
         ensures quiet { result ≡ Came.Quiet }
         ensures faults { self.new.faults ≡ self.old.faults }
     {
-        self.quiet = reading(self.rt);
+        self.since = None;
         Came::Quiet
     }
 
@@ -78,9 +79,18 @@ impl<'a, R: Net<Listener = TcpListener, Stream = TcpStream> + Clock> TcpDoor<'a,
         self.rest()
     }
 
-    /// Whether the last Quiet is long ago.
-    fn is_quiet_due(&self) -> bool {
-        reading(self.rt).saturating_sub(self.quiet) >= Duration::from_millis(PAUSE_MILLIS)
+    /// Whether connections have come for as long as they may without a Quiet.
+    fn is_quiet_due(&mut self) -> bool
+        ensures { self.new.faults ≡ self.old.faults }
+    {
+        let now = reading(self.rt);
+        match self.since {
+            Some(since) => now.saturating_sub(since) >= Duration::from_millis(PAUSE_MILLIS),
+            None => {
+                self.since = Some(now);
+                false
+            }
+        }
     }
 }
 
@@ -97,12 +107,12 @@ impl<R: Net<Listener = TcpListener, Stream = TcpStream> + Clock> Doorway for Tcp
         if self.left == Some(0) {
             return self.wait_for_the_last();
         }
-        let Some(listener) = &self.listener else {
-            return self.fail();
-        };
         if self.is_quiet_due() {
             return self.rest();
         }
+        let Some(listener) = &self.listener else {
+            return self.fail();
+        };
         match listener.accept() {
             Ok((stream, _)) => match TcpPeer::new(stream) {
                 Ok(peer) => {
