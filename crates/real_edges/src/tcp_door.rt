@@ -68,17 +68,6 @@ impl<'a, R: Net<Listener = TcpListener, Stream = TcpStream> + Clock> TcpDoor<'a,
         Came::Failed
     }
 
-    /// Answers that the door is closed, or Quiet after a pause while a connection is out.
-    fn wait_for_the_last(&mut self) -> Came<TcpPeer>
-        ensures { self.new.faults ≡ self.old.faults }
-    {
-        if self.out == 0 {
-            return Came::Closed;
-        }
-        self.rt.sleep(Duration::from_millis(PAUSE_MILLIS));
-        self.rest()
-    }
-
     /// Whether connections have come for as long as they may without a Quiet.
     fn is_quiet_due(&mut self) -> bool
         ensures { self.new.faults ≡ self.old.faults }
@@ -105,7 +94,11 @@ impl<R: Net<Listener = TcpListener, Stream = TcpStream> + Clock> Doorway for Tcp
 
     fn next(&mut self) -> Came<TcpPeer> {
         if self.left == Some(0) {
-            return self.wait_for_the_last();
+            if self.out == 0 {
+                return Came::Closed;
+            }
+            self.rt.sleep(Duration::from_millis(PAUSE_MILLIS));
+            return self.rest();
         }
         if self.is_quiet_due() {
             return self.rest();
