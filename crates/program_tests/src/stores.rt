@@ -11,8 +11,8 @@ use std::test::Fail;
 /// A key and the record under it.
 type KeyAndRecord = (&'static [u8], &'static [u8]);
 
-/// A row of the table: the words, what the keeper holds, which calls of the keeper fail and which writes; the status, and
-/// the text that is written.
+/// A row of the table: the words, what the keeper holds, which calls of the keeper fail and which writes; the status,
+/// and the text that is written.
 struct Row(
     &'static [&'static str],
     &'static [KeyAndRecord],

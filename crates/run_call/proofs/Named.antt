@@ -1,9 +1,8 @@
 -- Words name one command.
 use Rattle.std.proofs.Common.{◌≡◌, ℕ, ◌<◌, ◌≤◌, ◌^◌, List, [], ◌∷◌, Option, None, Some, arith, refl, sym, ap, subst, ◌∙◌}
-use Rattle.std.specs.Prelude.{String, map, string_bytes}
+use Rattle.std.specs.Prelude.{String, decimal}
 use Rattle.std.specs.declared.alloc.Global.{Global}
 use Rattle.std.proofs.lemmas.Fmt.{decimal_injective}
-use Rattle.fics_words.specs.Number.{IsDecimal}
 use Rattle.job_words.proofs.JobsNamed as named
 use Rattle.job_words.specs.Jobs.{IsBehind, OnUsage, text_of}
 use Rattle.job_words.specs.Jobs as jobs
@@ -18,7 +17,7 @@ use Rattle.run_call.specs.declared.command.Command.{Command}
 use Rattle.run_call.specs.declared.command.Command.TheVariants.{Bot, Demo}
 
 -- one word spells one number
-one_number : (most : ℕ) (words : List (List ℕ)) (text other : List ℕ) (n k : ℕ) → most < 2 ^ 32 → words ≡ text ∷ [] → words ≡ other ∷ [] → IsDecimal most text n → IsDecimal most other k → n ≡ k
+one_number : (most : ℕ) (words : List (List ℕ)) (text other : List ℕ) (n k : ℕ) → most < 2 ^ 32 → words ≡ text ∷ [] → words ≡ other ∷ [] → (text ≡ decimal n) × (n ≤ most) → (other ≡ decimal k) × (k ≤ most) → n ≡ k
 one_number most words text other n k fits is is' h h' =
     let both : text ∷ [] ≡ other ∷ [] = sym is ∙ is' in
     let same : text ≡ other = cc in
@@ -66,6 +65,9 @@ not_done words job n none h =
 pub on_fail : (fail : JobFail) (words : List (String Global)) → OnUsage fail ((job : Job) → jobs.Names words job → ⊥) → OnUsage fail (IsCommand words → ⊥)
 on_fail fails.Usage words none = λ h. none h.1.0 h.1.1
 on_fail fails.Memory words none = tt
+
+pub refused : (fail : JobFail) (words : List (String Global)) → fail ≡ fails.Usage → OnUsage fail (IsCommand words → ⊥) → IsCommand words → ⊥
+refused fail words is none = subst (λ (f : JobFail). OnUsage f (IsCommand words → ⊥)) is none
 
 -- a command that there is looks no further ahead than the bot does
 abbrev IsWithinOf : Option Command → Type 0

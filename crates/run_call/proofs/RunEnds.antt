@@ -10,7 +10,7 @@ use Rattle.line_answers.specs.Ends as read
 use Rattle.job_words.specs.Usage.{UsageEnds}
 use Rattle.check_command.specs.CheckEnds.{CheckEnds}
 use Rattle.run_call.specs.RunEnds.{CommandEnds, IsGood, IsToldGood, WritesPart}
-use Rattle.run_call.specs.Words.{Does, IsOverStore, Names}
+use Rattle.run_call.specs.Words.{Does, IsCommand, IsOverStore, Names}
 use Rattle.run_call.proofs.Named.{is_command, one_command}
 use Rattle.line_answers.specs.declared.end.End.{End}
 use Rattle.line_answers.specs.declared.end.End.TheVariants.{Done, ReadFault, WriteFault, Memory, BadLine, Spent}
@@ -145,6 +145,12 @@ out_of_memory table left written Check = (Keeps-same left, inl (Appends-nil writ
 
 pub memory_at_once : (words : List (String Global)) (table : Option Table) (left written : Option (List ℕ)) → WritesPart words table left left written written (Read Memory)
 memory_at_once words table left written = (λ command names. out_of_memory table left written command, λ none. (Keeps-same left, (0, Appends-nil written)))
+
+-- a beginning of the usage line was written
+pub usage_part : (words : List (String Global)) (table : Option Table) (left written written' : Option (List ℕ)) (outcome : Outcome) (status : ℕ) → (IsCommand words → ⊥)
+    → UsageEnds written written' status → (status ≡ 1 → ⊥) → WritesPart words table left left written written' outcome
+usage_part words table left written written' outcome status none (inl whole) not_whole = absurd (not_whole whole.0)
+usage_part words table left written written' outcome status none (inr front) not_whole = (λ command names. absurd (none (command, names)), λ none. (Keeps-same left, front.1))
 
 -- ---- the keeper
 

@@ -29,7 +29,8 @@ abbrev pub CommandEnds : Option Table → Option (List ℕ) → Option (List ℕ
     → Command → Type 0
 CommandEnds table left left' written written' outcome Board = AsRead (BoardEnds left left' written written') outcome
 CommandEnds table left left' written written' outcome Replay = AsRead (ReplayEnds left left' written written') outcome
-CommandEnds table left left' written written' outcome Tourney = AsRead (TourneyEnds left left' written written') outcome
+CommandEnds table left left' written written' outcome Tourney =
+    AsRead (TourneyEnds left left' written written') outcome
 CommandEnds table left left' written written' outcome Tidy = AsRead (TidyEnds left left' written written') outcome
 CommandEnds table left left' written written' outcome (Bot depth) =
     AsRead (BotEnds depth left left' written written') outcome

@@ -27,9 +27,9 @@ use tidy_command::tidy;
 use tourney_command::tourney;
 
 /// Runs the command that the words name, and gives the status with which the program ends: 0 where the input was
-/// read to its end, 1 where the words name no command, 2 at a fault of reading, 3 at a fault of writing, 4 at a fault of
-/// the keeper, 5 where a record of the store is bad, 6 for want of memory, 7 at the first line outside the grammar, and
-/// 9 after 2^40 reads. The keeper is called by the commands over a store alone, and its table stays as it is.
+/// read to its end, 1 where the words name no command, 2 at a fault of reading, 3 at a fault of writing, 4 at a fault
+/// of the keeper, 5 where a record of the store is bad, 6 for want of memory, 7 at the first line outside the grammar,
+/// and 9 after 2^40 reads. The keeper is called by the commands over a store alone, and its table stays as it is.
 pub fn run<S: Source, K: Sink, P: Keeper>(
     alloc: Global,
     words: &[String],
@@ -59,8 +59,8 @@ pub fn run<S: Source, K: Sink, P: Keeper>(
         (S.left source.new) (K.written sink.old) (K.written sink.new) (Outcome.Read End.BadLine)) }
     ensures spent { result ≡ 9 → Does words.now (CommandEnds (P.table keeper.old) (S.left source.old)
         (S.left source.new) (K.written sink.old) (K.written sink.new) (Outcome.Read End.Spent)) }
-    ensures complete { (command : Command) → Names words.now command → ¬ (Rose (S.faults source.old) (S.faults source.new))
-        → ¬ (Rose (K.faults sink.old) (K.faults sink.new))
+    ensures complete { (command : Command) → Names words.now command
+        → ¬ (Rose (S.faults source.old) (S.faults source.new)) → ¬ (Rose (K.faults sink.old) (K.faults sink.new))
         → (IsOverStore command → ¬ (Rose (P.faults keeper.old) (P.faults keeper.new)))
         → IfSome (S.left source.old) (λ text. length text < 2 ^ 40 → IsGood (P.table keeper.old) text command
         → (result ≡ 0) ⊎ (result ≡ 6)) }

@@ -1,7 +1,8 @@
+use Rattle.std.proofs.Common.{◌≡◌, arith, sym, ◌∙◌}
 use Rattle.line_answers.specs.declared.end.End.TheVariants.{Done, ReadFault, WriteFault, Memory, BadLine, Spent}
 use Rattle.store_ends.specs.declared.outcome.Outcome.TheVariants.{Read, BadRecord, KeeperFault}
-use Rattle.run_call.proofs.Named.{is_command}
-use Rattle.run_call.proofs.RunEnds.{Stays-same, complete_at, does_at, keeper_fault_at, keeper_stays_at, listed_as, memory_at_once, not_usage, read_fault_at, usage_listed, write_fault_at, writes_at}
+use Rattle.run_call.proofs.Named.{is_command, refused}
+use Rattle.run_call.proofs.RunEnds.{Stays-same, complete_at, does_at, keeper_fault_at, keeper_stays_at, listed_as, memory_at_once, not_usage, read_fault_at, usage_listed, usage_part, write_fault_at, writes_at}
 use Rattle.run_call.proofs.running.run.Goals as goal
 
 -- ---- a command was run
@@ -60,6 +61,17 @@ returns-in-Ok-clause-keeper_stays g c = keeper_stays_at _ c.in-Ok.command _ c.in
 
 pub returns-in-Err-Usage-clause-statuses : goal.returns-in-Err-Usage-clause-statuses
 returns-in-Err-Usage-clause-statuses g c = usage_listed (g.K.Sink.written c.args.sink.now) (g.K.Sink.written c.tell_usage.new.sink) c.tell_usage.result c.tell_usage.ensures.ends
+
+pub returns-in-Err-Usage-clause-write_part : goal.returns-in-Err-Usage-clause-write_part
+returns-in-Err-Usage-clause-write_part g c = λ told.
+    usage_part _ _ _ _ _ _ c.tell_usage.result (refused c.in-Err-Usage.field-0 _ c.in-Err-Usage.field-0-is c.in-Err-Usage.ensures.usage) c.tell_usage.ensures.ends (λ one. let bad : 3 ≡ 1 = sym told ∙ one in absurd (omega (arith, bad)))
+
+pub returns-in-Err-Usage-clause-memory_part : goal.returns-in-Err-Usage-clause-memory_part
+returns-in-Err-Usage-clause-memory_part g c = λ told.
+    usage_part _ _ _ _ _ _ c.tell_usage.result (refused c.in-Err-Usage.field-0 _ c.in-Err-Usage.field-0-is c.in-Err-Usage.ensures.usage) c.tell_usage.ensures.ends (λ one. let bad : 6 ≡ 1 = sym told ∙ one in absurd (omega (arith, bad)))
+
+pub returns-in-Err-Usage-clause-complete : goal.returns-in-Err-Usage-clause-complete
+returns-in-Err-Usage-clause-complete g c = λ command names no_read no_write no_keeper. absurd (refused c.in-Err-Usage.field-0 _ c.in-Err-Usage.field-0-is c.in-Err-Usage.ensures.usage (command, names))
 
 pub returns-in-Err-Usage-clause-table_stays : goal.returns-in-Err-Usage-clause-table_stays
 returns-in-Err-Usage-clause-table_stays g c = Stays-same (g.P.Keeper.table c.args.keeper.now)
