@@ -18,13 +18,14 @@ use Rattle.store_ends.specs.Outcomes.{AsRead, OnKeeperFault, OnReadFault, OnWrit
 use Rattle.store_ends.specs.declared.outcome.Outcome.{Outcome}
 use Rattle.store_ends.specs.declared.outcome.Outcome.TheVariants.{Read, BadRecord, KeeperFault, NoGame}
 use Rattle.run_call.specs.declared.command.Command.{Command}
-use Rattle.run_call.specs.declared.command.Command.TheVariants.{Board, Replay, Tourney, Tidy, Bot, Demo, Check}
+use Rattle.run_call.specs.declared.command.Command.TheVariants.{Board, Replay, Tourney, Tidy, Bot, Demo, Check, Pgn}
 use Rattle.board_command.specs.Transcript.{board_lines}
 use Rattle.bot_command.specs.BotLines.{bot_answer, bot_lines}
 use Rattle.demo_command.proofs.Told.{nothing_told, told_or_cut}
 use Rattle.line_answers.proofs.ClosingEnds.{AnswersOrClosesPart-none}
 use Rattle.line_answers.proofs.Completeness.{is_complete, is_complete-closing}
 use Rattle.line_answers.proofs.LineCommandEnds.{AnswersPart-none}
+use Rattle.pgn_command.specs.PgnEnds.{PgnEnds}
 use Rattle.tourney_command.specs.Texts.{tourney_lines}
 use Rattle.tidy_command.proofs.Steps.{cut_at_once}
 use Rattle.tidy_command.proofs.Completeness.{is_complete-tidied}
@@ -79,6 +80,7 @@ status-listed Tidy table left left' written written' NoGame h = absurd h
 status-listed (Bot depth) table left left' written written' NoGame h = absurd h
 status-listed (Demo number) table left left' written written' NoGame h = absurd h.1
 status-listed Check table left left' written written' NoGame h = absurd h.1
+status-listed Pgn table left left' written written' NoGame h = absurd h.1
 
 pub listed_as : (status : ℕ) (command : Command) (table : Option Table) (left left' written written' : Option (List ℕ)) (outcome : Outcome)
     → CommandEnds table left left' written written' outcome command → status ≡ status_of_outcome outcome → Contains statuses status
@@ -93,7 +95,7 @@ usage_listed written written' status (inr (inr e, front)) = subst (Contains stat
 -- ---- what a status tells
 
 module _ (words : List (String Global)) (command : Command) (names : Names words command) (table : Option Table) (left left' written written' : Option (List ℕ)) (outcome : Outcome)
-  (ends : CommandEnds table left left' written written' outcome command) where
+    (ends : CommandEnds table left left' written written' outcome command) where
   -- a status tells how the command ended
   pub does_at : (wanted : Outcome) (status : ℕ) → status ≡ status_of_outcome outcome → status ≡ status_of_outcome wanted → Does words (CommandEnds table left left' written written' wanted)
   does_at wanted status is told = (command, names, subst (λ (e : Outcome). CommandEnds table left left' written written' e command) (one_outcome outcome wanted status is told) ends)
@@ -142,6 +144,7 @@ out_of_memory table left written Tidy = cut_at_once left written
 out_of_memory table left written (Bot depth) = AnswersOrClosesPart-none (bot_lines depth) (bot_answer depth) left written
 out_of_memory table left written (Demo number) = (Keeps-same left, nothing_told number written)
 out_of_memory table left written Check = (Keeps-same left, inl (Appends-nil written))
+out_of_memory table left written Pgn = (Keeps-same left, inl (Appends-nil written))
 
 pub memory_at_once : (words : List (String Global)) (table : Option Table) (left written : Option (List ℕ)) → WritesPart words table left left written written (Read Memory)
 memory_at_once words table left written = (λ command names. out_of_memory table left written command, λ none. (Keeps-same left, (0, Appends-nil written)))
@@ -165,6 +168,18 @@ check_reads_nothing table written written' (Read Spent) P h = tt
 check_reads_nothing table written written' BadRecord P h = tt
 check_reads_nothing table written written' KeeperFault P h = tt
 check_reads_nothing table written written' NoGame P h = tt
+
+-- nor does pgn
+pub pgn_reads_nothing : (table : Option Table) (written written' : Option (List ℕ)) (outcome : Outcome) (P : Type 0) → PgnEnds table written written' outcome → OnReadFault outcome P
+pgn_reads_nothing table written written' (Read Done) P h = tt
+pgn_reads_nothing table written written' (Read ReadFault) P h = absurd h
+pgn_reads_nothing table written written' (Read WriteFault) P h = tt
+pgn_reads_nothing table written written' (Read Memory) P h = tt
+pgn_reads_nothing table written written' (Read BadLine) P h = tt
+pgn_reads_nothing table written written' (Read Spent) P h = tt
+pgn_reads_nothing table written written' BadRecord P h = tt
+pgn_reads_nothing table written written' KeeperFault P h = tt
+pgn_reads_nothing table written written' NoGame P h = tt
 
 -- a table that isn't touched stays
 pub Stays-same : (table : Option Table) → Stays table table
@@ -199,6 +214,20 @@ is_complete-check (Some told) written written' Q R BadRecord good h q r no_write
 is_complete-check table written written' Q R KeeperFault good h q r no_write no_keeper = absurd (no_keeper r)
 is_complete-check table written written' Q R NoGame good h q r no_write no_keeper = absurd h
 
+-- a pgn of a good store
+is_complete-pgn : (table : Option Table) (written written' : Option (List ℕ)) (Q R : Type 0) (outcome : Outcome) → IsToldGood table → PgnEnds table written written' outcome
+    → OnWriteFault outcome Q → OnKeeperFault outcome R → (Q → ⊥) → (R → ⊥) → (status_of_outcome outcome ≡ 0) ⊎ (status_of_outcome outcome ≡ 6)
+is_complete-pgn table written written' Q R (Read Done) good h q r no_write no_keeper = inl refl
+is_complete-pgn table written written' Q R (Read ReadFault) good h q r no_write no_keeper = absurd h
+is_complete-pgn table written written' Q R (Read WriteFault) good h q r no_write no_keeper = absurd (no_write q)
+is_complete-pgn table written written' Q R (Read Memory) good h q r no_write no_keeper = inr refl
+is_complete-pgn table written written' Q R (Read BadLine) good h q r no_write no_keeper = absurd h
+is_complete-pgn table written written' Q R (Read Spent) good h q r no_write no_keeper = absurd h
+is_complete-pgn None written written' Q R BadRecord good h q r no_write no_keeper = absurd good
+is_complete-pgn (Some told) written written' Q R BadRecord good h q r no_write no_keeper = absurd (good.none_bad h.key h.bad.bad)
+is_complete-pgn table written written' Q R KeeperFault good h q r no_write no_keeper = absurd (no_keeper r)
+is_complete-pgn table written written' Q R NoGame good h q r no_write no_keeper = absurd h
+
 -- the run of this command went well
 abbrev WentWell : Option Table → Option (List ℕ) → Command → ℕ → Type 0
 WentWell table left command status = IfSome left (λ text. length text < 2 ^ 40 → IsGood table text command → (status ≡ 0) ⊎ (status ≡ 6))
@@ -226,6 +255,8 @@ module _ (table : Option Table) (left left' written written' : Option (List ℕ)
       (λ end h p q. any_input table left (Demo number) (read.status_of end) (λ text good. told_or_cut number written written' Q end h q no_write))
   is_complete-command Check outcome h p q r no_keeper =
       any_input table left Check (status_of_outcome outcome) (λ text good. is_complete-check table written written' Q R outcome good h.1 q r no_write (no_keeper tt))
+  is_complete-command Pgn outcome h p q r no_keeper =
+      any_input table left Pgn (status_of_outcome outcome) (λ text good. is_complete-pgn table written written' Q R outcome good h.1 q r no_write (no_keeper tt))
 
   pub complete_at : (words : List (String Global)) (command other : Command) (outcome : Outcome) (status : ℕ) → Names words command → Names words other → status ≡ status_of_outcome outcome
       → CommandEnds table left left' written written' outcome command → OnReadFault outcome P → OnWriteFault outcome Q → OnKeeperFault outcome R → (IsOverStore other → R → ⊥)

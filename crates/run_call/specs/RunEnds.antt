@@ -15,6 +15,7 @@ use Rattle.line_answers.specs.Lines.{lines_of}
 use Rattle.lobby_load.specs.BadRows.{IsGoodStore}
 use Rattle.pgn_book.specs.declared.game.PgnGame.{PgnGame}
 use Rattle.pgn_book.specs.Games.{Reads}
+use Rattle.pgn_command.specs.PgnEnds.{PgnEnds}
 use Rattle.store_ends.specs.Outcomes.{AsRead}
 use Rattle.store_ends.specs.declared.outcome.Outcome.{Outcome}
 use Rattle.tidy_command.specs.TidyEnds.{TidyEnds}
@@ -22,9 +23,10 @@ use Rattle.tourney_command.specs.Texts.{tourney_lines}
 use Rattle.tourney_command.specs.TourneyEnds.{TourneyEnds}
 use Rattle.run_call.specs.Words.{IsCommand, Names, UsagePart}
 use Rattle.run_call.specs.declared.command.Command.{Command}
-use Rattle.run_call.specs.declared.command.Command.TheVariants.{Board, Replay, Tourney, Tidy, Bot, Demo, Check}
+use Rattle.run_call.specs.declared.command.Command.TheVariants.{Board, Replay, Tourney, Tidy, Bot, Demo, Check, Pgn}
 
--- how a command ends over this table, where it is told; `demo` and `check` leave the input as it was
+-- how a command ends over this table, where it is told; `demo`, `check` and `pgn` leave the input as it
+-- was
 abbrev pub CommandEnds : Option Table → Option (List ℕ) → Option (List ℕ) → Option (List ℕ) → Option (List ℕ) → Outcome
     → Command → Type 0
 CommandEnds table left left' written written' outcome Board = AsRead (BoardEnds left left' written written') outcome
@@ -37,6 +39,7 @@ CommandEnds table left left' written written' outcome (Bot depth) =
 CommandEnds table left left' written written' outcome (Demo number) =
     Keeps left left' × AsRead (DemoEnds number written written') outcome
 CommandEnds table left left' written written' outcome Check = Keeps left left' × CheckEnds table written written' outcome
+CommandEnds table left left' written written' outcome Pgn = Keeps left left' × PgnEnds table written written' outcome
 
 -- a prefix of what would have been written, at a fault of writing or when out of memory: of a command's text, or of the
 -- usage line
@@ -52,7 +55,7 @@ IsToldGood None = ⊥
 IsToldGood (Some table) = IsGoodStore table
 
 -- the input is in the command's grammar: none of its lines is bad, or they are those of an evening, or games are read
--- in its text; `demo` reads none, and `check` reads a good store
+-- in its text; `demo` reads none, and `check` and `pgn` read a good store
 abbrev pub IsGood : Option Table → List ℕ → Command → Type 0
 IsGood table text Board = bad_in (lines_of text) ≡ None
 IsGood table text Replay = AreEvening (lines_of text)
@@ -61,3 +64,4 @@ IsGood table text Tidy = (games : List PgnGame) × Reads text games
 IsGood table text (Bot depth) = each.bad_in (bot_lines depth) (lines_of text) ≡ None
 IsGood table text (Demo number) = ⊤
 IsGood table text Check = IsToldGood table
+IsGood table text Pgn = IsToldGood table

@@ -8,7 +8,7 @@ use Rattle.job_words.specs.Jobs as jobs
 use Rattle.job_words.specs.declared.job.Job.{Job}
 use Rattle.job_words.specs.declared.job.Job.TheVariants as job
 use Rattle.run_call.specs.declared.command.Command.{Command}
-use Rattle.run_call.specs.declared.command.Command.TheVariants.{Board, Replay, Tourney, Tidy, Bot, Demo, Check}
+use Rattle.run_call.specs.declared.command.Command.TheVariants.{Board, Replay, Tourney, Tidy, Bot, Demo, Check, Pgn}
 
 -- the command that is run for a job; players are served by another call
 abbrev pub command_of : Job → Option Command
@@ -19,6 +19,7 @@ command_of job.Tidy = Some Tidy
 command_of (job.Bot depth) = Some (Bot depth)
 command_of (job.Demo number) = Some (Demo number)
 command_of (job.Check store) = Some Check
+command_of (job.Pgn store) = Some Pgn
 command_of _ = None
 
 -- the words name this command
@@ -33,6 +34,7 @@ IsWithin _ = ⊤
 -- the command is over a store: it calls the keeper
 abbrev pub IsOverStore : Command → Type 0
 IsOverStore Check = ⊤
+IsOverStore Pgn = ⊤
 IsOverStore _ = ⊥
 
 -- the words name a command

@@ -30,6 +30,8 @@ pub enum Command {
     },
     /// Loads the store, and tells how many accounts and games it holds; reads nothing else.
     Check,
+    /// Loads the store, and writes its chess games as PGN; reads nothing else.
+    Pgn,
 }
 
 /// Reads the words. Those of a job that isn't done here are `Usage` too.
@@ -59,6 +61,7 @@ fn command_of(job: &Job) -> Option<Command>
         Job::Bot { depth } => Some(Command::Bot { depth: *depth }),
         Job::Demo { number } => Some(Command::Demo { number: *number }),
         Job::Check { .. } => Some(Command::Check),
+        Job::Pgn { .. } => Some(Command::Pgn),
         _ => None,
     }
 }

@@ -20,6 +20,7 @@ use demo_command::demo;
 use edge_traits::{Keeper, Sink, Source};
 use job_words::{JobFail, tell_usage};
 use line_answers::{End, status};
+use pgn_command::pgn;
 use replay_command::replay;
 use std::alloc::Global;
 use store_ends::{Outcome, status_of_outcome};
@@ -102,5 +103,6 @@ fn run_command<S: Source, K: Sink, P: Keeper>(
         Command::Bot { depth } => Outcome::Read(bot(alloc, depth, source, sink)),
         Command::Demo { number } => Outcome::Read(demo(alloc, number, sink)),
         Command::Check => check(alloc, sink, keeper),
+        Command::Pgn => pgn(alloc, sink, keeper),
     }
 }
