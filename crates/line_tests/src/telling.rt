@@ -30,6 +30,21 @@ fn tell_rest(rest: &Incoming, told: &mut Vec<u8>) -> Result<(), NoMemory> {
     tell(rest, told)
 }
 
+/// The lines of `text`, which is fed byte by byte, and then the rest behind a `>`.
+pub fn told_by_bytes(alloc: Global, text: &[u8]) -> Result<Vec<u8>, NoMemory> {
+    let mut told = Vec::new(alloc);
+    let mut reader = LineReader::new(alloc)?;
+    for byte in text {
+        reader.feed(&[*byte])?;
+        drain(&mut reader, 2, &mut told)?;
+    }
+    match reader.rest()? {
+        Some(rest) => tell_rest(&rest, &mut told)?,
+        None => {}
+    }
+    Ok(told)
+}
+
 /// The whole lines of `text`, which is fed in two pieces.
 pub fn whole_lines(alloc: Global, text: &[u8], cut: usize) -> Result<Vec<u8>, NoMemory> {
     let mut told = Vec::new(alloc);
