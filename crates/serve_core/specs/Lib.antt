@@ -5,5 +5,6 @@ pub mod Serving
 pub mod Sessions
 pub mod Stewarding
 pub mod Stopping
+pub mod Tending
 pub mod Turns
 pub mod Working
