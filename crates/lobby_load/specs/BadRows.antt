@@ -1,0 +1,57 @@
+-- Which keys of a store are bad: what stands under them is no account under the key of its name and no game that replays
+-- under the key of its number, or it is one account or game more than a server holds. This server's own.
+use Rattle.std.specs.Prelude.{◌≡◌, ◌⊎◌, ℕ, ◌≤◌, ◌×◌, Bool, true, List, All, Some, count_by}
+use Rattle.std.specs.FinMap as map
+use Rattle.std.specs.declared.cmp.Ordering.TheVariants.{Less}
+use Rattle.fics_words.specs.declared.account.Account.{Account}
+use Rattle.game_records.specs.declared.stored_game.StoredGame.{StoredGame}
+use Rattle.game_shelf.specs.Shelf.{most_stored}
+use Rattle.edge_traits.specs.Pairs.{Pairs, Table, keys_order}
+use Rattle.lobby_state.specs.Lobby.{most_accounts}
+use Rattle.lobby_store.specs.Carrying.{held}
+use Rattle.lobby_store.specs.Rows.{IsAccountRow, IsGameRow, IsNoRow}
+
+-- a key and its record
+abbrev pub Row : Type 0
+Row = List ℕ × List ℕ
+
+-- the row is that of an account
+abbrev pub IsAccount : Row → Type 0
+IsAccount row = (account : Account) × IsAccountRow account row
+
+-- the row is that of a game
+abbrev pub IsGame : Row → Type 0
+IsGame row = (number : ℕ) × (game : StoredGame) × IsGameRow number game row
+
+-- the one key comes before the other
+abbrev pub ComesBefore : List ℕ → List ℕ → Type 0
+ComesBefore one other = keys_order one other ≡ Less
+
+-- the rows have at least so many of a kind at keys before this one: so many can be picked that are of it and come before
+pub record HasBefore (IsOfKind : Row → Type 0) (count : ℕ) (rows : Pairs) (key : List ℕ) : Type 0 where
+  pub pick : Row → Bool
+  pub kind : All (λ row. pick row ≡ true → IsOfKind row) rows
+  pub before : All (λ row. pick row ≡ true → ComesBefore row.0 key) rows
+  pub many : count ≤ count_by pick rows
+
+-- the row is beyond what a server holds: an account at whose lesser keys stand 4,096 accounts, or a game at whose lesser
+-- keys stand 10,000 games
+abbrev pub IsBeyond : Pairs → Row → Type 0
+IsBeyond rows row = (IsAccount row × HasBefore IsAccount most_accounts rows row.0)
+    ⊎ (IsGame row × HasBefore IsGame most_stored rows row.0)
+
+-- the key is bad: its record is no row under it, or a row beyond what a server holds
+pub record IsBad (table : Table) (key : List ℕ) : Type 0 where
+  pub record_of : List ℕ
+  pub stands : held table key ≡ Some record_of
+  pub bad : IsNoRow (key, record_of) ⊎ IsBeyond (map.entries table) (key, record_of)
+
+-- the key is bad, and no key before it is
+pub record IsLeastBad (table : Table) (key : List ℕ) : Type 0 where
+  pub bad : IsBad table key
+  pub least : (other : List ℕ) → ComesBefore other key → IsBad table other → ⊥
+
+-- each pair of the table is a row, and no key is bad
+pub record IsGoodStore (table : Table) : Type 0 where
+  pub rows : All (λ row. IsAccount row ⊎ IsGame row) (map.entries table)
+  pub none_bad : (key : List ℕ) → IsBad table key → ⊥

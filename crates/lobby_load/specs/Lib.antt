@@ -1,0 +1,5 @@
+-- What the contracts of this crate cite.
+pub mod BadRows
+pub mod Loaded
+pub mod Refused
+pub mod Telling

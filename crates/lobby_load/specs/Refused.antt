@@ -1,0 +1,26 @@
+-- Why a store wasn't loaded or opened.
+use Rattle.std.specs.Prelude.{ℕ, List, Err, Result}
+use Rattle.lobby_load.specs.declared.refusals.LoadRefusal.{LoadRefusal}
+use Rattle.lobby_load.specs.declared.refusals.LoadRefusal.TheVariants as load
+use Rattle.lobby_load.specs.declared.refusals.StoreFault.{StoreFault}
+use Rattle.lobby_load.specs.declared.refusals.StoreFault.TheVariants as store
+
+-- the fact holds of the key whose record was refused
+abbrev pub OnBadRecord : {A : Type 0} → Result A LoadRefusal → (List ℕ → Type 0) → Type 0
+OnBadRecord (Err (load.BadRecord key)) P = P key
+OnBadRecord answer P = Unit {0}
+
+-- the fact holds where the keeper failed at a load
+abbrev pub OnKeeperFault : {A : Type 0} → Result A LoadRefusal → Type 0 → Type 0
+OnKeeperFault (Err load.KeeperFault) P = P
+OnKeeperFault answer P = Unit {0}
+
+-- the fact holds where the keeper failed at an opening
+abbrev pub OnReadFault : {A : Type 0} → Result A StoreFault → Type 0 → Type 0
+OnReadFault (Err store.KeeperFault) P = P
+OnReadFault answer P = Unit {0}
+
+-- the fact holds where the line couldn't be written
+abbrev pub OnWriteFault : {A : Type 0} → Result A StoreFault → Type 0 → Type 0
+OnWriteFault (Err store.WriteFault) P = P
+OnWriteFault answer P = Unit {0}

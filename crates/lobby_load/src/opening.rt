@@ -1,0 +1,36 @@
+//! A store is opened: it is loaded, and a sink is told of a bad record.
+ghost use Rattle.std.specs.Prelude.{◌≤◌, IfOk, IfSome};
+ghost use Rattle.edge_traits.specs.Faults.{Rose};
+ghost use Rattle.edge_traits.specs.Keeper.{Stays};
+ghost use Rattle.lobby_load.specs.BadRows.{IsGoodStore};
+ghost use Rattle.lobby_load.specs.Loaded.{AreSpelled, HasLoaded, IsAtOpening};
+ghost use Rattle.lobby_load.specs.Refused.{OnReadFault, OnWriteFault};
+ghost use Rattle.lobby_load.specs.Telling.{Tells};
+
+use crate::refusals::StoreFault;
+use edge_traits::{Keeper, Sink};
+use lobby_state::Lobby;
+use std::alloc::Global;
+
+/// Loads what a keeper holds, as `load` does, and tells the sink of a bad record by the line `bad record K` and a line
+/// feed, where K is the least bad key in lower-case hexadecimal digits; else it writes nothing. It answers `BadRecord`
+/// where the line was written, `KeeperFault` only where the keeper counted a fault, `WriteFault` only where the sink did,
+/// and `Memory` only when out of memory; then, as after `WriteFault`, a beginning of the line may have been written.
+pub fn open_store<P: Keeper, K: Sink>(
+    alloc: Global,
+    keeper: &mut P,
+    sink: &mut K,
+) -> Result<Lobby, StoreFault>
+    ensures opening { IfOk result IsAtOpening }
+    ensures loaded { IfOk result (λ lobby. IfSome (P.table keeper.old) (λ table. HasLoaded table lobby)) }
+    ensures spelled { IfOk result AreSpelled }
+    ensures good { IfOk result (λ lobby. IfSome (P.table keeper.old) IsGoodStore) }
+    ensures tells { Tells (P.table keeper.old) (K.written sink.old) (K.written sink.new) result }
+    ensures unchanged { Stays (P.table keeper.old) (P.table keeper.new) }
+    ensures keeper_cause { OnReadFault result (Rose (P.faults keeper.old) (P.faults keeper.new)) }
+    ensures keeper_counted { P.faults keeper.old ≤ P.faults keeper.new }
+    ensures write_cause { OnWriteFault result (Rose (K.faults sink.old) (K.faults sink.new)) }
+    ensures write_counted { K.faults sink.old ≤ K.faults sink.new }
+{
+    Err(StoreFault::Memory)
+}

@@ -1,0 +1,27 @@
+//! Why a store isn't loaded.
+
+use collections::Listed;
+
+/// Why no lobby was loaded.
+#[derive(Drop)]
+pub enum LoadRefusal {
+    /// A record of the store is bad: this is the least of the keys whose record is.
+    BadRecord(Listed<u8>),
+    /// The keeper failed, and counted the fault.
+    KeeperFault,
+    /// Running out of memory.
+    Memory,
+}
+
+/// Why a store wasn't opened, once a bad record was told.
+#[derive(Clone, Copy, Debug, PartialEq, Eq)]
+pub enum StoreFault {
+    /// A record of the store is bad, and the line that names its key was written.
+    BadRecord,
+    /// The keeper failed, and counted the fault.
+    KeeperFault,
+    /// A record of the store is bad, and the line that names its key couldn't be written: the sink counted the fault.
+    WriteFault,
+    /// Running out of memory.
+    Memory,
+}
