@@ -198,3 +198,14 @@ module _ {C : Type 0} (shows : C → ℕ → Bool) (hall : TableId) (clock : C) 
 
   pub still_here : new.home ≡ hall
   still_here = last_home last mid.table after.table pass new t ∙ k.here
+
+pub all_served : {C : Type 0} (shows : C → ℕ → Bool) (hall : TableId) (clock : C) (supply : Supply) (opens door : Option DoorTale) (opening : List Part) (first pass new : PassState) (old mid after : Store) (last : StewardEnd)
+    → Underway shows hall clock supply door pass [] → first ≡ first_pass hall opening → Tended (stand first Enough opens old) (stand pass supply door mid) → IfTold opens IsUnused → IsWhole first.opening
+    → TurnsLast last mid.table after.table pass new → (last ≡ steward.KeeperFault → Rose mid.faults after.faults) → mid.faults ≤ after.faults
+    → (end : ServeEnd) → (supply ≡ Short → MayBeShort end) → LastEnds end last → (before later : Sheet) → Closes end door before later pass.splits
+    → HasServedAll (shows clock) first.opening end door before later old after new
+all_served shows hall clock supply opens door opening first pass new old mid after last k is tended unused whole t fault counted end short ends before later leaves =
+    let at : first.opening ≡ opening = ap (λ (p : PassState). p.opening) is in
+    subst (λ (parts : List Part). HasServedAll (shows clock) parts end door before later old after new) (sym at)
+    (served_all shows hall clock supply opens door opening pass new old mid after last k
+    (subst (λ (p : PassState). Tended (stand p Enough opens old) (stand pass supply door mid)) is tended) unused (subst IsWhole at whole) t fault counted end short ends before later leaves)

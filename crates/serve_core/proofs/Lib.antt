@@ -9,5 +9,6 @@ pub mod Settling
 pub mod Ending
 pub mod Closing
 pub mod Writing
+pub mod Opening
 pub mod ServeEnds
 pub mod Returning

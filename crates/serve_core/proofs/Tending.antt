@@ -1,7 +1,7 @@
 -- What the door's thread does for the store, from one step to the next.
 use Rattle.std.proofs.Common.{◌≡◌, ℕ, suc, ◌+◌, ◌≤◌, Bool, true, List, [], ◌∷◌, ◌++◌, length, refl, sym, ap, subst, ◌∙◌, arith, append-nil}
 use Rattle.std.specs.declared.option.Option.{Option}
-use Rattle.edge_traits.specs.Door.{DoorTale, Gives, Goes, TakesBack}
+use Rattle.edge_traits.specs.Door.{DoorTale, Gives, Goes, IsQuiet, TakesBack}
 use Rattle.edge_traits.specs.Faults.{Rose}
 use Rattle.edge_traits.specs.Link.{Handed, Tale}
 use Rattle.edge_traits.specs.Pairs.{Table}
@@ -35,9 +35,6 @@ pub rose_after : (before now after : ℕ) → now ≤ after → Rose before now 
 rose_after before now after n r = omega (arith, n, r)
 
 -- ---- one thing after another
-
-ends_as : (old new later : Stand) → (old.supply ≡ Short → new.supply ≡ Short) → (Rose old.store.faults later.store.faults → Rose new.store.faults later.store.faults) → ℕ
-ends_as old new later f g = 0
 
 quiets_then : (n m : ℕ) (a b c : DoorTale) → GivesQuiets n a b → GivesQuiets m b c → GivesQuiets (n + m) a c
 quiets_then n m a b c p q = omega (arith, p, q)
@@ -105,7 +102,7 @@ joined_made old other new j =
       only = λ e. absurd cc;
     }
 
-looked_made : (old new : PassState) → HasLooked old new → Made (runs_of old) [] (runs_of new)
+pub looked_made : (old new : PassState) → HasLooked old new → Made (runs_of old) [] (runs_of new)
 looked_made old new j =
     let made : new.made ≡ old.made = ap (λ (p : PassState). p.made) j.same in
     record {
@@ -124,6 +121,45 @@ pub tended_settled : (supply supply' : Supply) (end : LinkEnd) (door door' : Opt
 tended_settled supply supply' end door door' pass given new link joins goes is store =
     tended_none pass new supply supply' door door' store (λ known. joined_made pass given new joins)
     (goes_as door door' (TakesBack given.number link) (GivesQuiets 0) (quiets_back given.number link) goes) (λ e. is ∙ stays_short end supply e)
+
+pub settles_then : (start pass given new : PassState) (supply0 supply supply' : Supply) (end : LinkEnd) (door0 door door' : Option DoorTale) (link : Handed)
+    → ((store : Store) → Tended (stand start supply0 door0 store) (stand pass supply door store)) → IsJoined pass given new → Goes door door' (TakesBack given.number link) → supply' ≡ supply_after end supply
+    → (store : Store) → Tended (stand start supply0 door0 store) (stand new supply' door' store)
+settles_then start pass given new supply0 supply supply' end door0 door door' link so_far joins goes is store =
+    tended_then (stand start supply0 door0 store) (stand pass supply door store) (stand new supply' door' store) (so_far store)
+    (tended_settled supply supply' end door door' pass given new link joins goes is store)
+
+-- a pass was split, and served
+pub tended_split : (pass mid : PassState) (supply : Supply) (door : Option DoorTale) (store : Store) → mid ≡ divided pass → Tended (stand pass supply door store) (stand mid supply door store)
+tended_split pass mid supply door store is =
+    subst (λ (p : PassState). Tended (stand pass supply door store) (stand p supply door store)) (sym is)
+    (tended_none pass (divided pass) supply supply door door store (made_none (runs_of pass)) (goes_same door (GivesQuiets 0) no_quiets) (λ e. e))
+
+pub tended_served : (pass mid given new : PassState) (supply supply' : Supply) (end : LinkEnd) (door door' : Option DoorTale) (link : Handed) → mid ≡ divided pass → IsJoined mid given new
+    → Goes door door' (TakesBack given.number link) → supply' ≡ supply_after end supply → (store : Store) → Tended (stand pass supply door store) (stand new supply' door' store)
+tended_served pass mid given new supply supply' end door door' link is joins goes s =
+    settles_then pass mid given new supply supply supply' end door door door' link (λ store. tended_split pass mid supply door store is) joins goes s
+
+-- an answer of the door
+no_quiet : {L : Type 0} (tells : L → Option Tale) (answer : Came L) (a b : DoorTale) → (IsQuiet answer → ⊥) → Gives tells answer a b → GivesQuiets 0 a b
+no_quiet tells (came.Link link) a b other e = let same : b.quiets ≡ a.quiets = ap (λ (t : DoorTale). t.quiets) e.1 in omega (arith, same)
+no_quiet tells came.Quiet a b other e = absurd (other tt)
+no_quiet tells came.Closed a b other e = let same : b.quiets ≡ a.quiets = ap (λ (t : DoorTale). t.quiets) e.1 in omega (arith, same)
+no_quiet tells came.Failed a b other e = let same : b.quiets ≡ a.quiets = ap (λ (t : DoorTale). t.quiets) e in omega (arith, same)
+
+pub one_quiet : {L : Type 0} (tells : L → Option Tale) (door door' : Option DoorTale) → Goes door door' (Gives tells came.Quiet) → Goes door door' (GivesQuiets 1)
+one_quiet tells door door' goes = goes_as door door' (Gives tells came.Quiet) (GivesQuiets 1) (λ a b e. ap (λ (t : DoorTale). t.quiets) e) goes
+
+pub same_then : (start : Stand) (pass pass' : PassState) (supply supply' : Supply) (door : Option DoorTale) (store : Store) → Tended start (stand pass supply door store) → pass' ≡ pass → supply' ≡ supply
+    → Tended start (stand pass' supply' door store)
+same_then start pass pass' supply supply' door store so_far p s =
+    subst (λ (x : PassState). Tended start (stand x supply' door store)) (sym p) (subst (λ (x : Supply). Tended start (stand pass x door store)) (sym s) so_far)
+
+pub door_then : {L : Type 0} (tells : L → Option Tale) (answer : Came L) (start : Stand) (pass : PassState) (supply : Supply) (door door' : Option DoorTale) (store : Store) → (IsQuiet answer → ⊥)
+    → Tended start (stand pass supply door store) → Goes door door' (Gives tells answer) → Tended start (stand pass supply door' store)
+door_then tells answer start pass supply door door' store other so_far goes =
+    tended_then start (stand pass supply door store) (stand pass supply door' store) so_far
+    (tended_door pass supply door door' store (goes_as door door' (Gives tells answer) (GivesQuiets 0) (λ a b. no_quiet tells answer a b other) goes))
 
 -- the pass looked at the history
 pub tended_looked : (pass new : PassState) (supply : Supply) (door : Option DoorTale) (store : Store) → HasLooked pass new → Tended (stand pass supply door store) (stand new supply door store)

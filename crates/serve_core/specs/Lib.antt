@@ -1,5 +1,6 @@
 pub mod Keeping
 pub mod Laws
+pub mod Opening
 pub mod ServeEnds
 pub mod Serving
 pub mod Sessions
