@@ -117,12 +117,23 @@ usage_listed written written' status (inl p) = subst AllStatuses (sym p.0) (1, o
 usage_listed written written' status (inr (inl e, front)) = subst AllStatuses (sym e) (2, omega arith, refl)
 usage_listed written written' status (inr (inr e, front)) = subst AllStatuses (sym e) (5, omega arith, refl)
 
+-- no other status is told with it
+pub usage_else : (written written' : Option (List ℕ)) (status : ℕ) → UsageEnds written written' status → (status ≡ 4) ⊎ ((status ≡ 5) ⊎ (status ≡ 8)) → ⊥
+usage_else written written' status (inl p) e = omega (arith, p.0, e)
+usage_else written written' status (inr (inl is, front)) e = omega (arith, is, e)
+usage_else written written' status (inr (inr is, front)) e = omega (arith, is, e)
+
 -- a front of the usage line was written
 pub usage_front : (written written' : Option (List ℕ)) (status : ℕ) → UsageEnds written written' status → AppendsFront written written' usage_line
 usage_front written written' status (inl p) = (length usage_line, subst (λ (bs : List ℕ). Appends written written' bs) (sym (take-length usage_line)) p.1)
 usage_front written written' status (inr p) = p.1
 
 -- ---- a call that opened a hall, or none
+
+-- a table with a bad key is no good store
+pub first_bad : (told : Option Table) (key : List ℕ) → IsFirstBad told key → IfTold told (λ table. IsGoodStore table → ⊥)
+first_bad None key first = tt
+first_bad (Some table) key first = λ good. good.none_bad key first.bad
 
 module _ (old new : Store) (before after : Sheet) (door door' : ℕ) where
   counts : Counts
@@ -201,7 +212,10 @@ module _ (old new : Store) (before after : Sheet) (door door' : ℕ) where
   call_calm status (inl (fault, is, p)) calm = subst CalmStatuses (sym is) (unopened_calm fault p calm)
   call_calm status (inr (end, is, p)) calm = subst CalmStatuses (sym is) (is_complete end (p.complete calm))
 
--- a table with a bad key is no good store
-pub first_bad : (told : Option Table) (key : List ℕ) → IsFirstBad told key → IfTold told (λ table. IsGoodStore table → ⊥)
-first_bad None key first = tt
-first_bad (Some table) key first = λ good. good.none_bad key first.bad
+  pub call_good : (status : ℕ) → EndsCall status old new before after counts counts' → status ≡ 5 → IfTold old.table (λ table. IsGoodStore table → ⊥)
+  call_good status ends e = let bad = call_bad status ends e in first_bad old.table bad.0 bad.1
+
+pub one_rose : {one two three : Type 0} → (one → ⊥) → (two → ⊥) → (three → ⊥) → one ⊎ (two ⊎ three) → ⊥
+one_rose f g h (inl p) = f p
+one_rose f g h (inr (inl p)) = g p
+one_rose f g h (inr (inr p)) = h p

@@ -1,0 +1,35 @@
+use Rattle.std.proofs.Common.{arith, refl}
+use Rattle.edge_traits.specs.Door.{KeepsLinks}
+use Rattle.serve_core.specs.Tending.{Stand, Store, stand}
+use Rattle.serve_core.specs.declared.settle.Supply.TheVariants.{Enough}
+use Rattle.serve_core.proofs.Telling.{goes_same}
+use Rattle.serve_core.proofs.Tending.{tended_same, tended_then}
+use Rattle.serve_core.proofs.hosting.take_links.Goals as goal
+
+pub loop-init : goal.loop-init
+loop-init g c =
+    let door = g.D.Doorway.tale c.args.door.now in
+    let store : Store = record { table = g.P.Keeper.table c.args.keeper.now; faults = g.P.Keeper.faults c.args.keeper.now } in
+    record {
+      forever = search rules;
+      count = c.requires.none;
+      few = omega arith;
+      kept = c.requires.kept;
+      tended = tended_same (stand c.args.pass Enough door store);
+      opening = refl;
+      links = goes_same door KeepsLinks (λ tale. refl);
+      counted = omega arith;
+    }
+
+pub returns-in-Some-clause-tended : goal.returns-in-Some-clause-tended
+returns-in-Some-clause-tended g c =
+    let l = c.loop in
+    let r = c.round-after.result.0 in
+    let old : Store = record { table = g.P.Keeper.table c.args.keeper.now; faults = g.P.Keeper.faults c.args.keeper.now } in
+    let mid : Store = record { table = g.P.Keeper.table l.keeper; faults = g.P.Keeper.faults l.keeper } in
+    let new : Store = record { table = g.P.Keeper.table c.round-after.new.keeper; faults = g.P.Keeper.faults c.round-after.new.keeper } in
+    let first : Stand = stand c.args.pass Enough (g.D.Doorway.tale c.args.door.now) old in
+    let before : Stand = stand l.host.pass l.host.supply (g.D.Doorway.tale l.door) mid in
+    let after : Stand = stand r.pass r.supply (g.D.Doorway.tale c.round-after.new.door) new in
+    let last : Stand = stand c.at_end.result.pass c.at_end.result.supply (g.D.Doorway.tale c.at_end.new.door) new in
+    tended_then first after last (tended_then first before after l.invariant.tended c.round-after.ensures.tended) (c.at_end.ensures.tended new)
