@@ -1,6 +1,5 @@
 -- A course that has no act which tells save orders as saved: whoever goes by it tells none.
-use Rattle.std.proofs.Common.{◌≡◌, ℕ, Bool, List, [], ◌∷◌, ◌++◌, if◌then◌else◌, true, false, sym, subst, inl, inr}
-use Rattle.std.specs.List.{AllByRecursion}
+use Rattle.std.proofs.Common.{ℕ, Bool, List, [], ◌∷◌, ◌++◌, if◌then◌else◌, true, false, sym, subst, inl, inr}
 use Rattle.histories.specs.declared.entry.Entry.{Entry}
 use Rattle.one_server.specs.declared.act.Timed.{Timed}
 use Rattle.one_server.specs.declared.reply.Reply.{Reply}

@@ -1,5 +1,5 @@
 -- No command makes a session tell save orders as saved, nor does the round or leaving.
-use Rattle.std.proofs.Common.{ℕ, Bool, true, false, List, [], ◌∷◌}
+use Rattle.std.proofs.Common.{ℕ, Bool, true, false, List, [], ◌∷◌, if◌then◌else◌}
 use Rattle.std.specs.declared.option.Option.{Option}
 use Rattle.std.specs.declared.option.Option.TheVariants.{None, Some}
 use Rattle.chess_model.specs.declared.moves.MoveWord.{MoveWord}
@@ -13,20 +13,18 @@ use Rattle.lobby_state.specs.FindGame.{desk_of_game}
 use Rattle.lobby_state.specs.declared.acts.LobbyAct.{LobbyAct}
 use Rattle.lobby_state.specs.declared.acts.LobbyAct.TheVariants as lobby_act
 use Rattle.lobby_state.specs.declared.acts.LobbyReply.TheVariants as lobby_reply
+use Rattle.lobby_state.specs.declared.acts.PairAct.TheVariants as pair_act
 use Rattle.lobby_store.specs.Agreeing.{TellsSaved}
 use Rattle.offer_book.specs.declared.offer.Offer.TheVariants.{Draw, Abort, Adjourn, Takeback}
 use Rattle.one_server.specs.declared.act.Act.{Act}
 use Rattle.one_server.specs.declared.act.Act.TheVariants as one_act
 use Rattle.one_server.specs.declared.reply.Reply.{Reply}
 use Rattle.one_server.specs.declared.reply.Reply.TheVariants as reply
-use Rattle.session_core.specs.declared.reaction.Reaction.{Reaction}
-use Rattle.session_core.specs.declared.reaction.Reaction.TheVariants.{Accepting, Declining}
-use Rattle.session_core.specs.declared.visit.Visit.{Visit}
 use Rattle.session_core.specs.Course.{Course, Asks, Writes}
-use Rattle.session_core.specs.Memory.{MemoryState, is_full, observed_at, present_in, remark_place, told}
+use Rattle.session_core.specs.Memory.{MemoryState, is_full, observed_at, present_in, remark_place, told, without_observed}
 use Rattle.session_core.specs.OwnCommands.{set_alias, set_style, unset_alias}
-use Rattle.session_core.specs.Reactions.{in_lobby, says_no_offer}
-use Rattle.session_core.specs.Session.{answered, at_present, behind, command_course, finding, given_up, leave_games, leaving, moving_at, reacting_at, remark_of, round, says_over, to_desk, to_move, to_observe, to_react, to_remark, to_server, turns, unobserved, visits}
+use Rattle.session_core.specs.Reactions.{says_no_offer}
+use Rattle.session_core.specs.Session.{answered, at_place, at_present, behind, command_course, finding, given_up, leave_games, leaving, moving_at, remark_of, round, says_over, to_desk, to_move, to_observe, to_remark, to_server, turns, unobserved, visits, watched}
 use Rattle.session_core.specs.Texts.{refusal_line}
 use Rattle.session_core.specs.Visits.{visits_in}
 use Rattle.session_laws.proofs.NeverSaving.{NeverSaves, never_either}
@@ -34,11 +32,11 @@ use Rattle.simul_control.specs.declared.place.Place.{Place}
 use Rattle.steward_core.specs.Agreement.{SaysSaved}
 
 -- 1. The round.
-never_given_up : (visit : Visit) (over : Bool) (rest : Course) → NeverSaves rest → NeverSaves (given_up visit over rest)
+never_given_up : (visit : _) (over : Bool) (rest : Course) → NeverSaves rest → NeverSaves (given_up visit over rest)
 never_given_up visit true rest never = (λ is. is, λ r. never)
 never_given_up visit false rest never = never
 
-never_visits : (games : List Visit) (memory : MemoryState) → NeverSaves (visits games memory)
+never_visits : (games : List _) (memory : MemoryState) → NeverSaves (visits games memory)
 never_visits [] memory = tt
 never_visits (visit ∷ rest) memory =
     (λ is. is, λ r. never_given_up visit (says_over r) (visits rest (behind visit (says_over r) memory)) (never_visits rest (behind visit (says_over r) memory)))
@@ -47,7 +45,7 @@ pub never_round : (memory : MemoryState) → NeverSaves (round memory)
 never_round memory = (λ is. is, λ r. never_visits (visits_in (told memory r)) (told memory r))
 
 -- 2. Leaving.
-never_leave_games : (games : List Visit) (memory : MemoryState) → NeverSaves (leave_games games memory)
+never_leave_games : (games : List _) (memory : MemoryState) → NeverSaves (leave_games games memory)
 never_leave_games [] memory = (λ is. is, λ r. tt)
 never_leave_games (visit ∷ rest) memory = (λ is. is, λ r. (λ is. is, λ q. never_leave_games rest memory))
 
@@ -77,23 +75,19 @@ never_moving word stamp (Some place) memory = (λ is. is, λ r.
 never_move : (word : MoveWord) (stamp : Option ℕ) (memory : MemoryState) → NeverSaves (to_move word stamp memory)
 never_move word stamp memory = (λ is. is, λ r. never_moving word stamp (present_in (told memory r)) (told memory r))
 
-answers_no_orders : (reaction : Reaction) (name : Option (List ℕ)) → SaysSaved (in_lobby reaction name) → ⊥
-answers_no_orders Accepting name is = is
-answers_no_orders Declining name is = is
+-- an offer is answered at the desk of the present place by this act, and by that one in the lobby
+abbrev reacting_with : DeskAct → Act → Option Place → MemoryState → Course
+reacting_with desk lobby None memory = to_server lobby memory
+reacting_with desk lobby (Some place) memory =
+    Asks (at_place place desk) (λ reply. if says_no_offer reply then to_server lobby memory else answered reply memory)
 
-never_reacting : (reaction : Reaction) (place : Option Place) (memory : MemoryState) → NeverSaves (reacting_at reaction place memory)
-never_reacting reaction None memory = never_server (in_lobby reaction None) memory (answers_no_orders reaction None)
-never_reacting reaction (Some place) memory = (λ is. is, λ r.
-    never_either (says_no_offer r) (to_server (in_lobby reaction None) memory) (answered r memory)
-    (never_server (in_lobby reaction None) memory (answers_no_orders reaction None)) (never_round memory))
-
-never_react : (reaction : Reaction) (name : Option (List ℕ)) (memory : MemoryState) → NeverSaves (to_react reaction name memory)
-never_react reaction None memory = (λ is. is, λ r. never_reacting reaction (present_in (told memory r)) (told memory r))
-never_react reaction (Some name) memory =
-    never_server (in_lobby reaction (Some (key_of name))) memory (answers_no_orders reaction (Some (key_of name)))
+never_reacting : (desk : DeskAct) (lobby : Act) (place : Option Place) (memory : MemoryState) → (SaysSaved lobby → ⊥) → NeverSaves (reacting_with desk lobby place memory)
+never_reacting desk lobby None memory other = never_server lobby memory other
+never_reacting desk lobby (Some place) memory other = (λ is. is, λ r.
+    never_either (says_no_offer r) (to_server lobby memory) (answered r memory) (never_server lobby memory other) (never_round memory))
 
 never_finding : (r : Reply) (memory : MemoryState) → NeverSaves (finding r memory)
-never_finding (reply.Lobby (lobby_reply.Found place)) memory = (λ is. is, λ r. never_round _)
+never_finding (reply.Lobby (lobby_reply.Found place)) memory = (λ is. is, λ r. never_round (watched place r memory))
 never_finding r memory = never_round memory
 
 never_observe : (act : LobbyAct) (memory : MemoryState) → (TellsSaved act → ⊥) → NeverSaves (to_observe act memory)
@@ -103,14 +97,16 @@ never_observe act memory other =
 
 never_unobserved : (place : Option Place) (memory : MemoryState) → NeverSaves (unobserved place memory)
 never_unobserved None memory = never_round memory
-never_unobserved (Some place) memory = (λ is. is, λ r. never_round _)
+never_unobserved (Some place) memory = (λ is. is, λ r. never_round (without_observed place.desk memory))
 
 -- 4. Each command: those that are named ask more than one act, or none, and the others the server once.
 pub never_command : (asked : Command) (stamp : Option ℕ) (memory : MemoryState) → NeverSaves (command_course asked stamp memory)
 never_command command.Nothing stamp memory = never_round memory
 never_command (command.Move word) stamp memory = never_move word stamp memory
-never_command (command.Accept name) stamp memory = never_react Accepting name memory
-never_command (command.Decline name) stamp memory = never_react Declining name memory
+never_command (command.Accept None) stamp memory =
+    (λ is. is, λ r. never_reacting desk_act.Accept (one_act.Pair (pair_act.Accept None)) (present_in (told memory r)) (told memory r) (λ is. is))
+never_command (command.Decline None) stamp memory =
+    (λ is. is, λ r. never_reacting desk_act.Decline (one_act.Lobby (lobby_act.Decline None)) (present_in (told memory r)) (told memory r) (λ is. is))
 never_command command.Draw stamp memory = never_desk (desk_act.Make Draw) memory
 never_command command.Abort stamp memory = never_desk (desk_act.Make Abort) memory
 never_command command.Adjourn stamp memory = never_desk (desk_act.Make Adjourn) memory

@@ -1,8 +1,8 @@
 -- Where no session but 0 tells save orders as saved among its own entries, the history has none of another's, in any
 -- part of it.
-use Rattle.std.proofs.Common.{◌≡◌, ◌≢◌, ℕ, zero, suc, ◌<◌, ◌≤◌, ◌==◌, ◌⊎◌, Bool, true, false, cond, List, [], ◌∷◌, ◌++◌, refl, sym, ap, subst, inl, inr, arith, eq-eqb}
-use Rattle.std.specs.Prelude.{nat_lt}
+use Rattle.std.proofs.Common.{◌≡◌, ◌≢◌, ℕ, ◌<◌, ◌≤◌, ◌==◌, ◌⊎◌, Bool, true, false, cond, List, [], ◌∷◌, ◌++◌, refl, sym, subst, inl, inr, arith, eq-eqb}
 use Rattle.std.specs.List.{AllByRecursion}
+use Rattle.std.proofs.lemmas.Bool.{cases_lt}
 use Rattle.histories.specs.declared.entry.Entry.{Entry}
 use Rattle.histories.specs.History.{calls_of}
 use Rattle.one_server.specs.declared.act.Timed.{Timed}
@@ -38,14 +38,13 @@ others_none number (e ∷ es) each = (
 )
 
 -- 3. A session serves a link, or it makes nothing.
-none_of : (last k : ℕ) (history : Log) (more : Bool) → nat_lt last k ≡ more → OthersServe last history → k ≢ 0 → NoneSaves (calls_of k history)
-none_of last k history true is serve other = subst NoneSaves (sym (serve.none_after k (omega (arith, is)))) tt
-none_of last k history false is serve other =
-    links_never_save k (calls_of k history) (serve.served k (omega (arith, other)) (omega (arith, is)))
+none_of : (last k : ℕ) (history : Log) → OthersServe last history → k ≢ 0 → (last < k) ⊎ (k ≤ last) → NoneSaves (calls_of k history)
+none_of last k history serve other (inl after) = subst NoneSaves (sym (serve.none_after k after)) tt
+none_of last k history serve other (inr upto) = links_never_save k (calls_of k history) (serve.served k (omega (arith, other)) upto)
 
 pub others_never_save : (last : ℕ) (history : Log) → OthersServe last history → AllByRecursion (IsNoOthers 0) history
-others_never_save last history serve = others_none 0 history (λ k other. none_of last k history (nat_lt last k) refl serve other)
+others_never_save last history serve = others_none 0 history (λ k other. none_of last k history serve other (cases_lt last k))
 
 pub only_the_steward_saves : OnlyTheStewardSaves
 only_the_steward_saves last front part back serve =
-    each_front (IsNoOthers 0) part back (each_behind (IsNoOthers 0) front (part ++ back) (others_never_save last (front ++ part ++ back) serve))
+    each_behind (IsNoOthers 0) front part (each_front (IsNoOthers 0) (front ++ part) back (others_never_save last (front ++ part ++ back) serve))

@@ -1,6 +1,6 @@
 -- The entries by which a session served a link tell no save orders as saved, also where memory ran out.
-use Rattle.std.proofs.Common.{◌≡◌, ℕ, Bool, List, [], ◌∷◌, ◌++◌, sym, subst, inl, inr}
-use Rattle.link_core.specs.Served.{ActsInPart, ActsWhole, BreaksOff, Dialogue, IsMidway, LeavesInPart, LeavesShort, QuitsShort, ServedInPart, ServedWhole, WasServed, inputs_taken}
+use Rattle.std.proofs.Common.{◌≡◌, ◌⊎◌, ℕ, Bool, List, [], ◌∷◌, ◌++◌, sym, subst, inl, inr}
+use Rattle.link_core.specs.Served.{BreaksOff, Dialogue, IsMidway, LeavesInPart, LeavesShort, QuitsShort, ServedInPart, ServedWhole, WasServed, inputs_taken}
 use Rattle.link_core.specs.Talk.{Talks}
 use Rattle.link_core.specs.declared.link_end.LinkEnd.{LinkEnd}
 use Rattle.link_core.specs.declared.link_end.LinkEnd.TheVariants as link_end
@@ -10,7 +10,7 @@ use Rattle.session_core.specs.declared.input.Input.{Input}
 use Rattle.session_core.specs.Course.{Done}
 use Rattle.session_core.specs.Going.{departing}
 use Rattle.session_core.specs.Inputs.{input_course}
-use Rattle.session_core.specs.Memory.{MemoryState, has_entered}
+use Rattle.session_core.specs.Memory.{MemoryState, has_entered, newcomer}
 use Rattle.session_core.specs.Session.{leaving}
 use Rattle.session_laws.proofs.NeverSaving.{NeverSaves, never_either, none_begun, none_followed, none_joined, none_passed}
 use Rattle.session_laws.proofs.OfCommands.{never_leaving}
@@ -55,9 +55,9 @@ module _ (shows : ℕ → Bool) (mark : Bool) (session : ℕ) where
   none_later link_end.Spent told l = none_left told.memory told.later l
   none_later link_end.Memory told l = none_broken told.inputs (inputs_taken told) told.memory told.later l
 
-  none_acted : (told : Dialogue) (newcomer : MemoryState) (entries : Log) → entries ≡ told.made ++ told.later
+  none_acted : (told : Dialogue) (entries : Log) → entries ≡ told.made ++ told.later
       → Talks shows session told.inputs newcomer told.made told.pieces told.memory → NoneSaves told.later → NoneSaves entries
-  none_acted told newcomer entries all talked later =
+  none_acted told entries all talked later =
       subst NoneSaves (sym all) (none_joined told.made told.later
       (none_talked told.inputs newcomer told.memory told.made told.pieces talked) later)
 
@@ -65,11 +65,11 @@ module _ (shows : ℕ → Bool) (mark : Bool) (session : ℕ) where
   none_whole : (end : LinkEnd) (entries : Log) (old new : Handed) → ServedWhole shows session end entries old new → NoneSaves entries
   none_whole end entries old new s =
       let l = s.acts.leaves in
-      none_acted s.told _ entries s.acts.all s.acts.talked
+      none_acted s.told entries s.acts.all s.acts.talked
       (none_followed session l.moment (departing s.told.memory) s.told.later [] l.after (never_departing s.told.memory) l.follows)
 
   none_in_part : (entries : Log) (old new : Handed) → ServedInPart shows mark session entries old new → NoneSaves entries
-  none_in_part entries old new s = none_acted s.told _ entries s.acts.all s.acts.talked (none_later s.stopped s.told s.acts.leaves)
+  none_in_part entries old new s = none_acted s.told entries s.acts.all s.acts.talked (none_later s.stopped s.told s.acts.leaves)
 
   pub none_served : (end : LinkEnd) (entries : Log) (old new : Handed) → WasServed shows mark session end entries old new → NoneSaves entries
   none_served link_end.Quit entries old new s = none_whole link_end.Quit entries old new s
