@@ -70,7 +70,7 @@ last_may lack fault steward.Memory f g = f refl
 module _ {C : Type 0} (shows : C → ℕ → Bool) (hall : TableId) (clock : C) (supply : Supply) (opens door : Option DoorTale) (opening : List Part) (pass new : PassState) (old mid after : Store) (last : StewardEnd)
     (k : Underway shows hall clock supply door pass []) (tended : Tended (stand (first_pass hall opening) Enough opens old) (stand pass supply door mid)) (unused : IfTold opens IsUnused) (whole : IsWhole opening)
     (t : TurnsLast last mid.table after.table pass new) (fault : last ≡ steward.KeeperFault → Rose mid.faults after.faults) (counted : mid.faults ≤ after.faults) where
-  start : RunnerState
+  abbrev start : RunnerState
   start = runs_of (first_pass hall opening)
 
   start_known : IsKnown start
@@ -148,7 +148,7 @@ module _ {C : Type 0} (shows : C → ℕ → Bool) (hall : TableId) (clock : C) 
       none_after = nobody_else;
     }
 
-    Ends : StewardEnd → Type 0
+    abbrev Ends : StewardEnd → Type 0
     Ends = MayEnd (MayBeShort end) (Rose old.faults after.faults)
 
     turns_then : AreTurns Ends (suc ready.count) (calls_of 0 new.seen)

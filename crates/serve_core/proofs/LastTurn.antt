@@ -1,6 +1,7 @@
 -- The last turn of the steward, once every other pass was joined: nobody else acts beside it.
 use Rattle.std.proofs.Common.{◌≡◌, ◌≢◌, ℕ, zero, suc, ◌+◌, ◌<◌, ◌≤◌, Bool, true, false, cond, List, [], ◌∷◌, ◌++◌, map, refl, sym, ap, subst, ◌∙◌, append-nil, arith, eq-eqb, ne_eqb}
 use Rattle.std.specs.Prelude.{nat_lt}
+use Rattle.std.proofs.lemmas.Bool.{ltb-false, ltb-true}
 use Rattle.std.specs.declared.option.Option.{Option}
 use Rattle.edge_traits.specs.Pairs.{Table}
 use Rattle.histories.specs.declared.entry.Entry.{Entry}
@@ -80,7 +81,7 @@ module _ (end : StewardEnd) (before after : Option Table) (old new : PassState) 
   pub last_made : new.made ≡ t.first.made ++ t.made.turn.entries
   last_made = ap (λ (p : PassState). p.made) t.looked_again.same ∙ turn_made end before after t.first t.mid t.made
 
-  pub last_is : StewardTurn
+  abbrev pub last_is : StewardTurn
   last_is = turn_is end before after t.first t.mid t.made
 
   gained : IsPrefix t.first.seen new.seen
@@ -98,8 +99,8 @@ module _ (end : StewardEnd) (before after : Option Table) (old new : PassState) 
         ap (λ n. calls_of n gained.0) is ∙ none
 
     none_else_by : (m : ℕ) (past : Bool) → nat_lt old.splits m ≡ past → 0 < m → calls_of m gained.0 ≡ []
-    none_else_by m true is low = nothing_last (calls_of m t.first.seen) (calls_of m gained.0) (calls_grow m ∙ t.looked_again.no_others (last_number ∙ first) m (omega (arith, is, last_splits)))
-    none_else_by m false is low = let found = in_map_from joined_number m old.joined (joined m low (omega (arith, is))) in of_joined m found.0 found.1 found.2
+    none_else_by m true is low = nothing_last (calls_of m t.first.seen) (calls_of m gained.0) (calls_grow m ∙ t.looked_again.no_others (last_number ∙ first) m (omega (arith, ltb-true old.splits m is, last_splits)))
+    none_else_by m false is low = let found = in_map_from joined_number m old.joined (joined m low (ltb-false old.splits m is)) in of_joined m found.0 found.1 found.2
 
     none_else : NoneElse gained.0
     none_else m low = none_else_by m (nat_lt old.splits m) refl low

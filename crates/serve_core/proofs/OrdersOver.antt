@@ -84,7 +84,7 @@ module _ (ys : List Part) (w : IsWhole ys) (moment : ℕ) where
   over_upto upto (e ∷ (f ∷ rest)) last said = absurd cc
 
   over_by : (orders : List Order) (rest : Log) → w.lobby.shelf.orders ≡ orders → acts_of rest ≡ tells_upto moment (last_number orders) → NoOrders (state house ys rest)
-  over_by [] [] is said lobby there = ap (λ (l : LobbyState). l.shelf.orders) (one_lobby ys lobby w.lobby there w.first) ∙ is
+  over_by [] [] is said = λ lobby there. ap (λ (l : LobbyState). l.shelf.orders) (one_lobby ys lobby w.lobby there w.first) ∙ is
   over_by [] (e ∷ rest) is said = absurd cc
   over_by (order ∷ orders) rest is said =
       let last = last_of order orders in

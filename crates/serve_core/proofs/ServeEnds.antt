@@ -1,5 +1,5 @@
 -- The statuses of serving.
-use Rattle.std.proofs.Common.{◌≡◌, ℕ, ◌⊎◌, inl, inr, List, [], ◌∷◌, length, refl, sym, subst, arith}
+use Rattle.std.proofs.Common.{◌≡◌, ℕ, ◌⊎◌, inl, inr, List, [], ◌∷◌, length, refl, sym, subst, ◌∙◌, arith}
 use Rattle.std.specs.Prelude.{Contains, Err, None, Option, Some, String}
 use Rattle.std.specs.declared.alloc.Global.{Global}
 use Rattle.std.specs.Io.KnownBytes.{Appends}
@@ -136,10 +136,10 @@ first_bad None key first = tt
 first_bad (Some table) key first = λ good. good.none_bad key first.bad
 
 module _ (old new : Store) (before after : Sheet) (door door' : ℕ) where
-  counts : Counts
+  abbrev pub counts : Counts
   counts = record { door = door; sink = before.faults; keeper = old.faults }
 
-  counts' : Counts
+  abbrev pub counts' : Counts
   counts' = record { door = door'; sink = after.faults; keeper = new.faults }
 
   unopened_write : (fault : StoreFault) → unopened_status fault ≡ 3 → fault ≡ unopened.WriteFault
@@ -201,7 +201,7 @@ module _ (old new : Store) (before after : Sheet) (door door' : ℕ) where
   call_text status (inr (end, is, p)) (inr e) = p.text (is_whole end (inr (sym is ∙ e)))
 
   pub call_bad : (status : ℕ) → EndsCall status old new before after counts counts' → status ≡ 5 → (key : List ℕ) × IsFirstBad old.table key × Appends before.written after.written (bad_record_line key)
-  call_bad status (inl (fault, is, p)) e = subst (λ (f : StoreFault). Tells {LobbyState} old.table before.written after.written (Err f)) (unopened_bad fault (sym is ∙ e)) p.tells
+  call_bad status (inl (fault, is, p)) e = subst (λ (f : StoreFault). Tells {A = LobbyState} old.table before.written after.written (Err f)) (unopened_bad fault (sym is ∙ e)) p.tells
   call_bad status (inr (end, is, p)) e = absurd (is_no_bad_record end (sym is ∙ e))
 
   pub call_listed : (status : ℕ) → EndsCall status old new before after counts counts' → AllStatuses status

@@ -115,7 +115,7 @@ asks_none es e = subst (Asks 0) (sym e) (tt, refl)
 
 asks_ends : (moment : ℕ) (end : StewardEnd) (rounds : ℕ) (es : Log) (orders : List Order) → EndsSaving moment end rounds es orders → Asks 0 es
 asks_ends moment (Done count) rounds es orders (inl p) = asks_round moment es orders p.0
-asks_ends moment (Done count) rounds es orders (inr p) = asks_none es p.1.0
+asks_ends moment (Done count) rounds es orders (inr p) = asks_none es p.1
 asks_ends moment KeeperFault rounds es orders p = asks_cut moment es orders p
 asks_ends moment Memory rounds es orders (inl p) = asks_cut moment es orders p
 asks_ends moment Memory rounds es orders (inr p) = asks_none es p.0
@@ -203,5 +203,5 @@ module _ (end : StewardEnd) (before after : Option Table) (old new : PassState) 
   pub turn_made : new.made ≡ old.made ++ turn.turn.entries
   turn_made = turn.turn.grew.more
 
-  pub turn_is : StewardTurn
+  abbrev pub turn_is : StewardTurn
   turn_is = record { end = end; entries = turn.turn.entries; moment = turn.moment; carried = turn.turn.carried; turn = turn.turn.turn }

@@ -35,7 +35,7 @@ unopened_status Memory = 6
 -- which counted it; else nothing was written, or at want of memory perhaps a front of that line. A fault of the keeper is
 -- told only where it counted one, and its table stays
 pub record StaysUnopened (fault : StoreFault) (old new : Store) (before after : Sheet) : Type 0 where
-  pub tells : Tells {LobbyState} old.table before.written after.written (Err fault)
+  pub tells : Tells {A = LobbyState} old.table before.written after.written (Err fault)
   pub keeper_fault : fault ≡ KeeperFault → Rose old.faults new.faults
   pub write_fault : fault ≡ WriteFault → Rose before.faults after.faults
   pub table : Stays old.table new.table
