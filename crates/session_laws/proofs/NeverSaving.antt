@@ -15,7 +15,8 @@ NeverSaves (Done memory) = Unit {0}
 NeverSaves (Writes text rest) = NeverSaves rest
 NeverSaves (Asks act rest) = (SaysSaved act → ⊥) × ((r : Reply) → NeverSaves (rest r))
 
-pub never_either : (t : Bool) (one other : Course) → NeverSaves one → NeverSaves other → NeverSaves (if t then one else other)
+pub never_either : (t : Bool) (one other : Course) → NeverSaves one → NeverSaves other
+    → NeverSaves (if t then one else other)
 never_either true one other p q = p
 never_either false one other p q = q
 
@@ -25,7 +26,8 @@ none_joined [] more p q = q
 none_joined (e ∷ made) more p q = (p.0, none_joined made more p.1 q)
 
 module _ (session moment : ℕ) where
-  pub none_followed : (course : Course) (made : Log) (text : List ℕ) (memory : MemoryState) → NeverSaves course → Follows course session moment made text memory → NoneSaves made
+  pub none_followed : (course : Course) (made : Log) (text : List ℕ) (memory : MemoryState) → NeverSaves course
+      → Follows course session moment made text memory → NoneSaves made
   none_followed (Done kept) made text memory never f = subst NoneSaves (sym f.0) tt
   none_followed (Writes put rest) made text memory never f = none_followed rest made f.0 memory never f.2
   none_followed (Asks act rest) [] text memory never f = tt
@@ -34,7 +36,8 @@ module _ (session moment : ℕ) where
     none_followed (rest e.reply) made text memory (never.1 e.reply) f.1,
   )
 
-  pub none_begun : (course : Course) (made : Log) → NeverSaves course → Begins course session moment made → NoneSaves made
+  pub none_begun : (course : Course) (made : Log) → NeverSaves course → Begins course session moment made
+      → NoneSaves made
   none_begun (Done memory) made never b = subst NoneSaves (sym b) tt
   none_begun (Writes put rest) made never b = none_begun rest made never b
   none_begun (Asks act rest) [] never b = tt
@@ -43,7 +46,8 @@ module _ (session moment : ℕ) where
     none_begun (rest e.reply) made (never.1 e.reply) b.1,
   )
 
-  pub none_passed : (mark : Bool) (course : Course) (made : Log) → NeverSaves course → Passes mark course session moment made → NoneSaves made
+  pub none_passed : (mark : Bool) (course : Course) (made : Log) → NeverSaves course
+      → Passes mark course session moment made → NoneSaves made
   none_passed mark (Done memory) made never p = subst NoneSaves (sym p) tt
   none_passed mark (Writes put rest) made never p = none_passed mark rest made never p
   none_passed mark (Asks act rest) made never (inl p) =

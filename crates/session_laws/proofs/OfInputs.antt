@@ -15,7 +15,8 @@ use Rattle.session_core.specs.declared.standing.LinkMark.TheVariants.{Stamped}
 use Rattle.session_core.specs.declared.standing.Standing.{Standing}
 use Rattle.session_core.specs.declared.standing.Standing.TheVariants as standing
 use Rattle.session_core.specs.Course.{Done}
-use Rattle.session_core.specs.Inputs.{ack_course, asked_course, input_course, is_greeting, line_course, past_line, quiet_course, refusing, stamp_on, text_course}
+use Rattle.session_core.specs.Inputs.{ack_course, asked_course, input_course, is_greeting, line_course, past_line}
+use Rattle.session_core.specs.Inputs.{quiet_course, refusing, stamp_on, text_course}
 use Rattle.session_core.specs.Login.{entering, entering_named, is_guest, naming, proving}
 use Rattle.session_core.specs.Memory.{MemoryState, present_in, told}
 use Rattle.session_core.specs.Session.{acked_at}
@@ -42,11 +43,13 @@ never_proving name [] memory = tt
 never_proving name (b ∷ text) memory = (λ is. is, λ r. tt)
 
 -- 2. Lines.
-never_asked : (asked : Result Command Refusal) (stamp : Option ℕ) (memory : MemoryState) → NeverSaves (asked_course asked stamp memory)
+never_asked : (asked : Result Command Refusal) (stamp : Option ℕ) (memory : MemoryState)
+    → NeverSaves (asked_course asked stamp memory)
 never_asked (Ok asked) stamp memory = never_command asked stamp memory
 never_asked (Err cause) stamp memory = never_round memory
 
-never_text : (text : List ℕ) (stamp : Option ℕ) (at : Standing) (memory : MemoryState) → NeverSaves (text_course text stamp at memory)
+never_text : (text : List ℕ) (stamp : Option ℕ) (at : Standing) (memory : MemoryState)
+    → NeverSaves (text_course text stamp at memory)
 never_text text stamp standing.Login memory = never_naming text memory
 never_text text stamp (standing.Password name) memory = never_proving name text memory
 never_text text stamp (standing.In name) memory = never_asked (command_in memory.aliases text) stamp memory
@@ -61,7 +64,8 @@ never_acked stamp None memory = tt
 never_acked stamp (Some place) memory = (λ is. is, λ r. tt)
 
 never_ack : (stamp : ℕ) (at : Standing) (memory : MemoryState) → NeverSaves (ack_course stamp at memory)
-never_ack stamp (standing.In name) memory = (λ is. is, λ r. never_acked stamp (present_in (told memory r)) (told memory r))
+never_ack stamp (standing.In name) memory =
+    (λ is. is, λ r. never_acked stamp (present_in (told memory r)) (told memory r))
 never_ack stamp _ memory = tt
 
 never_line : (line : Incoming) (memory : MemoryState) → NeverSaves (line_course line memory)
@@ -79,5 +83,5 @@ never_quiet _ memory = tt
 pub never_input : (input : Input) (memory : MemoryState) → NeverSaves (input_course input memory)
 never_input Quiet memory = never_quiet memory.standing memory
 never_input (Line line) memory =
-    never_either (is_greeting memory.link line) (Done (record memory { link = Stamped })) (line_course line (past_line memory))
-    tt (never_line line (past_line memory))
+    never_either (is_greeting memory.link line) (Done (record memory { link = Stamped }))
+    (line_course line (past_line memory)) tt (never_line line (past_line memory))
