@@ -5,6 +5,7 @@
 use edge_traits::OpenGate;
 use job_words::{Job, JobFail, read_job};
 use line_answers::{End, status};
+use memory_edges::MemKeeper;
 use real_edges::{NoStore, StdSink, StdSource, TcpDoor, WallClock};
 use run_call::run;
 use serve_core::serve;
@@ -58,7 +59,7 @@ where
 {
     let clock = WallClock::new(rt);
     let gate = OpenGate::new();
-    let mut keeper = NoStore::new();
+    let mut keeper = MemKeeper::new(alloc, Vec::new(alloc));
     let (status, served) = serve(
         rt,
         alloc,
