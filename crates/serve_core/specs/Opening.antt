@@ -1,7 +1,6 @@
 -- How a server opens: with a lobby that was loaded from a store, or not at all.
-use Rattle.std.specs.Prelude.{◌≡◌, ◌⊎◌, ℕ, Err}
+use Rattle.std.specs.Prelude.{◌≡◌, ◌⊎◌, ℕ, Err, IfSome}
 use Rattle.std.specs.declared.option.Option.{Option}
-use Rattle.edge_traits.specs.Door.{IfTold}
 use Rattle.edge_traits.specs.Faults.{Rose}
 use Rattle.edge_traits.specs.Keeper.{Stays}
 use Rattle.edge_traits.specs.Pairs.{Table}
@@ -21,8 +20,8 @@ use Rattle.serve_core.specs.Tending.{Store}
 pub record IsLoaded (told : Option Table) (lobby : LobbyState) : Type 0 where
   pub opening : IsAtOpening lobby
   pub spelled : AreSpelled lobby
-  pub holds : IfTold told (λ table. HasLoaded table lobby)
-  pub good : IfTold told IsGoodStore
+  pub holds : IfSome told (λ table. HasLoaded table lobby)
+  pub good : IfSome told IsGoodStore
 
 -- the number with which the program ends that opened no store
 abbrev pub unopened_status : StoreFault → ℕ
