@@ -1,9 +1,9 @@
 -- A hall that opened with what was loaded, and what was promised of it from the load on.
 use Rattle.std.proofs.Common.{◌≡◌, ◌≢◌, ℕ, ◌+◌, ◌≤◌, ◌⊎◌, inl, inr, Bool, List, [], ◌++◌, take, refl, sym, ap, subst, ◌∙◌, append-nil, arith}
-use Rattle.std.specs.Prelude.{IfNone, IfSome, slice_get}
+use Rattle.std.specs.Prelude.{IfSome, slice_get}
 use Rattle.std.specs.declared.option.Option.{Option}
 use Rattle.std.specs.declared.option.Option.TheVariants.{None, Some}
-use Rattle.std.specs.Io.KnownBytes.{Appends, Keeps}
+use Rattle.std.specs.Io.KnownBytes.{Appends}
 use Rattle.std.proofs.KnownBytes.{Appends-trans}
 use Rattle.edge_traits.specs.Door.{DoorTale, IfTold}
 use Rattle.edge_traits.specs.Faults.{Rose}
@@ -135,17 +135,3 @@ table_agrees shows lobby end door before later old new pass loaded p = agreed_by
 pub some_as : {H : Type 0} (o : Option H) (P Q : H → Type 0) → ((h : H) → P h → Q h) → IfSome o P → IfSome o Q
 some_as None P Q f p = tt
 some_as (Some h) P Q f p = f h p
-
-pub some_always : {H : Type 0} (o : Option H) (X : Type 0) → X → IfSome o (λ _. X)
-some_always None X x = tt
-some_always (Some h) X x = x
-
-pub none_as : {H : Type 0} (o : Option H) (X Y Z : Type 0) → (X → Y → Z) → IfNone o X → IfNone o Y → IfNone o Z
-none_as None X Y Z f x y = f x y
-none_as (Some h) X Y Z f x y = tt
-
-pub keeps_none : (old mid new : Option (List ℕ)) → Appends old mid [] → Keeps mid new → Appends old new []
-keeps_none None mid new p q = tt
-keeps_none (Some old) None new p q = absurd p
-keeps_none (Some old) (Some mid) None p q = absurd q
-keeps_none (Some old) (Some mid) (Some new) p q = q ∙ p

@@ -1,4 +1,5 @@
-use Rattle.std.proofs.Common.{inl, inr}
+use Rattle.std.proofs.Common.{[], ◌∷◌, arith, inl, inr, refl, subst, sym}
+use Rattle.std.specs.Prelude.{Contains}
 use Rattle.edge_traits.specs.Door.{IfTold}
 use Rattle.serve_core.specs.Serving.{Sheet}
 use Rattle.serve_core.specs.Tending.{Store}
@@ -118,3 +119,6 @@ returns-in-Err-Usage-clause-bad_record g c = λ e. absurd (usage_else (g.K.Sink.
 
 pub returns-in-Err-Usage-clause-good_store : goal.returns-in-Err-Usage-clause-good_store
 returns-in-Err-Usage-clause-good_store g c = λ e. absurd (usage_else (g.K.Sink.written c.args.sink.now) (g.K.Sink.written c.tell_usage.new.sink) c.tell_usage.result c.tell_usage.ensures.ends (inr (inl e)))
+
+pub returns-in-Err-Memory-clause-complete : goal.returns-in-Err-Memory-clause-complete
+returns-in-Err-Memory-clause-complete g c = λ asks no_door no_sink no_keeper. subst (Contains (0 ∷ 5 ∷ 6 ∷ 9 ∷ [])) (sym c.status.ensures) (2, omega arith, refl)
