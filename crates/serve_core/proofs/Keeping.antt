@@ -15,11 +15,11 @@ use Rattle.hall_core.specs.Passes.{IsJoined, PassState, divided, first_pass}
 use Rattle.link_core.specs.declared.link_end.LinkEnd.{LinkEnd}
 use Rattle.link_core.specs.declared.link_end.LinkEnd.TheVariants as link_end
 use Rattle.link_core.specs.Served.{WasServed}
-use Rattle.steward_core.specs.declared.clearing.ClearingEnd.{ClearingEnd}
-use Rattle.steward_core.specs.declared.clearing.ClearingEnd.TheVariants as steward
+use Rattle.edge_traits.specs.Pairs.{Table}
+use Rattle.steward_core.specs.declared.turn.StewardEnd.{StewardEnd}
+use Rattle.steward_core.specs.declared.turn.StewardEnd.TheVariants as steward
 use Rattle.serve_core.specs.declared.settle.Supply.{Supply}
 use Rattle.serve_core.specs.declared.settle.Supply.TheVariants.{Enough, Short}
-use Rattle.serve_core.specs.Stewarding.{AreStewards, HasTurns, asked}
 use Rattle.serve_core.specs.Turns.{MadeTurn, supply_then}
 use Rattle.serve_core.specs.Working.{Due, IsPaid}
 use Rattle.serve_core.specs.Keeping.{Comes, IsOwed, Underway, due_number, supply_after}
@@ -27,7 +27,7 @@ use Rattle.serve_core.specs.Serving.{IsUnused}
 use Rattle.serve_core.specs.Sessions.{CameAs, CameBack, HasServed}
 use Rattle.serve_core.proofs.Among.{in_last, in_cases, in_map_left, in_map_last, in_rest, in_map_rest, one_less, one_longer}
 use Rattle.serve_core.proofs.Telling.{told_then, told_and, told_as, came_stays, came_new, came_back_stays, came_count, came_out, back_came, back_stays, back_new, back_count, back_out}
-use Rattle.serve_core.proofs.Turning.{turn_all, turn_asked, turn_home, turn_number, turn_splits, turns_go, turns_more}
+use Rattle.serve_core.proofs.Turning.{turn_home, turn_number, turn_splits}
 use Rattle.turn_table.proofs.Among.{split_on}
 
 -- ---- whether memory ran out
@@ -40,39 +40,16 @@ still_short link_end.ReadFault = refl
 still_short link_end.WriteFault = refl
 still_short link_end.Spent = refl
 
-was_enough : (end : LinkEnd) (supply : Supply) → supply_after end supply ≡ Enough → supply ≡ Enough
-was_enough link_end.Memory supply e = absurd cc
-was_enough link_end.Quit supply e = e
-was_enough link_end.End supply e = e
-was_enough link_end.ReadFault supply e = e
-was_enough link_end.WriteFault supply e = e
-was_enough link_end.Spent supply e = e
-
 now_short : (end : LinkEnd) (supply : Supply) → end ≡ link_end.Memory → supply_after end supply ≡ Short
 now_short end supply e = ap (λ x. supply_after x supply) e
 
-stays_short : (end : LinkEnd) (supply : Supply) → supply ≡ Short → supply_after end supply ≡ Short
+pub stays_short : (end : LinkEnd) (supply : Supply) → supply ≡ Short → supply_after end supply ≡ Short
 stays_short end supply e = ap (supply_after end) e ∙ still_short end
 
-pub then_short : (end : ClearingEnd) (supply : Supply) → supply ≡ Short → supply_then end supply ≡ Short
-then_short steward.Done supply e = e
+pub then_short : (end : StewardEnd) (supply : Supply) → supply ≡ Short → supply_then end supply ≡ Short
+then_short (steward.Done count) supply e = e
+then_short steward.KeeperFault supply e = e
 then_short steward.Memory supply e = refl
-
--- what was made and how many Quiets there were, after a turn
-asked_then : (end : ClearingEnd) (supply : Supply) (door : Option DoorTale) (old new : PassState) → (supply ≡ Enough → IfTold door (λ tale. asked old.made ≡ tale.quiets)) → MadeTurn end old new
-    → supply_then end supply ≡ Enough → IfTold door (λ tale. asked new.made ≡ tale.quiets + 1)
-asked_then steward.Done supply door old new turns turn e =
-    told_as door (λ tale. asked old.made ≡ tale.quiets) (λ tale. asked new.made ≡ tale.quiets + 1) (λ tale n. turn_asked old new turn ∙ ap (λ k. k + 1) n) (turns e)
-asked_then steward.Memory supply door old new turns turn e = absurd cc
-
-pub asks_then : (end : ClearingEnd) (supply : Supply) (door : Option DoorTale) (old new : PassState) → (supply ≡ Enough → IfTold door (λ tale. asked old.made ≡ tale.quiets)) → MadeTurn end old new
-    → supply_then end supply ≡ Enough → IfTold door (λ tale. asked new.made ≡ tale.quiets + 1)
-asks_then end supply door old new turns turn e = asked_then end supply door old new turns turn e
-
--- the whole turns that were made, after one more
-pub whole_then : (end : ClearingEnd) (supply : Supply) (door : Option DoorTale) (old new : PassState) → (supply ≡ Enough → HasTurns 0 door old.made) → MadeTurn end old new → supply_then end supply ≡ Enough → HasTurns 1 door new.made
-whole_then steward.Done supply door old new turns turn e = turns_more door old new (turns e) turn
-whole_then steward.Memory supply door old new turns turn e = absurd cc
 
 -- ---- sessions that were joined
 
@@ -98,7 +75,6 @@ module _ {C : Type 0} (shows : C → ℕ → Bool) (hall : TableId) (clock : C) 
   kept_first door opening pass is unused =
       let none : pass.joined ≡ [] = ap (λ (p : PassState). p.joined) is in
       let zero : pass.splits ≡ 0 = ap (λ (p : PassState). p.splits) is in
-      let made : pass.made ≡ [] = ap (λ (p : PassState). p.made) is in
       record {
         here = ap (λ (p : PassState). p.home) is;
         first = ap (λ (p : PassState). p.number) is;
@@ -107,9 +83,6 @@ module _ {C : Type 0} (shows : C → ℕ → Bool) (hall : TableId) (clock : C) 
         numbers = λ m low high. absurd (omega (arith, low, high, zero));
         came = told_as door IsUnused (λ tale. length tale.came ≡ pass.splits) (λ tale u. ap length u.0 ∙ sym zero) unused;
         out = told_as door IsUnused (λ tale. length tale.back + 0 ≡ length tale.came) (λ tale u. omega (arith, ap length u.0, ap length u.1)) unused;
-        stewards = subst AreStewards (sym made) tt;
-        turns = λ e. told_as door IsUnused (λ tale. asked pass.made ≡ tale.quiets) (λ tale u. ap asked made ∙ sym u.2) unused;
-        whole_turns = λ e. (0, made, told_as door IsUnused (λ tale. 0 ≡ tale.quiets + 0) (λ tale u. omega (arith, u.2)) unused);
       }
 
   -- a link came, and has a pass
@@ -155,23 +128,20 @@ module _ {C : Type 0} (shows : C → ℕ → Bool) (hall : TableId) (clock : C) 
       came = told_then door door' (Comes d.link) (λ tale. length tale.came ≡ pass.splits) (λ tale. length tale.came ≡ pass.splits + 1) (came_count d.link pass.splits) goes k.came;
       out = told_then door door' (Comes d.link) (λ tale. length tale.back + length waiting ≡ length tale.came) (λ tale. length tale.back + length (waiting ++ d ∷ []) ≡ length tale.came)
           (λ old new e n. subst (λ c. length new.back + c ≡ length new.came) (sym (one_longer d waiting)) (came_out d.link (length waiting) old new e n)) goes k.out;
-      stewards = k.stewards;
-      turns = λ e. told_then door door' (Comes d.link) (λ tale. asked pass.made ≡ tale.quiets) (λ tale. asked pass.made ≡ tale.quiets) (λ old new c n. n ∙ sym (ap (λ (t : DoorTale). t.quiets) c)) goes (k.turns e);
-      whole_turns = λ e. turns_go 0 0 door door' (Comes d.link) pass.made (λ old new c. sym (ap (λ (t : DoorTale). t.quiets + 0) c)) goes (k.whole_turns e);
     }
 
   -- a Quiet, and a turn of the steward
-  pub kept_quiet : (supply : Supply) (end : ClearingEnd) (door door' : Option DoorTale) (pass new : PassState) (waiting : List (Due C)) → Underway shows hall clock supply door pass waiting
-      → Goes door door' (λ before after. after ≡ record before { quiets = before.quiets + 1 }) → MadeTurn end pass new → Underway shows hall clock (supply_then end supply) door' new waiting
-  kept_quiet supply end door door' pass new waiting k goes turn =
+  pub kept_quiet : (supply : Supply) (end : StewardEnd) (before after : Option Table) (door door' : Option DoorTale) (pass new : PassState) (waiting : List (Due C)) → Underway shows hall clock supply door pass waiting
+      → Goes door door' (λ before after. after ≡ record before { quiets = before.quiets + 1 }) → MadeTurn end before after pass new → Underway shows hall clock (supply_then end supply) door' new waiting
+  kept_quiet supply end before after door door' pass new waiting k goes turn =
       let R : DoorTale → DoorTale → Type 0 = λ before after. after ≡ record before { quiets = before.quiets + 1 } in
       let joined : new.joined ≡ pass.joined = ap (λ p. p.joined) turn.place in
-      let splits = turn_splits end pass new turn in
+      let splits = turn_splits end before after pass new turn in
       let came : (m : ℕ) (link : Option Tale) (a b : DoorTale) → R a b → CameAs m link a → CameAs m link b = λ m link a b e p. subst (λ (xs : List (Option Tale)). CameAs m link (record a { came = xs })) (sym (ap (λ (t : DoorTale). t.came) e)) p in
       let back : (m : ℕ) (link : Handed) (a b : DoorTale) → R a b → CameBack m link a → CameBack m link b = λ m link a b e p. subst (λ (xs : List (ℕ × Handed)). CameBack m link (record a { back = xs })) (sym (ap (λ (t : DoorTale). t.back) e)) p in
       record {
-        here = turn_home end pass new turn ∙ k.here;
-        first = turn_number end pass new turn ∙ k.first;
+        here = turn_home end before after pass new turn ∙ k.here;
+        first = turn_number end before after pass new turn ∙ k.first;
         owed = λ due p.
             let o = k.owed due p in
             record { home = o.home; number = o.number; same = o.same; fresh = o.fresh; came = told_then door door' R (CameAs due.pass.number due.link) (CameAs due.pass.number due.link) (came due.pass.number due.link) goes o.came };
@@ -180,9 +150,6 @@ module _ {C : Type 0} (shows : C → ℕ → Bool) (hall : TableId) (clock : C) 
         came = told_then door door' R (λ tale. length tale.came ≡ pass.splits) (λ tale. length tale.came ≡ new.splits) (λ a b e n. ap (λ (t : DoorTale). length t.came) e ∙ n ∙ sym splits) goes k.came;
         out = told_then door door' R (λ tale. length tale.back + length waiting ≡ length tale.came) (λ tale. length tale.back + length waiting ≡ length tale.came)
             (λ a b e n. ap (λ (t : DoorTale). length t.back + length waiting) e ∙ n ∙ sym (ap (λ (t : DoorTale). length t.came) e)) goes k.out;
-        stewards = turn_all end pass new turn k.stewards;
-        turns = λ e. told_then door door' R (λ tale. asked new.made ≡ tale.quiets + 1) (λ tale. asked new.made ≡ tale.quiets) (λ a b c n. n ∙ sym (ap (λ (t : DoorTale). t.quiets) c)) goes (asked_then end supply door pass new k.turns turn e);
-        whole_turns = λ e. turns_go 1 0 door door' R new.made (λ a b c. omega (arith, ap (λ (t : DoorTale). t.quiets) c)) goes (whole_then end supply door pass new k.whole_turns turn e);
       }
 
   -- a worker has paid
@@ -252,7 +219,6 @@ module _ {C : Type 0} (shows : C → ℕ → Bool) (hall : TableId) (clock : C) 
       pub kept_paid : Underway shows hall clock (supply_after end supply) door' new (one ++ two)
       kept_paid =
           let splits : new.splits ≡ pass.splits = ap (λ (p : PassState). p.splits) joins.same in
-          let made : new.made ≡ pass.made = ap (λ (p : PassState). p.made) joins.same in
           record {
             here = ap (λ (p : PassState). p.home) joins.same ∙ k.here;
             first = ap (λ (p : PassState). p.number) joins.same ∙ k.first;
@@ -262,7 +228,4 @@ module _ {C : Type 0} (shows : C → ℕ → Bool) (hall : TableId) (clock : C) 
             came = told_then door door' (TakesBack given.number link) (λ tale. length tale.came ≡ pass.splits) (λ tale. length tale.came ≡ new.splits) (λ a b e n. back_count given.number link pass.splits a b e n ∙ sym splits) goes k.came;
             out = told_then door door' (TakesBack given.number link) (λ tale. length tale.back + length (one ++ d ∷ two) ≡ length tale.came) (λ tale. length tale.back + length (one ++ two) ≡ length tale.came)
                 (λ a b e n. back_out given.number link (length (one ++ two)) (length (one ++ d ∷ two)) a b e (one_less d one two) n) goes k.out;
-            stewards = subst AreStewards (sym made) k.stewards;
-            turns = λ e. told_then door door' (TakesBack given.number link) (λ tale. asked pass.made ≡ tale.quiets) (λ tale. asked new.made ≡ tale.quiets) (λ a b c n. ap asked made ∙ n ∙ sym (ap (λ (t : DoorTale). t.quiets) c)) goes (k.turns (was_enough end supply e));
-            whole_turns = λ e. subst (λ (l : Log). HasTurns 0 door' l) (sym made) (turns_go 0 0 door door' (TakesBack given.number link) pass.made (λ a b c. sym (ap (λ (t : DoorTale). t.quiets + 0) c)) goes (k.whole_turns (was_enough end supply e)));
           }

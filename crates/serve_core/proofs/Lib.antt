@@ -2,8 +2,13 @@ pub mod Among
 pub mod Telling
 pub mod Turning
 pub mod Keeping
+pub mod Tending
+pub mod OrdersOver
+pub mod LastTurn
 pub mod Settling
 pub mod Ending
+pub mod Closing
 pub mod Writing
+pub mod Opening
 pub mod ServeEnds
 pub mod Returning

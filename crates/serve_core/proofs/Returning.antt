@@ -12,17 +12,10 @@ use Rattle.link_core.specs.Laws.{WasGreeted, telling}
 use Rattle.link_core.specs.Served.{WasServed}
 use Rattle.link_core.proofs.Owning.{faults_are_counted, is_greeted, keeps_its_signs, tells_on}
 use Rattle.serve_core.specs.declared.end.ServeEnd.{ServeEnd}
-use Rattle.serve_core.specs.declared.end.ServeEnd.TheVariants as ends
 use Rattle.serve_core.specs.Laws.{ComesBack, EachComesBack}
 use Rattle.serve_core.specs.Serving.{IsClean, MayBeShort}
 use Rattle.serve_core.specs.Sessions.{CameAs, CameBack, HasServed}
-
-never_short : (e : ServeEnd) → IsClean e → MayBeShort e → ⊥
-never_short ends.Done clean short = short
-never_short ends.Spent clean short = short
-never_short ends.WriteFault clean short = clean
-never_short ends.Memory clean short = clean
-never_short ends.DoorFault clean short = clean
+use Rattle.serve_core.proofs.Ending.{never_short}
 
 module _ (shows : ℕ → Bool) (session : ℕ) (calls : Log) (came back : Tale) (faults : ℕ) (fresh : IsFresh came) where
   greeted_or_failed : (e : LinkEnd) → (e ≡ end.Memory → ⊥) → WasServed shows true session e calls (telling came 0) (telling back faults) → WasGreeted came back ⊎ (1 ≤ faults)

@@ -1,17 +1,26 @@
--- A turn of the steward, as the first pass made it.
-use Rattle.std.proofs.Common.{◌≡◌, ℕ, suc, ◌+◌, inl, inr, List, [], ◌∷◌, ◌++◌, map, refl, sym, ap, subst, ◌∙◌, arith}
+-- A turn of the steward, and turns one after another: their acts, and what they ask.
+use Rattle.std.proofs.Common.{◌≡◌, ℕ, zero, suc, ◌+◌, ◌⊎◌, inl, inr, List, [], ◌∷◌, ◌++◌, map, refl, sym, ap, subst, ◌∙◌, arith, append_assoc, append-nil}
+use Rattle.std.specs.declared.option.Option.{Option}
+use Rattle.std.specs.declared.option.Option.TheVariants.{None, Some}
+use Rattle.edge_traits.specs.Pairs.{Table}
+use Rattle.game_shelf.specs.declared.order.Order.{Order}
 use Rattle.lobby_state.specs.declared.desk_in_use.DeskInUse.{DeskInUse}
 use Rattle.one_server.specs.declared.act.Timed.{Timed}
 use Rattle.one_server.specs.Running.{Log, RunnerState}
 use Rattle.hall_core.specs.Passes.{PassState, Place}
 use Rattle.steward_core.specs.declared.clearing.ClearingEnd.{ClearingEnd}
-use Rattle.steward_core.specs.declared.clearing.ClearingEnd.TheVariants.{Done, Memory}
+use Rattle.steward_core.specs.declared.clearing.ClearingEnd.TheVariants as clearing
+use Rattle.steward_core.specs.declared.turn.StewardEnd.{StewardEnd}
+use Rattle.steward_core.specs.declared.turn.StewardEnd.TheVariants.{Done, KeeperFault, Memory}
 use Rattle.steward_core.specs.Clearing.{AreClears, AsksAndClears, IsPartOf, IsClearing, acts_of, clears, rows_told}
-use Rattle.std.specs.declared.option.Option.{Option}
-use Rattle.edge_traits.specs.Door.{DoorTale, Goes}
-use Rattle.serve_core.specs.Stewarding.{AreStewards, HasTurns, IsStewards, asked, asks_once}
+use Rattle.steward_core.specs.Saving.{AreFullRounds, EndsSaving, IsCutShort, IsRound, IsSaving, last_number, says_saved, tells_upto}
+use Rattle.steward_core.specs.Turn.{IsTurn, end_of_turn}
+use Rattle.serve_core.specs.Stewarding.{AreStewards, AreTurns, IsDone, IsStewards, MayEnd, StewardTurn, asked, asks_once}
 use Rattle.serve_core.specs.Turns.{MadeTurn}
-use Rattle.serve_core.proofs.Telling.{told_as, told_then}
+
+-- entries of a steward that ask so often which desks are in use
+abbrev pub Asks : ℕ → Log → Type 0
+Asks n es = AreStewards es × (asked es ≡ n)
 
 pub stewards_append : (one two : Log) → AreStewards one → AreStewards two → AreStewards (one ++ two)
 stewards_append [] two p q = q
@@ -21,41 +30,164 @@ pub asked_append : (one two : Log) → asked (one ++ two) ≡ asked one + asked 
 asked_append [] two = omega arith
 asked_append (e ∷ one) two = omega (arith, asked_append one two)
 
+asks_append : (n m : ℕ) (one two : Log) → Asks n one → Asks m two → Asks (n + m) (one ++ two)
+asks_append n m one two p q = (stewards_append one two p.0 q.0, omega (arith, asked_append one two, p.1, q.1))
+
+-- ---- clearing
+
 -- Clears alone are a steward's, and ask nothing
-stewards_some : (moment : ℕ) (es : Log) (rows : List DeskInUse) → IsPartOf (acts_of es) (map (clears moment) rows) → AreStewards es × (asked es ≡ 0)
-stewards_some moment [] rows p = (tt, refl)
-stewards_some moment (e ∷ es) [] p = absurd p
-stewards_some moment (e ∷ es) (row ∷ rows) (inl p) =
-    let more = stewards_some moment es rows p.1 in
+asks_some : (moment : ℕ) (es : Log) (rows : List DeskInUse) → IsPartOf (acts_of es) (map (clears moment) rows) → Asks 0 es
+asks_some moment [] rows p = (tt, refl)
+asks_some moment (e ∷ es) [] p = absurd p
+asks_some moment (e ∷ es) (row ∷ rows) (inl p) =
+    let more = asks_some moment es rows p.1 in
     let act : clears moment row ≡ e.act = sym p.0 in (
       (subst (λ (t : Timed). IsStewards t.act) act tt, more.0),
       subst (λ (t : Timed). asks_once t.act + asked es ≡ 0) act (omega (arith, more.1)),
     )
-stewards_some moment (e ∷ es) (row ∷ rows) (inr p) = stewards_some moment (e ∷ es) rows p
+asks_some moment (e ∷ es) (row ∷ rows) (inr p) = asks_some moment (e ∷ es) rows p
 
 part_of_itself : {T : Type 0} (xs : List T) → IsPartOf xs xs
 part_of_itself [] = tt
 part_of_itself (x ∷ xs) = inl (refl, part_of_itself xs)
 
-stewards_rest : (end : ClearingEnd) (moment : ℕ) (rows : List DeskInUse) (es : Log) → AreClears end moment rows es → AreStewards es × (asked es ≡ 0)
-stewards_rest Done moment rows es p = stewards_some moment es rows (subst (λ (l : List Timed). IsPartOf (acts_of es) l) p (part_of_itself (acts_of es)))
-stewards_rest Memory moment rows es p = stewards_some moment es rows p
+asks_rest : (end : ClearingEnd) (moment : ℕ) (rows : List DeskInUse) (es : Log) → AreClears end moment rows es → Asks 0 es
+asks_rest clearing.Done moment rows es p = asks_some moment es rows (subst (λ (l : List Timed). IsPartOf (acts_of es) l) p (part_of_itself (acts_of es)))
+asks_rest clearing.Memory moment rows es p = asks_some moment es rows p
 
-stewards_turn : (end : ClearingEnd) (moment : ℕ) (es : Log) → AsksAndClears end moment es → AreStewards es × (asked es ≡ 1)
-stewards_turn end moment es p =
-    let rest = stewards_rest end moment (rows_told p.first.reply) p.rest p.clears in
-    let both : AreStewards (p.first ∷ p.rest) × (asked (p.first ∷ p.rest) ≡ 1) = (
+asks_once_and_clears : (end : ClearingEnd) (moment : ℕ) (es : Log) → AsksAndClears end moment es → Asks 1 es
+asks_once_and_clears end moment es p =
+    let rest = asks_rest end moment (rows_told p.first.reply) p.rest p.clears in
+    let both : Asks 1 (p.first ∷ p.rest) = (
       (subst (λ (t : Timed). IsStewards t.act) (sym p.asks) tt, rest.0),
       subst (λ (t : Timed). asks_once t.act + asked p.rest ≡ 1) (sym p.asks) (omega (arith, rest.1)),
     ) in
-    subst (λ (l : Log). AreStewards l × (asked l ≡ 1)) (sym p.all) both
+    subst (Asks 1) (sym p.all) both
 
-pub turn_stewards : (end : ClearingEnd) (moment : ℕ) (es : Log) → IsClearing end moment es → AreStewards es
-turn_stewards Done moment es p = (stewards_turn Done moment es p).0
-turn_stewards Memory moment es (inl e) = subst AreStewards (sym e) tt
-turn_stewards Memory moment es (inr p) = (stewards_turn Memory moment es p).0
+clearing_stewards : (end : ClearingEnd) (moment : ℕ) (es : Log) → IsClearing end moment es → AreStewards es
+clearing_stewards clearing.Done moment es p = (asks_once_and_clears clearing.Done moment es p).0
+clearing_stewards clearing.Memory moment es (inl e) = subst AreStewards (sym e) tt
+clearing_stewards clearing.Memory moment es (inr p) = (asks_once_and_clears clearing.Memory moment es p).0
 
-module _ (end : ClearingEnd) (old new : PassState) (turn : MadeTurn end old new) where
+-- ---- saving
+
+-- an act that tells orders as saved is a steward's, and asks nothing
+asks_told : (moment : ℕ) (upto : Option ℕ) (es : Log) → acts_of es ≡ tells_upto moment upto → Asks 0 es
+asks_told moment None [] is = (tt, refl)
+asks_told moment None (e ∷ es) is = absurd cc
+asks_told moment (Some upto) [] is = absurd cc
+asks_told moment (Some upto) (e ∷ []) is =
+    let act : says_saved moment upto ≡ e.act = cc in (
+      (subst (λ (t : Timed). IsStewards t.act) act tt, tt),
+      subst (λ (t : Timed). asks_once t.act + 0 ≡ 0) act refl,
+    )
+asks_told moment (Some upto) (e ∷ (f ∷ es)) is = absurd cc
+
+asks_round : (moment : ℕ) (es : Log) (orders : List Order) → IsRound moment es orders → Asks 0 es
+asks_round moment es orders p =
+    let rest = asks_told moment (last_number orders) p.rest p.saved in
+    let both : Asks 0 (p.first ∷ p.rest) = (
+      (subst (λ (t : Timed). IsStewards t.act) (sym p.asks) tt, rest.0),
+      subst (λ (t : Timed). asks_once t.act + asked p.rest ≡ 0) (sym p.asks) (omega (arith, rest.1)),
+    ) in
+    subst (Asks 0) (sym p.all) both
+
+asks_cut_rest : (moment : ℕ) (upto : Option ℕ) (es : Log) → (acts_of es ≡ tells_upto moment upto) ⊎ (es ≡ []) → Asks 0 es
+asks_cut_rest moment upto es (inl is) = asks_told moment upto es is
+asks_cut_rest moment upto es (inr is) = subst (Asks 0) (sym is) (tt, refl)
+
+asks_cut : (moment : ℕ) (es : Log) (carried : List Order) → IsCutShort moment es carried → Asks 0 es
+asks_cut moment es carried p =
+    let rest = asks_cut_rest moment (last_number carried) p.rest p.saved in
+    let both : Asks 0 (p.first ∷ p.rest) = (
+      (subst (λ (t : Timed). IsStewards t.act) (sym p.asks) tt, rest.0),
+      subst (λ (t : Timed). asks_once t.act + asked p.rest ≡ 0) (sym p.asks) (omega (arith, rest.1)),
+    ) in
+    subst (Asks 0) (sym p.all) both
+
+asks_full : (moment n : ℕ) (es : Log) (orders : List Order) → AreFullRounds moment n es orders → Asks 0 es
+asks_full moment zero es orders p = subst (Asks 0) (sym p.0) (tt, refl)
+asks_full moment (suc n) es orders (before, after, first, last, full, round, count, is, all) =
+    subst (Asks 0) (sym is) (asks_append 0 0 before after (asks_full moment n before first full) (asks_round moment after last round))
+
+asks_none : (es : Log) → es ≡ [] → Asks 0 es
+asks_none es e = subst (Asks 0) (sym e) (tt, refl)
+
+asks_ends : (moment : ℕ) (end : StewardEnd) (rounds : ℕ) (es : Log) (orders : List Order) → EndsSaving moment end rounds es orders → Asks 0 es
+asks_ends moment (Done count) rounds es orders (inl p) = asks_round moment es orders p.0
+asks_ends moment (Done count) rounds es orders (inr p) = asks_none es p.1
+asks_ends moment KeeperFault rounds es orders p = asks_cut moment es orders p
+asks_ends moment Memory rounds es orders (inl p) = asks_cut moment es orders p
+asks_ends moment Memory rounds es orders (inr p) = asks_none es p.0
+
+asks_saving : (moment : ℕ) (end : StewardEnd) (es : Log) (carried : List Order) → IsSaving moment end es carried → Asks 0 es
+asks_saving moment end es carried p =
+    subst (Asks 0) (sym p.all) (asks_append 0 0 p.full p.rest (asks_full moment p.rounds p.full p.first p.are_full) (asks_ends moment end p.rounds p.rest p.last p.ends))
+
+-- ---- a turn
+
+pub turn_stewards : (t : StewardTurn) → AreStewards t.entries
+turn_stewards t =
+    let p = t.turn in
+    subst AreStewards (sym p.all) (stewards_append p.first p.rest (clearing_stewards p.cleared t.moment p.first p.clearing) (asks_saving t.moment p.saved p.rest t.carried p.saving).0)
+
+-- a turn that was done is one whose clearing was done
+cleared_whole : (end : StewardEnd) (cleared : ClearingEnd) (saved : StewardEnd) → end ≡ end_of_turn cleared saved → IsDone end → cleared ≡ clearing.Done
+cleared_whole end clearing.Done saved is done = refl
+cleared_whole end clearing.Memory (Done count) is done = absurd (subst IsDone is done)
+cleared_whole end clearing.Memory KeeperFault is done = absurd (subst IsDone is done)
+cleared_whole end clearing.Memory Memory is done = absurd (subst IsDone is done)
+
+pub turn_asks : (t : StewardTurn) → IsDone t.end → asked t.entries ≡ 1
+turn_asks t done =
+    let p = t.turn in
+    let whole = cleared_whole t.end p.cleared p.saved p.ends done in
+    let first = asks_once_and_clears clearing.Done t.moment p.first (subst (λ (c : ClearingEnd). IsClearing c t.moment p.first) whole p.clearing) in
+    let rest = asks_saving t.moment p.saved p.rest t.carried p.saving in
+    ap asked p.all ∙ (asks_append 1 0 p.first p.rest first rest).1
+
+-- ---- how turns may have ended
+
+pub may_end : (lack lack' fault fault' : Type 0) → (lack → lack') → (fault → fault') → (end : StewardEnd) → MayEnd lack fault end → MayEnd lack' fault' end
+may_end lack lack' fault fault' f g (Done count) p = tt
+may_end lack lack' fault fault' f g KeeperFault p = g p
+may_end lack lack' fault fault' f g Memory p = f p
+
+pub all_done : (lack fault : Type 0) → (lack → ⊥) → (fault → ⊥) → (end : StewardEnd) → MayEnd lack fault end → IsDone end
+all_done lack fault f g (Done count) p = tt
+all_done lack fault f g KeeperFault p = g p
+all_done lack fault f g Memory p = f p
+
+module _ (Ends : StewardEnd → Type 0) where
+  pub turns_stewards : (n : ℕ) (made : Log) → AreTurns Ends n made → AreStewards made
+  turns_stewards zero made is = subst AreStewards (sym is) tt
+  turns_stewards (suc n) made (before, last, turns, ends, is) =
+      subst AreStewards (sym is) (stewards_append before last.entries (turns_stewards n before turns) (turn_stewards last))
+
+  pub turns_asked : ((end : StewardEnd) → Ends end → IsDone end) → (n : ℕ) (made : Log) → AreTurns Ends n made → asked made ≡ n
+  turns_asked done zero made is = ap asked is
+  turns_asked done (suc n) made (before, last, turns, ends, is) =
+      let so_far = turns_asked done n before turns in
+      let one = turn_asks last (done last.end ends) in
+      omega (arith, ap asked is, asked_append before last.entries, so_far, one)
+
+  pub turns_append : (n m : ℕ) (one two : Log) → AreTurns Ends n one → AreTurns Ends m two → AreTurns Ends (n + m) (one ++ two)
+  turns_append n zero one two p is =
+      let none : one ≡ one ++ two = sym (append-nil one) ∙ ap (λ (l : Log). one ++ l) (sym is) in
+      let count : n ≡ n + 0 = omega arith in
+      subst (λ (l : Log). AreTurns Ends (n + 0) l) none (subst (λ k. AreTurns Ends k one) count p)
+  turns_append n (suc m) one two p (before, last, turns, ends, is) =
+      let count : suc (n + m) ≡ n + suc m = omega arith in
+      subst (λ k. AreTurns Ends k (one ++ two)) count
+      (one ++ before, last, turns_append n m one before p turns, ends, ap (λ (l : Log). one ++ l) is ∙ sym (append_assoc one before last.entries))
+
+pub turns_as : (Ends Ends' : StewardEnd → Type 0) → ((end : StewardEnd) → Ends end → Ends' end) → (n : ℕ) (made : Log) → AreTurns Ends n made → AreTurns Ends' n made
+turns_as Ends Ends' h zero made is = is
+turns_as Ends Ends' h (suc n) made (before, last, turns, ends, is) = (before, last, turns_as Ends Ends' h n before turns, h last.end ends, is)
+
+-- ---- a turn that the first pass made
+
+module _ (end : StewardEnd) (before after : Option Table) (old new : PassState) (turn : MadeTurn end before after old new) where
   pub turn_home : new.home ≡ old.home
   turn_home = ap (λ (p : Place). p.hall) turn.place
 
@@ -71,28 +203,5 @@ module _ (end : ClearingEnd) (old new : PassState) (turn : MadeTurn end old new)
   pub turn_made : new.made ≡ old.made ++ turn.turn.entries
   turn_made = turn.turn.grew.more
 
-  pub turn_all : AreStewards old.made → AreStewards new.made
-  turn_all p = subst AreStewards (sym turn_made) (stewards_append old.made turn.turn.entries p (turn_stewards end turn.moment turn.turn.entries turn.turn.cleared))
-
-pub turn_asked : (old new : PassState) → MadeTurn Done old new → asked new.made ≡ asked old.made + 1
-turn_asked old new turn =
-    let once = (stewards_turn Done turn.moment turn.turn.entries turn.turn.cleared).1 in
-    ap asked (turn_made Done old new turn) ∙ asked_append old.made turn.turn.entries ∙ ap (λ n. asked old.made + n) once
-
--- ---- whole turns
-
--- one turn more was made
-pub turns_more : (door : Option DoorTale) (old new : PassState) → HasTurns 0 door old.made → MadeTurn Done old new → HasTurns 1 door new.made
-turns_more door old new t turn = (
-  suc t.0,
-  (old.made, turn.turn.entries, turn.moment, t.1, turn.turn.cleared, turn_made Done old new turn),
-  told_as door (λ tale. t.0 ≡ tale.quiets + 0) (λ tale. suc t.0 ≡ tale.quiets + 1) (λ tale n. omega (arith, n)) t.2,
-)
-
--- the door goes on, and gave some more Quiets
-pub turns_go : (more more' : ℕ) (door door' : Option DoorTale) (R : DoorTale → DoorTale → Type 0) (made : Log) → ((old new : DoorTale) → R old new → old.quiets + more ≡ new.quiets + more') → Goes door door' R → HasTurns more door made → HasTurns more' door' made
-turns_go more more' door door' R made same goes t = (
-  t.0,
-  t.1,
-  told_then door door' R (λ tale. t.0 ≡ tale.quiets + more) (λ tale. t.0 ≡ tale.quiets + more') (λ old new r n. n ∙ same old new r) goes t.2,
-)
+  abbrev pub turn_is : StewardTurn
+  turn_is = record { end = end; entries = turn.turn.entries; moment = turn.moment; carried = turn.turn.carried; turn = turn.turn.turn }

@@ -12,9 +12,8 @@ use Rattle.hall_core.specs.Passes.{PassState}
 use Rattle.link_core.specs.declared.link_end.LinkEnd.{LinkEnd}
 use Rattle.link_core.specs.declared.link_end.LinkEnd.TheVariants as link_end
 use Rattle.serve_core.specs.declared.settle.Supply.{Supply}
-use Rattle.serve_core.specs.declared.settle.Supply.TheVariants.{Enough, Short}
+use Rattle.serve_core.specs.declared.settle.Supply.TheVariants.{Short}
 use Rattle.serve_core.specs.Sessions.{CameAs, HasServed}
-use Rattle.serve_core.specs.Stewarding.{AreStewards, HasTurns, asked}
 use Rattle.serve_core.specs.Working.{Due}
 
 -- whether memory ran out somewhere, once a link was served that ended like this
@@ -37,8 +36,7 @@ module _ {C : Type 0} (shows : C → ℕ → Bool) (hall : TableId) (clock : C) 
 
   -- The pass is the hall's first one. Each number that was split from it is that of a pass which was joined and has
   -- served its link, or of a worker that is waited for; links came as many as there are such numbers, and those that
-  -- didn't come back are as many as the workers. What the pass itself made are turns of the steward, as many as the
-  -- door gave Quiets
+  -- didn't come back are as many as the workers
   pub record Underway (supply : Supply) (door : Option DoorTale) (pass : PassState) (waiting : List (Due C))
       : Type 0 where
     pub here : pass.home ≡ hall
@@ -50,9 +48,6 @@ module _ {C : Type 0} (shows : C → ℕ → Bool) (hall : TableId) (clock : C) 
         → In m (map joined_number pass.joined) ⊎ In m (map due_number waiting)
     pub came : IfTold door (λ tale. length tale.came ≡ pass.splits)
     pub out : IfTold door (λ tale. length tale.back + length waiting ≡ length tale.came)
-    pub stewards : AreStewards pass.made
-    pub turns : supply ≡ Enough → IfTold door (λ tale. asked pass.made ≡ tale.quiets)
-    pub whole_turns : supply ≡ Enough → HasTurns 0 door pass.made
 
 -- a settlement changes neither how many passes were split nor with what the hall opened
 abbrev pub SameHall : PassState → PassState → Type 0

@@ -1,9 +1,11 @@
 pub mod Keeping
 pub mod Laws
+pub mod Opening
 pub mod ServeEnds
 pub mod Serving
 pub mod Sessions
 pub mod Stewarding
 pub mod Stopping
+pub mod Tending
 pub mod Turns
 pub mod Working

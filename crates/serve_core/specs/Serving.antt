@@ -1,22 +1,31 @@
--- What a server promises that has served: its hall, its links, its steward, its text and its door, and how it ended.
+-- What a server promises that has served: its hall, its links, its steward and its store, its text and its door, and how
+-- it ended.
 -- This server's own.
-use Rattle.std.specs.Prelude.{codes, ◌≡◌, ◌≢◌, ℕ, ◌+◌, ◌^◌, ◌<◌, ◌≤◌, ◌⊎◌, Bool, List, [], ◌++◌, length}
+use Rattle.std.specs.Prelude.{codes, ◌≡◌, ◌≢◌, ℕ, ◌+◌, ◌^◌, ◌<◌, ◌≤◌, ◌⊎◌, Bool, List, [], ◌++◌, length, Some, slice_get}
 use Rattle.std.specs.declared.option.Option.{Option}
 use Rattle.std.specs.Io.KnownBytes.{Appends}
 use Rattle.edge_traits.specs.Faults.{Rose}
 use Rattle.edge_traits.specs.Door.{DoorTale, IfTold}
+use Rattle.edge_traits.specs.Pairs.{Table}
 use Rattle.edge_traits.specs.Sink.{AppendsFront, OnWriteFailed, Wrote}
 use Rattle.edge_traits.specs.declared.sink.Sent.{Sent}
 use Rattle.edge_traits.specs.declared.sink.Sent.TheVariants as sent
-use Rattle.histories.specs.History.{calls_of, Legal}
+use Rattle.histories.specs.History.{calls_of, Legal, state}
+use Rattle.lobby_state.specs.Lobby.{LobbyState}
+use Rattle.lobby_store.specs.Agreeing.{AgreesWith}
+use Rattle.lobby_store.specs.Carrying.{held}
 use Rattle.one_server.specs.declared.part.Part.{Part}
+use Rattle.one_server.specs.declared.part.Part.TheVariants.{Lobby as TheLobby}
 use Rattle.one_server.specs.House.{house}
 use Rattle.one_server.specs.Whole.{IsWhole}
 use Rattle.hall_core.specs.Passes.{EveryoneJoined, PassState}
 use Rattle.serve_core.specs.declared.end.ServeEnd.{ServeEnd}
-use Rattle.serve_core.specs.declared.end.ServeEnd.TheVariants.{Done, DoorFault, WriteFault, Memory, Spent}
+use Rattle.steward_core.specs.declared.turn.StewardEnd.{StewardEnd}
+use Rattle.steward_core.specs.declared.turn.StewardEnd.TheVariants as steward
+use Rattle.serve_core.specs.declared.end.ServeEnd.TheVariants.{Done, DoorFault, WriteFault, KeeperFault, Memory, Spent}
 use Rattle.serve_core.specs.Sessions.{HasServed}
-use Rattle.serve_core.specs.Stewarding.{AreStewards, EndsWithTurn, HasTurns, asked}
+use Rattle.serve_core.specs.Stewarding.{AreStewards, EndsWithTurn, HasTurns, IsDone, MayEnd, asked}
+use Rattle.serve_core.specs.Tending.{Store}
 
 -- nothing came through the door yet
 abbrev pub IsUnused : DoorTale → Type 0
@@ -26,6 +35,7 @@ IsUnused tale = (tale.came ≡ []) × (tale.back ≡ []) × (tale.quiets ≡ 0)
 abbrev pub status_of : ServeEnd → ℕ
 status_of Done = 0
 status_of WriteFault = 3
+status_of KeeperFault = 4
 status_of Memory = 6
 status_of DoorFault = 8
 status_of Spent = 9
@@ -34,18 +44,39 @@ status_of Spent = 9
 abbrev pub IsClean : ServeEnd → Type 0
 IsClean Done = Unit {0}
 IsClean WriteFault = ⊥
+IsClean KeeperFault = ⊥
 IsClean Memory = ⊥
 IsClean DoorFault = ⊥
 IsClean Spent = Unit {0}
 
--- memory may have run out: at status 6 somewhere, and at 3 and 8, which stand above it, perhaps. No contract tells want
--- of memory, so at these it counts as possible wherever memory is taken
+-- memory may have run out: at status 6 somewhere, and at 3, 4 and 8, which stand above it, perhaps. No contract tells
+-- want of memory, so at these it counts as possible wherever memory is taken
 abbrev pub MayBeShort : ServeEnd → Type 0
 MayBeShort Done = ⊥
 MayBeShort WriteFault = Unit {0}
+MayBeShort KeeperFault = Unit {0}
 MayBeShort Memory = Unit {0}
 MayBeShort DoorFault = Unit {0}
 MayBeShort Spent = ⊥
+
+-- how the last turn of the steward ended: well, where serving did; with a keeper fault exactly where serving ended so,
+-- but for faults of the door and the sink, which stand above one of the keeper and below which it may have ended anyhow
+abbrev pub LastEnds : ServeEnd → StewardEnd → Type 0
+LastEnds Done last = IsDone last
+LastEnds Spent last = IsDone last
+LastEnds Memory last = last ≢ steward.KeeperFault
+LastEnds KeeperFault last = last ≡ steward.KeeperFault
+LastEnds WriteFault last = Unit {0}
+LastEnds DoorFault last = Unit {0}
+
+-- the table agrees with the lobby of this state
+abbrev pub AgreesIn : Table → List Part → Type 0
+AgreesIn table parts =
+    (lobby : LobbyState) → slice_get parts 0 ≡ Some (TheLobby lobby) → AgreesWith (held table) lobby
+
+-- the keeper goes on telling its table, and this agrees with the lobby of the state
+abbrev pub TellsAgreed : Option Table → List Part → Type 0
+TellsAgreed told parts = (table : Table) × (told ≡ Some table) × AgreesIn table parts
 
 -- what is written once the hall is open, and once all is served
 abbrev pub ready_text : List ℕ
@@ -62,12 +93,12 @@ pub record Sheet : Type 0 where
   pub written : Option (List ℕ)
   pub faults : ℕ
 
--- `ready` wasn't written out: the sink failed, which it counted, or memory ran out. Then nothing else was written, and
--- no link was taken
+-- `ready` wasn't written out: the sink failed, which it counted, or memory ran out, and then perhaps the last turn of the
+-- steward met a keeper fault. Nothing else was written, and no link was taken
 pub record StopsUnready (end : ServeEnd) (count : ℕ) (before after : Sheet) : Type 0 where
   pub none_taken : count ≡ 0
   pub front : AppendsFront before.written after.written ready_text
-  pub why : ((end ≡ WriteFault) × Rose before.faults after.faults) ⊎ (end ≡ Memory)
+  pub why : ((end ≡ WriteFault) × Rose before.faults after.faults) ⊎ ((end ≡ Memory) ⊎ (end ≡ KeeperFault))
 
 -- `ready` was written; links were taken until the door had none left, or failed, or 2^31 had come; and then `closed`
 -- was written: all of it, but for an end of it where the sink failed, which it counted, or where that write ran out of
@@ -85,7 +116,7 @@ pub record SaysClosed (end : ServeEnd) (door : Option DoorTale) (count : ℕ) (b
 -- The pass is the hall's first one, and every other was joined into it. What it has seen is the history of that hall:
 -- legal from the opening state, which is whole, and with no entries but those of the sessions
 pub record HasServedAll (shows : ℕ → Bool) (opening : List Part) (end : ServeEnd) (door : Option DoorTale)
-    (before after : Sheet) (pass : PassState) : Type 0 where
+    (before after : Sheet) (old new : Store) (pass : PassState) : Type 0 where
   pub first : pass.number ≡ 0
   pub opens : pass.opening ≡ opening
   pub opens_whole : IsWhole pass.opening
@@ -97,12 +128,18 @@ pub record HasServedAll (shows : ℕ → Bool) (opening : List Part) (end : Serv
   pub sessions : (k : ℕ) → 0 < k → k ≤ pass.splits → HasServed shows (MayBeShort end) door k (calls_of k pass.seen)
   pub came : IfTold door (λ tale. length tale.came ≡ pass.splits)
   pub back : IfTold door (λ tale. length tale.back ≡ pass.splits)
-  -- session 0 is the steward: its acts are those of turns, the last ones those of one turn. Unless something failed or
-  -- memory ran out, they are those of whole turns, one for each Quiet of the door and one more
+  -- session 0 is the steward: its acts are those of turns, one for each Quiet of the door and one more, the last ones
+  -- those of the last turn. Unless something failed or memory ran out, all of them were done
   pub stewards : AreStewards (calls_of 0 pass.seen)
-  pub last_turn : EndsWithTurn (MayBeShort end) (calls_of 0 pass.seen)
-  pub turns : IsClean end → IfTold door (λ tale. asked (calls_of 0 pass.seen) ≡ tale.quiets + 1)
-  pub whole_turns : IsClean end → HasTurns 1 door (calls_of 0 pass.seen)
+  pub all_turns : HasTurns (MayEnd (MayBeShort end) (Rose old.faults new.faults)) 1 door (calls_of 0 pass.seen)
+  pub last_turn : EndsWithTurn (LastEnds end) (calls_of 0 pass.seen) (state house pass.opening pass.seen)
+  pub turns : IsClean end → (Rose old.faults new.faults → ⊥)
+      → IfTold door (λ tale. asked (calls_of 0 pass.seen) ≡ tale.quiets + 1)
+  pub whole_turns : IsClean end → (Rose old.faults new.faults → ⊥) → HasTurns IsDone 1 door (calls_of 0 pass.seen)
+  -- where the keeper tells its table, and this agreed with the lobby of the opening state, it agrees with that of the
+  -- state of the whole history
+  pub agrees : IfTold old.table (λ table. AgreesIn table pass.opening
+      → TellsAgreed new.table (state house pass.opening pass.seen))
   -- the text was written and all links were taken, but for the reasons that are named
   pub text : StopsUnready end pass.splits before after ⊎ SaysClosed end door pass.splits before after
   pub done_left : end ≡ Done → IfTold door (λ tale. tale.left ≡ [])

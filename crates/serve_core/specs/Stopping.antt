@@ -5,10 +5,12 @@ use Rattle.edge_traits.specs.Faults.{Rose}
 use Rattle.edge_traits.specs.Door.{DoorTale, IfTold}
 use Rattle.edge_traits.specs.declared.sink.Sent.{Sent}
 use Rattle.edge_traits.specs.declared.sink.Sent.TheVariants as sent
+use Rattle.steward_core.specs.declared.turn.StewardEnd.{StewardEnd}
+use Rattle.steward_core.specs.declared.turn.StewardEnd.TheVariants as steward
 use Rattle.serve_core.specs.declared.end.DoorEnd.{DoorEnd}
 use Rattle.serve_core.specs.declared.end.DoorEnd.TheVariants as door_end
 use Rattle.serve_core.specs.declared.end.ServeEnd.{ServeEnd}
-use Rattle.serve_core.specs.declared.end.ServeEnd.TheVariants.{Done, DoorFault, WriteFault, Memory, Spent}
+use Rattle.serve_core.specs.declared.end.ServeEnd.TheVariants.{Done, DoorFault, WriteFault, KeeperFault, Memory, Spent}
 use Rattle.serve_core.specs.declared.settle.Supply.{Supply}
 use Rattle.serve_core.specs.declared.settle.Supply.TheVariants.{Short}
 
@@ -19,12 +21,15 @@ Stopped door_end.Closed count door before now = IfTold door (λ tale. tale.left 
 Stopped door_end.Failed count door before now = Rose before now × (count < 2 ^ 31)
 Stopped door_end.Spent count door before now = count ≡ 2 ^ 31
 
--- how serving ends: by why no further link was taken, what became of the last write, and whether memory ran out. A
--- fault of the door comes first, then one of the sink, then running out of memory
-abbrev pub end_of : DoorEnd → Sent → Supply → ServeEnd
-end_of door_end.Failed written supply = DoorFault
-end_of door sent.Failed supply = WriteFault
-end_of door sent.Memory supply = Memory
-end_of door written Short = Memory
-end_of door_end.Spent written supply = Spent
-end_of door_end.Closed written supply = Done
+-- how serving ends: by why no further link is taken, what became of the last write, how the last turn of the steward
+-- ended, and whether memory ran out before it. A fault of the door comes first, then one of the sink, then one of the
+-- keeper, then running out of memory
+abbrev pub end_of : DoorEnd → Sent → StewardEnd → Supply → ServeEnd
+end_of door_end.Failed written last supply = DoorFault
+end_of door sent.Failed last supply = WriteFault
+end_of door written steward.KeeperFault supply = KeeperFault
+end_of door sent.Memory last supply = Memory
+end_of door written steward.Memory supply = Memory
+end_of door written last Short = Memory
+end_of door_end.Spent written last supply = Spent
+end_of door_end.Closed written last supply = Done

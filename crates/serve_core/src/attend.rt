@@ -4,6 +4,7 @@ ghost use Rattle.std.specs.Prelude.{◌≡◌, ◌<◌, ◌+◌, ◌^◌, OnSome
 ghost use Rattle.std.specs.declared.option.Option.{Option};
 ghost use Rattle.edge_traits.specs.Door.{DoorTale, Goes, IsNew};
 ghost use Rattle.serve_core.specs.Keeping.{Comes, KeepsLeft, Underway};
+ghost use Rattle.serve_core.specs.Tending.{Store, Tended, stand};
 
 use crate::place::Place;
 use crate::settle::Host;
@@ -41,6 +42,9 @@ where
         host.new.pass host.new.waiting.items }
     ensures counted { host.new.pass.splits ≡ host.old.pass.splits + 1 }
     ensures opening { host.new.pass.opening ≡ host.old.pass.opening }
+    ensures tended { (store : Store) → Tended
+        (stand host.old.pass host.old.supply (D.tale door.old) store)
+        (stand host.new.pass host.new.supply (D.tale door.new) store) }
     ensures left { Goes (D.tale door.old) (D.tale door.new) KeepsLeft }
     ensures faults { D.faults door.new ≡ D.faults door.old }
 {

@@ -20,6 +20,8 @@ pub enum ServeEnd {
     DoorFault,
     /// The sink failed, and counted the fault.
     WriteFault,
+    /// The keeper failed in the last turn of the steward, and counted the fault.
+    KeeperFault,
     /// Something ran out of memory.
     Memory,
     /// 2^31 links came.
@@ -37,6 +39,7 @@ impl ServeEnd {
         match self {
             ServeEnd::Done => 0,
             ServeEnd::WriteFault => 3,
+            ServeEnd::KeeperFault => 4,
             ServeEnd::Memory => 6,
             ServeEnd::DoorFault => 8,
             ServeEnd::Spent => 9,

@@ -4,13 +4,14 @@ ghost use Rattle.std.specs.Prelude.{◌≡◌, ◌≤◌, []};
 ghost use Rattle.edge_traits.specs.Door.{Goes, KeepsLinks};
 ghost use Rattle.serve_core.specs.Keeping.{KeepsLeft, SameHall, Underway};
 ghost use Rattle.serve_core.specs.Stopping.{Stopped};
+ghost use Rattle.serve_core.specs.Tending.{Store, Tended, stand};
 ghost use Rattle.serve_core.specs.declared.settle.Supply.TheVariants.{Enough};
 
 use crate::end::DoorEnd;
 use crate::place::Place;
 use crate::round::round;
 use crate::settle::{Host, Supply};
-use edge_traits::{Clock, Doorway, Gate};
+use edge_traits::{Clock, Doorway, Gate, Keeper};
 use hall_core::HallPass;
 use std::sync::Wait;
 use std::thread::{self, Scope, Threads};
@@ -24,52 +25,71 @@ pub struct Hosted {
     pub end: DoorEnd,
 }
 
-/// Takes links until no more come, and serves each. The pass is the first one, from which none was split, and the door
-/// is unused.
-pub fn host_links<T, C, G, D>(place: &Place<'_, T, C, G>, pass: HallPass, door: &mut D) -> Hosted
+/// Takes links until no more come, and serves each, and makes a turn of the steward over the keeper at each Quiet. The
+/// pass is the first one, from which none was split, and the door is unused.
+pub fn host_links<T, C, G, D, P>(
+    place: &Place<'_, T, C, G>,
+    pass: HallPass,
+    door: &mut D,
+    keeper: &mut P,
+) -> Hosted
 where
     T: Threads + Wait + Sync,
     C: Clock + Sync,
     G: Gate + Sync,
     D: Doorway,
+    P: Keeper,
     requires kept { Underway C.shows place.now.hall.now place.now.clock.now Enough (D.tale door.old) pass [] }
     requires none { pass.splits ≡ 0 }
     ensures kept { Underway C.shows place.now.hall.now place.now.clock.now result.supply (D.tale door.new)
         result.pass [] }
+    ensures tended { Tended
+        (stand pass Enough (D.tale door.old)
+          (record { table = P.table keeper.old; faults = P.faults keeper.old }))
+        (stand result.pass result.supply (D.tale door.new)
+          (record { table = P.table keeper.new; faults = P.faults keeper.new })) }
     ensures opening { result.pass.opening ≡ pass.opening }
     ensures links { Goes (D.tale door.old) (D.tale door.new) KeepsLinks }
     ensures stopped { Stopped result.end result.pass.splits (D.tale door.new) (D.faults door.old) (D.faults door.new) }
     ensures counted { D.faults door.old ≤ D.faults door.new }
 {
-    let (hosted, lent) = thread::scope(
+    let (hosted, lent, lent_keeper) = thread::scope(
         thread::scope_env(),
         place.rt,
-        |scope| -> (Hosted, &mut D)
+        |scope| -> (Hosted, &mut D, &mut P)
             requires kept { Underway C.shows place.now.hall.now place.now.clock.now Enough (D.tale door.now) pass [] }
             requires none { pass.splits ≡ 0 }
             ensures lent { result.1.ghost_name ≡ door.entry.ghost_name }
+            ensures lent_keeper { result.2.ghost_name ≡ keeper.entry.ghost_name }
             ensures kept { Underway C.shows place.entry.now.hall.now place.entry.now.clock.now result.0.supply
                 (D.tale result.1.now) result.0.pass [] }
+            ensures tended { Tended
+                (stand pass Enough (D.tale door.entry.now)
+                  (record { table = P.table keeper.entry.now; faults = P.faults keeper.entry.now }))
+                (stand result.0.pass result.0.supply (D.tale result.1.now)
+                  (record { table = P.table result.2.now; faults = P.faults result.2.now })) }
             ensures opening { result.0.pass.opening ≡ pass.opening }
             ensures links { Goes (D.tale door.entry.now) (D.tale result.1.now) KeepsLinks }
             ensures stopped { Stopped result.0.end result.0.pass.splits (D.tale result.1.now)
                 (D.faults door.entry.now) (D.faults result.1.now) }
             ensures counted { D.faults door.entry.now ≤ D.faults result.1.now }
         {
-            let hosted = take_links(scope, place, pass, door);
-            (hosted, door)
+            let hosted = take_links(scope, place, pass, door, keeper);
+            (hosted, door, keeper)
         },
     );
     take_back(lent);
+    take_back(lent_keeper);
     hosted
 }
 
 /// Takes links until no more come, and waits for the workers.
-fn take_links<'s, 'a: 's, E, T, C, G, D>(
+fn take_links<'s, 'a: 's, E, T, C, G, D, P>(
     scope: &Scope<'s, E>,
     place: &'s Place<'a, T, C, G>,
     pass: HallPass,
     door: &mut D,
+    keeper: &mut P,
 ) -> Hosted
 where
     T: Threads + Wait + Sync,
@@ -77,10 +97,16 @@ where
     G: Gate + Sync,
     D: Doorway,
     D::Link: 's,
+    P: Keeper,
     requires kept { Underway C.shows place.now.hall.now place.now.clock.now Enough (D.tale door.old) pass [] }
     requires none { pass.splits ≡ 0 }
     ensures kept { Underway C.shows place.now.hall.now place.now.clock.now result.supply (D.tale door.new)
         result.pass [] }
+    ensures tended { Tended
+        (stand pass Enough (D.tale door.old)
+          (record { table = P.table keeper.old; faults = P.faults keeper.old }))
+        (stand result.pass result.supply (D.tale door.new)
+          (record { table = P.table keeper.new; faults = P.faults keeper.new })) }
     ensures opening { result.pass.opening ≡ pass.opening }
     ensures links { Goes (D.tale door.old) (D.tale door.new) KeepsLinks }
     ensures stopped { Stopped result.end result.pass.splits (D.tale door.new) (D.faults door.old) (D.faults door.new) }
@@ -93,7 +119,7 @@ where
     };
     let mut count = 0;
     for _ in place.rt.forever() {
-        let (after, so_far, end) = round(scope, place, host, door, count);
+        let (after, so_far, end) = round(scope, place, host, door, keeper, count);
         host = after;
         count = so_far;
         if let Some(end) = end {
@@ -120,6 +146,9 @@ where
     ensures kept { Underway C.shows place.now.hall.now place.now.clock.now result.supply (D.tale door.new)
         result.pass [] }
     ensures same { SameHall host.pass result.pass }
+    ensures tended { (store : Store) → Tended
+        (stand host.pass host.supply (D.tale door.old) store)
+        (stand result.pass result.supply (D.tale door.new) store) }
     ensures left { Goes (D.tale door.old) (D.tale door.new) KeepsLeft }
     ensures end { result.end ≡ end }
     ensures faults { D.faults door.new ≡ D.faults door.old }

@@ -2,34 +2,38 @@
 
 ghost use Rattle.std.specs.Prelude.{◌≡◌, ◌≤◌, ◌<◌, ◌^◌, MatchOption};
 ghost use Rattle.edge_traits.specs.Door.{Goes, KeepsLinks};
+ghost use Rattle.edge_traits.specs.Faults.{Rose};
 ghost use Rattle.serve_core.specs.Keeping.{Underway};
 ghost use Rattle.serve_core.specs.Stopping.{Stopped};
+ghost use Rattle.serve_core.specs.Tending.{Tended, stand};
 ghost use Rattle.serve_core.specs.Turns.{MadeTurn, supply_then};
 ghost use Rattle.serve_core.specs.declared.end.DoorEnd.{DoorEnd};
 ghost use Rattle.serve_core.specs.declared.end.DoorEnd.TheVariants.{Spent};
-ghost use Rattle.steward_core.specs.declared.clearing.ClearingEnd.{ClearingEnd};
+ghost use Rattle.steward_core.specs.declared.turn.StewardEnd.{StewardEnd};
+ghost use Rattle.steward_core.specs.declared.turn.StewardEnd.TheVariants.{KeeperFault};
 
 use crate::attend::attend;
 use crate::end::DoorEnd;
 use crate::place::Place;
 use crate::settle::{Host, Supply};
 use crate::turn::turn;
-use edge_traits::{Came, Clock, Doorway, Gate, Link};
+use edge_traits::{Came, Clock, Doorway, Gate, Keeper, Link};
 use hall_core::HallPass;
 use std::sync::Wait;
 use std::thread::{Scope, Threads};
-use steward_core::ClearingEnd;
+use steward_core::StewardEnd;
 
 /// How many links are taken at most.
 const MOST_LINKS: u32 = 1 << 31;
 
 /// Settles with the workers that have ended, and takes the door's next answer: a link is served, and at a Quiet a turn
 /// of the steward is made. The answer says why no further link is taken, if none is.
-pub fn round<'s, 'a: 's, E, T, C, G, D>(
+pub fn round<'s, 'a: 's, E, T, C, G, D, P>(
     scope: &Scope<'s, E>,
     place: &'s Place<'a, T, C, G>,
     host: Host<D::Link, C>,
     door: &mut D,
+    keeper: &mut P,
     count: u32,
 ) -> (Host<D::Link, C>, u32, Option<DoorEnd>)
 where
@@ -38,6 +42,7 @@ where
     G: Gate + Sync,
     D: Doorway,
     D::Link: 's,
+    P: Keeper,
     requires few { count < 2 ^ 31 }
     requires count { host.pass.splits ≡ count }
     requires kept { Underway C.shows place.now.hall.now place.now.clock.now host.supply (D.tale door.old)
@@ -45,6 +50,11 @@ where
     ensures count { result.0.pass.splits ≡ result.1 }
     ensures kept { Underway C.shows place.now.hall.now place.now.clock.now result.0.supply (D.tale door.new)
         result.0.pass result.0.waiting.items }
+    ensures tended { Tended
+        (stand host.pass host.supply (D.tale door.old)
+          (record { table = P.table keeper.old; faults = P.faults keeper.old }))
+        (stand result.0.pass result.0.supply (D.tale door.new)
+          (record { table = P.table keeper.new; faults = P.faults keeper.new })) }
     ensures opening { result.0.pass.opening ≡ host.pass.opening }
     ensures links { Goes (D.tale door.old) (D.tale door.new) KeepsLinks }
     ensures counted { D.faults door.old ≤ D.faults door.new }
@@ -60,28 +70,31 @@ where
             let count = count + 1;
             (host, count, spent(count))
         }
-        Came::Quiet => (at_quiet(place, host), count, None),
+        Came::Quiet => (at_quiet(place, host, keeper), count, None),
         Came::Closed => (host, count, Some(DoorEnd::Closed)),
         Came::Failed => (host, count, Some(DoorEnd::Failed)),
     }
 }
 
 /// Makes a turn of the steward, as at a Quiet.
-fn at_quiet<T: Threads + Wait, C: Clock, G: Gate, L: Link + Drop>(
+fn at_quiet<T: Threads + Wait, C: Clock, G: Gate, L: Link + Drop, P: Keeper>(
     place: &Place<'_, T, C, G>,
     host: Host<L, C>,
+    keeper: &mut P,
 ) -> Host<L, C>
     requires here { host.pass.home ≡ place.now.hall.now }
-    ensures turn { (end : ClearingEnd) × MadeTurn end host.pass result.pass
-        × (result.supply ≡ supply_then end host.supply) }
+    ensures turn { (end : StewardEnd) × MadeTurn end (P.table keeper.old) (P.table keeper.new) host.pass result.pass
+        × (result.supply ≡ supply_then end host.supply)
+        × (end ≡ KeeperFault → Rose (P.faults keeper.old) (P.faults keeper.new)) }
     ensures waiting { result.waiting ≡ host.waiting }
+    ensures counted { P.faults keeper.old ≤ P.faults keeper.new }
 {
     let Host {
         pass,
         waiting,
         supply,
     } = host;
-    let (pass, end) = turn(place, pass);
+    let (pass, end) = turn(place, pass, keeper);
     Host {
         pass,
         waiting,
@@ -90,12 +103,12 @@ fn at_quiet<T: Threads + Wait, C: Clock, G: Gate, L: Link + Drop>(
 }
 
 /// Whether something ran out of memory, once a turn of the steward ended like this.
-pub(crate) fn supply_then(end: ClearingEnd, before: Supply) -> Supply
+fn supply_then(end: StewardEnd, before: Supply) -> Supply
     ensures { result ≡ supply_then end before }
 {
     match end {
-        ClearingEnd::Done => before,
-        ClearingEnd::Memory => Supply::Short,
+        StewardEnd::Done(_) | StewardEnd::KeeperFault => before,
+        StewardEnd::Memory => Supply::Short,
     }
 }
 

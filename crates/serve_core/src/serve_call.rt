@@ -1,33 +1,42 @@
 //! The top call that serves players who connect.
 
-ghost use Rattle.std.specs.Prelude.{◌≡◌, ◌⊎◌, ◌∷◌, [], IfSome, IfNone, IfErr, OnOk, Contains};
-ghost use Rattle.std.specs.Io.KnownBytes.{Appends, Keeps};
+ghost use Rattle.std.specs.Prelude.{◌≡◌, ◌≢◌, ◌≤◌, ◌⊎◌, ◌∷◌, [], ℕ, List, IfSome, IfNone, IfErr, OnOk, Contains};
+ghost use Rattle.std.specs.Io.KnownBytes.{Appends};
 ghost use Rattle.edge_traits.specs.Door.{Goes, IfTold, KeepsLinks};
 ghost use Rattle.edge_traits.specs.Faults.{Rose};
 ghost use Rattle.edge_traits.specs.Sink.{AppendsFront};
+ghost use Rattle.histories.specs.History.{state};
 ghost use Rattle.job_words.specs.Jobs.{AsksToServe, OnUsage};
 ghost use Rattle.job_words.specs.Usage.{usage_line};
-ghost use Rattle.lobby_state.specs.Lobby.{opening};
-ghost use Rattle.serve_core.specs.Serving.{HasServedAll, IsUnused, status_of, whole_text};
-ghost use Rattle.serve_core.specs.declared.end.ServeEnd.{ServeEnd};
+ghost use Rattle.lobby_load.specs.BadRows.{IsGoodStore};
+ghost use Rattle.lobby_load.specs.Telling.{IsFirstBad, bad_record_line};
+ghost use Rattle.lobby_load.specs.declared.refusals.StoreFault.{StoreFault};
+ghost use Rattle.lobby_state.specs.Lobby.{LobbyState};
+ghost use Rattle.one_server.specs.House.{house};
 ghost use Rattle.one_server.specs.Whole.{opened};
-ghost use Rattle.serve_core.specs.ServeEnds.{EndsServing};
+ghost use Rattle.serve_core.specs.Opening.{EndsCall, IsLoaded, StaysUnopened, unopened_status};
+ghost use Rattle.serve_core.specs.Serving.{HasServedAll, IsUnused, TellsAgreed, status_of, whole_text};
+ghost use Rattle.serve_core.specs.declared.end.ServeEnd.{ServeEnd};
 
 use crate::serving::serve_lobby;
 use edge_traits::{Clock, Doorway, Gate, Keeper, Sink};
 use hall_core::{Hall, HallPass};
 use job_words::{Job, JobFail, read_job, tell_usage};
 use line_answers::{End, status};
-use lobby_state::Lobby;
+use lobby_load::{StoreFault, open_store};
 use std::alloc::Global;
 use std::sync::Wait;
 use std::thread::Threads;
 
 /// Serves players who connect, where the words ask for it, and gives the status with which the program ends, and the
-/// hall with the pass into which all others were joined: 0 where the door was closed and all was served, 1 where the
-/// words don't ask for it, 3 at a fault of writing, 6 for want of memory, 8 at a fault of the door, and 9 after 2^31
-/// connections. Where the words ask for it, a hall is missing only where memory didn't suffice to open one, and then
-/// nothing was written. The door is one through which nothing came yet. The keeper isn't called.
+/// hall with the pass into which all others were joined. It loads the keeper's store first, and opens the hall with what
+/// it loaded; while it serves it has the keeper carry out what the lobby orders to be saved.
+///
+/// The status is 0 where the door was closed and all was served, 1 where the words don't ask for it, 3 at a fault of
+/// writing, 4 at a fault of the keeper at the load or in the last turn of the steward, 5 at a bad record, whose key is
+/// written, 6 for want of memory, 8 at a fault of the door, and 9 after 2^31 connections. Where the words ask for it, a
+/// hall is missing only where the store wasn't loaded or memory didn't suffice to open one. The door is one through which
+/// nothing came yet. Where the words don't ask for it the keeper isn't called.
 pub fn serve<T, D, C, P, K, G>(
     rt: &T,
     alloc: Global,
@@ -47,30 +56,45 @@ where
     G: Gate + Sync,
     requires door { IfTold (D.tale door.old) IsUnused }
     ensures hall { IfSome result.1 (λ h. h.1.home ≡ h.0) }
-    ensures served { IfSome result.1 (λ h. AsksToServe words.now × (end : ServeEnd) × (result.0 ≡ status_of end)
-        × HasServedAll (C.shows clock.now) (opened opening) end (D.tale door.new)
+    ensures served { IfSome result.1 (λ h. AsksToServe words.now × (lobby : LobbyState)
+        × IsLoaded (P.table keeper.old) lobby × (end : ServeEnd) × (result.0 ≡ status_of end)
+        × HasServedAll (C.shows clock.now) (opened lobby) end (D.tale door.new)
         (record { written = K.written sink.old; faults = K.faults sink.old })
-        (record { written = K.written sink.new; faults = K.faults sink.new }) h.1) }
+        (record { written = K.written sink.new; faults = K.faults sink.new })
+        (record { table = P.table keeper.old; faults = P.faults keeper.old })
+        (record { table = P.table keeper.new; faults = P.faults keeper.new }) h.1) }
+    ensures table { IfSome result.1 (λ h. IfTold (P.table keeper.old)
+        (λ _. TellsAgreed (P.table keeper.new) (state house h.1.opening h.1.seen))) }
     ensures links { Goes (D.tale door.old) (D.tale door.new) KeepsLinks }
     ensures untouched { IfNone result.1 (D.tale door.new ≡ D.tale door.old) }
-    ensures no_hall { IfNone result.1 (AsksToServe words.now → (result.0 ≡ 6)
-        × Keeps (K.written sink.old) (K.written sink.new)) }
+    ensures no_hall { IfNone result.1 (AsksToServe words.now → (fault : StoreFault)
+        × (result.0 ≡ unopened_status fault) × StaysUnopened fault
+        (record { table = P.table keeper.old; faults = P.faults keeper.old })
+        (record { table = P.table keeper.new; faults = P.faults keeper.new })
+        (record { written = K.written sink.old; faults = K.faults sink.old })
+        (record { written = K.written sink.new; faults = K.faults sink.new })) }
     ensures usage { result.0 ≡ 1 → ¬ (AsksToServe words.now)
         × Appends (K.written sink.old) (K.written sink.new) usage_line }
     ensures not_asked { ¬ (AsksToServe words.now) → (result.0 ≡ 1) ⊎ ((result.0 ≡ 3) ⊎ (result.0 ≡ 6)) }
     ensures write_fault { result.0 ≡ 3 → Rose (K.faults sink.old) (K.faults sink.new) }
     ensures door_fault { result.0 ≡ 8 → Rose (D.faults door.old) (D.faults door.new) }
+    ensures keeper_fault { result.0 ≡ 4 → Rose (P.faults keeper.old) (P.faults keeper.new) }
+    ensures bad_record { result.0 ≡ 5 → AsksToServe words.now × (key : List ℕ) × IsFirstBad (P.table keeper.old) key
+        × Appends (K.written sink.old) (K.written sink.new) (bad_record_line key) }
+    ensures good_store { result.0 ≡ 5 → IfTold (P.table keeper.old) (λ table. ¬ (IsGoodStore table)) }
     ensures text { (result.0 ≡ 0) ⊎ (result.0 ≡ 9) → Appends (K.written sink.old) (K.written sink.new) whole_text }
-    ensures text_part { AsksToServe words.now → AppendsFront (K.written sink.old) (K.written sink.new) whole_text }
+    ensures text_part { IfSome result.1 (λ h. AppendsFront (K.written sink.old) (K.written sink.new) whole_text) }
     ensures usage_part { ¬ (AsksToServe words.now)
         → AppendsFront (K.written sink.old) (K.written sink.new) usage_line }
     ensures complete { AsksToServe words.now → ¬ (Rose (D.faults door.old) (D.faults door.new))
-        → ¬ (Rose (K.faults sink.old) (K.faults sink.new)) → Contains (0 ∷ 6 ∷ 9 ∷ []) result.0 }
-    ensures statuses { Contains (0 ∷ 1 ∷ 3 ∷ 6 ∷ 8 ∷ 9 ∷ []) result.0 }
-    ensures keeper_stays { keeper.new ≡ keeper.old }
+        → ¬ (Rose (K.faults sink.old) (K.faults sink.new)) → ¬ (Rose (P.faults keeper.old) (P.faults keeper.new))
+        → Contains (0 ∷ 5 ∷ 6 ∷ 9 ∷ []) result.0 }
+    ensures statuses { Contains (0 ∷ 1 ∷ 3 ∷ 4 ∷ 5 ∷ 6 ∷ 8 ∷ 9 ∷ []) result.0 }
+    ensures keeper_counted { P.faults keeper.old ≤ P.faults keeper.new }
+    ensures keeper_stays { ¬ (AsksToServe words.now) → keeper.new ≡ keeper.old }
 {
     match asks_to_serve(alloc, words) {
-        Ok(()) => serve_players(rt, alloc, door, clock, sink, gate),
+        Ok(()) => serve_players(rt, alloc, door, clock, keeper, sink, gate),
         Err(JobFail::Usage) => (tell_usage(sink), None),
         Err(JobFail::Memory) => (status(End::Memory), None),
     }
@@ -88,12 +112,13 @@ fn asks_to_serve(alloc: Global, words: &[String]) -> Result<(), JobFail>
     }
 }
 
-/// Serves players who connect, at a hall that opens with nobody known to it.
-fn serve_players<T, D, C, K, G>(
+/// Serves players who connect, at a hall that opens with what the keeper's store holds.
+fn serve_players<T, D, C, P, K, G>(
     rt: &T,
     alloc: Global,
     door: &mut D,
     clock: &C,
+    keeper: &mut P,
     sink: &mut K,
     gate: &G,
 ) -> (u8, Option<(Hall, HallPass)>)
@@ -101,24 +126,55 @@ where
     T: Threads + Wait + Sync,
     D: Doorway,
     C: Clock + Sync,
+    P: Keeper,
     K: Sink,
     G: Gate + Sync,
     requires door { IfTold (D.tale door.old) IsUnused }
     ensures hall { IfSome result.1 (λ h. h.1.home ≡ h.0) }
-    ensures served { IfSome result.1 (λ h. (end : ServeEnd) × (result.0 ≡ status_of end)
-        × HasServedAll (C.shows clock.now) (opened opening) end (D.tale door.new)
+    ensures served { IfSome result.1 (λ h. (lobby : LobbyState)
+        × IsLoaded (P.table keeper.old) lobby × (end : ServeEnd) × (result.0 ≡ status_of end)
+        × HasServedAll (C.shows clock.now) (opened lobby) end (D.tale door.new)
         (record { written = K.written sink.old; faults = K.faults sink.old })
-        (record { written = K.written sink.new; faults = K.faults sink.new }) h.1) }
+        (record { written = K.written sink.new; faults = K.faults sink.new })
+        (record { table = P.table keeper.old; faults = P.faults keeper.old })
+        (record { table = P.table keeper.new; faults = P.faults keeper.new }) h.1) }
+    ensures table { IfSome result.1 (λ h. IfTold (P.table keeper.old)
+        (λ _. TellsAgreed (P.table keeper.new) (state house h.1.opening h.1.seen))) }
     ensures links { Goes (D.tale door.old) (D.tale door.new) KeepsLinks }
     ensures untouched { IfNone result.1 (D.tale door.new ≡ D.tale door.old) }
-    ensures no_hall { IfNone result.1 ((result.0 ≡ status_of ServeEnd.Memory)
-        × Keeps (K.written sink.old) (K.written sink.new)) }
-    ensures ends { (end : ServeEnd) × (result.0 ≡ status_of end) × EndsServing end (D.faults door.old)
-        (D.faults door.new) (K.faults sink.old) (K.faults sink.new) (K.written sink.old) (K.written sink.new) }
+    ensures no_hall { IfNone result.1 ((fault : StoreFault) × (result.0 ≡ unopened_status fault)
+        × StaysUnopened fault
+        (record { table = P.table keeper.old; faults = P.faults keeper.old })
+        (record { table = P.table keeper.new; faults = P.faults keeper.new })
+        (record { written = K.written sink.old; faults = K.faults sink.old })
+        (record { written = K.written sink.new; faults = K.faults sink.new })) }
+    ensures ends { EndsCall result.0
+        (record { table = P.table keeper.old; faults = P.faults keeper.old })
+        (record { table = P.table keeper.new; faults = P.faults keeper.new })
+        (record { written = K.written sink.old; faults = K.faults sink.old })
+        (record { written = K.written sink.new; faults = K.faults sink.new })
+        (record { door = D.faults door.old; sink = K.faults sink.old; keeper = P.faults keeper.old })
+        (record { door = D.faults door.new; sink = K.faults sink.new; keeper = P.faults keeper.new }) }
+    ensures text_part { IfSome result.1 (λ h. AppendsFront (K.written sink.old) (K.written sink.new) whole_text) }
+    ensures keeper_counted { P.faults keeper.old ≤ P.faults keeper.new }
 {
-    let Ok(lobby) = Lobby::new(alloc) else {
-        return (status(End::Memory), None);
-    };
-    let (end, hall) = serve_lobby(rt, alloc, lobby, door, clock, sink, gate);
-    (end.status(), hall)
+    match open_store(alloc, keeper, sink) {
+        Ok(lobby) => {
+            let (end, hall) = serve_lobby(rt, alloc, lobby, door, clock, keeper, sink, gate);
+            (end.status(), hall)
+        }
+        Err(fault) => (unopened_status(fault), None),
+    }
+}
+
+/// The number with which the program ends that opened no store.
+fn unopened_status(fault: StoreFault) -> u8
+    ensures { result ≡ unopened_status fault }
+{
+    match fault {
+        StoreFault::WriteFault => 3,
+        StoreFault::KeeperFault => 4,
+        StoreFault::BadRecord => 5,
+        StoreFault::Memory => 6,
+    }
 }

@@ -11,21 +11,22 @@ ghost use Rattle.hall_core.specs.Passes.{first_pass};
 ghost use Rattle.serve_core.specs.Serving.{HasServedAll, IsClean, IsUnused, closed_text, ready_text, whole_text};
 ghost use Rattle.serve_core.specs.Stopping.{end_of};
 ghost use Rattle.serve_core.specs.Turns.{TurnsLast};
+ghost use Rattle.steward_core.specs.declared.turn.StewardEnd.{StewardEnd};
 ghost use Rattle.serve_core.specs.declared.end.ServeEnd.{ServeEnd};
 
 use crate::end::{DoorEnd, ServeEnd};
 use crate::hosting::host_links;
 use crate::place::Place;
-use crate::round::supply_then;
 use crate::settle::Supply;
 use crate::turn::turn;
-use edge_traits::{Clock, Doorway, Gate, Sent, Sink};
+use edge_traits::{Clock, Doorway, Gate, Keeper, Sent, Sink};
 use hall_core::{Hall, HallPass};
 use lobby_state::{Lobby, lobbies_are_well_formed};
 use one_server::every_state_agrees;
 use std::alloc::Global;
 use std::sync::Wait;
 use std::thread::Threads;
+use steward_core::StewardEnd;
 
 /// What is written once the hall is open.
 const READY: &[u8] = b"ready\n";
@@ -34,15 +35,16 @@ const READY: &[u8] = b"ready\n";
 const CLOSED: &[u8] = b"closed\n";
 
 /// Serves connections: opens a hall with this lobby, writes `ready`, takes links from the door and serves each with a
-/// session of its own, and makes a turn of the steward at each Quiet of the door; once the door is closed or has failed
-/// or 2^31 links came, it waits for all, makes a last turn of the steward and writes `closed`. It gives back the hall
-/// with the pass into which all others were joined; none only where memory didn't suffice to open it.
-pub fn serve_lobby<T, D, C, K, G>(
+/// session of its own, and makes a turn of the steward over the keeper at each Quiet of the door; once the door is closed
+/// or has failed or 2^31 links came, it waits for all, makes a last turn of the steward and writes `closed`. It gives
+/// back the hall with the pass into which all others were joined; none only where memory didn't suffice to open it.
+pub fn serve_lobby<T, D, C, P, K, G>(
     rt: &T,
     alloc: Global,
     lobby: Lobby,
     door: &mut D,
     clock: &C,
+    keeper: &mut P,
     sink: &mut K,
     gate: &G,
 ) -> (ServeEnd, Option<(Hall, HallPass)>)
@@ -50,6 +52,7 @@ where
     T: Threads + Wait + Sync,
     D: Doorway,
     C: Clock + Sync,
+    P: Keeper,
     K: Sink,
     G: Gate + Sync,
     requires opening { IsOpening lobby }
@@ -57,16 +60,21 @@ where
     ensures hall { IfSome result.1 (λ h. h.1.home ≡ h.0) }
     ensures served { IfSome result.1 (λ h. HasServedAll (C.shows clock.now) (opened lobby) result.0 (D.tale door.new)
         (record { written = K.written sink.old; faults = K.faults sink.old })
-        (record { written = K.written sink.new; faults = K.faults sink.new }) h.1) }
+        (record { written = K.written sink.new; faults = K.faults sink.new })
+        (record { table = P.table keeper.old; faults = P.faults keeper.old })
+        (record { table = P.table keeper.new; faults = P.faults keeper.new }) h.1) }
     ensures links { Goes (D.tale door.old) (D.tale door.new) KeepsLinks }
     ensures no_hall { IfNone result.1 ((result.0 ≡ ServeEnd.Memory) × Keeps (K.written sink.old) (K.written sink.new)) }
     ensures untouched { IfNone result.1 (D.tale door.new ≡ D.tale door.old) }
+    ensures keeper_stays { IfNone result.1 (keeper.new ≡ keeper.old) }
     ensures door_fault { result.0 ≡ ServeEnd.DoorFault → Rose (D.faults door.old) (D.faults door.new) }
     ensures write_fault { result.0 ≡ ServeEnd.WriteFault → Rose (K.faults sink.old) (K.faults sink.new) }
+    ensures keeper_fault { result.0 ≡ ServeEnd.KeeperFault → Rose (P.faults keeper.old) (P.faults keeper.new) }
+    ensures keeper_counted { P.faults keeper.old ≤ P.faults keeper.new }
     ensures text { IsClean result.0 → Appends (K.written sink.old) (K.written sink.new) whole_text }
     ensures text_part { (n : ℕ) × Appends (K.written sink.old) (K.written sink.new) (take n whole_text) }
     ensures complete { ¬ (Rose (D.faults door.old) (D.faults door.new)) → ¬ (Rose (K.faults sink.old) (K.faults sink.new))
-        → IsClean result.0 ⊎ (result.0 ≡ ServeEnd.Memory) }
+        → ¬ (Rose (P.faults keeper.old) (P.faults keeper.new)) → IsClean result.0 ⊎ (result.0 ≡ ServeEnd.Memory) }
 {
     lobbies_are_well_formed(&lobby);
     every_state_agrees();
@@ -80,21 +88,23 @@ where
         clock,
         gate,
     };
-    let (pass, end) = serve_hall(&place, pass, door, sink);
+    let (pass, end) = serve_hall(&place, pass, door, keeper, sink);
     (end, Some((hall, pass)))
 }
 
 /// Serves at a hall that was opened just now, and looks at the history at the end.
-fn serve_hall<T, D, C, K, G>(
+fn serve_hall<T, D, C, P, K, G>(
     place: &Place<'_, T, C, G>,
     pass: HallPass,
     door: &mut D,
+    keeper: &mut P,
     sink: &mut K,
 ) -> (HallPass, ServeEnd)
 where
     T: Threads + Wait + Sync,
     D: Doorway,
     C: Clock + Sync,
+    P: Keeper,
     K: Sink,
     G: Gate + Sync,
     requires first { (opening : List Part) × (pass ≡ first_pass place.now.hall.now opening) }
@@ -103,52 +113,63 @@ where
     ensures hall { result.0.home ≡ place.now.hall.now }
     ensures served { HasServedAll (C.shows place.now.clock.now) pass.opening result.1 (D.tale door.new)
         (record { written = K.written sink.old; faults = K.faults sink.old })
-        (record { written = K.written sink.new; faults = K.faults sink.new }) result.0 }
+        (record { written = K.written sink.new; faults = K.faults sink.new })
+        (record { table = P.table keeper.old; faults = P.faults keeper.old })
+        (record { table = P.table keeper.new; faults = P.faults keeper.new }) result.0 }
     ensures links { Goes (D.tale door.old) (D.tale door.new) KeepsLinks }
     ensures door_fault { result.1 ≡ ServeEnd.DoorFault → Rose (D.faults door.old) (D.faults door.new) }
     ensures write_fault { result.1 ≡ ServeEnd.WriteFault → Rose (K.faults sink.old) (K.faults sink.new) }
+    ensures keeper_fault { result.1 ≡ ServeEnd.KeeperFault → Rose (P.faults keeper.old) (P.faults keeper.new) }
+    ensures keeper_counted { P.faults keeper.old ≤ P.faults keeper.new }
     ensures text { IsClean result.1 → Appends (K.written sink.old) (K.written sink.new) whole_text }
     ensures text_part { (n : ℕ) × Appends (K.written sink.old) (K.written sink.new) (take n whole_text) }
 {
     match say_ready(sink) {
         Sent::All => {
-            let hosted = host_links(place, pass, door);
-            let (pass, supply) = last_turn(place, hosted.pass, hosted.supply);
+            let hosted = host_links(place, pass, door, keeper);
+            let (pass, last) = last_turn(place, hosted.pass, keeper);
             let sent = say_closed(sink);
-            (pass, end_of(hosted.end, sent, supply))
+            (pass, end_of(hosted.end, sent, last, hosted.supply))
         }
-        Sent::Failed => (
-            last_turn(place, pass, Supply::Enough).0,
-            ServeEnd::WriteFault,
-        ),
-        Sent::Memory => (last_turn(place, pass, Supply::Enough).0, ServeEnd::Memory),
+        Sent::Failed => (last_turn(place, pass, keeper).0, ServeEnd::WriteFault),
+        Sent::Memory => {
+            let (pass, last) = last_turn(place, pass, keeper);
+            (pass, end_of(DoorEnd::Closed, Sent::Memory, last, Supply::Enough))
+        }
     }
 }
 
-/// The last turn of the steward, after which the pass looks at the whole history.
-fn last_turn<T: Threads + Wait, C: Clock, G: Gate>(
+/// The last turn of the steward. The pass looks at the whole history before it and behind it.
+fn last_turn<T: Threads + Wait, C: Clock, G: Gate, P: Keeper>(
     place: &Place<'_, T, C, G>,
     pass: HallPass,
-    supply: Supply,
-) -> (HallPass, Supply)
+    keeper: &mut P,
+) -> (HallPass, StewardEnd)
     requires here { pass.home ≡ place.now.hall.now }
-    ensures { TurnsLast pass supply result.0 result.1 }
+    ensures turn { TurnsLast result.1 (P.table keeper.old) (P.table keeper.new) pass result.0 }
+    ensures fault { result.1 ≡ StewardEnd.KeeperFault → Rose (P.faults keeper.old) (P.faults keeper.new) }
+    ensures counted { P.faults keeper.old ≤ P.faults keeper.new }
 {
-    let (mut pass, end) = turn(place, pass);
+    let mut pass = pass;
     place.hall.look(&mut pass);
-    (pass, supply_then(end, supply))
+    let (mut pass, end) = turn(place, pass, keeper);
+    place.hall.look(&mut pass);
+    (pass, end)
 }
 
 /// How serving ends.
-fn end_of(door: DoorEnd, sent: Sent, supply: Supply) -> ServeEnd
-    ensures { result ≡ end_of door sent supply }
+fn end_of(door: DoorEnd, sent: Sent, last: StewardEnd, supply: Supply) -> ServeEnd
+    ensures { result ≡ end_of door sent last supply }
 {
-    match (door, sent, supply) {
-        (DoorEnd::Failed, _, _) => ServeEnd::DoorFault,
-        (_, Sent::Failed, _) => ServeEnd::WriteFault,
-        (_, Sent::Memory, _) | (_, _, Supply::Short) => ServeEnd::Memory,
-        (DoorEnd::Spent, _, _) => ServeEnd::Spent,
-        (DoorEnd::Closed, _, _) => ServeEnd::Done,
+    match (door, sent, last, supply) {
+        (DoorEnd::Failed, _, _, _) => ServeEnd::DoorFault,
+        (_, Sent::Failed, _, _) => ServeEnd::WriteFault,
+        (_, _, StewardEnd::KeeperFault, _) => ServeEnd::KeeperFault,
+        (_, Sent::Memory, _, _) | (_, _, StewardEnd::Memory, _) | (_, _, _, Supply::Short) => {
+            ServeEnd::Memory
+        }
+        (DoorEnd::Spent, _, _, _) => ServeEnd::Spent,
+        (DoorEnd::Closed, _, _, _) => ServeEnd::Done,
     }
 }
 

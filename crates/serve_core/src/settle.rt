@@ -5,6 +5,7 @@ ghost use Rattle.edge_traits.specs.Door.{Goes};
 ghost use Rattle.edge_traits.specs.Door.{IfTold, IsOut, TakesBack};
 ghost use Rattle.hall_core.specs.Passes.{IsJoined};
 ghost use Rattle.serve_core.specs.Keeping.{KeepsLeft, SameHall, Underway, supply_after};
+ghost use Rattle.serve_core.specs.Tending.{Store, Tended, stand};
 
 use crate::place::Place;
 use crate::worker::{Returned, Worker};
@@ -78,6 +79,9 @@ impl<L: Link + Drop, C: Clock> Host<L, C> {
         ensures kept { Underway C.shows place.now.hall.now place.now.clock.now self.new.supply (D.tale door.new)
             self.new.pass self.new.waiting.items }
         ensures same { SameHall self.old.pass self.new.pass }
+        ensures tended { (store : Store) → Tended
+            (stand self.old.pass self.old.supply (D.tale door.old) store)
+            (stand self.new.pass self.new.supply (D.tale door.new) store) }
         ensures left { Goes (D.tale door.old) (D.tale door.new) KeepsLeft }
         ensures faults { D.faults door.new ≡ D.faults door.old }
     {
@@ -104,6 +108,9 @@ impl<L: Link + Drop, C: Clock> Host<L, C> {
         ensures kept { Underway C.shows place.now.hall.now place.now.clock.now self.new.supply (D.tale door.new)
             self.new.pass [] }
         ensures same { SameHall self.old.pass self.new.pass }
+        ensures tended { (store : Store) → Tended
+            (stand self.old.pass self.old.supply (D.tale door.old) store)
+            (stand self.new.pass self.new.supply (D.tale door.new) store) }
         ensures left { Goes (D.tale door.old) (D.tale door.new) KeepsLeft }
         ensures faults { D.faults door.new ≡ D.faults door.old }
     {

@@ -1,29 +1,33 @@
 //! A turn of the steward, with the hall's first pass.
 
 ghost use Rattle.std.specs.Prelude.{◌≡◌, ◌≤◌, ◌^◌};
+ghost use Rattle.edge_traits.specs.Faults.{Rose};
 ghost use Rattle.serve_core.specs.Turns.{MadeTurn};
 
 use crate::place::Place;
-use edge_traits::{Clock, Gate};
+use edge_traits::{Clock, Gate, Keeper};
 use hall_core::HallPass;
 use std::sync::Wait;
 use std::thread::Threads;
-use steward_core::{ClearingEnd, clearing_turn};
+use steward_core::{StewardEnd, steward_turn};
 
 /// The latest moment that an act may have, in milliseconds.
 const LATEST: u64 = 1 << 48;
 
-/// Makes a turn of the steward with the pass, at the present moment.
-pub fn turn<T: Threads + Wait, C: Clock, G: Gate>(
+/// Makes a turn of the steward with the pass over the keeper, at the present moment.
+pub fn turn<T: Threads + Wait, C: Clock, G: Gate, P: Keeper>(
     place: &Place<'_, T, C, G>,
     pass: HallPass,
-) -> (HallPass, ClearingEnd)
+    keeper: &mut P,
+) -> (HallPass, StewardEnd)
     requires here { pass.home ≡ place.now.hall.now }
-    ensures { MadeTurn result.1 pass result.0 }
+    ensures turn { MadeTurn result.1 (P.table keeper.old) (P.table keeper.new) pass result.0 }
+    ensures fault { result.1 ≡ StewardEnd.KeeperFault → Rose (P.faults keeper.old) (P.faults keeper.new) }
+    ensures counted { P.faults keeper.old ≤ P.faults keeper.new }
 {
     let moment = present(place.clock);
     let mut seat = place.hall.seat(pass, place.gate, place.rt);
-    let end = clearing_turn(place.alloc, &mut seat, moment);
+    let end = steward_turn(place.alloc, &mut seat, keeper, moment);
     (seat.into_pass(), end)
 }
 

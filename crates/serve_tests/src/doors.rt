@@ -4,7 +4,7 @@ ghost use Rattle.std.specs.Prelude.{None};
 
 use edge_traits::{Came, Doorway, Heard, Link, OpenGate, Sent, StillClock};
 use lobby_state::Lobby;
-use memory_edges::MemSink;
+use memory_edges::{MemKeeper, MemSink};
 use serve_core::{ServeEnd, serve_lobby};
 use std::alloc::Global;
 use std::sync::Arc;
@@ -85,11 +85,21 @@ fn greeted_before_the_door_closes(rt: HostRuntime) -> Result<(), Fail> {
         greeted,
         quiets: 0,
     };
+    let mut keeper = MemKeeper::new(alloc, Vec::new(alloc));
     let mut sink = MemSink::new(alloc, Vec::new(alloc));
     let clock = StillClock::new(0);
     let gate = OpenGate::new();
     let lobby = Lobby::new(alloc)?;
-    let (end, _hall) = serve_lobby(&rt, alloc, lobby, &mut door, &clock, &mut sink, &gate);
+    let (end, _hall) = serve_lobby(
+        &rt,
+        alloc,
+        lobby,
+        &mut door,
+        &clock,
+        &mut keeper,
+        &mut sink,
+        &gate,
+    );
     assert!(rt; end == ServeEnd::Done);
     assert!(rt; door.quiets < MOST_QUIETS);
     Ok(())

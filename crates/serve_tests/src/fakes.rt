@@ -8,7 +8,7 @@ ghost use Rattle.serve_core.specs.Serving.{IsUnused};
 use edge_traits::{OpenGate, StillClock};
 use lobby_state::Lobby;
 use memory::NoMemory;
-use memory_edges::{LinkStep, MemDoor, MemLink, MemSink};
+use memory_edges::{LinkStep, MemDoor, MemKeeper, MemLink, MemSink};
 use serve_core::{ServeEnd, serve_lobby};
 use std::alloc::{AllocError, Global};
 use std::sync::Wait;
@@ -49,8 +49,18 @@ fn serve<T: Threads + Wait + Sync>(
 {
     let clock = StillClock::new(1_000);
     let gate = OpenGate::new();
+    let mut keeper = MemKeeper::new(alloc, Vec::new(alloc));
     let lobby = Lobby::new(alloc)?;
-    let (end, _hall) = serve_lobby(rt, alloc, lobby, door, &clock, sink, &gate);
+    let (end, _hall) = serve_lobby(
+        rt,
+        alloc,
+        lobby,
+        door,
+        &clock,
+        &mut keeper,
+        sink,
+        &gate,
+    );
     Ok(end)
 }
 

@@ -2,7 +2,7 @@
 
 use edge_traits::{OpenGate, Sink};
 use lobby_state::Lobby;
-use memory_edges::MemSink;
+use memory_edges::{MemKeeper, MemSink};
 use real_edges::{TcpDoor, WallClock};
 use serve_core::{ServeEnd, serve_lobby};
 use std::alloc::Global;
@@ -31,8 +31,18 @@ where
     let mut door = TcpDoor::new(rt, HOME, port, Some(count));
     let clock = WallClock::new(rt);
     let gate = OpenGate::new();
+    let mut keeper = MemKeeper::new(alloc, Vec::new(alloc));
     let lobby = Lobby::new(alloc).ok()?;
-    let (end, _hall) = serve_lobby(rt, alloc, lobby, &mut door, &clock, sink, &gate);
+    let (end, _hall) = serve_lobby(
+        rt,
+        alloc,
+        lobby,
+        &mut door,
+        &clock,
+        &mut keeper,
+        sink,
+        &gate,
+    );
     Some(end)
 }
 

@@ -45,7 +45,7 @@ behind_first : {X : Type 0} → List X → List X
 behind_first [] = []
 behind_first (x ∷ xs) = xs
 
-append_cancel : {X : Type 0} (xs ys zs : List X) → xs ++ ys ≡ xs ++ zs → ys ≡ zs
+pub append_cancel : {X : Type 0} (xs ys zs : List X) → xs ++ ys ≡ xs ++ zs → ys ≡ zs
 unfolding behind_first
 append_cancel [] ys zs e = e
 append_cancel (x ∷ xs) ys zs e = append_cancel xs ys zs (ap behind_first e)
@@ -79,7 +79,7 @@ not_saved k (e ∷ log) own others =
       | false ↦ λ is mine. (others.0 (eqb-false e.session k is), not_saved k log mine others.1)
     ] refl own
 
-legal_back : (xs : List Part) (es fs : Log) → Legal house xs (es ++ fs) → Legal house (state house xs es) fs
+pub legal_back : (xs : List Part) (es fs : Log) → Legal house xs (es ++ fs) → Legal house (state house xs es) fs
 legal_back xs [] fs legal = legal
 legal_back xs (e ∷ es) fs legal = legal_back (after house xs e.session e.act) es fs legal.2
 
@@ -173,7 +173,7 @@ below_last low made upto order (more ∷ first) rest rise last =
     let less = rise.0 in let later = below_last order.number made upto more first rest rise.1 last in omega (arith, less, later)
 
 -- what is told as saved goes, and the rest stands
-kept_behind : (low made upto : ℕ) (first rest : List Order) → OrdersRise low made (first ++ rest) → last_number first ≡ Some upto
+pub kept_behind : (low made upto : ℕ) (first rest : List Order) → OrdersRise low made (first ++ rest) → last_number first ≡ Some upto
     → filter (λ (o : Order). nat_lt upto o.number) (first ++ rest) ≡ rest
 kept_behind low made upto [] rest rise last = cc
 kept_behind low made upto (order ∷ []) rest rise last =

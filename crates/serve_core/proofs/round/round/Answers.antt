@@ -1,8 +1,13 @@
-use Rattle.std.proofs.Common.{ap}
-use Rattle.serve_core.specs.Keeping.{Underway}
+use Rattle.std.proofs.Common.{ap, sym, subst}
 use Rattle.edge_traits.specs.declared.doorway.Came.TheVariants as came
+use Rattle.hall_core.specs.Passes.{PassState}
+use Rattle.serve_core.specs.declared.settle.Supply.{Supply}
+use Rattle.serve_core.specs.Keeping.{Underway}
+use Rattle.serve_core.specs.Tending.{Stand, Store, Tended, stand}
+use Rattle.serve_core.specs.Turns.{supply_then}
 use Rattle.serve_core.proofs.Keeping.{kept_quiet}
 use Rattle.serve_core.proofs.Telling.{links_came, links_stay}
+use Rattle.serve_core.proofs.Tending.{door_then, one_quiet, same_then, tended_then, tended_turn}
 use Rattle.serve_core.proofs.round.round.Goals as goal
 
 pub returns-in-Quiet-clause-kept : goal.returns-in-Quiet-clause-kept
@@ -13,7 +18,22 @@ returns-in-Quiet-clause-kept g c =
     let turn = c.at_quiet.ensures.turn in
     let k : Underway g.C.Clock.shows c.args.place.now.hall.now c.args.place.now.clock.now host.supply door host.pass host.waiting.items = rw (room.supply, room.pass, room.waiting) c.settle_ended.ensures.kept in
     rw (turn.2, ap (λ w. w.items) c.at_quiet.ensures.waiting)
-    (kept_quiet g.C.Clock.shows c.args.place.now.hall.now c.args.place.now.clock.now host.supply turn.0 door (g.D.Doorway.tale c.next.new.self) host.pass c.at_quiet.result.pass host.waiting.items k c.in-Quiet.ensures.gives turn.1)
+    (kept_quiet g.C.Clock.shows c.args.place.now.hall.now c.args.place.now.clock.now host.supply turn.0 (g.P.Keeper.table c.args.keeper.now) (g.P.Keeper.table c.at_quiet.new.keeper) door (g.D.Doorway.tale c.next.new.self) host.pass c.at_quiet.result.pass host.waiting.items k c.in-Quiet.ensures.gives turn.1)
+
+pub returns-in-Quiet-clause-tended : goal.returns-in-Quiet-clause-tended
+returns-in-Quiet-clause-tended g c =
+    let host = c.room_ahead-ended.new.self in
+    let room = c.room_ahead-ended.ensures in
+    let settled = g.D.Doorway.tale c.settle_ended.new.door in
+    let door = g.D.Doorway.tale c.next.new.self in
+    let turn = c.at_quiet.ensures.turn in
+    let old : Store = record { table = g.P.Keeper.table c.args.keeper.now; faults = g.P.Keeper.faults c.args.keeper.now } in
+    let new : Store = record { table = g.P.Keeper.table c.at_quiet.new.keeper; faults = g.P.Keeper.faults c.at_quiet.new.keeper } in
+    let start : Stand = stand c.args.host.pass c.args.host.supply (g.D.Doorway.tale c.args.door.now) old in
+    let so_far = same_then start c.settle_ended.new.self.pass host.pass c.settle_ended.new.self.supply host.supply settled old (c.settle_ended.ensures.tended old) room.pass room.supply in
+    subst (λ (s : Supply). Tended start (stand c.at_quiet.result.pass s door new)) (sym turn.2)
+    (tended_then start (stand host.pass host.supply settled old) (stand c.at_quiet.result.pass (supply_then turn.0 host.supply) door new) so_far
+    (tended_turn turn.0 host.pass c.at_quiet.result.pass host.supply settled door old new turn.1 (one_quiet g.D.Link.Link.tale settled door c.in-Quiet.ensures.gives) turn.3 c.at_quiet.ensures.counted))
 
 pub returns-in-Link-clause-links : goal.returns-in-Link-clause-links
 returns-in-Link-clause-links g c =
@@ -21,3 +41,35 @@ returns-in-Link-clause-links g c =
     let settled = g.D.Doorway.tale c.settle_ended.new.door in
     let there = g.D.Doorway.tale c.next.new.self in
     links_stay start there (g.D.Doorway.tale c.attend.new.door) (links_came g.D.Link.Link.tale (came.Link c.in-Link.link) start settled there c.settle_ended.ensures.left c.in-Link.ensures.gives) c.attend.ensures.left
+
+pub returns-in-Link-clause-tended : goal.returns-in-Link-clause-tended
+returns-in-Link-clause-tended g c =
+    let host = c.room_ahead-ended.new.self in
+    let room = c.room_ahead-ended.ensures in
+    let settled = g.D.Doorway.tale c.settle_ended.new.door in
+    let door = g.D.Doorway.tale c.next.new.self in
+    let old : Store = record { table = g.P.Keeper.table c.args.keeper.now; faults = g.P.Keeper.faults c.args.keeper.now } in
+    let start : Stand = stand c.args.host.pass c.args.host.supply (g.D.Doorway.tale c.args.door.now) old in
+    let so_far = same_then start c.settle_ended.new.self.pass host.pass c.settle_ended.new.self.supply host.supply settled old (c.settle_ended.ensures.tended old) room.pass room.supply in
+    tended_then start (stand host.pass host.supply door old) (stand c.attend.new.host.pass c.attend.new.host.supply (g.D.Doorway.tale c.attend.new.door) old)
+    (door_then g.D.Link.Link.tale (came.Link c.in-Link.link) start host.pass host.supply settled door old (λ none. none) so_far c.in-Link.ensures.gives) (c.attend.ensures.tended old)
+
+pub returns-in-Closed-clause-tended : goal.returns-in-Closed-clause-tended
+returns-in-Closed-clause-tended g c =
+    let host = c.room_ahead-ended.new.self in
+    let room = c.room_ahead-ended.ensures in
+    let settled = g.D.Doorway.tale c.settle_ended.new.door in
+    let old : Store = record { table = g.P.Keeper.table c.args.keeper.now; faults = g.P.Keeper.faults c.args.keeper.now } in
+    let start : Stand = stand c.args.host.pass c.args.host.supply (g.D.Doorway.tale c.args.door.now) old in
+    let so_far = same_then start c.settle_ended.new.self.pass host.pass c.settle_ended.new.self.supply host.supply settled old (c.settle_ended.ensures.tended old) room.pass room.supply in
+    door_then g.D.Link.Link.tale came.Closed start host.pass host.supply settled (g.D.Doorway.tale c.next.new.self) old (λ none. none) so_far c.in-Closed.ensures.gives
+
+pub returns-in-Failed-clause-tended : goal.returns-in-Failed-clause-tended
+returns-in-Failed-clause-tended g c =
+    let host = c.room_ahead-ended.new.self in
+    let room = c.room_ahead-ended.ensures in
+    let settled = g.D.Doorway.tale c.settle_ended.new.door in
+    let old : Store = record { table = g.P.Keeper.table c.args.keeper.now; faults = g.P.Keeper.faults c.args.keeper.now } in
+    let start : Stand = stand c.args.host.pass c.args.host.supply (g.D.Doorway.tale c.args.door.now) old in
+    let so_far = same_then start c.settle_ended.new.self.pass host.pass c.settle_ended.new.self.supply host.supply settled old (c.settle_ended.ensures.tended old) room.pass room.supply in
+    door_then g.D.Link.Link.tale came.Failed start host.pass host.supply settled (g.D.Doorway.tale c.next.new.self) old (λ none. none) so_far c.in-Failed.ensures.gives

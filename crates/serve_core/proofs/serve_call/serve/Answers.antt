@@ -1,20 +1,124 @@
-use Rattle.std.proofs.Common.{[], ◌∷◌, sym, subst}
+use Rattle.std.proofs.Common.{[], ◌∷◌, arith, inl, inr, refl, subst, sym}
 use Rattle.std.specs.Prelude.{Contains}
-use Rattle.serve_core.proofs.ServeEnds.{is_complete, is_listed, usage_front, usage_listed}
+use Rattle.edge_traits.specs.Door.{IfTold}
+use Rattle.serve_core.specs.Serving.{Sheet}
+use Rattle.serve_core.specs.Tending.{Store}
+use Rattle.serve_core.proofs.ServeEnds.{call_bad, call_calm, call_door, call_good, call_keeper, call_listed, call_text, call_usage, call_write, one_rose, usage_else, usage_front, usage_listed}
 use Rattle.serve_core.proofs.serve_call.serve.Goals as goal
 
-pub returns-in-Ok-clause-complete : goal.returns-in-Ok-clause-complete
-returns-in-Ok-clause-complete g c = λ asks no_door no_sink.
+pub returns-in-Ok-clause-usage : goal.returns-in-Ok-clause-usage
+returns-in-Ok-clause-usage g c = λ e.
+    let old : Store = record { table = g.P.Keeper.table c.args.keeper.now; faults = g.P.Keeper.faults c.args.keeper.now } in
+    let new : Store = record { table = g.P.Keeper.table c.serve_players.new.keeper; faults = g.P.Keeper.faults c.serve_players.new.keeper } in
+    let before : Sheet = record { written = g.K.Sink.written c.args.sink.now; faults = g.K.Sink.faults c.args.sink.now } in
+    let after : Sheet = record { written = g.K.Sink.written c.serve_players.new.sink; faults = g.K.Sink.faults c.serve_players.new.sink } in
+    let door = g.D.Doorway.faults c.args.door.now in
+    let door' = g.D.Doorway.faults c.serve_players.new.door in
     let ends = c.serve_players.ensures.ends in
-    subst (Contains (0 ∷ 6 ∷ 9 ∷ [])) (sym ends.1) (is_complete ends.0 (ends.2.complete no_door no_sink))
+    absurd (call_usage old new before after door door' c.serve_players.result.0 ends e)
+
+pub returns-in-Ok-clause-write_fault : goal.returns-in-Ok-clause-write_fault
+returns-in-Ok-clause-write_fault g c = λ e.
+    let old : Store = record { table = g.P.Keeper.table c.args.keeper.now; faults = g.P.Keeper.faults c.args.keeper.now } in
+    let new : Store = record { table = g.P.Keeper.table c.serve_players.new.keeper; faults = g.P.Keeper.faults c.serve_players.new.keeper } in
+    let before : Sheet = record { written = g.K.Sink.written c.args.sink.now; faults = g.K.Sink.faults c.args.sink.now } in
+    let after : Sheet = record { written = g.K.Sink.written c.serve_players.new.sink; faults = g.K.Sink.faults c.serve_players.new.sink } in
+    let door = g.D.Doorway.faults c.args.door.now in
+    let door' = g.D.Doorway.faults c.serve_players.new.door in
+    let ends = c.serve_players.ensures.ends in
+    call_write old new before after door door' c.serve_players.result.0 ends e
+
+pub returns-in-Ok-clause-door_fault : goal.returns-in-Ok-clause-door_fault
+returns-in-Ok-clause-door_fault g c = λ e.
+    let old : Store = record { table = g.P.Keeper.table c.args.keeper.now; faults = g.P.Keeper.faults c.args.keeper.now } in
+    let new : Store = record { table = g.P.Keeper.table c.serve_players.new.keeper; faults = g.P.Keeper.faults c.serve_players.new.keeper } in
+    let before : Sheet = record { written = g.K.Sink.written c.args.sink.now; faults = g.K.Sink.faults c.args.sink.now } in
+    let after : Sheet = record { written = g.K.Sink.written c.serve_players.new.sink; faults = g.K.Sink.faults c.serve_players.new.sink } in
+    let door = g.D.Doorway.faults c.args.door.now in
+    let door' = g.D.Doorway.faults c.serve_players.new.door in
+    let ends = c.serve_players.ensures.ends in
+    call_door old new before after door door' c.serve_players.result.0 ends e
+
+pub returns-in-Ok-clause-keeper_fault : goal.returns-in-Ok-clause-keeper_fault
+returns-in-Ok-clause-keeper_fault g c = λ e.
+    let old : Store = record { table = g.P.Keeper.table c.args.keeper.now; faults = g.P.Keeper.faults c.args.keeper.now } in
+    let new : Store = record { table = g.P.Keeper.table c.serve_players.new.keeper; faults = g.P.Keeper.faults c.serve_players.new.keeper } in
+    let before : Sheet = record { written = g.K.Sink.written c.args.sink.now; faults = g.K.Sink.faults c.args.sink.now } in
+    let after : Sheet = record { written = g.K.Sink.written c.serve_players.new.sink; faults = g.K.Sink.faults c.serve_players.new.sink } in
+    let door = g.D.Doorway.faults c.args.door.now in
+    let door' = g.D.Doorway.faults c.serve_players.new.door in
+    let ends = c.serve_players.ensures.ends in
+    call_keeper old new before after door door' c.serve_players.result.0 ends e
+
+pub returns-in-Ok-clause-bad_record : goal.returns-in-Ok-clause-bad_record
+returns-in-Ok-clause-bad_record g c = λ e.
+    let old : Store = record { table = g.P.Keeper.table c.args.keeper.now; faults = g.P.Keeper.faults c.args.keeper.now } in
+    let new : Store = record { table = g.P.Keeper.table c.serve_players.new.keeper; faults = g.P.Keeper.faults c.serve_players.new.keeper } in
+    let before : Sheet = record { written = g.K.Sink.written c.args.sink.now; faults = g.K.Sink.faults c.args.sink.now } in
+    let after : Sheet = record { written = g.K.Sink.written c.serve_players.new.sink; faults = g.K.Sink.faults c.serve_players.new.sink } in
+    let door = g.D.Doorway.faults c.args.door.now in
+    let door' = g.D.Doorway.faults c.serve_players.new.door in
+    let ends = c.serve_players.ensures.ends in
+    let bad = call_bad old new before after door door' c.serve_players.result.0 ends e in (c.in-Ok.ensures.asks, bad.0, bad.1, bad.2)
+
+pub returns-in-Ok-clause-good_store : goal.returns-in-Ok-clause-good_store
+returns-in-Ok-clause-good_store g c = λ e.
+    let old : Store = record { table = g.P.Keeper.table c.args.keeper.now; faults = g.P.Keeper.faults c.args.keeper.now } in
+    let new : Store = record { table = g.P.Keeper.table c.serve_players.new.keeper; faults = g.P.Keeper.faults c.serve_players.new.keeper } in
+    let before : Sheet = record { written = g.K.Sink.written c.args.sink.now; faults = g.K.Sink.faults c.args.sink.now } in
+    let after : Sheet = record { written = g.K.Sink.written c.serve_players.new.sink; faults = g.K.Sink.faults c.serve_players.new.sink } in
+    let door = g.D.Doorway.faults c.args.door.now in
+    let door' = g.D.Doorway.faults c.serve_players.new.door in
+    let ends = c.serve_players.ensures.ends in
+    call_good old new before after door door' c.serve_players.result.0 ends e
+
+pub returns-in-Ok-clause-text : goal.returns-in-Ok-clause-text
+returns-in-Ok-clause-text g c = λ e.
+    let old : Store = record { table = g.P.Keeper.table c.args.keeper.now; faults = g.P.Keeper.faults c.args.keeper.now } in
+    let new : Store = record { table = g.P.Keeper.table c.serve_players.new.keeper; faults = g.P.Keeper.faults c.serve_players.new.keeper } in
+    let before : Sheet = record { written = g.K.Sink.written c.args.sink.now; faults = g.K.Sink.faults c.args.sink.now } in
+    let after : Sheet = record { written = g.K.Sink.written c.serve_players.new.sink; faults = g.K.Sink.faults c.serve_players.new.sink } in
+    let door = g.D.Doorway.faults c.args.door.now in
+    let door' = g.D.Doorway.faults c.serve_players.new.door in
+    let ends = c.serve_players.ensures.ends in
+    call_text old new before after door door' c.serve_players.result.0 ends e
+
+pub returns-in-Ok-clause-complete : goal.returns-in-Ok-clause-complete
+returns-in-Ok-clause-complete g c = λ asks no_door no_sink no_keeper.
+    let old : Store = record { table = g.P.Keeper.table c.args.keeper.now; faults = g.P.Keeper.faults c.args.keeper.now } in
+    let new : Store = record { table = g.P.Keeper.table c.serve_players.new.keeper; faults = g.P.Keeper.faults c.serve_players.new.keeper } in
+    let before : Sheet = record { written = g.K.Sink.written c.args.sink.now; faults = g.K.Sink.faults c.args.sink.now } in
+    let after : Sheet = record { written = g.K.Sink.written c.serve_players.new.sink; faults = g.K.Sink.faults c.serve_players.new.sink } in
+    let door = g.D.Doorway.faults c.args.door.now in
+    let door' = g.D.Doorway.faults c.serve_players.new.door in
+    let ends = c.serve_players.ensures.ends in
+    call_calm old new before after door door' c.serve_players.result.0 ends (λ rose. one_rose no_door no_sink no_keeper rose)
 
 pub returns-in-Ok-clause-statuses : goal.returns-in-Ok-clause-statuses
 returns-in-Ok-clause-statuses g c =
+    let old : Store = record { table = g.P.Keeper.table c.args.keeper.now; faults = g.P.Keeper.faults c.args.keeper.now } in
+    let new : Store = record { table = g.P.Keeper.table c.serve_players.new.keeper; faults = g.P.Keeper.faults c.serve_players.new.keeper } in
+    let before : Sheet = record { written = g.K.Sink.written c.args.sink.now; faults = g.K.Sink.faults c.args.sink.now } in
+    let after : Sheet = record { written = g.K.Sink.written c.serve_players.new.sink; faults = g.K.Sink.faults c.serve_players.new.sink } in
+    let door = g.D.Doorway.faults c.args.door.now in
+    let door' = g.D.Doorway.faults c.serve_players.new.door in
     let ends = c.serve_players.ensures.ends in
-    subst (Contains (0 ∷ 1 ∷ 3 ∷ 6 ∷ 8 ∷ 9 ∷ [])) (sym ends.1) (is_listed ends.0)
+    call_listed old new before after door door' c.serve_players.result.0 ends
 
 pub returns-in-Err-Usage-clause-statuses : goal.returns-in-Err-Usage-clause-statuses
 returns-in-Err-Usage-clause-statuses g c = usage_listed (g.K.Sink.written c.args.sink.now) (g.K.Sink.written c.tell_usage.new.sink) c.tell_usage.result c.tell_usage.ensures.ends
 
 pub returns-in-Err-Usage-clause-usage_part : goal.returns-in-Err-Usage-clause-usage_part
 returns-in-Err-Usage-clause-usage_part g c = λ none. usage_front (g.K.Sink.written c.args.sink.now) (g.K.Sink.written c.tell_usage.new.sink) c.tell_usage.result c.tell_usage.ensures.ends
+
+pub returns-in-Err-Usage-clause-keeper_fault : goal.returns-in-Err-Usage-clause-keeper_fault
+returns-in-Err-Usage-clause-keeper_fault g c = λ e. absurd (usage_else (g.K.Sink.written c.args.sink.now) (g.K.Sink.written c.tell_usage.new.sink) c.tell_usage.result c.tell_usage.ensures.ends (inl e))
+
+pub returns-in-Err-Usage-clause-bad_record : goal.returns-in-Err-Usage-clause-bad_record
+returns-in-Err-Usage-clause-bad_record g c = λ e. absurd (usage_else (g.K.Sink.written c.args.sink.now) (g.K.Sink.written c.tell_usage.new.sink) c.tell_usage.result c.tell_usage.ensures.ends (inr (inl e)))
+
+pub returns-in-Err-Usage-clause-good_store : goal.returns-in-Err-Usage-clause-good_store
+returns-in-Err-Usage-clause-good_store g c = λ e. absurd (usage_else (g.K.Sink.written c.args.sink.now) (g.K.Sink.written c.tell_usage.new.sink) c.tell_usage.result c.tell_usage.ensures.ends (inr (inl e)))
+
+pub returns-in-Err-Memory-clause-complete : goal.returns-in-Err-Memory-clause-complete
+returns-in-Err-Memory-clause-complete g c = λ asks no_door no_sink no_keeper. subst (Contains (0 ∷ 5 ∷ 6 ∷ 9 ∷ [])) (sym c.status.ensures) (2, omega arith, refl)

@@ -1,0 +1,137 @@
+-- A hall that opened with what was loaded, and what was promised of it from the load on.
+use Rattle.std.proofs.Common.{◌≡◌, ◌≢◌, ℕ, ◌+◌, ◌≤◌, ◌⊎◌, inl, inr, Bool, List, [], ◌++◌, take, refl, sym, ap, subst, ◌∙◌, append-nil, arith}
+use Rattle.std.specs.Prelude.{IfSome, slice_get}
+use Rattle.std.specs.declared.option.Option.{Option}
+use Rattle.std.specs.declared.option.Option.TheVariants.{None, Some}
+use Rattle.std.specs.Io.KnownBytes.{Appends}
+use Rattle.std.proofs.KnownBytes.{Appends-trans}
+use Rattle.edge_traits.specs.Door.{DoorTale, IfTold}
+use Rattle.edge_traits.specs.Faults.{Rose}
+use Rattle.edge_traits.specs.Keeper.{Stays}
+use Rattle.edge_traits.specs.Pairs.{Table}
+use Rattle.edge_traits.specs.Sink.{AppendsFront, OnWriteFailed}
+use Rattle.edge_traits.specs.declared.sink.Sent.{Sent}
+use Rattle.edge_traits.specs.declared.sink.Sent.TheVariants as sent
+use Rattle.game_shelf.specs.declared.order.Order.{Order}
+use Rattle.game_shelf.specs.Wanted.{table_with}
+use Rattle.histories.specs.History.{calls_of, state}
+use Rattle.lobby_load.specs.Loaded.{HasLoaded, IsAtOpening}
+use Rattle.lobby_state.specs.Lobby.{LobbyState}
+use Rattle.lobby_store.specs.Agreeing.{wanted_by}
+use Rattle.lobby_store.specs.Carrying.{held}
+use Rattle.one_server.specs.declared.part.Part.{Part}
+use Rattle.one_server.specs.declared.part.Part.TheVariants.{Lobby as TheLobby}
+use Rattle.one_server.specs.House.{house}
+use Rattle.one_server.specs.Running.{Log}
+use Rattle.one_server.specs.Whole.{opened}
+use Rattle.hall_core.specs.Passes.{PassState}
+use Rattle.steward_core.proofs.StatesLead.{one_lobby}
+use Rattle.serve_core.specs.declared.end.ServeEnd.{ServeEnd}
+use Rattle.serve_core.specs.declared.end.ServeEnd.TheVariants.{WriteFault, KeeperFault, Memory}
+use Rattle.serve_core.specs.Opening.{IsLoaded}
+use Rattle.serve_core.specs.Serving.{AgreesIn, HasServedAll, IsClean, MayBeShort, SaysClosed, Sheet, StopsUnready, TellsAgreed, closed_text, ready_text}
+use Rattle.serve_core.specs.Stewarding.{HasTurns, MayEnd}
+use Rattle.serve_core.specs.Tending.{Store}
+use Rattle.serve_core.proofs.Tending.{rose_before}
+use Rattle.serve_core.proofs.Turning.{may_end, turns_as}
+
+-- ---- nothing was written at the load
+
+module _ (old mid new : Option (List ℕ)) (none : Appends old mid []) where
+  pub appends_from : (bytes : List ℕ) → Appends mid new bytes → Appends old new bytes
+  appends_from bytes p = Appends-trans old mid new [] bytes none p
+
+  pub front_from : (bytes : List ℕ) → AppendsFront mid new bytes → AppendsFront old new bytes
+  front_from bytes p = (p.0, appends_from (take p.0 bytes) p.1)
+
+rose_from : (said : Sent) (old mid new : ℕ) → old ≤ mid → OnWriteFailed said (Rose mid new) → OnWriteFailed said (Rose old new)
+rose_from sent.All old mid new s r = tt
+rose_from sent.Failed old mid new s r = rose_before old mid new s r
+rose_from sent.Memory old mid new s r = tt
+
+module _ (end : ServeEnd) (before mid later : Sheet) (none : Appends before.written mid.written []) (rises : before.faults ≤ mid.faults) where
+  why_from : ((end ≡ WriteFault) × Rose mid.faults later.faults) ⊎ ((end ≡ Memory) ⊎ (end ≡ KeeperFault)) → ((end ≡ WriteFault) × Rose before.faults later.faults) ⊎ ((end ≡ Memory) ⊎ (end ≡ KeeperFault))
+  why_from (inl p) = inl (p.0, rose_before before.faults mid.faults later.faults rises p.1)
+  why_from (inr p) = inr p
+
+  text_from : (count : ℕ) (door : Option DoorTale) → StopsUnready end count mid later ⊎ SaysClosed end door count mid later → StopsUnready end count before later ⊎ SaysClosed end door count before later
+  text_from count door (inl p) = inl (record { none_taken = p.none_taken; front = front_from before.written mid.written later.written none ready_text p.front; why = why_from p.why })
+  text_from count door (inr p) = inr (record {
+    none_left = p.none_left;
+    mid = p.mid;
+    ready = Appends-trans before.written mid.written p.mid [] ready_text none p.ready;
+    said = p.said;
+    closed = p.closed;
+    cause = rose_from p.said before.faults mid.faults later.faults rises p.cause;
+    fault = p.fault;
+    all = p.all;
+  })
+
+-- ---- the table stayed at the load
+
+agrees_from : (told told' now : Option Table) (opening parts : List Part) → Stays told told' → IfTold told' (λ table. AgreesIn table opening → TellsAgreed now parts) → IfTold told (λ table. AgreesIn table opening → TellsAgreed now parts)
+agrees_from None told' now opening parts stays p = tt
+agrees_from (Some table) None now opening parts stays p = absurd stays
+agrees_from (Some table) (Some table') now opening parts stays p = subst (λ (t : Table). AgreesIn t opening → TellsAgreed now parts) stays p
+
+-- what was promised once the hall was open is promised from before the load on
+pub served_from : (shows : ℕ → Bool) (opening : List Part) (end : ServeEnd) (door : Option DoorTale) (before mid later : Sheet) (old loaded new : Store) (pass : PassState) → Appends before.written mid.written [] → before.faults ≤ mid.faults
+    → Stays old.table loaded.table → old.faults ≤ loaded.faults → HasServedAll shows opening end door mid later loaded new pass → HasServedAll shows opening end door before later old new pass
+served_from shows opening end door before mid later old loaded new pass none rises stays counted p =
+    let later_rose : Rose loaded.faults new.faults → Rose old.faults new.faults = rose_before old.faults loaded.faults new.faults counted in
+    let turns = p.all_turns in
+    record {
+      first = p.first;
+      opens = p.opens;
+      opens_whole = p.opens_whole;
+      legal = p.legal;
+      all_joined = p.all_joined;
+      no_others = p.no_others;
+      sessions = p.sessions;
+      came = p.came;
+      back = p.back;
+      stewards = p.stewards;
+      all_turns = (
+        turns.0,
+        turns_as (MayEnd (MayBeShort end) (Rose loaded.faults new.faults)) (MayEnd (MayBeShort end) (Rose old.faults new.faults))
+        (may_end (MayBeShort end) (MayBeShort end) (Rose loaded.faults new.faults) (Rose old.faults new.faults) (λ e. e) later_rose) turns.0 (calls_of 0 pass.seen) turns.1,
+        turns.2,
+      );
+      last_turn = p.last_turn;
+      turns = λ clean calm. p.turns clean (λ r. calm (later_rose r));
+      whole_turns = λ clean calm. p.whole_turns clean (λ r. calm (later_rose r));
+      agrees = agrees_from old.table loaded.table new.table pass.opening (state house pass.opening pass.seen) stays p.agrees;
+      text = text_from end before mid later none rises pass.splits door p.text;
+      done_left = p.done_left;
+      spent = p.spent;
+      not_done = p.not_done;
+    }
+
+-- ---- what was loaded agrees
+
+first_part : (lobby : LobbyState) → slice_get (opened lobby) 0 ≡ Some (TheLobby lobby)
+unfolding opened
+first_part lobby = refl
+
+loaded_agrees : (table : Table) (lobby : LobbyState) → IsAtOpening lobby → HasLoaded table lobby → AgreesIn table (opened lobby)
+loaded_agrees table lobby at loads other there key =
+    let same : other ≡ lobby = one_lobby (opened lobby) other lobby there (first_part lobby) in
+    let none : other.shelf.orders ≡ [] = ap (λ (l : LobbyState). l.shelf.orders) same ∙ at.no_orders in
+    ap (λ (orders : List Order). table_with (held table) orders key) none
+    ∙ sym (loads key)
+    ∙ ap (λ (l : LobbyState). wanted_by l key) (sym same)
+
+agreed_by : (told now : Option Table) (lobby : LobbyState) (opening parts : List Part) → IsLoaded told lobby → opening ≡ opened lobby → IfTold told (λ table. AgreesIn table opening → TellsAgreed now parts) → IfTold told (λ table. TellsAgreed now parts)
+agreed_by None now lobby opening parts loaded is p = tt
+agreed_by (Some table) now lobby opening parts loaded is p = p (subst (AgreesIn table) (sym is) (loaded_agrees table lobby loaded.opening loaded.holds))
+
+-- the table that is told agrees at the end
+pub table_agrees : (shows : ℕ → Bool) (lobby : LobbyState) (end : ServeEnd) (door : Option DoorTale) (before later : Sheet) (old new : Store) (pass : PassState) → IsLoaded old.table lobby
+    → HasServedAll shows (opened lobby) end door before later old new pass → IfTold old.table (λ table. TellsAgreed new.table (state house pass.opening pass.seen))
+table_agrees shows lobby end door before later old new pass loaded p = agreed_by old.table new.table lobby pass.opening (state house pass.opening pass.seen) loaded p.opens p.agrees
+
+-- ---- a hall, if there is one
+
+pub some_as : {H : Type 0} (o : Option H) (P Q : H → Type 0) → ((h : H) → P h → Q h) → IfSome o P → IfSome o Q
+some_as None P Q f p = tt
+some_as (Some h) P Q f p = f h p

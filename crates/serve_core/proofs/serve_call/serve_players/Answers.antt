@@ -1,0 +1,70 @@
+use Rattle.std.proofs.Common.{inl, inr}
+use Rattle.one_server.specs.Whole.{opened}
+use Rattle.serve_core.specs.Opening.{IsLoaded}
+use Rattle.serve_core.specs.Serving.{Sheet, whole_text}
+use Rattle.serve_core.specs.Tending.{Store}
+use Rattle.serve_core.proofs.Opening.{appends_from, front_from, served_from, some_as, table_agrees}
+use Rattle.serve_core.proofs.Tending.{rose_before}
+use Rattle.serve_core.proofs.serve_call.serve_players.Goals as goal
+
+pub returns-in-Ok-clause-served : goal.returns-in-Ok-clause-served
+returns-in-Ok-clause-served g c =
+    let lobby = c.in-Ok.lobby in
+    let s = c.serve_lobby-end in
+    let end = s.result.0 in
+    let door = g.D.Doorway.tale s.new.door in
+    let before : Sheet = record { written = g.K.Sink.written c.args.sink.now; faults = g.K.Sink.faults c.args.sink.now } in
+    let mid : Sheet = record { written = g.K.Sink.written c.open_store.new.sink; faults = g.K.Sink.faults c.open_store.new.sink } in
+    let later : Sheet = record { written = g.K.Sink.written s.new.sink; faults = g.K.Sink.faults s.new.sink } in
+    let old : Store = record { table = g.P.Keeper.table c.args.keeper.now; faults = g.P.Keeper.faults c.args.keeper.now } in
+    let loaded : Store = record { table = g.P.Keeper.table c.open_store.new.keeper; faults = g.P.Keeper.faults c.open_store.new.keeper } in
+    let new : Store = record { table = g.P.Keeper.table s.new.keeper; faults = g.P.Keeper.faults s.new.keeper } in
+    let store = c.open_store.ensures in
+    let none = c.in-Ok.ensures.tells in
+    let loads : IsLoaded old.table lobby = record { opening = c.in-Ok.ensures.opening; spelled = c.in-Ok.ensures.spelled; holds = c.in-Ok.ensures.loaded; good = c.in-Ok.ensures.good } in
+    some_as s.result.1 _ _ (λ h p. (lobby, loads, end, c.status.ensures, served_from (g.C.Clock.shows c.args.clock.now) (opened lobby) end door before mid later old loaded new h.1 none store.write_counted store.unchanged store.keeper_counted p)) s.ensures.served
+
+pub returns-in-Ok-clause-table : goal.returns-in-Ok-clause-table
+returns-in-Ok-clause-table g c =
+    let lobby = c.in-Ok.lobby in
+    let s = c.serve_lobby-end in
+    let end = s.result.0 in
+    let door = g.D.Doorway.tale s.new.door in
+    let before : Sheet = record { written = g.K.Sink.written c.args.sink.now; faults = g.K.Sink.faults c.args.sink.now } in
+    let mid : Sheet = record { written = g.K.Sink.written c.open_store.new.sink; faults = g.K.Sink.faults c.open_store.new.sink } in
+    let later : Sheet = record { written = g.K.Sink.written s.new.sink; faults = g.K.Sink.faults s.new.sink } in
+    let old : Store = record { table = g.P.Keeper.table c.args.keeper.now; faults = g.P.Keeper.faults c.args.keeper.now } in
+    let loaded : Store = record { table = g.P.Keeper.table c.open_store.new.keeper; faults = g.P.Keeper.faults c.open_store.new.keeper } in
+    let new : Store = record { table = g.P.Keeper.table s.new.keeper; faults = g.P.Keeper.faults s.new.keeper } in
+    let store = c.open_store.ensures in
+    let none = c.in-Ok.ensures.tells in
+    let loads : IsLoaded old.table lobby = record { opening = c.in-Ok.ensures.opening; spelled = c.in-Ok.ensures.spelled; holds = c.in-Ok.ensures.loaded; good = c.in-Ok.ensures.good } in
+    some_as s.result.1 _ _ (λ h p. table_agrees (g.C.Clock.shows c.args.clock.now) lobby end door before later old new h.1 loads (served_from (g.C.Clock.shows c.args.clock.now) (opened lobby) end door before mid later old loaded new h.1 none store.write_counted store.unchanged store.keeper_counted p)) s.ensures.served
+
+pub returns-in-Ok-clause-ends : goal.returns-in-Ok-clause-ends
+returns-in-Ok-clause-ends g c =
+    let lobby = c.in-Ok.lobby in
+    let s = c.serve_lobby-end in
+    let end = s.result.0 in
+    let door = g.D.Doorway.tale s.new.door in
+    let before : Sheet = record { written = g.K.Sink.written c.args.sink.now; faults = g.K.Sink.faults c.args.sink.now } in
+    let mid : Sheet = record { written = g.K.Sink.written c.open_store.new.sink; faults = g.K.Sink.faults c.open_store.new.sink } in
+    let later : Sheet = record { written = g.K.Sink.written s.new.sink; faults = g.K.Sink.faults s.new.sink } in
+    let old : Store = record { table = g.P.Keeper.table c.args.keeper.now; faults = g.P.Keeper.faults c.args.keeper.now } in
+    let loaded : Store = record { table = g.P.Keeper.table c.open_store.new.keeper; faults = g.P.Keeper.faults c.open_store.new.keeper } in
+    let new : Store = record { table = g.P.Keeper.table s.new.keeper; faults = g.P.Keeper.faults s.new.keeper } in
+    let store = c.open_store.ensures in
+    let none = c.in-Ok.ensures.tells in
+    inr (
+      end,
+      c.status.ensures,
+      record {
+        door_fault = s.ensures.door_fault;
+        write_fault = λ e. rose_before before.faults mid.faults later.faults store.write_counted (s.ensures.write_fault e);
+        keeper_fault = λ e. rose_before old.faults loaded.faults new.faults store.keeper_counted (s.ensures.keeper_fault e);
+        text = λ clean. appends_from before.written mid.written later.written none whole_text (s.ensures.text clean);
+        text_part = front_from before.written mid.written later.written none whole_text s.ensures.text_part;
+        complete = λ calm. s.ensures.complete (λ r. calm (inl r)) (λ r. calm (inr (inl (rose_before before.faults mid.faults later.faults store.write_counted r))))
+            (λ r. calm (inr (inr (rose_before old.faults loaded.faults new.faults store.keeper_counted r))));
+      },
+    )
