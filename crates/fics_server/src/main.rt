@@ -24,12 +24,14 @@ fn main(rt: HostRuntime) -> ExitCode {
     };
     let words = words.as_slice();
     match read_job(rt.alloc(), words) {
-        Ok(Job::Serve {
-            port,
-            bind,
-            store,
-            count,
-        }) => {
+        Ok(
+            Job::Serve {
+                port,
+                bind,
+                store,
+                count,
+            },
+        ) => {
             let door = TcpDoor::new(&rt, bind.as_str(), port, count);
             ExitCode::from(serve_with(&rt, rt, words, door, store))
         }
@@ -88,16 +90,7 @@ where
 {
     let clock = WallClock::new(rt);
     let gate = OpenGate::new();
-    let (status, served) = serve(
-        rt,
-        alloc,
-        words,
-        &mut door,
-        &clock,
-        keeper,
-        sink,
-        &gate,
-    );
+    let (status, served) = serve(rt, alloc, words, &mut door, &clock, keeper, sink, &gate);
     if let Some((hall, pass)) = served {
         let _parts = hall.close(pass);
     }

@@ -94,7 +94,7 @@ served_from shows opening end door before mid later old loaded new pass none ris
       all_turns = (
         turns.0,
         turns_as (MayEnd (MayBeShort end) (Rose loaded.faults new.faults)) (MayEnd (MayBeShort end) (Rose old.faults new.faults))
-        (may_end (MayBeShort end) (MayBeShort end) (Rose loaded.faults new.faults) (Rose old.faults new.faults) (λ e. e) later_rose) turns.0 (calls_of 0 pass.seen) turns.1,
+            (may_end (MayBeShort end) (MayBeShort end) (Rose loaded.faults new.faults) (Rose old.faults new.faults) (λ e. e) later_rose) turns.0 (calls_of 0 pass.seen) turns.1,
         turns.2,
       );
       last_turn = p.last_turn;

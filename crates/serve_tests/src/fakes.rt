@@ -51,16 +51,7 @@ fn serve<T: Threads + Wait + Sync>(
     let gate = OpenGate::new();
     let mut keeper = MemKeeper::new(alloc, Vec::new(alloc));
     let lobby = Lobby::new(alloc)?;
-    let (end, _hall) = serve_lobby(
-        rt,
-        alloc,
-        lobby,
-        door,
-        &clock,
-        &mut keeper,
-        sink,
-        &gate,
-    );
+    let (end, _hall) = serve_lobby(rt, alloc, lobby, door, &clock, &mut keeper, sink, &gate);
     Ok(end)
 }
 

@@ -194,7 +194,10 @@ const EVENINGS: &[Evening] = &[
         b"ann\nabc\nquit\n",
         b"password: Entered as Ann.\n\rfics% Goodbye.\n\r",
     ),
-    Evening(b"Ann\nabd\n", b"password: refused 23 WrongPassword\n\rlogin: "),
+    Evening(
+        b"Ann\nabd\n",
+        b"password: refused 23 WrongPassword\n\rlogin: ",
+    ),
 ];
 
 /// The first evening on which serving didn't end well or another text was sent, all of them over one keeper.
