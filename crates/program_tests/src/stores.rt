@@ -83,14 +83,7 @@ const ROWS: &[Row] = &[
     Row(&["check", "--store", "x"], &[(b"a", b"")], &[], &[0], 3, ""),
     // a keeper that would fail isn't called
     Row(&["board"], &[], &[0], &[], 0, ""),
-    Row(
-        &["tidy"],
-        &[(b"a", b"\x00")],
-        &[1],
-        &[],
-        0,
-        "",
-    ),
+    Row(&["tidy"], &[(b"a", b"\x00")], &[1], &[], 0, ""),
     Row(
         &["check"],
         &[],

@@ -93,7 +93,7 @@ usage_listed written written' status (inr (inr e, front)) = subst (Contains stat
 -- ---- what a status tells
 
 module _ (words : List (String Global)) (command : Command) (names : Names words command) (table : Option Table) (left left' written written' : Option (List ℕ)) (outcome : Outcome)
-  (ends : CommandEnds table left left' written written' outcome command) where
+    (ends : CommandEnds table left left' written written' outcome command) where
   -- a status tells how the command ended
   pub does_at : (wanted : Outcome) (status : ℕ) → status ≡ status_of_outcome outcome → status ≡ status_of_outcome wanted → Does words (CommandEnds table left left' written written' wanted)
   does_at wanted status is told = (command, names, subst (λ (e : Outcome). CommandEnds table left left' written written' e command) (one_outcome outcome wanted status is told) ends)
