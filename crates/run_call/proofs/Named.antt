@@ -1,5 +1,5 @@
 -- Words name one command.
-use Rattle.std.proofs.Common.{◌≡◌, ℕ, ◌<◌, ◌≤◌, ◌^◌, List, [], ◌∷◌, Option, None, Some, arith, refl, sym, ap, subst, ◌∙◌}
+use Rattle.std.proofs.Common.{◌≡◌, ℕ, ◌<◌, ◌≤◌, ◌^◌, List, [], ◌∷◌, Option, None, Some, arith, sym, ap, subst, ◌∙◌}
 use Rattle.std.specs.Prelude.{String, decimal}
 use Rattle.std.specs.declared.alloc.Global.{Global}
 use Rattle.std.proofs.lemmas.Fmt.{decimal_injective}
@@ -9,7 +9,6 @@ use Rattle.job_words.specs.Jobs as jobs
 use Rattle.job_words.specs.declared.command_name.CommandName.{CommandName}
 use Rattle.job_words.specs.declared.command_name.CommandName.TheVariants as name
 use Rattle.job_words.specs.declared.job.Job.{Job}
-use Rattle.job_words.specs.declared.job.Job.TheVariants as job
 use Rattle.job_words.specs.declared.job.JobFail.{JobFail}
 use Rattle.job_words.specs.declared.job.JobFail.TheVariants as fails
 use Rattle.run_call.specs.Words.{IsCommand, IsWithin, Names, command_of}

@@ -64,14 +64,14 @@ returns-in-Err-Usage-clause-statuses g c = usage_listed (g.K.Sink.written c.args
 
 pub returns-in-Err-Usage-clause-write_part : goal.returns-in-Err-Usage-clause-write_part
 returns-in-Err-Usage-clause-write_part g c = λ told.
-    usage_part _ _ _ _ _ _ c.tell_usage.result (refused c.in-Err-Usage.field-0 _ c.in-Err-Usage.field-0-is c.in-Err-Usage.ensures.usage) c.tell_usage.ensures.ends (λ one. let bad : 3 ≡ 1 = sym told ∙ one in absurd (omega (arith, bad)))
+    usage_part c.args.words.now (g.P.Keeper.table c.args.keeper.now) (g.S.Source.left c.args.source.now) (g.K.Sink.written c.args.sink.now) (g.K.Sink.written c.tell_usage.new.sink) (Read WriteFault) c.tell_usage.result (refused c.in-Err-Usage.field-0 c.args.words.now c.in-Err-Usage.field-0-is c.in-Err-Usage.ensures.usage) c.tell_usage.ensures.ends (λ one. let bad : 3 ≡ 1 = sym told ∙ one in absurd (omega (arith, bad)))
 
 pub returns-in-Err-Usage-clause-memory_part : goal.returns-in-Err-Usage-clause-memory_part
 returns-in-Err-Usage-clause-memory_part g c = λ told.
-    usage_part _ _ _ _ _ _ c.tell_usage.result (refused c.in-Err-Usage.field-0 _ c.in-Err-Usage.field-0-is c.in-Err-Usage.ensures.usage) c.tell_usage.ensures.ends (λ one. let bad : 6 ≡ 1 = sym told ∙ one in absurd (omega (arith, bad)))
+    usage_part c.args.words.now (g.P.Keeper.table c.args.keeper.now) (g.S.Source.left c.args.source.now) (g.K.Sink.written c.args.sink.now) (g.K.Sink.written c.tell_usage.new.sink) (Read Memory) c.tell_usage.result (refused c.in-Err-Usage.field-0 c.args.words.now c.in-Err-Usage.field-0-is c.in-Err-Usage.ensures.usage) c.tell_usage.ensures.ends (λ one. let bad : 6 ≡ 1 = sym told ∙ one in absurd (omega (arith, bad)))
 
 pub returns-in-Err-Usage-clause-complete : goal.returns-in-Err-Usage-clause-complete
-returns-in-Err-Usage-clause-complete g c = λ command names no_read no_write no_keeper. absurd (refused c.in-Err-Usage.field-0 _ c.in-Err-Usage.field-0-is c.in-Err-Usage.ensures.usage (command, names))
+returns-in-Err-Usage-clause-complete g c = λ command names no_read no_write no_keeper. absurd (refused c.in-Err-Usage.field-0 c.args.words.now c.in-Err-Usage.field-0-is c.in-Err-Usage.ensures.usage (command, names))
 
 pub returns-in-Err-Usage-clause-table_stays : goal.returns-in-Err-Usage-clause-table_stays
 returns-in-Err-Usage-clause-table_stays g c = Stays-same (g.P.Keeper.table c.args.keeper.now)
