@@ -45,9 +45,9 @@ where
         result.pass [] }
     ensures tended { Tended
         (stand pass Enough (D.tale door.old)
-          (record { table = P.table keeper.old; faults = P.faults keeper.old }))
+        (record { table = P.table keeper.old; faults = P.faults keeper.old }))
         (stand result.pass result.supply (D.tale door.new)
-          (record { table = P.table keeper.new; faults = P.faults keeper.new })) }
+        (record { table = P.table keeper.new; faults = P.faults keeper.new })) }
     ensures opening { result.pass.opening ≡ pass.opening }
     ensures links { Goes (D.tale door.old) (D.tale door.new) KeepsLinks }
     ensures stopped { Stopped result.end result.pass.splits (D.tale door.new) (D.faults door.old) (D.faults door.new) }
@@ -65,9 +65,9 @@ where
                 (D.tale result.1.now) result.0.pass [] }
             ensures tended { Tended
                 (stand pass Enough (D.tale door.entry.now)
-                  (record { table = P.table keeper.entry.now; faults = P.faults keeper.entry.now }))
+                (record { table = P.table keeper.entry.now; faults = P.faults keeper.entry.now }))
                 (stand result.0.pass result.0.supply (D.tale result.1.now)
-                  (record { table = P.table result.2.now; faults = P.faults result.2.now })) }
+                (record { table = P.table result.2.now; faults = P.faults result.2.now })) }
             ensures opening { result.0.pass.opening ≡ pass.opening }
             ensures links { Goes (D.tale door.entry.now) (D.tale result.1.now) KeepsLinks }
             ensures stopped { Stopped result.0.end result.0.pass.splits (D.tale result.1.now)
@@ -104,9 +104,9 @@ where
         result.pass [] }
     ensures tended { Tended
         (stand pass Enough (D.tale door.old)
-          (record { table = P.table keeper.old; faults = P.faults keeper.old }))
+        (record { table = P.table keeper.old; faults = P.faults keeper.old }))
         (stand result.pass result.supply (D.tale door.new)
-          (record { table = P.table keeper.new; faults = P.faults keeper.new })) }
+        (record { table = P.table keeper.new; faults = P.faults keeper.new })) }
     ensures opening { result.pass.opening ≡ pass.opening }
     ensures links { Goes (D.tale door.old) (D.tale door.new) KeepsLinks }
     ensures stopped { Stopped result.end result.pass.splits (D.tale door.new) (D.faults door.old) (D.faults door.new) }

@@ -52,9 +52,9 @@ where
         result.0.pass result.0.waiting.items }
     ensures tended { Tended
         (stand host.pass host.supply (D.tale door.old)
-          (record { table = P.table keeper.old; faults = P.faults keeper.old }))
+        (record { table = P.table keeper.old; faults = P.faults keeper.old }))
         (stand result.0.pass result.0.supply (D.tale door.new)
-          (record { table = P.table keeper.new; faults = P.faults keeper.new })) }
+        (record { table = P.table keeper.new; faults = P.faults keeper.new })) }
     ensures opening { result.0.pass.opening ≡ host.pass.opening }
     ensures links { Goes (D.tale door.old) (D.tale door.new) KeepsLinks }
     ensures counted { D.faults door.old ≤ D.faults door.new }

@@ -134,7 +134,10 @@ where
         Sent::Failed => (last_turn(place, pass, keeper).0, ServeEnd::WriteFault),
         Sent::Memory => {
             let (pass, last) = last_turn(place, pass, keeper);
-            (pass, end_of(DoorEnd::Closed, Sent::Memory, last, Supply::Enough))
+            (
+                pass,
+                end_of(DoorEnd::Closed, Sent::Memory, last, Supply::Enough),
+            )
         }
     }
 }
