@@ -1,13 +1,13 @@
 -- What is promised of the hall that is given back, once the last turn was made.
-use Rattle.std.proofs.Common.{◌≡◌, ◌≢◌, ℕ, suc, ◌+◌, ◌<◌, ◌≤◌, ◌⊎◌, inl, inr, Bool, true, List, [], ◌++◌, length, map, refl, sym, ap, subst, ◌∙◌, arith}
+use Rattle.std.proofs.Common.{◌≡◌, ℕ, suc, ◌+◌, ◌<◌, ◌≤◌, ◌⊎◌, inl, inr, Bool, true, List, [], ◌++◌, length, map, refl, sym, ap, subst, ◌∙◌, arith}
 use Rattle.std.specs.declared.option.Option.{Option}
 use Rattle.std.specs.declared.option.Option.TheVariants.{None, Some}
 use Rattle.std.specs.List.{AllByRecursion}
 use Rattle.atomic_table.specs.Seated.{TableId}
 use Rattle.edge_traits.specs.Faults.{Rose}
-use Rattle.edge_traits.specs.Door.{DoorTale, Goes, IfTold}
+use Rattle.edge_traits.specs.Door.{DoorTale, IfTold}
 use Rattle.edge_traits.specs.Pairs.{Table}
-use Rattle.histories.specs.History.{Legal, calls_of, state}
+use Rattle.histories.specs.History.{calls_of, state}
 use Rattle.turn_table.specs.declared.view.Joined.{Joined}
 use Rattle.turn_table.specs.Views.{In, joined_number}
 use Rattle.one_server.specs.declared.act.Timed.{Timed}
@@ -17,7 +17,7 @@ use Rattle.one_server.specs.House.{house}
 use Rattle.one_server.specs.Running.{IsKnown, Log, RunnerState}
 use Rattle.one_server.specs.Whole.{IsWhole}
 use Rattle.hall_core.specs.Passes.{EveryoneJoined, PassState, first_pass, runs_of}
-use Rattle.steward_core.specs.Agreement.{AgreesSeen, IsNoOthers, NoOthersSave, StaysAgreed, state_seen}
+use Rattle.steward_core.specs.Agreement.{IsNoOthers, NoOthersSave, StaysAgreed, state_seen}
 use Rattle.steward_core.specs.declared.turn.StewardEnd.{StewardEnd}
 use Rattle.steward_core.specs.declared.turn.StewardEnd.TheVariants as steward
 use Rattle.steward_core.proofs.AgreedStill.{agreed_then, agreed_unsaved}
@@ -30,7 +30,7 @@ use Rattle.serve_core.specs.declared.settle.Supply.TheVariants.{Enough, Short}
 use Rattle.serve_core.specs.Keeping.{Underway}
 use Rattle.serve_core.specs.Sessions.{CameAs, CameBack, HasServed}
 use Rattle.serve_core.specs.Serving.{AgreesIn, HasServedAll, IsClean, IsUnused, LastEnds, MayBeShort, SaysClosed, Sheet, StopsUnready, TellsAgreed}
-use Rattle.serve_core.specs.Stewarding.{AreStewards, AreTurns, HasTurns, IsDone, MayEnd, StewardTurn, asked}
+use Rattle.serve_core.specs.Stewarding.{AreTurns, IsDone, MayEnd, StewardTurn, asked}
 use Rattle.serve_core.specs.Tending.{GivesQuiets, Store, Tended, stand}
 use Rattle.serve_core.specs.Turns.{TurnsLast}
 use Rattle.serve_core.proofs.Among.{in_map_from}

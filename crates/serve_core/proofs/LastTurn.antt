@@ -1,5 +1,5 @@
 -- The last turn of the steward, once every other pass was joined: nobody else acts beside it.
-use Rattle.std.proofs.Common.{◌≡◌, ◌≢◌, ℕ, zero, suc, ◌+◌, ◌<◌, ◌≤◌, Bool, true, false, cond, List, [], ◌∷◌, ◌++◌, map, refl, sym, ap, subst, ◌∙◌, append-nil, arith, eq-eqb, ne_eqb}
+use Rattle.std.proofs.Common.{◌≡◌, ◌≢◌, ℕ, zero, suc, ◌<◌, Bool, true, false, cond, List, [], ◌∷◌, ◌++◌, refl, sym, ap, subst, ◌∙◌, append-nil, arith, eq-eqb, ne_eqb}
 use Rattle.std.specs.Prelude.{nat_lt}
 use Rattle.std.proofs.lemmas.Bool.{ltb-false, ltb-true}
 use Rattle.std.specs.declared.option.Option.{Option}
@@ -14,9 +14,9 @@ use Rattle.one_server.specs.declared.part.Part.{Part}
 use Rattle.one_server.specs.declared.reply.Reply.{Reply}
 use Rattle.one_server.specs.House.{house}
 use Rattle.one_server.specs.LawfulProof.{house_lawful}
-use Rattle.one_server.specs.Running.{Log, Made}
+use Rattle.one_server.specs.Running.{Log}
 use Rattle.one_server.specs.Whole.{IsWhole}
-use Rattle.hall_core.specs.Passes.{EveryoneJoined, HasLooked, PassState, runs_of}
+use Rattle.hall_core.specs.Passes.{EveryoneJoined, PassState}
 use Rattle.steward_core.specs.declared.turn.StewardEnd.{StewardEnd}
 use Rattle.steward_core.proofs.AgreedStill.{append_cancel, legal_back}
 use Rattle.serve_core.specs.Stewarding.{LeavesNoOrders, StewardTurn}

@@ -1,5 +1,5 @@
 -- A hall that opened with what was loaded, and what was promised of it from the load on.
-use Rattle.std.proofs.Common.{◌≡◌, ◌≢◌, ℕ, ◌+◌, ◌≤◌, ◌⊎◌, inl, inr, Bool, List, [], ◌++◌, take, refl, sym, ap, subst, ◌∙◌, append-nil, arith}
+use Rattle.std.proofs.Common.{◌≡◌, ℕ, ◌≤◌, ◌⊎◌, inl, inr, Bool, List, [], take, refl, sym, ap, subst, ◌∙◌}
 use Rattle.std.specs.Prelude.{IfSome, slice_get}
 use Rattle.std.specs.declared.option.Option.{Option}
 use Rattle.std.specs.declared.option.Option.TheVariants.{None, Some}
@@ -22,15 +22,14 @@ use Rattle.lobby_store.specs.Carrying.{held}
 use Rattle.one_server.specs.declared.part.Part.{Part}
 use Rattle.one_server.specs.declared.part.Part.TheVariants.{Lobby as TheLobby}
 use Rattle.one_server.specs.House.{house}
-use Rattle.one_server.specs.Running.{Log}
 use Rattle.one_server.specs.Whole.{opened}
 use Rattle.hall_core.specs.Passes.{PassState}
 use Rattle.steward_core.proofs.StatesLead.{one_lobby}
 use Rattle.serve_core.specs.declared.end.ServeEnd.{ServeEnd}
 use Rattle.serve_core.specs.declared.end.ServeEnd.TheVariants.{WriteFault, KeeperFault, Memory}
 use Rattle.serve_core.specs.Opening.{IsLoaded}
-use Rattle.serve_core.specs.Serving.{AgreesIn, HasServedAll, IsClean, MayBeShort, SaysClosed, Sheet, StopsUnready, TellsAgreed, closed_text, ready_text}
-use Rattle.serve_core.specs.Stewarding.{HasTurns, MayEnd}
+use Rattle.serve_core.specs.Serving.{AgreesIn, HasServedAll, MayBeShort, SaysClosed, Sheet, StopsUnready, TellsAgreed, ready_text}
+use Rattle.serve_core.specs.Stewarding.{MayEnd}
 use Rattle.serve_core.specs.Tending.{Store}
 use Rattle.serve_core.proofs.Tending.{rose_before}
 use Rattle.serve_core.proofs.Turning.{may_end, turns_as}

@@ -1,11 +1,10 @@
 -- A turn of the steward that was done, beside which nobody else acts, leaves no save orders.
-use Rattle.std.proofs.Common.{◌≡◌, ℕ, ◌+◌, ◌*◌, ◌<◌, ◌≤◌, ◌⊎◌, inl, inr, List, [], ◌∷◌, ◌++◌, Option, None, Some, filter, length, take, set, slice_get, refl, sym, ap, subst, ◌∙◌, append-nil, arith}
+use Rattle.std.proofs.Common.{◌≡◌, ℕ, ◌*◌, ◌<◌, ◌⊎◌, inl, inr, List, [], ◌∷◌, ◌++◌, Some, filter, length, take, set, slice_get, refl, sym, ap, subst, ◌∙◌, append-nil, arith}
 use Rattle.std.specs.Prelude.{nat_lt}
 use Rattle.std.proofs.lemmas.List.{length-take, take_all}
 use Rattle.game_shelf.specs.Facts.{OrdersRise}
 use Rattle.game_shelf.specs.Shelf.{saved}
 use Rattle.game_shelf.specs.declared.order.Order.{Order}
-use Rattle.histories.specs.declared.entry.Entry.{Entry}
 use Rattle.histories.specs.Core.{after, reply}
 use Rattle.histories.specs.History.{Legal, state}
 use Rattle.histories.proofs.Histories.{legal_front, stays_whole, state-append}

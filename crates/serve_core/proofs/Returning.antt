@@ -11,9 +11,8 @@ use Rattle.link_core.specs.declared.link_end.LinkEnd.TheVariants as end
 use Rattle.link_core.specs.Laws.{WasGreeted, telling}
 use Rattle.link_core.specs.Served.{WasServed}
 use Rattle.link_core.proofs.Owning.{faults_are_counted, is_greeted, keeps_its_signs, tells_on}
-use Rattle.serve_core.specs.declared.end.ServeEnd.{ServeEnd}
 use Rattle.serve_core.specs.Laws.{ComesBack, EachComesBack}
-use Rattle.serve_core.specs.Serving.{IsClean, MayBeShort}
+use Rattle.serve_core.specs.Serving.{MayBeShort}
 use Rattle.serve_core.specs.Sessions.{CameAs, CameBack, HasServed}
 use Rattle.serve_core.proofs.Ending.{never_short}
 

@@ -1,23 +1,20 @@
 -- What the door's thread does for the store, from one step to the next.
-use Rattle.std.proofs.Common.{◌≡◌, ℕ, suc, ◌+◌, ◌≤◌, Bool, true, List, [], ◌∷◌, ◌++◌, length, refl, sym, ap, subst, ◌∙◌, arith, append-nil}
+use Rattle.std.proofs.Common.{◌≡◌, ℕ, ◌+◌, ◌≤◌, [], ◌++◌, refl, sym, ap, subst, ◌∙◌, arith, append-nil}
 use Rattle.std.specs.declared.option.Option.{Option}
 use Rattle.edge_traits.specs.Door.{DoorTale, Gives, Goes, IsQuiet, TakesBack}
 use Rattle.edge_traits.specs.Faults.{Rose}
 use Rattle.edge_traits.specs.Link.{Handed, Tale}
-use Rattle.edge_traits.specs.Pairs.{Table}
 use Rattle.edge_traits.specs.declared.doorway.Came.{Came}
 use Rattle.edge_traits.specs.declared.doorway.Came.TheVariants as came
-use Rattle.histories.specs.History.{IsPrefix}
-use Rattle.one_server.specs.Running.{IsKnown, Log, Made, RunnerState}
+use Rattle.one_server.specs.Running.{IsKnown, Made}
 use Rattle.hall_core.specs.Passes.{HasLooked, IsJoined, PassState, divided, runs_of}
 use Rattle.link_core.specs.declared.link_end.LinkEnd.{LinkEnd}
-use Rattle.steward_core.specs.Agreement.{StaysAgreed}
 use Rattle.steward_core.specs.declared.turn.StewardEnd.{StewardEnd}
 use Rattle.steward_core.specs.declared.turn.StewardEnd.TheVariants as steward
 use Rattle.steward_core.proofs.AgreedStill.{agreed_then, agreed_unsaved}
 use Rattle.steward_core.proofs.DesksCleared.{made_none, made_then}
 use Rattle.serve_core.specs.declared.settle.Supply.{Supply}
-use Rattle.serve_core.specs.declared.settle.Supply.TheVariants.{Enough, Short}
+use Rattle.serve_core.specs.declared.settle.Supply.TheVariants.{Short}
 use Rattle.serve_core.specs.Keeping.{supply_after}
 use Rattle.serve_core.specs.Stewarding.{AreTurns, MayEnd}
 use Rattle.serve_core.specs.Tending.{GivesQuiets, Stand, Store, Tended, stand}

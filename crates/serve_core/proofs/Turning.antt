@@ -14,7 +14,7 @@ use Rattle.steward_core.specs.declared.turn.StewardEnd.{StewardEnd}
 use Rattle.steward_core.specs.declared.turn.StewardEnd.TheVariants.{Done, KeeperFault, Memory}
 use Rattle.steward_core.specs.Clearing.{AreClears, AsksAndClears, IsPartOf, IsClearing, acts_of, clears, rows_told}
 use Rattle.steward_core.specs.Saving.{AreFullRounds, EndsSaving, IsCutShort, IsRound, IsSaving, last_number, says_saved, tells_upto}
-use Rattle.steward_core.specs.Turn.{IsTurn, end_of_turn}
+use Rattle.steward_core.specs.Turn.{end_of_turn}
 use Rattle.serve_core.specs.Stewarding.{AreStewards, AreTurns, IsDone, IsStewards, MayEnd, StewardTurn, asked, asks_once}
 use Rattle.serve_core.specs.Turns.{MadeTurn}
 

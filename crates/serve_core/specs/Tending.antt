@@ -1,5 +1,5 @@
 -- What the door's thread does for the store while it takes links: it makes turns of the steward.
-use Rattle.std.specs.Prelude.{◌≡◌, ℕ, ◌+◌, ◌≤◌, []}
+use Rattle.std.specs.Prelude.{◌≡◌, ℕ, ◌+◌, ◌≤◌}
 use Rattle.std.specs.declared.option.Option.{Option}
 use Rattle.edge_traits.specs.Door.{DoorTale, Goes}
 use Rattle.edge_traits.specs.Faults.{Rose}

@@ -1,6 +1,5 @@
 use Rattle.std.proofs.Common.{ap, sym, subst}
 use Rattle.edge_traits.specs.declared.doorway.Came.TheVariants as came
-use Rattle.hall_core.specs.Passes.{PassState}
 use Rattle.serve_core.specs.declared.settle.Supply.{Supply}
 use Rattle.serve_core.specs.Keeping.{Underway}
 use Rattle.serve_core.specs.Tending.{Stand, Store, Tended, stand}

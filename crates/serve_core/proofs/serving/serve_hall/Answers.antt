@@ -1,6 +1,4 @@
-use Rattle.std.proofs.Common.{◌≡◌, ℕ, List, [], refl, sym, ap, subst, arith}
-use Rattle.std.specs.declared.option.Option.{Option}
-use Rattle.one_server.specs.declared.part.Part.{Part}
+use Rattle.std.proofs.Common.{sym, ap, subst}
 use Rattle.hall_core.specs.Passes.{PassState}
 use Rattle.edge_traits.specs.declared.sink.Sent.TheVariants as sent
 use Rattle.serve_core.specs.declared.end.DoorEnd.TheVariants as door_end
@@ -10,8 +8,8 @@ use Rattle.serve_core.specs.declared.settle.Supply.TheVariants.{Enough}
 use Rattle.serve_core.specs.Serving.{HasServedAll, IsClean, Sheet, closed_text, ready_text}
 use Rattle.serve_core.specs.Stopping.{end_of}
 use Rattle.serve_core.specs.Tending.{Store, stand}
-use Rattle.serve_core.proofs.Closing.{all_served, still_here}
-use Rattle.serve_core.proofs.Ending.{Closes, closes_by, closes_failed, closes_short, comes, may_be}
+use Rattle.serve_core.proofs.Closing.{all_served}
+use Rattle.serve_core.proofs.Ending.{closes_by, closes_failed, closes_short, comes, may_be}
 use Rattle.serve_core.proofs.Keeping.{kept_first}
 use Rattle.serve_core.proofs.Tending.{tended_same}
 use Rattle.serve_core.proofs.Writing.{caused, front_of_half, wrote_front, wrote_whole}
