@@ -26,7 +26,7 @@ from records import PASSWORD, account, game, handle_of, make_full_store, make_st
 
 A_MOMENT = 1  # seconds; what is new is kept about ten times in each
 ACCOUNTS, GAMES = 4096, 10_000
-LINES = 400
+LINES = 20_000
 PGN = """[Event "?"]
 [Site "?"]
 [Date "????.??.??"]
@@ -124,9 +124,9 @@ def play(evening, links):
     ann.until(r"^<12> ")
     for n, word in enumerate(evening.words):
         time.sleep(2 if n == 2 else 0)
-        mover, other = (ann, ben) if n % 2 == 0 else (ben, ann)
-        answers(mover, word, rf"^<12> .* {re.escape(word)} [01]$")
-        other.until(rf"^<12> .* {re.escape(word)} [01]$")
+        links[n % 2].say(word)
+        for link in links:
+            link.until(rf"^<12> .* {re.escape(word)} [01]$")
 
 
 def shown(link, count):
@@ -164,7 +164,7 @@ def try_evening(evening, folder, killed):
     """People register and play, adjourn, and go on at the next server over the same file: they see what they saw."""
     name = f"{evening.name}, {'killed' if killed else 'ended'}"
     path = os.path.join(folder, name.replace(", ", "_"))
-    server = Server(PROGRAM, path, None if killed else len(evening.people))
+    server = Server(PROGRAM, path, len(evening.people))
     links = [server.enter(it) for it in evening.people]
     for it, link in zip(evening.people, links):
         register(link, f"pw{it}")
@@ -370,7 +370,7 @@ def try_full_disks():
     if os.geteuid() != 0:
         return
     with tempfile.TemporaryDirectory() as folder:
-        mount = ["mount", "-t", "tmpfs", "-o", "size=1m", "none", folder]
+        mount = ["mount", "-t", "tmpfs", "-o", "size=8m", "none", folder]
         if subprocess.run(mount, stderr=subprocess.DEVNULL).returncode:
             print("a small disk: not tried, since none can be mounted here")
             return
