@@ -1,0 +1,71 @@
+-- What the fields of an exam keep, as it is opened and as its half-moves change.
+use Rattle.std.proofs.Common.{◌≡◌, ℕ, ◌+◌, ◌-◌, ◌*◌, ◌<◌, ◌≤◌, zero, suc, List, [], ◌∷◌, ◌++◌, length, take, refl, sym, ap, subst, ◌∙◌, arith, append-nil}
+use Rattle.std.specs.Prelude.{slice_get, Option, Some}
+use Rattle.std.proofs.lemmas.List.{length-append, length-take-le, take_all, take-append-le, take-take}
+use Rattle.chess_model.specs.declared.variant.Terms.{Terms}
+use Rattle.chess_model.specs.declared.variant.Variant.{Variant}
+use Rattle.chess_model.specs.declared.variant.Variant.TheVariants.{Chess, Crazyhouse, Bughouse, Fischer}
+use Rattle.game_board.specs.Board.{Board}
+use Rattle.game_records.specs.declared.stored_game.Half.{Half}
+use Rattle.game_records.specs.declared.stored_game.StoredGame.{StoredGame}
+use Rattle.game_records.specs.Bounds as bounds
+use Rattle.game_records.specs.Replays.{Replays}
+use Rattle.linked_boards.specs.Boards.{new_boards}
+use Rattle.examine_board.specs.declared.exam.Exam.TheInside.{Inside}
+use Rattle.examine_board.specs.Exam.{boards_after}
+use Rattle.examine_board.specs.Holds.{HoldsExam}
+use Rattle.examine_board.specs.Laid.{CanBeLaid}
+use Rattle.examine_board.proofs.Laying.{CanBeLaid-played, CanBeLaid-take}
+use Rattle.examine_board.proofs.Lists.{slice_get-left, slice_get-right}
+
+-- the list that is looked at, whole
+pub whole : (stored : List Half) → take (length stored) stored ++ [] ≡ stored
+whole stored = append-nil (take (length stored) stored) ∙ take_all (length stored) stored (omega arith)
+
+few_boards : (v : Variant) (n : ℕ) → n ≤ 1200 * bounds.boards v → n ≤ 2400
+few_boards Chess n h = omega (arith, h)
+few_boards Crazyhouse n h = omega (arith, h)
+few_boards Bughouse n h = omega (arith, h)
+few_boards (Fischer number) n h = omega (arith, h)
+
+-- an exam that was just opened
+pub holds_opened : (g : StoredGame) (e : Inside) → Replays g → e.terms ≡ g.terms → e.names ≡ g.names → e.stored ≡ g.halves → e.shared ≡ length e.stored → e.branch ≡ [] → e.place ≡ 0
+    → e.boards ≡ new_boards g.terms 0 → HoldsExam e
+holds_opened g e replays terms names stored shared branch place boards =
+    let game = replays.spelled in
+    let laid : CanBeLaid e.terms e.stored =
+    subst (λ (t : Terms). CanBeLaid t e.stored) (sym terms) (subst (CanBeLaid g.terms) (sym stored) (CanBeLaid-played g.terms g.halves game.halves.each replays.played)) in
+    let list : take e.shared e.stored ++ e.branch ≡ e.stored = (λ i. take (shared i) e.stored ++ branch i) ∙ whole e.stored in
+    let players : length g.names ≡ 2 * bounds.boards g.terms.variant = game.players in
+    record {
+      shared = omega (arith, shared);
+      few = let same = ap length stored in let few = few_boards g.terms.variant (length g.halves) game.halves.few in omega (arith, same, few);
+      place = omega (arith, place);
+      boards = boards ∙ (λ i. boards_after (sym terms i) (take (sym place i) (take e.shared e.stored ++ e.branch)));
+      stored = laid;
+      list = subst (CanBeLaid e.terms) (sym list) laid;
+      names = ap length names ∙ players ∙ ap (λ (t : Terms). 2 * bounds.boards t.variant) (sym terms);
+    }
+
+-- an item of the half-moves that are looked at: of the stored ones, or of the branch
+pub looked_stored : (shared : ℕ) (stored branch : List Half) (i : ℕ) → shared ≤ length stored → i < shared → slice_get (take shared stored ++ branch) i ≡ slice_get (take shared stored) i
+looked_stored shared stored branch i within low =
+    let many : length (take shared stored) ≡ shared = length-take-le shared stored within in
+    slice_get-left (take shared stored) branch i (omega (arith, many, low))
+
+pub looked_branch : (shared : ℕ) (stored branch : List Half) (i : ℕ) → shared ≤ length stored → shared ≤ i → slice_get (take shared stored ++ branch) i ≡ slice_get branch (i - shared)
+looked_branch shared stored branch i within high =
+    let many : length (take shared stored) ≡ shared = length-take-le shared stored within in
+    let there : i ≡ length (take shared stored) + (i - shared) = omega (arith, many, high) in
+    ap (slice_get (take shared stored ++ branch)) there ∙ slice_get-right (take shared stored) branch (i - shared)
+
+-- the first of them, cut before the branch or in it
+pub cut_stored : (shared place : ℕ) (stored branch : List Half) → shared ≤ length stored → place ≤ shared → take place (take shared stored ++ branch) ≡ take place stored
+cut_stored shared place stored branch within low =
+    let many : length (take shared stored) ≡ shared = length-take-le shared stored within in
+    take-append-le place (take shared stored) branch (omega (arith, many, low)) ∙ take-take place shared stored low
+
+pub cut_branch : {X : Type 0} (xs ys : List X) (n : ℕ) → length xs ≤ n → take n (xs ++ ys) ≡ xs ++ take (n - length xs) ys
+cut_branch [] ys n h = refl
+cut_branch (x ∷ xs) ys zero h = absurd (omega (arith, h))
+cut_branch (x ∷ xs) ys (suc n) h = ap (λ zs. x ∷ zs) (cut_branch xs ys n (omega (arith, h)))

@@ -1,0 +1,6 @@
+pub mod Boards
+pub mod Held
+pub mod Laying
+pub mod Lists
+pub mod Shared
+pub mod Undone

@@ -1,0 +1,92 @@
+//! Half-moves that are played on from where the exam is.
+ghost use Rattle.std.specs.Prelude.{◌≡◌, ◌∷◌, ◌++◌, [], ◌<◌, IfOk, OnOk, false, length};
+ghost use Rattle.chess_model.specs.Allowed.{Allowed};
+ghost use Rattle.examine_board.specs.Answers.{answer, left_by};
+ghost use Rattle.examine_board.specs.Exam.{present};
+ghost use Rattle.examine_board.specs.Laid.{MayLie};
+ghost use Rattle.examine_board.specs.Play.{is_pair, play_answer, played, position, with_move};
+
+use crate::exam::Exam;
+use chess_model::{Move, MoveWord, Variant};
+use fics_words::Refusal;
+use game_records::Half;
+
+impl Exam {
+    /// Plays the half-move that a word stands for where the exam is, without a charge; the half-moves that followed are
+    /// looked at no more. Refuses with `NotInVariant` at a pair, `GameOver` where the game has ended by mate or stalemate,
+    /// `TooManyMoves` at 1,200 half-moves, then as the rules answer the word; a refusal changes nothing.
+    pub fn play(&mut self, word: &MoveWord) -> Result<(), Refusal>
+        ensures answer { result ≡ answer (played self.old word.now) }
+        ensures after { self.new ≡ left_by self.old (played self.old word.now) }
+    {
+        let what = self.resolve(word)?;
+        self.add(what);
+        Ok(())
+    }
+
+    /// The half-move that a word stands for, or the refusal.
+    fn resolve(&self, word: &MoveWord) -> Result<Move, Refusal>
+        ensures answer { result ≡ play_answer self.now word.now }
+        ensures single { OnOk result (is_pair self.now.terms.variant ≡ false) }
+        ensures allowed { IfOk result (Allowed (position self.now)) }
+        ensures room { OnOk result (self.now.place < 1200) }
+    {
+        if is_pair(self.terms.variant) {
+            return Err(Refusal::NotInVariant);
+        }
+        let (board, _none) = self.boards.both();
+        if board.state().is_end() {
+            return Err(Refusal::GameOver);
+        }
+        board.resolve(board.to_move(), word)
+    }
+
+    /// Plays an allowed half-move.
+    fn add(&mut self, what: Move)
+        requires single { is_pair self.old.terms.variant ≡ false }
+        requires allowed { Allowed (position self.old) what }
+        requires room { self.old.place < 1200 }
+        ensures { self.new ≡ with_move self.old what }
+    {
+        self.cut();
+        self.push(Half {
+            board: 1,
+            what,
+            charge: None,
+        });
+        self.step();
+    }
+
+    /// Looks no more at the half-moves that follow those on the boards.
+    fn cut(&mut self)
+        ensures { self.new ≡ record self.old { list = present self.old } }
+    {
+        if self.place <= self.shared {
+            self.shared = self.place;
+            self.branch.truncate(0);
+        } else {
+            self.branch.truncate(self.place - self.shared);
+        }
+    }
+
+    /// Looks at one half-move more, behind the others.
+    fn push(&mut self, half: Half)
+        requires lies { MayLie self.old.terms self.old.list half }
+        requires room { length self.old.list < 1200 }
+        ensures { self.new ≡ record self.old { list = self.old.list ++ half ∷ [] } }
+    {
+        self.branch.push(half);
+    }
+}
+
+/// Whether the game is played at a pair of boards.
+fn is_pair(variant: Variant) -> bool
+    ensures { result ≡ is_pair variant }
+{
+    match variant {
+        Variant::Chess => false,
+        Variant::Crazyhouse => false,
+        Variant::Bughouse => true,
+        Variant::Fischer(_) => false,
+    }
+}
