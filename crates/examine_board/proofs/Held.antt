@@ -69,3 +69,32 @@ pub cut_branch : {X : Type 0} (xs ys : List X) (n : ℕ) → length xs ≤ n →
 cut_branch [] ys n h = refl
 cut_branch (x ∷ xs) ys zero h = absurd (omega (arith, h))
 cut_branch (x ∷ xs) ys (suc n) h = ap (λ zs. x ∷ zs) (cut_branch xs ys n (omega (arith, h)))
+
+-- the half-moves that are looked at, without those that follow the ones on the boards
+pub cut_here : (shared place : ℕ) (stored branch none : List Half) → shared ≤ length stored → place ≤ shared → none ≡ [] →
+    take place stored ++ none ≡ take place (take shared stored ++ branch)
+cut_here shared place stored branch none within low empty =
+    ap (λ l. take place stored ++ l) empty ∙ append-nil (take place stored) ∙ sym (cut_stored shared place stored branch within low)
+
+pub cut_there : (shared place : ℕ) (stored branch left : List Half) → shared ≤ length stored → shared ≤ place → left ≡ take (place - shared) branch →
+    take shared stored ++ left ≡ take place (take shared stored ++ branch)
+cut_there shared place stored branch left within high are =
+    let many : length (take shared stored) ≡ shared = length-take-le shared stored within in
+    ap (λ l. take shared stored ++ l) are ∙ ap (λ k. take shared stored ++ take (place - k) branch) (sym many)
+    ∙ sym (cut_branch (take shared stored) branch place (omega (arith, many, high)))
+
+-- what an exam keeps of them, once that is all that is looked at
+pub record IsCut (t : Terms) (boards : List Board) (list left : List Half) (place : ℕ) : Type 0 where
+  pub place : place ≤ length left
+  pub boards : boards ≡ boards_after t (take place left)
+  pub laid : CanBeLaid t left
+
+pub is_cut : (t : Terms) (boards : List Board) (list left : List Half) (place : ℕ) → place ≤ length list → boards ≡ boards_after t (take place list) → CanBeLaid t list → left ≡ take place list →
+    IsCut t boards list left place
+is_cut t boards list left place within are laid cut =
+    let many : length left ≡ place = ap length cut ∙ length-take-le place list within in
+    record {
+      place = omega (arith, many);
+      boards = are ∙ ap (boards_after t) (sym cut ∙ sym (take_all place left (omega (arith, many))));
+      laid = subst (CanBeLaid t) (sym cut) (CanBeLaid-take t list place laid);
+    }

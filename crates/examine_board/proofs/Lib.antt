@@ -3,4 +3,5 @@ pub mod Held
 pub mod Laying
 pub mod Lists
 pub mod Shared
+pub mod Stepping
 pub mod Undone

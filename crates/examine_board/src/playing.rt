@@ -64,9 +64,9 @@ impl Exam {
         if self.place <= self.shared {
             self.shared = self.place;
             self.branch.truncate(0);
-        } else {
-            self.branch.truncate(self.place - self.shared);
+            return;
         }
+        self.branch.truncate(self.place - self.shared);
     }
 
     /// Looks at one half-move more, behind the others.

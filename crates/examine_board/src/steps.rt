@@ -19,7 +19,8 @@ impl Exam {
         ensures list { self.new.list ≡ self.old.list }
     {
         let n = usize::from(n);
-        if self.len() - self.place < n {
+        let left = self.len() - self.place;
+        if left < n {
             return Err(Refusal::NoMoreMoves);
         }
         self.go_on(self.place + n);
@@ -66,10 +67,11 @@ impl Exam {
         requires { place ≤ self.old.place }
         ensures { self.new ≡ record self.old { place = place } }
     {
-        if place < self.place {
-            self.rewind();
-            self.go_on(place);
+        if place == self.place {
+            return;
         }
+        self.rewind();
+        self.go_on(place);
     }
 
     /// Goes back to the start.
