@@ -23,7 +23,9 @@ fn main(rt: HostRuntime) -> ExitCode {
     };
     let mut sink = StdSink::new(io::writer(&rt));
     match read_job(rt.alloc(), words.as_slice()) {
-        Ok(Job::Serve { port, bind, count }) => {
+        Ok(Job::Serve {
+            port, bind, count, ..
+        }) => {
             let door = TcpDoor::new(&rt, bind.as_str(), port, count);
             ExitCode::from(serve_at(&rt, rt.alloc(), words.as_slice(), door, &mut sink))
         }

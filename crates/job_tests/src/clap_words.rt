@@ -28,6 +28,13 @@ pub(crate) fn clap_reading(alloc: Global, words: &[String]) -> Result<String, Fa
                 let number = options.get_str("number").ok_or("a number")?;
                 return Ok(format!(in alloc; "demo {number}")?);
             }
+            if name == "check" || name == "pgn" {
+                let store = options.get_str("store").ok_or("a store")?;
+                return Ok(format!(in alloc; "{name} {store}")?);
+            }
+            if name == "examine" {
+                return examine_text(alloc, options);
+            }
             Ok(String::from_str(alloc, name)?)
         }
         None => Ok(String::from_str(alloc, "-")?),
@@ -38,8 +45,16 @@ pub(crate) fn clap_reading(alloc: Global, words: &[String]) -> Result<String, Fa
 fn serve_text(alloc: Global, options: &ArgMatches<'_>) -> Result<String, Fail> {
     let port = options.get_str("port").ok_or("a port")?;
     let bind = options.get_str("bind").ok_or("an address")?;
+    let store = options.get_str("store").unwrap_or("-");
     let count = options.get_str("count").unwrap_or("-");
-    Ok(format!(in alloc; "serve {port} {bind} {count}")?)
+    Ok(format!(in alloc; "serve {port} {bind} {store} {count}")?)
+}
+
+/// What the options of `examine` say.
+fn examine_text(alloc: Global, options: &ArgMatches<'_>) -> Result<String, Fail> {
+    let store = options.get_str("store").ok_or("a store")?;
+    let game = options.get_str("game").ok_or("a game")?;
+    Ok(format!(in alloc; "examine {store} {game}")?)
 }
 
 /// The program's command line.
@@ -51,6 +66,9 @@ fn command_line<'a>(alloc: Global) -> Result<Command<'a>, AllocError> {
         .subcommand(Command::new(alloc, "tidy"))?
         .subcommand(bot_line(alloc)?)?
         .subcommand(demo_line(alloc)?)?
+        .subcommand(Command::new(alloc, "check").arg(store_option(alloc).required(true))?)?
+        .subcommand(Command::new(alloc, "pgn").arg(store_option(alloc).required(true))?)?
+        .subcommand(examine_line(alloc)?)?
         .subcommand(serve_line(alloc)?)
 }
 
@@ -70,6 +88,24 @@ fn demo_line<'a>(alloc: Global) -> Result<Command<'a>, AllocError> {
     Command::new(alloc, "demo").arg(number)
 }
 
+/// The option that names a store.
+fn store_option<'a>(alloc: Global) -> Arg<'a> {
+    Arg::new(alloc, "store")
+        .long("store")
+        .value_parser(ValueParser::NonEmptyString)
+}
+
+/// The options of `examine`.
+fn examine_line<'a>(alloc: Global) -> Result<Command<'a>, AllocError> {
+    let game = Arg::new(alloc, "game")
+        .long("game")
+        .required(true)
+        .value_parser(ValueParser::Unsigned(1, 18_446_744_073_709_551_615));
+    Command::new(alloc, "examine")
+        .arg(store_option(alloc).required(true))?
+        .arg(game)
+}
+
 /// The options of `serve`.
 fn serve_line<'a>(alloc: Global) -> Result<Command<'a>, AllocError> {
     let port = Arg::new(alloc, "port")
@@ -86,5 +122,6 @@ fn serve_line<'a>(alloc: Global) -> Result<Command<'a>, AllocError> {
     Command::new(alloc, "serve")
         .arg(port)?
         .arg(bind)?
+        .arg(store_option(alloc))?
         .arg(count)
 }

@@ -6,8 +6,8 @@ use std::alloc::Global;
 use std::process::Abort;
 use std::test::Fail;
 
-/// The words, and behind the arrow what they name: a command, or `serve PORT ADDRESS COUNT`; `-` where they name
-/// nothing.
+/// The words, and behind the arrow what they name: a command with its values, those of `serve` in the order port,
+/// address, store, count; `-` where they name nothing, or no store or count.
 const ROWS: &str = "\
 board => board
 replay => replay
@@ -41,10 +41,10 @@ bored => -
 -h => -
 help => -
 serve => -
-serve --port 5000 => serve 5000 127.0.0.1 -
-serve --port=5000 => serve 5000 127.0.0.1 -
-serve --port 1 => serve 1 127.0.0.1 -
-serve --port 65535 => serve 65535 127.0.0.1 -
+serve --port 5000 => serve 5000 127.0.0.1 - -
+serve --port=5000 => serve 5000 127.0.0.1 - -
+serve --port 1 => serve 1 127.0.0.1 - -
+serve --port 65535 => serve 65535 127.0.0.1 - -
 serve --port 0 => -
 serve --port 65536 => -
 serve --port -1 => -
@@ -59,9 +59,9 @@ serve --ports 5000 => -
 serve --Port 5000 => -
 serve port 5000 => -
 serve --bind 0.0.0.0 => -
-serve --bind 0.0.0.0 --port 5000 => serve 5000 0.0.0.0 -
-serve --port 5000 --bind=0.0.0.0 => serve 5000 0.0.0.0 -
-serve --port=5000 --bind=a=b => serve 5000 a=b -
+serve --bind 0.0.0.0 --port 5000 => serve 5000 0.0.0.0 - -
+serve --port 5000 --bind=0.0.0.0 => serve 5000 0.0.0.0 - -
+serve --port=5000 --bind=a=b => serve 5000 a=b - -
 serve --port 5000 --bind => -
 serve --port 5000 --bind= => -
 serve --port 5000 --bind -x => -
@@ -70,8 +70,8 @@ serve --port 5000 --bind a b => -
 serve --port 5000 --port 5001 => -
 serve --port 5000 --port=5000 => -
 serve --port 5000 --bind a --bind a => -
-serve --count 1 --port 5000 => serve 5000 127.0.0.1 1
-serve --count=2147483648 --bind b --port 5000 => serve 5000 b 2147483648
+serve --count 1 --port 5000 => serve 5000 127.0.0.1 - 1
+serve --count=2147483648 --bind b --port 5000 => serve 5000 b - 2147483648
 serve --count 2147483649 --port 5000 => -
 serve --count 0 --port 5000 => -
 serve --count 5 --count 5 --port 5000 => -
@@ -86,8 +86,50 @@ demo --number 7 => -
 demo --number=7 => -
 Demo 7 => -
 demo7 => -
-check --store x => -
-serve --port 5000 --store x => -
+demo --store x => -
+board --store x => -
+check --store x => check x
+check --store=x => check x
+check --store a=b => check a=b
+check => -
+check x => -
+check --store => -
+check --store= => -
+check --store -x => -
+check --store x y => -
+check --store x --store y => -
+check --store x --store=x => -
+check --store x --game 1 => -
+check --store x --port 5000 => -
+check --store x --bind a => -
+check --store x --count 1 => -
+Check --store x => -
+pgn --store games.db => pgn games.db
+pgn --store=x => pgn x
+pgn => -
+pgn --store x --game 1 => -
+pgn --store x --store x => -
+examine --store x --game 1 => examine x 1
+examine --game=2 --store=x => examine x 2
+examine --game 18446744073709551615 --store x => examine x 18446744073709551615
+examine --store x --game 0 => -
+examine --store x --game 18446744073709551616 => -
+examine --store x --game y => -
+examine --store x --game -1 => -
+examine --store x --game => -
+examine --store x => -
+examine --game 1 => -
+examine --store x --game 1 --game 1 => -
+examine --store x --game 1 --count 1 => -
+examine --store x --game 1 forward => -
+serve --port 5000 --store x => serve 5000 127.0.0.1 x -
+serve --store=x --count 3 --bind b --port 5000 => serve 5000 b x 3
+serve --port 5000 --store => -
+serve --port 5000 --store= => -
+serve --port 5000 --store -x => -
+serve --port 5000 --store x --store y => -
+serve --port 5000 --game 1 => -
+serve --store x => -
 ";
 
 /// Texts that the other reader takes for numbers or for the end of the options, and this program doesn't.
@@ -102,6 +144,9 @@ serve --port 05000 => -
 serve --port +5000 => -
 serve --port 5000 --count 01 => -
 serve --port 5000 -- => -
+examine --store x --game 01 => -
+examine --store x --game +1 => -
+check --store x -- => -
 ";
 
 /// What a job is, as a row says it.
@@ -113,9 +158,20 @@ fn spoken(alloc: Global, job: Result<Job, JobFail>) -> Result<String, Fail> {
         Ok(Job::Tidy) => Ok(String::from_str(alloc, "tidy")?),
         Ok(Job::Bot { depth }) => Ok(format!(in alloc; "bot {depth}")?),
         Ok(Job::Demo { number }) => Ok(format!(in alloc; "demo {number}")?),
-        Ok(Job::Serve { port, bind, count }) => {
+        Ok(Job::Check { store }) => Ok(format!(in alloc; "check {store}")?),
+        Ok(Job::Pgn { store }) => Ok(format!(in alloc; "pgn {store}")?),
+        Ok(Job::Examine { store, game }) => Ok(format!(in alloc; "examine {store} {game}")?),
+        Ok(
+            Job::Serve {
+                port,
+                bind,
+                store,
+                count,
+            },
+        ) => {
+            let store = store.as_ref().map(|store| store.as_str()).unwrap_or("-");
             let count = count_text(alloc, count)?;
-            Ok(format!(in alloc; "serve {port} {bind} {count}")?)
+            Ok(format!(in alloc; "serve {port} {bind} {store} {count}")?)
         }
         Err(JobFail::Usage) => Ok(String::from_str(alloc, "-")?),
         Err(JobFail::Memory) => Err(Fail::from("out of memory")),

@@ -1,94 +1,113 @@
 -- Where texts name no job.
-use Rattle.std.proofs.Common.{◌≡◌, ◌≢◌, ℕ, List, [], ◌∷◌, Option, Result, Ok, Err, arith, get_or, sym, ap, subst}
-use Rattle.std.specs.Prelude.{IfErr, codes, reverse, string_bytes}
-use Rattle.job_words.specs.Jobs.{AreOptions, Chosen, GivenValue, IsBot, IsDemo, IsCount, IsPort, IsServe, OnUsage, Tells, TextsName}
+use Rattle.std.proofs.Common.{◌≡◌, ◌≢◌, ℕ, List, [], ◌∷◌, Option, Some, None, get_or, refl, sym, ap, subst, ◌∙◌}
+use Rattle.std.specs.Prelude.{◌==◌, if◌then◌else◌, Result, Ok, Err, IfErr, String, codes, option_copied, unwrap_or}
+use Rattle.std.specs.Borrow.{Bor}
+use Rattle.std.specs.declared.alloc.Global.{Global}
+use Rattle.job_words.specs.Jobs.{AsksToServe, IsBehind, IsBind, IsCount, IsExamine, IsGame, IsOverStore, IsPort, IsServe, Names, OnUsage, TextsName, text_of}
+use Rattle.job_words.specs.Options.{Chosen, Says}
+use Rattle.job_words.specs.declared.command_name.CommandName.{CommandName}
+use Rattle.job_words.specs.declared.command_name.CommandName.TheVariants as name
 use Rattle.job_words.specs.declared.job.Job.{Job}
-use Rattle.job_words.specs.declared.job.Job.TheVariants.{Board, Replay, Tourney, Tidy, Bot, Demo, Serve}
+use Rattle.job_words.specs.declared.job.Job.TheVariants.{Board, Replay, Tourney, Tidy, Bot, Demo, Check, Pgn, Examine, Serve}
 use Rattle.job_words.specs.declared.job.JobFail.{JobFail}
 use Rattle.job_words.specs.declared.job.JobFail.TheVariants as fail
-use Rattle.job_words.proofs.OptionsRead.{one_options, one_choice}
+use Rattle.job_words.proofs.OptionsRead.{one_saying}
+
+-- ---- the first word
+
+-- the command that is called so, by the second and the third byte of its name
+command_by : ℕ → ℕ → CommandName
+command_by second third =
+    if second == 120 then name.Examine else if third == 97 then name.Board else if third == 112 then name.Replay else if third == 117 then name.Tourney
+    else if third == 100 then name.Tidy else if third == 116 then name.Bot else if third == 109 then name.Demo else if third == 110 then name.Pgn
+    else if third == 114 then name.Serve else name.Check
+
+command_by-text : (command : CommandName) → command_by (get_or (text_of command) 1 0) (get_or (text_of command) 2 0) ≡ command
+unfolding command_by
+command_by-text name.Board = refl
+command_by-text name.Replay = refl
+command_by-text name.Tourney = refl
+command_by-text name.Tidy = refl
+command_by-text name.Bot = refl
+command_by-text name.Demo = refl
+command_by-text name.Check = refl
+command_by-text name.Pgn = refl
+command_by-text name.Examine = refl
+command_by-text name.Serve = refl
+
+-- a text names one command
+pub one_command : (command other : CommandName) → text_of command ≡ text_of other → command ≡ other
+one_command command other e = sym (command_by-text command) ∙ ap (λ (n : List ℕ). command_by (get_or n 1 0) (get_or n 2 0)) e ∙ command_by-text other
 
 pub no_texts : (job : Job) → TextsName [] job → ⊥
-no_texts Board e = absurd (let bad : [] ≡ codes "board" ∷ [] = e in cc)
-no_texts Replay e = absurd (let bad : [] ≡ codes "replay" ∷ [] = e in cc)
-no_texts Tourney e = absurd (let bad : [] ≡ codes "tourney" ∷ [] = e in cc)
-no_texts Tidy e = absurd (let bad : [] ≡ codes "tidy" ∷ [] = e in cc)
-no_texts (Bot depth) h = absurd (let bad : [] ≡ codes "bot" ∷ h.0 = h.1 in cc)
-no_texts (Demo number) h = absurd (let bad : [] ≡ codes "demo" ∷ h.0 = h.1 in cc)
-no_texts (Serve port bind count) h = absurd (let bad : [] ≡ codes "serve" ∷ h.0 = h.1 in cc)
+no_texts job h = absurd (let bad : [] ≡ text_of h.0 ∷ h.1 = h.2 in cc)
 
-pub no_word : (word : List ℕ) (rest : List (List ℕ)) → word ≢ codes "serve" → word ≢ codes "bot" → word ≢ codes "demo" → word ≢ codes "board" → word ≢ codes "replay" → word ≢ codes "tourney" → word ≢ codes "tidy" → (job : Job) → TextsName (word ∷ rest) job → ⊥
-no_word word rest serve bot demo board replay tourney tidy Board e = board (let same : word ∷ rest ≡ codes "board" ∷ [] = e in cc)
-no_word word rest serve bot demo board replay tourney tidy Replay e = replay (let same : word ∷ rest ≡ codes "replay" ∷ [] = e in cc)
-no_word word rest serve bot demo board replay tourney tidy Tourney e = tourney (let same : word ∷ rest ≡ codes "tourney" ∷ [] = e in cc)
-no_word word rest serve bot demo board replay tourney tidy Tidy e = tidy (let same : word ∷ rest ≡ codes "tidy" ∷ [] = e in cc)
-no_word word rest serve bot demo board replay tourney tidy (Bot depth) h = bot (let same : word ∷ rest ≡ codes "bot" ∷ h.0 = h.1 in cc)
-no_word word rest serve bot demo board replay tourney tidy (Demo number) h = demo (let same : word ∷ rest ≡ codes "demo" ∷ h.0 = h.1 in cc)
-no_word word rest serve bot demo board replay tourney tidy (Serve port bind count) h = serve (let same : word ∷ rest ≡ codes "serve" ∷ h.0 = h.1 in cc)
+pub no_command : (word : List ℕ) (rest : List (List ℕ)) → ((command : CommandName) → word ≢ text_of command) → (job : Job) → TextsName (word ∷ rest) job → ⊥
+no_command word rest none job h = none h.0 (let same : word ∷ rest ≡ text_of h.0 ∷ h.1 = h.2 in cc)
 
-pub more_words : (word : List ℕ) (rest : List (List ℕ)) → word ≢ codes "serve" → word ≢ codes "bot" → word ≢ codes "demo" → rest ≢ [] → (job : Job) → TextsName (word ∷ rest) job → ⊥
-more_words word rest serve bot demo some Board e = some (let same : word ∷ rest ≡ codes "board" ∷ [] = e in cc)
-more_words word rest serve bot demo some Replay e = some (let same : word ∷ rest ≡ codes "replay" ∷ [] = e in cc)
-more_words word rest serve bot demo some Tourney e = some (let same : word ∷ rest ≡ codes "tourney" ∷ [] = e in cc)
-more_words word rest serve bot demo some Tidy e = some (let same : word ∷ rest ≡ codes "tidy" ∷ [] = e in cc)
-more_words word rest serve bot demo some (Bot depth) h = bot (let same : word ∷ rest ≡ codes "bot" ∷ h.0 = h.1 in cc)
-more_words word rest serve bot demo some (Demo number) h = demo (let same : word ∷ rest ≡ codes "demo" ∷ h.0 = h.1 in cc)
-more_words word rest serve bot demo some (Serve port bind count) h = serve (let same : word ∷ rest ≡ codes "serve" ∷ h.0 = h.1 in cc)
+pub none_behind : (word : List ℕ) (rest : List (List ℕ)) (command : CommandName) → word ≡ text_of command → ((job : Job) → IsBehind command rest job → ⊥) → (job : Job) → TextsName (word ∷ rest) job → ⊥
+none_behind word rest command is none job h =
+    let both : word ∷ rest ≡ text_of h.0 ∷ h.1 = h.2 in
+    let first : text_of h.0 ≡ word = sym cc in
+    let called : text_of h.0 ≡ text_of command = first ∙ is in
+    let behind : h.1 ≡ rest = sym cc in
+    none job (subst (λ (w : List (List ℕ)). IsBehind command w job) behind (subst (λ (c : CommandName). IsBehind c h.1 job) (one_command h.0 command called) h.3))
 
-first_byte : List (List ℕ) → ℕ
-first_byte words = get_or (get_or words 0 []) 0 0
+-- the job of serving is behind `serve` alone
+is_serve : (command : CommandName) (words : List (List ℕ)) (port : ℕ) (bind : String Global) (store : Option (String Global)) (count : Option ℕ)
+    → IsBehind command words (Serve port bind store count) → command ≡ name.Serve
+is_serve name.Board words port bind store count h = absurd (let bad : Serve port bind store count ≡ Board = h.1 in cc)
+is_serve name.Replay words port bind store count h = absurd (let bad : Serve port bind store count ≡ Replay = h.1 in cc)
+is_serve name.Tourney words port bind store count h = absurd (let bad : Serve port bind store count ≡ Tourney = h.1 in cc)
+is_serve name.Tidy words port bind store count h = absurd (let bad : Serve port bind store count ≡ Tidy = h.1 in cc)
+is_serve name.Bot words port bind store count h = absurd (let bad : Serve port bind store count ≡ Bot h.0 = h.2 in cc)
+is_serve name.Demo words port bind store count h = absurd (let bad : Serve port bind store count ≡ Demo h.0 = h.2 in cc)
+is_serve name.Check words port bind store count h = absurd (let bad : Serve port bind store count ≡ Check h.0 = h.2 in cc)
+is_serve name.Pgn words port bind store count h = absurd (let bad : Serve port bind store count ≡ Pgn h.0 = h.2 in cc)
+is_serve name.Examine words port bind store count h = absurd (let bad : Serve port bind store count ≡ Examine h.0 h.1 = h.3 in cc)
+is_serve name.Serve words port bind store count h = refl
 
-pub no_serve : (rest : List (List ℕ)) → ((port : ℕ) (bind : List ℕ) (count : Option ℕ) → IsServe rest port bind count → ⊥) → (job : Job) → TextsName (codes "serve" ∷ rest) job → ⊥
-unfolding first_byte
-no_serve rest none Board e = let bad : 115 ≡ 98 = ap first_byte e in absurd (omega (arith, bad))
-no_serve rest none Replay e = let bad : 115 ≡ 114 = ap first_byte e in absurd (omega (arith, bad))
-no_serve rest none Tourney e = let bad : 115 ≡ 116 = ap first_byte e in absurd (omega (arith, bad))
-no_serve rest none Tidy e = let bad : 115 ≡ 116 = ap first_byte e in absurd (omega (arith, bad))
-no_serve rest none (Bot depth) h = let bad : 115 ≡ 98 = ap first_byte h.1 in absurd (omega (arith, bad))
-no_serve rest none (Demo number) h = let bad : 115 ≡ 100 = ap first_byte h.1 in absurd (omega (arith, bad))
-no_serve rest none (Serve port bind count) h =
-    let same : rest ≡ h.0 = let both : codes "serve" ∷ rest ≡ codes "serve" ∷ h.0 = h.1 in cc in
-    none port (string_bytes bind) count (subst (λ (w : List (List ℕ)). IsServe w port (string_bytes bind) count) (sym same) h.2)
+serves : (command : CommandName) (words : List (List ℕ)) (job : Job) → command ≡ name.Serve → IsBehind command words job
+    → (port : ℕ) × (bind : String Global) × (store : Option (String Global)) × (count : Option ℕ) × (job ≡ Serve port bind store count)
+serves command words job is h =
+    let behind : IsBehind name.Serve words job = subst (λ (c : CommandName). IsBehind c words job) is h in
+    (behind.0, behind.1, behind.2, behind.3, behind.5)
 
--- the last byte of the first word
-last_byte : List (List ℕ) → ℕ
-last_byte words = get_or (reverse (get_or words 0 [])) 0 0
+-- words that ask to serve name no other job
+pub asked_to_serve : (words : List (String Global)) (job : Job) → Names words job → AsksToServe words
+    → (port : ℕ) × (bind : String Global) × (store : Option (String Global)) × (count : Option ℕ) × (job ≡ Serve port bind store count)
+asked_to_serve words job h asks =
+    let serve = asks.4 in
+    let both : text_of h.0 ∷ h.1 ≡ text_of serve.0 ∷ serve.1 = sym h.2 ∙ serve.2 in
+    let same : text_of h.0 ≡ text_of serve.0 = cc in
+    let called : h.0 ≡ serve.0 = one_command h.0 serve.0 same in
+    serves h.0 h.1 job (called ∙ is_serve serve.0 serve.1 asks.0 asks.1 asks.2 asks.3 serve.3) h.3
 
-pub no_bot : (rest : List (List ℕ)) → ((depth : ℕ) → IsBot rest depth → ⊥) → (job : Job) → TextsName (codes "bot" ∷ rest) job → ⊥
-unfolding last_byte
-no_bot rest none Board e = let bad : 116 ≡ 100 = ap last_byte e in absurd (omega (arith, bad))
-no_bot rest none Replay e = let bad : 116 ≡ 121 = ap last_byte e in absurd (omega (arith, bad))
-no_bot rest none Tourney e = let bad : 116 ≡ 121 = ap last_byte e in absurd (omega (arith, bad))
-no_bot rest none Tidy e = let bad : 116 ≡ 121 = ap last_byte e in absurd (omega (arith, bad))
-no_bot rest none (Bot depth) h =
-    let same : rest ≡ h.0 = let both : codes "bot" ∷ rest ≡ codes "bot" ∷ h.0 = h.1 in cc in
-    none depth (subst (λ (w : List (List ℕ)). IsBot w depth) (sym same) h.2)
-no_bot rest none (Demo number) h = let bad : 116 ≡ 111 = ap last_byte h.1 in absurd (omega (arith, bad))
-no_bot rest none (Serve port bind count) h = let bad : 116 ≡ 101 = ap last_byte h.1 in absurd (omega (arith, bad))
+-- ---- the values of the options
 
-pub no_demo : (rest : List (List ℕ)) → ((number : ℕ) → IsDemo rest number → ⊥) → (job : Job) → TextsName (codes "demo" ∷ rest) job → ⊥
-unfolding first_byte
-no_demo rest none Board e = let bad : 100 ≡ 98 = ap first_byte e in absurd (omega (arith, bad))
-no_demo rest none Replay e = let bad : 100 ≡ 114 = ap first_byte e in absurd (omega (arith, bad))
-no_demo rest none Tourney e = let bad : 100 ≡ 116 = ap first_byte e in absurd (omega (arith, bad))
-no_demo rest none Tidy e = let bad : 100 ≡ 116 = ap first_byte e in absurd (omega (arith, bad))
-no_demo rest none (Bot depth) h = let bad : 100 ≡ 98 = ap first_byte h.1 in absurd (omega (arith, bad))
-no_demo rest none (Demo number) h =
-    let same : rest ≡ h.0 = let both : codes "demo" ∷ rest ≡ codes "demo" ∷ h.0 = h.1 in cc in
-    none number (subst (λ (w : List (List ℕ)). IsDemo w number) (sym same) h.2)
-no_demo rest none (Serve port bind count) h = let bad : 100 ≡ 115 = ap first_byte h.1 in absurd (omega (arith, bad))
+-- the address that is given, or this machine's own
+pub bound_to : (given : Option (Bor (List ℕ))) (home : Bor (List ℕ)) (chosen : Option (List ℕ)) (bind : List ℕ) → option_copied given ≡ chosen → home.now ≡ codes "127.0.0.1"
+    → bind ≡ (unwrap_or given home).now → IsBind chosen bind
+bound_to None home chosen bind is own bound = subst (λ (v : Option (List ℕ)). IsBind v bind) is (bound ∙ own)
+bound_to (Some text) home chosen bind is own bound = subst (λ (v : Option (List ℕ)). IsBind v bind) is bound
 
--- the options that the words give, and no others
-module _ (words : List (List ℕ)) (given : List GivenValue) (values : Chosen) (options : AreOptions words given) (tells : Tells given values) where
-  same_values : (port : ℕ) (bind : List ℕ) (count : Option ℕ) (h : IsServe words port bind count) → h.values ≡ values
-  same_values port bind count h =
-      one_choice given h.values values (subst (λ (g : List GivenValue). Tells g h.values) (one_options words h.given given h.options options) h.once) tells
+module _ (words : List (List ℕ)) (values : Chosen) where
+  pub no_port : Says name.Serve words values → ((port : ℕ) → IsPort values.port port → ⊥) → (port : ℕ) (bind : List ℕ) (store : Option (List ℕ)) (count : Option ℕ) → IsServe words port bind store count → ⊥
+  no_port says none port bind store count h = none port (subst (λ (v : Chosen). IsPort v.port port) (one_saying name.Serve words h.values values h.says says) h.port_is)
 
-  pub no_port : ((port : ℕ) → IsPort values.port port → ⊥) → (port : ℕ) (bind : List ℕ) (count : Option ℕ) → IsServe words port bind count → ⊥
-  no_port none port bind count h = none port (subst (λ (v : Chosen). IsPort v.port port) (same_values port bind count h) h.port_is)
+  pub no_count : Says name.Serve words values → ((count : Option ℕ) → IsCount values.count count → ⊥) → (port : ℕ) (bind : List ℕ) (store : Option (List ℕ)) (count : Option ℕ) → IsServe words port bind store count → ⊥
+  no_count says none port bind store count h = none count (subst (λ (v : Chosen). IsCount v.count count) (one_saying name.Serve words h.values values h.says says) h.count_is)
 
-  pub no_count : ((count : Option ℕ) → IsCount values.count count → ⊥) → (port : ℕ) (bind : List ℕ) (count : Option ℕ) → IsServe words port bind count → ⊥
-  no_count none port bind count h = none count (subst (λ (v : Chosen). IsCount v.count count) (same_values port bind count h) h.count_is)
+  pub no_game : Says name.Examine words values → ((game : ℕ) → IsGame values.game game → ⊥) → (store : List ℕ) (game : ℕ) → IsExamine words store game → ⊥
+  no_game says none store game h = none game (subst (λ (v : Chosen). IsGame v.game game) (one_saying name.Examine words h.values values h.says says) h.game_is)
+
+  pub no_store : (command : CommandName) → Says command words values → values.store ≡ None → (store : List ℕ) → IsOverStore command words store → ⊥
+  no_store command says none store h =
+      let absent : None ≡ Some store = sym none ∙ ap (λ (v : Chosen). v.store) (sym (one_saying command words h.0 values h.1 says)) ∙ h.2 in
+      absurd cc
+
+  pub no_store_examined : Says name.Examine words values → values.store ≡ None → (store : List ℕ) (game : ℕ) → IsExamine words store game → ⊥
+  no_store_examined says none store game h = no_store name.Examine says none store (h.values, h.says, h.store_is)
 
 -- a weaker fact of words that name nothing
 pub on_usage : (result : Result Job JobFail) (P Q : Type 0) → (P → Q) → IfErr result (λ f. OnUsage f P) → IfErr result (λ f. OnUsage f Q)

@@ -1,9 +1,9 @@
-//! The values that the words give the options of `serve`.
+//! The values that the words give the options.
 
 ghost use Rattle.std.specs.Prelude.{◌≡◌, ◌≢◌, Some, None, MatchBool, option_copied};
-ghost use Rattle.job_words.specs.Jobs.{Chosen, chosen_of, nothing_chosen, with_chosen};
+ghost use Rattle.job_words.specs.Options.{Chosen, chosen_of, nothing_chosen, with_chosen};
 
-use crate::options::ServeOption;
+use crate::options::JobOption;
 use std::marker::Model;
 
 /// The value of each option, where it was given.
@@ -12,11 +12,13 @@ pub(crate) struct Values<'a> {
     port: Option<&'a str>,
     bind: Option<&'a str>,
     count: Option<&'a str>,
+    store: Option<&'a str>,
+    game: Option<&'a str>,
 }
 
 impl<'a> Model for Values<'a> {
     ghost use Rattle.std.specs.Prelude.{option_copied};
-    ghost use Rattle.job_words.specs.Jobs.{Chosen};
+    ghost use Rattle.job_words.specs.Options.{Chosen};
 
     ghost Value = { Chosen };
 
@@ -24,6 +26,8 @@ impl<'a> Model for Values<'a> {
       port = option_copied values.port;
       bind = option_copied values.bind;
       count = option_copied values.count;
+      store = option_copied values.store;
+      game = option_copied values.game;
     } };
 }
 
@@ -38,38 +42,37 @@ impl<'a> Values<'a> {
             port: None,
             bind: None,
             count: None,
+            store: None,
+            game: None,
         }
     }
 
     /// Gives an option its value; false where it has one.
-    pub(crate) fn add(&mut self, option: ServeOption, value: &'a str) -> bool
+    pub(crate) fn add(&mut self, option: JobOption, value: &'a str) -> bool
         ensures { MatchBool result
             ((chosen_of self.old option ≡ None) × (self.new ≡ with_chosen self.old option value.now))
             ((chosen_of self.old option ≢ None) × (self.new ≡ self.old)) }
     {
         match option {
-            ServeOption::Port => fill(&mut self.port, value),
-            ServeOption::Bind => fill(&mut self.bind, value),
-            ServeOption::Count => fill(&mut self.count, value),
+            JobOption::Port => fill(&mut self.port, value),
+            JobOption::Bind => fill(&mut self.bind, value),
+            JobOption::Count => fill(&mut self.count, value),
+            JobOption::Store => fill(&mut self.store, value),
+            JobOption::Game => fill(&mut self.game, value),
         }
     }
 
-    pub(crate) fn port(&self) -> Option<&'a str>
-        ensures { option_copied result ≡ self.now.port }
+    /// The value that an option was given.
+    pub(crate) fn value(&self, option: JobOption) -> Option<&'a str>
+        ensures { option_copied result ≡ chosen_of self.now option }
     {
-        self.port
-    }
-
-    pub(crate) fn bind(&self) -> Option<&'a str>
-        ensures { option_copied result ≡ self.now.bind }
-    {
-        self.bind
-    }
-
-    pub(crate) fn count(&self) -> Option<&'a str>
-        ensures { option_copied result ≡ self.now.count }
-    {
-        self.count
+        match option {
+            JobOption::Port => self.port,
+            JobOption::Bind => self.bind,
+            JobOption::Count => self.count,
+            JobOption::Store => self.store,
+            JobOption::Game => self.game,
+        }
     }
 }
 

@@ -27,12 +27,31 @@ pub enum Job {
         /// The number, from 0 to 999,999.
         number: u32,
     },
+    /// Loads a store, and tells how many accounts and games it holds.
+    Check {
+        /// Where the store lies.
+        store: String,
+    },
+    /// Writes the chess games of a store in the export form of PGN text.
+    Pgn {
+        /// Where the store lies.
+        store: String,
+    },
+    /// Goes through a stored game step by step.
+    Examine {
+        /// Where the store lies.
+        store: String,
+        /// The number of the game, from 1 on.
+        game: u64,
+    },
     /// Serves players who connect.
     Serve {
         /// The port, from 1 on.
         port: u16,
         /// The address at which connections are taken.
         bind: String,
+        /// Where the accounts and the games are kept; none where they aren't kept beyond the run.
+        store: Option<String>,
         /// How many connections are taken, from 1 to 2^31; none for any number.
         count: Option<u64>,
     },

@@ -1,4 +1,5 @@
-//! Tests of the program's top calls: the commands of `run` over the fakes, and `serve` over links in memory.
+//! Tests of the program's top calls: the commands of `run` over the fakes, those
+//! over a store too, and `serve` over links in memory.
 #![tactic(auto)]
 
 #[cfg(test)]
@@ -51,6 +52,8 @@ mod replays;
 mod running;
 #[cfg(test)]
 mod serves;
+#[cfg(test)]
+mod stores;
 #[cfg(test)]
 mod tidies;
 #[cfg(test)]

@@ -1,28 +1,26 @@
 -- How a run ends, by its status and the command that its words name.
-use Rattle.std.proofs.Common.{◌≡◌, ℕ, ◌+◌, ◌-◌, ◌^◌, ◌<◌, List, [], ◌∷◌, length, refl, sym, ap, subst, ◌∙◌, arith, get_or, map, inl, inr, None, Some}
-use Rattle.std.specs.Prelude.{◌⊎◌, ◌==◌, if◌then◌else◌, Option, IfSome, Contains, String, string_bytes}
+use Rattle.std.proofs.Common.{◌≡◌, ℕ, ◌^◌, ◌<◌, List, [], ◌∷◌, length, refl, sym, ap, subst, ◌∙◌, arith, inl, inr, None, Some}
+use Rattle.std.specs.Prelude.{◌⊎◌, ◌==◌, if◌then◌else◌, Option, IfSome, Contains, String}
 use Rattle.std.specs.declared.alloc.Global.{Global}
 use Rattle.std.specs.Io.KnownBytes.{Keeps}
 use Rattle.std.proofs.KnownBytes.{Appends-nil}
-use Rattle.std.proofs.lemmas.Fmt.{decimal_digit, decimal_is_IsNumeral}
-use Rattle.std.specs.Str.Parse.{digits_value}
-use Rattle.line_answers.specs.Ends.{OnReadFault, OnWriteFault, status_of}
-use Rattle.job_words.specs.Jobs.{OnUsage}
-use Rattle.job_words.specs.Jobs as jobs
+use Rattle.edge_traits.specs.Keeper.{Stays}
+use Rattle.edge_traits.specs.Pairs.{Table}
+use Rattle.line_answers.specs.Ends as read
 use Rattle.job_words.specs.Usage.{UsageEnds}
-use Rattle.job_words.specs.declared.job.Job.{Job}
-use Rattle.job_words.specs.declared.job.Job.TheVariants as job
-use Rattle.job_words.specs.declared.job.JobFail.{JobFail}
-use Rattle.job_words.specs.declared.job.JobFail.TheVariants as fails
-use Rattle.run_call.specs.RunEnds.{CommandEnds, IsGood, WritesPart}
-use Rattle.run_call.specs.Words.{Does, IsCommand, IsWithin, Names}
+use Rattle.check_command.specs.CheckEnds.{CheckEnds}
+use Rattle.run_call.specs.RunEnds.{CommandEnds, IsGood, IsToldGood, WritesPart}
+use Rattle.run_call.specs.Words.{Does, IsOverStore, Names}
+use Rattle.run_call.proofs.Named.{is_command, one_command}
 use Rattle.line_answers.specs.declared.end.End.{End}
 use Rattle.line_answers.specs.declared.end.End.TheVariants.{Done, ReadFault, WriteFault, Memory, BadLine, Spent}
+use Rattle.store_ends.specs.Outcomes.{AsRead, OnKeeperFault, OnReadFault, OnWriteFault, status_of_outcome}
+use Rattle.store_ends.specs.declared.outcome.Outcome.{Outcome}
+use Rattle.store_ends.specs.declared.outcome.Outcome.TheVariants.{Read, BadRecord, KeeperFault, NoGame}
 use Rattle.run_call.specs.declared.command.Command.{Command}
-use Rattle.run_call.specs.declared.command.Command.TheVariants.{Board, Replay, Tourney, Tidy, Bot, Demo}
+use Rattle.run_call.specs.declared.command.Command.TheVariants.{Board, Replay, Tourney, Tidy, Bot, Demo, Check}
 use Rattle.board_command.specs.Transcript.{board_lines}
 use Rattle.bot_command.specs.BotLines.{bot_answer, bot_lines}
-use Rattle.demo_command.specs.DemoEnds.{DemoEnds}
 use Rattle.demo_command.proofs.Told.{nothing_told, told_or_cut}
 use Rattle.line_answers.proofs.ClosingEnds.{AnswersOrClosesPart-none}
 use Rattle.line_answers.proofs.Completeness.{is_complete, is_complete-closing}
@@ -34,153 +32,184 @@ use Rattle.replay_command.proofs.ReplayEnds.{ReplayEnds-none, is_complete-replay
 
 -- ---- statuses
 
--- the end that a status tells
-end_of : ℕ → End
-end_of n =
-    if n == 0 then Done else if n == 2 then ReadFault else if n == 3 then WriteFault else if n == 6 then Memory else if n == 7 then BadLine else Spent
+-- the outcome that a status tells
+outcome_at : ℕ → Outcome
+outcome_at n =
+    if n == 0 then Read Done else if n == 2 then Read ReadFault else if n == 3 then Read WriteFault else if n == 4 then KeeperFault
+    else if n == 5 then BadRecord else if n == 6 then Read Memory else if n == 7 then Read BadLine else if n == 9 then Read Spent else NoGame
 
-end_of-status : (end : End) → end_of (status_of end) ≡ end
-unfolding end_of
-end_of-status Done = refl
-end_of-status ReadFault = refl
-end_of-status WriteFault = refl
-end_of-status Memory = refl
-end_of-status BadLine = refl
-end_of-status Spent = refl
+outcome_at-status : (outcome : Outcome) → outcome_at (status_of_outcome outcome) ≡ outcome
+unfolding outcome_at
+outcome_at-status (Read Done) = refl
+outcome_at-status (Read ReadFault) = refl
+outcome_at-status (Read WriteFault) = refl
+outcome_at-status (Read Memory) = refl
+outcome_at-status (Read BadLine) = refl
+outcome_at-status (Read Spent) = refl
+outcome_at-status BadRecord = refl
+outcome_at-status KeeperFault = refl
+outcome_at-status NoGame = refl
+
+-- a status has one outcome
+one_outcome : (outcome wanted : Outcome) (status : ℕ) → status ≡ status_of_outcome outcome → status ≡ status_of_outcome wanted → outcome ≡ wanted
+one_outcome outcome wanted status is told = sym (outcome_at-status outcome) ∙ ap outcome_at (sym is ∙ told) ∙ outcome_at-status wanted
 
 -- the statuses that there are
-pub status-listed : (end : End) → Contains (0 ∷ 1 ∷ 2 ∷ 3 ∷ 6 ∷ 7 ∷ 9 ∷ []) (status_of end)
-status-listed Done = (0, omega arith, refl)
-status-listed ReadFault = (2, omega arith, refl)
-status-listed WriteFault = (3, omega arith, refl)
-status-listed Memory = (4, omega arith, refl)
-status-listed BadLine = (5, omega arith, refl)
-status-listed Spent = (6, omega arith, refl)
+abbrev statuses : List ℕ
+statuses = 0 ∷ 1 ∷ 2 ∷ 3 ∷ 4 ∷ 5 ∷ 6 ∷ 7 ∷ 9 ∷ []
+
+status-read : (end : End) → Contains statuses (read.status_of end)
+status-read Done = (0, omega arith, refl)
+status-read ReadFault = (2, omega arith, refl)
+status-read WriteFault = (3, omega arith, refl)
+status-read Memory = (6, omega arith, refl)
+status-read BadLine = (7, omega arith, refl)
+status-read Spent = (8, omega arith, refl)
+
+-- a command ends in one of them
+pub status-listed : (command : Command) (table : Option Table) (left left' written written' : Option (List ℕ)) (outcome : Outcome)
+    → CommandEnds table left left' written written' outcome command → Contains statuses (status_of_outcome outcome)
+status-listed command table left left' written written' (Read end) h = status-read end
+status-listed command table left left' written written' KeeperFault h = (4, omega arith, refl)
+status-listed command table left left' written written' BadRecord h = (5, omega arith, refl)
+status-listed Board table left left' written written' NoGame h = absurd h
+status-listed Replay table left left' written written' NoGame h = absurd h
+status-listed Tourney table left left' written written' NoGame h = absurd h
+status-listed Tidy table left left' written written' NoGame h = absurd h
+status-listed (Bot depth) table left left' written written' NoGame h = absurd h
+status-listed (Demo number) table left left' written written' NoGame h = absurd h.1
+status-listed Check table left left' written written' NoGame h = absurd h.1
 
 -- and those with which the usage line is written
-pub usage_listed : (written written' : Option (List ℕ)) (status : ℕ) → UsageEnds written written' status → Contains (0 ∷ 1 ∷ 2 ∷ 3 ∷ 6 ∷ 7 ∷ 9 ∷ []) status
-usage_listed written written' status (inl p) = subst (Contains (0 ∷ 1 ∷ 2 ∷ 3 ∷ 6 ∷ 7 ∷ 9 ∷ [])) (sym p.0) (1, omega arith, refl)
-usage_listed written written' status (inr (inl e, front)) = subst (Contains (0 ∷ 1 ∷ 2 ∷ 3 ∷ 6 ∷ 7 ∷ 9 ∷ [])) (sym e) (3, omega arith, refl)
-usage_listed written written' status (inr (inr e, front)) = subst (Contains (0 ∷ 1 ∷ 2 ∷ 3 ∷ 6 ∷ 7 ∷ 9 ∷ [])) (sym e) (4, omega arith, refl)
+pub usage_listed : (written written' : Option (List ℕ)) (status : ℕ) → UsageEnds written written' status → Contains statuses status
+usage_listed written written' status (inl p) = subst (Contains statuses) (sym p.0) (1, omega arith, refl)
+usage_listed written written' status (inr (inl e, front)) = subst (Contains statuses) (sym e) (3, omega arith, refl)
+usage_listed written written' status (inr (inr e, front)) = subst (Contains statuses) (sym e) (6, omega arith, refl)
 
--- a status has one end
-pub one_end : (end wanted : End) (status : ℕ) → status ≡ status_of end → status ≡ status_of wanted → end ≡ wanted
-one_end end wanted status is told = sym (end_of-status end) ∙ ap end_of (sym is ∙ told) ∙ end_of-status wanted
+-- ---- what a status tells
 
--- ---- words
-
--- words that name no job name no command
-none_named : (words : List (String Global)) (command : Command) → ((job : Job) → jobs.Names words job → ⊥) → Names words command → ⊥
-none_named words Board none h = none job.Board h
-none_named words Replay none h = none job.Replay h
-none_named words Tourney none h = none job.Tourney h
-none_named words Tidy none h = none job.Tidy h
-none_named words (Bot depth) none h = none (job.Bot depth) h
-none_named words (Demo number) none h = none (job.Demo number) h
-
-pub on_fail : (fail : JobFail) (words : List (String Global)) → OnUsage fail ((job : Job) → jobs.Names words job → ⊥) → OnUsage fail (¬ (IsCommand words))
-on_fail fails.Usage words none = λ named. none_named words named.0 none named.1
-on_fail fails.Memory words none = tt
-
--- the number that a digit spells
-digit_of : List ℕ → ℕ
-digit_of text = get_or text 0 0 - 48
-
-digit_is : (text : List ℕ) (n : ℕ) → jobs.IsDepth text n → digit_of text ≡ n
-unfolding digit_of
-digit_is text n is =
-    let same : 48 + n - 48 ≡ n = omega arith in
-    ap (λ l. get_or l 0 0 - 48) (is.0 ∙ decimal_digit n (omega (arith, is.1))) ∙ same
-
--- the number that a decimal spells
-number_is : (text : List ℕ) (n : ℕ) → jobs.IsDemoNumber text n → digits_value 10 text ≡ n
-number_is text n is = ap (digits_value 10) is.0 ∙ (decimal_is_IsNumeral n (omega (arith, is.1))).1
-
--- the command that words name, by the third byte of the first word and by the second word
-abbrev command_by : ℕ → List ℕ → Command
-command_by byte text = if byte == 97 then Board else if byte == 112 then Replay else if byte == 117 then Tourney else if byte == 100 then Tidy else if byte == 109 then Demo (digits_value 10 text) else Bot (digit_of text)
-
-abbrev command_of : List (List ℕ) → Command
-command_of words = command_by (get_or (get_or words 0 []) 2 0) (get_or words 1 [])
-
-command_is : (words : List (String Global)) (command : Command) → Names words command → command_of (map string_bytes words) ≡ command
-command_is words Board n = ap command_of n
-command_is words Replay n = ap command_of n
-command_is words Tourney n = ap command_of n
-command_is words Tidy n = ap command_of n
-command_is words (Bot depth) n = ap command_of n.1 ∙ ap (λ (more : List (List ℕ)). Bot (digit_of (get_or more 0 []))) n.2.1 ∙ ap (λ k. Bot k) (digit_is n.2.0 depth n.2.2)
-command_is words (Demo number) n = ap command_of n.1 ∙ ap (λ (more : List (List ℕ)). Demo (digits_value 10 (get_or more 0 []))) n.2.1 ∙ ap (λ k. Demo k) (number_is n.2.0 number n.2.2)
-
--- how far the bot looks ahead
-pub is_within : (words : List (String Global)) (command : Command) → Names words command → IsWithin command
-is_within words Board n = tt
-is_within words Replay n = tt
-is_within words Tourney n = tt
-is_within words Tidy n = tt
-is_within words (Bot depth) n = n.2.2.1
-is_within words (Demo number) n = tt
-
--- words name one command
-one_command : (words : List (String Global)) (command other : Command) → Names words command → Names words other → other ≡ command
-one_command words command other n m = sym (command_is words other m) ∙ command_is words command n
-
-pub is_command : (words : List (String Global)) (command : Command) → Names words command → IsCommand words
-is_command words command n = (command, n)
-
-module _ (words : List (String Global)) (command : Command) (names : Names words command) (left left' written written' : Option (List ℕ)) (end : End) (ends : CommandEnds left left' written written' end command) where
+module _ (words : List (String Global)) (command : Command) (names : Names words command) (table : Option Table) (left left' written written' : Option (List ℕ)) (outcome : Outcome)
+  (ends : CommandEnds table left left' written written' outcome command) where
   -- a status tells how the command ended
-  pub does_at : (wanted : End) (status : ℕ) → status ≡ status_of end → status ≡ status_of wanted → Does words (CommandEnds left left' written written' wanted)
-  does_at wanted status is told = (command, names, subst (λ (e : End). CommandEnds left left' written written' e command) (one_end end wanted status is told) ends)
+  pub does_at : (wanted : Outcome) (status : ℕ) → status ≡ status_of_outcome outcome → status ≡ status_of_outcome wanted → Does words (CommandEnds table left left' written written' wanted)
+  does_at wanted status is told = (command, names, subst (λ (e : Outcome). CommandEnds table left left' written written' e command) (one_outcome outcome wanted status is told) ends)
 
   -- or which front it wrote
-  pub writes_at : (wanted : End) (status : ℕ) → status ≡ status_of end → status ≡ status_of wanted → WritesPart words left left' written written' wanted
+  pub writes_at : (wanted : Outcome) (status : ℕ) → status ≡ status_of_outcome outcome → status ≡ status_of_outcome wanted → WritesPart words table left left' written written' wanted
   writes_at wanted status is told = (
     λ other n.
-        subst (λ (j : Command). CommandEnds left left' written written' wanted j) (sym (one_command words command other names n))
-        (subst (λ (e : End). CommandEnds left left' written written' e command) (one_end end wanted status is told) ends),
+        subst (λ (j : Command). CommandEnds table left left' written written' wanted j) (sym (one_command words command other names n))
+        (subst (λ (e : Outcome). CommandEnds table left left' written written' e command) (one_outcome outcome wanted status is told) ends),
     λ none. absurd (none (is_command words command names)),
   )
+
+-- a fault that a status tells
+pub read_fault_at : (outcome : Outcome) (P : Type 0) (status : ℕ) → status ≡ status_of_outcome outcome → OnReadFault outcome P → status ≡ 2 → P
+read_fault_at outcome P status is cause told = subst (λ (e : Outcome). OnReadFault e P) (one_outcome outcome (Read ReadFault) status is told) cause
+
+pub write_fault_at : (outcome : Outcome) (P : Type 0) (status : ℕ) → status ≡ status_of_outcome outcome → OnWriteFault outcome P → status ≡ 3 → P
+write_fault_at outcome P status is cause told = subst (λ (e : Outcome). OnWriteFault e P) (one_outcome outcome (Read WriteFault) status is told) cause
+
+pub keeper_fault_at : (outcome : Outcome) (P : Type 0) (status : ℕ) → status ≡ status_of_outcome outcome → OnKeeperFault outcome P → status ≡ 4 → P
+keeper_fault_at outcome P status is cause told = subst (λ (e : Outcome). OnKeeperFault e P) (one_outcome outcome KeeperFault status is told) cause
+
+-- a command ends with no status of the usage line
+pub not_usage : (outcome : Outcome) (status : ℕ) → status ≡ status_of_outcome outcome → status ≡ 1 → ⊥
+not_usage (Read Done) status is told = let bad : 1 ≡ 0 = sym told ∙ is in absurd (omega (arith, bad))
+not_usage (Read ReadFault) status is told = let bad : 1 ≡ 2 = sym told ∙ is in absurd (omega (arith, bad))
+not_usage (Read WriteFault) status is told = let bad : 1 ≡ 3 = sym told ∙ is in absurd (omega (arith, bad))
+not_usage (Read Memory) status is told = let bad : 1 ≡ 6 = sym told ∙ is in absurd (omega (arith, bad))
+not_usage (Read BadLine) status is told = let bad : 1 ≡ 7 = sym told ∙ is in absurd (omega (arith, bad))
+not_usage (Read Spent) status is told = let bad : 1 ≡ 9 = sym told ∙ is in absurd (omega (arith, bad))
+not_usage BadRecord status is told = let bad : 1 ≡ 5 = sym told ∙ is in absurd (omega (arith, bad))
+not_usage KeeperFault status is told = let bad : 1 ≡ 4 = sym told ∙ is in absurd (omega (arith, bad))
+not_usage NoGame status is told = let bad : 1 ≡ 10 = sym told ∙ is in absurd (omega (arith, bad))
 
 -- running out of memory before anything was read or written
 pub Keeps-same : (left : Option (List ℕ)) → Keeps left left
 Keeps-same None = tt
 Keeps-same (Some bytes) = refl
 
-out_of_memory : (left written : Option (List ℕ)) (command : Command) → CommandEnds left left written written Memory command
-out_of_memory left written Board = AnswersPart-none board_lines left written
-out_of_memory left written Replay = ReplayEnds-none left written
-out_of_memory left written Tourney = AnswersPart-none tourney_lines left written
-out_of_memory left written Tidy = cut_at_once left written
-out_of_memory left written (Bot depth) = AnswersOrClosesPart-none (bot_lines depth) (bot_answer depth) left written
-out_of_memory left written (Demo number) = (Keeps-same left, nothing_told number written)
+out_of_memory : (table : Option Table) (left written : Option (List ℕ)) (command : Command) → CommandEnds table left left written written (Read Memory) command
+out_of_memory table left written Board = AnswersPart-none board_lines left written
+out_of_memory table left written Replay = ReplayEnds-none left written
+out_of_memory table left written Tourney = AnswersPart-none tourney_lines left written
+out_of_memory table left written Tidy = cut_at_once left written
+out_of_memory table left written (Bot depth) = AnswersOrClosesPart-none (bot_lines depth) (bot_answer depth) left written
+out_of_memory table left written (Demo number) = (Keeps-same left, nothing_told number written)
+out_of_memory table left written Check = (Keeps-same left, inl (Appends-nil written))
 
-pub memory_at_once : (words : List (String Global)) (left written : Option (List ℕ)) → WritesPart words left left written written Memory
-memory_at_once words left written = (λ command names. out_of_memory left written command, λ none. (Keeps-same left, (0, Appends-nil written)))
+pub memory_at_once : (words : List (String Global)) (table : Option Table) (left written : Option (List ℕ)) → WritesPart words table left left written written (Read Memory)
+memory_at_once words table left written = (λ command names. out_of_memory table left written command, λ none. (Keeps-same left, (0, Appends-nil written)))
+
+-- ---- the keeper
+
+-- a table that isn't touched stays
+pub Stays-same : (table : Option Table) → Stays table table
+Stays-same None = tt
+Stays-same (Some held) = refl
+
+-- a keeper that stays unless a command is over a store
+pub keeper_stays_at : (words : List (String Global)) (command : Command) (P : Type 0) → Names words command → ((IsOverStore command → ⊥) → P) → (Does words IsOverStore → ⊥) → P
+keeper_stays_at words command P names stays none = stays (λ over. none (command, names, over))
 
 -- ---- runs without faults
 
--- a demo, whatever the input
-is_complete-demo : (number : ℕ) (left written written' : Option (List ℕ)) (P Q : Type 0) (end : End) → DemoEnds number written written' end → OnWriteFault end Q → ¬ Q
-    → IfSome left (λ text. length text < 2 ^ 40 → IsGood text (Demo number) → (status_of end ≡ 0) ⊎ (status_of end ≡ 6))
-is_complete-demo number None written written' P Q end h q no_write = tt
-is_complete-demo number (Some text) written written' P Q end h q no_write = λ short good. told_or_cut number written written' Q end h q no_write
+-- what holds of the status of a command of lines, by how the reading of its lines ended
+lines_well : (Ends : End → Type 0) (W : ℕ → Type 0) (P Q : Type 0) (outcome : Outcome) → AsRead Ends outcome → OnReadFault outcome P → OnWriteFault outcome Q
+    → ((end : End) → Ends end → read.OnReadFault end P → read.OnWriteFault end Q → W (read.status_of end)) → W (status_of_outcome outcome)
+lines_well Ends W P Q (Read end) h p q well = well end h p q
+lines_well Ends W P Q BadRecord h p q well = absurd h
+lines_well Ends W P Q KeeperFault h p q well = absurd h
+lines_well Ends W P Q NoGame h p q well = absurd h
 
--- what the status is where nothing goes wrong, for each command
-is_complete-command : (command : Command) (left left' written written' : Option (List ℕ)) (P Q : Type 0) (end : End) → CommandEnds left left' written written' end command
-    → OnReadFault end P → OnWriteFault end Q → ¬ P → ¬ Q
-    → IfSome left (λ text. length text < 2 ^ 40 → IsGood text command → (status_of end ≡ 0) ⊎ (status_of end ≡ 6))
-is_complete-command Board left left' written written' P Q end h p q no_read no_write = is_complete board_lines left left' written written' P Q end h p q no_read no_write
-is_complete-command Replay left left' written written' P Q end h p q no_read no_write = is_complete-replayed left left' written written' P Q end h p q no_read no_write
-is_complete-command Tourney left left' written written' P Q end h p q no_read no_write = is_complete tourney_lines left left' written written' P Q end h p q no_read no_write
-is_complete-command Tidy left left' written written' P Q end h p q no_read no_write = is_complete-tidied left left' written written' P Q end h p q no_read no_write
-is_complete-command (Bot depth) left left' written written' P Q end h p q no_read no_write =
-    is_complete-closing (bot_lines depth) (bot_answer depth) left left' written written' P Q end h p q no_read no_write
-is_complete-command (Demo number) left left' written written' P Q end h p q no_read no_write = is_complete-demo number left written written' P Q end h.1 q no_write
+-- a check of a good store
+is_complete-check : (table : Option Table) (written written' : Option (List ℕ)) (Q R : Type 0) (outcome : Outcome) → IsToldGood table → CheckEnds table written written' outcome
+    → OnWriteFault outcome Q → OnKeeperFault outcome R → (Q → ⊥) → (R → ⊥) → (status_of_outcome outcome ≡ 0) ⊎ (status_of_outcome outcome ≡ 6)
+is_complete-check table written written' Q R (Read Done) good h q r no_write no_keeper = inl refl
+is_complete-check table written written' Q R (Read ReadFault) good h q r no_write no_keeper = absurd h
+is_complete-check table written written' Q R (Read WriteFault) good h q r no_write no_keeper = absurd (no_write q)
+is_complete-check table written written' Q R (Read Memory) good h q r no_write no_keeper = inr refl
+is_complete-check table written written' Q R (Read BadLine) good h q r no_write no_keeper = absurd h
+is_complete-check table written written' Q R (Read Spent) good h q r no_write no_keeper = absurd h
+is_complete-check None written written' Q R BadRecord good h q r no_write no_keeper = absurd good
+is_complete-check (Some told) written written' Q R BadRecord good h q r no_write no_keeper = absurd (good.none_bad h.key h.first.bad)
+is_complete-check table written written' Q R KeeperFault good h q r no_write no_keeper = absurd (no_keeper r)
+is_complete-check table written written' Q R NoGame good h q r no_write no_keeper = absurd h
 
-pub complete_at : (words : List (String Global)) (command other : Command) (left left' written written' : Option (List ℕ)) (P Q : Type 0) (end : End) (status : ℕ)
-    → Names words command → Names words other → status ≡ status_of end → CommandEnds left left' written written' end command → OnReadFault end P → OnWriteFault end Q → ¬ P → ¬ Q
-    → IfSome left (λ text. length text < 2 ^ 40 → IsGood text other → (status ≡ 0) ⊎ (status ≡ 6))
-complete_at words command other left left' written written' P Q end status names n is h p q no_read no_write =
-    subst (λ (s : ℕ). IfSome left (λ text. length text < 2 ^ 40 → IsGood text other → (s ≡ 0) ⊎ (s ≡ 6))) (sym is)
-    (subst (λ (j : Command). IfSome left (λ text. length text < 2 ^ 40 → IsGood text j → (status_of end ≡ 0) ⊎ (status_of end ≡ 6))) (sym (one_command words command other names n))
-    (is_complete-command command left left' written written' P Q end h p q no_read no_write))
+-- the run of this command went well
+abbrev WentWell : Option Table → Option (List ℕ) → Command → ℕ → Type 0
+WentWell table left command status = IfSome left (λ text. length text < 2 ^ 40 → IsGood table text command → (status ≡ 0) ⊎ (status ≡ 6))
+
+-- whatever the input
+any_input : (table : Option Table) (left : Option (List ℕ)) (command : Command) (status : ℕ) → ((text : List ℕ) → IsGood table text command → (status ≡ 0) ⊎ (status ≡ 6)) → WentWell table left command status
+any_input table None command status f = tt
+any_input table (Some text) command status f = λ short good. f text good
+
+module _ (table : Option Table) (left left' written written' : Option (List ℕ)) (P Q R : Type 0) (no_read : P → ⊥) (no_write : Q → ⊥) where
+  -- what the status is where nothing goes wrong, for each command
+  is_complete-command : (command : Command) (outcome : Outcome) → CommandEnds table left left' written written' outcome command → OnReadFault outcome P → OnWriteFault outcome Q → OnKeeperFault outcome R
+      → (IsOverStore command → R → ⊥) → WentWell table left command (status_of_outcome outcome)
+  is_complete-command Board outcome h p q r no_keeper = lines_well _ (WentWell table left Board) P Q outcome h p q
+      (λ end h p q. is_complete board_lines left left' written written' P Q end h p q no_read no_write)
+  is_complete-command Replay outcome h p q r no_keeper = lines_well _ (WentWell table left Replay) P Q outcome h p q
+      (λ end h p q. is_complete-replayed left left' written written' P Q end h p q no_read no_write)
+  is_complete-command Tourney outcome h p q r no_keeper = lines_well _ (WentWell table left Tourney) P Q outcome h p q
+      (λ end h p q. is_complete tourney_lines left left' written written' P Q end h p q no_read no_write)
+  is_complete-command Tidy outcome h p q r no_keeper = lines_well _ (WentWell table left Tidy) P Q outcome h p q
+      (λ end h p q. is_complete-tidied left left' written written' P Q end h p q no_read no_write)
+  is_complete-command (Bot depth) outcome h p q r no_keeper = lines_well _ (WentWell table left (Bot depth)) P Q outcome h p q
+      (λ end h p q. is_complete-closing (bot_lines depth) (bot_answer depth) left left' written written' P Q end h p q no_read no_write)
+  is_complete-command (Demo number) outcome h p q r no_keeper = lines_well _ (WentWell table left (Demo number)) P Q outcome h.1 p q
+      (λ end h p q. any_input table left (Demo number) (read.status_of end) (λ text good. told_or_cut number written written' Q end h q no_write))
+  is_complete-command Check outcome h p q r no_keeper =
+      any_input table left Check (status_of_outcome outcome) (λ text good. is_complete-check table written written' Q R outcome good h.1 q r no_write (no_keeper tt))
+
+  pub complete_at : (words : List (String Global)) (command other : Command) (outcome : Outcome) (status : ℕ) → Names words command → Names words other → status ≡ status_of_outcome outcome
+      → CommandEnds table left left' written written' outcome command → OnReadFault outcome P → OnWriteFault outcome Q → OnKeeperFault outcome R → (IsOverStore other → R → ⊥)
+      → WentWell table left other status
+  complete_at words command other outcome status names n is h p q r no_keeper =
+      let same : other ≡ command = one_command words command other names n in
+      subst (WentWell table left other) (sym is)
+      (subst (λ (j : Command). WentWell table left j (status_of_outcome outcome)) (sym same)
+      (is_complete-command command outcome h p q r (subst (λ (j : Command). IsOverStore j → R → ⊥) same no_keeper)))

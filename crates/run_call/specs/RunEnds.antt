@@ -1,48 +1,62 @@
 -- How a run of the program ends, by the command that its words name.
-use Rattle.std.specs.Prelude.{◌≡◌, ℕ, List, None, Option, String, ⊤}
+use Rattle.std.specs.Prelude.{◌≡◌, ℕ, List, None, Some, Option, String, ⊤}
 use Rattle.std.specs.Io.KnownBytes.{Keeps}
 use Rattle.std.specs.declared.alloc.Global.{Global}
 use Rattle.board_command.specs.BoardEnds.{BoardEnds}
 use Rattle.bot_command.specs.BotEnds.{BotEnds}
 use Rattle.bot_command.specs.BotLines.{bot_lines}
+use Rattle.check_command.specs.CheckEnds.{CheckEnds}
 use Rattle.demo_command.specs.DemoEnds.{DemoEnds}
+use Rattle.edge_traits.specs.Pairs.{Table}
 use Rattle.replay_command.specs.ReplayEnds.{AreEvening, ReplayEnds}
 use Rattle.board_command.specs.Transcript.{bad_in}
 use Rattle.line_answers.specs.LineCommand as each
 use Rattle.line_answers.specs.Lines.{lines_of}
+use Rattle.lobby_load.specs.BadRows.{IsGoodStore}
 use Rattle.pgn_book.specs.declared.game.PgnGame.{PgnGame}
 use Rattle.pgn_book.specs.Games.{Reads}
+use Rattle.store_ends.specs.Outcomes.{AsRead}
+use Rattle.store_ends.specs.declared.outcome.Outcome.{Outcome}
 use Rattle.tidy_command.specs.TidyEnds.{TidyEnds}
 use Rattle.tourney_command.specs.Texts.{tourney_lines}
 use Rattle.tourney_command.specs.TourneyEnds.{TourneyEnds}
 use Rattle.run_call.specs.Words.{IsCommand, Names, UsagePart}
-use Rattle.line_answers.specs.declared.end.End.{End}
 use Rattle.run_call.specs.declared.command.Command.{Command}
-use Rattle.run_call.specs.declared.command.Command.TheVariants.{Board, Replay, Tourney, Tidy, Bot, Demo}
+use Rattle.run_call.specs.declared.command.Command.TheVariants.{Board, Replay, Tourney, Tidy, Bot, Demo, Check}
 
--- how a command ends; `demo` leaves the input as it was
-abbrev pub CommandEnds : Option (List ℕ) → Option (List ℕ) → Option (List ℕ) → Option (List ℕ) → End → Command → Type 0
-CommandEnds left left' written written' end Board = BoardEnds left left' written written' end
-CommandEnds left left' written written' end Replay = ReplayEnds left left' written written' end
-CommandEnds left left' written written' end Tourney = TourneyEnds left left' written written' end
-CommandEnds left left' written written' end Tidy = TidyEnds left left' written written' end
-CommandEnds left left' written written' end (Bot depth) = BotEnds depth left left' written written' end
-CommandEnds left left' written written' end (Demo number) = Keeps left left' × DemoEnds number written written' end
+-- how a command ends over this table, where it is told; `demo` and `check` leave the input as it was
+abbrev pub CommandEnds : Option Table → Option (List ℕ) → Option (List ℕ) → Option (List ℕ) → Option (List ℕ) → Outcome
+    → Command → Type 0
+CommandEnds table left left' written written' outcome Board = AsRead (BoardEnds left left' written written') outcome
+CommandEnds table left left' written written' outcome Replay = AsRead (ReplayEnds left left' written written') outcome
+CommandEnds table left left' written written' outcome Tourney = AsRead (TourneyEnds left left' written written') outcome
+CommandEnds table left left' written written' outcome Tidy = AsRead (TidyEnds left left' written written') outcome
+CommandEnds table left left' written written' outcome (Bot depth) =
+    AsRead (BotEnds depth left left' written written') outcome
+CommandEnds table left left' written written' outcome (Demo number) =
+    Keeps left left' × AsRead (DemoEnds number written written') outcome
+CommandEnds table left left' written written' outcome Check = Keeps left left' × CheckEnds table written written' outcome
 
 -- a prefix of what would have been written, at a fault of writing or when out of memory: of a command's text, or of the
 -- usage line
-abbrev pub WritesPart : List (String Global) → Option (List ℕ) → Option (List ℕ) → Option (List ℕ) → Option (List ℕ)
-    → End → Type 0
-WritesPart words left left' written written' end =
-    ((command : Command) → Names words command → CommandEnds left left' written written' end command)
+abbrev pub WritesPart : List (String Global) → Option Table → Option (List ℕ) → Option (List ℕ) → Option (List ℕ)
+    → Option (List ℕ) → Outcome → Type 0
+WritesPart words table left left' written written' outcome =
+    ((command : Command) → Names words command → CommandEnds table left left' written written' outcome command)
     × (¬ (IsCommand words) → UsagePart left left' written written')
 
+-- the table is told, and each of its records is good
+abbrev pub IsToldGood : Option Table → Type 0
+IsToldGood None = ⊥
+IsToldGood (Some table) = IsGoodStore table
+
 -- the input is in the command's grammar: none of its lines is bad, or they are those of an evening, or games are read
--- in its text; `demo` reads none
-abbrev pub IsGood : List ℕ → Command → Type 0
-IsGood text Board = bad_in (lines_of text) ≡ None
-IsGood text Replay = AreEvening (lines_of text)
-IsGood text Tourney = each.bad_in tourney_lines (lines_of text) ≡ None
-IsGood text Tidy = (games : List PgnGame) × Reads text games
-IsGood text (Bot depth) = each.bad_in (bot_lines depth) (lines_of text) ≡ None
-IsGood text (Demo number) = ⊤
+-- in its text; `demo` reads none, and `check` reads a good store
+abbrev pub IsGood : Option Table → List ℕ → Command → Type 0
+IsGood table text Board = bad_in (lines_of text) ≡ None
+IsGood table text Replay = AreEvening (lines_of text)
+IsGood table text Tourney = each.bad_in tourney_lines (lines_of text) ≡ None
+IsGood table text Tidy = (games : List PgnGame) × Reads text games
+IsGood table text (Bot depth) = each.bad_in (bot_lines depth) (lines_of text) ≡ None
+IsGood table text (Demo number) = ⊤
+IsGood table text Check = IsToldGood table

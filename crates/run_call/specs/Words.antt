@@ -1,31 +1,39 @@
 -- The words of a command that `run` runs, and what is written at most for others.
-use Rattle.std.specs.Prelude.{ℕ, ◌≤◌, List, Option, String, ⊤}
+use Rattle.std.specs.Prelude.{◌≡◌, ℕ, ◌≤◌, List, Option, Some, None, String, ⊤}
 use Rattle.std.specs.Io.KnownBytes.{Keeps}
 use Rattle.edge_traits.specs.Sink.{AppendsFront}
 use Rattle.job_words.specs.Usage.{usage_line}
 use Rattle.std.specs.declared.alloc.Global.{Global}
 use Rattle.job_words.specs.Jobs as jobs
+use Rattle.job_words.specs.declared.job.Job.{Job}
 use Rattle.job_words.specs.declared.job.Job.TheVariants as job
 use Rattle.run_call.specs.declared.command.Command.{Command}
-use Rattle.run_call.specs.declared.command.Command.TheVariants.{Board, Replay, Tourney, Tidy, Bot, Demo}
+use Rattle.run_call.specs.declared.command.Command.TheVariants.{Board, Replay, Tourney, Tidy, Bot, Demo, Check}
+
+-- the command that is run for a job; players are served by another call
+abbrev pub command_of : Job → Option Command
+command_of job.Board = Some Board
+command_of job.Replay = Some Replay
+command_of job.Tourney = Some Tourney
+command_of job.Tidy = Some Tidy
+command_of (job.Bot depth) = Some (Bot depth)
+command_of (job.Demo number) = Some (Demo number)
+command_of (job.Check store) = Some Check
+command_of _ = None
 
 -- the words name this command
 abbrev pub Names : List (String Global) → Command → Type 0
-Names words Board = jobs.Names words job.Board
-Names words Replay = jobs.Names words job.Replay
-Names words Tourney = jobs.Names words job.Tourney
-Names words Tidy = jobs.Names words job.Tidy
-Names words (Bot depth) = jobs.Names words (job.Bot depth)
-Names words (Demo number) = jobs.Names words (job.Demo number)
+Names words command = (job : Job) × jobs.Names words job × (command_of job ≡ Some command)
 
 -- the bot looks 4 half-moves ahead at most
 abbrev pub IsWithin : Command → Type 0
-IsWithin Board = ⊤
-IsWithin Replay = ⊤
-IsWithin Tourney = ⊤
-IsWithin Tidy = ⊤
 IsWithin (Bot depth) = depth ≤ 4
-IsWithin (Demo number) = ⊤
+IsWithin _ = ⊤
+
+-- the command is over a store: it calls the keeper
+abbrev pub IsOverStore : Command → Type 0
+IsOverStore Check = ⊤
+IsOverStore _ = ⊥
 
 -- the words name a command
 abbrev pub IsCommand : List (String Global) → Type 0

@@ -1,8 +1,8 @@
 //! Which command the words name.
 
-ghost use Rattle.std.specs.Prelude.{IfOk, IfErr};
+ghost use Rattle.std.specs.Prelude.{◌≡◌, IfOk, IfErr};
 ghost use Rattle.job_words.specs.Jobs.{OnUsage};
-ghost use Rattle.run_call.specs.Words.{IsCommand, IsWithin, Names};
+ghost use Rattle.run_call.specs.Words.{IsCommand, IsWithin, Names, command_of};
 
 use job_words::{Job, JobFail, read_job};
 use std::alloc::Global;
@@ -28,6 +28,8 @@ pub enum Command {
         /// The number, from 0 to 999,999.
         number: u32,
     },
+    /// Loads the store, and tells how many accounts and games it holds; reads nothing else.
+    Check,
 }
 
 /// Reads the words. Those of a job that isn't done here are `Usage` too.
@@ -37,13 +39,27 @@ pub(crate) fn read_command(alloc: Global, words: &[String]) -> Result<Command, J
     ensures usage { IfErr result (λ fail. OnUsage fail (¬ (IsCommand words.now))) }
 {
     match read_job(alloc, words) {
-        Ok(Job::Board) => Ok(Command::Board),
-        Ok(Job::Replay) => Ok(Command::Replay),
-        Ok(Job::Tourney) => Ok(Command::Tourney),
-        Ok(Job::Tidy) => Ok(Command::Tidy),
-        Ok(Job::Bot { depth }) => Ok(Command::Bot { depth }),
-        Ok(Job::Demo { number }) => Ok(Command::Demo { number }),
-        Ok(Job::Serve { .. }) => Err(JobFail::Usage),
+        Ok(job) => match command_of(&job) {
+            Some(command) => Ok(command),
+            None => Err(JobFail::Usage),
+        },
         Err(fail) => Err(fail),
+    }
+}
+
+/// The command that is run for a job; none where it isn't done here.
+fn command_of(job: &Job) -> Option<Command>
+    ensures { result ≡ command_of job.now }
+{
+    match job {
+        Job::Board => Some(Command::Board),
+        Job::Replay => Some(Command::Replay),
+        Job::Tourney => Some(Command::Tourney),
+        Job::Tidy => Some(Command::Tidy),
+        Job::Bot { depth } => Some(Command::Bot { depth: *depth }),
+        Job::Demo { number } => Some(Command::Demo { number: *number }),
+        Job::Check { .. } => Some(Command::Check),
+        Job::Serve { .. } => None,
+        _ => None,
     }
 }

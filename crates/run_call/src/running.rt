@@ -1,30 +1,35 @@
 //! The top call.
 
-ghost use Rattle.std.specs.Prelude.{◌≡◌, ◌⊎◌, ◌<◌, ◌^◌, [], ◌∷◌, length, IfSome, Contains};
+ghost use Rattle.std.specs.Prelude.{◌≡◌, ◌⊎◌, ◌<◌, ◌≤◌, ◌^◌, [], ◌∷◌, length, IfSome, Contains};
 ghost use Rattle.std.specs.Io.KnownBytes.{Appends, Keeps};
 ghost use Rattle.edge_traits.specs.Faults.{Rose};
-ghost use Rattle.line_answers.specs.Ends.{OnReadFault, OnWriteFault};
+ghost use Rattle.edge_traits.specs.Keeper.{Stays};
 ghost use Rattle.run_call.specs.RunEnds.{CommandEnds, IsGood, WritesPart};
 ghost use Rattle.job_words.specs.Usage.{usage_line};
-ghost use Rattle.run_call.specs.Words.{Does, IsCommand, IsWithin, Names};
+ghost use Rattle.run_call.specs.Words.{Does, IsCommand, IsOverStore, IsWithin, Names};
+ghost use Rattle.store_ends.specs.Outcomes.{OnKeeperFault, OnReadFault, OnWriteFault};
 ghost use Rattle.line_answers.specs.declared.end.End.{End};
+ghost use Rattle.store_ends.specs.declared.outcome.Outcome.{Outcome};
 ghost use Rattle.run_call.specs.declared.command.Command.{Command};
 
 use crate::command::{Command, read_command};
 use board_command::board;
 use bot_command::bot;
+use check_command::check;
 use demo_command::demo;
 use edge_traits::{Keeper, Sink, Source};
 use job_words::{JobFail, tell_usage};
 use line_answers::{End, status};
 use replay_command::replay;
 use std::alloc::Global;
+use store_ends::{Outcome, status_of_outcome};
 use tidy_command::tidy;
 use tourney_command::tourney;
 
 /// Runs the command that the words name, and gives the status with which the program ends: 0 where the input was
-/// read to its end, 1 where the words name no command, 2 at a fault of reading, 3 at a fault of writing, 6 for want
-/// of memory, 7 at the first line outside the grammar, and 9 after 2^40 reads. The keeper isn't called.
+/// read to its end, 1 where the words name no command, 2 at a fault of reading, 3 at a fault of writing, 4 at a fault of
+/// the keeper, 5 where a record of the store is bad, 6 for want of memory, 7 at the first line outside the grammar, and
+/// 9 after 2^40 reads. The keeper is called by the commands over a store alone, and its table stays as it is.
 pub fn run<S: Source, K: Sink, P: Keeper>(
     alloc: Global,
     words: &[String],
@@ -32,56 +37,70 @@ pub fn run<S: Source, K: Sink, P: Keeper>(
     sink: &mut K,
     keeper: &mut P,
 ) -> u8
-    ensures answered { result ≡ 0 → Does words.now
-        (CommandEnds (S.left source.old) (S.left source.new) (K.written sink.old) (K.written sink.new) End.Done) }
+    ensures answered { result ≡ 0 → Does words.now (CommandEnds (P.table keeper.old) (S.left source.old)
+        (S.left source.new) (K.written sink.old) (K.written sink.new) (Outcome.Read End.Done)) }
     ensures usage { result ≡ 1 → ¬ (IsCommand words.now) × Keeps (S.left source.old) (S.left source.new)
         × Appends (K.written sink.old) (K.written sink.new) usage_line }
     ensures no_command { ¬ (IsCommand words.now) → (result ≡ 1) ⊎ ((result ≡ 3) ⊎ (result ≡ 6)) }
     ensures read_fault { result ≡ 2 → Rose (S.faults source.old) (S.faults source.new) }
-    ensures read_part { result ≡ 2 → Does words.now
-        (CommandEnds (S.left source.old) (S.left source.new) (K.written sink.old) (K.written sink.new) End.ReadFault) }
+    ensures read_part { result ≡ 2 → Does words.now (CommandEnds (P.table keeper.old) (S.left source.old)
+        (S.left source.new) (K.written sink.old) (K.written sink.new) (Outcome.Read End.ReadFault)) }
     ensures write_fault { result ≡ 3 → Rose (K.faults sink.old) (K.faults sink.new) }
-    ensures write_part { result ≡ 3 → WritesPart words.now (S.left source.old) (S.left source.new) (K.written sink.old)
-        (K.written sink.new) End.WriteFault }
-    ensures memory_part { result ≡ 6 → WritesPart words.now (S.left source.old) (S.left source.new) (K.written sink.old)
-        (K.written sink.new) End.Memory }
-    ensures bad_line { result ≡ 7 → Does words.now
-        (CommandEnds (S.left source.old) (S.left source.new) (K.written sink.old) (K.written sink.new) End.BadLine) }
-    ensures spent { result ≡ 9 → Does words.now
-        (CommandEnds (S.left source.old) (S.left source.new) (K.written sink.old) (K.written sink.new) End.Spent) }
+    ensures write_part { result ≡ 3 → WritesPart words.now (P.table keeper.old) (S.left source.old)
+        (S.left source.new) (K.written sink.old) (K.written sink.new) (Outcome.Read End.WriteFault) }
+    ensures keeper_fault { result ≡ 4 → Rose (P.faults keeper.old) (P.faults keeper.new) }
+    ensures keeper_part { result ≡ 4 → Does words.now (CommandEnds (P.table keeper.old) (S.left source.old)
+        (S.left source.new) (K.written sink.old) (K.written sink.new) Outcome.KeeperFault) }
+    ensures bad_record { result ≡ 5 → Does words.now (CommandEnds (P.table keeper.old) (S.left source.old)
+        (S.left source.new) (K.written sink.old) (K.written sink.new) Outcome.BadRecord) }
+    ensures memory_part { result ≡ 6 → WritesPart words.now (P.table keeper.old) (S.left source.old)
+        (S.left source.new) (K.written sink.old) (K.written sink.new) (Outcome.Read End.Memory) }
+    ensures bad_line { result ≡ 7 → Does words.now (CommandEnds (P.table keeper.old) (S.left source.old)
+        (S.left source.new) (K.written sink.old) (K.written sink.new) (Outcome.Read End.BadLine)) }
+    ensures spent { result ≡ 9 → Does words.now (CommandEnds (P.table keeper.old) (S.left source.old)
+        (S.left source.new) (K.written sink.old) (K.written sink.new) (Outcome.Read End.Spent)) }
     ensures complete { (command : Command) → Names words.now command → ¬ (Rose (S.faults source.old) (S.faults source.new))
         → ¬ (Rose (K.faults sink.old) (K.faults sink.new))
-        → IfSome (S.left source.old) (λ text. length text < 2 ^ 40 → IsGood text command → (result ≡ 0)
-        ⊎ (result ≡ 6)) }
-    ensures statuses { Contains (0 ∷ 1 ∷ 2 ∷ 3 ∷ 6 ∷ 7 ∷ 9 ∷ []) result }
-    ensures keeper_stays { keeper.new ≡ keeper.old }
+        → (IsOverStore command → ¬ (Rose (P.faults keeper.old) (P.faults keeper.new)))
+        → IfSome (S.left source.old) (λ text. length text < 2 ^ 40 → IsGood (P.table keeper.old) text command
+        → (result ≡ 0) ⊎ (result ≡ 6)) }
+    ensures statuses { Contains (0 ∷ 1 ∷ 2 ∷ 3 ∷ 4 ∷ 5 ∷ 6 ∷ 7 ∷ 9 ∷ []) result }
+    ensures keeper_stays { ¬ (Does words.now IsOverStore) → keeper.new ≡ keeper.old }
+    ensures table_stays { Stays (P.table keeper.old) (P.table keeper.new) }
+    ensures keeper_counted { P.faults keeper.old ≤ P.faults keeper.new }
 {
     match read_command(alloc, words) {
-        Ok(command) => status(run_command(alloc, command, source, sink)),
+        Ok(command) => status_of_outcome(run_command(alloc, command, source, sink, keeper)),
         Err(JobFail::Usage) => tell_usage(sink),
         Err(JobFail::Memory) => status(End::Memory),
     }
 }
 
 /// Runs a command.
-fn run_command<S: Source, K: Sink>(
+fn run_command<S: Source, K: Sink, P: Keeper>(
     alloc: Global,
     command: Command,
     source: &mut S,
     sink: &mut K,
-) -> End
+    keeper: &mut P,
+) -> Outcome
     requires { IsWithin command }
-    ensures ends { CommandEnds (S.left source.old) (S.left source.new) (K.written sink.old)
+    ensures ends { CommandEnds (P.table keeper.old) (S.left source.old) (S.left source.new) (K.written sink.old)
         (K.written sink.new) result command }
     ensures read_cause { OnReadFault result (Rose (S.faults source.old) (S.faults source.new)) }
     ensures write_cause { OnWriteFault result (Rose (K.faults sink.old) (K.faults sink.new)) }
+    ensures keeper_cause { OnKeeperFault result (Rose (P.faults keeper.old) (P.faults keeper.new)) }
+    ensures keeper_stays { ¬ (IsOverStore command) → keeper.new ≡ keeper.old }
+    ensures table_stays { Stays (P.table keeper.old) (P.table keeper.new) }
+    ensures keeper_counted { P.faults keeper.old ≤ P.faults keeper.new }
 {
     match command {
-        Command::Board => board(alloc, source, sink),
-        Command::Replay => replay(alloc, source, sink),
-        Command::Tourney => tourney(alloc, source, sink),
-        Command::Tidy => tidy(alloc, source, sink),
-        Command::Bot { depth } => bot(alloc, depth, source, sink),
-        Command::Demo { number } => demo(alloc, number, sink),
+        Command::Board => Outcome::Read(board(alloc, source, sink)),
+        Command::Replay => Outcome::Read(replay(alloc, source, sink)),
+        Command::Tourney => Outcome::Read(tourney(alloc, source, sink)),
+        Command::Tidy => Outcome::Read(tidy(alloc, source, sink)),
+        Command::Bot { depth } => Outcome::Read(bot(alloc, depth, source, sink)),
+        Command::Demo { number } => Outcome::Read(demo(alloc, number, sink)),
+        Command::Check => check(alloc, sink, keeper),
     }
 }

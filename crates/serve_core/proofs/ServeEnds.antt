@@ -65,7 +65,7 @@ is_complete DoorFault (inr e) = absurd cc
 
 -- words that name no job don't ask to serve
 pub no_serve : (fail : JobFail) (words : List (String Global)) → OnUsage fail ((job : Job) → jobs.Names words job → ⊥) → OnUsage fail (AsksToServe words → ⊥)
-no_serve TheFail.Usage words h = λ asks. h (TheJob.Serve asks.0 asks.1 asks.2) asks.3
+no_serve TheFail.Usage words h = λ asks. h (TheJob.Serve asks.0 asks.1 asks.2 asks.3) asks.4
 no_serve TheFail.Memory words h = tt
 
 -- the statuses with which the usage line is written
