@@ -130,7 +130,9 @@ board_there t halves n first last = board_in t.variant t halves n first last
 
 pub numbered_there : (t : Terms) (halves : List Half) (n : ℕ) → 1 ≤ n → n ≤ bounds.boards t.variant → numbered n (boards_after t halves) ≡ Some (board_after t halves n)
 numbered_there t halves zero first last = absurd (omega (arith, first))
-numbered_there t halves (suc n) first last = board_in t.variant t halves (suc n) first last
+numbered_there t halves (suc n) first last =
+    let place : n ≡ suc n - 1 = omega arith in
+    ap (slice_get (boards_after t halves)) place ∙ board_in t.variant t halves (suc n) first last
 
 -- the boards at the start of the game
 rewound_in : (v : Variant) (t : Terms) (halves : List Half) → map rewound (map (board_after t halves) (board_numbers v)) ≡ map (board_after t []) (board_numbers v)

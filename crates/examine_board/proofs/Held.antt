@@ -57,7 +57,7 @@ pub looked_branch : (shared : ℕ) (stored branch : List Half) (i : ℕ) → sha
 looked_branch shared stored branch i within high =
     let many : length (take shared stored) ≡ shared = length-take-le shared stored within in
     let there : i ≡ length (take shared stored) + (i - shared) = omega (arith, many, high) in
-    ap (slice_get (take shared stored ++ branch)) there ∙ slice_get-right (take shared stored) branch (i - shared)
+    slice_get-right (take shared stored) branch (i - shared) i there
 
 -- the first of them, cut before the branch or in it
 pub cut_stored : (shared place : ℕ) (stored branch : List Half) → shared ≤ length stored → place ≤ shared → take place (take shared stored ++ branch) ≡ take place stored
@@ -66,9 +66,11 @@ cut_stored shared place stored branch within low =
     take-append-le place (take shared stored) branch (omega (arith, many, low)) ∙ take-take place shared stored low
 
 pub cut_branch : {X : Type 0} (xs ys : List X) (n : ℕ) → length xs ≤ n → take n (xs ++ ys) ≡ xs ++ take (n - length xs) ys
-cut_branch [] ys n h = refl
+cut_branch [] ys n h = let all : n ≡ n - 0 = omega arith in ap (λ k. take k ys) all
 cut_branch (x ∷ xs) ys zero h = absurd (omega (arith, h))
-cut_branch (x ∷ xs) ys (suc n) h = ap (λ zs. x ∷ zs) (cut_branch xs ys n (omega (arith, h)))
+cut_branch (x ∷ xs) ys (suc n) h =
+    let left : n - length xs ≡ suc n - length (x ∷ xs) = omega arith in
+    ap (λ zs. x ∷ zs) (cut_branch xs ys n (omega (arith, h))) ∙ ap (λ k. x ∷ (xs ++ take k ys)) left
 
 -- the half-moves that are looked at, without those that follow the ones on the boards
 pub cut_here : (shared place : ℕ) (stored branch none : List Half) → shared ≤ length stored → place ≤ shared → none ≡ [] →
@@ -85,8 +87,8 @@ cut_there shared place stored branch left within high are =
 
 -- what an exam keeps of them, once that is all that is looked at
 pub record IsCut (t : Terms) (boards : List Board) (list left : List Half) (place : ℕ) : Type 0 where
-  pub place : place ≤ length left
-  pub boards : boards ≡ boards_after t (take place left)
+  pub within : place ≤ length left
+  pub are : boards ≡ boards_after t (take place left)
   pub laid : CanBeLaid t left
 
 pub is_cut : (t : Terms) (boards : List Board) (list left : List Half) (place : ℕ) → place ≤ length list → boards ≡ boards_after t (take place list) → CanBeLaid t list → left ≡ take place list →
@@ -94,7 +96,7 @@ pub is_cut : (t : Terms) (boards : List Board) (list left : List Half) (place : 
 is_cut t boards list left place within are laid cut =
     let many : length left ≡ place = ap length cut ∙ length-take-le place list within in
     record {
-      place = omega (arith, many);
-      boards = are ∙ ap (boards_after t) (sym cut ∙ sym (take_all place left (omega (arith, many))));
+      within = omega (arith, many);
+      are = are ∙ ap (boards_after t) (sym cut ∙ sym (take_all place left (omega (arith, many))));
       laid = subst (CanBeLaid t) (sym cut) (CanBeLaid-take t list place laid);
     }

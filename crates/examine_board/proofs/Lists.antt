@@ -35,9 +35,10 @@ slice_get-left [] ys i low = absurd (omega (arith, low))
 slice_get-left (x ∷ xs) ys zero low = refl
 slice_get-left (x ∷ xs) ys (suc i) low = slice_get-left xs ys i (omega (arith, low))
 
-pub slice_get-right : {X : Type 0} (xs ys : List X) (i : ℕ) → slice_get (xs ++ ys) (length xs + i) ≡ slice_get ys i
-slice_get-right [] ys i = refl
-slice_get-right (x ∷ xs) ys i = slice_get-right xs ys i
+pub slice_get-right : {X : Type 0} (xs ys : List X) (i j : ℕ) → j ≡ length xs + i → slice_get (xs ++ ys) j ≡ slice_get ys i
+slice_get-right [] ys i j e = let same : j ≡ i = omega (arith, e) in ap (slice_get ys) same
+slice_get-right (x ∷ xs) ys i zero e = absurd (omega (arith, e))
+slice_get-right (x ∷ xs) ys i (suc j) e = slice_get-right xs ys i j (omega (arith, e))
 
 -- what holds of each item holds of the one in a place
 pub at_place : {X : Type 0} (P : X → Type 0) (xs : List X) (i : ℕ) (x : X) → AllByRecursion P xs → slice_get xs i ≡ Some x → P x

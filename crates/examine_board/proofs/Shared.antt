@@ -2,7 +2,7 @@
 use Rattle.std.proofs.Common.{◌≡◌, ℕ, ◌+◌, ◌<◌, ◌≤◌, ◌&&◌, zero, suc, min, Bool, true, false, if◌then◌else◌, List, [], ◌∷◌, length, take, Option, Some, None, refl, sym, ap, subst, ◌∙◌, arith}
 use Rattle.std.specs.Prelude.{◌==◌, slice_get}
 use Rattle.std.specs.Bool.{beq}
-use Rattle.std.proofs.lemmas.Bool.{eqb-eq, eq-eqb}
+use Rattle.std.proofs.lemmas.Bool.{eqb-true, eq-eqb}
 use Rattle.chess_model.specs.declared.man.Kind.{Kind}
 use Rattle.chess_model.specs.declared.man.Kind.TheVariants.{Pawn, Knight, Bishop, Rook, Queen, King}
 use Rattle.chess_model.specs.declared.moves.Move.{Move}
@@ -94,11 +94,11 @@ move_is : (m n : Move) → same_move m n ≡ true → m ≡ n
 move_is (Plain a b promo) (Plain c d becomes) e =
     let first = both (a == c && b == d) (same_promotion promo becomes) e in
     let squares = both (a == c) (b == d) first.0 in
-    λ i. Plain (eqb-eq a c squares.0 i) (eqb-eq b d squares.1 i) (promotion_is promo becomes first.1 i)
+    λ i. Plain (eqb-true a c squares.0 i) (eqb-true b d squares.1 i) (promotion_is promo becomes first.1 i)
 move_is (Castle long) (Castle other) e = ap (λ x. Castle x) (castle_is long other e)
 move_is (Drop k a) (Drop l b) e =
     let parts = both (same_kind k l) (a == b) e in
-    λ i. Drop (kind_is k l parts.0 i) (eqb-eq a b parts.1 i)
+    λ i. Drop (kind_is k l parts.0 i) (eqb-true a b parts.1 i)
 move_is (Plain a b promo) (Castle other) e = absurd cc
 move_is (Plain a b promo) (Drop l c) e = absurd cc
 move_is (Castle long) (Plain c d becomes) e = absurd cc
@@ -119,7 +119,7 @@ stamps_are : (o p : Option (ℕ × ℕ)) → same_stamps o p ≡ true → o ≡ 
 stamps_are None None e = refl
 stamps_are (Some s) (Some t) e =
     let parts = both (s.0 == t.0) (s.1 == t.1) e in
-    λ i. Some (eqb-eq s.0 t.0 parts.0 i, eqb-eq s.1 t.1 parts.1 i)
+    λ i. Some (eqb-true s.0 t.0 parts.0 i, eqb-true s.1 t.1 parts.1 i)
 stamps_are None (Some t) e = absurd cc
 stamps_are (Some s) None e = absurd cc
 
@@ -132,7 +132,7 @@ charge_is None None e = refl
 charge_is (Some c) (Some d) e =
     let first = both (c.begin == d.begin && c.end == d.end) (same_stamps c.client d.client) e in
     let moments = both (c.begin == d.begin) (c.end == d.end) first.0 in
-    λ i. Some (record { begin = eqb-eq c.begin d.begin moments.0 i; end = eqb-eq c.end d.end moments.1 i; client = stamps_are c.client d.client first.1 i })
+    λ i. Some (record { begin = eqb-true c.begin d.begin moments.0 i; end = eqb-true c.end d.end moments.1 i; client = stamps_are c.client d.client first.1 i })
 charge_is None (Some d) e = absurd cc
 charge_is (Some c) None e = absurd cc
 
@@ -146,7 +146,7 @@ half_is : (g h : Half) → same_half g h ≡ true → g ≡ h
 half_is g h e =
     let first = both (g.board == h.board && same_move g.what h.what) (same_charge g.charge h.charge) e in
     let parts = both (g.board == h.board) (same_move g.what h.what) first.0 in
-    λ i. record { board = eqb-eq g.board h.board parts.0 i; what = move_is g.what h.what parts.1 i; charge = charge_is g.charge h.charge first.1 i }
+    λ i. record { board = eqb-true g.board h.board parts.0 i; what = move_is g.what h.what parts.1 i; charge = charge_is g.charge h.charge first.1 i }
 
 half_again : (g : Half) → same_half g g ≡ true
 half_again g =
@@ -169,7 +169,7 @@ pub share_is : (halves others : List Half) → Share halves others (shared_lengt
 share_is [] others = none_shared [] others
 share_is (g ∷ halves) [] = none_shared (g ∷ halves) []
 share_is (g ∷ halves) (h ∷ others) =
-    elim (same_half g h) as (λ b. same_half g h ≡ b → Share (g ∷ halves) (h ∷ others) (if b then 1 + shared_length halves others else 0)) [
+    elim (same_half g h) as (λ b. same_half g h ≡ b → Share (g ∷ halves) (h ∷ others) (if b then suc (shared_length halves others) else 0)) [
       | true ↦ λ e. cons_share g h halves others (shared_length halves others) (half_is g h e) (share_is halves others)
       | false ↦ λ e. none_shared (g ∷ halves) (h ∷ others)
     ] refl
@@ -183,7 +183,7 @@ share_most (g ∷ halves) (h ∷ others) (suc n) s =
     let rest : take n halves ≡ take n others = let same = s.same in cc in
     let again : same_half g h ≡ true = ap (same_half g) (sym first) ∙ half_again g in
     let more = share_most halves others n (record { first = let low = s.first in omega (arith, low); second = let low = s.second in omega (arith, low); same = rest }) in
-    subst (λ (b : Bool). suc n ≤ (if b then 1 + shared_length halves others else 0)) (sym again) (omega (arith, more))
+    subst (λ (b : Bool). suc n ≤ (if b then suc (shared_length halves others) else 0)) (sym again) (omega (arith, more))
 
 -- so they share n where that is the length of one of them, or the next ones differ
 pub share_whole : (halves others : List Half) (n : ℕ) → Share halves others n → n ≡ min (length halves) (length others) → n ≡ shared_length halves others
@@ -201,10 +201,10 @@ share_until (x ∷ halves) (y ∷ others) zero g h s e f differ =
     let left : x ≡ g = cc in
     let right : y ≡ h = cc in
     let apart : same_half x y ≡ false = (λ i. same_half (left i) (right i)) ∙ differ in
-    ap (λ (b : Bool). if b then 1 + shared_length halves others else 0) (sym apart)
+    ap (λ (b : Bool). if b then suc (shared_length halves others) else 0) (sym apart)
 share_until (x ∷ halves) (y ∷ others) (suc n) g h s e f differ =
     let first : x ≡ y = let same = s.same in cc in
     let rest : take n halves ≡ take n others = let same = s.same in cc in
     let again : same_half x y ≡ true = ap (same_half x) (sym first) ∙ half_again x in
     let more = share_until halves others n g h (record { first = let low = s.first in omega (arith, low); second = let low = s.second in omega (arith, low); same = rest }) e f differ in
-    ap suc more ∙ ap (λ (b : Bool). if b then 1 + shared_length halves others else 0) (sym again)
+    ap suc more ∙ ap (λ (b : Bool). if b then suc (shared_length halves others) else 0) (sym again)

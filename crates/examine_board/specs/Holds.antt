@@ -1,6 +1,6 @@
 -- What the fields of every exam keep.
 use Rattle.std.specs.Prelude.{◌≡◌, ◌*◌, ◌≤◌, ◌++◌, length, take}
-use Rattle.game_records.specs.Bounds.{boards}
+use Rattle.game_records.specs.Bounds as bounds
 use Rattle.examine_board.specs.declared.exam.Exam.TheInside.{Inside}
 use Rattle.examine_board.specs.Exam.{boards_after}
 use Rattle.examine_board.specs.Laid.{CanBeLaid}
@@ -16,4 +16,4 @@ pub record HoldsExam (e : Inside) : Type 0 where
   pub stored : CanBeLaid e.terms e.stored
   pub list : CanBeLaid e.terms (take e.shared e.stored ++ e.branch)
   -- two players sit at each board
-  pub names : length e.names ≡ 2 * boards e.terms.variant
+  pub names : length e.names ≡ 2 * bounds.boards e.terms.variant

@@ -1,6 +1,6 @@
 -- Half-moves that are the same, and how many two lists have in common. Whole half-moves are compared, their charges too:
 -- one that was played again has none, and so differs in a timed game.
-use Rattle.std.specs.Prelude.{◌≡◌, ℕ, ◌+◌, ◌≤◌, ◌==◌, ◌&&◌, Bool, true, false, if◌then◌else◌, List, [], ◌∷◌, length, take, Option, Some, None}
+use Rattle.std.specs.Prelude.{◌≡◌, ℕ, suc, ◌≤◌, ◌==◌, ◌&&◌, Bool, true, false, if◌then◌else◌, List, [], ◌∷◌, length, take, Option, Some, None}
 use Rattle.std.specs.Bool.{beq}
 use Rattle.chess_model.specs.declared.man.Kind.{Kind}
 use Rattle.chess_model.specs.declared.moves.Move.{Move}
@@ -41,7 +41,7 @@ same_half g h = g.board == h.board && same_move g.what h.what && same_charge g.c
 abbrev pub shared_length : List Half → List Half → ℕ
 shared_length [] others = 0
 shared_length (g ∷ halves) [] = 0
-shared_length (g ∷ halves) (h ∷ others) = if same_half g h then 1 + shared_length halves others else 0
+shared_length (g ∷ halves) (h ∷ others) = if same_half g h then suc (shared_length halves others) else 0
 
 -- two lists begin with the same n half-moves
 pub record Share (halves others : List Half) (n : ℕ) : Type 0 where

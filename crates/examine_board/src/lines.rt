@@ -1,5 +1,5 @@
 //! The lines that show where the exam is.
-ghost use Rattle.std.specs.Prelude.{◌≡◌, ◌≤◌, ◌++◌, IfOk, OnOk};
+ghost use Rattle.std.specs.Prelude.{◌≡◌, ◌*◌, ◌<◌, ◌≤◌, ◌++◌, IfOk, OnOk};
 ghost use Rattle.chess_model.specs.Tests.{has_drops};
 ghost use Rattle.game_board.specs.Board.{Board};
 ghost use Rattle.linked_boards.specs.Boards.{board_numbers};

@@ -49,7 +49,7 @@ impl Exam {
         ensures { self.new ≡ with_move self.old what }
     {
         self.cut();
-        self.push(Half {
+        self.push(&Half {
             board: 1,
             what,
             charge: None,
@@ -70,12 +70,12 @@ impl Exam {
     }
 
     /// Looks at one half-move more, behind the others.
-    fn push(&mut self, half: Half)
-        requires lies { MayLie self.old.terms self.old.list half }
+    fn push(&mut self, half: &Half)
+        requires lies { MayLie self.old.terms self.old.list half.now }
         requires room { length self.old.list < 1200 }
-        ensures { self.new ≡ record self.old { list = self.old.list ++ half ∷ [] } }
+        ensures { self.new ≡ record self.old { list = self.old.list ++ half.now ∷ [] } }
     {
-        self.branch.push(half);
+        self.branch.push(*half);
     }
 }
 

@@ -2,7 +2,7 @@
 ghost use Rattle.std.specs.Prelude.{◌≡◌};
 ghost use Rattle.examine_board.specs.Same.{same_charge, same_half, same_move, same_promotion, same_spent, same_stamps};
 
-use chess_model::{Kind, Move};
+use chess_model::{Kind, Move, Square};
 use clock_ledger::Charge;
 use game_records::Half;
 
@@ -18,24 +18,53 @@ pub(crate) fn is_same_half(one: &Half, other: &Half) -> bool
 fn is_same_move(one: &Move, other: &Move) -> bool
     ensures { result ≡ same_move one.now other.now }
 {
-    match (*one, *other) {
-        (
-            Move::Plain { from, to, promo },
-            Move::Plain {
-                from: start,
-                to: end,
-                promo: becomes,
-            },
-        ) => {
+    match one {
+        Move::Plain { from, to, promo } => is_plain(*from, *to, *promo, other),
+        Move::Castle { long } => is_castling(*long, other),
+        Move::Drop { kind, to } => is_drop(*kind, *to, other),
+    }
+}
+
+/// Whether a half-move goes from the one square to the other, and becomes that.
+fn is_plain(from: Square, to: Square, promo: Option<Kind>, what: &Move) -> bool
+    ensures { result ≡ same_move (Move.Plain from to promo) what.now }
+{
+    match what {
+        Move::Plain {
+            from: start,
+            to: end,
+            promo: becomes,
+        } => {
             from.number() == start.number()
                 && to.number() == end.number()
-                && is_same_promotion(promo, becomes)
+                && is_same_promotion(promo, *becomes)
         }
-        (Move::Castle { long }, Move::Castle { long: other }) => long == other,
-        (Move::Drop { kind, to }, Move::Drop { kind: man, to: end }) => {
-            kind.is_same(man) && to.number() == end.number()
+        Move::Castle { .. } => false,
+        Move::Drop { .. } => false,
+    }
+}
+
+/// Whether a half-move is that castling.
+fn is_castling(long: bool, what: &Move) -> bool
+    ensures { result ≡ same_move (Move.Castle long) what.now }
+{
+    match what {
+        Move::Plain { .. } => false,
+        Move::Castle { long: other } => long == *other,
+        Move::Drop { .. } => false,
+    }
+}
+
+/// Whether a half-move drops such a man on that square.
+fn is_drop(kind: Kind, to: Square, what: &Move) -> bool
+    ensures { result ≡ same_move (Move.Drop kind to) what.now }
+{
+    match what {
+        Move::Plain { .. } => false,
+        Move::Castle { .. } => false,
+        Move::Drop { kind: man, to: end } => {
+            kind.is_same(*man) && to.number() == end.number()
         }
-        _ => false,
     }
 }
 

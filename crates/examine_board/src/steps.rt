@@ -1,5 +1,5 @@
 //! To and fro along the half-moves, and back to the stored game.
-ghost use Rattle.std.specs.Prelude.{◌≡◌, ◌+◌, ◌<◌, ◌≤◌, Ok, OnOk, length};
+ghost use Rattle.std.specs.Prelude.{◌≡◌, ◌+◌, ◌<◌, ◌≤◌, Ok, OnOk, length, take};
 ghost use Rattle.examine_board.specs.Answers.{answer, left_by};
 ghost use Rattle.examine_board.specs.Exam.{present};
 ghost use Rattle.examine_board.specs.Same.{shared_length};
