@@ -2,7 +2,7 @@ pub mod Boards
 pub mod Held
 pub mod Laying
 pub mod Lists
-pub mod Playing
 pub mod Shared
 pub mod Stepping
 pub mod Undone
+pub mod Words
