@@ -80,7 +80,7 @@ own_colour Black = refl
 
 board_answers : (e : ExamState) (w : MoveWord) → length (list_on 1 (present e)) ≡ e.place →
     move_answer (board_on e 1) (to_move (board_on e 1)) w ≡ option_map_or Err (cond (e.place == 1200) (Some TooManyMoves) None) (in_words (word_answer (position e) w))
-unfolding move_answer, position_of
+unfolding move_answer position_of
 board_answers e w count =
     λ i. option_map_or Err (cond (not (own_colour (to_move (board_on e 1)) i)) (Some NotYourTurn) (cond (count i == 1200) (Some TooManyMoves) None)) (in_words (word_answer (position e) w))
 

@@ -1,5 +1,5 @@
 //! Half-moves that are played on from where the exam is.
-ghost use Rattle.std.specs.Prelude.{◌≡◌, ◌∷◌, ◌++◌, [], ◌<◌, IfOk, OnOk, false, length};
+ghost use Rattle.std.specs.Prelude.{◌≡◌, ◌∷◌, ◌++◌, [], ◌<◌, IfOk, None, OnOk, false, length};
 ghost use Rattle.chess_model.specs.Allowed.{Allowed};
 ghost use Rattle.examine_board.specs.Answers.{answer, left_by};
 ghost use Rattle.examine_board.specs.Exam.{present};
@@ -49,11 +49,7 @@ impl Exam {
         ensures { self.new ≡ with_move self.old what }
     {
         self.cut();
-        self.push(&Half {
-            board: 1,
-            what,
-            charge: None,
-        });
+        self.push(what);
         self.step();
     }
 
@@ -69,13 +65,17 @@ impl Exam {
         self.branch.truncate(self.place - self.shared);
     }
 
-    /// Looks at one half-move more, behind the others.
-    fn push(&mut self, half: &Half)
-        requires lies { MayLie self.old.terms self.old.list half.now }
+    /// Looks at one half-move more of the first board, behind the others.
+    fn push(&mut self, what: Move)
+        requires lies { MayLie self.old.terms self.old.list (record { board = 1; what = what; charge = None }) }
         requires room { length self.old.list < 1200 }
-        ensures { self.new ≡ record self.old { list = self.old.list ++ half.now ∷ [] } }
+        ensures { self.new ≡ record self.old { list = self.old.list ++ record { board = 1; what = what; charge = None } ∷ [] } }
     {
-        self.branch.push(*half);
+        self.branch.push(Half {
+            board: 1,
+            what,
+            charge: None,
+        });
     }
 }
 

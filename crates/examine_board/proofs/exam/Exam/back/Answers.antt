@@ -4,27 +4,27 @@ use Rattle.examine_board.specs.Exam.{ExamState}
 use Rattle.examine_board.proofs.Undone.{backed-refused, backed-made, undone_forward}
 use Rattle.examine_board.proofs.exam.Exam.back.Goals as goal
 
-pub returns-then-place-lt-n-clause-answer : goal.returns-then-place-lt-n-clause-answer
-returns-then-place-lt-n-clause-answer c =
+pub returns-then-self-n-clause-answer : goal.returns-then-self-n-clause-answer
+returns-then-self-n-clause-answer c =
     let e = c.args.self.now in
     let place = ap (λ (x : ExamState). x.place) c.self.view_is in
-    sym (ap answer (backed-refused e c.args.n (omega (arith, place, c.if-place-lt-n.true))))
+    sym (ap answer (backed-refused e c.args.n (omega (arith, place, c.if-self-n.true))))
 
-pub returns-then-place-lt-n-clause-after : goal.returns-then-place-lt-n-clause-after
-returns-then-place-lt-n-clause-after c =
+pub returns-then-self-n-clause-after : goal.returns-then-self-n-clause-after
+returns-then-self-n-clause-after c =
     let e = c.args.self.now in
     let place = ap (λ (x : ExamState). x.place) c.self.view_is in
-    sym (ap (left_by e) (backed-refused e c.args.n (omega (arith, place, c.if-place-lt-n.true))))
+    sym (ap (left_by e) (backed-refused e c.args.n (omega (arith, place, c.if-self-n.true))))
 
 pub returns-clause-answer : goal.returns-clause-answer
 returns-clause-answer c =
     let e = c.args.self.now in
     let place = ap (λ (x : ExamState). x.place) c.self.view_is in
-    sym (ap answer (backed-made e c.args.n (omega (arith, place, c.if-place-lt-n.false))))
+    sym (ap answer (backed-made e c.args.n (omega (arith, place, c.if-self-n.false))))
 
 pub returns-clause-after : goal.returns-clause-after
 returns-clause-after c =
     let e = c.args.self.now in
     let place = ap (λ (x : ExamState). x.place) c.self.view_is in
-    c.go_back.ensures ∙ ap (λ (k : ℕ). record e { place = k - c.args.n }) place
-    ∙ sym (ap (left_by e) (backed-made e c.args.n (omega (arith, place, c.if-place-lt-n.false))))
+    c.go_back-2.ensures ∙ ap (λ (k : ℕ). record e { place = k - c.args.n }) place
+    ∙ sym (ap (left_by e) (backed-made e c.args.n (omega (arith, place, c.if-self-n.false))))

@@ -10,9 +10,9 @@ invariant_of-self c =
     let list : List Half = take i.shared i.stored ++ i.branch in
     let left : List Half = take i.place i.stored ++ c.truncate.new.self in
     let cut = is_cut i.terms i.boards list left i.place c.self.invariant.place c.self.invariant.boards c.self.invariant.list
-    (cut_here i.shared i.place i.stored i.branch c.truncate.new.self c.self.invariant.shared c.if-place-le-shared.true c.truncate.ensures) in
+    (cut_here i.shared i.place i.stored i.branch c.truncate.new.self c.self.invariant.shared c.if-self.true c.truncate.ensures) in
     record {
-      shared = omega (arith, c.self.invariant.shared, c.if-place-le-shared.true);
+      shared = omega (arith, c.self.invariant.shared, c.if-self.true);
       few = c.self.invariant.few;
       place = cut.within;
       boards = cut.are;
@@ -27,7 +27,7 @@ invariant_of-self-2 c =
     let list : List Half = take i.shared i.stored ++ i.branch in
     let left : List Half = take i.shared i.stored ++ c.truncate-2.new.self in
     let cut = is_cut i.terms i.boards list left i.place c.self.invariant.place c.self.invariant.boards c.self.invariant.list
-    (cut_there i.shared i.place i.stored i.branch c.truncate-2.new.self c.self.invariant.shared (omega (arith, c.if-place-le-shared.false)) c.truncate-2.ensures) in
+    (cut_there i.shared i.place i.stored i.branch c.truncate-2.new.self c.self.invariant.shared (omega (arith, c.if-self.false)) c.truncate-2.ensures) in
     record {
       shared = c.self.invariant.shared;
       few = c.self.invariant.few;

@@ -41,7 +41,7 @@ invariant_of-self c =
     let h : Half = c.half-half.result in
     let lies = subst (λ (e : ExamState). MayLie e.terms (take i.place e.list) h) (sym c.self.view_is) c.half-half.ensures.lies in
     let there : slice_get list i.place ≡ Some h = subst (λ (e : ExamState). slice_get e.list i.place ≡ Some h) (sym c.self.view_is) c.half-half.ensures.half in
-    let new = laid i.terms (take i.place list) h i.boards lies c.self.invariant.boards c.lay.new.self c.lay.ensures in
+    let new = laid i.terms (take i.place list) h i.boards lies c.self.invariant.boards c.lay.new.self c.lay.ensures.after in
     let low = slice_get_within list i.place h there in
     record {
       shared = c.self.invariant.shared;
