@@ -3,7 +3,7 @@ use Rattle.std.proofs.Common.{◌≡◌, ℕ, ◌<◌, ◌≤◌, Bool, cond, Li
 use Rattle.std.specs.Prelude.{Option, Result, IfOk}
 use Rattle.std.proofs.lemmas.Bool.{le-ltb}
 use Rattle.line_answers.specs.Handling.{AfterAnswering}
-use Rattle.line_answers.specs.LineCommand.{IsAnswer, IsPlayed, LineCommand, last_state, line_answer, text_of}
+use Rattle.line_answers.specs.LineCommand.{IsAnswer, IsPlayed, LineCommand, begun_at, last_state, line_answer, text_of}
 use Rattle.line_answers.specs.PlayedLines.{IsPlayed-answer_line, IsOutside-refused}
 
 module _ {S : Type 0} (command : LineCommand S) where
@@ -39,3 +39,11 @@ module _ {S : Type 0} (command : LineCommand S) where
       → IfOk r (λ made. AfterAnswering (IsPlayed command) old line out new out' made)
   AfterAnswering-played old line out new out' (Ok made) some short h = AfterAnswering-made old line out new out' made (command.answer old line) (line_answer-short old line some short) h
   AfterAnswering-played old line out new out' (Err e) some short h = tt
+
+-- and so wherever the command started
+pub AfterAnswering-begun : {S E : Type 0} (command : LineCommand S) (old : S) (line out : List ℕ) (new : S) (out' : List ℕ) (r : Result Bool E) → 0 < length line → length line ≤ 1023
+    → IfOk r (λ made. IsAnswer (command.answer old line) out new out' made)
+    → IfOk r (λ made. (start : S) → AfterAnswering (IsPlayed (begun_at command start)) old line out new out' made)
+AfterAnswering-begun command old line out new out' (Ok made) some short h =
+    λ start. AfterAnswering-played (begun_at command start) {E = Unit {0}} old line out new out' (Ok made) some short h
+AfterAnswering-begun command old line out new out' (Err e) some short h = tt

@@ -31,10 +31,10 @@ module _ {S : Type 0} (feeding : Feeding S) where
     many = omega arith;
   }
 
-  -- what one run reads stays below 2^50
-  pub can_be_fed : (left left' written written' : Option (List ℕ)) (stands : S) (reads : ℕ) (piece : List ℕ) → reads < 2 ^ 40 → length piece ≤ 1024
-      → Reading feeding left left' written written' stands reads → CanBeFed feeding stands piece
-  can_be_fed left left' written written' stands reads piece few short r = (r.taken, r.text, r.fed, omega (arith, r.many, few, short))
+-- what one run reads stays below 2^50
+pub can_be_fed : {S : Type 0} (feeding : S → Feeding S) (start : S) (left left' written written' : Option (List ℕ)) (stands : S) (reads : ℕ) (piece : List ℕ) → reads < 2 ^ 40
+    → length piece ≤ 1024 → Reading (feeding start) left left' written written' stands reads → CanBeFed feeding stands piece
+can_be_fed feeding start left left' written written' stands reads piece few short r = (start, r.taken, r.text, r.fed, omega (arith, r.many, few, short))
 
 -- a read that gave bytes, which were answered
 module _ {S : Type 0} (feeding : Feeding S) (left left' left'' written written' written'' : Option (List ℕ)) (stands stands' : S) (reads : ℕ)

@@ -14,10 +14,12 @@ pub record Feeding (S : Type 0) : Type 1 where
   -- what is written in closing
   pub closed : List ℕ → S → List ℕ → Type 0
 
--- what was fed brings the feeder here, and with these bytes behind it is at most what 2^40 reads of 1,024 bytes give
-abbrev pub CanBeFed : {S : Type 0} → Feeding S → S → List ℕ → Type 0
-CanBeFed feeding s piece =
-    (taken : List ℕ) × (due : List ℕ) × feeding.fed false taken s due × (length taken + length piece ≤ 2 ^ 50)
+-- what was fed brings a feeder here from where it started, and with these bytes behind it is at most what 2^40 reads of
+-- 1,024 bytes give
+abbrev pub CanBeFed : {S : Type 0} → (S → Feeding S) → S → List ℕ → Type 0
+CanBeFed {S} feeding s piece =
+    (start : S) × (taken : List ℕ) × (due : List ℕ) × (feeding start).fed false taken s due
+    × (length taken + length piece ≤ 2 ^ 50)
 
 -- what holds after bytes were fed, or the input's end
 abbrev pub AfterFeeding : {S A : Type 0} → Feeding S → Bool → List ℕ → S → List ℕ → Result A Stop → Type 0

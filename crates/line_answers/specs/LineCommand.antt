@@ -10,6 +10,10 @@ pub record LineCommand (S : Type 0) : Type 0 where
   pub answer : S → List ℕ → Option (S × List ℕ)
   pub ending : List ℕ
 
+-- the command, started from here
+abbrev pub begun_at : {S : Type 0} → LineCommand S → S → LineCommand S
+begun_at command s = record command { start = s }
+
 -- what a line makes of where the command stands, and what is written for it: an empty line does nothing, and one of more
 -- than 1,023 bytes is outside the grammar
 abbrev pub line_answer : {S : Type 0} → LineCommand S → S → List ℕ → Option (S × List ℕ)

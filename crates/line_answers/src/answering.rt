@@ -26,8 +26,8 @@ pub fn answer_pieces<S: Source, K: Sink, F: Feeder>(
     source: &mut S,
     sink: &mut K,
 ) -> End
-    requires { F.feeding.fed false [] feeder [] }
-    ensures ends { FeederEnds F.feeding (S.left source.old) (S.left source.new) (K.written sink.old)
+    requires { (F.feeding feeder).fed false [] feeder [] }
+    ensures ends { FeederEnds (F.feeding feeder) (S.left source.old) (S.left source.new) (K.written sink.old)
         (K.written sink.new) result }
     ensures read_cause { OnReadFault result (Rose (S.faults source.old) (S.faults source.new)) }
     ensures write_cause { OnWriteFault result (Rose (K.faults sink.old) (K.faults sink.new)) }
@@ -43,8 +43,8 @@ fn answer_reads<S: Source, K: Sink, F: Feeder>(
     source: &mut S,
     sink: &mut K,
 ) -> End
-    requires { F.feeding.fed false [] feeder.old [] }
-    ensures ends { FeederEnds F.feeding (S.left source.old) (S.left source.new) (K.written sink.old)
+    requires { (F.feeding feeder.old).fed false [] feeder.old [] }
+    ensures ends { FeederEnds (F.feeding feeder.old) (S.left source.old) (S.left source.new) (K.written sink.old)
         (K.written sink.new) result }
     ensures read_cause { OnReadFault result (Rose (S.faults source.old) (S.faults source.new)) }
     ensures write_cause { OnWriteFault result (Rose (K.faults sink.old) (K.faults sink.new)) }
@@ -72,9 +72,9 @@ fn answer<K: Sink, F: Feeder>(
     sink: &mut K,
 ) -> Result<(), End>
     requires { CanBeFed F.feeding feeder.old piece.now }
-    ensures answered { (taken text : List ℕ) (written : Option (List ℕ)) → Appends written (K.written sink.old) text
-        → F.feeding.fed false taken feeder.old text
-        → AfterAnswer F.feeding (taken ++ piece.now) feeder.new written (K.written sink.new) result }
+    ensures answered { (start : F) (taken text : List ℕ) (written : Option (List ℕ))
+        → Appends written (K.written sink.old) text → (F.feeding start).fed false taken feeder.old text
+        → AfterAnswer (F.feeding start) (taken ++ piece.now) feeder.new written (K.written sink.new) result }
     ensures cause { IfErr result (λ end. OnWriteFault end (Rose (K.faults sink.old) (K.faults sink.new))) }
     ensures counted { K.faults sink.old ≤ K.faults sink.new }
 {
@@ -89,9 +89,9 @@ fn answer<K: Sink, F: Feeder>(
 /// Makes the feeder take the input's end, writes what is due for it, and closes the feeder.
 fn finish<K: Sink, F: Feeder>(feeder: &mut F, out: &mut Vec<u8>, sink: &mut K) -> End
     requires { CanBeFed F.feeding feeder.old [] }
-    ensures finished { (taken text : List ℕ) (written : Option (List ℕ)) → Appends written (K.written sink.old) text
-        → F.feeding.fed false taken feeder.old text
-        → AfterFinish F.feeding taken written (K.written sink.new) result }
+    ensures finished { (start : F) (taken text : List ℕ) (written : Option (List ℕ))
+        → Appends written (K.written sink.old) text → (F.feeding start).fed false taken feeder.old text
+        → AfterFinish (F.feeding start) taken written (K.written sink.new) result }
     ensures cause { OnWriteFault result (Rose (K.faults sink.old) (K.faults sink.new)) }
 {
     out.clear();
@@ -105,9 +105,10 @@ fn finish<K: Sink, F: Feeder>(feeder: &mut F, out: &mut Vec<u8>, sink: &mut K) -
 /// Writes the last answers, and only then closes the feeder, so running out of memory in closing loses no answer; then
 /// writes what it gives in closing.
 fn send_and_close<K: Sink, F: Feeder>(feeder: &mut F, out: &mut Vec<u8>, sink: &mut K) -> End
-    ensures finished { (taken text : List ℕ) (written : Option (List ℕ)) → Appends written (K.written sink.old) text
-        → F.feeding.fed true taken feeder.old (text ++ out.old.items)
-        → AfterFinish F.feeding taken written (K.written sink.new) result }
+    ensures finished { (start : F) (taken text : List ℕ) (written : Option (List ℕ))
+        → Appends written (K.written sink.old) text
+        → (F.feeding start).fed true taken feeder.old (text ++ out.old.items)
+        → AfterFinish (F.feeding start) taken written (K.written sink.new) result }
     ensures cause { OnWriteFault result (Rose (K.faults sink.old) (K.faults sink.new)) }
 {
     if let Err(fault) = send(out.as_slice(), sink) {

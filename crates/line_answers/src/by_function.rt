@@ -3,6 +3,7 @@
 ghost use Rattle.std.specs.Prelude.{◌≡◌};
 ghost use Rattle.edge_traits.specs.Faults.{Rose};
 ghost use Rattle.line_answers.specs.Ends.{OnReadFault, OnWriteFault};
+ghost use Rattle.line_answers.specs.LineCommand.{begun_at};
 ghost use Rattle.line_answers.specs.LineCommandEnds.{LineCommandEnds};
 
 use crate::by_lines::answer_lines;
@@ -19,7 +20,8 @@ pub trait LineAnswerer: Drop {
     ghost use Rattle.std.specs.Prelude.{◌≡◌, ◌<◌, ◌≤◌, length, IfOk};
     ghost use Rattle.line_answers.specs.LineCommand.{IsAnswer, LineCommand};
 
-    /// Where the command starts, the function, and the bytes that end the line which tells of one outside the grammar.
+    /// Where the command starts if nothing else is said, the function, and the bytes that end the line which tells of one
+    /// outside the grammar.
     ghost command: { LineCommand Self };
 
     /// Answers a line that isn't empty: appends what is written for it; false where the line is outside the grammar.
@@ -49,16 +51,16 @@ impl<A: LineAnswerer> Model for ByFunction<A> {
 
 impl<A: LineAnswerer> LineHandler for ByFunction<A> {
     ghost use Rattle.std.specs.Prelude.{◌≡◌};
-    ghost use Rattle.line_answers.specs.LineCommand.{IsPlayed};
+    ghost use Rattle.line_answers.specs.LineCommand.{IsPlayed, begun_at};
     ghost use Rattle.line_answers.specs.PlayedLines.{played_lines};
 
-    ghost reached = { IsPlayed A.command };
+    ghost reached = { λ start. IsPlayed (begun_at A.command start) };
 
     ghost closed = { λ old new. new ≡ old };
 
     ghost ending = { A.command.ending };
 
-    ghost lines = { played_lines A.command };
+    ghost lines = { λ start. played_lines (begun_at A.command start) };
 
     fn answer_line(&mut self, line: &[u8], out: &mut Vec<u8>) -> Result<bool, NoMemory> {
         self.answerer.answer_line(line, out)
@@ -83,6 +85,21 @@ pub fn answer_each<S: Source, K: Sink, A: LineAnswerer>(
     requires { answerer ≡ A.command.start }
     ensures ends { LineCommandEnds A.command (S.left source.old) (S.left source.new) (K.written sink.old)
         (K.written sink.new) result }
+    ensures read_cause { OnReadFault result (Rose (S.faults source.old) (S.faults source.new)) }
+    ensures write_cause { OnWriteFault result (Rose (K.faults sink.old) (K.faults sink.new)) }
+{
+    answer_from(alloc, answerer, source, sink)
+}
+
+/// As `answer_each`, by a command that starts where it stands now.
+pub fn answer_from<S: Source, K: Sink, A: LineAnswerer>(
+    alloc: Global,
+    answerer: A,
+    source: &mut S,
+    sink: &mut K,
+) -> End
+    ensures ends { LineCommandEnds (begun_at A.command answerer) (S.left source.old) (S.left source.new)
+        (K.written sink.old) (K.written sink.new) result }
     ensures read_cause { OnReadFault result (Rose (S.faults source.old) (S.faults source.new)) }
     ensures write_cause { OnWriteFault result (Rose (K.faults sink.old) (K.faults sink.new)) }
 {

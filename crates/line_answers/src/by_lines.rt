@@ -20,9 +20,9 @@ pub fn answer_lines<S: Source, K: Sink, T: LineHandler>(
     source: &mut S,
     sink: &mut K,
 ) -> End
-    requires { T.reached [] handler [] }
-    ensures ends { HandlerEnds T.reached T.closed T.ending (S.left source.old) (S.left source.new) (K.written sink.old)
-        (K.written sink.new) result }
+    requires { T.reached handler [] handler [] }
+    ensures ends { HandlerEnds (T.reached handler) T.closed T.ending (S.left source.old) (S.left source.new)
+        (K.written sink.old) (K.written sink.new) result }
     ensures read_cause { OnReadFault result (Rose (S.faults source.old) (S.faults source.new)) }
     ensures write_cause { OnWriteFault result (Rose (K.faults sink.old) (K.faults sink.new)) }
 {

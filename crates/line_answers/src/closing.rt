@@ -44,8 +44,9 @@ impl<A: ClosingAnswerer> Model for ClosingMachine<A> {
 
 impl<A: ClosingAnswerer> Feeder for ClosingMachine<A> {
     ghost use Rattle.line_answers.specs.ClosingCommand.{closing_feeding};
+    ghost use Rattle.line_answers.specs.LineCommand.{begun_at};
 
-    ghost feeding = { closing_feeding A.command A.closing };
+    ghost feeding = { λ start. closing_feeding (begun_at A.command start.handler) A.closing };
 
     fn feed(&mut self, piece: &[u8], out: &mut Vec<u8>) -> Result<(), Stop> {
         self.machine.feed(piece, out)

@@ -25,7 +25,7 @@ mod machine;
 mod stop;
 
 pub use answering::{answer_pieces, send};
-pub use by_function::{LineAnswerer, answer_each};
+pub use by_function::{LineAnswerer, answer_each, answer_from};
 pub use by_lines::answer_lines;
 pub use closing::{ClosingAnswerer, answer_each_and_close};
 pub use end::{End, status};

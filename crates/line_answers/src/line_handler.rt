@@ -7,8 +7,8 @@ pub trait LineHandler: Drop {
     ghost use Rattle.std.specs.Prelude.{◌≡◌, ◌<◌, ◌≤◌, ℕ, List, length, IfOk, OnOk};
     ghost use Rattle.line_answers.specs.Handling.{AfterAnswering, AreLines};
 
-    /// These lines have brought the handler from its start to where it stands, and this text is due for them.
-    ghost reached: { List (List ℕ) → Self → List ℕ → Type 0 };
+    /// These lines have brought the handler from where it starts to where it stands, and this text is due for them.
+    ghost reached: { Self → List (List ℕ) → Self → List ℕ → Type 0 };
 
     /// The handler may be closed at the input's end, and stands so afterwards.
     ghost closed: { Self → Self → Type 0 };
@@ -21,8 +21,8 @@ pub trait LineHandler: Drop {
     fn answer_line(&mut self, line: &[u8], out: &mut Vec<u8>) -> Result<bool, NoMemory>
         requires some { 0 < length line.now }
         requires short { length line.now ≤ 1023 }
-        ensures { IfOk result
-            (λ good. AfterAnswering reached self.old line.now out.old.items self.new out.new.items good) };
+        ensures { IfOk result (λ good. (start : Self)
+            → AfterAnswering (reached start) self.old line.now out.old.items self.new out.new.items good) };
 
     /// Closes at the input's end; it writes nothing.
     fn close(&mut self) -> Result<(), NoMemory>
@@ -32,5 +32,5 @@ pub trait LineHandler: Drop {
     fn ending(&self) -> &'static [u8]
         ensures { result.now ≡ ending };
 
-    ghost lines: { AreLines reached };
+    ghost lines: { (start : Self) → AreLines (reached start) };
 }

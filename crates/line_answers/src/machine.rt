@@ -57,8 +57,9 @@ impl<T: LineHandler> Machine<T> {
     /// Feeds bytes, and appends to `out` what is written for the lines that end in them.
     fn feed_bytes(&mut self, piece: &[u8], out: &mut Vec<u8>) -> Result<(), Stop>
         requires { self.old.number + length piece.now < 2 ^ 64 }
-        ensures { (taken base : List ℕ) → Progress T.reached taken self.old (base ++ out.old.items)
-            → AfterFeed T.reached T.ending (taken ++ piece.now) self.new (base ++ out.new.items) result }
+        ensures { (start : T) (taken base : List ℕ)
+            → Progress (T.reached start) taken self.old (base ++ out.old.items)
+            → AfterFeed (T.reached start) T.ending (taken ++ piece.now) self.new (base ++ out.new.items) result }
     {
         for byte in piece {
             self.feed_byte(*byte, out)?;
@@ -68,8 +69,9 @@ impl<T: LineHandler> Machine<T> {
 
     fn feed_byte(&mut self, byte: u8, out: &mut Vec<u8>) -> Result<(), Stop>
         requires { self.old.number < 2 ^ 64 - 1 }
-        ensures fed { (taken base : List ℕ) → Progress T.reached taken self.old (base ++ out.old.items)
-            → AfterFeed T.reached T.ending (taken ++ byte ∷ []) self.new (base ++ out.new.items) result }
+        ensures fed { (start : T) (taken base : List ℕ)
+            → Progress (T.reached start) taken self.old (base ++ out.old.items)
+            → AfterFeed (T.reached start) T.ending (taken ++ byte ∷ []) self.new (base ++ out.new.items) result }
         ensures count { OnOk result (self.new.number ≤ self.old.number + 1) }
     {
         if byte == b'\n' {
@@ -85,7 +87,8 @@ impl<T: LineHandler> Machine<T> {
     /// Ends the line: makes its answer, and appends what is written for it.
     fn end_line(&mut self, out: &mut Vec<u8>) -> Result<(), Stop>
         requires { self.old.number < 2 ^ 64 - 1 }
-        ensures line { AfterLine T.reached T.ending self.old out.old.items self.new out.new.items result }
+        ensures line { (start : T)
+            → AfterLine (T.reached start) T.ending self.old out.old.items self.new out.new.items result }
         ensures count { OnOk result (self.new.number ≤ self.old.number + 1) }
     {
         if self.kept.is_empty() {
@@ -107,7 +110,7 @@ impl<T: LineHandler> Machine<T> {
 impl<T: LineHandler> Feeder for Machine<T> {
     ghost use Rattle.line_answers.specs.MachineFeeding.{line_feeding};
 
-    ghost feeding = { line_feeding T.reached T.closed T.ending };
+    ghost feeding = { λ start. line_feeding (T.reached start.handler) T.closed T.ending };
 
     fn feed(&mut self, piece: &[u8], out: &mut Vec<u8>) -> Result<(), Stop> {
         self.feed_bytes(piece, out)

@@ -13,3 +13,4 @@ pub mod StartGoesOn
 pub mod StaySound
 pub mod Stepped
 pub mod StoredReplays
+pub mod Taken

@@ -1,5 +1,5 @@
 -- What one board of a pair takes the other one to be.
-use Rattle.std.proofs.Common.{◌≡◌, ◌<◌, ℕ, ◌+◌, ◌∷◌, ◌++◌, [], Option, length, length-append, sym, ap, subst, arith}
+use Rattle.std.proofs.Common.{◌≡◌, ◌<◌, ℕ, ◌+◌, ◌∷◌, ◌++◌, [], Option, length, length-append, refl, sym, ap, subst, arith}
 use Rattle.chess_model.specs.declared.moves.Move.{Move}
 use Rattle.chess_model.specs.Allowed.{Allowed}
 use Rattle.chess_model.specs.Holdings.{other_board}
@@ -10,6 +10,7 @@ use Rattle.game_board.specs.Learn.{partner_position, captured_there, learnt}
 use Rattle.game_board.specs.Play.{captured, with_half_move}
 use Rattle.game_board.specs.declared.played.Played.{Played}
 use Rattle.game_board.specs.Put.{with_put}
+use Rattle.game_board.specs.Rewind.{rewound}
 use Rattle.linked_boards.specs.Linked.{AreLinked}
 
 -- the position on a board is that which the other one takes it to be
@@ -69,3 +70,7 @@ pub linked-put : (own other after told : Board) (p : Played) → AreLinked own o
 linked-put own other after told p h put learns =
     subst (λ (b : Board). AreLinked b told) (sym put)
     (subst (λ (b : Board). AreLinked (with_put own p) b) (sym learns) (linked-with_put own other p h))
+
+-- and so at the start of the game
+pub linked-rewound : (one another : Board) → AreLinked one another → AreLinked (rewound one) (rewound another)
+linked-rewound one another h = record { pair = h.pair; terms = h.terms; numbers = h.numbers; together = refl; each = refl }

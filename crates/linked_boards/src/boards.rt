@@ -10,7 +10,7 @@ ghost use Rattle.linked_boards.specs.Replaying.{boards_put, own_takes};
 ghost use Rattle.linked_boards.specs.TakenBack.{boards_taken_back, lacks_half_moves};
 ghost use Rattle.linked_boards.specs.Boards.{boards_acked, boards_after, flag_at, latest, new_boards, numbered, other_place, reply_at, word_at};
 
-use crate::linked::{play_linked, put_alone, put_linked};
+use crate::linked::play_linked;
 use chess_model::{Colour, Man, MoveWord, Terms, Variant, Why};
 use fics_words::{NoMemory, Refusal};
 use game_board::{GameBoard, Played};
@@ -21,8 +21,8 @@ use std::marker::Model;
 /// them as their list.
 #[derive(Drop)]
 pub struct Boards {
-    first: GameBoard,
-    second: Option<GameBoard>,
+    pub(crate) first: GameBoard,
+    pub(crate) second: Option<GameBoard>,
 }
 
 impl Model for Boards {
@@ -149,20 +149,7 @@ impl Boards {
         requires sound { IfSome half.now.charge IsChargeable }
         ensures after { self.new ≡ boards_put self.old place half.now }
     {
-        match place {
-            0 => match &mut self.second {
-                Some(second) => put_linked(&mut self.first, second, half),
-                None => {
-                    let _captured = put_alone(&mut self.first, half);
-                }
-            },
-            1 => {
-                if let Some(second) = &mut self.second {
-                    put_linked(second, &mut self.first, half);
-                }
-            }
-            _ => {}
-        }
+        self.lay(place, half);
     }
 
     /// The client of a colour acknowledges the board in that place.

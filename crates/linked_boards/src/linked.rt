@@ -1,10 +1,12 @@
 //! A half-move at one board of a pair, of which the other one learns.
-ghost use Rattle.std.specs.Prelude.{◌≡◌, ◌<◌, ◌≤◌, ◌^◌, IfSome, IsTrue, OnErr, length};
+ghost use Rattle.std.specs.Prelude.{◌≡◌, ◌<◌, ◌≤◌, ◌^◌, IfSome, OnErr, length};
+ghost use Rattle.chess_model.specs.Allowed.{Allowed};
 ghost use Rattle.clock_ledger.specs.Charges.{IsChargeable};
 ghost use Rattle.clock_ledger.specs.Span.{IsStamp};
+ghost use Rattle.game_board.specs.Board.{position_of};
 ghost use Rattle.game_board.specs.Learn.{learnt};
-ghost use Rattle.game_board.specs.Play.{captured, move_answer, play_after, play_reply};
-ghost use Rattle.game_board.specs.Put.{takes_played, with_put};
+ghost use Rattle.game_board.specs.Play.{move_answer, play_after, play_reply};
+ghost use Rattle.game_board.specs.Put.{with_put};
 ghost use Rattle.linked_boards.specs.Boards.{told_answer};
 ghost use Rattle.linked_boards.specs.Linked.{AreLinked};
 
@@ -42,30 +44,18 @@ pub(crate) fn play_linked(
     Ok(captured)
 }
 
-/// Puts a half-move with the charge that it has on one board of a pair. The other board learns of it, so that a man that
-/// is captured comes into the hand of its own colour there. Takes no memory.
-pub(crate) fn put_linked(own: &mut GameBoard, other: &mut GameBoard, half: &Played)
+/// Lays an allowed half-move with the charge that it has, if it has one, on one board of a pair. The other board learns of
+/// it, so that a man that is captured comes into the hand of its own colour there. Takes no memory.
+pub(crate) fn lay_linked(own: &mut GameBoard, other: &mut GameBoard, half: &Played)
     requires linked { AreLinked own.old other.old }
-    requires takes { IsTrue (takes_played own.old half.now) }
+    requires allowed { Allowed (position_of own.old) half.now.what }
+    requires room { own.old.played < 1200 }
     requires short { length own.old.list < 1200 }
     requires sound { IfSome half.now.charge IsChargeable }
     ensures own { own.new ≡ with_put own.old half.now }
     ensures other { other.new ≡ learnt other.old half.now.what }
     ensures linked { AreLinked own.new other.new }
 {
-    let captured = put_alone(own, half);
+    let captured = own.lay(*half);
     other.learn(half.what, captured);
-}
-
-/// Puts a half-move with the charge that it has on a board, and gives the man that it captures.
-pub(crate) fn put_alone(board: &mut GameBoard, half: &Played) -> Option<Man>
-    requires takes { IsTrue (takes_played board.old half.now) }
-    requires sound { IfSome half.now.charge IsChargeable }
-    ensures captured { result ≡ captured board.old half.now.what }
-    ensures after { board.new ≡ with_put board.old half.now }
-{
-    match board.put(*half) {
-        Ok(captured) => captured,
-        Err(_) => None,
-    }
 }

@@ -1,5 +1,5 @@
 -- What a line makes of an evening: the answer of the seat line, the answers of sessions, and lines outside the grammar.
-use Rattle.std.proofs.Common.{◌≡◌, ◌≢◌, ℕ, ◌-◌, ◌<◌, Bool, true, IfOk, Result, List, [], ◌∷◌, ◌++◌, length, Option, None, Some, append-nil, refl, sym, ap, subst, ◌∙◌, arith, replicate, slice_get, slice_set}
+use Rattle.std.proofs.Common.{◌≡◌, ◌≢◌, ℕ, ◌-◌, ◌<◌, Bool, true, IfOk, Result, List, [], ◌∷◌, ◌++◌, length, Option, None, Some, Ok, Err, append-nil, refl, sym, ap, subst, ◌∙◌, arith, replicate, slice_get, slice_set}
 use Rattle.std.proofs.lemmas.Option.{same_Some}
 use Rattle.memory.specs.declared.NoMemory.{NoMemory}
 use Rattle.fics_words.specs.Line.{IsLine}
@@ -216,3 +216,8 @@ closed_before old new first server lines due at =
 pub same_answer : (result : Result Bool NoMemory) (old new : EveningState) (line line' out out' : List ℕ) → line ≡ line'
     → IfOk result (λ good. AfterAnswering Reached old line out new out' good) → IfOk result (λ good. AfterAnswering Reached old line' out new out' good)
 same_answer result old new line line' out out' same h = subst (λ (l : List ℕ). IfOk result (λ good. AfterAnswering Reached old l out new out' good)) same h
+
+-- and of an evening that began in whatever way
+pub whatever_start : (P : Bool → Type 0) (result : Result Bool NoMemory) → IfOk result P → IfOk result (λ good. (start : EveningState) → P good)
+whatever_start P (Ok good) h = λ start. h
+whatever_start P (Err want) h = tt

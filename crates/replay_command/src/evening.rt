@@ -136,13 +136,13 @@ impl LineHandler for Evening {
     ghost use Rattle.replay_command.specs.Evening.{IsClosed, Reached};
     ghost use Rattle.replay_command.specs.EveningLinesProof.{reached_lines};
 
-    ghost reached = { Reached };
+    ghost reached = { λ _. Reached };
 
     ghost closed = { IsClosed };
 
     ghost ending = { codes "\n" };
 
-    ghost lines = { reached_lines };
+    ghost lines = { λ _. reached_lines };
 
     fn answer_line(&mut self, line: &[u8], out: &mut Vec<u8>) -> Result<bool, NoMemory> {
         let Some(line) = Line::read(self.alloc, line)? else {

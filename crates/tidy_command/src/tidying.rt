@@ -30,7 +30,7 @@ impl Model for Tidier {
 impl Feeder for Tidier {
     ghost use Rattle.tidy_command.specs.Tidying.{tidying};
 
-    ghost feeding = { tidying };
+    ghost feeding = { λ _. tidying };
 
     fn feed(&mut self, piece: &[u8], out: &mut Vec<u8>) -> Result<(), Stop> {
         self.reader.feed(piece)?;

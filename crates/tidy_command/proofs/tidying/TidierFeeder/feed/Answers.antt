@@ -4,7 +4,7 @@ use Rattle.tidy_command.proofs.Steps.{given_more}
 use Rattle.tidy_command.proofs.tidying.TidierFeeder.feed.Goals as goal
 
 pub returns : goal.returns
-returns c = λ taken base tidied.
+returns c = λ start taken base tidied.
     c.put_games.ensures (taken ++ c.args.piece.now) base (begun_with taken).games
     (given_more taken c.args.piece.now c.args.self.now c.self.inside.reader c.feed.new.self (base ++ c.args.out.now.items) c.self.view_is (c.in_ok-feed.ensures {u = tt}).fed tidied)
     tidied.text

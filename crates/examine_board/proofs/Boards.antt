@@ -1,0 +1,145 @@
+-- The boards after half-moves, and after one more.
+use Rattle.std.proofs.Common.{◌≡◌, ℕ, ◌+◌, ◌-◌, ◌<◌, ◌≤◌, zero, suc, Bool, true, false, nat_eq, if◌then◌else◌, List, [], ◌∷◌, ◌++◌, length, map, filter, Option, Some, None, refl, sym, ap, subst, ◌∙◌, arith}
+use Rattle.std.specs.Prelude.{slice_get}
+use Rattle.std.proofs.lemmas.Bool.Decides.{nat_tests}
+use Rattle.std.proofs.lemmas.List.{length_push, map-append}
+use Rattle.chess_model.specs.declared.variant.Terms.{Terms}
+use Rattle.chess_model.specs.declared.variant.Variant.{Variant}
+use Rattle.chess_model.specs.declared.variant.Variant.TheVariants.{Chess, Crazyhouse, Bughouse, Fischer}
+use Rattle.chess_model.specs.Holdings.{other_board}
+use Rattle.game_board.specs.Board.{Board}
+use Rattle.game_board.specs.Learn.{learnt}
+use Rattle.game_board.specs.Put.{with_put}
+use Rattle.game_board.specs.Rewind.{rewound}
+use Rattle.game_records.specs.declared.stored_game.Half.{Half}
+use Rattle.game_records.specs.Bounds as bounds
+use Rattle.game_records.specs.Replays.{half_moves, made_on}
+use Rattle.linked_boards.specs.Boards.{board_numbers, numbered}
+use Rattle.linked_boards.specs.Halves.{list_on, played_of}
+use Rattle.linked_boards.specs.Replaying.{boards_put}
+use Rattle.linked_boards.proofs.Halved.{list_on-own, list_on-else}
+use Rattle.examine_board.specs.Exam.{board_after, boards_after}
+
+-- ---- the half-moves of one board
+
+-- one more of it
+list_on-more : (n : ℕ) (halves : List Half) (h : Half) → nat_eq h.board n ≡ true → list_on n (halves ++ h ∷ []) ≡ list_on n halves ++ played_of h ∷ []
+list_on-more n [] h own = list_on-own n h [] own
+list_on-more n (g ∷ halves) h own =
+    elim (nat_eq g.board n) as (λ b. nat_eq g.board n ≡ b → list_on n (g ∷ halves ++ h ∷ []) ≡ list_on n (g ∷ halves) ++ played_of h ∷ []) [
+      | true ↦ λ e.
+          list_on-own n g (halves ++ h ∷ []) e ∙ ap (λ l. played_of g ∷ l) (list_on-more n halves h own)
+          ∙ ap (λ l. l ++ played_of h ∷ []) (sym (list_on-own n g halves e))
+      | false ↦ λ e.
+          list_on-else n g (halves ++ h ∷ []) e ∙ list_on-more n halves h own ∙ ap (λ l. l ++ played_of h ∷ []) (sym (list_on-else n g halves e))
+    ] refl
+
+-- one more of the other board
+list_on-same : (n : ℕ) (halves : List Half) (h : Half) → nat_eq h.board n ≡ false → list_on n (halves ++ h ∷ []) ≡ list_on n halves
+list_on-same n [] h other = list_on-else n h [] other
+list_on-same n (g ∷ halves) h other =
+    elim (nat_eq g.board n) as (λ b. nat_eq g.board n ≡ b → list_on n (g ∷ halves ++ h ∷ []) ≡ list_on n (g ∷ halves)) [
+      | true ↦ λ e.
+          list_on-own n g (halves ++ h ∷ []) e ∙ ap (λ l. played_of g ∷ l) (list_on-same n halves h other) ∙ sym (list_on-own n g halves e)
+      | false ↦ λ e. list_on-else n g (halves ++ h ∷ []) e ∙ list_on-same n halves h other ∙ sym (list_on-else n g halves e)
+    ] refl
+
+-- they are as many as the board has seen
+pub made_is : (n : ℕ) (halves : List Half) → made_on halves n ≡ length (list_on n halves)
+made_is n [] = refl
+made_is n (g ∷ halves) =
+    elim (nat_eq g.board n) as (λ b. length (map (λ h. h.what) (if b then record { board = g.board; what = g.what } ∷ filter (λ h. nat_eq h.board n) (half_moves halves) else filter (λ h. nat_eq h.board n) (half_moves halves)))
+    ≡ length (map played_of (if b then g ∷ filter (λ h. nat_eq h.board n) halves else filter (λ h. nat_eq h.board n) halves))) [
+      | true ↦ ap suc (made_is n halves)
+      | false ↦ made_is n halves
+    ]
+
+-- all are of the one board, where each is
+pub all_on : (n : ℕ) (halves : List Half) → ((i : ℕ) (h : Half) → slice_get halves i ≡ Some h → h.board ≡ n) → length (list_on n halves) ≡ length halves
+all_on n [] each = refl
+all_on n (g ∷ halves) each =
+    let own : nat_eq g.board n ≡ true = let same = each 0 g refl in grind (arith, nat_tests, same) in
+    ap length (list_on-own n g halves own) ∙ ap suc (all_on n halves (λ i h e. each (suc i) h e))
+
+-- ---- one board
+
+-- a half-move more of it
+pub board_more : (t : Terms) (halves : List Half) (h : Half) (n : ℕ) → h.board ≡ n → with_put (board_after t halves n) (played_of h) ≡ board_after t (halves ++ h ∷ []) n
+board_more t halves h n own =
+    let list = list_on-more n halves h (let same = own in grind (arith, nat_tests, same)) in
+    let many : length (list_on n (halves ++ h ∷ [])) ≡ length (list_on n halves) + 1 = ap length list ∙ length_push (list_on n halves) (played_of h) in
+    let all : half_moves (halves ++ h ∷ []) ≡ half_moves halves ++ record { board = n; what = h.what } ∷ [] =
+    map-append (λ g. record { board = g.board; what = g.what }) halves (h ∷ []) ∙ (λ i. half_moves halves ++ record { board = own i; what = h.what } ∷ []) in
+    λ i. record { number = n; terms = t; list = sym list i; begin = 0; kept = None; played = sym many i; resumed = sym many i; all = sym all i }
+
+-- a half-move more of the other one
+pub board_told : (t : Terms) (halves : List Half) (h : Half) (n : ℕ) → nat_eq h.board n ≡ false → other_board n ≡ h.board → learnt (board_after t halves n) h.what ≡ board_after t (halves ++ h ∷ []) n
+board_told t halves h n other number =
+    let list = list_on-same n halves h other in
+    let all : half_moves (halves ++ h ∷ []) ≡ half_moves halves ++ record { board = other_board n; what = h.what } ∷ [] =
+    map-append (λ g. record { board = g.board; what = g.what }) halves (h ∷ []) ∙ (λ i. half_moves halves ++ record { board = sym number i; what = h.what } ∷ []) in
+    λ i. record { number = n; terms = t; list = sym list i; begin = 0; kept = None; played = length (sym list i); resumed = length (sym list i); all = sym all i }
+
+-- ---- all boards
+
+one_board : (t : Terms) (halves : List Half) (h : Half) → 1 ≤ h.board → h.board ≤ 1 →
+    boards_put (board_after t halves 1 ∷ []) (h.board - 1) (played_of h) ≡ board_after t (halves ++ h ∷ []) 1 ∷ []
+one_board t halves h first last =
+    let own : h.board ≡ 1 = omega (arith, first, last) in
+    ap (λ k. boards_put (board_after t halves 1 ∷ []) (k - 1) (played_of h)) own ∙ ap (λ b. b ∷ []) (board_more t halves h 1 own)
+
+two_boards : (t : Terms) (halves : List Half) (h : Half) (n : ℕ) → h.board ≡ n → 1 ≤ n → n ≤ 2 →
+    boards_put (board_after t halves 1 ∷ board_after t halves 2 ∷ []) (n - 1) (played_of h)
+    ≡ board_after t (halves ++ h ∷ []) 1 ∷ board_after t (halves ++ h ∷ []) 2 ∷ []
+two_boards t halves h zero own first last = absurd (omega (arith, first))
+two_boards t halves h (suc zero) own first last =
+    let other : nat_eq h.board 2 ≡ false = let same = own in grind (arith, nat_tests, same) in
+    λ i. board_more t halves h 1 own i ∷ board_told t halves h 2 other (sym own) i ∷ []
+two_boards t halves h (suc (suc zero)) own first last =
+    let other : nat_eq h.board 1 ≡ false = let same = own in grind (arith, nat_tests, same) in
+    λ i. board_told t halves h 1 other (sym own) i ∷ board_more t halves h 2 own i ∷ []
+two_boards t halves h (suc (suc (suc n))) own first last = absurd (omega (arith, last))
+
+boards_more : (v : Variant) (t : Terms) (halves : List Half) (h : Half) → 1 ≤ h.board → h.board ≤ bounds.boards v →
+    boards_put (map (board_after t halves) (board_numbers v)) (h.board - 1) (played_of h) ≡ map (board_after t (halves ++ h ∷ [])) (board_numbers v)
+boards_more Chess t halves h first last = one_board t halves h first last
+boards_more Crazyhouse t halves h first last = one_board t halves h first last
+boards_more (Fischer number) t halves h first last = one_board t halves h first last
+boards_more Bughouse t halves h first last = two_boards t halves h h.board refl first last
+
+-- a half-move more is laid on the boards
+pub boards_laid : (t : Terms) (halves : List Half) (h : Half) → 1 ≤ h.board → h.board ≤ bounds.boards t.variant →
+    boards_put (boards_after t halves) (h.board - 1) (played_of h) ≡ boards_after t (halves ++ h ∷ [])
+boards_laid t halves h first last = boards_more t.variant t halves h first last
+
+-- the board of a number
+board_in : (v : Variant) (t : Terms) (halves : List Half) (n : ℕ) → 1 ≤ n → n ≤ bounds.boards v → slice_get (map (board_after t halves) (board_numbers v)) (n - 1) ≡ Some (board_after t halves n)
+board_in v t halves zero first last = absurd (omega (arith, first))
+board_in Chess t halves (suc zero) first last = refl
+board_in Crazyhouse t halves (suc zero) first last = refl
+board_in (Fischer number) t halves (suc zero) first last = refl
+board_in Bughouse t halves (suc zero) first last = refl
+board_in Bughouse t halves (suc (suc zero)) first last = refl
+board_in Chess t halves (suc (suc n)) first last = absurd (omega (arith, last))
+board_in Crazyhouse t halves (suc (suc n)) first last = absurd (omega (arith, last))
+board_in (Fischer number) t halves (suc (suc n)) first last = absurd (omega (arith, last))
+board_in Bughouse t halves (suc (suc (suc n))) first last = absurd (omega (arith, last))
+
+pub board_there : (t : Terms) (halves : List Half) (n : ℕ) → 1 ≤ n → n ≤ bounds.boards t.variant → slice_get (boards_after t halves) (n - 1) ≡ Some (board_after t halves n)
+board_there t halves n first last = board_in t.variant t halves n first last
+
+pub numbered_there : (t : Terms) (halves : List Half) (n : ℕ) → 1 ≤ n → n ≤ bounds.boards t.variant → numbered n (boards_after t halves) ≡ Some (board_after t halves n)
+numbered_there t halves zero first last = absurd (omega (arith, first))
+numbered_there t halves (suc n) first last =
+    let place : n ≡ suc n - 1 = omega arith in
+    ap (slice_get (boards_after t halves)) place ∙ board_in t.variant t halves (suc n) first last
+
+-- the boards at the start of the game
+rewound_in : (v : Variant) (t : Terms) (halves : List Half) → map rewound (map (board_after t halves) (board_numbers v)) ≡ map (board_after t []) (board_numbers v)
+rewound_in Chess t halves = refl
+rewound_in Crazyhouse t halves = refl
+rewound_in (Fischer number) t halves = refl
+rewound_in Bughouse t halves = refl
+
+pub boards_rewound : (t : Terms) (halves : List Half) → map rewound (boards_after t halves) ≡ boards_after t []
+boards_rewound t halves = rewound_in t.variant t halves

@@ -1,0 +1,9 @@
+pub mod Boards
+pub mod Held
+pub mod Laying
+pub mod Lists
+pub mod Shared
+pub mod Shown
+pub mod Stepping
+pub mod Undone
+pub mod Words

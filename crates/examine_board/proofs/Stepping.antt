@@ -1,0 +1,54 @@
+-- The next half-move of an exam is laid on the boards.
+use Rattle.std.proofs.Common.{◌≡◌, ℕ, ◌+◌, ◌-◌, ◌<◌, ◌≤◌, suc, List, [], ◌∷◌, ◌++◌, length, take, Option, Some, None, refl, sym, ap, subst, ◌∙◌, arith, add-one}
+use Rattle.std.specs.Prelude.{IfSome, IsSome, slice_get}
+use Rattle.chess_model.specs.declared.variant.Terms.{Terms}
+use Rattle.chess_model.specs.Allowed.{Allowed}
+use Rattle.clock_ledger.specs.declared.charges.Charge.{Charge}
+use Rattle.clock_ledger.specs.Charges.{IsChargeable}
+use Rattle.game_board.specs.Board.{Board, position_of}
+use Rattle.game_records.specs.declared.stored_game.Half.{Half}
+use Rattle.game_records.specs.Bounds.{IsCharge}
+use Rattle.linked_boards.specs.Halves.{played_of}
+use Rattle.linked_boards.specs.Replaying.{boards_put}
+use Rattle.examine_board.specs.Exam.{board_after, boards_after}
+use Rattle.examine_board.specs.Laid.{MayLie}
+use Rattle.examine_board.proofs.Boards.{board_there, boards_laid}
+use Rattle.examine_board.proofs.Lists.{take-next}
+
+pub chargeable : (o : Option Charge) → IsCharge o → IfSome o IsChargeable
+chargeable None h = tt
+chargeable (Some c) h = h
+
+there_some : (o : Option Board) (b : Board) → o ≡ Some b → IsSome o
+there_some None b e = cc
+there_some (Some a) b e = refl
+
+there_if : (P : Board → Type 0) (o : Option Board) (b : Board) → o ≡ Some b → P b → IfSome o P
+there_if P o b e p = subst (λ (x : Option Board). IfSome x P) (sym e) p
+
+allowed_on : (t : Terms) (halves : List Half) (h : Half) → MayLie t halves h → Allowed (position_of (board_after t halves h.board)) h.what
+unfolding position_of
+allowed_on t halves h lies = lies.allowed
+
+module _ (t : Terms) (halves : List Half) (h : Half) (boards : List Board) (lies : MayLie t halves h) (are : boards ≡ boards_after t halves) where
+  there : slice_get boards (h.board - 1) ≡ Some (board_after t halves h.board)
+  there = ap (λ (bs : List Board). slice_get bs (h.board - 1)) are ∙ board_there t halves h.board lies.first lies.last
+
+  pub lay_board : IsSome (slice_get boards (h.board - 1))
+  lay_board = there_some (slice_get boards (h.board - 1)) (board_after t halves h.board) there
+
+  pub lay_allowed : IfSome (slice_get boards (h.board - 1)) (λ b. Allowed (position_of b) h.what)
+  lay_allowed = there_if (λ b. Allowed (position_of b) h.what) (slice_get boards (h.board - 1)) (board_after t halves h.board) there (allowed_on t halves h lies)
+
+  pub lay_room : IfSome (slice_get boards (h.board - 1)) (λ b. b.played < 1200)
+  lay_room = there_if (λ b. b.played < 1200) (slice_get boards (h.board - 1)) (board_after t halves h.board) there lies.room
+
+  pub lay_short : IfSome (slice_get boards (h.board - 1)) (λ b. length b.list < 1200)
+  lay_short = there_if (λ b. length b.list < 1200) (slice_get boards (h.board - 1)) (board_after t halves h.board) there lies.room
+
+  pub laid : (new : List Board) → new ≡ boards_put boards (h.board - 1) (played_of h) → new ≡ boards_after t (halves ++ h ∷ [])
+  laid new put = put ∙ ap (λ (bs : List Board). boards_put bs (h.board - 1) (played_of h)) are ∙ boards_laid t halves h lies.first lies.last
+
+-- the first half-moves with the next one
+pub next_first : (list : List Half) (place : ℕ) (h : Half) → slice_get list place ≡ Some h → take place list ++ h ∷ [] ≡ take (place + 1) list
+next_first list place h there = sym (take-next place list h there) ∙ ap (λ k. take k list) (sym (add-one place))

@@ -1,0 +1,6 @@
+use Rattle.examine_board.specs.Exam.{present}
+use Rattle.examine_board.specs.Same.{Share}
+use Rattle.examine_board.proofs.exam.Exam.kept.Given as goal
+
+abbrev pub invariant-loop-place : goal.invariant-loop-place
+invariant-loop-place l = Share (present l.self) l.self.stored l.place

@@ -1,0 +1,12 @@
+-- What a call on an exam answers, and what it leaves: a refusal leaves the exam as it was.
+use Rattle.std.specs.Prelude.{Result, Ok, Err}
+use Rattle.fics_words.specs.declared.refusal.Refusal.{Refusal}
+use Rattle.examine_board.specs.Exam.{ExamState}
+
+abbrev pub answer : Result ExamState Refusal → Result Unit Refusal
+answer (Ok after) = Ok tt
+answer (Err cause) = Err cause
+
+abbrev pub left_by : ExamState → Result ExamState Refusal → ExamState
+left_by e (Ok after) = after
+left_by e (Err cause) = e

@@ -1,0 +1,49 @@
+-- A stored game that is looked at step by step. This server's own.
+use Rattle.std.specs.Prelude.{ℕ, List, length, map, take, None}
+use Rattle.chess_model.specs.declared.variant.Terms.{Terms}
+use Rattle.game_board.specs.Board.{Board}
+use Rattle.game_records.specs.declared.stored_game.Half.{Half}
+use Rattle.game_records.specs.declared.stored_game.StoredGame.{StoredGame}
+use Rattle.game_records.specs.Replays.{half_moves}
+use Rattle.linked_boards.specs.Boards.{board_numbers}
+use Rattle.linked_boards.specs.Halves.{list_on}
+
+pub record ExamState : Type 0 where
+  -- on which terms the game is played, and by whom: White and Black, or for a pair those of the first board and those of
+  -- the second
+  pub terms : Terms
+  pub names : List (List ℕ)
+  -- the half-moves of the stored game
+  pub stored : List Half
+  -- the half-moves that are looked at, and how many of them, the first ones, are on the boards
+  pub list : List Half
+  pub place : ℕ
+
+-- a stored game before its first half-move
+abbrev pub opened : StoredGame → ExamState
+opened g = record { terms = g.terms; names = g.names; stored = g.halves; list = g.halves; place = 0 }
+
+-- the half-moves on the boards
+abbrev pub present : ExamState → List Half
+present e = take e.place e.list
+
+-- the board of that number after these half-moves, each with the charge that it has
+abbrev pub board_after : Terms → List Half → ℕ → Board
+board_after t halves number = record {
+  number = number;
+  terms = t;
+  list = list_on number halves;
+  begin = 0;
+  kept = None;
+  played = length (list_on number halves);
+  resumed = length (list_on number halves);
+  all = half_moves halves;
+}
+
+-- all boards of the game after these half-moves
+abbrev pub boards_after : Terms → List Half → List Board
+boards_after t halves = map (board_after t halves) (board_numbers t.variant)
+
+-- the board of that number where the exam is
+abbrev pub board_on : ExamState → ℕ → Board
+board_on e number = board_after e.terms (present e) number

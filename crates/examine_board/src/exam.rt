@@ -1,0 +1,112 @@
+//! The exam of a stored game, and its half-moves.
+ghost use Rattle.std.specs.Prelude.{◌≡◌, ◌++◌, ◌↔◌, ◌<◌, IfOk, IfSome, IsSome, Some, length, slice_get, take};
+ghost use Rattle.game_records.specs.Replays.{Replays};
+ghost use Rattle.examine_board.specs.Exam.{opened};
+ghost use Rattle.examine_board.specs.Laid.{MayLie};
+
+use chess_model::Terms;
+use collections::{Listed, Roomy};
+use fics_words::{Handle, NoMemory};
+use game_records::{Half, StoredGame};
+use linked_boards::{Boards, replays};
+use std::alloc::Global;
+use std::marker::Model;
+
+/// A stored game that is looked at, with the room for all that may be played on from it.
+#[derive(Drop)]
+pub struct Exam {
+    pub(crate) terms: Terms,
+    pub(crate) names: Listed<Handle>,
+    pub(crate) stored: Listed<Half>,
+    /// How many half-moves of the stored game are looked at, the first ones; those of `branch` follow them.
+    pub(crate) shared: usize,
+    /// The half-moves that were played here, which are all on one board.
+    pub(crate) branch: Roomy<Half, 1200>,
+    /// How many half-moves are on the boards.
+    pub(crate) place: usize,
+    pub(crate) boards: Boards,
+}
+
+impl Model for Exam {
+    ghost use Rattle.std.specs.Prelude.{◌++◌, take};
+    ghost use Rattle.examine_board.specs.Exam.{ExamState};
+    ghost use Rattle.examine_board.specs.Holds.{HoldsExam};
+
+    ghost Value = { ExamState };
+
+    ghost view = { λ exam. record {
+      terms = exam.terms;
+      names = exam.names;
+      stored = exam.stored;
+      list = take exam.shared exam.stored ++ exam.branch;
+      place = exam.place;
+    } };
+
+    ghost invariant = { HoldsExam };
+}
+
+impl Exam {
+    /// Opens a stored game before its first half-move. None exactly where it doesn't replay.
+    pub fn open(alloc: Global, game: &StoredGame) -> Result<Option<Exam>, NoMemory>
+        ensures replays { IfOk result (λ exam. IsSome exam ↔ Replays game.now) }
+        ensures opened { IfOk result (λ found. IfSome found (λ exam. exam ≡ opened game.now)) }
+    {
+        if !replays(alloc, game)? {
+            return Ok(None);
+        }
+        Ok(Some(Exam::new(alloc, game)?))
+    }
+
+    /// The exam of a game that replays, before its first half-move.
+    fn new(alloc: Global, game: &StoredGame) -> Result<Exam, NoMemory>
+        requires { Replays game.now }
+        ensures { IfOk result (λ exam. exam ≡ opened game.now) }
+    {
+        let names = copied(alloc, game.names.as_slice())?;
+        let stored = copied(alloc, game.halves.as_slice())?;
+        let branch = Roomy::new(alloc)?;
+        let boards = Boards::start(alloc, game.terms, 0)?;
+        let shared = stored.len();
+        Ok(Exam {
+            terms: game.terms,
+            names,
+            stored,
+            shared,
+            branch,
+            place: 0,
+            boards,
+        })
+    }
+
+    /// How many half-moves are looked at.
+    pub(crate) fn len(&self) -> usize
+        ensures { result ≡ length self.now.list }
+    {
+        self.shared + self.branch.len()
+    }
+
+    /// The half-move in that place, counted from 0.
+    pub(crate) fn half(&self, place: usize) -> Half
+        requires { place < length self.now.list }
+        ensures half { slice_get self.now.list place ≡ Some result }
+        ensures lies { MayLie self.now.terms (take place self.now.list) result }
+        ensures few { place < 3600 }
+    {
+        if place < self.shared {
+            self.stored.as_slice()[place]
+        } else {
+            self.branch.as_slice()[place - self.shared]
+        }
+    }
+}
+
+/// A list of copies of these items.
+fn copied<T: Copy + Drop>(alloc: Global, items: &[T]) -> Result<Listed<T>, NoMemory>
+    ensures { IfOk result (λ copies. copies ≡ items.now) }
+{
+    let mut copies = Listed::new(alloc);
+    for item in items {
+        copies.push(*item)?;
+    }
+    Ok(copies)
+}

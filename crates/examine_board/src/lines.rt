@@ -1,0 +1,127 @@
+//! The lines that show where the exam is.
+ghost use Rattle.std.specs.Prelude.{◌≡◌, ◌*◌, ◌<◌, ◌≤◌, ◌++◌, IfOk, OnOk};
+ghost use Rattle.chess_model.specs.Tests.{has_drops};
+ghost use Rattle.game_board.specs.Board.{Board};
+ghost use Rattle.linked_boards.specs.Boards.{board_numbers};
+ghost use Rattle.game_records.specs.Bounds as bounds;
+ghost use Rattle.examine_board.specs.Exam.{board_on};
+ghost use Rattle.examine_board.specs.Lines.{exam_lines, hands_line, hands_lines, name_at, shown_board, view_of};
+
+use crate::exam::Exam;
+use chess_model::{Colour, Variant};
+use fics_words::{Handle, Line, NoMemory};
+use game_board::GameBoard;
+use std::alloc::Global;
+use style12_writer::{BoardView, LineList, Viewer, line_b1, line12};
+
+/// Who examines a game, with White at the bottom.
+const EXAMINER: Viewer = Viewer {
+    relation: 2,
+    flip: false,
+};
+
+impl Exam {
+    /// The board line of the board on which the last half-move was made, or of the first board before any, and in house
+    /// variants the holdings line of each board. It fails only when out of memory.
+    pub fn lines(&self, alloc: Global) -> Result<LineList, NoMemory>
+        ensures { IfOk result (λ lines. lines ≡ exam_lines self.now) }
+    {
+        let mut lines = LineList::new(alloc);
+        let view = self.view(self.shown_board());
+        lines.push(line12(alloc, &view, EXAMINER)?)?;
+        self.put_hands(alloc, &mut lines)?;
+        Ok(lines)
+    }
+
+    /// The number of the board that is shown.
+    fn shown_board(&self) -> u8
+        ensures value { result ≡ shown_board self.now }
+        ensures first { 1 ≤ result }
+        ensures last { result ≤ bounds.boards self.now.terms.variant }
+    {
+        if self.place == 0 {
+            return 1;
+        }
+        self.half(self.place - 1).board
+    }
+
+    /// What the line of the board of that number shows.
+    #[tactic(auto, unfolding(crate::specs::Lines::view_of))]
+    fn view(&self, number: u8) -> BoardView
+        requires first { 1 ≤ number }
+        requires last { number ≤ bounds.boards self.now.terms.variant }
+        ensures { result ≡ view_of self.now number }
+    {
+        let board = self.board(number);
+        BoardView {
+            face: board.face(),
+            game: u16::from(number),
+            white: self.name(2 * number - 2),
+            black: self.name(2 * number - 1),
+            minutes: self.terms.minutes,
+            increment: self.terms.increment,
+            remaining: [
+                board.ledger(Colour::White).remaining(),
+                board.ledger(Colour::Black).remaining(),
+            ],
+            taken: board.last_taken(),
+        }
+    }
+
+    /// The board of that number.
+    fn board(&self, number: u8) -> &GameBoard
+        requires first { 1 ≤ number }
+        requires last { number ≤ bounds.boards self.now.terms.variant }
+        ensures { result.now ≡ board_on self.now number }
+    {
+        let Some(board) = self.boards.numbered(number) else {
+            unreachable!()
+        };
+        board
+    }
+
+    /// The name of the player in that place, counted from 0.
+    fn name(&self, place: u8) -> Handle
+        requires { place < 2 * bounds.boards self.now.terms.variant }
+        ensures { result ≡ name_at self.now.names place }
+    {
+        self.names.as_slice()[usize::from(place)]
+    }
+
+    /// Adds the holdings line of each board, where the variant has men in hand.
+    fn put_hands(&self, alloc: Global, lines: &mut LineList) -> Result<(), NoMemory>
+        ensures { OnOk result (lines.new ≡ lines.old ++ hands_lines self.now) }
+    {
+        if !has_drops(self.terms.variant) {
+            return Ok(());
+        }
+        let (first, second) = self.boards.both();
+        lines.push(hands_line(alloc, first)?)?;
+        if let Some(second) = second {
+            lines.push(hands_line(alloc, second)?)?;
+        }
+        Ok(())
+    }
+}
+
+/// The holdings line of a board.
+fn hands_line(alloc: Global, board: &GameBoard) -> Result<Line, NoMemory>
+    ensures { IfOk result (λ line. line ≡ hands_line board.now) }
+{
+    let position = board.position();
+    let white = position.hand(Colour::White);
+    let black = position.hand(Colour::Black);
+    line_b1(alloc, u16::from(board.number()), &white, &black, None)
+}
+
+/// Whether men in hand belong to the variant.
+fn has_drops(variant: Variant) -> bool
+    ensures { result ≡ has_drops variant }
+{
+    match variant {
+        Variant::Chess => false,
+        Variant::Crazyhouse => true,
+        Variant::Bughouse => true,
+        Variant::Fischer(_) => false,
+    }
+}

@@ -1,0 +1,122 @@
+//! To and fro along the half-moves, and back to the stored game.
+ghost use Rattle.std.specs.Prelude.{◌≡◌, ◌+◌, ◌<◌, ◌≤◌, Ok, OnOk, length, take};
+ghost use Rattle.examine_board.specs.Answers.{answer, left_by};
+ghost use Rattle.examine_board.specs.Exam.{present};
+ghost use Rattle.examine_board.specs.Same.{shared_length};
+ghost use Rattle.examine_board.specs.Steps.{backed, forwarded, reverted};
+
+use crate::exam::Exam;
+use crate::same::is_same_half;
+use fics_words::Refusal;
+use game_board::Played;
+
+impl Exam {
+    /// Goes `n` half-moves on. Refuses with `NoMoreMoves` where fewer follow; a refusal changes nothing.
+    pub fn forward(&mut self, n: u16) -> Result<(), Refusal>
+        ensures answer { result ≡ answer (forwarded self.old n) }
+        ensures after { self.new ≡ left_by self.old (forwarded self.old n) }
+        ensures undone { OnOk result (backed self.new n ≡ Ok self.old) }
+        ensures list { self.new.list ≡ self.old.list }
+    {
+        let n = usize::from(n);
+        let left = self.len() - self.place;
+        if left < n {
+            return Err(Refusal::NoMoreMoves);
+        }
+        self.go_on(self.place + n);
+        Ok(())
+    }
+
+    /// Goes `n` half-moves back. Refuses with `NoEarlierMoves` where fewer are on the boards; a refusal changes nothing.
+    pub fn back(&mut self, n: u16) -> Result<(), Refusal>
+        ensures answer { result ≡ answer (backed self.old n) }
+        ensures after { self.new ≡ left_by self.old (backed self.old n) }
+        ensures undone { OnOk result (forwarded self.new n ≡ Ok self.old) }
+        ensures list { self.new.list ≡ self.old.list }
+    {
+        let n = usize::from(n);
+        if self.place < n {
+            return Err(Refusal::NoEarlierMoves);
+        }
+        self.go_back(self.place - n);
+        Ok(())
+    }
+
+    /// Looks at the stored half-moves again, in the place up to which those on the boards are the same.
+    pub fn revert(&mut self)
+        ensures { self.new ≡ reverted self.old }
+    {
+        let kept = self.kept();
+        self.go_back(kept);
+        self.drop_branch();
+    }
+
+    /// Goes on to that place.
+    fn go_on(&mut self, place: usize)
+        requires low { self.old.place ≤ place }
+        requires high { place ≤ length self.old.list }
+        ensures { self.new ≡ record self.old { place = place } }
+    {
+        for _next in self.place..place {
+            self.step();
+        }
+    }
+
+    /// Goes back to that place.
+    fn go_back(&mut self, place: usize)
+        requires { place ≤ self.old.place }
+        ensures { self.new ≡ record self.old { place = place } }
+    {
+        if place == self.place {
+            return;
+        }
+        self.rewind();
+        self.go_on(place);
+    }
+
+    /// Goes back to the start.
+    fn rewind(&mut self)
+        ensures { self.new ≡ record self.old { place = 0 } }
+    {
+        self.boards.rewind();
+        self.place = 0;
+    }
+
+    /// Goes one half-move on.
+    pub(crate) fn step(&mut self)
+        requires { self.old.place < length self.old.list }
+        ensures { self.new ≡ record self.old { place = self.old.place + 1 } }
+    {
+        let half = self.half(self.place);
+        let played = Played {
+            what: half.what,
+            charge: half.charge,
+        };
+        self.boards.lay(half.board - 1, &played);
+        self.place += 1;
+    }
+
+    /// How many half-moves on the boards, from the first one on, are those of the stored game.
+    fn kept(&self) -> usize
+        ensures { result ≡ shared_length (present self.now) self.now.stored }
+    {
+        let most = self.place.min(self.stored.len());
+        for place in 0..most {
+            let half = self.half(place);
+            if !is_same_half(&half, &self.stored.as_slice()[place]) {
+                return place;
+            }
+        }
+        most
+    }
+
+    /// Looks at the stored half-moves, where those on the boards are the first of them.
+    fn drop_branch(&mut self)
+        requires within { self.old.place ≤ length self.old.stored }
+        requires same { present self.old ≡ take self.old.place self.old.stored }
+        ensures { self.new ≡ record self.old { list = self.old.stored } }
+    {
+        self.shared = self.stored.len();
+        self.branch.truncate(0);
+    }
+}

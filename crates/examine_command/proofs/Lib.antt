@@ -1,0 +1,5 @@
+pub mod Counts
+pub mod Cuts
+pub mod Ending
+pub mod LineAnswers
+pub mod Stored

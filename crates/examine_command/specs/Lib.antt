@@ -1,0 +1,5 @@
+-- What the contracts of this crate cite.
+pub mod ExamineEnds
+pub mod Examples
+pub mod Lines
+pub mod Texts

@@ -1,0 +1,97 @@
+//! The command `examine`: a store is opened, and one of its games examined.
+
+ghost use Rattle.std.specs.Prelude.{◌≡◌, ◌≤◌};
+ghost use Rattle.edge_traits.specs.Faults.{Rose};
+ghost use Rattle.edge_traits.specs.Keeper.{Stays};
+ghost use Rattle.game_records.specs.Replays.{Replays};
+ghost use Rattle.lobby_state.specs.WellFormed.{IsWellFormed};
+ghost use Rattle.store_ends.specs.Outcomes.{OnKeeperFault, OnReadFault, OnWriteFault};
+ghost use Rattle.examine_command.specs.ExamineEnds.{ExamineEnds, ExaminesGame, ExaminesIn, TellsNone};
+
+use crate::answering::answer_exam;
+use edge_traits::{Keeper, Sink, Source};
+use examine_board::Exam;
+use game_records::StoredGame;
+use line_answers::{End, send};
+use lobby_load::open_store;
+use lobby_state::{Lobby, lobbies_are_well_formed};
+use std::alloc::Global;
+use store_ends::{Outcome, outcome_of};
+
+/// What is written where the store has no game of the number.
+const NO_SUCH_GAME: &[u8] = b"no such game\n";
+
+/// Loads the store, and examines its game of that number: writes the lines that show it before its first half-move, then
+/// reads the source to its end and writes what its lines give, one write a read. It changes nothing at the keeper.
+pub fn examine<S: Source, K: Sink, P: Keeper>(
+    alloc: Global,
+    game: u64,
+    source: &mut S,
+    sink: &mut K,
+    keeper: &mut P,
+) -> Outcome
+    ensures ends { ExamineEnds (P.table keeper.old) game (S.left source.old) (S.left source.new) (K.written sink.old)
+        (K.written sink.new) result }
+    ensures unchanged { Stays (P.table keeper.old) (P.table keeper.new) }
+    ensures read_cause { OnReadFault result (Rose (S.faults source.old) (S.faults source.new)) }
+    ensures write_cause { OnWriteFault result (Rose (K.faults sink.old) (K.faults sink.new)) }
+    ensures keeper_cause { OnKeeperFault result (Rose (P.faults keeper.old) (P.faults keeper.new)) }
+    ensures keeper_counted { P.faults keeper.old ≤ P.faults keeper.new }
+{
+    match open_store(alloc, keeper, sink) {
+        Ok(lobby) => examine_in(alloc, &lobby, game, source, sink),
+        Err(fault) => outcome_of(fault),
+    }
+}
+
+/// Examines the game of that number of a lobby that was loaded.
+fn examine_in<S: Source, K: Sink>(
+    alloc: Global,
+    lobby: &Lobby,
+    number: u64,
+    source: &mut S,
+    sink: &mut K,
+) -> Outcome
+    ensures formed { IsWellFormed lobby.now }
+    ensures ends { ExaminesIn lobby.now number (S.left source.old) (S.left source.new) (K.written sink.old)
+        (K.written sink.new) result }
+    ensures read_cause { OnReadFault result (Rose (S.faults source.old) (S.faults source.new)) }
+    ensures write_cause { OnWriteFault result (Rose (K.faults sink.old) (K.faults sink.new)) }
+{
+    lobbies_are_well_formed(lobby);
+    match lobby.stored(number) {
+        Some(game) => examine_game(alloc, game, source, sink),
+        None => tell_none(sink),
+    }
+}
+
+/// Examines a stored game, which replays.
+fn examine_game<S: Source, K: Sink>(
+    alloc: Global,
+    game: &StoredGame,
+    source: &mut S,
+    sink: &mut K,
+) -> Outcome
+    requires { Replays game.now }
+    ensures ends { ExaminesGame game.now (S.left source.old) (S.left source.new) (K.written sink.old)
+        (K.written sink.new) result }
+    ensures read_cause { OnReadFault result (Rose (S.faults source.old) (S.faults source.new)) }
+    ensures write_cause { OnWriteFault result (Rose (K.faults sink.old) (K.faults sink.new)) }
+{
+    let Ok(found) = Exam::open(alloc, game) else {
+        return Outcome::Read(End::Memory);
+    };
+    let Some(exam) = found else { unreachable!() };
+    Outcome::Read(answer_exam(alloc, exam, source, sink))
+}
+
+/// Tells that there is no such game.
+fn tell_none<K: Sink>(sink: &mut K) -> Outcome
+    ensures ends { TellsNone (K.written sink.old) (K.written sink.new) result }
+    ensures write_cause { OnWriteFault result (Rose (K.faults sink.old) (K.faults sink.new)) }
+{
+    match send(NO_SUCH_GAME, sink) {
+        Ok(()) => Outcome::NoGame,
+        Err(end) => Outcome::Read(end),
+    }
+}
