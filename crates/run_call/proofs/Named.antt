@@ -4,7 +4,9 @@ use Rattle.std.specs.Prelude.{String, decimal}
 use Rattle.std.specs.declared.alloc.Global.{Global}
 use Rattle.std.proofs.lemmas.Fmt.{decimal_injective}
 use Rattle.job_words.proofs.JobsNamed as named
-use Rattle.job_words.specs.Jobs.{IsBehind, OnUsage, text_of}
+use Rattle.job_words.proofs.OptionsRead.{one_saying}
+use Rattle.job_words.specs.Jobs.{IsBehind, IsGame, OnUsage, text_of}
+use Rattle.job_words.specs.Options.{Chosen}
 use Rattle.job_words.specs.Jobs as jobs
 use Rattle.job_words.specs.declared.command_name.CommandName.{CommandName}
 use Rattle.job_words.specs.declared.command_name.CommandName.TheVariants as name
@@ -13,7 +15,7 @@ use Rattle.job_words.specs.declared.job.JobFail.{JobFail}
 use Rattle.job_words.specs.declared.job.JobFail.TheVariants as fails
 use Rattle.run_call.specs.Words.{IsCommand, IsWithin, Names, command_of}
 use Rattle.run_call.specs.declared.command.Command.{Command}
-use Rattle.run_call.specs.declared.command.Command.TheVariants.{Bot, Demo}
+use Rattle.run_call.specs.declared.command.Command.TheVariants.{Bot, Demo, Examine}
 
 -- one word spells one number
 one_number : (most : ℕ) (words : List (List ℕ)) (text other : List ℕ) (n k : ℕ) → most < 2 ^ 32 → words ≡ text ∷ [] → words ≡ other ∷ [] → (text ≡ decimal n) × (n ≤ most) → (other ≡ decimal k) × (k ≤ most) → n ≡ k
@@ -21,6 +23,11 @@ one_number most words text other n k fits is is' h h' =
     let both : text ∷ [] ≡ other ∷ [] = sym is ∙ is' in
     let same : text ≡ other = cc in
     decimal_injective n k (omega (arith, h.1, fits)) (omega (arith, h'.1, fits)) (sym h.0 ∙ same ∙ h'.0)
+
+-- and one number of a game
+same_game : (chosen : Option (List ℕ)) (n k : ℕ) → IsGame chosen n → IsGame chosen k → n ≡ k
+same_game None n k h h' = absurd h
+same_game (Some text) n k h h' = decimal_injective n k (omega (arith, h.0.1)) (omega (arith, h'.0.1)) (sym h.0.0 ∙ h'.0.0)
 
 -- behind the name of a command the words name one
 one_behind : (called : CommandName) (words : List (List ℕ)) (one other : Job) → IsBehind called words one → IsBehind called words other → command_of one ≡ command_of other
@@ -34,7 +41,10 @@ one_behind name.Demo words one other h k =
     ap command_of h.2 ∙ ap (λ (n : ℕ). Some (Demo n)) (one_number 999999 words h.1.0 k.1.0 h.0 k.0 (omega arith) h.1.1 k.1.1 h.1.2 k.1.2) ∙ sym (ap command_of k.2)
 one_behind name.Check words one other h k = ap command_of h.2 ∙ sym (ap command_of k.2)
 one_behind name.Pgn words one other h k = ap command_of h.2 ∙ sym (ap command_of k.2)
-one_behind name.Examine words one other h k = ap command_of h.3 ∙ sym (ap command_of k.3)
+one_behind name.Examine words one other h k =
+    let values : k.2.values ≡ h.2.values = one_saying name.Examine words k.2.values h.2.values k.2.says h.2.says in
+    ap command_of h.3 ∙ ap (λ (n : ℕ). Some (Examine n)) (same_game h.2.values.game h.1 k.1 h.2.game_is (subst (λ (v : Chosen). IsGame v.game k.1) values k.2.game_is))
+    ∙ sym (ap command_of k.3)
 one_behind name.Serve words one other h k = ap command_of h.5 ∙ sym (ap command_of k.5)
 
 -- jobs that the words name are done by one command

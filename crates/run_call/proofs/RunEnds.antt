@@ -18,7 +18,7 @@ use Rattle.store_ends.specs.Outcomes.{AsRead, OnKeeperFault, OnReadFault, OnWrit
 use Rattle.store_ends.specs.declared.outcome.Outcome.{Outcome}
 use Rattle.store_ends.specs.declared.outcome.Outcome.TheVariants.{Read, BadRecord, KeeperFault, NoGame}
 use Rattle.run_call.specs.declared.command.Command.{Command}
-use Rattle.run_call.specs.declared.command.Command.TheVariants.{Board, Replay, Tourney, Tidy, Bot, Demo, Check, Pgn}
+use Rattle.run_call.specs.declared.command.Command.TheVariants.{Board, Replay, Tourney, Tidy, Bot, Demo, Check, Pgn, Examine}
 use Rattle.board_command.specs.Transcript.{board_lines}
 use Rattle.bot_command.specs.BotLines.{bot_answer, bot_lines}
 use Rattle.demo_command.proofs.Told.{nothing_told, told_or_cut}
@@ -26,6 +26,16 @@ use Rattle.line_answers.proofs.ClosingEnds.{AnswersOrClosesPart-none}
 use Rattle.line_answers.proofs.Completeness.{is_complete, is_complete-closing}
 use Rattle.line_answers.proofs.LineCommandEnds.{AnswersPart-none}
 use Rattle.pgn_command.specs.PgnEnds.{PgnEnds}
+use Rattle.examine_board.specs.Exam.{opened}
+use Rattle.examine_command.specs.ExamineEnds.{ExamineEnds, StandsUnder}
+use Rattle.examine_command.specs.Texts.{examine_lines}
+use Rattle.game_records.proofs.ReadBack.{one_spelled}
+use Rattle.game_records.specs.declared.records.Record.{Record}
+use Rattle.game_records.specs.declared.records.Record.TheVariants.{Game}
+use Rattle.game_records.specs.declared.stored_game.StoredGame.{StoredGame}
+use Rattle.line_answers.specs.LineCommand.{bad_in}
+use Rattle.line_answers.specs.Lines.{lines_of}
+use Rattle.game_records.specs.Spelling.{IsSpelled}
 use Rattle.tourney_command.specs.Texts.{tourney_lines}
 use Rattle.tidy_command.proofs.Steps.{cut_at_once}
 use Rattle.tidy_command.proofs.Completeness.{is_complete-tidied}
@@ -57,7 +67,7 @@ one_outcome outcome wanted status is told = sym (outcome_at-status outcome) ∙ 
 
 -- the statuses that there are
 abbrev statuses : List ℕ
-statuses = 0 ∷ 1 ∷ 2 ∷ 3 ∷ 4 ∷ 5 ∷ 6 ∷ 7 ∷ 9 ∷ []
+statuses = 0 ∷ 1 ∷ 2 ∷ 3 ∷ 4 ∷ 5 ∷ 6 ∷ 7 ∷ 9 ∷ 10 ∷ []
 
 status-read : (end : End) → Contains statuses (read.status_of end)
 status-read Done = (0, omega arith, refl)
@@ -81,6 +91,7 @@ status-listed (Bot depth) table left left' written written' NoGame h = absurd h
 status-listed (Demo number) table left left' written written' NoGame h = absurd h.1
 status-listed Check table left left' written written' NoGame h = absurd h.1
 status-listed Pgn table left left' written written' NoGame h = absurd h.1
+status-listed (Examine game) table left left' written written' NoGame h = (9, omega arith, refl)
 
 pub listed_as : (status : ℕ) (command : Command) (table : Option Table) (left left' written written' : Option (List ℕ)) (outcome : Outcome)
     → CommandEnds table left left' written written' outcome command → status ≡ status_of_outcome outcome → Contains statuses status
@@ -145,6 +156,8 @@ out_of_memory table left written (Bot depth) = AnswersOrClosesPart-none (bot_lin
 out_of_memory table left written (Demo number) = (Keeps-same left, nothing_told number written)
 out_of_memory table left written Check = (Keeps-same left, inl (Appends-nil written))
 out_of_memory table left written Pgn = (Keeps-same left, inl (Appends-nil written))
+out_of_memory table left written (Examine game) =
+    inr (record { due = []; is_due = inl refl; cut = record { unread = refl; text = (0, Appends-nil written) } })
 
 pub memory_at_once : (words : List (String Global)) (table : Option Table) (left written : Option (List ℕ)) → WritesPart words table left left written written (Read Memory)
 memory_at_once words table left written = (λ command names. out_of_memory table left written command, λ none. (Keeps-same left, (0, Appends-nil written)))
@@ -228,6 +241,14 @@ is_complete-pgn (Some told) written written' Q R BadRecord good h q r no_write n
 is_complete-pgn table written written' Q R KeeperFault good h q r no_write no_keeper = absurd (no_keeper r)
 is_complete-pgn table written written' Q R NoGame good h q r no_write no_keeper = absurd h
 
+-- under a number stands one game
+one_under : (number : ℕ) (one other : StoredGame) (told : Table) → StandsUnder number one told → StandsUnder number other told → one ≡ other
+one_under number one other told h k =
+    let bytes : Some h.bytes ≡ Some k.bytes = sym h.there ∙ k.there in
+    let same : k.bytes ≡ h.bytes = sym cc in
+    let spelled : Game one ≡ Game other = one_spelled (Game one) (Game other) h.bytes h.spelled (subst (λ (b : List ℕ). IsSpelled (Game other) b) same k.spelled) in
+    cc
+
 -- the run of this command went well
 abbrev WentWell : Option Table → Option (List ℕ) → Command → ℕ → Type 0
 WentWell table left command status = IfSome left (λ text. length text < 2 ^ 40 → IsGood table text command → (status ≡ 0) ⊎ (status ≡ 6))
@@ -236,6 +257,35 @@ WentWell table left command status = IfSome left (λ text. length text < 2 ^ 40 
 any_input : (table : Option Table) (left : Option (List ℕ)) (command : Command) (status : ℕ) → ((text : List ℕ) → IsGood table text command → (status ≡ 0) ⊎ (status ≡ 6)) → WentWell table left command status
 any_input table None command status f = tt
 any_input table (Some text) command status f = λ short good. f text good
+
+-- the run of `examine` went well whose lines were read well
+from_lines : (game : StoredGame) (table : Option Table) (number : ℕ) (left : Option (List ℕ)) (status : ℕ) → IfSome table (StandsUnder number game)
+    → IfSome left (λ text. length text < 2 ^ 40 → bad_in (examine_lines (opened game)) (lines_of text) ≡ None → (status ≡ 0) ⊎ (status ≡ 6)) → WentWell table left (Examine number) status
+from_lines game None number None status stands f = tt
+from_lines game None number (Some text) status stands f = λ short good. absurd good
+from_lines game (Some told) number None status stands f = tt
+from_lines game (Some told) number (Some text) status stands f = λ short good.
+    f short (subst (λ (g : StoredGame). bad_in (examine_lines (opened g)) (lines_of text) ≡ None) (one_under number good.game game told good.stands stands) good.lines)
+
+-- an examination of a game that is there
+module _ (number : ℕ) (left left' written written' : Option (List ℕ)) (P Q R : Type 0) (no_read : P → ⊥) (no_write : Q → ⊥) (no_keeper : R → ⊥) where
+  is_complete-examine : (table : Option Table) (outcome : Outcome) → ExamineEnds table number left left' written written' outcome → OnReadFault outcome P → OnWriteFault outcome Q
+      → OnKeeperFault outcome R → WentWell table left (Examine number) (status_of_outcome outcome)
+  is_complete-examine table (Read Done) h p q r = any_input table left (Examine number) 0 (λ text good. inl refl)
+  is_complete-examine table (Read ReadFault) h p q r = absurd (no_read p)
+  is_complete-examine table (Read WriteFault) h p q r = absurd (no_write q)
+  is_complete-examine table (Read Memory) h p q r = any_input table left (Examine number) 6 (λ text good. inr refl)
+  is_complete-examine table (Read BadLine) h p q r = from_lines h.game table number left 7 h.stored.stands
+      (is_complete (examine_lines (opened h.game)) left left' h.answers.shown written' P Q BadLine h.answers.answers p q no_read no_write)
+  is_complete-examine table (Read Spent) h p q r = from_lines h.game table number left 9 h.stored.stands
+      (is_complete (examine_lines (opened h.game)) left left' h.answers.shown written' P Q Spent h.answers.answers p q no_read no_write)
+  is_complete-examine None BadRecord h p q r = any_input None left (Examine number) 5 (λ text good. absurd good)
+  is_complete-examine (Some told) BadRecord h p q r = any_input (Some told) left (Examine number) 5 (λ text good. absurd (good.good.none_bad h.key h.bad.bad))
+  is_complete-examine table KeeperFault h p q r = absurd (no_keeper r)
+  is_complete-examine None NoGame h p q r = any_input None left (Examine number) 10 (λ text good. absurd good)
+  is_complete-examine (Some told) NoGame h p q r = any_input (Some told) left (Examine number) 10 (λ text good.
+      let wrong : None ≡ Some good.stands.bytes = sym h.none.none ∙ good.stands.there in
+      absurd cc)
 
 module _ (table : Option Table) (left left' written written' : Option (List ℕ)) (P Q R : Type 0) (no_read : P → ⊥) (no_write : Q → ⊥) where
   -- what the status is where nothing goes wrong, for each command
@@ -257,6 +307,8 @@ module _ (table : Option Table) (left left' written written' : Option (List ℕ)
       any_input table left Check (status_of_outcome outcome) (λ text good. is_complete-check table written written' Q R outcome good h.1 q r no_write (no_keeper tt))
   is_complete-command Pgn outcome h p q r no_keeper =
       any_input table left Pgn (status_of_outcome outcome) (λ text good. is_complete-pgn table written written' Q R outcome good h.1 q r no_write (no_keeper tt))
+  is_complete-command (Examine number) outcome h p q r no_keeper =
+      is_complete-examine number left left' written written' P Q R no_read no_write (no_keeper tt) table outcome h p q r
 
   pub complete_at : (words : List (String Global)) (command other : Command) (outcome : Outcome) (status : ℕ) → Names words command → Names words other → status ≡ status_of_outcome outcome
       → CommandEnds table left left' written written' outcome command → OnReadFault outcome P → OnWriteFault outcome Q → OnKeeperFault outcome R → (IsOverStore other → R → ⊥)

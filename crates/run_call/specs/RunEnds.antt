@@ -8,6 +8,10 @@ use Rattle.bot_command.specs.BotLines.{bot_lines}
 use Rattle.check_command.specs.CheckEnds.{CheckEnds}
 use Rattle.demo_command.specs.DemoEnds.{DemoEnds}
 use Rattle.edge_traits.specs.Pairs.{Table}
+use Rattle.examine_board.specs.Exam.{opened}
+use Rattle.examine_command.specs.ExamineEnds.{ExamineEnds, StandsUnder}
+use Rattle.examine_command.specs.Texts.{examine_lines}
+use Rattle.game_records.specs.declared.stored_game.StoredGame.{StoredGame}
 use Rattle.replay_command.specs.ReplayEnds.{AreEvening, ReplayEnds}
 use Rattle.board_command.specs.Transcript.{bad_in}
 use Rattle.line_answers.specs.LineCommand as each
@@ -23,10 +27,9 @@ use Rattle.tourney_command.specs.Texts.{tourney_lines}
 use Rattle.tourney_command.specs.TourneyEnds.{TourneyEnds}
 use Rattle.run_call.specs.Words.{IsCommand, Names, UsagePart}
 use Rattle.run_call.specs.declared.command.Command.{Command}
-use Rattle.run_call.specs.declared.command.Command.TheVariants.{Board, Replay, Tourney, Tidy, Bot, Demo, Check, Pgn}
+use Rattle.run_call.specs.declared.command.Command.TheVariants.{Board, Replay, Tourney, Tidy, Bot, Demo, Check, Pgn, Examine}
 
--- how a command ends over this table, where it is told; `demo`, `check` and `pgn` leave the input as it
--- was
+-- how a command ends over this table, where it is told; `demo`, `check` and `pgn` leave the input as it was
 abbrev pub CommandEnds : Option Table → Option (List ℕ) → Option (List ℕ) → Option (List ℕ) → Option (List ℕ) → Outcome
     → Command → Type 0
 CommandEnds table left left' written written' outcome Board = AsRead (BoardEnds left left' written written') outcome
@@ -40,6 +43,8 @@ CommandEnds table left left' written written' outcome (Demo number) =
     Keeps left left' × AsRead (DemoEnds number written written') outcome
 CommandEnds table left left' written written' outcome Check = Keeps left left' × CheckEnds table written written' outcome
 CommandEnds table left left' written written' outcome Pgn = Keeps left left' × PgnEnds table written written' outcome
+CommandEnds table left left' written written' outcome (Examine game) =
+    ExamineEnds table game left left' written written' outcome
 
 -- a prefix of what would have been written, at a fault of writing or when out of memory: of a command's text, or of the
 -- usage line
@@ -54,8 +59,20 @@ abbrev pub IsToldGood : Option Table → Type 0
 IsToldGood None = ⊥
 IsToldGood (Some table) = IsGoodStore table
 
+-- the table is good and has the game of that number, of which each line of the text is good
+pub record CanBeExamined (number : ℕ) (text : List ℕ) (table : Table) : Type 0 where
+  pub good : IsGoodStore table
+  pub game : StoredGame
+  pub stands : StandsUnder number game table
+  pub lines : each.bad_in (examine_lines (opened game)) (lines_of text) ≡ None
+
+-- the table is told, and this holds of it
+abbrev pub IsExaminable : Option Table → ℕ → List ℕ → Type 0
+IsExaminable None number text = ⊥
+IsExaminable (Some table) number text = CanBeExamined number text table
+
 -- the input is in the command's grammar: none of its lines is bad, or they are those of an evening, or games are read
--- in its text; `demo` reads none, and `check` and `pgn` read a good store
+-- in its text; `demo` reads none, `check` and `pgn` read a good store, and `examine` one with the game
 abbrev pub IsGood : Option Table → List ℕ → Command → Type 0
 IsGood table text Board = bad_in (lines_of text) ≡ None
 IsGood table text Replay = AreEvening (lines_of text)
@@ -65,3 +82,4 @@ IsGood table text (Bot depth) = each.bad_in (bot_lines depth) (lines_of text) �
 IsGood table text (Demo number) = ⊤
 IsGood table text Check = IsToldGood table
 IsGood table text Pgn = IsToldGood table
+IsGood table text (Examine game) = IsExaminable table game text

@@ -8,7 +8,7 @@ use Rattle.job_words.specs.Jobs as jobs
 use Rattle.job_words.specs.declared.job.Job.{Job}
 use Rattle.job_words.specs.declared.job.Job.TheVariants as job
 use Rattle.run_call.specs.declared.command.Command.{Command}
-use Rattle.run_call.specs.declared.command.Command.TheVariants.{Board, Replay, Tourney, Tidy, Bot, Demo, Check, Pgn}
+use Rattle.run_call.specs.declared.command.Command.TheVariants.{Board, Replay, Tourney, Tidy, Bot, Demo, Check, Pgn, Examine}
 
 -- the command that is run for a job; players are served by another call
 abbrev pub command_of : Job → Option Command
@@ -20,6 +20,7 @@ command_of (job.Bot depth) = Some (Bot depth)
 command_of (job.Demo number) = Some (Demo number)
 command_of (job.Check store) = Some Check
 command_of (job.Pgn store) = Some Pgn
+command_of (job.Examine store game) = Some (Examine game)
 command_of _ = None
 
 -- the words name this command
@@ -35,6 +36,7 @@ IsWithin _ = ⊤
 abbrev pub IsOverStore : Command → Type 0
 IsOverStore Check = ⊤
 IsOverStore Pgn = ⊤
+IsOverStore (Examine game) = ⊤
 IsOverStore _ = ⊥
 
 -- the words name a command

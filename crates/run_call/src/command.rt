@@ -32,6 +32,11 @@ pub enum Command {
     Check,
     /// Loads the store, and writes its chess games as PGN; reads nothing else.
     Pgn,
+    /// Loads the store, and goes through one of its games by the lines that it reads.
+    Examine {
+        /// The number of the game, from 1 on.
+        game: u64,
+    },
 }
 
 /// Reads the words. Those of a job that isn't done here are `Usage` too.
@@ -62,6 +67,7 @@ fn command_of(job: &Job) -> Option<Command>
         Job::Demo { number } => Some(Command::Demo { number: *number }),
         Job::Check { .. } => Some(Command::Check),
         Job::Pgn { .. } => Some(Command::Pgn),
+        Job::Examine { game, .. } => Some(Command::Examine { game: *game }),
         _ => None,
     }
 }

@@ -18,6 +18,7 @@ use bot_command::bot;
 use check_command::check;
 use demo_command::demo;
 use edge_traits::{Keeper, Sink, Source};
+use examine_command::examine;
 use job_words::{JobFail, tell_usage};
 use line_answers::{End, status};
 use pgn_command::pgn;
@@ -30,7 +31,7 @@ use tourney_command::tourney;
 /// Runs the command that the words name, and gives the status with which the program ends: 0 where the input was
 /// read to its end, 1 where the words name no command, 2 at a fault of reading, 3 at a fault of writing, 4 at a fault
 /// of the keeper, 5 where a record of the store is bad, 6 for want of memory, 7 at the first line outside the grammar,
-/// and 9 after 2^40 reads. The keeper is called by the commands over a store alone, and its table stays as it is.
+/// 9 after 2^40 reads, and 10 where the store has no game of the number. The keeper is called by the commands over a store alone, and its table stays as it is.
 pub fn run<S: Source, K: Sink, P: Keeper>(
     alloc: Global,
     words: &[String],
@@ -60,12 +61,14 @@ pub fn run<S: Source, K: Sink, P: Keeper>(
         (S.left source.new) (K.written sink.old) (K.written sink.new) (Outcome.Read End.BadLine)) }
     ensures spent { result ≡ 9 → Does words.now (CommandEnds (P.table keeper.old) (S.left source.old)
         (S.left source.new) (K.written sink.old) (K.written sink.new) (Outcome.Read End.Spent)) }
+    ensures no_game { result ≡ 10 → Does words.now (CommandEnds (P.table keeper.old) (S.left source.old)
+        (S.left source.new) (K.written sink.old) (K.written sink.new) Outcome.NoGame) }
     ensures complete { (command : Command) → Names words.now command
         → ¬ (Rose (S.faults source.old) (S.faults source.new)) → ¬ (Rose (K.faults sink.old) (K.faults sink.new))
         → (IsOverStore command → ¬ (Rose (P.faults keeper.old) (P.faults keeper.new)))
         → IfSome (S.left source.old) (λ text. length text < 2 ^ 40 → IsGood (P.table keeper.old) text command
         → (result ≡ 0) ⊎ (result ≡ 6)) }
-    ensures statuses { Contains (0 ∷ 1 ∷ 2 ∷ 3 ∷ 4 ∷ 5 ∷ 6 ∷ 7 ∷ 9 ∷ []) result }
+    ensures statuses { Contains (0 ∷ 1 ∷ 2 ∷ 3 ∷ 4 ∷ 5 ∷ 6 ∷ 7 ∷ 9 ∷ 10 ∷ []) result }
     ensures keeper_stays { ¬ (Does words.now IsOverStore) → keeper.new ≡ keeper.old }
     ensures table_stays { Stays (P.table keeper.old) (P.table keeper.new) }
     ensures keeper_counted { P.faults keeper.old ≤ P.faults keeper.new }
@@ -104,5 +107,6 @@ fn run_command<S: Source, K: Sink, P: Keeper>(
         Command::Demo { number } => Outcome::Read(demo(alloc, number, sink)),
         Command::Check => check(alloc, sink, keeper),
         Command::Pgn => pgn(alloc, sink, keeper),
+        Command::Examine { game } => examine(alloc, game, source, sink, keeper),
     }
 }

@@ -1,6 +1,6 @@
 use Rattle.std.proofs.Common.{◌≡◌, arith, sym, ◌∙◌}
 use Rattle.line_answers.specs.declared.end.End.TheVariants.{Done, ReadFault, WriteFault, Memory, BadLine, Spent}
-use Rattle.store_ends.specs.declared.outcome.Outcome.TheVariants.{Read, BadRecord, KeeperFault}
+use Rattle.store_ends.specs.declared.outcome.Outcome.TheVariants.{Read, BadRecord, KeeperFault, NoGame}
 use Rattle.run_call.proofs.Named.{is_command, refused}
 use Rattle.run_call.proofs.RunEnds.{Stays-same, complete_at, does_at, keeper_fault_at, keeper_stays_at, listed_as, memory_at_once, not_usage, read_fault_at, usage_listed, usage_part, write_fault_at, writes_at}
 use Rattle.run_call.proofs.running.run.Goals as goal
@@ -30,6 +30,9 @@ returns-in-Ok-clause-bad_line g c = does_at _ c.in-Ok.command c.in-Ok.ensures.co
 
 pub returns-in-Ok-clause-spent : goal.returns-in-Ok-clause-spent
 returns-in-Ok-clause-spent g c = does_at _ c.in-Ok.command c.in-Ok.ensures.command _ _ _ _ _ c.run_command.result c.run_command.ensures.ends (Read Spent) _ c.status_of_outcome.ensures
+
+pub returns-in-Ok-clause-no_game : goal.returns-in-Ok-clause-no_game
+returns-in-Ok-clause-no_game g c = does_at _ c.in-Ok.command c.in-Ok.ensures.command _ _ _ _ _ c.run_command.result c.run_command.ensures.ends NoGame _ c.status_of_outcome.ensures
 
 pub returns-in-Ok-clause-read_fault : goal.returns-in-Ok-clause-read_fault
 returns-in-Ok-clause-read_fault g c = read_fault_at c.run_command.result _ _ c.status_of_outcome.ensures c.run_command.ensures.read_cause
