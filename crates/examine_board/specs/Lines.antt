@@ -1,6 +1,6 @@
 -- The lines that show where an exam is: the board line of FICS style 12 as an examiner sees it, and holdings lines. Which
 -- board is shown, and that boards have the numbers 1 and 2 as games, is this server's own.
-use Rattle.std.specs.Prelude.{ℕ, ◌-◌, ◌*◌, pos, false, if◌then◌else◌, List, [], ◌∷◌, ◌++◌, length, map, None, slice_get}
+use Rattle.std.specs.Prelude.{ℕ, ◌-◌, ◌*◌, pos, false, if◌then◌else◌, List, [], ◌∷◌, length, map, None, slice_get}
 use Rattle.std.specs.List.{slice_index_or}
 use Rattle.std.specs.Option.{option_map_or}
 use Rattle.chess_model.specs.declared.man.Colour.TheVariants.{White, Black}
