@@ -28,8 +28,8 @@ is_pair (Fischer number) = false
 abbrev pub position : ExamState → Position
 position e = position_on e.terms.variant (present e) 1
 
--- why nothing may be played on: at a pair, where the half-moves on the board have ended the game by mate or stalemate, and
--- where they are as many as may be played
+-- why nothing may be played on: at a pair, where the half-moves on the board have ended the game by mate or stalemate,
+-- and where they are as many as may be played
 abbrev pub play_refused : ExamState → Option Refusal
 play_refused e =
     first_cause
