@@ -13,7 +13,7 @@ use Rattle.game_board.specs.Rewind.{rewound}
 use Rattle.game_records.specs.declared.stored_game.Half.{Half}
 use Rattle.game_records.specs.Bounds as bounds
 use Rattle.game_records.specs.Replays.{half_moves, made_on}
-use Rattle.linked_boards.specs.Boards.{board_numbers, numbered}
+use Rattle.linked_boards.specs.Boards.{board_numbers}
 use Rattle.linked_boards.specs.Halves.{list_on, played_of}
 use Rattle.linked_boards.specs.Replaying.{boards_put}
 use Rattle.linked_boards.proofs.Halved.{list_on-own, list_on-else}
@@ -126,12 +126,6 @@ board_in Bughouse t halves (suc (suc (suc n))) first last = absurd (omega (arith
 
 pub board_there : (t : Terms) (halves : List Half) (n : ℕ) → 1 ≤ n → n ≤ bounds.boards t.variant → slice_get (boards_after t halves) (n - 1) ≡ Some (board_after t halves n)
 board_there t halves n first last = board_in t.variant t halves n first last
-
-pub numbered_there : (t : Terms) (halves : List Half) (n : ℕ) → 1 ≤ n → n ≤ bounds.boards t.variant → numbered n (boards_after t halves) ≡ Some (board_after t halves n)
-numbered_there t halves zero first last = absurd (omega (arith, first))
-numbered_there t halves (suc n) first last =
-    let place : n ≡ suc n - 1 = omega arith in
-    ap (slice_get (boards_after t halves)) place ∙ board_in t.variant t halves (suc n) first last
 
 -- the boards at the start of the game
 rewound_in : (v : Variant) (t : Terms) (halves : List Half) → map rewound (map (board_after t halves) (board_numbers v)) ≡ map (board_after t []) (board_numbers v)
