@@ -1,6 +1,6 @@
--- Which keys of a store are bad: what stands under them is no account under the key of its name and no game that replays
--- under the key of its number, or it is one account or game more than a server holds. This server's own.
-use Rattle.std.specs.Prelude.{◌≡◌, ◌⊎◌, ℕ, ◌≤◌, ◌×◌, Bool, true, List, All, Some, count_by}
+-- Which keys of a store are bad: what stands under them is no account under the key of its name and no game that
+-- replays under the key of its number, or it is one account or game more than a server holds. This server's own.
+use Rattle.std.specs.Prelude.{◌≡◌, ◌⊎◌, ℕ, ◌≤◌, Bool, true, List, All, Some, codes, count_by, refl}
 use Rattle.std.specs.FinMap as map
 use Rattle.std.specs.declared.cmp.Ordering.TheVariants.{Less}
 use Rattle.fics_words.specs.declared.account.Account.{Account}
@@ -27,15 +27,21 @@ IsGame row = (number : ℕ) × (game : StoredGame) × IsGameRow number game row
 abbrev pub ComesBefore : List ℕ → List ℕ → Type 0
 ComesBefore one other = keys_order one other ≡ Less
 
--- the rows have at least so many of a kind at keys before this one: so many can be picked that are of it and come before
+example_byte_by_byte : ComesBefore (codes "aann") (codes "aben")
+example_byte_by_byte = refl
+
+example_prefix_first : ComesBefore (codes "aann") (codes "aanna")
+example_prefix_first = refl
+
+-- the rows have at least so many of a kind at keys before this one: so many can be picked, all of the kind and before
 pub record HasBefore (IsOfKind : Row → Type 0) (count : ℕ) (rows : Pairs) (key : List ℕ) : Type 0 where
   pub pick : Row → Bool
   pub kind : All (λ row. pick row ≡ true → IsOfKind row) rows
   pub before : All (λ row. pick row ≡ true → ComesBefore row.0 key) rows
   pub many : count ≤ count_by pick rows
 
--- the row is beyond what a server holds: an account at whose lesser keys stand 4,096 accounts, or a game at whose lesser
--- keys stand 10,000 games
+-- the row is beyond what a server holds: an account before which there are 4,096 accounts in the order of the keys, or
+-- a game before which there are 10,000 games
 abbrev pub IsBeyond : Pairs → Row → Type 0
 IsBeyond rows row = (IsAccount row × HasBefore IsAccount most_accounts rows row.0)
     ⊎ (IsGame row × HasBefore IsGame most_stored rows row.0)

@@ -3,3 +3,4 @@ pub mod BadRows
 pub mod Loaded
 pub mod Refused
 pub mod Telling
+pub mod Filling

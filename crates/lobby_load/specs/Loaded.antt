@@ -1,7 +1,8 @@
 -- What a lobby is that was loaded from a store. This server's own.
-use Rattle.std.specs.Prelude.{◌≡◌, ℕ, List, [], All, None, replicate}
+use Rattle.std.specs.Prelude.{◌≡◌, ◌↔◌, ℕ, Bool, true, List, [], length, All, None, count_by, refl, replicate}
+use Rattle.std.specs.FinMap as map
 use Rattle.fics_words.specs.declared.account.Account.{Account}
-use Rattle.edge_traits.specs.Pairs.{Table}
+use Rattle.edge_traits.specs.Pairs.{Pairs, Table}
 use Rattle.game_records.specs.Spelling.{IsSpelled, spelling}
 use Rattle.game_records.specs.declared.records.Record.TheVariants as a
 use Rattle.game_shelf.specs.Shelf.{empty}
@@ -10,8 +11,10 @@ use Rattle.lobby_state.specs.Desks.{desks}
 use Rattle.lobby_state.specs.Lobby.{LobbyState, opening}
 use Rattle.lobby_store.specs.Agreeing.{wanted_by}
 use Rattle.lobby_store.specs.Carrying.{held}
+use Rattle.lobby_load.specs.BadRows.{IsAccount, IsGame, Row}
 
--- the lobby holds what the table holds: under each key it wants the record that stands there, and nothing where none does
+-- the lobby holds what the table holds: under each key it wants the record that stands there, and nothing where none
+-- does
 abbrev pub HasLoaded : Table → LobbyState → Type 0
 HasLoaded table lobby = (key : List ℕ) → wanted_by lobby key ≡ held table key
 
@@ -19,8 +22,11 @@ HasLoaded table lobby = (key : List ℕ) → wanted_by lobby key ≡ held table 
 abbrev pub opening_with : List Account → List Shelved → LobbyState
 opening_with accounts games = record opening { accounts = accounts; shelf = record empty { games = games } }
 
--- nobody is there, no desk is in use, no save order stands, and but for its accounts and its stored games the lobby is as
--- it is at its opening
+example_of_none : opening_with [] [] ≡ opening
+example_of_none = refl
+
+-- nobody is there, no desk is in use, no save order stands, and but for its accounts and its stored games the lobby is
+-- as it is at its opening
 pub record IsAtOpening (lobby : LobbyState) : Type 0 where
   pub nobody : lobby.members ≡ []
   pub no_game : lobby.games ≡ replicate desks None
@@ -31,3 +37,14 @@ pub record IsAtOpening (lobby : LobbyState) : Type 0 where
 pub record AreSpelled (lobby : LobbyState) : Type 0 where
   pub accounts : All (λ account. IsSpelled (a.Account account) (spelling (a.Account account))) lobby.accounts
   pub games : All (λ row. IsSpelled (a.Game row.game) (spelling (a.Game row.game))) lobby.shelf.games
+
+-- so many of the rows are of this kind
+pub record HasCount (IsOfKind : Row → Type 0) (count : ℕ) (rows : Pairs) : Type 0 where
+  pub pick : Row → Bool
+  pub kind : All (λ row. (pick row ≡ true) ↔ IsOfKind row) rows
+  pub many : count_by pick rows ≡ count
+
+-- the lobby has as many accounts, and as many stored games, as the table has rows of them
+pub record HasSizes (table : Table) (lobby : LobbyState) : Type 0 where
+  pub accounts : HasCount IsAccount (length lobby.accounts) (map.entries table)
+  pub games : HasCount IsGame (length lobby.shelf.games) (map.entries table)

@@ -24,3 +24,8 @@ OnReadFault answer P = Unit {0}
 abbrev pub OnWriteFault : {A : Type 0} → Result A StoreFault → Type 0 → Type 0
 OnWriteFault (Err store.WriteFault) P = P
 OnWriteFault answer P = Unit {0}
+
+-- the fact holds where the fault is that the line couldn't be written
+abbrev pub IfWriteFault : StoreFault → Type 0 → Type 0
+IfWriteFault store.WriteFault P = P
+IfWriteFault fault P = Unit {0}

@@ -1,5 +1,5 @@
 -- The line that tells of a bad record, and when it is written. This server's own.
-use Rattle.std.specs.Prelude.{◌≡◌, ◌⊎◌, ◌×◌, ℕ, List, [], ◌++◌, codes, IfSome, Ok, Err, Result, refl}
+use Rattle.std.specs.Prelude.{◌≡◌, ◌⊎◌, ℕ, List, [], ◌++◌, codes, IfSome, Ok, Err, Result, refl}
 use Rattle.std.specs.declared.option.Option.{Option}
 use Rattle.std.specs.Io.KnownBytes.{Appends}
 use Rattle.hex.specs.Hex.{encode_lower, encode_with}
@@ -21,9 +21,10 @@ IsFirstBad table key = IfSome table (λ told. IsLeastBad told key)
 abbrev pub WroteFront : Option Table → Option (List ℕ) → Option (List ℕ) → Type 0
 WroteFront table old new = (key : List ℕ) × IsFirstBad table key × AppendsFront old new (bad_record_line key)
 
--- what was written as a store was opened: nothing, unless a record is bad; the line of the least bad key; and a beginning of
--- that line where the write failed or memory ran out at it
-abbrev pub Tells : {A : Type 0} → Option Table → Option (List ℕ) → Option (List ℕ) → Result A StoreFault → Type 0
+-- what was written as a store was opened: nothing, unless a record is bad; the line of the least bad key; and a
+-- beginning of that line where the write failed or memory ran out at it
+abbrev pub Tells : {A : Type 0} → Option Table → Option (List ℕ) → Option (List ℕ) → Result A StoreFault
+    → Type 0
 Tells table old new (Ok lobby) = Appends old new []
 Tells table old new (Err BadRecord) =
     (key : List ℕ) × IsFirstBad table key × Appends old new (bad_record_line key)
@@ -38,3 +39,10 @@ example_account = refl
 example_no_bytes : bad_record_line [] ≡ codes "bad record \n"
 unfolding encode_with
 example_no_bytes = refl
+
+-- what was written to tell of the record under a key: its line, or a beginning of it
+abbrev pub TellsKey : List ℕ → Option (List ℕ) → Option (List ℕ) → StoreFault → Type 0
+TellsKey key old new BadRecord = Appends old new (bad_record_line key)
+TellsKey key old new KeeperFault = ⊥
+TellsKey key old new WriteFault = AppendsFront old new (bad_record_line key)
+TellsKey key old new Memory = AppendsFront old new (bad_record_line key)

@@ -1,6 +1,9 @@
 //! Why a store isn't loaded.
+ghost use Rattle.std.specs.Prelude.{◌≡◌};
+ghost use Rattle.lobby_load.specs.declared.refusals.LoadRefusal.TheVariants.{Memory};
 
 use collections::Listed;
+use fics_words::NoMemory;
 
 /// Why no lobby was loaded.
 #[derive(Drop)]
@@ -11,6 +14,14 @@ pub enum LoadRefusal {
     KeeperFault,
     /// Running out of memory.
     Memory,
+}
+
+impl From<NoMemory> for LoadRefusal {
+    ghost from_gives = { λ _ refusal. refusal ≡ Memory };
+
+    fn from(_want: NoMemory) -> LoadRefusal {
+        LoadRefusal::Memory
+    }
 }
 
 /// Why a store wasn't opened, once a bad record was told.

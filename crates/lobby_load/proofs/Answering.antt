@@ -1,0 +1,74 @@
+-- What an answer says of a table, where that is told.
+use Rattle.std.proofs.Common.{◌≡◌, ℕ, List, ◌∷◌, ◌++◌, ◌+◌, ◌<◌, take, drop, length, get_or, take-append-drop, IfOk, IfSome, Ok, Err, Result, sym, ap, subst, ◌∙◌}
+use Rattle.std.specs.declared.option.Option.{Option}
+use Rattle.std.specs.declared.option.Option.TheVariants.{None, Some}
+use Rattle.std.specs.FinMap as map
+use Rattle.std.proofs.lemmas.List.{drop_more}
+use Rattle.edge_traits.specs.Keeper.{AreAllOf}
+use Rattle.edge_traits.specs.Pairs.{IsAscending, Pairs, Table}
+use Rattle.lobby_state.specs.Lobby.{LobbyState}
+use Rattle.lobby_load.specs.BadRows.{IsGoodStore, IsLeastBad, Row}
+use Rattle.lobby_load.specs.Filling.{HasRows, IsLeastBadOf, NamesKey}
+use Rattle.lobby_load.specs.Loaded.{HasLoaded, HasSizes}
+use Rattle.lobby_load.specs.Refused.{OnBadRecord, OnKeeperFault}
+use Rattle.lobby_load.specs.declared.refusals.LoadRefusal.{LoadRefusal}
+use Rattle.lobby_load.specs.declared.refusals.LoadRefusal.TheVariants.{BadRecord, KeeperFault, Memory}
+use Rattle.lobby_load.proofs.Least.{made_good, made_loaded, made_sized}
+
+-- the pairs are all of the table, where it is told
+of_told : (told : Option Table) (rows : Pairs) (P : Table → Type 0) → AreAllOf told rows → ((table : Table) → rows ≡ map.entries table → P table) → IfSome told P
+of_told None rows P all f = tt
+of_told (Some table) rows P all f = f table all
+
+pub ok_then : {A E : Type 0} (r : Result A E) (P Q : A → Type 0) → ((x : A) → P x → Q x) → IfOk r P → IfOk r Q
+ok_then (Ok x) P Q f h = f x h
+ok_then (Err e) P Q f h = tt
+
+pub loaded_told : (told : Option Table) (rows : Pairs) (r : Result LobbyState LoadRefusal) → AreAllOf told rows → IfOk r (HasRows rows)
+    → IfOk r (λ lobby. IfSome told (λ table. HasLoaded table lobby))
+loaded_told told rows r all made =
+    ok_then r (HasRows rows) (λ lobby. IfSome told (λ table. HasLoaded table lobby))
+    (λ lobby h. of_told told rows (λ table. HasLoaded table lobby) all (λ table e. made_loaded table lobby rows e h)) made
+
+pub sized_told : (told : Option Table) (rows : Pairs) (r : Result LobbyState LoadRefusal) → AreAllOf told rows → IfOk r (HasRows rows)
+    → IfOk r (λ lobby. IfSome told (λ table. HasSizes table lobby))
+sized_told told rows r all made =
+    ok_then r (HasRows rows) (λ lobby. IfSome told (λ table. HasSizes table lobby))
+    (λ lobby h. of_told told rows (λ table. HasSizes table lobby) all (λ table e. made_sized table lobby rows e h)) made
+
+pub good_told : (told : Option Table) (rows : Pairs) (r : Result LobbyState LoadRefusal) → IsAscending rows → AreAllOf told rows → IfOk r (HasRows rows)
+    → IfOk r (λ lobby. IfSome told IsGoodStore)
+good_told told rows r rise all made =
+    ok_then r (HasRows rows) (λ lobby. IfSome told IsGoodStore)
+    (λ lobby h. of_told told rows IsGoodStore all (λ table e. made_good table lobby rows rise e h)) made
+
+pub bad_told : {A : Type 0} (told : Option Table) (rows : Pairs) (r : Result A LoadRefusal) → AreAllOf told rows → OnBadRecord r (IsLeastBadOf rows)
+    → OnBadRecord r (λ key. IfSome told (λ table. IsLeastBad table key))
+bad_told told rows (Ok lobby) all bad = tt
+bad_told told rows (Err (BadRecord key)) all bad = of_told told rows (λ table. IsLeastBad table key) all bad
+bad_told told rows (Err KeeperFault) all bad = tt
+bad_told told rows (Err Memory) all bad = tt
+
+pub no_fault : {A : Type 0} (r : Result A LoadRefusal) (P : Type 0) → OnKeeperFault r ⊥ → OnKeeperFault r P
+no_fault (Ok lobby) P none = tt
+no_fault (Err (BadRecord key)) P none = tt
+no_fault (Err KeeperFault) P none = absurd none
+no_fault (Err Memory) P none = tt
+
+-- a refusal that names a key says of it what holds of it
+pub on_named : (A : Type 0) (key : List ℕ) (refusal : LoadRefusal) (P : List ℕ → Type 0) → NamesKey key refusal → P key
+    → OnBadRecord {A = A} (Err refusal) P
+on_named A key (BadRecord named) P is h = subst P (sym is) h
+on_named A key KeeperFault P is h = absurd is
+on_named A key Memory P is h = tt
+
+pub named_no_fault : (A : Type 0) (key : List ℕ) (refusal : LoadRefusal) → NamesKey key refusal → OnKeeperFault {A = A} (Err refusal) ⊥
+named_no_fault A key (BadRecord named) is = tt
+named_no_fault A key KeeperFault is = is
+named_no_fault A key Memory is = tt
+
+-- a row in its place among the others
+pub parted : (rows : Pairs) (i : ℕ) (row : Row) → i < length rows → row ≡ get_or rows i row → rows ≡ take i rows ++ row ∷ drop (i + 1) rows
+parted rows i row within is =
+    sym (take-append-drop i rows)
+    ∙ ap (λ x. take i rows ++ x) (drop_more rows i row within ∙ ap (λ x. x ∷ drop (i + 1) rows) (sym is))

@@ -1,0 +1,5 @@
+pub mod NeverSaving
+pub mod OfCommands
+pub mod OfInputs
+pub mod OfLinks
+pub mod OfHistories
