@@ -3,7 +3,8 @@ use Rattle.std.proofs.Common.{◌≡◌, ℕ, ◌+◌, ◌≤◌, Bool, true, fa
 use Rattle.std.specs.Ordering.{eq_by_cmp}
 use Rattle.std.specs.Cmp.{tied_itself}
 use Rattle.std.specs.Cmp.Lexicographic.{nat_list_cmp_total}
-use Rattle.std.specs.FinMap.{find}
+use Rattle.std.specs.FinMap.{find, is_sorted}
+use Rattle.std.specs.FinMap.Entries.{below_all}
 use Rattle.std.proofs.lemmas.Bool.{false_from_ne_true}
 use Rattle.std.proofs.lemmas.List.Elements.{All-append, All-cons, All-head, All-tail}
 use Rattle.std.proofs.lemmas.List.Sums.{sum_by-append, sum_by-cons, sum_by_push}
@@ -67,7 +68,7 @@ fewer pick kind key bytes (e ∷ done) rest rise found is of before =
     → count_by pick (e ∷ all) + 1 ≤ count_of kind (e ∷ done)) [
       | true ↦ λ same here.
           let own : key ≡ e.0 = tied_same key e.0 same in
-          let behind = IsBelow-all e.0 all (first_true _ _ rise) in
+          let behind = IsBelow-all e.0 all (first_true (below_all keys_order e.0 all) (is_sorted keys_order all) rise) in
           let none = count_none pick all (λ k d lt. not_picked_behind pick key (get_or all k d)
           (subst (λ l. ComesBefore l (get_or all k d).0) (sym own) (behind k d lt)) (All-tail Q e all before k d lt)) in
           let not_here : pick e ≡ false = false_from_ne_true (pick e)
@@ -76,7 +77,7 @@ fewer pick kind key bytes (e ∷ done) rest rise found is of before =
           let with_it = as_number (subst (λ l. kind l ≡ true) own is) in
           omega (arith, picked, of_kind, none, without, with_it)
       | false ↦ λ _ there.
-          let rest_of : count_by pick all + 1 ≤ count_of kind done = fewer pick kind key bytes done rest (second_true _ _ rise) there is (All-tail P e all of) (All-tail Q e all before) in
+          let rest_of : count_by pick all + 1 ≤ count_of kind done = fewer pick kind key bytes done rest (second_true (below_all keys_order e.0 all) (is_sorted keys_order all) rise) there is (All-tail P e all of) (All-tail Q e all before) in
           let one = one_or_none (pick e) (kind e.0) (All-head P e all of) in
           omega (arith, picked, of_kind, rest_of, one)
     ] refl found

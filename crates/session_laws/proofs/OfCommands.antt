@@ -41,13 +41,12 @@ never_given_up visit false rest never = never
 
 never_visits : (games : List _) (memory : MemoryState) → NeverSaves (visits games memory)
 never_visits [] memory = tt
-never_visits (visit ∷ rest) memory =
-    (
-      λ is. is,
-      λ r.
-          let later = behind visit (says_over r) memory in
-          never_given_up visit (says_over r) (visits rest later) (never_visits rest later),
-    )
+never_visits (visit ∷ rest) memory = (
+  λ is. is,
+  λ r.
+      let later = behind visit (says_over r) memory in
+      never_given_up visit (says_over r) (visits rest later) (never_visits rest later),
+)
 
 pub never_round : (memory : MemoryState) → NeverSaves (round memory)
 never_round memory = (λ is. is, λ r. never_visits (visits_in (told memory r)) (told memory r))

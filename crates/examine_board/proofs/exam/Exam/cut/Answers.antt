@@ -37,3 +37,10 @@ invariant_of-self-2 c =
       list = cut.laid;
       names = c.self.invariant.names;
     }
+
+pub returns : goal.returns
+returns c =
+    let i = c.self.inside in
+    let left : take i.shared i.stored ++ c.truncate-2.new.self ≡ take i.place (take i.shared i.stored ++ i.branch) =
+    cut_there i.shared i.place i.stored i.branch c.truncate-2.new.self c.self.invariant.shared (omega (arith, c.if-self.false)) c.truncate-2.ensures in
+    (λ j. record { terms = i.terms; names = i.names; stored = i.stored; list = left j; place = i.place }) ∙ ap (λ (e : ExamState). record e { list = present e }) c.self.view_is
