@@ -12,6 +12,7 @@ use Rattle.line_answers.specs.Reading.{AfterSend}
 use Rattle.line_answers.specs.declared.end.End.{End}
 use Rattle.line_answers.specs.declared.end.End.TheVariants.{Done, ReadFault, WriteFault, Memory, BadLine, Spent}
 use Rattle.line_answers.proofs.Sending.{AppendsFront-all, AppendsFront-behind}
+use Rattle.lobby_load.specs.BadRows.{IsGoodStore}
 use Rattle.lobby_load.specs.Loaded.{AreSpelled, HasLoaded}
 use Rattle.lobby_load.specs.Telling.{Tells, WroteFront, bad_record_line}
 use Rattle.lobby_load.specs.declared.refusals.StoreFault.{StoreFault}
@@ -102,12 +103,12 @@ module _ (table : Option Table) (number : ℕ) (left left' written mid written' 
   none_told outcome.KeeperFault is unread h = absurd h
 
   -- the store was opened, and the game of that number examined, if there is one
-  pub store_examined : (lobby : LobbyState) (end : Outcome) → number < 2 ^ 64 → IsWellFormed lobby → AreSpelled lobby → IfSome table (λ told. HasLoaded told lobby)
+  pub store_examined : (lobby : LobbyState) (end : Outcome) → number < 2 ^ 64 → IsWellFormed lobby → AreSpelled lobby → IfSome table (λ told. HasLoaded told lobby) → IfSome table IsGoodStore
       → ExaminesIn lobby number left left' mid written' end → ExamineEnds table number left left' written written' end
-  store_examined lobby end small formed spelled loaded h =
+  store_examined lobby end small formed spelled loaded good h =
       elim (stored_game lobby.shelf.games number) as (λ found. stored_game lobby.shelf.games number ≡ found → ExaminesFound found left left' mid written' end → ExamineEnds table number left left' written written' end) [
-        | Some game ↦ λ is g. examined game end (found_is table lobby number small formed spelled loaded game is) g
-        | None ↦ λ is g. none_told end (none_is table lobby number small formed spelled loaded is) g.0 g.1
+        | Some game ↦ λ is g. examined game end (found_is table lobby number small formed spelled loaded good game is) g
+        | None ↦ λ is g. none_told end (none_is table lobby number small formed spelled loaded good is) g.0 g.1
       ] refl h
 
 -- ---- the store wasn't opened

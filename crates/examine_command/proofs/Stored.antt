@@ -17,6 +17,7 @@ use Rattle.game_records.proofs.KeysBack.{one_game}
 use Rattle.game_shelf.specs.declared.shelved.Shelved.{Shelved}
 use Rattle.game_shelf.specs.Numbers.{RiseAbove, game_in, has_number, stored_game}
 use Rattle.game_shelf.specs.Wanted.{account_record, either_record, game_record, is_account_at, is_game_at, wanted}
+use Rattle.lobby_load.specs.BadRows.{IsGoodStore}
 use Rattle.lobby_load.specs.Loaded.{AreSpelled, HasLoaded}
 use Rattle.lobby_state.specs.Lobby.{LobbyState}
 use Rattle.lobby_state.specs.WellFormed.{IsWellFormed}
@@ -92,12 +93,12 @@ no_record None e = refl
 no_record (Some row) e = absurd cc
 
 module _ (table : Option Table) (lobby : LobbyState) (number : ℕ) (small : number < 2 ^ 64) (formed : IsWellFormed lobby) (spelled : AreSpelled lobby)
-    (loaded : IfSome table (λ told. HasLoaded told lobby)) where
-  -- it is the store's of that number
-  pub found_is : (game : StoredGame) → stored_game lobby.shelf.games number ≡ Some game → IsGameOf table number game
-  found_is game e = by table loaded
+    (loaded : IfSome table (λ told. HasLoaded told lobby)) (good : IfSome table IsGoodStore) where
+  -- it stands in the store under that number's key
+  found_stands : (game : StoredGame) → stored_game lobby.shelf.games number ≡ Some game → IfSome table (StandsUnder number game)
+  found_stands game e = by table loaded
     where
-      by : (t : Option Table) → IfSome t (λ told. HasLoaded told lobby) → IsGameOf t number game
+      by : (t : Option Table) → IfSome t (λ told. HasLoaded told lobby) → IfSome t (StandsUnder number game)
       by None h = tt
       by (Some told) h = record {
         bytes = spelling (a.Game game);
@@ -106,12 +107,19 @@ module _ (table : Option Table) (lobby : LobbyState) (number : ℕ) (small : num
         spelled = found_has (λ g. IsSpelled (a.Game g) (spelling (a.Game g))) lobby.shelf.games number game spelled.games e;
       }
 
-  -- and where there is none, the store has none
-  pub none_is : stored_game lobby.shelf.games number ≡ None → HasNone table number
-  none_is e = by table loaded
+  -- so it is the store's of that number
+  pub found_is : (game : StoredGame) → stored_game lobby.shelf.games number ≡ Some game → IsGameOf table number game
+  found_is game e = record { good = good; stands = found_stands game e; replays = found_replays lobby number game formed e }
+
+  -- and where there is none, none stands there
+  none_stands : stored_game lobby.shelf.games number ≡ None → IfSome table (λ told. held told (game_key number) ≡ None)
+  none_stands e = by table loaded
     where
-      by : (t : Option Table) → IfSome t (λ told. HasLoaded told lobby) → HasNone t number
+      by : (t : Option Table) → IfSome t (λ told. HasLoaded told lobby) → IfSome t (λ told. held told (game_key number) ≡ None)
       by None h = tt
       by (Some told) h =
           sym (h (game_key number)) ∙ wanted_game lobby.accounts lobby.shelf.games number formed.shelf.sound.numbers small
           ∙ no_record (find (has_number number) lobby.shelf.games) e
+
+  pub none_is : stored_game lobby.shelf.games number ≡ None → HasNone table number
+  none_is e = record { good = good; none = none_stands e }
