@@ -2,7 +2,7 @@
 use Rattle.std.proofs.Common.{◌≡◌, ℕ, ◌<◌, ◌^◌, Bool, true, false, cond, List, [], ◌∷◌, Option, Some, None, refl, sym, ap, subst, ◌∙◌, arith}
 use Rattle.std.specs.Prelude.{◌==◌, All, IfSome, bytes_eq}
 use Rattle.std.specs.List.{find}
-use Rattle.std.proofs.lemmas.Bool.{eqb-eq, eq-eqb, false_from_ne_true}
+use Rattle.std.proofs.lemmas.Bool.{eqb-true, eq-eqb, false_from_ne_true}
 use Rattle.std.proofs.lemmas.List.Elements.{All-head, All-tail}
 use Rattle.std.proofs.lemmas.Slice.Eq.{bytes_eq-Decides}
 use Rattle.edge_traits.specs.Pairs.{Table}
@@ -52,7 +52,7 @@ by_number low (row ∷ games) number rise small =
     elim (row.number == number) as (λ t. row.number == number ≡ t →
     cond (is_game_at (game_key number) row) (Some row) (find (is_game_at (game_key number)) games) ≡ cond t (Some row) (find (has_number number) games)) [
       | true ↦ λ e.
-          let same : row.number ≡ number = eqb-eq row.number number e in
+          let same : row.number ≡ number = eqb-true row.number number e in
           let own : is_game_at (game_key number) row ≡ true = (bytes_eq-Decides (game_key row.number) (game_key number)).1 (ap game_key same) in
           ap (λ t. cond t (Some row) (find (is_game_at (game_key number)) games)) own
       | false ↦ λ e.

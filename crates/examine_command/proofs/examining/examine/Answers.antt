@@ -9,5 +9,6 @@ returns-in-Ok-clause-ends g c =
 
 pub returns-in-Err-clause-ends : goal.returns-in-Err-clause-ends
 returns-in-Err-clause-ends g c =
-    not_opened (g.P.Keeper.table c.args.keeper.now) c.args.game (g.S.Source.left c.args.source.now) (g.K.Sink.written c.args.sink.now) (g.K.Sink.written c.open_store.new.sink) c.in-Err.fault
-    c.in-Err.ensures.tells
+    rw c.outcome_of.ensures
+    (not_opened _ (g.P.Keeper.table c.args.keeper.now) c.args.game (g.S.Source.left c.args.source.now) (g.K.Sink.written c.args.sink.now) (g.K.Sink.written c.open_store.new.sink) c.in-Err.fault
+    c.in-Err.ensures.tells)
