@@ -1,6 +1,6 @@
 -- What the fields of an exam keep, as it is opened and as its half-moves change.
 use Rattle.std.proofs.Common.{◌≡◌, ℕ, ◌+◌, ◌-◌, ◌*◌, ◌<◌, ◌≤◌, zero, suc, List, [], ◌∷◌, ◌++◌, length, take, refl, sym, ap, subst, ◌∙◌, arith, append-nil}
-use Rattle.std.specs.Prelude.{slice_get, Option, Some}
+use Rattle.std.specs.Prelude.{slice_get, slice_index_or, Option, Some}
 use Rattle.std.proofs.lemmas.List.{length-append, length-take-le, take_all, take-append-le, take-take}
 use Rattle.chess_model.specs.declared.variant.Terms.{Terms}
 use Rattle.chess_model.specs.declared.variant.Variant.{Variant}
@@ -16,7 +16,8 @@ use Rattle.examine_board.specs.Exam.{boards_after}
 use Rattle.examine_board.specs.Holds.{HoldsExam}
 use Rattle.examine_board.specs.Laid.{CanBeLaid}
 use Rattle.examine_board.proofs.Laying.{CanBeLaid-played, CanBeLaid-take}
-use Rattle.examine_board.proofs.Lists.{slice_get-left, slice_get-right}
+use Rattle.std.proofs.lemmas.Option.{slice_get_read}
+use Rattle.examine_board.proofs.Lists.{slice_get-first, slice_get-left, slice_get-right}
 
 -- the list that is looked at, whole
 pub whole : (stored : List Half) → take (length stored) stored ++ [] ≡ stored
@@ -59,6 +60,23 @@ looked_branch shared stored branch i within high =
     let there : i ≡ length (take shared stored) + (i - shared) = omega (arith, many, high) in
     slice_get-right (take shared stored) branch (i - shared) i there
 
+-- so the one that is read is the one in that place
+pub looked_here : (shared : ℕ) (stored branch read : List Half) (i : ℕ) (h : Half) → shared ≤ length stored → i < shared → read ≡ stored → h ≡ slice_index_or read i h →
+    slice_get (take shared stored ++ branch) i ≡ Some h
+looked_here shared stored branch read i h within low are is =
+    let many = ap length are in
+    looked_stored shared stored branch i within low ∙ slice_get-first shared stored i low ∙ ap (λ l. slice_get l i) (sym are)
+    ∙ slice_get_read read (length read) i h refl (omega (arith, many, within, low)) is
+
+pub looked_there : (shared : ℕ) (stored branch read : List Half) (i : ℕ) (h : Half) → shared ≤ length stored → shared ≤ i → i < length (take shared stored ++ branch) → read ≡ branch →
+    h ≡ slice_index_or read (i - shared) h → slice_get (take shared stored ++ branch) i ≡ Some h
+looked_there shared stored branch read i h within high few are is =
+    let all = length-append (take shared stored) branch in
+    let first : length (take shared stored) ≡ shared = length-take-le shared stored within in
+    let many = ap length are in
+    looked_branch shared stored branch i within high ∙ ap (λ l. slice_get l (i - shared)) (sym are)
+    ∙ slice_get_read read (length read) (i - shared) h refl (omega (arith, all, first, many, few, high)) is
+
 -- the first of them, cut before the branch or in it
 pub cut_stored : (shared place : ℕ) (stored branch : List Half) → shared ≤ length stored → place ≤ shared → take place (take shared stored ++ branch) ≡ take place stored
 cut_stored shared place stored branch within low =
@@ -88,6 +106,7 @@ cut_there shared place stored branch left within high are =
 -- what an exam keeps of them, once that is all that is looked at
 pub record IsCut (t : Terms) (boards : List Board) (list left : List Half) (place : ℕ) : Type 0 where
   pub within : place ≤ length left
+  pub end : place ≡ length left
   pub are : boards ≡ boards_after t (take place left)
   pub laid : CanBeLaid t left
 
@@ -97,6 +116,7 @@ is_cut t boards list left place within are laid cut =
     let many : length left ≡ place = ap length cut ∙ length-take-le place list within in
     record {
       within = omega (arith, many);
+      end = sym many;
       are = are ∙ ap (boards_after t) (sym cut ∙ sym (take_all place left (omega (arith, many))));
       laid = subst (CanBeLaid t) (sym cut) (CanBeLaid-take t list place laid);
     }

@@ -3,6 +3,7 @@ pub mod Held
 pub mod Laying
 pub mod Lists
 pub mod Shared
+pub mod Shown
 pub mod Stepping
 pub mod Undone
 pub mod Words

@@ -1,8 +1,10 @@
 -- How many half-moves two lists have in common.
 use Rattle.std.proofs.Common.{◌≡◌, ℕ, ◌+◌, ◌<◌, ◌≤◌, ◌&&◌, zero, suc, min, Bool, true, false, if◌then◌else◌, List, [], ◌∷◌, length, take, Option, Some, None, refl, sym, ap, subst, ◌∙◌, arith}
-use Rattle.std.specs.Prelude.{◌==◌, slice_get}
+use Rattle.std.specs.Prelude.{◌==◌, slice_get, slice_index_or}
 use Rattle.std.specs.Bool.{beq}
 use Rattle.std.proofs.lemmas.Bool.{eqb-true, eq-eqb}
+use Rattle.std.proofs.lemmas.List.{length-take-le, take-take}
+use Rattle.std.proofs.lemmas.Option.{slice_get_read}
 use Rattle.chess_model.specs.declared.man.Kind.{Kind}
 use Rattle.chess_model.specs.declared.man.Kind.TheVariants.{Pawn, Knight, Bishop, Rook, Queen, King}
 use Rattle.chess_model.specs.declared.moves.Move.{Move}
@@ -10,7 +12,9 @@ use Rattle.chess_model.specs.declared.moves.Move.TheVariants.{Plain, Castle, Dro
 use Rattle.chess_model.specs.Men.{same_kind}
 use Rattle.clock_ledger.specs.declared.charges.Charge.{Charge}
 use Rattle.game_records.specs.declared.stored_game.Half.{Half}
+use Rattle.examine_board.specs.Exam.{ExamState, present}
 use Rattle.examine_board.specs.Same.{Share, same_charge, same_half, same_move, same_promotion, same_spent, same_stamps, shared_length}
+use Rattle.examine_board.proofs.Lists.{slice_get-first}
 
 both : (a b : Bool) → (a && b) ≡ true → (a ≡ true) × (b ≡ true)
 both true true e = (refl, refl)
@@ -208,3 +212,65 @@ share_until (x ∷ halves) (y ∷ others) (suc n) g h s e f differ =
     let again : same_half x y ≡ true = ap (same_half x) (sym first) ∙ half_again x in
     let more = share_until halves others n g h (record { first = let low = s.first in omega (arith, low); second = let low = s.second in omega (arith, low); same = rest }) e f differ in
     ap suc more ∙ ap (λ (b : Bool). if b then suc (shared_length halves others) else 0) (sym again)
+
+-- and one more where the next ones are the same
+pub share_next : (halves others : List Half) (n : ℕ) (g h : Half) → Share halves others n → slice_get halves n ≡ Some g → slice_get others n ≡ Some h → same_half g h ≡ true → Share halves others (n + 1)
+share_next [] others n g h s e f same = absurd cc
+share_next (x ∷ halves) [] n g h s e f same = absurd cc
+share_next (x ∷ halves) (y ∷ others) zero g h s e f same =
+    let left : x ≡ g = cc in
+    let right : y ≡ h = cc in
+    cons_share x y halves others 0 (left ∙ half_is g h same ∙ sym right) (none_shared halves others)
+share_next (x ∷ halves) (y ∷ others) (suc n) g h s e f same =
+    let first : x ≡ y = let whole = s.same in cc in
+    let rest : take n halves ≡ take n others = let whole = s.same in cc in
+    let more = share_next halves others n g h (record { first = let low = s.first in omega (arith, low); second = let low = s.second in omega (arith, low); same = rest }) e f same in
+    let next : suc (n + 1) ≡ suc n + 1 = omega arith in
+    subst (λ (k : ℕ). Share (x ∷ halves) (y ∷ others) k) next (cons_share x y halves others (n + 1) first more)
+
+-- ---- what an exam shares with the stored game
+
+take_few : {X : Type 0} (k : ℕ) (xs : List X) → length (take k xs) ≤ k
+take_few zero xs = omega arith
+take_few (suc k) [] = omega arith
+take_few (suc k) (x ∷ xs) = let few = take_few k xs in omega (arith, few)
+
+pub shared_low : (e : ExamState) → shared_length (present e) e.stored ≤ e.place
+shared_low e =
+    let is = share_is (present e) e.stored in
+    let low = is.first in
+    let few = take_few e.place e.list in
+    omega (arith, low, few)
+
+pub shared_within : (e : ExamState) → shared_length (present e) e.stored ≤ length e.stored
+shared_within e = let is = share_is (present e) e.stored in is.second
+
+pub shared_same : (e : ExamState) → take (shared_length (present e) e.stored) e.list ≡ take (shared_length (present e) e.stored) e.stored
+shared_same e =
+    let is = share_is (present e) e.stored in
+    sym (take-take (shared_length (present e) e.stored) e.place e.list (shared_low e)) ∙ is.same
+
+-- a half-move on the boards
+present_at : (e : ExamState) (n : ℕ) (g : Half) → n < e.place → slice_get e.list n ≡ Some g → slice_get (present e) n ≡ Some g
+present_at e n g low there = slice_get-first e.place e.list n low ∙ there
+
+stored_at : (e : ExamState) (read : List Half) (n : ℕ) (h : Half) → read ≡ e.stored → n < length e.stored → h ≡ slice_index_or read n h → slice_get e.stored n ≡ Some h
+stored_at e read n h are low is =
+    let many = ap length are in
+    ap (λ (l : List Half). slice_get l n) (sym are) ∙ slice_get_read read (length read) n h refl (omega (arith, many, low)) is
+
+-- how far the two were compared
+pub kept_until : (e : ExamState) (read : List Half) (n : ℕ) (g h : Half) → Share (present e) e.stored n → n < e.place → n < length e.stored → slice_get e.list n ≡ Some g → read ≡ e.stored
+    → h ≡ slice_index_or read n h → same_half g h ≡ false → n ≡ shared_length (present e) e.stored
+kept_until e read n g h s low within there are is differ =
+    share_until (present e) e.stored n g h s (present_at e n g low there) (stored_at e read n h are within is) differ
+
+pub kept_next : (e : ExamState) (read : List Half) (n : ℕ) (g h : Half) → Share (present e) e.stored n → n < e.place → n < length e.stored → slice_get e.list n ≡ Some g → read ≡ e.stored
+    → h ≡ slice_index_or read n h → same_half g h ≡ true → Share (present e) e.stored (n + 1)
+kept_next e read n g h s low within there are is same =
+    share_next (present e) e.stored n g h s (present_at e n g low there) (stored_at e read n h are within is) same
+
+pub kept_whole : (e : ExamState) (n : ℕ) → Share (present e) e.stored n → e.place ≤ length e.list → n ≡ min e.place (length e.stored) → n ≡ shared_length (present e) e.stored
+kept_whole e n s within all =
+    let many : length (present e) ≡ e.place = length-take-le e.place e.list within in
+    share_whole (present e) e.stored n s (all ∙ ap (λ (k : ℕ). min k (length e.stored)) (sym many))

@@ -26,7 +26,7 @@ use Rattle.linked_boards.specs.Boards.{board_numbers}
 use Rattle.linked_boards.specs.Halves.{list_on}
 use Rattle.examine_board.specs.Exam.{ExamState, board_after, board_on, boards_after, present}
 use Rattle.examine_board.specs.Laid.{CanBeLaid, MayLie}
-use Rattle.examine_board.specs.Play.{is_pair, play_answer, position}
+use Rattle.examine_board.specs.Play.{is_pair, play_answer, position, uncharged}
 use Rattle.examine_board.proofs.Boards.{all_on}
 use Rattle.examine_board.proofs.Laying.{CanBeLaid-take}
 
@@ -91,18 +91,35 @@ answer_word e w b single on is count =
     ap (λ (x : Board). move_answer x (to_move x) w) is ∙ board_answers e w count
     ∙ sym (λ i. option_map_or Err (cond (single i) (Some NotInVariant) (cond (on i) (Some GameOver) (cond (e.place == 1200) (Some TooManyMoves) None))) (in_words (word_answer (position e) w)))
 
--- what the answer of the board says of the half-move
-pub allowed_there : (e : ExamState) (b : Board) (r : Result Move Refusal) → b ≡ board_on e 1 → IfOk r (Allowed (position_of b)) → IfOk r (Allowed (position e))
-allowed_there e b (Ok m) is h = subst (λ (p : Position). Allowed p m) (position_is e b is) h
-allowed_there e b (Err cause) is h = tt
+-- ---- what the board says, where the game goes on
 
-pub room_there : (e : ExamState) (b : Board) (r : Result Move Refusal) → b ≡ board_on e 1 → length (list_on 1 (present e)) ≡ e.place → OnOk r (length b.list < 1200) → OnOk r (e.place < 1200)
-room_there e b (Ok m) is count h = let same = ap (λ (x : Board). length x.list) is in omega (arith, same, count, h)
-room_there e b (Err cause) is count h = tt
+pub record Going (e : ExamState) (b : Board) : Type 0 where
+  pub single : is_pair e.terms.variant ≡ false
+  pub on : is_end (result (position e)) ≡ false
+  pub is : b ≡ board_on e 1
+  pub count : length (list_on 1 (present e)) ≡ e.place
+
+pub going : (e : ExamState) (b : Board) (rest : List Board) → is_pair e.terms.variant ≡ false → is_end (result (position_of b)) ≡ false → b ∷ rest ≡ boards_after e.terms (present e)
+    → CanBeLaid e.terms e.list → e.place ≤ length e.list → Going e b
+going e b rest single on boards laid within =
+    let is = first_is e.terms (present e) b rest boards in
+    record {
+      single = single;
+      on = ap (λ (p : Position). is_end (result p)) (sym (position_is e b is)) ∙ on;
+      is = is;
+      count = present_there e single laid within;
+    }
+
+pub going_answer : (e : ExamState) (w : MoveWord) (b : Board) → Going e b → move_answer b (to_move b) w ≡ play_answer e w
+going_answer e w b g = answer_word e w b g.single g.on g.is g.count
+
+pub going_room : (e : ExamState) (b : Board) (r : Result Move Refusal) → Going e b → OnOk r (length b.list < 1200) → OnOk r (e.place < 1200)
+going_room e b (Ok m) g h = let same = ap (λ (x : Board). length x.list) g.is in let count = g.count in omega (arith, same, count, h)
+going_room e b (Err cause) g h = tt
 
 -- an allowed half-move may be laid there
-pub may_lie : (e : ExamState) (m : Move) → is_pair e.terms.variant ≡ false → length (list_on 1 (present e)) ≡ e.place → Allowed (position e) m → e.place < 1200 →
-    MayLie e.terms (present e) (record { board = 1; what = m; charge = None })
+may_lie : (e : ExamState) (m : Move) → is_pair e.terms.variant ≡ false → length (list_on 1 (present e)) ≡ e.place → Allowed (position e) m → e.place < 1200 →
+    MayLie e.terms (present e) (uncharged m)
 may_lie e m single count allowed room =
     let one = one_board e.terms.variant single in
     record {
@@ -112,3 +129,9 @@ may_lie e m single count allowed room =
       room = omega (arith, count, room);
       charge = tt;
     }
+
+pub going_lies : (e : ExamState) (b : Board) (r : Result Move Refusal) → Going e b → IfOk r (Allowed (position_of b)) → OnOk r (length b.list < 1200) →
+    IfOk r (λ m. MayLie e.terms (present e) (uncharged m))
+going_lies e b (Ok m) g allowed room =
+    may_lie e m g.single g.count (subst (λ (p : Position). Allowed p m) (position_is e b g.is) allowed) (going_room e b (Ok m) g room)
+going_lies e b (Err cause) g allowed room = tt

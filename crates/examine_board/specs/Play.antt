@@ -13,6 +13,7 @@ use Rattle.fics_words.specs.declared.refusal.Refusal.{Refusal}
 use Rattle.fics_words.specs.declared.refusal.Refusal.TheVariants.{NotInVariant, GameOver, TooManyMoves}
 use Rattle.game_board.specs.Causes.{in_words}
 use Rattle.game_board.specs.Play.{most_played}
+use Rattle.game_records.specs.declared.stored_game.Half.{Half}
 use Rattle.game_records.specs.Replays.{position_on}
 use Rattle.examine_board.specs.Exam.{ExamState, present}
 
@@ -39,10 +40,14 @@ play_refused e =
 unfoldable pub play_answer : ExamState → MoveWord → Result Move Refusal
 play_answer e w = option_map_or Err (play_refused e) (in_words (word_answer (position e) w))
 
+-- a half-move on the first board, which has no charge
+abbrev pub uncharged : Move → Half
+uncharged m = record { board = 1; what = m; charge = None }
+
 -- the half-moves on the board and one more are looked at, and are on the board
 abbrev pub with_move : ExamState → Move → ExamState
 with_move e m = record e {
-  list = present e ++ record { board = 1; what = m; charge = None } ∷ [];
+  list = present e ++ uncharged m ∷ [];
   place = e.place + 1;
 }
 

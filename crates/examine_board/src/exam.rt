@@ -90,6 +90,7 @@ impl Exam {
         requires { place < length self.now.list }
         ensures half { slice_get self.now.list place ≡ Some result }
         ensures lies { MayLie self.now.terms (take place self.now.list) result }
+        ensures few { place < 3600 }
     {
         if place < self.shared {
             self.stored.as_slice()[place]

@@ -1,10 +1,9 @@
 //! Half-moves that are played on from where the exam is.
-ghost use Rattle.std.specs.Prelude.{◌≡◌, ◌∷◌, ◌++◌, [], ◌<◌, IfOk, None, OnOk, false, length};
-ghost use Rattle.chess_model.specs.Allowed.{Allowed};
+ghost use Rattle.std.specs.Prelude.{◌≡◌, ◌∷◌, ◌++◌, [], ◌<◌, IfOk, OnOk, length};
 ghost use Rattle.examine_board.specs.Answers.{answer, left_by};
 ghost use Rattle.examine_board.specs.Exam.{present};
 ghost use Rattle.examine_board.specs.Laid.{MayLie};
-ghost use Rattle.examine_board.specs.Play.{is_pair, play_answer, played, position, with_move};
+ghost use Rattle.examine_board.specs.Play.{is_pair, play_answer, played, uncharged, with_move};
 
 use crate::exam::Exam;
 use chess_model::{Move, MoveWord, Variant};
@@ -27,8 +26,7 @@ impl Exam {
     /// The half-move that a word stands for, or the refusal.
     fn resolve(&self, word: &MoveWord) -> Result<Move, Refusal>
         ensures answer { result ≡ play_answer self.now word.now }
-        ensures single { OnOk result (is_pair self.now.terms.variant ≡ false) }
-        ensures allowed { IfOk result (Allowed (position self.now)) }
+        ensures lies { IfOk result (λ what. MayLie self.now.terms (present self.now) (uncharged what)) }
         ensures room { OnOk result (self.now.place < 1200) }
     {
         if is_pair(self.terms.variant) {
@@ -41,10 +39,9 @@ impl Exam {
         board.resolve(board.to_move(), word)
     }
 
-    /// Plays an allowed half-move.
+    /// Plays a half-move that may be laid behind those on the boards.
     fn add(&mut self, what: Move)
-        requires single { is_pair self.old.terms.variant ≡ false }
-        requires allowed { Allowed (position self.old) what }
+        requires lies { MayLie self.old.terms (present self.old) (uncharged what) }
         requires room { self.old.place < 1200 }
         ensures { self.new ≡ with_move self.old what }
     {
@@ -55,7 +52,8 @@ impl Exam {
 
     /// Looks no more at the half-moves that follow those on the boards.
     fn cut(&mut self)
-        ensures { self.new ≡ record self.old { list = present self.old } }
+        ensures after { self.new ≡ record self.old { list = present self.old } }
+        ensures end { self.new.place ≡ length self.new.list }
     {
         if self.place <= self.shared {
             self.shared = self.place;
@@ -65,11 +63,11 @@ impl Exam {
         self.branch.truncate(self.place - self.shared);
     }
 
-    /// Looks at one half-move more of the first board, behind the others.
+    /// Looks at one half-move more, behind the others.
     fn push(&mut self, what: Move)
-        requires lies { MayLie self.old.terms self.old.list (record { board = 1; what = what; charge = None }) }
+        requires lies { MayLie self.old.terms self.old.list (uncharged what) }
         requires room { length self.old.list < 1200 }
-        ensures { self.new ≡ record self.old { list = self.old.list ++ record { board = 1; what = what; charge = None } ∷ [] } }
+        ensures { self.new ≡ record self.old { list = self.old.list ++ uncharged what ∷ [] } }
     {
         self.branch.push(Half {
             board: 1,

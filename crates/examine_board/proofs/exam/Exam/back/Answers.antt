@@ -26,5 +26,7 @@ pub returns-clause-after : goal.returns-clause-after
 returns-clause-after c =
     let e = c.args.self.now in
     let place = ap (λ (x : ExamState). x.place) c.self.view_is in
-    c.go_back-2.ensures ∙ ap (λ (k : ℕ). record e { place = k - c.args.n }) place
+    let from = ap (λ (x : ExamState). x.place) c.go_back.view_is in
+    let steps : c.from-n.result ≡ c.args.n = c.from-n.ensures in
+    c.go_back-2.ensures ∙ (λ i. record e { place = from i - steps i })
     ∙ sym (ap (left_by e) (backed-made e c.args.n (omega (arith, place, c.if-self-n.false))))

@@ -38,9 +38,27 @@ invariant_of-self-2 c =
       names = c.self.invariant.names;
     }
 
-pub returns : goal.returns
-returns c =
+pub returns-clause-after : goal.returns-clause-after
+returns-clause-after c =
     let i = c.self.inside in
     let left : take i.shared i.stored ++ c.truncate-2.new.self ≡ take i.place (take i.shared i.stored ++ i.branch) =
     cut_there i.shared i.place i.stored i.branch c.truncate-2.new.self c.self.invariant.shared (omega (arith, c.if-self.false)) c.truncate-2.ensures in
     (λ j. record { terms = i.terms; names = i.names; stored = i.stored; list = left j; place = i.place }) ∙ ap (λ (e : ExamState). record e { list = present e }) c.self.view_is
+
+pub returns-then-self-clause-end : goal.returns-then-self-clause-end
+returns-then-self-clause-end c =
+    let i = c.self.inside in
+    let list : List Half = take i.shared i.stored ++ i.branch in
+    let left : List Half = take i.place i.stored ++ c.truncate.new.self in
+    let cut = is_cut i.terms i.boards list left i.place c.self.invariant.place c.self.invariant.boards c.self.invariant.list
+    (cut_here i.shared i.place i.stored i.branch c.truncate.new.self c.self.invariant.shared c.if-self.true c.truncate.ensures) in
+    cut.end
+
+pub returns-clause-end : goal.returns-clause-end
+returns-clause-end c =
+    let i = c.self.inside in
+    let list : List Half = take i.shared i.stored ++ i.branch in
+    let left : List Half = take i.shared i.stored ++ c.truncate-2.new.self in
+    let cut = is_cut i.terms i.boards list left i.place c.self.invariant.place c.self.invariant.boards c.self.invariant.list
+    (cut_there i.shared i.place i.stored i.branch c.truncate-2.new.self c.self.invariant.shared (omega (arith, c.if-self.false)) c.truncate-2.ensures) in
+    cut.end

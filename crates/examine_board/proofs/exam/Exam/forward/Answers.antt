@@ -29,5 +29,7 @@ pub returns-clause-after : goal.returns-clause-after
 returns-clause-after c =
     let e = c.args.self.now in
     let place = ap (λ (x : ExamState). x.place) c.self.view_is in
+    let from = ap (λ (x : ExamState). x.place) c.go_on.view_is in
     let many : c.args.n ≤ length e.list - e.place = omega (arith, place, c.len.ensures, c.if-left-n.false) in
-    c.go_on.ensures ∙ ap (λ (k : ℕ). record e { place = k + c.args.n }) place ∙ sym (ap (left_by e) (forwarded-made e c.args.n many))
+    let steps : c.from-n.result ≡ c.args.n = c.from-n.ensures in
+    c.go_on-2.ensures ∙ (λ i. record e { place = from i + steps i }) ∙ sym (ap (left_by e) (forwarded-made e c.args.n many))

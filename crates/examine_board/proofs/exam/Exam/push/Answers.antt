@@ -1,8 +1,9 @@
-use Rattle.std.proofs.Common.{◌≡◌, None, ℕ, ◌≤◌, ◌++◌, ◌∷◌, [], List, length, take, sym, ap, subst, ◌∙◌, arith, append_assoc, length-append}
+use Rattle.std.proofs.Common.{◌≡◌, ℕ, ◌≤◌, ◌++◌, ◌∷◌, [], List, length, take, sym, ap, subst, ◌∙◌, arith, append_assoc, length-append}
 use Rattle.std.proofs.lemmas.List.{take-append-le}
 use Rattle.game_records.specs.declared.stored_game.Half.{Half}
 use Rattle.examine_board.specs.Exam.{ExamState, boards_after}
 use Rattle.examine_board.specs.Laid.{CanBeLaid, MayLie}
+use Rattle.examine_board.specs.Play.{uncharged}
 use Rattle.examine_board.proofs.Laying.{CanBeLaid-more}
 use Rattle.examine_board.proofs.exam.Exam.push.Goals as goal
 
@@ -15,7 +16,7 @@ push-requires c =
 pub invariant_of-self : goal.invariant_of-self
 invariant_of-self c =
     let i = c.self.inside in
-    let h : Half = record { board = 1; what = c.args.what; charge = None } in
+    let h : Half = uncharged c.args.what in
     let list : List Half = take i.shared i.stored ++ i.branch in
     let longer : take i.shared i.stored ++ c.push.new.self ≡ list ++ h ∷ [] = ap (λ (l : List Half). take i.shared i.stored ++ l) c.push.ensures ∙ sym (append_assoc (take i.shared i.stored) i.branch (h ∷ [])) in
     let lies : MayLie i.terms list h = subst (λ (e : ExamState). MayLie e.terms e.list h) (sym c.self.view_is) c.requires.lies in
@@ -33,7 +34,7 @@ invariant_of-self c =
 pub returns : goal.returns
 returns c =
     let i = c.self.inside in
-    let h : Half = record { board = 1; what = c.args.what; charge = None } in
+    let h : Half = uncharged c.args.what in
     let longer : take i.shared i.stored ++ c.push.new.self ≡ (take i.shared i.stored ++ i.branch) ++ h ∷ [] =
     ap (λ (l : List Half). take i.shared i.stored ++ l) c.push.ensures ∙ sym (append_assoc (take i.shared i.stored) i.branch (h ∷ [])) in
     (λ j. record { terms = i.terms; names = i.names; stored = i.stored; list = longer j; place = i.place }) ∙ ap (λ (e : ExamState). record e { list = e.list ++ h ∷ [] }) c.self.view_is
