@@ -13,7 +13,7 @@ use Rattle.chess_model.specs.Men.{same_kind}
 use Rattle.clock_ledger.specs.declared.charges.Charge.{Charge}
 use Rattle.game_records.specs.declared.stored_game.Half.{Half}
 use Rattle.examine_board.specs.Exam.{ExamState, present}
-use Rattle.examine_board.specs.Same.{Share, same_charge, same_half, same_move, same_promotion, same_spent, same_stamps, shared_length}
+use Rattle.examine_board.specs.Same.{Share, same_charge, same_half, same_move, same_promotion, same_stamps, shared_length}
 use Rattle.examine_board.proofs.Lists.{slice_get-first}
 
 both : (a b : Bool) → (a && b) ≡ true → (a ≡ true) × (b ≡ true)

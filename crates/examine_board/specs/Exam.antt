@@ -9,8 +9,8 @@ use Rattle.linked_boards.specs.Boards.{board_numbers}
 use Rattle.linked_boards.specs.Halves.{list_on}
 
 pub record ExamState : Type 0 where
-  -- on which terms the game is played, and by whom: White and Black, or for a pair those of the first board and those of
-  -- the second
+  -- on which terms the game is played, and by whom: White and Black, or for a pair those of the first board and those
+  -- of the second
   pub terms : Terms
   pub names : List (List ℕ)
   -- the half-moves of the stored game

@@ -8,8 +8,8 @@ use Rattle.game_records.specs.Bounds.{IsCharge, boards}
 use Rattle.game_records.specs.Replays.{position_on}
 use Rattle.linked_boards.specs.Halves.{list_on}
 
--- a half-move may be laid behind these: it is of a board of the game, which has room for it, it is allowed there, and its
--- charge, if it has one, is one that a clock may have
+-- a half-move may be laid behind these: it is of a board of the game, which has room for it, it is allowed there, and
+-- its charge, if it has one, is one that a clock may have
 pub record MayLie (t : Terms) (before : List Half) (h : Half) : Type 0 where
   pub first : 1 ≤ h.board
   pub last : h.board ≤ boards t.variant

@@ -1,6 +1,6 @@
--- The lines that show where an exam is: the board line of FICS style 12 as an examiner sees it, and holdings lines. Which
--- board is shown, and that boards have the numbers 1 and 2 as games, is this server's own.
-use Rattle.std.specs.Prelude.{ℕ, ◌-◌, ◌*◌, pos, false, if◌then◌else◌, List, [], ◌∷◌, ◌++◌, length, map, None, slice_get}
+-- The lines that show where an exam is: the board line of FICS style 12 as an examiner sees it, and holdings lines.
+-- Which board is shown, and that boards have the numbers 1 and 2 as games, is this server's own.
+use Rattle.std.specs.Prelude.{ℕ, ◌-◌, ◌*◌, pos, false, if◌then◌else◌, List, [], ◌∷◌, length, map, None, slice_get}
 use Rattle.std.specs.List.{slice_index_or}
 use Rattle.std.specs.Option.{option_map_or}
 use Rattle.chess_model.specs.declared.man.Colour.TheVariants.{White, Black}
@@ -28,8 +28,8 @@ shown_board e = last_board (present e)
 abbrev pub name_at : List (List ℕ) → ℕ → List ℕ
 name_at names place = slice_index_or names place []
 
--- all that the line of the board of that number shows: the clocks are by the charges of the half-moves on it, and the time
--- taken is the last charge
+-- all that the line of the board of that number shows: the clocks are by the charges of the half-moves on it, and the
+-- time taken is the last charge
 unfoldable pub view_of : ExamState → ℕ → BoardView
 view_of e number = record {
   face = board_face (board_on e number);

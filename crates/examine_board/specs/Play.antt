@@ -1,5 +1,5 @@
 -- Half-moves that are played on from where an exam is, without a charge. This server's own.
-use Rattle.std.specs.Prelude.{ℕ, ◌+◌, ◌==◌, Bool, true, false, [], ◌∷◌, ◌++◌, Option, None, Result, Ok, Err}
+use Rattle.std.specs.Prelude.{◌+◌, ◌==◌, Bool, true, false, [], ◌∷◌, ◌++◌, Option, None, Result, Ok, Err}
 use Rattle.std.specs.Option.{option_map_or}
 use Rattle.chess_model.specs.declared.moves.Move.{Move}
 use Rattle.chess_model.specs.declared.moves.MoveWord.{MoveWord}
@@ -28,8 +28,8 @@ is_pair (Fischer number) = false
 abbrev pub position : ExamState → Position
 position e = position_on e.terms.variant (present e) 1
 
--- why nothing may be played on: at a pair, where the half-moves on the board have ended the game by mate or stalemate, and
--- where they are as many as may be played
+-- why nothing may be played on: at a pair, where the half-moves on the board have ended the game by mate or stalemate,
+-- and where they are as many as may be played
 abbrev pub play_refused : ExamState → Option Refusal
 play_refused e =
     first_cause

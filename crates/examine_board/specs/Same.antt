@@ -1,5 +1,5 @@
--- Half-moves that are the same, and how many two lists have in common. Whole half-moves are compared, their charges too:
--- one that was played again has none, and so differs in a timed game.
+-- Half-moves that are the same, and how many two lists have in common. Whole half-moves are compared, their charges
+-- too: one that was played again has none, and so differs in a timed game.
 use Rattle.std.specs.Prelude.{◌≡◌, ℕ, suc, ◌≤◌, ◌==◌, ◌&&◌, Bool, true, false, if◌then◌else◌, List, [], ◌∷◌, length, take, Option, Some, None}
 use Rattle.std.specs.Bool.{beq}
 use Rattle.chess_model.specs.declared.man.Kind.{Kind}

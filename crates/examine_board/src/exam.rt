@@ -85,7 +85,8 @@ impl Exam {
         self.shared + self.branch.len()
     }
 
-    /// The half-move in that place, counted from 0.
+    /// The half-move in that place, counted from 0. There are at most 3,600: 2,400 of the stored game and 1,200 that
+    /// were played here.
     pub(crate) fn half(&self, place: usize) -> Half
         requires { place < length self.now.list }
         ensures half { slice_get self.now.list place ≡ Some result }

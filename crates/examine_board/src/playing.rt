@@ -12,8 +12,8 @@ use game_records::Half;
 
 impl Exam {
     /// Plays the half-move that a word stands for where the exam is, without a charge; the half-moves that followed are
-    /// looked at no more. Refuses with `NotInVariant` at a pair, `GameOver` where the game has ended by mate or stalemate,
-    /// `TooManyMoves` at 1,200 half-moves, then as the rules answer the word; a refusal changes nothing.
+    /// looked at no more. Refuses with `NotInVariant` at a pair, `GameOver` where the game has ended by mate or
+    /// stalemate, `TooManyMoves` at 1,200 half-moves, then as the rules answer the word; a refusal changes nothing.
     pub fn play(&mut self, word: &MoveWord) -> Result<(), Refusal>
         ensures answer { result ≡ answer (played self.old word.now) }
         ensures after { self.new ≡ left_by self.old (played self.old word.now) }

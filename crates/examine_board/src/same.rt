@@ -62,9 +62,7 @@ fn is_drop(kind: Kind, to: Square, what: &Move) -> bool
     match what {
         Move::Plain { .. } => false,
         Move::Castle { .. } => false,
-        Move::Drop { kind: man, to: end } => {
-            kind.is_same(*man) && to.number() == end.number()
-        }
+        Move::Drop { kind: man, to: end } => { kind.is_same(*man) && to.number() == end.number() }
     }
 }
 

@@ -27,7 +27,8 @@ impl Exam {
         Ok(())
     }
 
-    /// Goes `n` half-moves back. Refuses with `NoEarlierMoves` where fewer are on the boards; a refusal changes nothing.
+    /// Goes `n` half-moves back. Refuses with `NoEarlierMoves` where fewer are on the boards; a refusal changes
+    /// nothing.
     pub fn back(&mut self, n: u16) -> Result<(), Refusal>
         ensures answer { result ≡ answer (backed self.old n) }
         ensures after { self.new ≡ left_by self.old (backed self.old n) }

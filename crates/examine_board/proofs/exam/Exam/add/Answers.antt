@@ -1,4 +1,4 @@
-use Rattle.std.proofs.Common.{◌≡◌, ◌<◌, ◌∷◌, [], length, sym, ap, subst, arith, length-append}
+use Rattle.std.proofs.Common.{◌∷◌, [], length, sym, ap, subst, arith, length-append}
 use Rattle.examine_board.specs.Exam.{ExamState}
 use Rattle.examine_board.specs.Laid.{MayLie}
 use Rattle.examine_board.specs.Play.{uncharged}

@@ -1,7 +1,7 @@
-use Rattle.std.proofs.Common.{◌≡◌, ℕ, ◌+◌, ◌-◌, ◌<◌, ◌≤◌, length, sym, ap, ◌∙◌, arith}
+use Rattle.std.proofs.Common.{◌≡◌, ◌-◌, sym, ap, ◌∙◌, arith}
 use Rattle.examine_board.specs.Answers.{answer, left_by}
 use Rattle.examine_board.specs.Exam.{ExamState}
-use Rattle.examine_board.proofs.Undone.{backed-refused, backed-made, undone_forward}
+use Rattle.examine_board.proofs.Undone.{backed-refused, backed-made}
 use Rattle.examine_board.proofs.exam.Exam.back.Goals as goal
 
 pub returns-then-self-n-clause-answer : goal.returns-then-self-n-clause-answer

@@ -1,4 +1,4 @@
-use Rattle.std.proofs.Common.{◌≡◌, ℕ, ◌-◌, ◌≤◌, ◌++◌, List, length, take, ap, sym, ◌∙◌, arith}
+use Rattle.std.proofs.Common.{◌≡◌, ◌++◌, List, take, ap, ◌∙◌, arith}
 use Rattle.game_records.specs.declared.stored_game.Half.{Half}
 use Rattle.examine_board.specs.Exam.{ExamState, present}
 use Rattle.examine_board.proofs.Held.{cut_here, cut_there, is_cut}

@@ -1,5 +1,4 @@
-use Rattle.std.proofs.Common.{◌≡◌, ℕ, ◌≤◌, ◌++◌, [], List, length, take, sym, ap, subst, ◌∙◌, arith}
-use Rattle.game_records.specs.declared.stored_game.Half.{Half}
+use Rattle.std.proofs.Common.{◌≡◌, ◌≤◌, ◌++◌, length, take, sym, ap, subst, ◌∙◌, arith}
 use Rattle.examine_board.specs.Exam.{ExamState, boards_after, present}
 use Rattle.examine_board.specs.Laid.{CanBeLaid}
 use Rattle.examine_board.proofs.Held.{whole}

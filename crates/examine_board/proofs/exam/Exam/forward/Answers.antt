@@ -1,7 +1,7 @@
-use Rattle.std.proofs.Common.{◌≡◌, ℕ, ◌+◌, ◌-◌, ◌<◌, ◌≤◌, length, sym, ap, ◌∙◌, arith}
+use Rattle.std.proofs.Common.{◌≡◌, ◌+◌, ◌-◌, ◌<◌, ◌≤◌, length, sym, ap, ◌∙◌, arith}
 use Rattle.examine_board.specs.Answers.{answer, left_by}
 use Rattle.examine_board.specs.Exam.{ExamState}
-use Rattle.examine_board.proofs.Undone.{forwarded-refused, forwarded-made, undone_back}
+use Rattle.examine_board.proofs.Undone.{forwarded-refused, forwarded-made}
 use Rattle.examine_board.proofs.exam.Exam.forward.Goals as goal
 
 pub returns-then-left-n-clause-answer : goal.returns-then-left-n-clause-answer

@@ -1,4 +1,4 @@
-use Rattle.std.proofs.Common.{◌≡◌, ℕ, ◌+◌, length, sym, ap, ◌∙◌, arith}
+use Rattle.std.proofs.Common.{◌+◌, length, sym, ap, ◌∙◌, arith}
 use Rattle.examine_board.specs.Exam.{ExamState}
 use Rattle.examine_board.proofs.exam.Exam.go_on.Goals as goal
 

@@ -1,6 +1,4 @@
-use Rattle.std.proofs.Common.{◌≡◌, ℕ, ◌<◌, ◌≤◌, Bool, true, false, min, List, length, take, sym, ap, subst, ◌∙◌, arith}
-use Rattle.std.specs.Prelude.{slice_get, Some}
-use Rattle.game_records.specs.declared.stored_game.Half.{Half}
+use Rattle.std.proofs.Common.{◌≡◌, ℕ, ◌≤◌, true, false, min, length, sym, ap, subst, ◌∙◌, arith}
 use Rattle.examine_board.specs.Exam.{ExamState, present}
 use Rattle.examine_board.specs.Same.{Share, same_half}
 use Rattle.examine_board.proofs.Shared.{kept_next, kept_until, kept_whole}

@@ -1,5 +1,5 @@
-use Rattle.std.proofs.Common.{refl, sym, ap, ◌∙◌}
-use Rattle.examine_board.proofs.Held.{holds_opened, whole}
+use Rattle.std.proofs.Common.{refl, ◌∙◌}
+use Rattle.examine_board.proofs.Held.{holds_opened}
 use Rattle.examine_board.proofs.exam.Exam.new.Goals as goal
 
 pub invariant_of-result : goal.invariant_of-result

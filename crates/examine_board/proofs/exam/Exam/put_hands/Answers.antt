@@ -1,7 +1,6 @@
-use Rattle.std.proofs.Common.{◌≡◌, ◌∷◌, [], ◌++◌, Bool, true, List, Option, Some, None, take, sym, ap, subst, ◌∙◌}
+use Rattle.std.proofs.Common.{◌≡◌, ◌∷◌, [], true, sym, ap, subst, ◌∙◌}
 use Rattle.std.specs.Option.{option_copied, option_to_list}
 use Rattle.chess_model.specs.Tests.{has_drops}
-use Rattle.game_board.specs.Board.{Board}
 use Rattle.examine_board.specs.Exam.{ExamState, boards_after, present}
 use Rattle.examine_board.proofs.Shown.{hands_of_one, hands_of_two}
 use Rattle.examine_board.proofs.exam.Exam.put_hands.Goals as goal

@@ -1,8 +1,8 @@
-use Rattle.std.proofs.Common.{◌≡◌, ◌++◌, Bool, true, false, List, take, sym, ap, subst, ◌∙◌}
+use Rattle.std.proofs.Common.{◌≡◌, ◌++◌, true, false, take, sym, ap, subst, ◌∙◌}
 use Rattle.chess_model.specs.Result.{result, is_end}
-use Rattle.game_board.specs.Board.{Board, position_of, to_move}
+use Rattle.game_board.specs.Board.{Board, position_of}
 use Rattle.game_board.specs.Play.{move_answer}
-use Rattle.examine_board.specs.Exam.{ExamState, board_on, present}
+use Rattle.examine_board.specs.Exam.{ExamState, board_on}
 use Rattle.examine_board.specs.Play.{is_pair, position}
 use Rattle.examine_board.proofs.Words.{Going, answer_over, answer_pair, first_is, going, going_answer, going_lies, going_room, position_is}
 use Rattle.examine_board.proofs.exam.Exam.resolve.Goals as goal

@@ -1,4 +1,4 @@
-use Rattle.std.proofs.Common.{◌≡◌, ℕ, ◌≤◌, List, length, take, sym, ap, subst, ◌∙◌}
+use Rattle.std.proofs.Common.{◌≡◌, ℕ, ◌≤◌, length, take, sym, ap, subst, ◌∙◌}
 use Rattle.examine_board.specs.Exam.{ExamState, present}
 use Rattle.examine_board.specs.Same.{shared_length}
 use Rattle.examine_board.proofs.Shared.{shared_low, shared_same, shared_within}

@@ -1,4 +1,4 @@
-use Rattle.std.proofs.Common.{List, [], ap, ◌∙◌, arith, ◌++◌, take}
+use Rattle.std.proofs.Common.{List, ap, ◌∙◌, arith, ◌++◌, take}
 use Rattle.std.specs.Prelude.{map}
 use Rattle.game_board.specs.Board.{Board}
 use Rattle.game_board.specs.Rewind.{rewound}
