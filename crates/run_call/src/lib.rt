@@ -6,7 +6,7 @@
 //! `tidy` it is the exports of the games that the grammar of PGN text reads in these bytes; for `bot` it is the best
 //! move of the position that the lines make, and its value; for `demo`, which reads nothing, it is the six counts of
 //! the history that its number makes; for `check`, which reads the keeper's store alone, it is the numbers of the
-//! store's accounts and games.
+//! store's accounts and games; for `pgn`, which does so too, it is the exports of the store's chess games.
 //! Each status comes where it is stated to come, and a fault of reading, writing or the keeper is told only where the
 //! object outside counted one. The keeper stays as it is but for commands over a store, and its table at all times.
 #![tactic(auto)]
