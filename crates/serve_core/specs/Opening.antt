@@ -30,9 +30,9 @@ unopened_status KeeperFault = 4
 unopened_status BadRecord = 5
 unopened_status Memory = 6
 
--- no hall was opened for this reason: the line of the least bad key was written, or a front of it at a fault of the sink,
--- which counted it; else nothing was written, or at want of memory perhaps a front of that line. A fault of the keeper is
--- told only where it counted one, and its table stays
+-- no hall was opened for this reason: the line of the least bad key was written, or a front of it at a fault of the
+-- sink, which counted it; else nothing was written, or at want of memory perhaps a front of that line. A fault of the
+-- keeper is told only where it counted one, and its table stays
 pub record StaysUnopened (fault : StoreFault) (old new : Store) (before after : Sheet) : Type 0 where
   pub tells : Tells {A = LobbyState} old.table before.written after.written (Err fault)
   pub keeper_fault : fault ≡ KeeperFault → Rose old.faults new.faults

@@ -1,6 +1,5 @@
--- What a server promises that has served: its hall, its links, its steward and its store, its text and its door, and how
--- it ended.
--- This server's own.
+-- What a server promises that has served: its hall, its links, its steward and its store, its text and its door, and
+-- how it ended. This server's own.
 use Rattle.std.specs.Prelude.{codes, ◌≡◌, ◌≢◌, ℕ, ◌+◌, ◌^◌, ◌<◌, ◌≤◌, ◌⊎◌, Bool, List, [], ◌++◌, length, Some, slice_get}
 use Rattle.std.specs.declared.option.Option.{Option}
 use Rattle.std.specs.Io.KnownBytes.{Appends}
@@ -93,8 +92,8 @@ pub record Sheet : Type 0 where
   pub written : Option (List ℕ)
   pub faults : ℕ
 
--- `ready` wasn't written out: the sink failed, which it counted, or memory ran out, and then perhaps the last turn of the
--- steward met a keeper fault. Nothing else was written, and no link was taken
+-- `ready` wasn't written out: the sink failed, which it counted, or memory ran out, and then perhaps the last turn of
+-- the steward met a keeper fault. Nothing else was written, and no link was taken
 pub record StopsUnready (end : ServeEnd) (count : ℕ) (before after : Sheet) : Type 0 where
   pub none_taken : count ≡ 0
   pub front : AppendsFront before.written after.written ready_text

@@ -74,8 +74,8 @@ HasTurns Ends more door made = (n : ℕ) × AreTurns Ends n made × IfTold door 
 abbrev pub NoOrders : List Part → Type 0
 NoOrders parts = (lobby : LobbyState) → slice_get parts 0 ≡ Some (TheLobby lobby) → lobby.shelf.orders ≡ []
 
--- where a turn was done and nobody else acted since, no order is left, unless it had as many answers of 16 as a turn has
--- at most
+-- where a turn was done and nobody else acted since, no order is left, unless it had as many answers of 16 as a turn
+-- has at most
 abbrev pub LeavesNoOrders : StewardEnd → List Part → Type 0
 LeavesNoOrders (Done count) parts = NoOrders parts ⊎ (count ≡ most_answers * 16)
 LeavesNoOrders KeeperFault parts = Unit {0}

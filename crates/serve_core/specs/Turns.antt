@@ -10,7 +10,8 @@ use Rattle.steward_core.specs.declared.turn.StewardEnd.TheVariants.{Done, Keeper
 use Rattle.serve_core.specs.declared.settle.Supply.{Supply}
 use Rattle.serve_core.specs.declared.settle.Supply.TheVariants.{Short}
 
--- the first pass made a turn of the steward, at some moment, over a keeper that told this table before and that one after
+-- the first pass made a turn of the steward, at some moment, over a keeper that told this table before and that one
+-- after
 pub record MadeTurn (end : StewardEnd) (before after : Option Table) (old new : PassState) : Type 0 where
   pub moment : ℕ
   pub place : place_of new ≡ place_of old

@@ -1,10 +1,12 @@
-//! The server that people connect to: a hall, a door, and a worker for each connection.
+//! The server that people connect to: a hall, a door, a keeper, and a worker for each connection.
 //!
-//! The door's thread takes connections and starts a worker for each, which serves it as a session of the hall; it joins
-//! those that have ended, hands their connections back to the door, and makes a steward's turn at each Quiet of the
-//! door. The contract (`specs/Serving.antt`): the hall is given back with the pass into which all others were joined;
-//! what that pass has seen is the whole history; session k of it is the k-th connection that came, which was served by
-//! exactly its session's entries and handed back under its number; and session 0 is the steward's.
+//! `serve` loads the keeper's store and opens the hall with what it loaded. The door's thread takes connections and
+//! starts a worker for each, which serves it as a session of the hall; it joins those that have ended, hands their
+//! connections back to the door, and makes a steward's turn over the keeper at each Quiet of the door and at the end.
+//! The contract (`specs/Opening.antt`, `specs/Serving.antt`): the hall is given back with the pass into which all
+//! others were joined; what that pass has seen is the whole history, from the loaded lobby on; session k of it is the
+//! k-th connection that came, which was served by exactly its session's entries and handed back under its number;
+//! session 0 is the steward's; and a table that the keeper tells agrees with the lobby of the last state.
 #![tactic(auto)]
 
 mod attend;

@@ -29,14 +29,14 @@ use std::sync::Wait;
 use std::thread::Threads;
 
 /// Serves players who connect, where the words ask for it, and gives the status with which the program ends, and the
-/// hall with the pass into which all others were joined. It loads the keeper's store first, and opens the hall with what
-/// it loaded; while it serves it has the keeper carry out what the lobby orders to be saved.
+/// hall with the pass into which all others were joined. It loads the keeper's store first, and opens the hall with
+/// what it loaded; while it serves it has the keeper carry out what the lobby orders to be saved.
 ///
 /// The status is 0 where the door was closed and all was served, 1 where the words don't ask for it, 3 at a fault of
 /// writing, 4 at a fault of the keeper at the load or in the last turn of the steward, 5 at a bad record, whose key is
 /// written, 6 for want of memory, 8 at a fault of the door, and 9 after 2^31 connections. Where the words ask for it, a
-/// hall is missing only where the store wasn't loaded or memory didn't suffice to open one. The door is one through which
-/// nothing came yet. Where the words don't ask for it the keeper isn't called.
+/// hall is missing only where the store wasn't loaded or memory didn't suffice to open one. The door is one through
+/// which nothing came yet. Where the words don't ask for it the keeper isn't called.
 pub fn serve<T, D, C, P, K, G>(
     rt: &T,
     alloc: Global,

@@ -35,9 +35,10 @@ const READY: &[u8] = b"ready\n";
 const CLOSED: &[u8] = b"closed\n";
 
 /// Serves connections: opens a hall with this lobby, writes `ready`, takes links from the door and serves each with a
-/// session of its own, and makes a turn of the steward over the keeper at each Quiet of the door; once the door is closed
-/// or has failed or 2^31 links came, it waits for all, makes a last turn of the steward and writes `closed`. It gives
-/// back the hall with the pass into which all others were joined; none only where memory didn't suffice to open it.
+/// session of its own, and makes a turn of the steward over the keeper at each Quiet of the door; once the door is
+/// closed or has failed or 2^31 links came, it waits for all, makes a last turn of the steward and writes `closed`. It
+/// gives back the hall with the pass into which all others were joined; none only where memory didn't suffice to open
+/// it.
 pub fn serve_lobby<T, D, C, P, K, G>(
     rt: &T,
     alloc: Global,

@@ -78,9 +78,9 @@ fn holds(keeper: &MemKeeper, keys: &[&[u8]]) -> bool {
             .all(|(pair, key)| pair.key.as_slice() == *key)
 }
 
-/// A row: the record that the keeper holds under a key, if any, and at which of its calls it fails, where the put of that
-/// record is the first; what the player says; the status, what is written, what the player is sent last, where the link
-/// comes back, and the keys that the keeper holds in the end.
+/// A row: the record that the keeper holds under a key, if any, and at which of its calls it fails, where the put of
+/// that record is the first; what the player says; the status, what is written, what the player is sent last, where the
+/// link comes back, and the keys that the keeper holds in the end.
 struct Row {
     record: Option<(&'static [u8], &'static [u8])>,
     fails: &'static [u64],
