@@ -1,6 +1,6 @@
 -- How a check ends, by whether its store could be opened.
-use Rattle.std.proofs.Common.{◌≡◌, ℕ, List, [], length, Option, None, Some, Result, Err, refl, sym, subst, inl, inr}
-use Rattle.std.specs.Prelude.{◌⊎◌, IfSome, take}
+use Rattle.std.proofs.Common.{◌≡◌, ℕ, List, [], length, Option, None, Some, Err, refl, sym, subst, inl, inr}
+use Rattle.std.specs.Prelude.{IfSome, take}
 use Rattle.std.specs.FinMap as map
 use Rattle.std.specs.Io.KnownBytes.{Appends}
 use Rattle.std.proofs.KnownBytes.{Appends-trans}
@@ -18,7 +18,7 @@ use Rattle.lobby_load.specs.declared.refusals.StoreFault.TheVariants as store
 use Rattle.lobby_state.specs.Lobby.{LobbyState}
 use Rattle.store_ends.specs.Outcomes.{OnKeeperFault, OnWriteFault, outcome_of}
 use Rattle.store_ends.specs.declared.outcome.Outcome.TheVariants.{Read}
-use Rattle.check_command.specs.CheckEnds.{CheckEnds, IsTextOf, WritesLine}
+use Rattle.check_command.specs.CheckEnds.{CheckEnds, WritesLine}
 use Rattle.check_command.specs.Counts.{AreCounts, check_line}
 
 -- a loaded lobby has the numbers of the table's rows

@@ -2,6 +2,7 @@
 use Rattle.std.specs.Prelude.{◌≡◌, ℕ, List, ◌++◌, codes, decimal, IfSome, refl}
 use Rattle.std.specs.declared.option.Option.{Option}
 use Rattle.std.specs.FinMap as map
+use Rattle.std.specs.Fmt.{digits}
 use Rattle.edge_traits.specs.Pairs.{Table}
 use Rattle.lobby_load.specs.BadRows.{IsAccount, IsGame, IsGoodStore}
 use Rattle.lobby_load.specs.Loaded.{HasCount}
@@ -17,4 +18,5 @@ AreCounts table accounts games = IfSome table (λ told. IsGoodStore told
     × HasCount IsAccount accounts (map.entries told) × HasCount IsGame games (map.entries told))
 
 example_line : check_line 2 1 ≡ codes "ok: 2 accounts, 1 games\n"
+unfolding digits
 example_line = refl

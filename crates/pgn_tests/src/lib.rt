@@ -1,7 +1,9 @@
-//! Tests of PGN text: a table of texts with what stands in them, and one of stored games with their exports, both written
-//! out by hand.
+//! Tests of PGN text: tables of texts with what stands in them, of stored games with their exports, and of stores with
+//! what `pgn` writes of them, all written out by hand.
 #![tactic(auto)]
 
+#[cfg(test)]
+mod exported;
 #[cfg(test)]
 mod reading;
 #[cfg(test)]

@@ -67,7 +67,7 @@ status-read BadLine = (7, omega arith, refl)
 status-read Spent = (8, omega arith, refl)
 
 -- a command ends in one of them
-pub status-listed : (command : Command) (table : Option Table) (left left' written written' : Option (List ℕ)) (outcome : Outcome)
+status-listed : (command : Command) (table : Option Table) (left left' written written' : Option (List ℕ)) (outcome : Outcome)
     → CommandEnds table left left' written written' outcome command → Contains statuses (status_of_outcome outcome)
 status-listed command table left left' written written' (Read end) h = status-read end
 status-listed command table left left' written written' KeeperFault h = (4, omega arith, refl)
@@ -79,6 +79,10 @@ status-listed Tidy table left left' written written' NoGame h = absurd h
 status-listed (Bot depth) table left left' written written' NoGame h = absurd h
 status-listed (Demo number) table left left' written written' NoGame h = absurd h.1
 status-listed Check table left left' written written' NoGame h = absurd h.1
+
+pub listed_as : (status : ℕ) (command : Command) (table : Option Table) (left left' written written' : Option (List ℕ)) (outcome : Outcome)
+    → CommandEnds table left left' written written' outcome command → status ≡ status_of_outcome outcome → Contains statuses status
+listed_as status command table left left' written written' outcome ends is = subst (Contains statuses) (sym is) (status-listed command table left left' written written' outcome ends)
 
 -- and those with which the usage line is written
 pub usage_listed : (written written' : Option (List ℕ)) (status : ℕ) → UsageEnds written written' status → Contains statuses status
@@ -143,6 +147,18 @@ pub memory_at_once : (words : List (String Global)) (table : Option Table) (left
 memory_at_once words table left written = (λ command names. out_of_memory table left written command, λ none. (Keeps-same left, (0, Appends-nil written)))
 
 -- ---- the keeper
+
+-- a check reads nothing
+pub check_reads_nothing : (table : Option Table) (written written' : Option (List ℕ)) (outcome : Outcome) (P : Type 0) → CheckEnds table written written' outcome → OnReadFault outcome P
+check_reads_nothing table written written' (Read Done) P h = tt
+check_reads_nothing table written written' (Read ReadFault) P h = absurd h
+check_reads_nothing table written written' (Read WriteFault) P h = tt
+check_reads_nothing table written written' (Read Memory) P h = tt
+check_reads_nothing table written written' (Read BadLine) P h = tt
+check_reads_nothing table written written' (Read Spent) P h = tt
+check_reads_nothing table written written' BadRecord P h = tt
+check_reads_nothing table written written' KeeperFault P h = tt
+check_reads_nothing table written written' NoGame P h = tt
 
 -- a table that isn't touched stays
 pub Stays-same : (table : Option Table) → Stays table table

@@ -59,7 +59,6 @@ fn command_of(job: &Job) -> Option<Command>
         Job::Bot { depth } => Some(Command::Bot { depth: *depth }),
         Job::Demo { number } => Some(Command::Demo { number: *number }),
         Job::Check { .. } => Some(Command::Check),
-        Job::Serve { .. } => None,
         _ => None,
     }
 }

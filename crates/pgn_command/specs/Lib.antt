@@ -1,0 +1,4 @@
+-- What the contracts of this crate cite.
+pub mod Games
+pub mod Exports
+pub mod PgnEnds
