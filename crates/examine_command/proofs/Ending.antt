@@ -1,17 +1,17 @@
 -- How `examine` ends, by what became of the store, of its game and of the lines.
-use Rattle.std.proofs.Common.{◌≡◌, ℕ, ◌<◌, ◌^◌, List, [], ◌++◌, Option, Some, None, Ok, Err, refl, sym, ap, subst, ◌∙◌, inl, inr}
+use Rattle.std.proofs.Common.{◌≡◌, ℕ, ◌<◌, ◌^◌, List, [], Option, Some, None, Err, refl, inl, inr}
 use Rattle.std.specs.Prelude.{IfSome}
 use Rattle.std.specs.Io.KnownBytes.{Appends}
 use Rattle.std.proofs.KnownBytes.{Appends-nil, Appends-trans}
 use Rattle.edge_traits.specs.Pairs.{Table}
-use Rattle.edge_traits.specs.Sink.{AppendsFront}
 use Rattle.game_records.specs.declared.stored_game.StoredGame.{StoredGame}
 use Rattle.game_shelf.specs.Numbers.{stored_game}
 use Rattle.line_answers.specs.LineCommandEnds.{LineCommandEnds}
 use Rattle.line_answers.specs.Reading.{AfterSend}
 use Rattle.line_answers.specs.declared.end.End.{End}
 use Rattle.line_answers.specs.declared.end.End.TheVariants.{Done, ReadFault, WriteFault, Memory, BadLine, Spent}
-use Rattle.line_answers.proofs.Sending.{AppendsFront-all, AppendsFront-behind}
+use Rattle.line_answers.proofs.Sending.{AppendsFront-behind}
+use Rattle.lobby_load.specs.BadRows.{IsGoodStore}
 use Rattle.lobby_load.specs.Loaded.{AreSpelled, HasLoaded}
 use Rattle.lobby_load.specs.Telling.{Tells, WroteFront, bad_record_line}
 use Rattle.lobby_load.specs.declared.refusals.StoreFault.{StoreFault}
@@ -22,7 +22,7 @@ use Rattle.store_ends.specs.declared.outcome.Outcome.{Outcome}
 use Rattle.store_ends.specs.declared.outcome.Outcome.TheVariants as outcome
 use Rattle.store_ends.specs.Outcomes.{outcome_of}
 use Rattle.examine_board.specs.Exam.{ExamState, opened}
-use Rattle.examine_command.specs.ExamineEnds.{AnswersFrom, AreAnswered, ExamineEnds, ExaminesFound, ExaminesGame, ExaminesIn, HasNone, IsCutOff, IsCutOffFirst, IsDueFirst, IsExamined, IsGameOf, TellsNone, no_such_game}
+use Rattle.examine_command.specs.ExamineEnds.{AnswersFrom, AreAnswered, ExamineEnds, ExaminesFound, ExaminesGame, ExaminesIn, HasNone, IsCutOff, IsCutOffFirst, IsGameOf, TellsNone, no_such_game}
 use Rattle.examine_command.specs.Texts.{examine_lines, shown_text}
 use Rattle.examine_command.proofs.Stored.{found_is, none_is}
 
@@ -39,27 +39,27 @@ shown_answered e left left' written shown written' BadLine o h = record { shown 
 shown_answered e left left' written shown written' Spent o h = record { shown = shown; opening = o; answers = h }
 
 -- they weren't all written
-pub not_shown : {A : Type 0} (e : ExamState) (left written written' : Option (List ℕ)) (end : End) → AfterSend {A = A} written written' (shown_text e) (Err end)
+pub not_shown : (A : Type 0) (e : ExamState) (left written written' : Option (List ℕ)) (end : End) → AfterSend {A = A} written written' (shown_text e) (Err end)
     → AnswersFrom e left left written written' end
-not_shown e left written written' Done h = absurd h
-not_shown e left written written' ReadFault h = absurd h
-not_shown e left written written' WriteFault h = inr (record { unread = refl; text = h })
-not_shown e left written written' Memory h = inr (record { unread = refl; text = h })
-not_shown e left written written' BadLine h = absurd h
-not_shown e left written written' Spent h = absurd h
+not_shown A e left written written' Done h = absurd h
+not_shown A e left written written' ReadFault h = absurd h
+not_shown A e left written written' WriteFault h = inr (record { unread = refl; text = h })
+not_shown A e left written written' Memory h = inr (record { unread = refl; text = h })
+not_shown A e left written written' BadLine h = absurd h
+not_shown A e left written written' Spent h = absurd h
 
 -- running out of memory before anything was written
 pub no_memory : (e : ExamState) (left written : Option (List ℕ)) → AnswersFrom e left left written written Memory
 no_memory e left written = inr (record { unread = refl; text = (0, Appends-nil written) })
 
 -- that there is no such game wasn't all written
-pub not_told : {A : Type 0} (written written' : Option (List ℕ)) (end : End) → AfterSend {A = A} written written' no_such_game (Err end) → TellsNone written written' (outcome.Read end)
-not_told written written' Done h = absurd h
-not_told written written' ReadFault h = absurd h
-not_told written written' WriteFault h = h
-not_told written written' Memory h = h
-not_told written written' BadLine h = absurd h
-not_told written written' Spent h = absurd h
+pub not_told : (A : Type 0) (written written' : Option (List ℕ)) (end : End) → AfterSend {A = A} written written' no_such_game (Err end) → TellsNone written written' (outcome.Read end)
+not_told A written written' Done h = absurd h
+not_told A written written' ReadFault h = absurd h
+not_told A written written' WriteFault h = h
+not_told A written written' Memory h = h
+not_told A written written' BadLine h = absurd h
+not_told A written written' Spent h = absurd h
 
 -- ---- behind an opening of the store that wrote nothing
 
@@ -102,12 +102,12 @@ module _ (table : Option Table) (number : ℕ) (left left' written mid written' 
   none_told outcome.KeeperFault is unread h = absurd h
 
   -- the store was opened, and the game of that number examined, if there is one
-  pub store_examined : (lobby : LobbyState) (end : Outcome) → number < 2 ^ 64 → IsWellFormed lobby → AreSpelled lobby → IfSome table (λ told. HasLoaded told lobby)
+  pub store_examined : (lobby : LobbyState) (end : Outcome) → number < 2 ^ 64 → IsWellFormed lobby → AreSpelled lobby → IfSome table (λ told. HasLoaded told lobby) → IfSome table IsGoodStore
       → ExaminesIn lobby number left left' mid written' end → ExamineEnds table number left left' written written' end
-  store_examined lobby end small formed spelled loaded h =
+  store_examined lobby end small formed spelled loaded good h =
       elim (stored_game lobby.shelf.games number) as (λ found. stored_game lobby.shelf.games number ≡ found → ExaminesFound found left left' mid written' end → ExamineEnds table number left left' written written' end) [
-        | Some game ↦ λ is g. examined game end (found_is table lobby number small formed spelled loaded game is) g
-        | None ↦ λ is g. none_told end (none_is table lobby number small formed spelled loaded is) g.0 g.1
+        | Some game ↦ λ is g. examined game end (found_is table lobby number small formed spelled loaded good game is) g
+        | None ↦ λ is g. none_told end (none_is table lobby number small formed spelled loaded good is) g.0 g.1
       ] refl h
 
 -- ---- the store wasn't opened
@@ -116,11 +116,11 @@ front_told : (table : Option Table) (number : ℕ) (left written written' : Opti
 front_told table number left written written' h =
     record { due = bad_record_line h.0; is_due = inr (inl (h.0, h.1, refl)); cut = record { unread = refl; text = h.2 } }
 
-pub not_opened : {A : Type 0} (table : Option Table) (number : ℕ) (left written written' : Option (List ℕ)) (why : StoreFault) → Tells {A = A} table written written' (Err why)
+pub not_opened : (A : Type 0) (table : Option Table) (number : ℕ) (left written written' : Option (List ℕ)) (why : StoreFault) → Tells {A = A} table written written' (Err why)
     → ExamineEnds table number left left written written' (outcome_of why)
-not_opened table number left written written' fault.BadRecord told = record { unread = refl; key = told.0; bad = told.1; text = told.2 }
-not_opened table number left written written' fault.KeeperFault told = (refl, told)
-not_opened table number left written written' fault.WriteFault told = inr (front_told table number left written written' told)
-not_opened table number left written written' fault.Memory (inl none) =
+not_opened A table number left written written' fault.BadRecord told = record { unread = refl; key = told.0; bad = told.1; text = told.2 }
+not_opened A table number left written written' fault.KeeperFault told = (refl, told)
+not_opened A table number left written written' fault.WriteFault told = inr (front_told table number left written written' told)
+not_opened A table number left written written' fault.Memory (inl none) =
     inr (record { due = []; is_due = inl refl; cut = record { unread = refl; text = (0, none) } })
-not_opened table number left written written' fault.Memory (inr told) = inr (front_told table number left written written' told)
+not_opened A table number left written written' fault.Memory (inr told) = inr (front_told table number left written written' told)

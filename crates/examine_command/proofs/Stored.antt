@@ -1,8 +1,8 @@
 -- The stored game of a number in a lobby that was loaded is the one that stands in the table under the number's key.
-use Rattle.std.proofs.Common.{◌≡◌, ℕ, ◌<◌, ◌^◌, Bool, true, false, cond, List, [], ◌∷◌, Option, Some, None, refl, sym, ap, subst, ◌∙◌, arith}
+use Rattle.std.proofs.Common.{◌≡◌, ℕ, ◌<◌, ◌^◌, true, false, cond, List, [], ◌∷◌, Option, Some, None, refl, sym, ap, subst, ◌∙◌, arith}
 use Rattle.std.specs.Prelude.{◌==◌, All, IfSome, bytes_eq}
 use Rattle.std.specs.List.{find}
-use Rattle.std.proofs.lemmas.Bool.{eqb-eq, eq-eqb, false_from_ne_true}
+use Rattle.std.proofs.lemmas.Bool.{eqb-true, eq-eqb, false_from_ne_true}
 use Rattle.std.proofs.lemmas.List.Elements.{All-head, All-tail}
 use Rattle.std.proofs.lemmas.Slice.Eq.{bytes_eq-Decides}
 use Rattle.edge_traits.specs.Pairs.{Table}
@@ -17,6 +17,7 @@ use Rattle.game_records.proofs.KeysBack.{one_game}
 use Rattle.game_shelf.specs.declared.shelved.Shelved.{Shelved}
 use Rattle.game_shelf.specs.Numbers.{RiseAbove, game_in, has_number, stored_game}
 use Rattle.game_shelf.specs.Wanted.{account_record, either_record, game_record, is_account_at, is_game_at, wanted}
+use Rattle.lobby_load.specs.BadRows.{IsGoodStore}
 use Rattle.lobby_load.specs.Loaded.{AreSpelled, HasLoaded}
 use Rattle.lobby_state.specs.Lobby.{LobbyState}
 use Rattle.lobby_state.specs.WellFormed.{IsWellFormed}
@@ -51,7 +52,7 @@ by_number low (row ∷ games) number rise small =
     elim (row.number == number) as (λ t. row.number == number ≡ t →
     cond (is_game_at (game_key number) row) (Some row) (find (is_game_at (game_key number)) games) ≡ cond t (Some row) (find (has_number number) games)) [
       | true ↦ λ e.
-          let same : row.number ≡ number = eqb-eq row.number number e in
+          let same : row.number ≡ number = eqb-true row.number number e in
           let own : is_game_at (game_key number) row ≡ true = (bytes_eq-Decides (game_key row.number) (game_key number)).1 (ap game_key same) in
           ap (λ t. cond t (Some row) (find (is_game_at (game_key number)) games)) own
       | false ↦ λ e.
@@ -92,12 +93,12 @@ no_record None e = refl
 no_record (Some row) e = absurd cc
 
 module _ (table : Option Table) (lobby : LobbyState) (number : ℕ) (small : number < 2 ^ 64) (formed : IsWellFormed lobby) (spelled : AreSpelled lobby)
-    (loaded : IfSome table (λ told. HasLoaded told lobby)) where
-  -- it is the store's of that number
-  pub found_is : (game : StoredGame) → stored_game lobby.shelf.games number ≡ Some game → IsGameOf table number game
-  found_is game e = by table loaded
+    (loaded : IfSome table (λ told. HasLoaded told lobby)) (good : IfSome table IsGoodStore) where
+  -- it stands in the store under that number's key
+  found_stands : (game : StoredGame) → stored_game lobby.shelf.games number ≡ Some game → IfSome table (StandsUnder number game)
+  found_stands game e = by table loaded
     where
-      by : (t : Option Table) → IfSome t (λ told. HasLoaded told lobby) → IsGameOf t number game
+      by : (t : Option Table) → IfSome t (λ told. HasLoaded told lobby) → IfSome t (StandsUnder number game)
       by None h = tt
       by (Some told) h = record {
         bytes = spelling (a.Game game);
@@ -106,12 +107,19 @@ module _ (table : Option Table) (lobby : LobbyState) (number : ℕ) (small : num
         spelled = found_has (λ g. IsSpelled (a.Game g) (spelling (a.Game g))) lobby.shelf.games number game spelled.games e;
       }
 
-  -- and where there is none, the store has none
-  pub none_is : stored_game lobby.shelf.games number ≡ None → HasNone table number
-  none_is e = by table loaded
+  -- so it is the store's of that number
+  pub found_is : (game : StoredGame) → stored_game lobby.shelf.games number ≡ Some game → IsGameOf table number game
+  found_is game e = record { good = good; stands = found_stands game e; replays = found_replays lobby number game formed e }
+
+  -- and where there is none, none stands there
+  none_stands : stored_game lobby.shelf.games number ≡ None → IfSome table (λ told. held told (game_key number) ≡ None)
+  none_stands e = by table loaded
     where
-      by : (t : Option Table) → IfSome t (λ told. HasLoaded told lobby) → HasNone t number
+      by : (t : Option Table) → IfSome t (λ told. HasLoaded told lobby) → IfSome t (λ told. held told (game_key number) ≡ None)
       by None h = tt
       by (Some told) h =
           sym (h (game_key number)) ∙ wanted_game lobby.accounts lobby.shelf.games number formed.shelf.sound.numbers small
           ∙ no_record (find (has_number number) lobby.shelf.games) e
+
+  pub none_is : stored_game lobby.shelf.games number ≡ None → HasNone table number
+  none_is e = record { good = good; none = none_stands e }

@@ -5,6 +5,7 @@ use Rattle.std.specs.Io.KnownBytes.{Appends}
 use Rattle.edge_traits.specs.Pairs.{Table}
 use Rattle.edge_traits.specs.Sink.{AppendsFront}
 use Rattle.game_records.specs.Keys.{game_key}
+use Rattle.game_records.specs.Replays.{Replays}
 use Rattle.game_records.specs.Spelling.{IsSpelled}
 use Rattle.game_records.specs.declared.records.Record.TheVariants.{Game}
 use Rattle.game_records.specs.declared.stored_game.StoredGame.{StoredGame}
@@ -12,6 +13,7 @@ use Rattle.game_shelf.specs.Numbers.{stored_game}
 use Rattle.line_answers.specs.LineCommandEnds.{LineCommandEnds}
 use Rattle.line_answers.specs.declared.end.End.{End}
 use Rattle.line_answers.specs.declared.end.End.TheVariants.{Done, ReadFault, WriteFault, Memory, BadLine, Spent}
+use Rattle.lobby_load.specs.BadRows.{IsGoodStore}
 use Rattle.lobby_load.specs.Telling.{IsFirstBad, bad_record_line}
 use Rattle.lobby_state.specs.Lobby.{LobbyState}
 use Rattle.lobby_store.specs.Carrying.{held}
@@ -30,13 +32,16 @@ pub record StandsUnder (number : ℕ) (game : StoredGame) (table : Table) : Type
   pub there : held table (game_key number) ≡ Some bytes
   pub spelled : IsSpelled (Game game) bytes
 
--- the game is the store's of that number
-abbrev pub IsGameOf : Option Table → ℕ → StoredGame → Type 0
-IsGameOf table number game = IfSome table (StandsUnder number game)
+-- the store is good, and the game is its game of that number
+pub record IsGameOf (table : Option Table) (number : ℕ) (game : StoredGame) : Type 0 where
+  pub good : IfSome table IsGoodStore
+  pub stands : IfSome table (StandsUnder number game)
+  pub replays : Replays game
 
--- the store has no game of that number
-abbrev pub HasNone : Option Table → ℕ → Type 0
-HasNone table number = IfSome table (λ told. held told (game_key number) ≡ None)
+-- the store is good, and has no game of that number
+pub record HasNone (table : Option Table) (number : ℕ) : Type 0 where
+  pub good : IfSome table IsGoodStore
+  pub none : IfSome table (λ told. held told (game_key number) ≡ None)
 
 -- the lines that show the exam were written, and then the lines of the input were read and answered, with this end
 pub record AreAnswered (e : ExamState) (left left' written written' : Option (List ℕ)) (end : End) : Type 0 where
@@ -113,7 +118,7 @@ pub record IsBadTold (table : Option Table) (left left' written written' : Optio
   pub bad : IsFirstBad table key
   pub text : Appends written written' (bad_record_line key)
 
--- the store has no game of the number: nothing was read, and that was told
+-- the store is good and has no game of the number: nothing was read, and that was told
 pub record IsNoneTold (table : Option Table) (number : ℕ) (left left' written written' : Option (List ℕ)) : Type 0 where
   pub unread : left' ≡ left
   pub none : HasNone table number

@@ -111,11 +111,7 @@ fn do_line(exam: &mut Exam, line: ExamLine, out: &mut Vec<u8>) -> Result<(), NoM
 }
 
 /// Appends the text of an answer: the lines that show where the exam is, or the refusal.
-fn put_answer(
-    exam: &Exam,
-    answer: Result<(), Refusal>,
-    out: &mut Vec<u8>,
-) -> Result<(), NoMemory>
+fn put_answer(exam: &Exam, answer: Result<(), Refusal>, out: &mut Vec<u8>) -> Result<(), NoMemory>
     ensures { OnOk result (out.new.items ≡ out.old.items ++ told exam.now answer) }
 {
     match answer {

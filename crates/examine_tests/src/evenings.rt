@@ -44,31 +44,44 @@ const KNIGHT_GAME: Stored = Stored::Of(Game(
     300,
 ));
 
-const START: &str = "<12> rnbqkbnr pppppppp -------- -------- -------- -------- PPPPPPPP RNBQKBNR W -1 1 1 1 1 0 1 Ann Ben 2 0 0 39 39 0 0 1 none (0:00) none 0";
+const START: &str =
+    "<12> rnbqkbnr pppppppp -------- -------- -------- -------- PPPPPPPP RNBQKBNR W -1 1 1 1 1 0 1 Ann Ben 2 0 0 39 39 0 0 1 none (0:00) none 0";
 
-const PAWN: &str = "<12> rnbqkbnr pppppppp -------- -------- ----P--- -------- PPPP-PPP RNBQKBNR B 4 1 1 1 1 0 1 Ann Ben 2 0 0 39 39 0 0 1 P/e2-e4 (0:00) e4 0";
+const PAWN: &str =
+    "<12> rnbqkbnr pppppppp -------- -------- ----P--- -------- PPPP-PPP RNBQKBNR B 4 1 1 1 1 0 1 Ann Ben 2 0 0 39 39 0 0 1 P/e2-e4 (0:00) e4 0";
 
-const TIMED: &str = "<12> rnbqkbnr pppppppp -------- -------- -------- -------- PPPPPPPP RNBQKBNR W -1 1 1 1 1 0 1 Ann Ben 2 2 12 39 39 120 120 1 none (0:00) none 0";
+const TIMED: &str =
+    "<12> rnbqkbnr pppppppp -------- -------- -------- -------- PPPPPPPP RNBQKBNR W -1 1 1 1 1 0 1 Ann Ben 2 2 12 39 39 120 120 1 none (0:00) none 0";
 
-const BOTH_PAWNS: &str = "<12> rnbqkbnr pppp-ppp -------- ----p--- ----P--- -------- PPPP-PPP RNBQKBNR W 4 1 1 1 1 0 1 Ann Ben 2 2 12 39 39 120 120 2 P/e7-e5 (0:00) e5 0";
+const BOTH_PAWNS: &str =
+    "<12> rnbqkbnr pppp-ppp -------- ----p--- ----P--- -------- PPPP-PPP RNBQKBNR W 4 1 1 1 1 0 1 Ann Ben 2 2 12 39 39 120 120 2 P/e7-e5 (0:00) e5 0";
 
-const CHARGED: &str = "<12> rnbqkbnr pppp-ppp -------- ----p--- ----P--- -----N-- PPPP-PPP RNBQKB-R B -1 1 1 1 1 1 1 Ann Ben 2 2 12 39 39 128 120 2 N/g1-f3 (0:04) Nf3 0";
+const CHARGED: &str =
+    "<12> rnbqkbnr pppp-ppp -------- ----p--- ----P--- -----N-- PPPP-PPP RNBQKB-R B -1 1 1 1 1 1 1 Ann Ben 2 2 12 39 39 128 120 2 N/g1-f3 (0:04) Nf3 0";
 
-const FREE: &str = "<12> rnbqkbnr pppp-ppp -------- ----p--- ----P--- -----N-- PPPP-PPP RNBQKB-R B -1 1 1 1 1 1 1 Ann Ben 2 2 12 39 39 120 120 2 N/g1-f3 (0:00) Nf3 0";
+const FREE: &str =
+    "<12> rnbqkbnr pppp-ppp -------- ----p--- ----P--- -----N-- PPPP-PPP RNBQKB-R B -1 1 1 1 1 1 1 Ann Ben 2 2 12 39 39 120 120 2 N/g1-f3 (0:00) Nf3 0";
 
-const BOTH_KNIGHTS: &str = "<12> r-bqkbnr pppp-ppp --n----- ----p--- ----P--- -----N-- PPPP-PPP RNBQKB-R W -1 1 1 1 1 2 1 Ann Ben 2 2 12 39 39 128 131 3 N/b8-c6 (0:00) Nc6 0";
+const BOTH_KNIGHTS: &str =
+    "<12> r-bqkbnr pppp-ppp --n----- ----p--- ----P--- -----N-- PPPP-PPP RNBQKB-R W -1 1 1 1 1 2 1 Ann Ben 2 2 12 39 39 128 131 3 N/b8-c6 (0:00) Nc6 0";
 
-const MATE: &str = "<12> rnb-kbnr pppp-ppp -------- ----p--- ------Pq -----P-- PPPPP--P RNBQKBNR W -1 1 1 1 1 1 1 Ann Ben 2 0 0 39 39 0 0 3 Q/d8-h4 (0:00) Qh4# 0";
+const MATE: &str =
+    "<12> rnb-kbnr pppp-ppp -------- ----p--- ------Pq -----P-- PPPPP--P RNBQKBNR W -1 1 1 1 1 1 1 Ann Ben 2 0 0 39 39 0 0 3 Q/d8-h4 (0:00) Qh4# 0";
 
-const QUEEN: &str = "<12> rnb-kbnr ppp-pppp -------- ---q---- -------- -------- PPPP-PPP RNBQKBNR W -1 1 1 1 1 0 1 Ann Ben 2 0 0 38 38 0 0 3 Q/d8-d5 (0:00) Qxd5 0";
+const QUEEN: &str =
+    "<12> rnb-kbnr ppp-pppp -------- ---q---- -------- -------- PPPP-PPP RNBQKBNR W -1 1 1 1 1 0 1 Ann Ben 2 0 0 38 38 0 0 3 Q/d8-d5 (0:00) Qxd5 0";
 
-const DROP: &str = "<12> rnb-kbnr ppp-pppp -------- ---q---- ----P--- -------- PPPP-PPP RNBQKBNR B -1 1 1 1 1 0 1 Ann Ben 2 0 0 39 38 0 0 3 P/@@-e4 (0:00) P@e4 0";
+const DROP: &str =
+    "<12> rnb-kbnr ppp-pppp -------- ---q---- ----P--- -------- PPPP-PPP RNBQKBNR B -1 1 1 1 1 0 1 Ann Ben 2 0 0 39 38 0 0 3 P/@@-e4 (0:00) P@e4 0";
 
-const SECOND: &str = "<12> rnbqkbnr pppppppp -------- -------- ---P---- -------- PPP-PPPP RNBQKBNR B 3 1 1 1 1 0 2 Cat Dan 2 0 0 39 39 0 0 1 P/d2-d4 (0:00) d4 0";
+const SECOND: &str =
+    "<12> rnbqkbnr pppppppp -------- -------- ---P---- -------- PPP-PPPP RNBQKBNR B 3 1 1 1 1 0 2 Cat Dan 2 0 0 39 39 0 0 1 P/d2-d4 (0:00) d4 0";
 
-const TAKEN: &str = "<12> rnbqkbnr ppp-pppp -------- ---P---- -------- -------- PPPP-PPP RNBQKBNR B -1 1 1 1 1 0 1 Ann Ben 2 0 0 39 38 0 0 2 P/e4-d5 (0:00) exd5 0";
+const TAKEN: &str =
+    "<12> rnbqkbnr ppp-pppp -------- ---P---- -------- -------- PPPP-PPP RNBQKBNR B -1 1 1 1 1 0 1 Ann Ben 2 0 0 39 38 0 0 2 P/e4-d5 (0:00) exd5 0";
 
-const ROUND: &str = "<12> rnbqkbnr pppppppp -------- -------- -------- -------- PPPPPPPP RNBQKBNR W -1 1 1 1 1 1200 1 Ann Ben 2 0 0 39 39 0 0 601 N/f6-g8 (0:00) Ng8 0";
+const ROUND: &str =
+    "<12> rnbqkbnr pppppppp -------- -------- -------- -------- PPPPPPPP RNBQKBNR W -1 1 1 1 1 1200 1 Ann Ben 2 0 0 39 39 0 0 601 N/f6-g8 (0:00) Ng8 0";
 
 const NO_HANDS: &str = "<b1> game 1 white [] black []";
 
@@ -82,10 +95,19 @@ const EVENINGS: &[(&str, Evening)] = &[
             1,
             &[],
             0,
-            &[START, "> forward", PAWN, "> back 2", "refused 58 NoEarlierMoves"],
+            &[
+                START,
+                "> forward",
+                PAWN,
+                "> back 2",
+                "refused 58 NoEarlierMoves",
+            ],
         ),
     ),
-    ("no such game", Evening(ANN_AND_BEN, 2, &[], 10, &["no such game"])),
+    (
+        "no such game",
+        Evening(ANN_AND_BEN, 2, &[], 10, &["no such game"]),
+    ),
     (
         "nothing is read behind a fault of the first write",
         Evening(ANN_AND_BEN, 1, &[0], 3, &["> forward"]),
@@ -97,12 +119,26 @@ const EVENINGS: &[(&str, Evening)] = &[
             1,
             &[],
             7,
-            &[START, "> ", "> forward", PAWN, "> ", "> forward 0", "bad line 4"],
+            &[
+                START,
+                "> ",
+                "> forward",
+                PAWN,
+                "> ",
+                "> forward 0",
+                "bad line 4",
+            ],
         ),
     ),
     (
         "a number that is too great",
-        Evening(ANN_AND_BEN, 1, &[], 7, &[START, "> back 2401", "bad line 1"]),
+        Evening(
+            ANN_AND_BEN,
+            1,
+            &[],
+            7,
+            &[START, "> back 2401", "bad line 1"],
+        ),
     ),
     (
         "played on, and back at the stored game",
@@ -212,7 +248,13 @@ const EVENINGS: &[(&str, Evening)] = &[
             1,
             &[],
             0,
-            &[START, "> forward 1200", ROUND, "> e2e4", "refused 12 TooManyMoves"],
+            &[
+                START,
+                "> forward 1200",
+                ROUND,
+                "> e2e4",
+                "refused 12 TooManyMoves",
+            ],
         ),
     ),
 ];

@@ -67,7 +67,8 @@ fn first_otherwise(alloc: Global, mut exam: Exam) -> Result<Option<usize>, NoMem
     Ok(Some(STEPS.len()))
 }
 
-const START: &str = "<12> rnbqkbnr pppppppp -------- -------- -------- -------- PPPPPPPP RNBQKBNR W -1 1 1 1 1 0 1 Ann Ben 2 0 0 39 39 0 0 1 none (0:00) none 0";
+const START: &str =
+    "<12> rnbqkbnr pppppppp -------- -------- -------- -------- PPPPPPPP RNBQKBNR W -1 1 1 1 1 0 1 Ann Ben 2 0 0 39 39 0 0 1 none (0:00) none 0";
 
 /// Opens the longest game, and makes the steps.
 fn first_wrong(alloc: Global) -> Result<Option<usize>, NoMemory> {

@@ -43,8 +43,8 @@ fn spelled(alloc: Global, game: StoredGame) -> Result<Vec<u8>, NoMemory> {
     Ok(Vec::from_slice(alloc, record.as_slice())?)
 }
 
-/// A keeper that has the record under the number 1; whether it was put there.
-fn stored(alloc: Global, keeper: &mut MemKeeper, stored: Stored) -> Result<bool, NoMemory> {
+/// Puts the record under the number 1; whether it stands there then.
+fn has_put(alloc: Global, keeper: &mut MemKeeper, stored: Stored) -> Result<bool, NoMemory> {
     let record = record_of(alloc, stored)?;
     let key = game_key(alloc, 1)?;
     Ok(matches!(keeper.put(key.as_slice(), record.as_slice()), Kept::Done))
@@ -92,7 +92,7 @@ fn ran(
 /// Whether an evening goes as it says.
 pub fn goes_so(alloc: Global, evening: &Evening) -> Result<bool, NoMemory> {
     let mut keeper = MemKeeper::new(alloc, Vec::new(alloc));
-    if !stored(alloc, &mut keeper, evening.0)? {
+    if !has_put(alloc, &mut keeper, evening.0)? {
         return Ok(false);
     }
     let (status, written) = ran(alloc, evening, &mut keeper)?;

@@ -3,7 +3,7 @@ use Rattle.examine_command.proofs.answering.answer_exam.Goals as goal
 
 pub returns-in-Err-clause-ends : goal.returns-in-Err-clause-ends
 returns-in-Err-clause-ends g c =
-    not_shown c.args.exam (g.S.Source.left c.args.source.now) (g.K.Sink.written c.args.sink.now) (g.K.Sink.written c.show.new.sink) c.in-Err.end c.in-Err.ensures.sent
+    not_shown (Unit {0}) c.args.exam (g.S.Source.left c.args.source.now) (g.K.Sink.written c.args.sink.now) (g.K.Sink.written c.show.new.sink) c.in-Err.end c.in-Err.ensures.sent
 
 pub returns-clause-ends : goal.returns-clause-ends
 returns-clause-ends g c =
