@@ -1,17 +1,16 @@
 -- How `examine` ends, by what became of the store, of its game and of the lines.
-use Rattle.std.proofs.Common.{◌≡◌, ℕ, ◌<◌, ◌^◌, List, [], ◌++◌, Option, Some, None, Ok, Err, refl, sym, ap, subst, ◌∙◌, inl, inr}
+use Rattle.std.proofs.Common.{◌≡◌, ℕ, ◌<◌, ◌^◌, List, [], Option, Some, None, Err, refl, inl, inr}
 use Rattle.std.specs.Prelude.{IfSome}
 use Rattle.std.specs.Io.KnownBytes.{Appends}
 use Rattle.std.proofs.KnownBytes.{Appends-nil, Appends-trans}
 use Rattle.edge_traits.specs.Pairs.{Table}
-use Rattle.edge_traits.specs.Sink.{AppendsFront}
 use Rattle.game_records.specs.declared.stored_game.StoredGame.{StoredGame}
 use Rattle.game_shelf.specs.Numbers.{stored_game}
 use Rattle.line_answers.specs.LineCommandEnds.{LineCommandEnds}
 use Rattle.line_answers.specs.Reading.{AfterSend}
 use Rattle.line_answers.specs.declared.end.End.{End}
 use Rattle.line_answers.specs.declared.end.End.TheVariants.{Done, ReadFault, WriteFault, Memory, BadLine, Spent}
-use Rattle.line_answers.proofs.Sending.{AppendsFront-all, AppendsFront-behind}
+use Rattle.line_answers.proofs.Sending.{AppendsFront-behind}
 use Rattle.lobby_load.specs.BadRows.{IsGoodStore}
 use Rattle.lobby_load.specs.Loaded.{AreSpelled, HasLoaded}
 use Rattle.lobby_load.specs.Telling.{Tells, WroteFront, bad_record_line}
@@ -23,7 +22,7 @@ use Rattle.store_ends.specs.declared.outcome.Outcome.{Outcome}
 use Rattle.store_ends.specs.declared.outcome.Outcome.TheVariants as outcome
 use Rattle.store_ends.specs.Outcomes.{outcome_of}
 use Rattle.examine_board.specs.Exam.{ExamState, opened}
-use Rattle.examine_command.specs.ExamineEnds.{AnswersFrom, AreAnswered, ExamineEnds, ExaminesFound, ExaminesGame, ExaminesIn, HasNone, IsCutOff, IsCutOffFirst, IsDueFirst, IsExamined, IsGameOf, TellsNone, no_such_game}
+use Rattle.examine_command.specs.ExamineEnds.{AnswersFrom, AreAnswered, ExamineEnds, ExaminesFound, ExaminesGame, ExaminesIn, HasNone, IsCutOff, IsCutOffFirst, IsGameOf, TellsNone, no_such_game}
 use Rattle.examine_command.specs.Texts.{examine_lines, shown_text}
 use Rattle.examine_command.proofs.Stored.{found_is, none_is}
 

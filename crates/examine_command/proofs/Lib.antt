@@ -2,4 +2,5 @@ pub mod Counts
 pub mod Cuts
 pub mod Ending
 pub mod LineAnswers
+pub mod OneGame
 pub mod Stored

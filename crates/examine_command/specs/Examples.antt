@@ -1,10 +1,10 @@
 -- Lines that are written out.
-use Rattle.std.specs.Prelude.{◌≡◌, codes, Some, None, refl}
+use Rattle.std.specs.Prelude.{◌≡◌, codes, Some, refl}
 use Rattle.std.specs.Fmt.{digits}
 use Rattle.fics_words.specs.declared.refusal.Refusal.TheVariants.{NoEarlierMoves}
 use Rattle.examine_command.specs.Lines.{reading}
 use Rattle.examine_command.specs.Texts.{refusal_text}
-use Rattle.examine_command.specs.declared.line.ExamLine.TheVariants.{Forward, Back, Revert}
+use Rattle.examine_command.specs.declared.line.ExamLine.TheVariants.{Forward, Revert}
 
 one_forward : reading (codes "forward") ≡ Some (Forward 1)
 one_forward = refl

@@ -2,4 +2,5 @@
 pub mod ExamineEnds
 pub mod Examples
 pub mod Lines
+pub mod OneGame
 pub mod Texts

@@ -8,8 +8,10 @@
 
 mod answering;
 mod examining;
+mod laws;
 mod line;
 mod reading;
 mod texts;
 
 pub use examining::examine;
+pub use laws::a_store_has_one_game_of_a_number;
