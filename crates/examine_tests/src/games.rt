@@ -55,15 +55,6 @@ fn charge_of(word: &[u8]) -> Option<Charge> {
     })
 }
 
-fn half_of(word: &str) -> Half {
-    let word = word.as_bytes();
-    Half {
-        board: at(word, 0).wrapping_sub(b'0'),
-        what: move_of(word),
-        charge: charge_of(word),
-    }
-}
-
 fn names_of(alloc: Global, names: &[&[u8]]) -> Result<Listed<Handle>, NoMemory> {
     let mut handles = Listed::new(alloc);
     for name in names {
@@ -74,12 +65,31 @@ fn names_of(alloc: Global, names: &[&[u8]]) -> Result<Listed<Handle>, NoMemory> 
     Ok(handles)
 }
 
+/// Adds the half-move of a word behind the others.
+fn add_half(halves: &mut Listed<Half>, word: &str) -> Result<(), NoMemory> {
+    let word = word.as_bytes();
+    let what = move_of(word);
+    let charge = charge_of(word);
+    halves.push(Half {
+        board: at(word, 0).wrapping_sub(b'0'),
+        what,
+        charge,
+    })?;
+    Ok(())
+}
+
+/// Adds the half-moves of a row behind the others.
+fn add_halves(halves: &mut Listed<Half>, words: Halves) -> Result<(), NoMemory> {
+    for word in words {
+        add_half(halves, word)?;
+    }
+    Ok(())
+}
+
 fn halves_of(alloc: Global, words: Halves, times: u16) -> Result<Listed<Half>, NoMemory> {
     let mut halves = Listed::new(alloc);
     for _time in 0..times {
-        for word in words {
-            halves.push(half_of(word))?;
-        }
+        add_halves(&mut halves, words)?;
     }
     Ok(halves)
 }
