@@ -193,7 +193,7 @@ const CALLS: &[Row] = &[
     ),
     Row(&["demo", "07"], b"e2e4\n", 1, &[], &[], 1, &[USAGE]),
     Row(
-        &["check", "--store", "x"],
+        &["check", "--port", "1"],
         b"e2e4\n",
         1,
         &[],
