@@ -11,9 +11,9 @@ import tempfile
 
 from house import Client, Server, settles, tell
 
-# so many accounts, of which each takes some hundred bytes of the file
+# so many accounts, of which each takes some kilobytes of the log beside the file, which begins with 260 KiB
 ACCOUNTS = 400
-LIMIT = 20 * 1024
+LIMIT = 512 * 1024
 
 
 def small_files():
