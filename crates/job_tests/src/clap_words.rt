@@ -28,9 +28,11 @@ pub(crate) fn clap_reading(alloc: Global, words: &[String]) -> Result<String, Fa
                 let number = options.get_str("number").ok_or("a number")?;
                 return Ok(format!(in alloc; "demo {number}")?);
             }
-            if name == "check" || name == "pgn" {
-                let store = options.get_str("store").ok_or("a store")?;
-                return Ok(format!(in alloc; "{name} {store}")?);
+            if name == "check" {
+                return check_text(alloc, options);
+            }
+            if name == "pgn" {
+                return pgn_text(alloc, options);
             }
             if name == "examine" {
                 return examine_text(alloc, options);
@@ -48,6 +50,18 @@ fn serve_text(alloc: Global, options: &ArgMatches<'_>) -> Result<String, Fail> {
     let store = options.get_str("store").unwrap_or("-");
     let count = options.get_str("count").unwrap_or("-");
     Ok(format!(in alloc; "serve {port} {bind} {store} {count}")?)
+}
+
+/// What the options of `check` say.
+fn check_text(alloc: Global, options: &ArgMatches<'_>) -> Result<String, Fail> {
+    let store = options.get_str("store").ok_or("a store")?;
+    Ok(format!(in alloc; "check {store}")?)
+}
+
+/// What the options of `pgn` say.
+fn pgn_text(alloc: Global, options: &ArgMatches<'_>) -> Result<String, Fail> {
+    let store = options.get_str("store").ok_or("a store")?;
+    Ok(format!(in alloc; "pgn {store}")?)
 }
 
 /// What the options of `examine` say.
