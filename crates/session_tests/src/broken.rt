@@ -30,125 +30,71 @@ const MOMENT: u32 = 5_000;
 /// More acts than Ann makes.
 const NEVER: u32 = 1_000;
 
-/// Ann takes Ben's seek and moves.
+/// Ann makes an account, takes Ben's seek, and moves.
 const MOVES: &[Gives] = &[
     Gives::Piece(b"Ann\n"),
+    Gives::Piece(b"register abc\n"),
     Gives::Piece(b"play 1\n"),
     Gives::Piece(b"e4\n"),
 ];
 
+/// And quits.
 const QUITS: &[Gives] = &[
     Gives::Piece(b"Ann\n"),
+    Gives::Piece(b"register abc\n"),
     Gives::Piece(b"play 1\n"),
     Gives::Piece(b"e4\n"),
     Gives::Piece(b"quit\n"),
 ];
 
+/// Or pauses.
 const PAUSES: &[Gives] = &[
     Gives::Piece(b"Ann\n"),
+    Gives::Piece(b"register abc\n"),
     Gives::Piece(b"play 1\n"),
     Gives::Piece(b"e4\n"),
     Gives::Pause,
 ];
 
+/// What Ben says before Ann comes, and how the game ends that she leaves.
+struct Game(&'static [&'static [u8]], Option<Ended>);
+
+/// Where Ben has no account, White has lost the game by leaving it.
+const LOST: Game = Game(
+    &[b"seek 2 12 black"],
+    Some(Ended {
+        why: Why::Left,
+        board: 1,
+        winner: Some(Colour::Black),
+    }),
+);
+
+/// Where both have accounts, nobody has won.
+const ADJOURNED: Game = Game(
+    &[b"register abc", b"seek 2 12 black"],
+    Some(Ended {
+        why: Why::Adjourned,
+        board: 1,
+        winner: None,
+    }),
+);
+
 /// What the link gives; the call of it that fails, if one does; and how many acts are made before one that runs out of
 /// memory.
 struct Course(&'static [Gives], &'static [u64], u32);
 
-/// How a course ends, and the acts that Ann's session has made.
-struct Outcome(LinkEnd, &'static [Asked]);
+/// How the link ends, and how many acts Ann's session made before those of leaving.
+struct Outcome(LinkEnd, usize);
 
 /// What comes from Ben then; what his session writes for that by itself, and for what he is told.
 struct Next(Comes, &'static [u8], &'static [u8]);
 
-/// Ann enters, plays, and moves; and leaves.
-const MOVED_AND_LEFT: &[Asked] = &[
+/// The acts of Ann's session while she plays: she enters; registers, takes the seek, moves and pauses, each with what is
+/// new then.
+const PLAYING: &[Asked] = &[
     Asked::Other,
     Asked::Other,
     Asked::Lines,
-    Asked::News,
-    Asked::Where,
-    Asked::Move,
-    Asked::Lines,
-    Asked::News,
-    Asked::Going,
-    Asked::Leave,
-    Asked::Clear,
-    Asked::Bye,
-];
-
-/// The same where the act behind so many others ran out of memory.
-const SHORT_OF_2: &[Asked] = &[
-    Asked::Other,
-    Asked::Other,
-    Asked::Going,
-    Asked::Leave,
-    Asked::Clear,
-    Asked::Bye,
-];
-
-const SHORT_OF_3: &[Asked] = &[
-    Asked::Other,
-    Asked::Other,
-    Asked::Lines,
-    Asked::Going,
-    Asked::Leave,
-    Asked::Clear,
-    Asked::Bye,
-];
-
-const SHORT_OF_4: &[Asked] = &[
-    Asked::Other,
-    Asked::Other,
-    Asked::Lines,
-    Asked::News,
-    Asked::Going,
-    Asked::Leave,
-    Asked::Clear,
-    Asked::Bye,
-];
-
-const SHORT_OF_5: &[Asked] = &[
-    Asked::Other,
-    Asked::Other,
-    Asked::Lines,
-    Asked::News,
-    Asked::Where,
-    Asked::Going,
-    Asked::Leave,
-    Asked::Clear,
-    Asked::Bye,
-];
-
-const SHORT_OF_6: &[Asked] = &[
-    Asked::Other,
-    Asked::Other,
-    Asked::Lines,
-    Asked::News,
-    Asked::Where,
-    Asked::Move,
-    Asked::Going,
-    Asked::Leave,
-    Asked::Clear,
-    Asked::Bye,
-];
-
-const SHORT_OF_7: &[Asked] = &[
-    Asked::Other,
-    Asked::Other,
-    Asked::Lines,
-    Asked::News,
-    Asked::Where,
-    Asked::Move,
-    Asked::Lines,
-    Asked::Going,
-    Asked::Leave,
-    Asked::Clear,
-    Asked::Bye,
-];
-
-const SHORT_OF_9: &[Asked] = &[
-    Asked::Other,
     Asked::Other,
     Asked::Lines,
     Asked::News,
@@ -157,92 +103,149 @@ const SHORT_OF_9: &[Asked] = &[
     Asked::Lines,
     Asked::News,
     Asked::Lines,
-    Asked::Going,
-    Asked::Leave,
-    Asked::Clear,
-    Asked::Bye,
+    Asked::News,
 ];
+
+/// And when it leaves.
+const LEAVING: &[Asked] = &[Asked::Going, Asked::Leave, Asked::Clear, Asked::Bye];
 
 /// What Ben is told of the game, where Ann has moved.
-const MOVED: &[u8] = b"{Game 1 (Ann vs. Ben) Creating 2 12 chess match.}\n\r<12> rnbqkbnr pppppppp -------- -------- -------- -------- PPPPPPPP RNBQKBNR W -1 1 1 1 1 0 1 Ann Ben -1 2 12 39 39 120 120 1 none (0:00) none 1\n\r<12> rnbqkbnr pppppppp -------- -------- ----P--- -------- PPPP-PPP RNBQKBNR B 4 1 1 1 1 0 1 Ann Ben 1 2 12 39 39 120 120 1 P/e2-e4 (0:00) e4 1\n\r{Game 1 (Ann vs. Ben) Ann forfeits by disconnection} 0-1\n\rfics% ";
+const MOVED: &[u8] = b"{Game 1 (Ann vs. Ben) Creating 2 12 chess match.}\n\r\
+      <12> rnbqkbnr pppppppp -------- -------- -------- -------- PPPPPPPP RNBQKBNR W -1 1 1 1 1 0 1 \
+      Ann Ben -1 2 12 39 39 120 120 1 none (0:00) none 1\n\r\
+      <12> rnbqkbnr pppppppp -------- -------- ----P--- -------- PPPP-PPP RNBQKBNR B 4 1 1 1 1 0 1 \
+      Ann Ben 1 2 12 39 39 120 120 1 P/e2-e4 (0:00) e4 1\n\r\
+      {Game 1 (Ann vs. Ben) Ann forfeits by disconnection} 0-1\n\r\
+      fics% ";
 
 /// And where she hasn't.
-const UNMOVED: &[u8] = b"{Game 1 (Ann vs. Ben) Creating 2 12 chess match.}\n\r<12> rnbqkbnr pppppppp -------- -------- -------- -------- PPPPPPPP RNBQKBNR W -1 1 1 1 1 0 1 Ann Ben -1 2 12 39 39 120 120 1 none (0:00) none 1\n\r{Game 1 (Ann vs. Ben) Ann forfeits by disconnection} 0-1\n\rfics% ";
+const UNMOVED: &[u8] = b"{Game 1 (Ann vs. Ben) Creating 2 12 chess match.}\n\r\
+      <12> rnbqkbnr pppppppp -------- -------- -------- -------- PPPPPPPP RNBQKBNR W -1 1 1 1 1 0 1 \
+      Ann Ben -1 2 12 39 39 120 120 1 none (0:00) none 1\n\r\
+      {Game 1 (Ann vs. Ben) Ann forfeits by disconnection} 0-1\n\r\
+      fics% ";
 
-/// The opening of the link is call 0 of it, and the answer to the third line, which is the move, call 6.
-const ROWS: &[(Course, Outcome, Next)] = &[
-    (
-        Course(MOVES, &[7], NEVER),
-        Outcome(LinkEnd::ReadFault, MOVED_AND_LEFT),
+/// And where she has, and the game waits for her.
+const WAITS: &[u8] = b"{Game 1 (Ann vs. Ben) Creating 2 12 chess match.}\n\r\
+      <12> rnbqkbnr pppppppp -------- -------- -------- -------- PPPPPPPP RNBQKBNR W -1 1 1 1 1 0 1 \
+      Ann Ben -1 2 12 39 39 120 120 1 none (0:00) none 1\n\r\
+      <12> rnbqkbnr pppppppp -------- -------- ----P--- -------- PPPP-PPP RNBQKBNR B 4 1 1 1 1 0 1 \
+      Ann Ben 1 2 12 39 39 120 120 1 P/e2-e4 (0:00) e4 1\n\r\
+      {Game 1 (Ann vs. Ben) adjourned} *\n\r\
+      fics% ";
+
+/// A game, how it is broken off, and what comes then.
+struct Row(Game, Course, Outcome, Next);
+
+/// The opening is call 0 of the link, the answer to Ann's fourth line, which is the move, is call 8.
+const ROWS: &[Row] = &[
+    Row(
+        LOST,
+        Course(MOVES, &[9], NEVER),
+        Outcome(LinkEnd::ReadFault, 10),
         Next(Comes::Quiet, b"\n\r", MOVED),
     ),
-    (
-        Course(MOVES, &[6], NEVER),
-        Outcome(LinkEnd::WriteFault, MOVED_AND_LEFT),
+    Row(
+        LOST,
+        Course(MOVES, &[8], NEVER),
+        Outcome(LinkEnd::WriteFault, 10),
         Next(Comes::Line(b""), b"", MOVED),
     ),
-    (
+    Row(
+        LOST,
         Course(MOVES, &[], NEVER),
-        Outcome(LinkEnd::End, MOVED_AND_LEFT),
+        Outcome(LinkEnd::End, 10),
         Next(Comes::Line(b"who"), b"Ben\n\r", MOVED),
     ),
-    (
+    Row(
+        LOST,
         Course(QUITS, &[], NEVER),
-        Outcome(LinkEnd::Quit, MOVED_AND_LEFT),
+        Outcome(LinkEnd::Quit, 10),
         Next(
             Comes::Line(b"tell ann hi"),
             b"refused 32 NoSuchPlayer\n\r",
             MOVED,
         ),
     ),
-    (
-        Course(MOVES, &[], 2),
-        Outcome(LinkEnd::Memory, SHORT_OF_2),
-        Next(Comes::Quiet, b"\n\r", UNMOVED),
-    ),
-    (
-        Course(MOVES, &[], 3),
-        Outcome(LinkEnd::Memory, SHORT_OF_3),
-        Next(Comes::Quiet, b"\n\r", UNMOVED),
-    ),
-    (
+    Row(
+        LOST,
         Course(MOVES, &[], 4),
-        Outcome(LinkEnd::Memory, SHORT_OF_4),
+        Outcome(LinkEnd::Memory, 4),
         Next(Comes::Line(b"e5"), b"refused 10 GameOver\n\r", UNMOVED),
     ),
-    (
+    Row(
+        LOST,
         Course(MOVES, &[], 5),
-        Outcome(LinkEnd::Memory, SHORT_OF_5),
+        Outcome(LinkEnd::Memory, 5),
         Next(Comes::Quiet, b"\n\r", UNMOVED),
     ),
-    (
+    Row(
+        LOST,
         Course(MOVES, &[], 6),
-        Outcome(LinkEnd::Memory, SHORT_OF_6),
+        Outcome(LinkEnd::Memory, 6),
+        Next(Comes::Line(b"e5"), b"refused 10 GameOver\n\r", UNMOVED),
+    ),
+    Row(
+        LOST,
+        Course(MOVES, &[], 7),
+        Outcome(LinkEnd::Memory, 7),
+        Next(Comes::Quiet, b"\n\r", UNMOVED),
+    ),
+    Row(
+        LOST,
+        Course(MOVES, &[], 8),
+        Outcome(LinkEnd::Memory, 8),
         Next(Comes::Line(b"e5"), b"refused 10 GameOver\n\r", MOVED),
     ),
-    (
-        Course(MOVES, &[], 7),
-        Outcome(LinkEnd::Memory, SHORT_OF_7),
+    Row(
+        LOST,
+        Course(MOVES, &[], 9),
+        Outcome(LinkEnd::Memory, 9),
         Next(Comes::Quiet, b"\n\r", MOVED),
     ),
-    (
-        Course(PAUSES, &[], 8),
-        Outcome(LinkEnd::Memory, MOVED_AND_LEFT),
+    Row(
+        LOST,
+        Course(PAUSES, &[], 10),
+        Outcome(LinkEnd::Memory, 10),
         Next(Comes::Quiet, b"\n\r", MOVED),
     ),
-    (
-        Course(PAUSES, &[], 9),
-        Outcome(LinkEnd::Memory, SHORT_OF_9),
+    Row(
+        LOST,
+        Course(PAUSES, &[], 11),
+        Outcome(LinkEnd::Memory, 11),
         Next(Comes::Quiet, b"\n\r", MOVED),
+    ),
+    Row(
+        ADJOURNED,
+        Course(MOVES, &[9], NEVER),
+        Outcome(LinkEnd::ReadFault, 10),
+        Next(Comes::Quiet, b"\n\r", WAITS),
+    ),
+    Row(
+        ADJOURNED,
+        Course(MOVES, &[8], NEVER),
+        Outcome(LinkEnd::WriteFault, 10),
+        Next(Comes::Line(b"e5"), b"refused 10 GameOver\n\r", WAITS),
+    ),
+    Row(
+        ADJOURNED,
+        Course(MOVES, &[], NEVER),
+        Outcome(LinkEnd::End, 10),
+        Next(Comes::Quiet, b"\n\r", WAITS),
+    ),
+    Row(
+        ADJOURNED,
+        Course(QUITS, &[], NEVER),
+        Outcome(LinkEnd::Quit, 10),
+        Next(Comes::Quiet, b"\n\r", WAITS),
+    ),
+    Row(
+        ADJOURNED,
+        Course(MOVES, &[], 9),
+        Outcome(LinkEnd::Memory, 9),
+        Next(Comes::Quiet, b"\n\r", WAITS),
     ),
 ];
-
-/// Black has won, since White left.
-const LEFT: Option<Ended> = Some(Ended {
-    why: Why::Left,
-    board: 1,
-    winner: Some(Colour::Black),
-});
 
 /// How Ann's link ends.
 fn serves(alloc: Global, server: &mut OneServer, course: &Course) -> Result<LinkEnd, NoMemory> {
@@ -252,17 +255,33 @@ fn serves(alloc: Global, server: &mut OneServer, course: &Course) -> Result<Link
     Ok(serve_link(alloc, &mut seat, &mut link, &clock))
 }
 
-/// Whether Ann's session ends so, and has lost the game.
+/// So many of Ann's acts, and then those of leaving.
+fn acts_of(alloc: Global, playing: usize) -> Result<Vec<Asked>, NoMemory> {
+    let mut acts = Vec::new(alloc);
+    for asked in PLAYING.iter().take(playing) {
+        acts.push(*asked)?;
+    }
+    acts.extend_from_slice(LEAVING)?;
+    Ok(acts)
+}
+
+/// Whether Ann's session ends so, by these acts.
 fn is_broken(
     alloc: Global,
     server: &mut OneServer,
     course: &Course,
     outcome: &Outcome,
 ) -> Result<bool, Failure> {
+    let acts = acts_of(alloc, outcome.1)?;
     let start = made(server);
     let end = serves(alloc, server, course)?;
-    let acts = first_differing(server, start, ANN, MOMENT, outcome.1);
-    Ok(end == outcome.0 && acts.is_none() && server.desk(1).ended() == LEFT)
+    let differing = first_differing(server, start, ANN, MOMENT, acts.as_slice());
+    Ok(end == outcome.0 && differing.is_none())
+}
+
+/// Whether the game has ended so.
+fn has_ended(server: &OneServer, game: &Game) -> bool {
+    server.desk(1).ended() == game.1
 }
 
 /// Whether Ben's session writes this.
@@ -272,23 +291,23 @@ fn tells_ben(alloc: Global, server: &mut OneServer, next: &Next) -> Result<bool,
     Ok(text.len() == length && text.starts_with(next.1) && text.ends_with(next.2))
 }
 
-/// Whether another session comes in under Ann's name and plays the next game with Ben.
+/// Whether another session comes in under Ann's name, and hears what Ben tells it.
 fn goes_on(alloc: Global, server: &mut OneServer) -> Result<bool, Failure> {
     let mut session = Session::new(alloc);
     comes_in(alloc, server, &mut session)
 }
 
-fn comes_in(
-    alloc: Global,
-    server: &mut OneServer,
-    session: &mut Session,
-) -> Result<bool, Failure> {
-    let entered = answer(alloc, server, session, b"Ann")?;
+fn comes_in(alloc: Global, server: &mut OneServer, session: &mut Session) -> Result<bool, Failure> {
+    let asked = answer(alloc, server, session, b"Ann")?;
+    let entered = answer(alloc, server, session, b"abc")?;
     let told = takes(alloc, server, BEN, MOMENT, Comes::Line(b"tell ann hi"))?;
     let heard = answer(alloc, server, session, b"")?;
-    Ok(entered.as_slice() == b"Entered as Ann.\n\rfics% ".as_slice()
-        && told.as_slice() == b"(told 1)\n\rfics% ".as_slice()
-        && heard.as_slice() == b"Ben tells you: hi\n\rfics% ".as_slice())
+    Ok(
+        asked.as_slice() == b"password: ".as_slice()
+            && entered.as_slice() == b"Entered as Ann.\n\rfics% ".as_slice()
+            && told.as_slice() == b"(told 1)\n\rfics% ".as_slice()
+            && heard.as_slice() == b"Ben tells you: hi\n\rfics% ".as_slice(),
+    )
 }
 
 fn answer(
@@ -301,25 +320,26 @@ fn answer(
     answered(server, NEXT, session, MOMENT, input)
 }
 
-/// Ben comes in and seeks a game, with Black.
-fn seeks(alloc: Global, server: &mut OneServer) -> Result<(), Failure> {
+/// Ben comes in and says what he says before Ann comes.
+fn comes_first(alloc: Global, server: &mut OneServer, game: &Game) -> Result<(), Failure> {
     enter(server, BEN, handle(b"Ben")?)?;
-    let _text = takes(alloc, server, BEN, 0, Comes::Line(b"seek 2 12 black"))?;
+    for line in game.0 {
+        let _text = takes(alloc, server, BEN, 0, Comes::Line(line))?;
+    }
     Ok(())
 }
 
-fn holds(
-    alloc: Global,
-    server: &mut OneServer,
-    row: &(Course, Outcome, Next),
-) -> Result<bool, Failure> {
-    seeks(alloc, server)?;
-    Ok(is_broken(alloc, server, &row.0, &row.1)?
-        && tells_ben(alloc, server, &row.2)?
-        && goes_on(alloc, server)?)
+fn holds(alloc: Global, server: &mut OneServer, row: &Row) -> Result<bool, Failure> {
+    comes_first(alloc, server, &row.0)?;
+    Ok(
+        is_broken(alloc, server, &row.1, &row.2)?
+            && has_ended(server, &row.0)
+            && tells_ben(alloc, server, &row.3)?
+            && goes_on(alloc, server)?,
+    )
 }
 
-fn holds_anew(alloc: Global, row: &(Course, Outcome, Next)) -> Result<bool, Failure> {
+fn holds_anew(alloc: Global, row: &Row) -> Result<bool, Failure> {
     let mut server = server(alloc)?;
     holds(alloc, &mut server, row)
 }
@@ -335,7 +355,7 @@ fn first_wrong(alloc: Global) -> Result<Option<usize>, Failure> {
 }
 
 #[test]
-fn a_session_that_ends_in_a_game_loses_it(rt: HostRuntime) -> Result<(), Fail> {
+fn a_session_that_ends_in_a_game_leaves_it(rt: HostRuntime) -> Result<(), Fail> {
     assert_eq!(rt; first_wrong(rt.alloc())?, None);
     Ok(())
 }

@@ -1,5 +1,5 @@
-//! The calls of a player's link on one evening. A link is greeted first, and then each input is read and answered before
-//! the link is read again, so that its calls write and read in turns.
+//! The calls of a player's link on one evening. A link is greeted first, and then each input is read, and is answered
+//! before the link is read again: its calls write and read in turns.
 
 use fics_words::NoMemory;
 use link_core::LinkEnd;
@@ -21,9 +21,21 @@ const CALLS: &[Call] = &[
     Call::Reads,
     Call::Writes(b"Your seek is 1.\n\rfics% "),
     Call::Reads,
-    Call::Writes(b"{Game 1 (Alice vs. Bob) Creating 5 0 chess match.}\n\r<12> rnbqkbnr pppppppp -------- -------- -------- -------- PPPPPPPP RNBQKBNR W -1 1 1 1 1 0 1 Alice Bob 1 5 0 39 39 300 300 1 none (0:00) none 0\n\r<12> rnbqkbnr pppppppp -------- -------- ----P--- -------- PPPP-PPP RNBQKBNR B 4 1 1 1 1 0 1 Alice Bob -1 5 0 39 39 300 300 1 P/e2-e4 (0:00) e4 0\n\rfics% "),
+    Call::Writes(
+        b"{Game 1 (Alice vs. Bob) Creating 5 0 chess match.}\n\r\
+          <12> rnbqkbnr pppppppp -------- -------- -------- -------- PPPPPPPP RNBQKBNR W -1 1 1 1 1 0 1 \
+          Alice Bob 1 5 0 39 39 300 300 1 none (0:00) none 0\n\r\
+          <12> rnbqkbnr pppppppp -------- -------- ----P--- -------- PPPP-PPP RNBQKBNR B 4 1 1 1 1 0 1 \
+          Alice Bob -1 5 0 39 39 300 300 1 P/e2-e4 (0:00) e4 0\n\r\
+          fics% ",
+    ),
     Call::Reads,
-    Call::Writes(b"(told 1)\n\r<12> rnbqkbnr pppp-ppp -------- ----p--- ----P--- -------- PPPP-PPP RNBQKBNR W 4 1 1 1 1 0 1 Alice Bob 1 5 0 39 39 300 300 2 P/e7-e5 (0:00) e5 0\n\rfics% "),
+    Call::Writes(
+        b"(told 1)\n\r\
+          <12> rnbqkbnr pppp-ppp -------- ----p--- ----P--- -------- PPPP-PPP RNBQKBNR W 4 1 1 1 1 0 1 \
+          Alice Bob 1 5 0 39 39 300 300 2 P/e7-e5 (0:00) e5 0\n\r\
+          fics% ",
+    ),
     Call::Reads,
     Call::Writes(b"\n\r{Game 1 (Alice vs. Bob) Bob resigns} 1-0\n\rfics% "),
     Call::Reads,

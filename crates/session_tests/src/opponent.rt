@@ -1,12 +1,12 @@
 //! A seat beside which the opponent says lines of a script.
 
-ghost use Rattle.std.specs.Prelude.{◌≡◌};
-ghost use Rattle.histories.specs.History.{IsPrefix, calls_of};
+ghost use Rattle.session_core.specs.Inputs.{FitsInput};
+ghost use Rattle.session_tests.specs.Beside.{Beside};
 
 use crate::talks::{Comes, input_of};
 use fics_words::NoMemory;
 use one_server::{Act, OneServer, Reply, Runner};
-use session_core::Session;
+use session_core::{Input, Session, Wrote};
 use std::alloc::Global;
 
 /// The session of the player.
@@ -43,18 +43,6 @@ impl<'a> OpposedSeat<'a> {
             said: 0,
         }
     }
-
-    /// The line that is said before this moment, if one is.
-    fn next_before(&mut self, moment: u64) -> Option<Spoken>
-        ensures { self.new.server ≡ self.old.server }
-    {
-        let line = *self.lines.get(self.said)?;
-        if u64::from(line.0) >= moment {
-            return None;
-        }
-        self.said = self.said.wrapping_add(1);
-        Some(line)
-    }
 }
 
 impl Runner for OpposedSeat<'_> {
@@ -74,11 +62,21 @@ impl Runner for OpposedSeat<'_> {
     }
 
     fn run(&mut self, alloc: Global, moment: u64, act: Act) -> Result<Reply, NoMemory> {
-        if let Some(line) = self.next_before(moment) {
+        if let Some(line) = next_before(self.lines, &mut self.said, moment) {
             say(alloc, &mut *self.server, &mut self.opponent, line)?;
         }
         self.server.run(PLAYER, moment, act)
     }
+}
+
+/// The line that is said before this moment, if one is.
+fn next_before(lines: &[Spoken], said: &mut usize, moment: u64) -> Option<Spoken> {
+    let line = *lines.get(*said)?;
+    if u64::from(line.0) >= moment {
+        return None;
+    }
+    *said = said.wrapping_add(1);
+    Some(line)
 }
 
 /// The opponent says a line at the server.
@@ -88,13 +86,26 @@ fn say(
     opponent: &mut Session,
     line: Spoken,
 ) -> Result<(), NoMemory>
-    ensures opening { server.new.opening ≡ server.old.opening }
-    ensures begins { IsPrefix server.old.log server.new.log }
-    ensures others { calls_of 1 server.new.log ≡ calls_of 1 server.old.log }
+    ensures { Beside server.old server.new }
 {
+    // What is known of every server is known from here on.
+    let _history = server.history();
     let Ok(input) = input_of(alloc, Comes::Line(line.1)) else {
         return Err(NoMemory);
     };
-    let _wrote = opponent.take(&mut server.seat(OPPONENT), u64::from(line.0), input)?;
+    let _wrote = take(server, opponent, line.0, input)?;
     Ok(())
+}
+
+/// The opponent's session answers an input.
+fn take(
+    server: &mut OneServer,
+    opponent: &mut Session,
+    moment: u32,
+    input: Input,
+) -> Result<Wrote, NoMemory>
+    requires { FitsInput input }
+    ensures { Beside server.old server.new }
+{
+    opponent.take(&mut server.seat(OPPONENT), u64::from(moment), input)
 }

@@ -1,0 +1,94 @@
+-- What a session sees of the acts of another one, and of its own ones among them.
+use Rattle.std.proofs.Common.{◌≡◌, ℕ, Bool, true, false, cond, eqb, List, [], ◌∷◌, ◌++◌, refl, ap, sym, ◌∙◌, inl, inr, Ok, Err, Result, append-nil, ne_eqb, arith}
+use Rattle.std.proofs.lemmas.Bool.{eqb-true}
+use Rattle.std.proofs.lemmas.List.{append_cancel_left}
+use Rattle.std.specs.Result.{IfOk, OnErr}
+use Rattle.histories.specs.declared.entry.Entry.{Entry}
+use Rattle.histories.specs.History.{calls_of, entry, Legal}
+use Rattle.histories.proofs.Histories.{calls-append, calls_own, prefix_refl, prefix_trans}
+use Rattle.memory.specs.declared.NoMemory.{NoMemory}
+use Rattle.one_server.specs.declared.act.Timed.{Timed}
+use Rattle.one_server.specs.declared.part.Part.{Part}
+use Rattle.one_server.specs.declared.reply.Reply.{Reply}
+use Rattle.one_server.specs.House.{house}
+use Rattle.one_server.specs.Replies.{IsReply}
+use Rattle.one_server.specs.Running.{Log, Made, Ran, RunnerState}
+use Rattle.one_server.specs.Server.{ServerState, seat_state}
+use Rattle.session_core.specs.declared.input.Wrote.{Wrote}
+use Rattle.session_core.specs.Course.{Course}
+use Rattle.session_core.specs.Going.{Answered, Broke}
+use Rattle.session_core.specs.Memory.{MemoryState}
+use Rattle.session_tests.specs.Beside.{Beside}
+
+-- an entry of session 2 isn't one of session 1
+passed_by : (two : Bool) (e : Entry Timed Reply) (es : Log) → eqb e.session 2 ≡ two → calls_of 1 es ≡ [] → calls_of 1 (cond two (e ∷ es) es) ≡ []
+passed_by true e es is rec =
+    let at : e.session ≡ 2 = eqb-true e.session 2 is in
+    ap (λ (b : Bool). cond b (e ∷ calls_of 1 es) (calls_of 1 es)) (ne_eqb e.session 1 (λ one. omega arith)) ∙ rec
+passed_by false e es is rec = rec
+
+none_among : (es : Log) → calls_of 1 (calls_of 2 es) ≡ []
+none_among [] = refl
+none_among (e ∷ es) = passed_by (eqb e.session 2) e (calls_of 2 es) refl (none_among es)
+
+-- what session 2 made where it was by itself
+pub beside_made : (old new : ServerState) (entries : Log) → Made (seat_state 2 old) entries (seat_state 2 new) → Beside old new
+beside_made old new entries made =
+    let grew : new.log ≡ old.log ++ entries = made.only refl in
+    let more : calls_of 2 new.log ≡ calls_of 2 old.log ++ entries = made.more in
+    let own : calls_of 2 entries ≡ entries =
+    append_cancel_left (calls_of 2 old.log) (calls_of 2 entries) entries (sym (calls-append 2 old.log entries) ∙ (ap (calls_of 2) (sym grew) ∙ more)) in
+    let none : calls_of 1 entries ≡ [] = ap (calls_of 1) (sym own) ∙ none_among entries in
+    record {
+      opening = ap (λ (s : RunnerState). s.opening) made.same;
+      begins = made.begins;
+      legal = made.known.legal;
+      none = ap (calls_of 1) grew ∙ (calls-append 1 old.log entries ∙ (ap (λ (es : Log). calls_of 1 old.log ++ es) none ∙ append-nil (calls_of 1 old.log)));
+    }
+
+beside_broken : (course : Course) (moment : ℕ) (old new : ServerState) (before after : MemoryState) → Broke course moment (seat_state 2 old) before (seat_state 2 new) after → Beside old new
+beside_broken course moment old new before after (inl b) = beside_made old new b.entries b.grew
+beside_broken course moment old new before after (inr l) = beside_made old new l.part.entries l.part.grew
+
+-- session 2 has taken an input, or has run out of memory
+pub beside_taken : (result : Result Wrote NoMemory) (course : Course) (answer : List ℕ → List ℕ) (moment : ℕ) (old new : ServerState) (before after : MemoryState)
+    → IfOk result (λ wrote. Answered course answer moment (seat_state 2 old) [] (seat_state 2 new) wrote.bytes.items after)
+    → OnErr result (Broke course moment (seat_state 2 old) before (seat_state 2 new) after) → Beside old new
+beside_taken (Ok wrote) course answer moment old new before after a b = beside_made old new a.entries a.grew
+beside_taken (Err e) course answer moment old new before after a b = beside_broken course moment old new before after b
+
+pub beside_none : (server : ServerState) → Legal house server.opening server.log → Beside server server
+beside_none server legal = record { opening = refl; begins = prefix_refl server.log; legal = legal; none = refl }
+
+-- session 1, which isn't by itself
+abbrev pub opposed : ServerState → RunnerState
+opposed server = record (seat_state 1 server) { sole = false }
+
+-- it makes no act
+pub made_beside : (old new : ServerState) → Beside old new → Made (opposed old) [] (opposed new)
+made_beside old new b = record {
+  same = ap (λ (o : List Part). record (opposed new) { opening = o }) b.opening;
+  begins = b.begins;
+  known = record { legal = b.legal; own = refl };
+  more = b.none ∙ sym (append-nil (calls_of 1 old.log));
+  only = λ sole. absurd cc;
+}
+
+-- and an act of its own
+pub ran_beside : (old mid new : ServerState) (act : Timed) (reply : Reply) → Beside old mid → new ≡ record mid { log = mid.log ++ entry 1 act reply ∷ [] }
+    → Legal house new.opening new.log → IsReply reply → Ran (opposed old) act reply (opposed new)
+ran_beside old mid new act reply b is legal fits =
+    let log : new.log ≡ mid.log ++ entry 1 act reply ∷ [] = ap (λ (s : ServerState). s.log) is in
+    let others : mid.log ≡ old.log ++ b.begins.0 = sym b.begins.1 in
+    record {
+      grew = record {
+        same = ap (λ (o : List Part). record (opposed new) { opening = o }) (ap (λ (s : ServerState). s.opening) is ∙ b.opening);
+        begins = prefix_trans old.log mid.log new.log b.begins (entry 1 act reply ∷ [], sym log);
+        known = record { legal = legal; own = refl };
+        more = ap (calls_of 1) log ∙ (calls_own 1 mid.log (entry 1 act reply) refl ∙ ap (λ (es : Log). es ++ entry 1 act reply ∷ []) b.none);
+        only = λ sole. absurd cc;
+      };
+      others = b.begins.0;
+      ends = log ∙ ap (λ (es : Log). es ++ entry 1 act reply ∷ []) others;
+      fits = fits;
+    }
