@@ -1,5 +1,5 @@
 -- What a session sees of the acts of another one, and of its own ones among them.
-use Rattle.std.proofs.Common.{◌≡◌, ℕ, Bool, true, false, cond, eqb, List, [], ◌∷◌, ◌++◌, refl, ap, sym, ◌∙◌, inl, inr, Ok, Err, Result, append-nil, ne_eqb, arith}
+use Rattle.std.proofs.Common.{◌≡◌, ℕ, Bool, true, false, cond, eqb, List, [], ◌∷◌, ◌++◌, refl, ap, sym, subst, ◌∙◌, inl, inr, Ok, Err, Result, append-nil, ne_eqb, arith}
 use Rattle.std.proofs.lemmas.Bool.{eqb-true}
 use Rattle.std.proofs.lemmas.List.{append_cancel_left}
 use Rattle.std.specs.Result.{IfOk, OnErr}
@@ -12,39 +12,41 @@ use Rattle.one_server.specs.declared.part.Part.{Part}
 use Rattle.one_server.specs.declared.reply.Reply.{Reply}
 use Rattle.one_server.specs.House.{house}
 use Rattle.one_server.specs.Replies.{IsReply}
-use Rattle.one_server.specs.Running.{Log, Made, Ran, RunnerState}
+use Rattle.one_server.specs.Running.{Log, Made, Ran, RunnerState, Runs}
 use Rattle.one_server.specs.Server.{ServerState, seat_state}
 use Rattle.session_core.specs.declared.input.Wrote.{Wrote}
 use Rattle.session_core.specs.Course.{Course}
 use Rattle.session_core.specs.Going.{Answered, Broke}
 use Rattle.session_core.specs.Memory.{MemoryState}
-use Rattle.session_tests.specs.Beside.{Beside}
+use Rattle.session_tests.specs.Beside.{Beside, opposed}
 
--- an entry of session 2 isn't one of session 1
-passed_by : (two : Bool) (e : Entry Timed Reply) (es : Log) → eqb e.session 2 ≡ two → calls_of 1 es ≡ [] → calls_of 1 (cond two (e ∷ es) es) ≡ []
-passed_by true e es is rec =
-    let at : e.session ≡ 2 = eqb-true e.session 2 is in
-    ap (λ (b : Bool). cond b (e ∷ calls_of 1 es) (calls_of 1 es)) (ne_eqb e.session 1 (λ one. omega arith)) ∙ rec
-passed_by false e es is rec = rec
+module _ {A R : Type 0} where
+  -- an entry of session 2 isn't one of session 1
+  passed_by : (two : Bool) (e : Entry A R) (es : List (Entry A R)) → eqb e.session 2 ≡ two → calls_of 1 es ≡ [] → calls_of 1 (cond two (e ∷ es) es) ≡ []
+  passed_by true e es is rec =
+      let at : e.session ≡ 2 = eqb-true e.session 2 is in
+      ap (λ (b : Bool). cond b (e ∷ calls_of 1 es) (calls_of 1 es)) (ne_eqb e.session 1 (λ one. omega arith)) ∙ rec
+  passed_by false e es is rec = rec
 
-none_among : (es : Log) → calls_of 1 (calls_of 2 es) ≡ []
-none_among [] = refl
-none_among (e ∷ es) = passed_by (eqb e.session 2) e (calls_of 2 es) refl (none_among es)
+  none_among : (es : List (Entry A R)) → calls_of 1 (calls_of 2 es) ≡ []
+  none_among [] = refl
+  none_among (e ∷ es) = passed_by (eqb e.session 2) e (calls_of 2 es) refl (none_among es)
+
+  none_made : (old new entries : List (Entry A R)) → new ≡ old ++ entries → calls_of 2 new ≡ calls_of 2 old ++ entries → calls_of 1 new ≡ calls_of 1 old
+  none_made old new entries grew more =
+      let own : calls_of 2 entries ≡ entries =
+      append_cancel_left (calls_of 2 old) (calls_of 2 entries) entries (sym (calls-append 2 old entries) ∙ (ap (calls_of 2) (sym grew) ∙ more)) in
+      let none : calls_of 1 entries ≡ [] = ap (calls_of 1) (sym own) ∙ none_among entries in
+      ap (calls_of 1) grew ∙ (calls-append 1 old entries ∙ (ap (λ (es : List (Entry A R)). calls_of 1 old ++ es) none ∙ append-nil (calls_of 1 old)))
 
 -- what session 2 made where it was by itself
-pub beside_made : (old new : ServerState) (entries : Log) → Made (seat_state 2 old) entries (seat_state 2 new) → Beside old new
-beside_made old new entries made =
-    let grew : new.log ≡ old.log ++ entries = made.only refl in
-    let more : calls_of 2 new.log ≡ calls_of 2 old.log ++ entries = made.more in
-    let own : calls_of 2 entries ≡ entries =
-    append_cancel_left (calls_of 2 old.log) (calls_of 2 entries) entries (sym (calls-append 2 old.log entries) ∙ (ap (calls_of 2) (sym grew) ∙ more)) in
-    let none : calls_of 1 entries ≡ [] = ap (calls_of 1) (sym own) ∙ none_among entries in
-    record {
-      opening = ap (λ (s : RunnerState). s.opening) made.same;
-      begins = made.begins;
-      legal = made.known.legal;
-      none = ap (calls_of 1) grew ∙ (calls-append 1 old.log entries ∙ (ap (λ (es : Log). calls_of 1 old.log ++ es) none ∙ append-nil (calls_of 1 old.log)));
-    }
+beside_made : (old new : ServerState) (entries : Log) → Made (seat_state 2 old) entries (seat_state 2 new) → Beside old new
+beside_made old new entries made = record {
+  opening = ap (λ (s : RunnerState). s.opening) made.same;
+  begins = made.begins;
+  legal = made.known.legal;
+  none = none_made old.log new.log entries (made.only refl) made.more;
+}
 
 beside_broken : (course : Course) (moment : ℕ) (old new : ServerState) (before after : MemoryState) → Broke course moment (seat_state 2 old) before (seat_state 2 new) after → Beside old new
 beside_broken course moment old new before after (inl b) = beside_made old new b.entries b.grew
@@ -60,12 +62,8 @@ beside_taken (Err e) course answer moment old new before after a b = beside_brok
 pub beside_none : (server : ServerState) → Legal house server.opening server.log → Beside server server
 beside_none server legal = record { opening = refl; begins = prefix_refl server.log; legal = legal; none = refl }
 
--- session 1, which isn't by itself
-abbrev pub opposed : ServerState → RunnerState
-opposed server = record (seat_state 1 server) { sole = false }
-
--- it makes no act
-pub made_beside : (old new : ServerState) → Beside old new → Made (opposed old) [] (opposed new)
+-- session 1 makes no act
+made_beside : (old new : ServerState) → Beside old new → Made (opposed old) [] (opposed new)
 made_beside old new b = record {
   same = ap (λ (o : List Part). record (opposed new) { opening = o }) b.opening;
   begins = b.begins;
@@ -75,7 +73,7 @@ made_beside old new b = record {
 }
 
 -- and an act of its own
-pub ran_beside : (old mid new : ServerState) (act : Timed) (reply : Reply) → Beside old mid → new ≡ record mid { log = mid.log ++ entry 1 act reply ∷ [] }
+ran_beside : (old mid new : ServerState) (act : Timed) (reply : Reply) → Beside old mid → new ≡ record mid { log = mid.log ++ entry 1 act reply ∷ [] }
     → Legal house new.opening new.log → IsReply reply → Ran (opposed old) act reply (opposed new)
 ran_beside old mid new act reply b is legal fits =
     let log : new.log ≡ mid.log ++ entry 1 act reply ∷ [] = ap (λ (s : ServerState). s.log) is in
@@ -92,3 +90,10 @@ ran_beside old mid new act reply b is legal fits =
       ends = log ∙ ap (λ (es : Log). es ++ entry 1 act reply ∷ []) others;
       fits = fits;
     }
+
+-- an act that was answered, or ran out of memory
+pub runs_beside : (result : Result Reply NoMemory) (old mid new : ServerState) (act : Timed) → Beside old mid
+    → IfOk result (λ reply. new ≡ record mid { log = mid.log ++ entry 1 act reply ∷ [] }) → Legal house new.opening new.log → IfOk result IsReply → OnErr result (new ≡ mid)
+    → Runs (opposed old) act result (opposed new)
+runs_beside (Ok reply) old mid new act b is legal fits same = ran_beside old mid new act reply b is legal fits
+runs_beside (Err e) old mid new act b is legal fits same = made_beside old new (subst (Beside old) (sym same) b)

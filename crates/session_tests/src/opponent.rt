@@ -19,14 +19,66 @@ const OPPONENT: u32 = 2;
 #[derive(Clone, Copy)]
 pub struct Spoken(pub u32, pub &'static [u8]);
 
-/// The seat of session 1, at whose server session 2 says its lines at their moments: before an act of a later moment is
-/// made, the next one.
+/// The opponent: its session, what it says, and how many lines it has said.
+#[derive(Drop)]
+struct Opponent {
+    session: Session,
+    lines: &'static [Spoken],
+    said: usize,
+}
+
+impl Opponent {
+    /// Says the next line at the server, where its moment is before this one.
+    fn speak_before(
+        &mut self,
+        alloc: Global,
+        server: &mut OneServer,
+        moment: u64,
+    ) -> Result<(), NoMemory>
+        ensures { Beside server.old server.new }
+    {
+        // What is known of every server is known from here on.
+        let _history = server.history();
+        let Some(line) = next_before(self.lines, &mut self.said, moment) else {
+            return Ok(());
+        };
+        let Ok(input) = input_of(alloc, Comes::Line(line.1)) else {
+            return Err(NoMemory);
+        };
+        let _wrote = take(server, &mut self.session, line.0, input)?;
+        Ok(())
+    }
+}
+
+/// The next line, if it comes before this moment; it is said then.
+fn next_before(lines: &[Spoken], said: &mut usize, moment: u64) -> Option<Spoken> {
+    let line = *lines.get(*said)?;
+    if u64::from(line.0) >= moment {
+        return None;
+    }
+    *said = said.wrapping_add(1);
+    Some(line)
+}
+
+/// The opponent's session takes an input.
+fn take(
+    server: &mut OneServer,
+    session: &mut Session,
+    moment: u32,
+    input: Input,
+) -> Result<Wrote, NoMemory>
+    requires { FitsInput input }
+    ensures { Beside server.old server.new }
+{
+    session.take(&mut server.seat(OPPONENT), u64::from(moment), input)
+}
+
+/// The seat of session 1, at whose server session 2 says its lines: before each act the next one, if its moment comes
+/// before that of the act.
 #[derive(Drop)]
 pub struct OpposedSeat<'a> {
     server: &'a mut OneServer,
-    opponent: Session,
-    lines: &'static [Spoken],
-    said: usize,
+    opponent: Opponent,
 }
 
 impl<'a> OpposedSeat<'a> {
@@ -38,23 +90,24 @@ impl<'a> OpposedSeat<'a> {
     ) -> OpposedSeat<'a> {
         OpposedSeat {
             server,
-            opponent: Session::new(alloc),
-            lines,
-            said: 0,
+            opponent: Opponent {
+                session: Session::new(alloc),
+                lines,
+                said: 0,
+            },
         }
     }
 }
 
 impl Runner for OpposedSeat<'_> {
-    ghost use Rattle.std.specs.Prelude.{false};
     ghost use Rattle.std.specs.Borrow.{GName};
-    ghost use Rattle.one_server.specs.Server.{seat_state};
+    ghost use Rattle.session_tests.specs.Beside.{opposed};
 
     ghost Home = { GName };
 
     ghost home = { λ s. s.server.ghost_name };
 
-    ghost state = { λ s. record (seat_state 1 s.server.now) { sole = false } };
+    ghost state = { λ s. opposed s.server.now };
 
     fn session(&self) -> u32 {
         let _history = self.server.history();
@@ -62,50 +115,8 @@ impl Runner for OpposedSeat<'_> {
     }
 
     fn run(&mut self, alloc: Global, moment: u64, act: Act) -> Result<Reply, NoMemory> {
-        if let Some(line) = next_before(self.lines, &mut self.said, moment) {
-            say(alloc, &mut *self.server, &mut self.opponent, line)?;
-        }
+        self.opponent
+            .speak_before(alloc, &mut *self.server, moment)?;
         self.server.run(PLAYER, moment, act)
     }
-}
-
-/// The line that is said before this moment, if one is.
-fn next_before(lines: &[Spoken], said: &mut usize, moment: u64) -> Option<Spoken> {
-    let line = *lines.get(*said)?;
-    if u64::from(line.0) >= moment {
-        return None;
-    }
-    *said = said.wrapping_add(1);
-    Some(line)
-}
-
-/// The opponent says a line at the server.
-fn say(
-    alloc: Global,
-    server: &mut OneServer,
-    opponent: &mut Session,
-    line: Spoken,
-) -> Result<(), NoMemory>
-    ensures { Beside server.old server.new }
-{
-    // What is known of every server is known from here on.
-    let _history = server.history();
-    let Ok(input) = input_of(alloc, Comes::Line(line.1)) else {
-        return Err(NoMemory);
-    };
-    let _wrote = take(server, opponent, line.0, input)?;
-    Ok(())
-}
-
-/// The opponent's session answers an input.
-fn take(
-    server: &mut OneServer,
-    opponent: &mut Session,
-    moment: u32,
-    input: Input,
-) -> Result<Wrote, NoMemory>
-    requires { FitsInput input }
-    ensures { Beside server.old server.new }
-{
-    opponent.take(&mut server.seat(OPPONENT), u64::from(moment), input)
 }
