@@ -89,8 +89,8 @@ struct Outcome(LinkEnd, usize);
 /// What comes from Ben then; what his session writes for that by itself, and for what he is told.
 struct Next(Comes, &'static [u8], &'static [u8]);
 
-/// The acts of Ann's session while she plays. She enters; and she registers, takes the seek, moves and pauses, each with
-/// what is new.
+/// The acts of Ann's session while she plays. She enters; and she registers, takes the seek, moves and pauses, where
+/// each act is followed by the round.
 const PLAYING: &[Asked] = &[
     Asked::Other,
     Asked::Other,
