@@ -40,24 +40,27 @@ module _ {A R : Type 0} where
       ap (calls_of 1) grew ∙ (calls-append 1 old entries ∙ (ap (λ (es : List (Entry A R)). calls_of 1 old ++ es) none ∙ append-nil (calls_of 1 old)))
 
 -- what session 2 made where it was by itself
-beside_made : (old new : ServerState) (entries : Log) → Made (seat_state 2 old) entries (seat_state 2 new) → Beside old new
-beside_made old new entries made = record {
-  opening = ap (λ (s : RunnerState). s.opening) made.same;
-  begins = made.begins;
-  legal = made.known.legal;
-  none = none_made old.log new.log entries (made.only refl) made.more;
-}
-
-beside_broken : (course : Course) (moment : ℕ) (old new : ServerState) (before after : MemoryState) → Broke course moment (seat_state 2 old) before (seat_state 2 new) after → Beside old new
-beside_broken course moment old new before after (inl b) = beside_made old new b.entries b.grew
-beside_broken course moment old new before after (inr l) = beside_made old new l.part.entries l.part.grew
+beside_made : (number after : ℕ) (old new : ServerState) (entries : Log) → number ≡ 2 → Made (seat_state number old) entries (seat_state after new) → Beside old new
+beside_made number after old new entries two made =
+    let same : after ≡ 2 = ap (λ (s : RunnerState). s.number) made.same ∙ two in
+    record {
+      opening = ap (λ (s : RunnerState). s.opening) made.same;
+      begins = made.begins;
+      legal = made.known.legal;
+      none = none_made old.log new.log entries (made.only refl)
+          (ap (λ (k : ℕ). calls_of k new.log) (sym same) ∙ (made.more ∙ ap (λ (k : ℕ). calls_of k old.log ++ entries) two));
+    }
 
 -- session 2 has taken an input, or has run out of memory
-pub beside_taken : (result : Result Wrote NoMemory) (course : Course) (answer : List ℕ → List ℕ) (moment : ℕ) (old new : ServerState) (before after : MemoryState)
-    → IfOk result (λ wrote. Answered course answer moment (seat_state 2 old) [] (seat_state 2 new) wrote.bytes.items after)
-    → OnErr result (Broke course moment (seat_state 2 old) before (seat_state 2 new) after) → Beside old new
-beside_taken (Ok wrote) course answer moment old new before after a b = beside_made old new a.entries a.grew
-beside_taken (Err e) course answer moment old new before after a b = beside_broken course moment old new before after b
+pub beside_taken : (result : Result Wrote NoMemory) (course : Course) (answer : List ℕ → List ℕ) (moment number after : ℕ) (old start new : ServerState) (before now : MemoryState)
+    → number ≡ 2 → start ≡ old → IfOk result (λ wrote. Answered course answer moment (seat_state number start) [] (seat_state after new) wrote.bytes.items now)
+    → OnErr result (Broke course moment (seat_state number start) before (seat_state after new) now) → Beside old new
+beside_taken (Ok wrote) course answer moment number after old start new before now two is a b =
+    subst (λ (s : ServerState). Beside s new) is (beside_made number after start new a.entries two a.grew)
+beside_taken (Err e) course answer moment number after old start new before now two is a (inl b) =
+    subst (λ (s : ServerState). Beside s new) is (beside_made number after start new b.entries two b.grew)
+beside_taken (Err e) course answer moment number after old start new before now two is a (inr l) =
+    subst (λ (s : ServerState). Beside s new) is (beside_made number after start new l.part.entries two l.part.grew)
 
 pub beside_none : (server : ServerState) → Legal house server.opening server.log → Beside server server
 beside_none server legal = record { opening = refl; begins = prefix_refl server.log; legal = legal; none = refl }
