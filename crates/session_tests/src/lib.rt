@@ -8,7 +8,13 @@
 #[cfg(test)]
 mod acts;
 #[cfg(test)]
+mod broken;
+#[cfg(test)]
+mod calls;
+#[cfg(test)]
 mod evenings;
+#[cfg(test)]
+mod faults;
 #[cfg(test)]
 mod forty_guests;
 #[cfg(test)]
@@ -19,6 +25,10 @@ mod links;
 mod logins;
 #[cfg(test)]
 mod offers;
+#[cfg(test)]
+mod opponent;
+#[cfg(test)]
+mod script_clock;
 #[cfg(test)]
 mod short;
 #[cfg(test)]

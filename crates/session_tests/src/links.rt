@@ -26,7 +26,7 @@ const LONG: &[u8] =
 const LETTERS: [u8; 1_023] = [b'x'; 1_023];
 
 /// What a link gives: a piece of bytes, or a pause.
-enum Gives {
+pub enum Gives {
     Piece(&'static [u8]),
     Pause,
 }
@@ -130,7 +130,8 @@ fn serves(alloc: Global, row: &Row) -> Result<bool, Failure> {
     Ok(end == row.2 && link.written() == row.3)
 }
 
-fn link_of(alloc: Global, steps: &[Gives], fails: &[u64]) -> Result<MemLink, NoMemory> {
+/// A link that gives this, and whose calls of these numbers fail.
+pub fn link_of(alloc: Global, steps: &[Gives], fails: &[u64]) -> Result<MemLink, NoMemory> {
     let mut given = Vec::new(alloc);
     for step in steps {
         match step {
