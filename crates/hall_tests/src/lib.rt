@@ -13,7 +13,17 @@ mod gates;
 #[cfg(test)]
 mod halls;
 #[cfg(test)]
+mod held;
+#[cfg(test)]
+mod others;
+#[cfg(test)]
+mod parts;
+#[cfg(test)]
+mod passes;
+#[cfg(test)]
 mod replies;
+#[cfg(test)]
+mod schedules;
 #[cfg(test)]
 mod sessions;
 #[cfg(test)]
