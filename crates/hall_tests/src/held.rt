@@ -159,7 +159,7 @@ fn stepped<'a, J: Here, R: Wait>(
 }
 
 /// What a session came to that is replied as it has to, or isn't.
-fn went(replied: Result<bool, Failure>) -> Went {
+fn act_went(replied: Result<bool, Failure>) -> Went {
     match replied {
         Ok(true) => Went::AsSaid,
         Ok(false) => Went::Otherwise(0),
@@ -183,7 +183,7 @@ fn played<'a, J: Here, R: Wait>(
         schedule,
         meanwhile: Cell::new(Went::Never),
     };
-    let held = went(is_replied(rt, alloc, &mut ann, &gate, schedule.held));
+    let held = act_went(is_replied(rt, alloc, &mut ann, &gate, schedule.held));
     let Waiting {
         others,
         meanwhile,

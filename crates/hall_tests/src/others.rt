@@ -1,7 +1,7 @@
 //! Those of six players at a hall whom the gate doesn't hold.
 
-ghost use Rattle.std.specs.Prelude.{◌≡◌, ◌<◌, ◌-◌, ◌^◌, [], IfSome};
-ghost use Rattle.hall_core.specs.Passes.{EveryoneJoined, divided};
+ghost use Rattle.std.specs.Prelude.{◌≡◌, [], IfSome};
+ghost use Rattle.hall_core.specs.Passes.{EveryoneJoined};
 
 use crate::passes::{Guest, Here};
 use hall_core::{Hall, HallPass};
@@ -23,7 +23,10 @@ impl<'a, J: Here> Others<'a, J> {
         requires here { first.old.home ≡ J.hall }
         requires first { first.old.number ≡ 0 }
         requires second { first.old.splits ≡ 1 }
-        ensures { first.new ≡ record first.old { splits = 6 } }
+        ensures here { first.new.home ≡ J.hall }
+        ensures number { first.new.number ≡ 0 }
+        ensures joined { first.new.joined ≡ first.old.joined }
+        ensures splits { first.new.splits ≡ 6 }
     {
         Others {
             ben: Guest::split_from(hall, first),

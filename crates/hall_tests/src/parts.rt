@@ -51,7 +51,7 @@ pub enum Difference {
 }
 
 /// The first difference, if there is one.
-pub fn difference(
+pub fn first_difference(
     alloc: Global,
     parts: &mut HallParts,
     server: &mut OneServer,

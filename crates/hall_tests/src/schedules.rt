@@ -3,7 +3,7 @@
 use crate::games::server;
 use crate::halls::hall;
 use crate::held::{Came, Course, Schedule, Try, Went, given_back};
-use crate::parts::{Difference, QUESTIONS, difference};
+use crate::parts::{Difference, QUESTIONS, first_difference};
 use crate::steps::{Does, Game, Said, Step, replied};
 use fics_words::Fail as Failure;
 use hall_core::HallParts;
@@ -53,6 +53,23 @@ const SCHEDULES: &[Schedule] = &[
             Step(4200, 6, Does::Move(52, 36), Said::Done),
             Step(4200, 5, Does::Items, Said::Items(1, false)),
             Step(4300, 3, Does::Items, Said::Items(4, false)),
+        ],
+    },
+    // Desk 1 is out, and both games go on where they stand after that.
+    Schedule {
+        held: Step(3000, 1, Does::Move(12, 28), Said::Done),
+        part: 1,
+        meanwhile: &[
+            Try(3500, 2, Does::Move(52, 36), Came::Busy(1)),
+            Try(3500, 3, Does::Move(12, 28), Came::Done(Said::Done)),
+            Try(3500, 3, Does::Where, Came::Done(Said::Places(1))),
+        ],
+        afterwards: &[
+            Step(5000, 2, Does::Move(52, 36), Said::Done),
+            Step(5000, 6, Does::Move(52, 36), Said::Done),
+            Step(6000, 3, Does::Move(6, 21), Said::Done),
+            Step(6000, 3, Does::Items, Said::Items(5, false)),
+            Step(6000, 2, Does::Items, Said::Items(4, false)),
         ],
     },
     // The lobby is out, in an act that takes Ann's lines: only those who need no more than a desk are answered.
@@ -167,7 +184,7 @@ fn in_one_thread(
     make_tried(alloc, server, schedule.meanwhile)?;
     make(alloc, server, schedule.held)?;
     make_all(alloc, server, schedule.afterwards)?;
-    difference(alloc, parts, server, QUESTIONS)
+    first_difference(alloc, parts, server, QUESTIONS)
 }
 
 fn make_all(alloc: Global, server: &mut OneServer, steps: &[Step]) -> Result<(), Failure> {
