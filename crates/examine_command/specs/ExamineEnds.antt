@@ -1,4 +1,5 @@
--- How `examine` ends: what was read and what was written by then, by the table of the keeper, where the keeper tells it.
+-- How `examine` ends: what was read and what was written by then, by the table of the keeper, where the keeper tells
+-- it.
 use Rattle.std.specs.Prelude.{◌≡◌, ◌⊎◌, ℕ, List, [], codes, IfSome, None, Some}
 use Rattle.std.specs.declared.option.Option.{Option}
 use Rattle.std.specs.Io.KnownBytes.{Appends}
@@ -97,8 +98,8 @@ pub record IsExamined (table : Option Table) (number : ℕ) (left left' written 
   pub stored : IsGameOf table number game
   pub answers : AreAnswered (opened game) left left' written written' end
 
--- this text is due before anything is read: none yet, the line that tells of the least bad record, the line that tells that
--- there is no such game, or the lines that show the game before its first half-move
+-- this text is due before anything is read: none yet, the line that tells of the least bad record, the line that tells
+-- that there is no such game, or the lines that show the game before its first half-move
 abbrev pub IsDueFirst : Option Table → ℕ → List ℕ → Type 0
 IsDueFirst table number due =
     (due ≡ []) ⊎ (((key : List ℕ) × IsFirstBad table key × (due ≡ bad_record_line key))
@@ -106,7 +107,8 @@ IsDueFirst table number due =
     ⊎ ((game : StoredGame) × IsGameOf table number game × (due ≡ shown_text (opened game)))))
 
 -- nothing was read, and a beginning was written of what is due before
-pub record IsCutOffFirst (table : Option Table) (number : ℕ) (left left' written written' : Option (List ℕ)) : Type 0 where
+pub record IsCutOffFirst (table : Option Table) (number : ℕ)
+    (left left' written written' : Option (List ℕ)) : Type 0 where
   pub due : List ℕ
   pub is_due : IsDueFirst table number due
   pub cut : IsCutOff due left left' written written'
@@ -124,8 +126,8 @@ pub record IsNoneTold (table : Option Table) (number : ℕ) (left left' written 
   pub none : HasNone table number
   pub text : Appends written written' no_such_game
 
--- how `examine` ends. Where all of the input was read and answered, exactly the lines that show the game before its first
--- half-move were written, and then the answers of the lines
+-- how `examine` ends. Where all of the input was read and answered, exactly the lines that show the game before its
+-- first half-move were written, and then the answers of the lines
 abbrev pub ExamineEnds : Option Table → ℕ → Option (List ℕ) → Option (List ℕ) → Option (List ℕ) → Option (List ℕ)
     → Outcome → Type 0
 ExamineEnds table number left left' written written' (Read Done) =

@@ -1,4 +1,5 @@
--- That the game of a number is one, so that what `examine` writes for a table and an input is one text. This server's own.
+-- That the game of a number is one, so that what `examine` writes for a table and an input is one text. This server's
+-- own.
 use Rattle.std.specs.Prelude.{◌≡◌, ℕ}
 use Rattle.edge_traits.specs.Pairs.{Table}
 use Rattle.game_records.specs.declared.stored_game.StoredGame.{StoredGame}

@@ -21,8 +21,8 @@ use store_ends::{Outcome, outcome_of};
 /// What is written where the store has no game of the number.
 const NO_SUCH_GAME: &[u8] = b"no such game\n";
 
-/// Loads the store, and examines its game of that number: writes the lines that show it before its first half-move, then
-/// reads the source to its end and writes what its lines give, one write a read. It changes nothing at the keeper.
+/// Loads the store, and examines its game of that number: writes the lines that show it before its first half-move,
+/// then reads the source to its end and writes what its lines give, one write a read. It changes nothing at the keeper.
 pub fn examine<S: Source, K: Sink, P: Keeper>(
     alloc: Global,
     game: u64,

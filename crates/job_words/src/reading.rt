@@ -79,7 +79,8 @@ fn read_bot(words: &[String]) -> Result<Job, JobFail>
 /// Reads the word behind `demo`.
 fn read_demo(words: &[String]) -> Result<Job, JobFail>
     ensures job { IfOk result (IsBehind CommandName.Demo (map string_bytes words.now)) }
-    ensures usage { IfErr result (λ fail. OnUsage fail ((number : ℕ) → IsDemo (map string_bytes words.now) number → ⊥)) }
+    ensures usage { IfErr result (λ fail.
+        OnUsage fail ((number : ℕ) → IsDemo (map string_bytes words.now) number → ⊥)) }
 {
     let [word] = words else {
         return Err(JobFail::Usage);

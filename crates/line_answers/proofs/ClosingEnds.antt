@@ -13,7 +13,7 @@ use Rattle.line_answers.specs.HandlerEnds.{AreAnswered}
 use Rattle.line_answers.specs.Handling.{IsDue}
 use Rattle.line_answers.specs.LineCommand.{IsPlayed, LineCommand, bad_in, last_state, text_of}
 use Rattle.line_answers.specs.Lines.{lines_come, lines_of}
-use Rattle.line_answers.specs.PlayedLines.{IsPlayed-good}
+use Rattle.line_answers.specs.PlayedLinesProof.{IsPlayed-good}
 use Rattle.line_answers.specs.Standing.{Standing}
 use Rattle.line_answers.specs.declared.end.End.{End}
 use Rattle.line_answers.specs.declared.end.End.TheVariants.{Done, ReadFault, WriteFault, Memory, BadLine, Spent}

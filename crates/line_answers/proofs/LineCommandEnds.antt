@@ -10,7 +10,7 @@ use Rattle.line_answers.specs.HandlerEnds.{HandlerEnds, AreAnswered, PartIsWritt
 use Rattle.line_answers.specs.LineCommand.{IsPlayed, LineCommand, answers, bad_in, line_answer, text_of}
 use Rattle.line_answers.specs.LineCommandEnds.{Answers, AnswersPart, LineCommandEnds}
 use Rattle.line_answers.specs.Lines.{lines_come}
-use Rattle.line_answers.specs.PlayedLines.{answers-answer_line, bad-answer_line, IsPlayed-answer_line, IsPlayed-good}
+use Rattle.line_answers.specs.PlayedLinesProof.{answers-answer_line, bad-answer_line, IsPlayed-answer_line, IsPlayed-good}
 use Rattle.line_answers.specs.declared.end.End.{End}
 use Rattle.line_answers.specs.declared.end.End.TheVariants.{Done, ReadFault, WriteFault, Memory, BadLine, Spent}
 use Rattle.line_answers.proofs.PlayedSteps.{IsPlayed-text}

@@ -4,7 +4,7 @@ use Rattle.std.specs.Prelude.{Option, Result, IfOk}
 use Rattle.std.proofs.lemmas.Bool.{le-ltb}
 use Rattle.line_answers.specs.Handling.{AfterAnswering}
 use Rattle.line_answers.specs.LineCommand.{IsAnswer, IsPlayed, LineCommand, begun_at, last_state, line_answer, text_of}
-use Rattle.line_answers.specs.PlayedLines.{IsPlayed-answer_line, IsOutside-refused}
+use Rattle.line_answers.specs.PlayedLinesProof.{IsPlayed-answer_line, IsOutside-refused}
 
 module _ {S : Type 0} (command : LineCommand S) where
   -- any other makes its answer

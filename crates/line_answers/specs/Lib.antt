@@ -10,7 +10,7 @@ pub mod LineCommand
 pub mod LineCommandEnds
 pub mod Lines
 pub mod MachineFeeding
-pub mod PlayedLines
+pub mod PlayedLinesProof
 pub mod Progress
 pub mod Reading
 pub mod Standing

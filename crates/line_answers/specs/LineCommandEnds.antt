@@ -10,14 +10,16 @@ use Rattle.line_answers.specs.declared.end.End.{End}
 use Rattle.line_answers.specs.declared.end.End.TheVariants.{Done, ReadFault, WriteFault, Memory, BadLine, Spent}
 
 -- all lines that have come are good, and their whole text was written
-pub record Answers {S : Type 0} (command : LineCommand S) (left left' written written' : Option (List ℕ)) (ended : Bool) : Type 0 where
+pub record Answers {S : Type 0} (command : LineCommand S)
+    (left left' written written' : Option (List ℕ)) (ended : Bool) : Type 0 where
   pub taken : List ℕ
   pub came : HasRead left left' taken ended
   pub good : bad_in command (lines_come ended taken) ≡ None
   pub text : Appends written written' (text_of command (lines_come ended taken))
 
 -- the lines that have come have one outside the grammar, and the text up to it was written, with its number
-pub record StopsAtBadLine {S : Type 0} (command : LineCommand S) (left left' written written' : Option (List ℕ)) : Type 0 where
+pub record StopsAtBadLine {S : Type 0} (command : LineCommand S)
+    (left left' written written' : Option (List ℕ)) : Type 0 where
   pub taken : List ℕ
   pub ended : Bool
   pub number : ℕ
@@ -26,7 +28,8 @@ pub record StopsAtBadLine {S : Type 0} (command : LineCommand S) (left left' wri
   pub text : Appends written written' (text_of command (lines_come ended taken))
 
 -- a prefix of the text of the lines that have come was written
-pub record AnswersPart {S : Type 0} (command : LineCommand S) (left left' written written' : Option (List ℕ)) : Type 0 where
+pub record AnswersPart {S : Type 0} (command : LineCommand S)
+    (left left' written written' : Option (List ℕ)) : Type 0 where
   pub taken : List ℕ
   pub ended : Bool
   pub came : HasRead left left' taken ended

@@ -1,4 +1,5 @@
-//! Commands that answer each line by a function of where they stand, so that their whole text is a function of the lines.
+//! Commands that answer each line by a function of where they stand, so that their whole text is a function of the
+//! lines.
 
 ghost use Rattle.std.specs.Prelude.{◌≡◌};
 ghost use Rattle.edge_traits.specs.Faults.{Rose};
@@ -20,8 +21,8 @@ pub trait LineAnswerer: Drop {
     ghost use Rattle.std.specs.Prelude.{◌≡◌, ◌<◌, ◌≤◌, length, IfOk};
     ghost use Rattle.line_answers.specs.LineCommand.{IsAnswer, LineCommand};
 
-    /// Where the command starts if nothing else is said, the function, and the bytes that end the line which tells of one
-    /// outside the grammar.
+    /// Where the command starts if nothing else is said, the function, and the bytes that end the line which tells of
+    /// one outside the grammar.
     ghost command: { LineCommand Self };
 
     /// Answers a line that isn't empty: appends what is written for it; false where the line is outside the grammar.
@@ -52,7 +53,7 @@ impl<A: LineAnswerer> Model for ByFunction<A> {
 impl<A: LineAnswerer> LineHandler for ByFunction<A> {
     ghost use Rattle.std.specs.Prelude.{◌≡◌};
     ghost use Rattle.line_answers.specs.LineCommand.{IsPlayed, begun_at};
-    ghost use Rattle.line_answers.specs.PlayedLines.{played_lines};
+    ghost use Rattle.line_answers.specs.PlayedLinesProof.{played_lines};
 
     ghost reached = { λ start. IsPlayed (begun_at A.command start) };
 

@@ -1,5 +1,5 @@
--- A store agrees with a lobby where it holds, once the save orders that stand are carried out, what it is to hold for the
--- lobby's accounts and stored games. This server's own.
+-- A store agrees with a lobby where it holds, once the save orders that stand are carried out, what it is to hold for
+-- the lobby's accounts and stored games. This server's own.
 use Rattle.std.specs.Prelude.{◌≡◌, ℕ, Bool, List, ◌++◌, Option}
 use Rattle.game_records.specs.declared.stored_game.StoredGame.{StoredGame}
 use Rattle.game_shelf.specs.Wanted.{Agrees, Table, wanted}

@@ -19,8 +19,8 @@ pub enum StoreRow {
     Game { number: u64, game: StoredGame },
 }
 
-/// Reads a pair of a key and a record: the row that it is, and `None` exactly where it is none: where the record isn't in
-/// the grammar, isn't under its own key, or is a game that doesn't replay.
+/// Reads a pair of a key and a record: the row that it is, and `None` exactly where it is none: where the record isn't
+/// in the grammar, isn't under its own key, or is a game that doesn't replay.
 pub fn read_row(alloc: Global, pair: &Pair) -> Result<Option<StoreRow>, NoMemory>
     ensures found { IfOk result (λ read. IfSome read (λ row. IsRow row pair.now)) }
     ensures none { IfOk result (λ read. IfNone read (IsNoRow pair.now)) }

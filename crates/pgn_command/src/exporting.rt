@@ -17,8 +17,8 @@ use std::alloc::Global;
 use store_ends::{Outcome, outcome_of};
 
 /// Loads the store, and writes the exports of its chess games in ascending order of their numbers: one write a game, of
-/// which the text alone is held in memory. Games of other variants are passed over. It reads nothing, and changes nothing
-/// at the keeper.
+/// which the text alone is held in memory. Games of other variants are passed over. It reads nothing, and changes
+/// nothing at the keeper.
 pub fn pgn<K: Sink, P: Keeper>(alloc: Global, sink: &mut K, keeper: &mut P) -> Outcome
     ensures ends { PgnEnds (P.table keeper.old) (K.written sink.old) (K.written sink.new) result }
     ensures unchanged { Stays (P.table keeper.old) (P.table keeper.new) }

@@ -15,7 +15,8 @@ use pgn_book::{export, of_stored};
 use std::alloc::Global;
 
 /// Writes the exports of those games that are chess, in their order: one write a game, of which the text alone is held
-/// in memory. It ends at the first fault of writing, and where memory runs out; what was written then is a front of all.
+/// in memory. It ends at the first fault of writing, and where memory runs out; what was written then is a front of
+/// all.
 pub(crate) fn write_games<K: Sink>(
     alloc: Global,
     games: &[Shelved],

@@ -170,30 +170,6 @@ usage_part words table left written written' outcome status none (inr front) not
 
 -- ---- the keeper
 
--- a check reads nothing
-pub check_reads_nothing : (table : Option Table) (written written' : Option (List ℕ)) (outcome : Outcome) (P : Type 0) → CheckEnds table written written' outcome → OnReadFault outcome P
-check_reads_nothing table written written' (Read Done) P h = tt
-check_reads_nothing table written written' (Read ReadFault) P h = absurd h
-check_reads_nothing table written written' (Read WriteFault) P h = tt
-check_reads_nothing table written written' (Read Memory) P h = tt
-check_reads_nothing table written written' (Read BadLine) P h = tt
-check_reads_nothing table written written' (Read Spent) P h = tt
-check_reads_nothing table written written' BadRecord P h = tt
-check_reads_nothing table written written' KeeperFault P h = tt
-check_reads_nothing table written written' NoGame P h = tt
-
--- nor does pgn
-pub pgn_reads_nothing : (table : Option Table) (written written' : Option (List ℕ)) (outcome : Outcome) (P : Type 0) → PgnEnds table written written' outcome → OnReadFault outcome P
-pgn_reads_nothing table written written' (Read Done) P h = tt
-pgn_reads_nothing table written written' (Read ReadFault) P h = absurd h
-pgn_reads_nothing table written written' (Read WriteFault) P h = tt
-pgn_reads_nothing table written written' (Read Memory) P h = tt
-pgn_reads_nothing table written written' (Read BadLine) P h = tt
-pgn_reads_nothing table written written' (Read Spent) P h = tt
-pgn_reads_nothing table written written' BadRecord P h = tt
-pgn_reads_nothing table written written' KeeperFault P h = tt
-pgn_reads_nothing table written written' NoGame P h = tt
-
 -- a table that isn't touched stays
 pub Stays-same : (table : Option Table) → Stays table table
 Stays-same None = tt

@@ -41,8 +41,10 @@ CommandEnds table left left' written written' outcome (Bot depth) =
     AsRead (BotEnds depth left left' written written') outcome
 CommandEnds table left left' written written' outcome (Demo number) =
     Keeps left left' × AsRead (DemoEnds number written written') outcome
-CommandEnds table left left' written written' outcome Check = Keeps left left' × CheckEnds table written written' outcome
-CommandEnds table left left' written written' outcome Pgn = Keeps left left' × PgnEnds table written written' outcome
+CommandEnds table left left' written written' outcome Check =
+    Keeps left left' × CheckEnds table written written' outcome
+CommandEnds table left left' written written' outcome Pgn =
+    Keeps left left' × PgnEnds table written written' outcome
 CommandEnds table left left' written written' outcome (Examine game) =
     ExamineEnds table game left left' written written' outcome
 

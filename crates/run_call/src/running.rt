@@ -28,10 +28,11 @@ use store_ends::{Outcome, status_of_outcome};
 use tidy_command::tidy;
 use tourney_command::tourney;
 
-/// Runs the command that the words name, and gives the status with which the program ends: 0 where the input was
-/// read to its end, 1 where the words name no command, 2 at a fault of reading, 3 at a fault of writing, 4 at a fault
-/// of the keeper, 5 where a record of the store is bad, 6 for want of memory, 7 at the first line outside the grammar,
-/// 9 after 2^40 reads, and 10 where the store has no game of the number. The keeper is called by the commands over a store alone, and its table stays as it is.
+/// Runs the command that the words name, and gives the status with which the program ends: 0 where the input was read
+/// to its end, 1 where the words name no command, 2 at a fault of reading, 3 at a fault of writing, 4 at a fault of the
+/// keeper, 5 where a record of the store is bad, 6 for want of memory, 7 at the first line outside the grammar, 9 after
+/// 2^40 reads, and 10 where the store has no game of the number. The keeper is called by the commands over a store
+/// alone, and its table stays as it is.
 pub fn run<S: Source, K: Sink, P: Keeper>(
     alloc: Global,
     words: &[String],

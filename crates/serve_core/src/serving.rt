@@ -74,7 +74,8 @@ where
     ensures keeper_counted { P.faults keeper.old ≤ P.faults keeper.new }
     ensures text { IsClean result.0 → Appends (K.written sink.old) (K.written sink.new) whole_text }
     ensures text_part { (n : ℕ) × Appends (K.written sink.old) (K.written sink.new) (take n whole_text) }
-    ensures complete { ¬ (Rose (D.faults door.old) (D.faults door.new)) → ¬ (Rose (K.faults sink.old) (K.faults sink.new))
+    ensures complete { ¬ (Rose (D.faults door.old) (D.faults door.new))
+        → ¬ (Rose (K.faults sink.old) (K.faults sink.new))
         → ¬ (Rose (P.faults keeper.old) (P.faults keeper.new)) → IsClean result.0 ⊎ (result.0 ≡ ServeEnd.Memory) }
 {
     lobbies_are_well_formed(&lobby);

@@ -100,8 +100,8 @@ pub fn work<T: Threads + Wait, C: Clock, G: Gate, L: Link + Drop>(
     }
 }
 
-/// Starts a worker for a link, which has counted no fault. Where no thread can be had, the link is served here, and what
-/// the worker would have given up is the answer.
+/// Starts a worker for a link, which has counted no fault. Where no thread can be had, the link is served here, and
+/// what the worker would have given up is the answer.
 pub fn start<'s, 'a: 's, E, T, C, G, L>(
     scope: &Scope<'s, E>,
     place: &'s Place<'a, T, C, G>,

@@ -54,8 +54,8 @@ pub record IsRound (moment : ℕ) (entries : Log) (orders : List Order) : Type 0
   pub told : orders_in first.reply ≡ orders
   pub saved : acts_of rest ≡ tells_upto moment (last_number orders)
 
--- a round that was cut short: of the orders that were told some were carried out, from the first one on. These were told
--- as saved, or that ran out of memory
+-- a round that was cut short: of the orders that were told some were carried out, from the first one on. These were
+-- told as saved, or that ran out of memory
 pub record IsCutShort (moment : ℕ) (entries : Log) (carried : List Order) : Type 0 where
   pub first : Entry Timed Reply
   pub rest : Log
@@ -77,8 +77,8 @@ AreFullRounds moment (suc n) entries orders =
 abbrev pub most_answers : ℕ
 most_answers = 2 ^ 28 - 1
 
--- how the rounds end behind so many full ones: all orders are told as saved in a round with fewer than 16, or there were
--- the most answers; or a round was cut short; or the question ran out of memory
+-- how the rounds end behind so many full ones: all orders are told as saved in a round with fewer than 16, or there
+-- were the most answers; or a round was cut short; or the question ran out of memory
 abbrev pub EndsSaving : ℕ → StewardEnd → ℕ → Log → List Order → Type 0
 EndsSaving moment (Done count) rounds entries orders =
     (IsRound moment entries orders × (length orders < 16) × (count ≡ rounds * 16 + length orders))

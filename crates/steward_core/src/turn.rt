@@ -25,8 +25,8 @@ pub enum StewardEnd {
 
 /// Makes a turn of the steward, all at `moment`, in milliseconds and at most 2^48. It asks which desks are in use and
 /// makes a Clear for each of them, and passes over those that run out of memory. Then it asks for save orders, hands
-/// each to the keeper in order and tells the lobby which were carried out, and goes on while the last answer had 16, for
-/// 2^28 - 1 answers at most. It waits where the runner does.
+/// each to the keeper in order and tells the lobby which were carried out, and goes on while the last answer had 16,
+/// for 2^28 - 1 answers at most. It waits where the runner does.
 pub fn steward_turn<R: Runner, P: Keeper>(
     alloc: Global,
     runner: &mut R,
