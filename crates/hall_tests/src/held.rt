@@ -135,21 +135,21 @@ fn is_replied<J: Here, G: Gate, R: Wait>(
 }
 
 /// What steps come to whose acts nobody holds.
-fn stepped<'a, J: Here, R: Wait>(
+fn stepped<J: Here, R: Wait>(
     rt: &R,
     alloc: Global,
-    ann: &mut Guest<'a, J>,
-    others: &mut Others<'a, J>,
+    ann: &mut Guest<'_, J>,
+    others: &mut Others<'_, J>,
     steps: &[Step],
 ) -> Went {
     let open = OpenGate::new();
     for (place, step) in steps.iter().enumerate() {
-        let guest = if step.1 == 1 {
-            &mut *ann
+        let replied = if step.1 == 1 {
+            is_replied(rt, alloc, ann, &open, *step)
         } else {
-            others.guest(step.1)
+            is_replied(rt, alloc, others.guest(step.1), &open, *step)
         };
-        match is_replied(rt, alloc, guest, &open, *step) {
+        match replied {
             Ok(true) => {}
             Ok(false) => return Went::Otherwise(place),
             Err(_) => return Went::Memory,
