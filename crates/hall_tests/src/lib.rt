@@ -1,6 +1,7 @@
 //! Tests of the hall: games played at its seats and over the server of one thread by the same acts with the same
 //! replies, what two sessions write there, schedules of acts while a gate holds one with a part out, and four threads
-//! whose replies are those of one. Expected replies and texts are those of the rules of the server, written out by hand.
+//! whose replies are those of one. Expected replies and texts are those of the rules of the server, written out by
+//! hand.
 //!
 //! A test is a table, and what it does stands in functions almost without contracts, so it is proved quickly: what it
 //! shows is shown by running it.
