@@ -10,6 +10,8 @@
 #[cfg(test)]
 mod games;
 #[cfg(test)]
+mod gates;
+#[cfg(test)]
 mod halls;
 #[cfg(test)]
 mod held;

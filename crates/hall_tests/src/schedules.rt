@@ -55,23 +55,6 @@ const SCHEDULES: &[Schedule] = &[
             Step(4300, 3, Does::Items, Said::Items(4, false)),
         ],
     },
-    // Desk 1 is out, and both games go on where they stand after that.
-    Schedule {
-        held: Step(3000, 1, Does::Move(12, 28), Said::Done),
-        part: 1,
-        meanwhile: &[
-            Try(3500, 2, Does::Move(52, 36), Came::Busy(1)),
-            Try(3500, 3, Does::Move(12, 28), Came::Done(Said::Done)),
-            Try(3500, 3, Does::Where, Came::Done(Said::Places(1))),
-        ],
-        afterwards: &[
-            Step(5000, 2, Does::Move(52, 36), Said::Done),
-            Step(5000, 6, Does::Move(52, 36), Said::Done),
-            Step(6000, 3, Does::Move(6, 21), Said::Done),
-            Step(6000, 3, Does::Items, Said::Items(5, false)),
-            Step(6000, 2, Does::Items, Said::Items(4, false)),
-        ],
-    },
     // The lobby is out, in an act that takes Ann's lines: only those who need no more than a desk are answered.
     Schedule {
         held: Step(3000, 1, Does::Lines, Said::Waiting(1, 1)),
