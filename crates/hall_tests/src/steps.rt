@@ -60,6 +60,20 @@ pub enum Does {
     Resign,
     Flag,
     Items,
+    /// Offers a game of chess of 5 minutes to whoever takes it.
+    Seek,
+    /// Asks where the game of this number is played.
+    FindGame(u16),
+    Watch,
+    Show,
+    /// Begins to leave.
+    Going,
+    Leave,
+    /// Is gone.
+    Bye,
+    Who,
+    Sought,
+    Games,
 }
 
 /// A game: the first one that starts is at desk 1 under serial 1, the second at desk 2 under serial 2.
@@ -141,6 +155,16 @@ pub fn act_of(game: Game, does: Does) -> Result<Act, Fail>
         Does::Resign => Ok(at_desk(game, DeskAct::Resign)),
         Does::Flag => Ok(at_desk(game, DeskAct::Flag)),
         Does::Items => Ok(at_desk(game, DeskAct::Fetch)),
+        Does::Watch => Ok(at_desk(game, DeskAct::Watch)),
+        Does::Show => Ok(at_desk(game, DeskAct::Show)),
+        Does::Leave => Ok(at_desk(game, DeskAct::Leave)),
+        Does::Seek => Ok(seeking()),
+        Does::FindGame(number) => Ok(Act::Lobby(LobbyAct::FindGame { number })),
+        Does::Going => Ok(Act::Lobby(LobbyAct::Going)),
+        Does::Bye => Ok(Act::Lobby(LobbyAct::Bye)),
+        Does::Who => Ok(Act::Lobby(LobbyAct::Who)),
+        Does::Sought => Ok(Act::Lobby(LobbyAct::Sought)),
+        Does::Games => Ok(Act::Lobby(LobbyAct::Games)),
     }
 }
 
@@ -166,6 +190,18 @@ fn challenging(name: &[u8; 3]) -> Result<Act, Fail>
         colour: Some(Colour::White),
     };
     Ok(Act::Lobby(LobbyAct::Match { to, terms }))
+}
+
+fn seeking() -> Act
+    ensures { FitsAct result }
+{
+    let terms = Terms {
+        minutes: 5,
+        increment: 0,
+        variant: Variant::Chess,
+        colour: None,
+    };
+    Act::Lobby(LobbyAct::Post { terms })
 }
 
 fn clearing(game: Game) -> Act

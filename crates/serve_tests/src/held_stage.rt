@@ -1,9 +1,10 @@
-//! A stage on which players say their lines one after the other, and its gate, which holds a worker at desk 1.
+//! A stage on which players say the lines of a play one after the other, and its gate, which holds a worker at desk 1.
 
 ghost use Rattle.std.specs.Prelude.{◌<◌, ◌≤◌, length};
 ghost use Rattle.edge_traits.specs.Faults.{Rose};
 ghost use Rattle.edge_traits.specs.Link.{IfHeard, OnHearFailed};
 
+use crate::held_plays::{Cue, Play, Then};
 use edge_traits::{Gate, Heard, Link, Sent};
 use std::alloc::Global;
 use std::sync::atomic::{AtomicU64, Ordering};
@@ -18,42 +19,6 @@ const STRIDE: u64 = 1_024;
 /// For how many turns anything is waited for that has to come.
 const MOST_WAITS: u64 = 1 << 40;
 
-/// When the line that comes next is said.
-#[derive(Clone, Copy, PartialEq, Eq)]
-enum Then {
-    /// Once this one is answered.
-    Answered,
-    /// Once the worker that answers this one is held.
-    Held,
-    /// Once this one is read.
-    Read,
-}
-
-/// A line: the session that says it, what it says, and when the next one is said.
-#[derive(Clone, Copy)]
-struct Cue(u32, &'static [u8], Then);
-
-/// Two games begin, White moves in the first one and is held, Black gives that game up, and White moves in the second.
-const CUES: &[Cue] = &[
-    Cue(1, b"Ann\n", Then::Answered),
-    Cue(2, b"Ben\n", Then::Answered),
-    Cue(3, b"Cat\n", Then::Answered),
-    Cue(4, b"Dan\n", Then::Answered),
-    Cue(1, b"match Ben 2 12 white\n", Then::Answered),
-    Cue(2, b"accept\n", Then::Answered),
-    Cue(3, b"match Dan 2 12 white\n", Then::Answered),
-    Cue(4, b"accept\n", Then::Answered),
-    Cue(1, b"e2e4\n", Then::Held),
-    Cue(2, b"resign\n", Then::Read),
-    Cue(3, b"d2d4\n", Then::Answered),
-];
-
-/// The number of the cue at which the worker is held.
-const HELD: u64 = 8;
-
-/// The number of cues.
-pub const ALL: u64 = 11;
-
 /// What was seen of the lines while the worker was held, and afterwards.
 #[derive(Clone, Copy, PartialEq, Eq)]
 pub struct Seen {
@@ -63,15 +28,20 @@ pub struct Seen {
     pub held: u64,
     /// How many were answered in the end.
     pub whole: u64,
+    /// How often the steward had a part in its hands while the worker was held.
+    pub steward: u64,
 }
 
 /// What the threads of the test tell each other.
 #[derive(Drop)]
 pub struct Stage {
+    pub play: &'static Play,
     /// The number of the cue that comes next.
     next: AtomicU64,
     /// How many lines were answered.
     answered: AtomicU64,
+    /// How often the steward had a part in its hands while the worker was held.
+    steward: AtomicU64,
     /// 1 once the gate is open.
     open: AtomicU64,
     /// 1 once all is said and answered.
@@ -79,10 +49,12 @@ pub struct Stage {
 }
 
 impl Stage {
-    pub fn new() -> Stage {
+    pub fn new(play: &'static Play) -> Stage {
         Stage {
+            play,
             next: AtomicU64::new(0),
             answered: AtomicU64::new(0),
+            steward: AtomicU64::new(0),
             open: AtomicU64::new(0),
             over: AtomicU64::new(0),
         }
@@ -91,14 +63,20 @@ impl Stage {
     /// Waits until the worker is held, lets the turns pass, opens the gate, and waits for the answers that were held
     /// up.
     pub fn watch(&self) -> Seen {
-        wait_for(&self.next, HELD + 1);
+        wait_for(&self.next, self.play.held.saturating_add(1));
         let moved = self.pass_turns();
         let held = self.answered.load(Ordering::SeqCst);
+        let steward = self.steward.load(Ordering::SeqCst);
         self.open.store(1, Ordering::SeqCst);
-        wait_for(&self.answered, ALL);
+        wait_for(&self.answered, self.play.lines());
         let whole = self.answered.load(Ordering::SeqCst);
         self.over.store(1, Ordering::SeqCst);
-        Seen { moved, held, whole }
+        Seen {
+            moved,
+            held,
+            whole,
+            steward,
+        }
     }
 
     /// Lets the turns pass, and tells whether the last line was answered meanwhile.
@@ -108,7 +86,7 @@ impl Stage {
             if !moved || turn % STRIDE == 0 {
                 thread::yield_now();
             }
-            moved = moved || self.next.load(Ordering::SeqCst) == ALL;
+            moved = moved || self.next.load(Ordering::SeqCst) == self.play.lines();
         }
         moved
     }
@@ -116,8 +94,13 @@ impl Stage {
     /// The cue that comes next, with its number, if this session is to say it.
     fn cue_of(&self, session: u32) -> Option<(u64, Cue)> {
         let number = self.next.load(Ordering::SeqCst);
-        let cue = *CUES.get(usize::try_from(number).ok()?)?;
+        let cue = *self.play.cues.get(usize::try_from(number).ok()?)?;
         (cue.0 == session).then_some((number, cue))
+    }
+
+    /// Whether the worker is held.
+    fn is_holding(&self) -> bool {
+        self.next.load(Ordering::SeqCst) > self.play.held && self.open.load(Ordering::SeqCst) == 0
     }
 
     /// Goes on behind this cue, if it is the one after which this is waited for.
@@ -138,9 +121,13 @@ fn wait_for(number: &AtomicU64, least: u64) {
     }
 }
 
-/// The gate holds the session whose worker is to be held, once desk 1 has come out for it, until it is open.
+/// The gate holds the session whose worker is to be held, once desk 1 has come out for it, until it is open. Meanwhile
+/// it counts the parts that come out for the steward, whose session is 0.
 impl Gate for Stage {
     fn at(&self, session: u32, part: u8) {
+        if session == 0 && self.is_holding() {
+            self.steward.fetch_add(1, Ordering::SeqCst);
+        }
         if part != 1 {
             return;
         }

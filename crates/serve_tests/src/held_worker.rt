@@ -2,7 +2,8 @@
 
 ghost use Rattle.std.specs.Prelude.{None};
 
-use crate::held_stage::{ALL, Player, Seen, Stage};
+use crate::held_plays::{PLAYS, Play};
+use crate::held_stage::{Player, Seen, Stage};
 use edge_traits::{Came, Doorway, StillClock};
 use memory_edges::{MemKeeper, MemSink};
 use serve_core::serve;
@@ -11,16 +12,16 @@ use std::sync::Wait;
 use std::test::Fail;
 use std::thread::Threads;
 
-/// A door that gives four links, watches what they say, and is then closed. It gives no Quiet, so the steward makes no
-/// act before it is closed.
+/// A door that gives a link for each player of the play, watches what they say, and is then closed. It gives no Quiet,
+/// so the steward makes no act before it is closed.
 #[derive(Drop)]
 struct Watching<'a> {
     alloc: Global,
     stage: &'a Stage,
     came: u32,
     seen: Option<Seen>,
-    /// What each of the four was written, once it came back.
-    heard: [Option<Vec<u8>>; 4],
+    /// What each of them was written, once it came back.
+    heard: [Option<Vec<u8>>; 6],
 }
 
 impl<'a> Doorway for Watching<'a> {
@@ -33,7 +34,7 @@ impl<'a> Doorway for Watching<'a> {
     ghost faults = { λ _. 0 };
 
     fn next(&mut self) -> Came<Player<'a>> {
-        if self.came < 4 {
+        if self.came < self.stage.play.players {
             self.came += 1;
             return Came::Link(Player::new(self.stage, self.came, self.alloc));
         }
@@ -52,16 +53,7 @@ impl<'a> Doorway for Watching<'a> {
     }
 }
 
-/// What each of the four is written last. Black at desk 1 sees White's move before the end. White there sees the end
-/// too, or leaves before it; the players at desk 2 see the move and the start.
-const LAST: &[&[u8]] = &[
-    b"fics% ",
-    b" 1 P/e2-e4 (0:00) e4 1\n\r{Game 1 (Ann vs. Ben) Ben resigns} 1-0\n\rfics% ",
-    b" 1 P/d2-d4 (0:00) d4 0\n\rfics% ",
-    b" 1 none (0:00) none 1\n\rfics% ",
-];
-
-/// Serves four players at this stage. Gives the status, and the door.
+/// Serves the players of this stage. Gives the status, and the door.
 fn held<'a, T: Threads + Wait + Sync>(
     rt: &T,
     alloc: Global,
@@ -72,7 +64,7 @@ fn held<'a, T: Threads + Wait + Sync>(
         stage,
         came: 0,
         seen: None,
-        heard: [None, None, None, None],
+        heard: [None, None, None, None, None, None],
     };
     let mut words = Vec::new(alloc);
     for word in ["serve", "--port", "5000"] {
@@ -94,16 +86,20 @@ fn held<'a, T: Threads + Wait + Sync>(
     Ok((status, door))
 }
 
-/// What was seen while the worker was held, and afterwards.
-const SEEN: Option<Seen> = Some(Seen {
-    moved: true,
-    held: ALL - 2,
-    whole: ALL,
-});
+/// What has to be seen of a play: all but two of its lines, which need the held desk, are answered while the worker is
+/// held, and those are answered afterwards.
+fn expected(play: &Play) -> Seen {
+    Seen {
+        moved: true,
+        held: play.lines().saturating_sub(2),
+        whole: play.lines(),
+        steward: 0,
+    }
+}
 
-/// Whether each of the four was written this last.
-fn are_heard(heard: &[Option<Vec<u8>>; 4], last: &[&[u8]]) -> bool {
-    for (bytes, end) in heard.iter().zip(last) {
+/// Whether each of the players was written this last.
+fn are_heard(heard: &[Option<Vec<u8>>; 6], play: &Play) -> bool {
+    for (bytes, end) in heard.iter().zip(play.last) {
         let Some(bytes) = bytes else {
             return false;
         };
@@ -111,17 +107,26 @@ fn are_heard(heard: &[Option<Vec<u8>>; 4], last: &[&[u8]]) -> bool {
             return false;
         }
     }
-    last.len() == heard.len()
+    play.last.len() == play.players as usize
 }
 
-/// While a worker is held in White's move at desk 1, the move at desk 2 is answered, and neither White's move nor
-/// Black's giving up at desk 1 is; once the gate is open, both are.
+/// Whether a play is served as it has to be.
+fn is_served<T: Threads + Wait + Sync>(
+    rt: &T,
+    alloc: Global,
+    play: &'static Play,
+) -> Result<bool, AllocError> {
+    let stage = Stage::new(play);
+    let (status, door) = held(rt, alloc, &stage)?;
+    Ok(status == 0 && door.seen == Some(expected(play)) && are_heard(&door.heard, play))
+}
+
+/// While a worker is held in White's move at desk 1, the move at desk 2, a seek and somebody who looks on there are
+/// answered, and neither White's move nor Black's giving up or leaving at desk 1 is; once the gate is open, both are.
 #[test]
 fn a_desk_is_waited_for_by_itself(rt: HostRuntime) -> Result<(), Fail> {
-    let stage = Stage::new();
-    let (status, door) = held(&rt, rt.alloc(), &stage)?;
-    assert_eq!(rt; status, 0);
-    assert!(rt; door.seen == SEEN);
-    assert!(rt; are_heard(&door.heard, LAST));
+    for (place, play) in PLAYS.iter().enumerate() {
+        assert!(rt; is_served(&rt, rt.alloc(), play)?, "play {place}");
+    }
     Ok(())
 }

@@ -11,6 +11,8 @@ mod doors;
 #[cfg(test)]
 mod fakes;
 #[cfg(test)]
+mod held_plays;
+#[cfg(test)]
 mod held_stage;
 #[cfg(test)]
 mod held_worker;
