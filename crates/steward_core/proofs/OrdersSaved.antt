@@ -13,7 +13,7 @@ use Rattle.one_server.specs.declared.act.Timed.{Timed}
 use Rattle.one_server.specs.declared.reply.Reply.{Reply}
 use Rattle.one_server.specs.Running.{IsKnown, Log, Made, Ran, RunnerState}
 use Rattle.steward_core.specs.Clearing.{acts_of}
-use Rattle.steward_core.specs.Saving.{AreFullRounds, EndsRound, EndsSaving, IsCutShort, IsRound, IsSaving, LeavesOne, RunsRound, SavesTold, TakesSaving, TellsUpTo, asks_orders, last_number, orders_in, orders_told, round_of, says_saved, tells_upto}
+use Rattle.steward_core.specs.Saving.{AreFullRounds, EndsRound, EndsSaving, IsCutShort, IsRound, IsSaving, LeavesOne, RunsRound, SavesTold, TakesSaving, TellsUpTo, asks_orders, last_number, orders_in, round_of, says_saved, tells_upto}
 use Rattle.steward_core.specs.declared.saving.Round.{Round}
 use Rattle.steward_core.specs.declared.saving.Round.TheVariants as round
 use Rattle.steward_core.specs.declared.saving.Told.{Told}
@@ -132,6 +132,7 @@ module _ (moment : ℕ) (orders : List Order) (before after : Option Table) (ans
       → (left ≡ [] → outcome ≡ kept.Done)
       → (said ≡ told.Done → acts_of entries ≡ tells_upto moment (last_number carried)) → (said ≡ told.Memory → entries ≡ [])
       → EndsRound moment (round_of outcome said (length orders)) (asked ∷ entries) carried
+  unfolding asked
   ends_by kept.Failed told.Done carried left entries all whole only acts none =
       (cut_round carried left entries all (inl (acts refl)), one_left carried left all (λ bare. let bad = only bare in cc))
   ends_by kept.Failed told.Memory carried left entries all whole only acts none =
