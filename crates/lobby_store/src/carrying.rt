@@ -22,6 +22,7 @@ pub struct Carried {
 pub fn carry_out<P: Keeper>(keeper: &mut P, orders: &[Order]) -> Carried
     ensures few { result.count ≤ length orders.now }
     ensures all { result.end ≡ Kept.Done → result.count ≡ length orders.now }
+    ensures only_all { result.count ≡ length orders.now → result.end ≡ Kept.Done }
     ensures carried { Carries (P.table keeper.old) (P.table keeper.new) (take result.count orders.now) }
     ensures cause { OnKeepFailed result.end (Rose (P.faults keeper.old) (P.faults keeper.new)) }
     ensures counted { P.faults keeper.old ≤ P.faults keeper.new }

@@ -17,6 +17,7 @@ const ONE_ASKS_AND_THE_OTHER_RESUMES_STEPS: &[Resuming] = &[
     Resuming::Add(3, *b"Ben", *b"Ann", DONE),
     Resuming::Add(2, *b"Ben", *b"Cid", DONE),
     Resuming::Sizes(0, 3),
+    Resuming::Numbers(&[2, 3, 7]),
     ANN,
     BEN,
     Resuming::Stored(1, &[b"3 Ben Ann 2 12 chess", b"7 Ann Ben 2 12 chess"]),
@@ -42,6 +43,7 @@ const ONE_ASKS_AND_THE_OTHER_RESUMES_STEPS: &[Resuming] = &[
     Resuming::Stored(1, &[b"7 Ann Ben 2 12 chess"]),
     Resuming::Orders(1, 1),
     Resuming::Sizes(0, 2),
+    Resuming::Numbers(&[2, 7]),
 ];
 
 const FOUR_RESUME_A_PAIR_STEPS: &[Resuming] = &[
@@ -62,6 +64,7 @@ const FOUR_RESUME_A_PAIR_STEPS: &[Resuming] = &[
     Resuming::Other(Step::Seated(3, 1, 1, 2)),
     Resuming::Other(Step::Seated(4, 1, 1, 3)),
     Resuming::Stored(4, &[]),
+    Resuming::Numbers(&[]),
 ];
 
 const A_REQUEST_GOES_WITH_ITS_MEMBER_STEPS: &[Resuming] = &[
@@ -105,6 +108,7 @@ const THE_LEAST_NUMBER_IS_GIVEN_STEPS: &[Resuming] = &[
     Resuming::Other(Step::Match(1, *b"Ben", CHESS, DONE)),
     Resuming::Other(Step::Start(2, 1, 1, 1)),
     Resuming::Shelves(2, 1, 1, *b"Ann", *b"Ben", 2),
+    Resuming::Numbers(&[1, 2, 3]),
     Resuming::Other(Step::InUse(1, false)),
     Resuming::Orders(1, 1),
     Resuming::Asks(1, *b"Ben", 1),

@@ -38,6 +38,8 @@ pub enum Resuming {
     Stored(u32, &'static [&'static [u8]]),
     /// There are so many accounts, and so many stored games.
     Sizes(u32, u32),
+    /// The numbers of the stored games, from the least on.
+    Numbers(&'static [u64]),
     /// Makes an account.
     Register(u32, u8),
     /// So many sessions from 1 on come in under numbered names, and each makes an account.
@@ -89,6 +91,7 @@ fn answers(alloc: Global, lobby: &mut Lobby, step: &Resuming) -> bool {
         }
         Resuming::Stored(session, rows) => tells(lobby, *session, &LobbyAct::Stored, rows),
         Resuming::Sizes(accounts, games) => has_sizes(lobby, *accounts, *games),
+        Resuming::Numbers(numbers) => has_numbers(alloc, lobby, numbers),
         Resuming::Register(session, number) => registering(lobby, *session, 1) == *number,
         Resuming::Registers(count) => registers(lobby, *count),
         Resuming::Orders(count, first) => tells_orders(lobby, *count, *first),
@@ -100,6 +103,13 @@ fn answers(alloc: Global, lobby: &mut Lobby, step: &Resuming) -> bool {
 fn has_sizes(lobby: &Lobby, accounts: u32, games: u32) -> bool {
     let sizes = lobby.sizes();
     sizes.0 == accounts && sizes.1 == games
+}
+
+fn has_numbers(alloc: Global, lobby: &Lobby, numbers: &[u64]) -> bool {
+    match lobby.numbers(alloc) {
+        Ok(told) => told.as_slice() == numbers,
+        Err(NoMemory) => false,
+    }
 }
 
 fn has_stored(lobby: &Lobby, number: u64) -> bool {

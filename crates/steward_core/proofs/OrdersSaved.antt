@@ -1,5 +1,5 @@
 -- Rounds of save orders, one after another.
-use Rattle.std.proofs.Common.{◌≡◌, ℕ, ◌+◌, ◌*◌, ◌<◌, ◌≤◌, zero, suc, inl, inr, Bool, true, false, cond, List, [], ◌∷◌, ◌++◌, Option, None, Some, length, refl, sym, ap, subst, ◌∙◌, append_assoc, append-nil, arith, ◌⊎◌, ◌==◌, ◌^◌, ◌-◌}
+use Rattle.std.proofs.Common.{◌≡◌, ℕ, ◌+◌, ◌*◌, ◌<◌, ◌≤◌, zero, suc, inl, inr, Bool, true, false, cond, List, [], ◌∷◌, ◌++◌, Option, None, Some, length, refl, sym, ap, subst, ◌∙◌, append_assoc, append-nil, length-append, arith, ◌⊎◌, ◌==◌, ◌^◌, ◌-◌}
 use Rattle.std.proofs.lemmas.Bool.{eqb-true, eqb-false}
 use Rattle.edge_traits.specs.Pairs.{Table}
 use Rattle.edge_traits.specs.declared.keeper.Kept.{Kept}
@@ -13,7 +13,7 @@ use Rattle.one_server.specs.declared.act.Timed.{Timed}
 use Rattle.one_server.specs.declared.reply.Reply.{Reply}
 use Rattle.one_server.specs.Running.{IsKnown, Log, Made, Ran, RunnerState}
 use Rattle.steward_core.specs.Clearing.{acts_of}
-use Rattle.steward_core.specs.Saving.{AreFullRounds, EndsRound, EndsSaving, IsCutShort, IsRound, IsSaving, RunsRound, SavesTold, TakesSaving, TellsUpTo, asks_orders, last_number, orders_in, round_of, says_saved, tells_upto}
+use Rattle.steward_core.specs.Saving.{AreFullRounds, EndsRound, EndsSaving, IsCutShort, IsRound, IsSaving, LeavesOne, RunsRound, SavesTold, TakesSaving, TellsUpTo, asks_orders, last_number, orders_in, round_of, says_saved, tells_upto}
 use Rattle.steward_core.specs.declared.saving.Round.{Round}
 use Rattle.steward_core.specs.declared.saving.Round.TheVariants as round
 use Rattle.steward_core.specs.declared.saving.Told.{Told}
@@ -51,25 +51,25 @@ module _ (moment rounds : ℕ) (before mid after : Option Table) (old between ne
   }
 
   -- a round that is the last one
-  ended : (end : StewardEnd) (entries : Log) (carried : List Order) → Made between entries new → EndsSaving moment end rounds entries carried → Carries mid after carried
-      → TakesSaving moment end before after old new
-  ended end entries carried grew ends kept = record {
+  ended : (end : StewardEnd) (entries : Log) (carried : List Order) → Made between entries new → EndsSaving moment end rounds entries carried
+      → LeavesOne end entries carried → Carries mid after carried → TakesSaving moment end before after old new
+  ended end entries carried grew ends left kept = record {
     entries = so_far.entries ++ entries;
     carried = so_far.carried ++ carried;
     grew = grown entries grew;
-    saving = record { rounds = rounds; full = so_far.entries; first = so_far.carried; rest = entries; last = carried; are_full = so_far.full; ends = ends; all = refl; orders = refl };
+    saving = record { rounds = rounds; full = so_far.entries; first = so_far.carried; rest = entries; last = carried; are_full = so_far.full; ends = ends; left = left; all = refl; orders = refl };
     kept = carried_on carried kept;
   }
 
   pub ended_last : (few : ℕ) → RunsRound moment (round.Last few) mid after between new → TakesSaving moment (Done (rounds * 16 + few)) before after old new
   ended_last few r = ended (Done (rounds * 16 + few)) r.entries r.carried r.grew
-      (inl (r.ends.0, r.ends.1, ap (λ n. rounds * 16 + n) r.ends.2)) r.kept
+      (inl (r.ends.0, r.ends.1, ap (λ n. rounds * 16 + n) r.ends.2)) tt r.kept
 
   pub ended_fault : RunsRound moment round.KeeperFault mid after between new → TakesSaving moment KeeperFault before after old new
-  ended_fault r = ended KeeperFault r.entries r.carried r.grew r.ends r.kept
+  ended_fault r = ended KeeperFault r.entries r.carried r.grew r.ends.0 r.ends.1 r.kept
 
   pub ended_short : RunsRound moment round.Memory mid after between new → TakesSaving moment Memory before after old new
-  ended_short r = ended Memory r.entries r.carried r.grew r.ends r.kept
+  ended_short r = ended Memory r.entries r.carried r.grew r.ends tt r.kept
 
 -- the most rounds
 pub ended_most : (moment rounds : ℕ) (before after : Option Table) (old new : RunnerState) → rounds ≡ 2 ^ 28 - 1 → HasSaved moment rounds before after old new
@@ -78,7 +78,7 @@ ended_most moment rounds before after old new most s = record {
   entries = s.entries;
   carried = s.carried;
   grew = s.grew;
-  saving = record { rounds = rounds; full = s.entries; first = s.carried; rest = []; last = []; are_full = s.full; ends = inr (most, refl, refl, refl); all = sym (append-nil s.entries); orders = sym (append-nil s.carried) };
+  saving = record { rounds = rounds; full = s.entries; first = s.carried; rest = []; last = []; are_full = s.full; ends = inr (most, refl, refl, refl); left = tt; all = sym (append-nil s.entries); orders = sym (append-nil s.carried) };
   kept = s.kept;
 }
 
@@ -110,6 +110,12 @@ module _ (moment : ℕ) (orders : List Order) (before after : Option Table) (ans
   unfolding asked
   cut_round carried left said all acts = record { first = asked; rest = said; all = refl; asks = refl; left = left; told = tells ∙ all; saved = acts }
 
+  one_left : (carried left : List Order) → orders ≡ carried ++ left → (left ≡ [] → ⊥) → length carried < length (orders_in answer)
+  one_left carried [] all some = absurd (some refl)
+  one_left carried (order ∷ left) all some =
+      let told : length (orders_in answer) ≡ length (carried ++ order ∷ left) = ap length (tells ∙ all) in
+      omega (arith, told, length-append carried (order ∷ left))
+
   same_length : (carried left : List Order) → orders ≡ carried ++ left → left ≡ [] → length orders ≡ length carried
   same_length carried left all none = ap length (all ∙ ap (λ l. carried ++ l) none ∙ append-nil carried)
 
@@ -123,14 +129,18 @@ module _ (moment : ℕ) (orders : List Order) (before after : Option Table) (ans
       (whole_round carried left said all none acts, let other = eqb-false (length orders) 16 full in omega (arith, same, few, other), same)
 
   ends_by : (outcome : Kept) (said : Told) (carried left : List Order) (entries : Log) → orders ≡ carried ++ left → (outcome ≡ kept.Done → left ≡ [])
+      → (left ≡ [] → outcome ≡ kept.Done)
       → (said ≡ told.Done → acts_of entries ≡ tells_upto moment (last_number carried)) → (said ≡ told.Memory → entries ≡ [])
       → EndsRound moment (round_of outcome said (length orders)) (asked ∷ entries) carried
-  ends_by kept.Failed told.Done carried left entries all whole acts none = cut_round carried left entries all (inl (acts refl))
-  ends_by kept.Failed told.Memory carried left entries all whole acts none = cut_round carried left entries all (inr (none refl))
-  ends_by kept.Memory told.Done carried left entries all whole acts none = inl (cut_round carried left entries all (inl (acts refl)))
-  ends_by kept.Memory told.Memory carried left entries all whole acts none = inl (cut_round carried left entries all (inr (none refl)))
-  ends_by kept.Done told.Memory carried left entries all whole acts none = inl (cut_round carried left entries all (inr (none refl)))
-  ends_by kept.Done told.Done carried left entries all whole acts none = ends_whole carried left entries all (whole refl) (acts refl) (length orders == 16) refl
+  unfolding asked
+  ends_by kept.Failed told.Done carried left entries all whole only acts none =
+      (cut_round carried left entries all (inl (acts refl)), one_left carried left all (λ bare. let bad = only bare in cc))
+  ends_by kept.Failed told.Memory carried left entries all whole only acts none =
+      (cut_round carried left entries all (inr (none refl)), one_left carried left all (λ bare. let bad = only bare in cc))
+  ends_by kept.Memory told.Done carried left entries all whole only acts none = inl (cut_round carried left entries all (inl (acts refl)))
+  ends_by kept.Memory told.Memory carried left entries all whole only acts none = inl (cut_round carried left entries all (inr (none refl)))
+  ends_by kept.Done told.Memory carried left entries all whole only acts none = inl (cut_round carried left entries all (inr (none refl)))
+  ends_by kept.Done told.Done carried left entries all whole only acts none = ends_whole carried left entries all (whole refl) (acts refl) (length orders == 16) refl
 
   pub round_run : (end : Round) → SavesTold moment end orders before after mid new → RunsRound moment end before after old new
   round_run end s =
@@ -140,7 +150,7 @@ module _ (moment : ℕ) (orders : List Order) (before after : Option Table) (ans
         carried = s.carried;
         grew = round_made said.0 said.1;
         ends = subst (λ (r : Round). EndsRound moment r (asked ∷ said.0) s.carried) (sym s.ends)
-            (ends_by s.outcome s.said s.carried s.left said.0 s.all s.whole said.2.0 said.2.1);
+            (ends_by s.outcome s.said s.carried s.left said.0 s.all s.whole s.only_whole said.2.0 said.2.1);
         kept = s.table;
       }
 

@@ -34,6 +34,11 @@ orders_in _ = []
 abbrev pub says_saved : ℕ → ℕ → Timed
 says_saved moment upto = record { moment = moment; act = Lobby (Saved upto) }
 
+-- the save orders that the first of these entries was told
+abbrev pub orders_told : Log → List Order
+orders_told [] = []
+orders_told (first ∷ rest) = orders_in first.reply
+
 -- the number of the last of these orders, if there is one
 abbrev pub last_number : List Order → Option ℕ
 last_number [] = None
@@ -86,6 +91,12 @@ EndsSaving moment (Done count) rounds entries orders =
 EndsSaving moment KeeperFault rounds entries orders = IsCutShort moment entries orders
 EndsSaving moment Memory rounds entries orders = IsCutShort moment entries orders ⊎ ((entries ≡ []) × (orders ≡ []))
 
+-- where the keeper failed, an order that was told at the end wasn't carried out
+abbrev pub LeavesOne : StewardEnd → Log → List Order → Type 0
+LeavesOne (Done count) entries carried = Unit {0}
+LeavesOne KeeperFault entries carried = length carried < length (orders_told entries)
+LeavesOne Memory entries carried = Unit {0}
+
 -- the entries of saving, in which these orders were carried out
 pub record IsSaving (moment : ℕ) (end : StewardEnd) (entries : Log) (carried : List Order) : Type 0 where
   pub rounds : ℕ
@@ -95,6 +106,7 @@ pub record IsSaving (moment : ℕ) (end : StewardEnd) (entries : Log) (carried :
   pub last : List Order
   pub are_full : AreFullRounds moment rounds full first
   pub ends : EndsSaving moment end rounds rest last
+  pub left : LeavesOne end rest last
   pub all : entries ≡ full ++ rest
   pub orders : carried ≡ first ++ last
 
@@ -124,8 +136,8 @@ round_of kept.Memory end count = round.Memory
 round_of kept.Done told.Memory count = round.Memory
 round_of kept.Done told.Done count = if count == 16 then round.Full else round.Last count
 
--- the orders that were told were handed to a keeper: some were carried out, from the first one on, all where that ended
--- well, and then told as saved
+-- the orders that were told were handed to a keeper: some were carried out, from the first one on, all exactly where
+-- that ended well, and then told as saved
 pub record SavesTold (moment : ℕ) (end : Round) (orders : List Order) (before after : Option Table)
     (old new : RunnerState) : Type 0 where
   pub carried : List Order
@@ -134,6 +146,7 @@ pub record SavesTold (moment : ℕ) (end : Round) (orders : List Order) (before 
   pub said : Told
   pub all : orders ≡ carried ++ left
   pub whole : outcome ≡ kept.Done → left ≡ []
+  pub only_whole : left ≡ [] → outcome ≡ kept.Done
   pub table : Carries before after carried
   pub tells : Tells moment carried said old new
   pub ends : end ≡ round_of outcome said (length orders)
@@ -143,7 +156,8 @@ abbrev pub EndsRound : ℕ → Round → Log → List Order → Type 0
 EndsRound moment round.Full entries orders = IsRound moment entries orders × (length orders ≡ 16)
 EndsRound moment (round.Last count) entries orders =
     IsRound moment entries orders × (length orders < 16) × (count ≡ length orders)
-EndsRound moment round.KeeperFault entries orders = IsCutShort moment entries orders
+EndsRound moment round.KeeperFault entries orders =
+    IsCutShort moment entries orders × (length orders < length (orders_told entries))
 EndsRound moment round.Memory entries orders = IsCutShort moment entries orders ⊎ ((entries ≡ []) × (orders ≡ []))
 
 -- a session ran a round, in which a keeper carried orders out

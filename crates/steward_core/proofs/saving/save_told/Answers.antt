@@ -1,4 +1,5 @@
-use Rattle.std.proofs.Common.{◌≡◌, List, [], take, drop, length, sym, ap, subst, ◌∙◌, take-append-drop, arith}
+use Rattle.std.proofs.Common.{◌≡◌, ◌-◌, List, [], take, drop, length, sym, ap, subst, ◌∙◌, take-append-drop, arith}
+use Rattle.std.proofs.lemmas.List.{length-drop}
 use Rattle.std.proofs.Math.Seq.{drop-length}
 use Rattle.steward_core.specs.Saving.{Tells}
 use Rattle.steward_core.proofs.saving.save_told.Goals as goal
@@ -14,6 +15,9 @@ returns-clause-saves g c =
       said = c.tell_saved-told.result;
       all = sym (take-append-drop count orders);
       whole = λ done. ap (λ n. drop n orders) (c.carry_out-carried.ensures.all done) ∙ drop-length orders;
+      only_whole = λ none.
+          let short : length orders - count ≡ 0 = sym (length-drop count orders) ∙ ap length none in
+          c.carry_out-carried.ensures.only_all (omega (arith, short, c.carry_out-carried.ensures.few));
       table = c.carry_out-carried.ensures.carried;
       tells = c.tell_saved-told.ensures.told;
       ends = c.round_of.ensures;
