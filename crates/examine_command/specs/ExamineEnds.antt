@@ -1,6 +1,6 @@
 -- How `examine` ends: what was read and what was written by then, by the table of the keeper, where the keeper tells
 -- it.
-use Rattle.std.specs.Prelude.{◌≡◌, ◌⊎◌, ℕ, List, [], codes, IfSome, None, Some}
+use Rattle.std.specs.Prelude.{◌≡◌, ◌⊎◌, ℕ, List, [], codes, IfSome, None, Some, ⊤}
 use Rattle.std.specs.declared.option.Option.{Option}
 use Rattle.std.specs.Io.KnownBytes.{Appends}
 use Rattle.edge_traits.specs.Pairs.{Table}
@@ -147,3 +147,10 @@ ExamineEnds table number left left' written written' (Read Spent) =
 ExamineEnds table number left left' written written' BadRecord = IsBadTold table left left' written written'
 ExamineEnds table number left left' written written' KeeperFault = (left' ≡ left) × Appends written written' []
 ExamineEnds table number left left' written written' NoGame = IsNoneTold table number left left' written written'
+
+-- it ended before the input was reached: the keeper failed, a record is bad, or there is no such game
+abbrev pub EndsBeforeInput : Outcome → Type 0
+EndsBeforeInput (Read end) = ⊥
+EndsBeforeInput BadRecord = ⊤
+EndsBeforeInput KeeperFault = ⊤
+EndsBeforeInput NoGame = ⊤

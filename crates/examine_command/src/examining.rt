@@ -6,7 +6,7 @@ ghost use Rattle.edge_traits.specs.Keeper.{Stays};
 ghost use Rattle.game_records.specs.Replays.{Replays};
 ghost use Rattle.lobby_state.specs.WellFormed.{IsWellFormed};
 ghost use Rattle.store_ends.specs.Outcomes.{OnKeeperFault, OnReadFault, OnWriteFault};
-ghost use Rattle.examine_command.specs.ExamineEnds.{ExamineEnds, ExaminesGame, ExaminesIn, TellsNone};
+ghost use Rattle.examine_command.specs.ExamineEnds.{EndsBeforeInput, ExamineEnds, ExaminesGame, ExaminesIn, TellsNone};
 
 use crate::answering::answer_exam;
 use edge_traits::{Keeper, Sink, Source};
@@ -32,6 +32,7 @@ pub fn examine<S: Source, K: Sink, P: Keeper>(
 ) -> Outcome
     ensures ends { ExamineEnds (P.table keeper.old) game (S.left source.old) (S.left source.new) (K.written sink.old)
         (K.written sink.new) result }
+    ensures unread { EndsBeforeInput result → source.new ≡ source.old }
     ensures unchanged { Stays (P.table keeper.old) (P.table keeper.new) }
     ensures read_cause { OnReadFault result (Rose (S.faults source.old) (S.faults source.new)) }
     ensures write_cause { OnWriteFault result (Rose (K.faults sink.old) (K.faults sink.new)) }
@@ -55,6 +56,7 @@ fn examine_in<S: Source, K: Sink>(
     ensures formed { IsWellFormed lobby.now }
     ensures ends { ExaminesIn lobby.now number (S.left source.old) (S.left source.new) (K.written sink.old)
         (K.written sink.new) result }
+    ensures unread { EndsBeforeInput result → source.new ≡ source.old }
     ensures read_cause { OnReadFault result (Rose (S.faults source.old) (S.faults source.new)) }
     ensures write_cause { OnWriteFault result (Rose (K.faults sink.old) (K.faults sink.new)) }
 {
@@ -75,6 +77,7 @@ fn examine_game<S: Source, K: Sink>(
     requires { Replays game.now }
     ensures ends { ExaminesGame game.now (S.left source.old) (S.left source.new) (K.written sink.old)
         (K.written sink.new) result }
+    ensures unread { EndsBeforeInput result → source.new ≡ source.old }
     ensures read_cause { OnReadFault result (Rose (S.faults source.old) (S.faults source.new)) }
     ensures write_cause { OnWriteFault result (Rose (K.faults sink.old) (K.faults sink.new)) }
 {

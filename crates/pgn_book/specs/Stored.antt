@@ -1,14 +1,8 @@
 -- Stored games of chess, as PGN text tells them.
-use Rattle.std.specs.Prelude.{◌≡◌, ◌↔◌, ℕ, ◌<◌, ◌≤◌, IsSome, List, [], length, map, get_or, codes}
-use Rattle.std.specs.List.{AllByRecursion}
-use Rattle.chess_model.specs.declared.variant.Terms.{Terms}
+use Rattle.std.specs.Prelude.{◌≡◌, ℕ, List, [], map, get_or, codes}
 use Rattle.chess_model.specs.declared.variant.Variant.TheVariants.{Chess}
-use Rattle.chess_model.specs.Position.{Position}
-use Rattle.chess_model.specs.Allowed.{Allowed}
-use Rattle.game_records.specs.declared.stored_game.Half.{Half}
 use Rattle.game_records.specs.declared.stored_game.StoredGame.{StoredGame}
-use Rattle.game_records.specs.Bounds.{AreStoredTerms, IsHalf}
-use Rattle.game_records.specs.Replays.{AreTimed, CanBePlayed, Replays}
+use Rattle.game_records.specs.Replays.{Replays}
 use Rattle.pgn_book.specs.declared.game.PgnResult.TheVariants.{Open}
 use Rattle.pgn_book.specs.declared.game.TagRow.{TagRow}
 use Rattle.pgn_book.specs.declared.game.PgnGame.{PgnGame}
@@ -36,23 +30,3 @@ stored_text g = record {
   moves = map (λ h. h.what) g.halves;
   result = Open;
 }
-
--- ---- how it is found
-
--- the terms of a stored game of chess
-pub record AreChessTerms (t : Terms) : Type 0 where
-  pub variant : t.variant ≡ Chess
-  pub stored : AreStoredTerms t
-
--- the half-moves that a stored game of chess on these terms can have
-pub record ArePlayed (t : Terms) (halves : List Half) : Type 0 where
-  pub each : AllByRecursion (IsHalf Chess) halves
-  pub few : length halves ≤ 1200
-  pub played : CanBePlayed t halves
-
--- a half-move may follow so many in that position
-pub record MayStand (t : Terms) (at : Position) (made : ℕ) (h : Half) : Type 0 where
-  pub half : IsHalf Chess h
-  pub room : made < 1200
-  pub allowed : Allowed at h.what
-  pub charged : IsSome h.charge ↔ (AreTimed t × (2 ≤ made))
