@@ -63,6 +63,12 @@ LeavesFewer old (Game g) new = most_left new < most_left old
 LeavesFewer old More new = most_left new ≤ most_left old
 LeavesFewer old (Bad line) new = Unit {0}
 
+-- behind the end of the text all was read and nothing of a game is left, so the end comes again
+abbrev pub StaysAtEnd : PgnStep → Reader → Type 0
+StaysAtEnd (Game g) new = Unit {0}
+StaysAtEnd More new = (new.rest ≡ []) × (rests new.on ≡ true)
+StaysAtEnd (Bad line) new = Unit {0}
+
 -- a game that is given may be exported
 abbrev pub MayBeExported : PgnStep → Type 0
 MayBeExported (Game g) = IsExportable g

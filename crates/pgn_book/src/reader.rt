@@ -52,7 +52,17 @@ impl Model for PgnReader {
 
 impl PgnReader {
     ghost use Rattle.pgn_book.specs.Export.{IsExportable};
-    ghost use Rattle.pgn_book.specs.Reader.{GoesOn, IsLast, IsNext, LeavesFewer, MayBeExported, Reader, fresh_reader, rests};
+    ghost use Rattle.pgn_book.specs.Reader.{
+      GoesOn,
+      IsLast,
+      IsNext,
+      LeavesFewer,
+      MayBeExported,
+      Reader,
+      StaysAtEnd,
+      fresh_reader,
+      rests,
+    };
 
     /// A reader before the first byte.
     pub fn new(alloc: Global) -> Result<PgnReader, NoMemory>
@@ -96,11 +106,12 @@ impl PgnReader {
         Ok(PgnStep::Bad(self.line))
     }
 
-    /// At the end of the text, the next game, which may be exported; `More` exactly where nothing of a game is left;
-    /// `Bad`, from then on, where something is, or something is outside the grammar. Out of memory, nothing is promised
+    /// At the end of the text, the next game, which may be exported; `More`, from then on, exactly where nothing of a
+    /// game is left; `Bad`, from then on, where something is, or something is outside the grammar. Out of memory, nothing is promised
     /// of the reader.
     pub fn finish(&mut self) -> Result<PgnStep, NoMemory>
         ensures last { IfOk result (λ step. IsLast self.old step self.new) }
+        ensures ended { IfOk result (λ step. StaysAtEnd step self.new) }
         ensures exportable { IfOk result MayBeExported }
         ensures fewer { IfOk result (λ step. LeavesFewer self.old step self.new) }
     {
@@ -114,6 +125,7 @@ impl PgnReader {
     fn end(&mut self) -> Result<PgnStep, NoMemory>
         requires all { self.old.rest ≡ [] }
         ensures last { IfOk result (λ step. IsLast self.old step self.new) }
+        ensures ended { IfOk result (λ step. StaysAtEnd step self.new) }
         ensures exportable { IfOk result MayBeExported }
         ensures fewer { IfOk result (λ step. LeavesFewer self.old step self.new) }
     {
