@@ -27,7 +27,7 @@ use Rattle.line_answers.proofs.Completeness.{is_complete, is_complete-closing}
 use Rattle.line_answers.proofs.LineCommandEnds.{AnswersPart-none}
 use Rattle.pgn_command.specs.PgnEnds.{PgnEnds}
 use Rattle.examine_board.specs.Exam.{opened}
-use Rattle.examine_command.specs.ExamineEnds.{ExamineEnds, StandsUnder}
+use Rattle.examine_command.specs.ExamineEnds.{EndsBeforeInput, ExamineEnds, StandsUnder}
 use Rattle.examine_command.specs.Texts.{examine_lines}
 use Rattle.game_records.proofs.ReadBack.{one_spelled}
 use Rattle.game_records.specs.declared.records.Record.{Record}
@@ -168,16 +168,22 @@ pub usage_part : (words : List (String Global)) (table : Option Table) (left wri
 usage_part words table left written written' outcome status none (inl whole) not_whole = absurd (not_whole whole.0)
 usage_part words table left written written' outcome status none (inr front) not_whole = (λ command names. absurd (none (command, names)), λ none. (Keeps-same left, front.1))
 
--- ---- the keeper
+-- ---- what stays
+
+-- what stays unless the command is of this kind
+pub stays_unless : (words : List (String Global)) (command : Command) (Kind : Command → Type 0) (P : Type 0) → Names words command → ((Kind command → ⊥) → P) → (Does words Kind → ⊥) → P
+stays_unless words command Kind P names stays none = stays (λ of. none (command, names, of))
+
+-- the statuses that tell that the input wasn't reached
+pub unread_at : (outcome : Outcome) (P : Type 0) (status : ℕ) → status ≡ status_of_outcome outcome → (EndsBeforeInput outcome → P) → (status ≡ 4) ⊎ ((status ≡ 5) ⊎ (status ≡ 10)) → P
+unread_at outcome P status is stays (inl told) = stays (subst EndsBeforeInput (sym (one_outcome outcome KeeperFault status is told)) tt)
+unread_at outcome P status is stays (inr (inl told)) = stays (subst EndsBeforeInput (sym (one_outcome outcome BadRecord status is told)) tt)
+unread_at outcome P status is stays (inr (inr told)) = stays (subst EndsBeforeInput (sym (one_outcome outcome NoGame status is told)) tt)
 
 -- a table that isn't touched stays
 pub Stays-same : (table : Option Table) → Stays table table
 Stays-same None = tt
 Stays-same (Some held) = refl
-
--- a keeper that stays unless a command is over a store
-pub keeper_stays_at : (words : List (String Global)) (command : Command) (P : Type 0) → Names words command → ((IsOverStore command → ⊥) → P) → (Does words IsOverStore → ⊥) → P
-keeper_stays_at words command P names stays none = stays (λ over. none (command, names, over))
 
 -- ---- runs without faults
 

@@ -39,6 +39,13 @@ IsOverStore Pgn = ⊤
 IsOverStore (Examine game) = ⊤
 IsOverStore _ = ⊥
 
+-- the command reads the input
+abbrev pub ReadsInput : Command → Type 0
+ReadsInput (Demo number) = ⊥
+ReadsInput Check = ⊥
+ReadsInput Pgn = ⊥
+ReadsInput _ = ⊤
+
 -- the words name a command
 abbrev pub IsCommand : List (String Global) → Type 0
 IsCommand words = (command : Command) × Names words command

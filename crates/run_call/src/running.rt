@@ -6,7 +6,8 @@ ghost use Rattle.edge_traits.specs.Faults.{Rose};
 ghost use Rattle.edge_traits.specs.Keeper.{Stays};
 ghost use Rattle.run_call.specs.RunEnds.{CommandEnds, IsGood, WritesPart};
 ghost use Rattle.job_words.specs.Usage.{usage_line};
-ghost use Rattle.run_call.specs.Words.{Does, IsCommand, IsOverStore, IsWithin, Names};
+ghost use Rattle.examine_command.specs.ExamineEnds.{EndsBeforeInput};
+ghost use Rattle.run_call.specs.Words.{Does, IsCommand, IsOverStore, IsWithin, Names, ReadsInput};
 ghost use Rattle.store_ends.specs.Outcomes.{OnKeeperFault, OnReadFault, OnWriteFault};
 ghost use Rattle.line_answers.specs.declared.end.End.{End};
 ghost use Rattle.store_ends.specs.declared.outcome.Outcome.{Outcome};
@@ -31,8 +32,9 @@ use tourney_command::tourney;
 /// Runs the command that the words name, and gives the status with which the program ends: 0 where the input was read
 /// to its end, 1 where the words name no command, 2 at a fault of reading, 3 at a fault of writing, 4 at a fault of the
 /// keeper, 5 where a record of the store is bad, 6 for want of memory, 7 at the first line outside the grammar, 9 after
-/// 2^40 reads, and 10 where the store has no game of the number. The keeper is called by the commands over a store
-/// alone, and its table stays as it is.
+/// 2^40 reads, and 10 where the store has no game of the number. The source is read by the commands that read an input
+/// alone, and not before the store was loaded; the keeper is called by the commands over a store alone, and its table
+/// stays as it is.
 pub fn run<S: Source, K: Sink, P: Keeper>(
     alloc: Global,
     words: &[String],
@@ -70,6 +72,8 @@ pub fn run<S: Source, K: Sink, P: Keeper>(
         → IfSome (S.left source.old) (λ text. length text < 2 ^ 40 → IsGood (P.table keeper.old) text command
         → (result ≡ 0) ⊎ (result ≡ 6)) }
     ensures statuses { Contains (0 ∷ 1 ∷ 2 ∷ 3 ∷ 4 ∷ 5 ∷ 6 ∷ 7 ∷ 9 ∷ 10 ∷ []) result }
+    ensures source_stays { ¬ (Does words.now ReadsInput) → source.new ≡ source.old }
+    ensures unread { (result ≡ 4) ⊎ ((result ≡ 5) ⊎ (result ≡ 10)) → source.new ≡ source.old }
     ensures keeper_stays { ¬ (Does words.now IsOverStore) → keeper.new ≡ keeper.old }
     ensures table_stays { Stays (P.table keeper.old) (P.table keeper.new) }
     ensures keeper_counted { P.faults keeper.old ≤ P.faults keeper.new }
@@ -95,6 +99,8 @@ fn run_command<S: Source, K: Sink, P: Keeper>(
     ensures read_cause { OnReadFault result (Rose (S.faults source.old) (S.faults source.new)) }
     ensures write_cause { OnWriteFault result (Rose (K.faults sink.old) (K.faults sink.new)) }
     ensures keeper_cause { OnKeeperFault result (Rose (P.faults keeper.old) (P.faults keeper.new)) }
+    ensures source_stays { ¬ (ReadsInput command) → source.new ≡ source.old }
+    ensures unread { EndsBeforeInput result → source.new ≡ source.old }
     ensures keeper_stays { ¬ (IsOverStore command) → keeper.new ≡ keeper.old }
     ensures table_stays { Stays (P.table keeper.old) (P.table keeper.new) }
     ensures keeper_counted { P.faults keeper.old ≤ P.faults keeper.new }

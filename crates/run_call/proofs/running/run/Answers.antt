@@ -1,8 +1,9 @@
 use Rattle.std.proofs.Common.{◌≡◌, arith, sym, ◌∙◌}
 use Rattle.line_answers.specs.declared.end.End.TheVariants.{Done, ReadFault, WriteFault, Memory, BadLine, Spent}
 use Rattle.store_ends.specs.declared.outcome.Outcome.TheVariants.{Read, BadRecord, KeeperFault, NoGame}
+use Rattle.run_call.specs.Words.{IsOverStore, ReadsInput}
 use Rattle.run_call.proofs.Named.{is_command, refused}
-use Rattle.run_call.proofs.RunEnds.{Stays-same, complete_at, does_at, keeper_fault_at, keeper_stays_at, listed_as, memory_at_once, not_usage, read_fault_at, usage_listed, usage_part, write_fault_at, writes_at}
+use Rattle.run_call.proofs.RunEnds.{Stays-same, complete_at, does_at, keeper_fault_at, listed_as, memory_at_once, not_usage, read_fault_at, stays_unless, unread_at, usage_listed, usage_part, write_fault_at, writes_at}
 use Rattle.run_call.proofs.running.run.Goals as goal
 
 -- ---- a command was run
@@ -57,8 +58,14 @@ returns-in-Ok-clause-complete g c = λ command names no_read no_write no_keeper.
 pub returns-in-Ok-clause-statuses : goal.returns-in-Ok-clause-statuses
 returns-in-Ok-clause-statuses g c = listed_as _ c.in-Ok.command _ _ _ _ _ c.run_command.result c.run_command.ensures.ends c.status_of_outcome.ensures
 
+pub returns-in-Ok-clause-source_stays : goal.returns-in-Ok-clause-source_stays
+returns-in-Ok-clause-source_stays g c = stays_unless _ c.in-Ok.command ReadsInput _ c.in-Ok.ensures.command c.run_command.ensures.source_stays
+
+pub returns-in-Ok-clause-unread : goal.returns-in-Ok-clause-unread
+returns-in-Ok-clause-unread g c = unread_at c.run_command.result _ _ c.status_of_outcome.ensures c.run_command.ensures.unread
+
 pub returns-in-Ok-clause-keeper_stays : goal.returns-in-Ok-clause-keeper_stays
-returns-in-Ok-clause-keeper_stays g c = keeper_stays_at _ c.in-Ok.command _ c.in-Ok.ensures.command c.run_command.ensures.keeper_stays
+returns-in-Ok-clause-keeper_stays g c = stays_unless _ c.in-Ok.command IsOverStore _ c.in-Ok.ensures.command c.run_command.ensures.keeper_stays
 
 -- ---- the words name no command
 
