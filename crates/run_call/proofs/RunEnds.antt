@@ -30,7 +30,6 @@ use Rattle.examine_board.specs.Exam.{opened}
 use Rattle.examine_command.specs.ExamineEnds.{EndsBeforeInput, ExamineEnds, StandsUnder}
 use Rattle.examine_command.specs.Texts.{examine_lines}
 use Rattle.game_records.proofs.ReadBack.{one_spelled}
-use Rattle.game_records.specs.declared.records.Record.{Record}
 use Rattle.game_records.specs.declared.records.Record.TheVariants.{Game}
 use Rattle.game_records.specs.declared.stored_game.StoredGame.{StoredGame}
 use Rattle.line_answers.specs.LineCommand.{bad_in}
