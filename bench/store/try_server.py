@@ -88,22 +88,23 @@ def board_of(line):
 class Evening:
     """A game: who plays it at which seats, how it begins, and what is seen of it."""
 
-    def __init__(self, name, people, match, words, lines, stored):
+    def __init__(self, name, people, match, words, hands, stored):
         self.name = name
         self.people = people
         self.match = match
         self.words = words  # of Ann and Ben in turn
-        self.lines = lines  # how many boards and hands each of them is shown
+        self.hands = hands  # those of each board, with which a game has them, behind the third half-move
+        self.lines = len(people) // 2 + len(hands)  # how many boards and hands each of them is shown
         self.stored = stored
 
 
-CHESS = Evening("chess", ("Ann", "Ben"), "match ben 2 12 white", ("e4", "e5", "Nf3"), 1, "1 Ann Ben 2 12 chess")
+CHESS = Evening("chess", ("Ann", "Ben"), "match ben 2 12 white", ("e4", "e5", "Nf3"), (), "1 Ann Ben 2 12 chess")
 EVENINGS = (
     CHESS,
-    Evening("crazyhouse", ("Ann", "Ben"), "match ben 3 1 crazyhouse white", ("e4", "d5", "exd5", "Qxd5"), 2,
-            "1 Ann Ben 3 1 crazyhouse"),
-    Evening("bughouse", ("Ann", "Ben", "Cat", "Dan"), "match ben 5 0 bughouse white", ("e4", "d5", "exd5"), 4,
-            "1 Ann Ben Cat Dan 5 0 bughouse"),
+    Evening("crazyhouse", ("Ann", "Ben"), "match ben 3 1 crazyhouse white", ("e4", "d5", "exd5", "Qxd5"),
+            ("white [P] black []",), "1 Ann Ben 3 1 crazyhouse"),
+    Evening("bughouse", ("Ann", "Ben", "Cat", "Dan"), "match ben 5 0 bughouse white", ("e4", "d5", "exd5"),
+            ("white [] black []", "white [] black [P]"), "1 Ann Ben Cat Dan 5 0 bughouse"),
 )
 
 
@@ -160,6 +161,17 @@ def come_again(evening, server):
     return links
 
 
+def looks_at_hands(evening, path, name):
+    """`examine` in a game with men in hand, up to the capture that is its third half-move, and a half-move to try."""
+    text, status = PROGRAM.run("examine", "--store", path, "--game", 1, given="forward 3\nNf6\n")
+    lines = text.splitlines()
+    shown_once = ["<12>"] + ["<b1>"] * len(evening.hands)
+    tried = ["refused"] if len(evening.people) == 4 else shown_once
+    says(f"{name}: examine", [it.split()[0] for it in lines] + [status], shown_once * 2 + tried + [0])
+    hands = lines[len(shown_once) + 1:2 * len(shown_once)]
+    says(f"{name}: examine, the hands", [" ".join(it.split()[3:7]) for it in hands], list(evening.hands))
+
+
 def try_evening(evening, folder, killed):
     """People register and play, adjourn, and go on at the next server over the same file: they see what they saw."""
     name = f"{evening.name}, {'killed' if killed else 'ended'}"
@@ -178,6 +190,8 @@ def try_evening(evening, folder, killed):
         leave(*links)
         says(f"{name}: the end", server.ends(), ("ready\nclosed\n", 0))
     checks(path, len(links), 1, name)
+    if evening.hands:
+        looks_at_hands(evening, path, name)
     server = Server(PROGRAM, path, len(links) + 1)
     links = come_again(evening, server)
     says(f"{name}: boards, hands and clocks", [shown(it, evening.lines) for it in links], before)
@@ -210,8 +224,23 @@ def looks(path, name):
     says(f"{name}: examine, the end", lines[1].split()[27:], ["N/g1-f3", "(0:02)", "Nf3", "0"])
     says(f"{name}: examine, too far", lines[2:] + [status],
          ["refused 58 NoEarlierMoves", "refused 57 NoMoreMoves", "", 0])
+    tries_moves(path, name, lines)
     says(f"{name}: no such game", PROGRAM.run("examine", "--store", path, "--game", 2), ("no such game\n", 10))
     says(f"{name}: the files", files_of(folder) == before, True)
+
+
+def tries_moves(path, name, through):
+    """Another half-move in the game of `CHESS`, and back to what is stored, by the boards of its start and its end."""
+    given = "forward 2\nBc4\nforward\nKe3\nback 3\nrevert\nforward\nforward 0\nback\n"
+    text, status = PROGRAM.run("examine", "--store", path, "--game", 1, given=given)
+    start, end = through[:2]
+    e5 = ("<12> rnbqkbnr pppp-ppp -------- ----p--- ----P--- -------- PPPP-PPP RNBQKBNR W 4 1 1 1 1 0 "
+          "1 Ann Ben 2 2 12 39 39 120 120 2 P/e7-e5 (0:00) e5 0")
+    bc4 = ("<12> rnbqkbnr pppp-ppp -------- ----p--- --B-P--- -------- PPPP-PPP RNBQK-NR B -1 1 1 1 1 1 "
+           "1 Ann Ben 2 2 12 39 39 120 120 2 B/f1-c4 (0:00) Bc4 0")
+    says(f"{name}: examine, another move and back", text.split("\n"),
+         [start, e5, bc4, "refused 57 NoMoreMoves", "refused 9 CannotReach", start, e5, end, "bad line 8", ""])
+    says(f"{name}: examine, a bad line", status, 7)
 
 
 def try_commands(folder, path):
