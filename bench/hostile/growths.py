@@ -4,11 +4,14 @@ it, its opponent is told so at its next line, and its name is free; all others a
 itself.
 
 An allocation of the program is refused by `refuse.c`, which is compiled and loaded into it. The program is the built
-one, and no launcher."""
+one, and no launcher. With `--store` there is a store too: two of the six register, their game is adjourned, and the
+store is good afterwards, and has all of it where it was said that all was kept."""
 
 import collections
 import concurrent.futures
 import os
+import shlex
+import shutil
 import struct
 import subprocess
 import tempfile
@@ -20,11 +23,17 @@ HERE = os.path.dirname(os.path.abspath(__file__))
 ANN, BEN, CAT, DAN, DORA, EVE = NAMES = b"Ann", b"Ben", b"Cat", b"Dan", b"Dora", b"Eve"
 OPPONENTS = {ANN: BEN, BEN: ANN, CAT: DAN, DAN: CAT}
 NEWCOMER = b"Zoe"
+PASSWORD = b"secret"
 
 # a line, of what one is in its answer, and without whom it is answered otherwise
 Line = collections.namedtuple("Line", "who text wanted needs")
 # a line that was said, its answer, and who wasn't in then
 Said = collections.namedtuple("Said", "line answer absent")
+# where there is a store
+REGISTERING = (
+    Line(ANN, b"register " + PASSWORD, (b"Ok.",), set()),
+    Line(BEN, b"register " + PASSWORD, (b"Ok.",), set()),
+)
 # two games begin
 BEFORE = (
     Line(ANN, b"match Ben 2 12 white", (b"Ok.",), {BEN}),
@@ -106,6 +115,8 @@ class Guest(Client):
         except (EOFError, ConnectionError):
             return self.hung_up()
         answer = self.try_line(self.name)
+        if answer == b"password: ":
+            answer = self.try_line(PASSWORD)
         self.is_in = answer is not None
         return answer
 
@@ -117,16 +128,19 @@ class Guest(Client):
 class Evening:
     """The players of one evening, and what went otherwise than it should."""
 
-    def __init__(self, server):
+    def __init__(self, server, store):
         self.server = server
+        self.store = store
         self.faults = []
         self.guests = []
         self.said = []
         self.had_late = False
 
     def play(self):
-        """From the first who comes to the last who leaves."""
+        """From the first of the six who comes to the last who leaves."""
         self.gather()
+        if self.store:
+            self.say_in_turn(REGISTERING)
         self.say_in_turn(BEFORE)
         time.sleep(REST)
         self.say_at_once(AT_ONCE)
@@ -134,7 +148,6 @@ class Evening:
         self.say_in_turn(BEHIND)
         self.leave_all()
         self.serve_late()
-        self.succeed()
 
     def gather(self):
         """All come in, in this order, but those behind one whom the door itself serves."""
@@ -200,7 +213,8 @@ class Evening:
         """Whoever plays with one who had gone before the line was said has been told that the game is over."""
         opponent = OPPONENTS.get(guest.name)
         if guest.is_in and opponent in absent and b"<12> " in guest.seen:
-            if b"%s forfeits by disconnection} " % opponent not in guest.seen:
+            adjourned = self.store and b" adjourned} *" in guest.seen
+            if not adjourned and b"%s forfeits by disconnection} " % opponent not in guest.seen:
                 self.faults.append(f"{guest.name} isn't told that {opponent} is gone: {guest.seen!r}")
 
     def leave_all(self):
@@ -225,7 +239,8 @@ class Evening:
                 self.faults.append(f"{guest.name} was never greeted")
 
     def succeed(self):
-        """The name of one who is gone is free. Where the door has lost a connection, one more is wanted."""
+        """Somebody comes for whom the server waits; the name of one who is gone is free. Where the door has lost a
+        connection, one more is wanted."""
         name = min(self.gone(), default=NEWCOMER)
         for _ in range(3):
             guest = self.welcome(name)
@@ -253,45 +268,85 @@ class Evening:
             self.faults.append(f"status {status}, written {text!r}, {hung} of {len(self.guests)} hung up")
 
 
-def kind_of(evening, status, text):
-    """What a refused allocation came to."""
-    if not text:
-        return "the server ended before it was ready"
-    if evening.gone():
-        return "a session ended"
-    if evening.had_late:
-        return "the door itself served a link"
-    return "only the status told of it" if status else "nobody noticed"
+class Try:
+    """An evening with one allocation refused, or none."""
+
+    def __init__(self, given, library, number):
+        self.given = given
+        self.number = number
+        self.folder = tempfile.mkdtemp()
+        self.counter = os.path.join(self.folder, "count")
+        self.store = os.path.join(self.folder, "store") if given.store else None
+        with open(self.counter, "wb") as file:
+            file.write(bytes(8))
+        words = ["--count", str(len(NAMES) + 1)] + (["--store", self.store] if self.store else [])
+        env = {**os.environ, "LD_PRELOAD": library, "REFUSE": str(number), "COUNT": self.counter}
+        self.server = Server(given.program, *words, env=env)
+        self.evening = Evening(self.server, self.store)
+        self.status, self.text = None, b""
+        # how many allocations there were until the six had left, and until the end
+        self.until_left = self.until_end = 0
+
+    def run(self):
+        """Plays the evening, and looks at its end."""
+        evening = self.evening
+        try:
+            evening.play()
+            self.until_left = self.count()
+            evening.succeed()
+        except (OSError, ValueError) as fault:
+            evening.faults.append(repr(fault))
+        self.status = self.server.status(PATIENCE)
+        self.server.stop()
+        self.text = self.server.written()
+        self.until_end = self.count()
+        evening.judge(self.status, self.text)
+        if self.store:
+            self.judge_store()
+        shutil.rmtree(self.folder)
+        return self
+
+    def count(self):
+        """How many allocations the program has asked for."""
+        with open(self.counter, "rb") as file:
+            return struct.unpack("=Q", file.read(8))[0]
+
+    def is_all_kept(self):
+        """Whether everything of the evening is to be found in the store: all six played, and what was refused before
+        they left was tried again."""
+        evening = self.evening
+        lasts = self.status == 0 or 0 < self.number <= self.until_left
+        return bool(self.text) and lasts and not evening.gone() and not evening.had_late
+
+    def judge_store(self):
+        """Afterwards the store is good. One that was never opened may be none."""
+        words = [*shlex.split(self.given.program), "check", "--store", self.store]
+        done = subprocess.run(words, stdin=subprocess.DEVNULL, capture_output=True, check=False)
+        said = done.stdout, done.returncode
+        most = [(b"ok: %d accounts, %d games\n" % (it, it > 1 and games), 0) for it in range(3) for games in range(2)]
+        if not self.text:
+            most = [most[0], (b"", 4)]
+        if said not in (most[-1:] if self.is_all_kept() else most):
+            self.evening.faults.append(f"status {self.status}, and check says {said}")
+
+    def kind(self):
+        """What the refused allocation came to."""
+        if self.until_end < self.number:
+            return "it wasn't asked for"
+        if not self.text:
+            return "the server ended before it was ready"
+        if self.evening.gone():
+            return "a session ended"
+        if self.evening.had_late:
+            return "the door itself served a link"
+        return "only the status told of it" if self.status else "nobody noticed"
 
 
-def refusing(given, library, number, folder):
-    """An evening with one allocation refused: how many there were, what came of it, and what is wrong."""
-    path = os.path.join(folder, str(number))
-    with open(path, "wb") as file:
-        file.write(bytes(8))
-    env = {**os.environ, "LD_PRELOAD": library, "REFUSE": str(number), "COUNT": path}
-    server = Server(given.program, "--count", str(len(NAMES) + 1), env=env)
-    evening = Evening(server)
-    try:
-        evening.play()
-    except (OSError, ValueError) as fault:
-        evening.faults.append(repr(fault))
-    status = server.status(PATIENCE)
-    server.stop()
-    text = server.written()
-    evening.judge(status, text)
-    with open(path, "rb") as file:
-        count = struct.unpack("=Q", file.read(8))[0]
-    os.unlink(path)
-    kind = kind_of(evening, status, text) if count >= number else "it wasn't asked for"
-    return count, kind, evening.faults
-
-
-def count_of(given, library, folder, tale):
+def count_of(given, library, tale):
     """How many allocations there are where none is refused, which differs by what the clock does meanwhile."""
-    tries = [refusing(given, library, 0, folder) for _ in range(3)]
-    counts = [it[0] for it in tries]
-    faults = [fault for it in tries for fault in it[2]]
+    tries = [Try(given, library, 0).run() for _ in range(3)]
+    counts = [it.until_end for it in tries]
+    faults = [fault for it in tries for fault in it.evening.faults]
     tale.holds(min(counts) > 0 and not faults, f"with none refused: {counts} allocations {faults or ''}")
     return max(counts)
 
@@ -301,14 +356,13 @@ def main(given, tale):
         library = os.path.join(folder, "refuse.so")
         subprocess.run(["cc", "-O2", "-shared", "-fPIC", "-o", library, os.path.join(HERE, "refuse.c")], check=True)
         start = time.monotonic()
-        numbers = range(1, count_of(given, library, folder, tale) + 1, given.every)
+        numbers = range(1, count_of(given, library, tale) + 1, given.every)
         kinds = collections.Counter()
         with concurrent.futures.ThreadPoolExecutor(given.jobs) as jobs:
-            tries = jobs.map(lambda it: refusing(given, library, it, folder), numbers)
-            for number, (_, kind, faults) in zip(numbers, tries):
-                kinds[kind] += 1
-                for fault in faults:
-                    tale.lost(f"allocation {number}: {fault}")
+            for one in jobs.map(lambda it: Try(given, library, it).run(), numbers):
+                kinds[one.kind()] += 1
+                for fault in one.evening.faults:
+                    tale.lost(f"allocation {one.number}: {fault}")
         tale.saw(f"{len(numbers)} refused one by one in {time.monotonic() - start:.0f} s")
         for kind, times in kinds.most_common():
             tale.saw(f"{times} times {kind}")
@@ -318,4 +372,5 @@ tell("growths", __doc__, main, [
     (("--every",), {"type": int, "default": 1, "metavar": "N", "help": "refuses the first and then each Nth"}),
     (("--jobs",), {"type": int, "default": 2 * (os.cpu_count() or 1), "metavar": "N",
                    "help": "so many servers at a time, which wait most of their time"}),
+    (("--store",), {"action": "store_true", "help": "the server has a store"}),
 ])
