@@ -231,7 +231,8 @@ def looks(path, name):
 
 def tries_moves(path, name, through):
     """Another half-move in the game of `CHESS`, and back to what is stored, by the boards of its start and its end."""
-    given = "forward 2\nBc4\nforward\nKe3\nback 3\nrevert\nforward\nforward 0\nback\n"
+    given = ("forward 2\nBc4\nforward\nKe3\nback 3\nforward 3\nrevert\nforward\n"
+             "back 3\nrevert\nforward 0\nback\n")
     text, status = PROGRAM.run("examine", "--store", path, "--game", 1, given=given)
     start, end = through[:2]
     e5 = ("<12> rnbqkbnr pppp-ppp -------- ----p--- ----P--- -------- PPPP-PPP RNBQKBNR W 4 1 1 1 1 0 "
@@ -239,7 +240,8 @@ def tries_moves(path, name, through):
     bc4 = ("<12> rnbqkbnr pppp-ppp -------- ----p--- --B-P--- -------- PPPP-PPP RNBQK-NR B -1 1 1 1 1 1 "
            "1 Ann Ben 2 2 12 39 39 120 120 2 B/f1-c4 (0:00) Bc4 0")
     says(f"{name}: examine, another move and back", text.split("\n"),
-         [start, e5, bc4, "refused 57 NoMoreMoves", "refused 9 CannotReach", start, e5, end, "bad line 8", ""])
+         [start, e5, bc4, "refused 57 NoMoreMoves", "refused 9 CannotReach", start, bc4, e5, end,
+          start, start, "bad line 11", ""])
     says(f"{name}: examine, a bad line", status, 7)
 
 
@@ -413,25 +415,28 @@ def try_full_disks():
 
 
 def timed(*words):
-    """The seconds and the greatest memory in KiB of a command, and what it writes."""
-    start, peak = time.monotonic(), 0
+    """The seconds of a command, those of a processor, the greatest memory in KiB, and what it writes."""
+    start, used, peak = time.monotonic(), resource.getrusage(resource.RUSAGE_CHILDREN), 0
     process = subprocess.Popen([*PROGRAM.words, *map(str, words)], stdin=subprocess.DEVNULL, stdout=subprocess.PIPE,
                                stderr=subprocess.DEVNULL, text=True)
     while process.poll() is None:
         peak = max(peak, peak_of(process))
         time.sleep(0.002)
-    return time.monotonic() - start, peak, (process.stdout.read(), process.returncode)
+    seconds, after = time.monotonic() - start, resource.getrusage(resource.RUSAGE_CHILDREN)
+    busy = after.ru_utime + after.ru_stime - used.ru_utime - used.ru_stime
+    return seconds, busy, peak, (process.stdout.read(), process.returncode)
 
 
 def try_full_store(folder):
     path = os.path.join(folder, "full")
     make_full_store(path, ACCOUNTS, GAMES)
     print(f"a full store: {os.path.getsize(path) / 1e6:.1f} MB")
-    seconds, peak, said = timed("check", "--store", path)
+    seconds, busy, peak, said = timed("check", "--store", path)
     says("check of a full store", said, (f"ok: {ACCOUNTS} accounts, {GAMES} games\n", 0))
-    print(f"check of a full store: {seconds:.2f} s, {peak / 1024:.0f} MiB")
+    print(f"check of a full store: {seconds:.2f} s, {busy:.2f} s of a processor, {peak / 1024:.0f} MiB")
     server = Server(PROGRAM, path, 2)
-    print(f"a server over a full store: ready after {server.seconds:.2f} s, {server.peak() / 1024:.0f} MiB")
+    print(f"a server over a full store: ready after {server.seconds:.2f} s, {server.processor():.2f} s of a processor, "
+          f"{server.peak() / 1024:.0f} MiB")
     link = server.enter("Newcomer")
     says("one account more", answers(link, "register x", r"^(Ok|refused \d+ \w+)")[0], "refused 47 AccountsFull")
     leave(link)
