@@ -1,22 +1,29 @@
 #!/usr/bin/env python3
 """256 people at 128 games, for a minute or as long as `--seconds` says: each line has one answer, the one that its kind
-has, and memory and speed stay as they are, once each pair has played two games to their ends."""
+has, and speed and memory stay as they are, once each pair has played two games to their ends. The bytes that the built
+program holds are counted by `live.c`, which is compiled and loaded into it."""
 
 import heapq
+import itertools
+import os
 import selectors
+import shlex
+import tempfile
 import time
 
-from house import MOVES, PATIENCE, Client, Server, tell
+from house import MOVES, PATIENCE, Client, Server, counter, loading, tell
 
 PAIRS = 128
 # so many games each pair plays before anything is compared: by then each game's lists have been as long as they get
 WARM = 2
 # the parts of the evening, of which the first two and the last two are compared
 PARTS = 10
-# by how much the last parts may be slower than the first, and larger in KiB
+# by how much the last parts may be slower than the first
 SLOWER = 0.5
-LARGER = 2048
-# how often the memory is read
+# how many KiB more the program may hold then, and how many more it may have with what the C library keeps for later
+MORE_HELD = 1024
+MORE_KEPT = 8192
+# how often both are read
 READ = 0.5
 
 
@@ -59,7 +66,7 @@ class Player(Client):
 
 class Pair:
     """Two players, of whom one at a time has a line under way. They give up a game after so many half-moves, and begin
-    another one."""
+    another one. The first game is a shorter one for most, so that games of each length go on at each time."""
 
     def __init__(self, port, number, half_moves):
         letters = bytes([97 + number // 26, 97 + number % 26])
@@ -68,17 +75,17 @@ class Pair:
             entered = player.enter(player.name)
             if not entered.startswith(b"Entered"):
                 raise ValueError(f"{player.name} was answered {entered!r}")
-        self.lines = self.course(half_moves)
+        self.lines = self.course(half_moves * (number + 1) // PAIRS, half_moves)
         self.mover = None
         self.games = 0
 
-    def course(self, half_moves):
+    def course(self, first, half_moves):
         """Who says what next, and what its answer has in it."""
         white, black = self.players
-        while True:
+        for length in itertools.chain([first], itertools.repeat(half_moves)):
             yield white, b"match %s 0 0 white" % black.name, b"Ok.\n\r"
             yield black, b"accept", b"Creating 0 0 chess match."
-            for number in range(half_moves):
+            for number in range(length):
                 who = self.players[number % 2]
                 word = MOVES[number // 2 % 2][number % 2]
                 yield who, word, b" N/%s-%s (0:00) " % (word[:2], word[2:])
@@ -105,23 +112,29 @@ class Part:
         self.answers = 0
         self.slowest = 0.0
         self.largest = 0
+        self.held = []
         self.seconds = 0.0
         self.busy = 0.0
 
     def speed(self):
         return self.answers / self.seconds
 
+    def holds(self):
+        """How many KiB the program held, in the middle."""
+        return sum(self.held) / len(self.held) / 1024
+
     def text(self):
         return (f"{self.speed():8.0f} lines a second, the slowest answered after {self.slowest:.3f} s, "
-                f"{self.largest} KiB at most, {self.busy / self.seconds:.2f} processors")
+                f"{self.holds():.0f} KiB held, {self.largest} KiB at most, {self.busy / self.seconds:.2f} processors")
 
 
 class Play:
     """The games under way. Each pair says its next line behind the answer to the last one, but waits until so many
     seconds have passed since that was said."""
 
-    def __init__(self, server, pairs, pace):
+    def __init__(self, server, pairs, pace, live):
         self.server = server
+        self.live = live
         self.pairs = pairs
         self.pace = pace
         self.chosen = selectors.DefaultSelector()
@@ -143,7 +156,7 @@ class Play:
             self.take_answers()
             self.watch()
         part.slowest = max([part.slowest, *(it.mover.waits() for it in self.pairs if it.is_waiting())])
-        part.largest = max(part.largest, self.server.memory())
+        self.read()
         part.seconds, part.busy = time.monotonic() - start, self.server.processor() - busy
         return part
 
@@ -174,8 +187,12 @@ class Play:
         if now - self.last > PATIENCE + self.pace:
             raise TimeoutError(f"no line was answered for {PATIENCE} s")
         if now >= self.next_reading:
-            self.part.largest = max(self.part.largest, self.server.memory())
+            self.read()
             self.next_reading = now + READ
+
+    def read(self):
+        self.part.largest = max(self.part.largest, self.server.memory())
+        self.part.held.append(counter(self.live))
 
     def finish(self):
         """Waits for the answers that are still due, and says no more."""
@@ -188,10 +205,9 @@ class Play:
             raise TimeoutError(f"{late} lines weren't answered")
 
 
-def play(server, pairs, given, tale):
+def play(evening, given, tale):
     """Plays the whole evening; what was seen in each part behind the games that nothing is compared in."""
-    evening = Play(server, pairs, given.pace / 1000)
-    first = evening.run(lambda: min(it.games for it in pairs) >= WARM)
+    first = evening.run(lambda: min(it.games for it in evening.pairs) >= WARM)
     tale.saw(f"each pair has ended {WARM} games after {first.seconds:.1f} s: {first.text()}")
     parts = []
     for number in range(1, PARTS + 1):
@@ -206,18 +222,21 @@ def is_flat(parts, tale):
     """Compares the last fifth of the evening with its first fifth."""
     early, late = parts[:2], parts[-2:]
     speed = sum(it.speed() for it in late) / sum(it.speed() for it in early)
-    grown = max(it.largest for it in late) - max(it.largest for it in early)
-    between = sum(it.answers for it in parts[2:])
     tale.holds(speed >= SLOWER, f"the last fifth has {100 * speed:.0f} % of the speed of the first one")
-    tale.holds(grown <= LARGER, f"the last fifth has {grown} KiB more than the first one; a loss of "
-               f"{LARGER * 1024 / between:.1f} bytes a line would have been {LARGER} KiB")
+    held = (sum(it.holds() for it in late) - sum(it.holds() for it in early)) / 2
+    between = sum(it.answers for it in parts[1:-1])
+    tale.holds(held <= MORE_HELD, f"it holds {held:+.0f} KiB in the last fifth; {MORE_HELD * 1024 / between:.2f} bytes "
+               f"lost at each line would be {MORE_HELD} KiB")
+    kept = max(it.largest for it in late) - max(it.largest for it in early)
+    tale.holds(kept <= MORE_KEPT, f"with what the C library keeps it has {kept:+} KiB")
 
 
-def main(given, tale):
-    with Server(given.program, "--count", str(2 * PAIRS)) as server:
+def evening(given, tale, live, env):
+    """The evening from the logins to the end of the server."""
+    with Server(given.program, "--count", str(2 * PAIRS), env=env) as server:
         pairs = [Pair(server.port, number, given.game) for number in range(PAIRS)]
         tale.saw(f"{2 * PAIRS} people are in: {server.size()}")
-        parts = play(server, pairs, given, tale)
+        parts = play(Play(server, pairs, given.pace / 1000, live), given, tale)
         players = [player for pair in pairs for player in pair.players]
         lines, answers = sum(it.lines for it in players), sum(it.answers for it in players)
         tale.holds(lines == answers, f"{lines} lines, {answers} answers, {sum(it.games for it in pairs)} games ended")
@@ -225,6 +244,21 @@ def main(given, tale):
         gone = sum(player.quit() for player in players)
         tale.holds(gone == 2 * PAIRS, f"{gone} took leave")
         server.ends(tale)
+
+
+def is_built(program):
+    """Whether it is the built program, and no launcher."""
+    words = shlex.split(program)
+    with open(words[0], "rb") as file:
+        return len(words) == 1 and file.read(4) == b"\x7fELF"
+
+
+def main(given, tale):
+    with tempfile.TemporaryDirectory() as folder:
+        live = os.path.join(folder, "live")
+        with open(live, "wb") as file:
+            file.write(bytes(8))
+        evening(given, tale, live, loading("live.c", folder, LIVE=live) if is_built(given.program) else None)
 
 
 tell("evening", __doc__, main, [

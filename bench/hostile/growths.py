@@ -12,14 +12,12 @@ import concurrent.futures
 import os
 import shlex
 import shutil
-import struct
 import subprocess
 import tempfile
 import time
 
-from house import FAREWELL, Client, Server, tell
+from house import FAREWELL, Client, Server, counter, loading, tell
 
-HERE = os.path.dirname(os.path.abspath(__file__))
 ANN, BEN, CAT, DAN, DORA, EVE = NAMES = b"Ann", b"Ben", b"Cat", b"Dan", b"Dora", b"Eve"
 OPPONENTS = {ANN: BEN, BEN: ANN, CAT: DAN, DAN: CAT}
 NEWCOMER = b"Zoe"
@@ -271,7 +269,7 @@ class Evening:
 class Try:
     """An evening with one allocation refused, or none."""
 
-    def __init__(self, given, library, number):
+    def __init__(self, given, number):
         self.given = given
         self.number = number
         self.folder = tempfile.mkdtemp()
@@ -280,7 +278,7 @@ class Try:
         with open(self.counter, "wb") as file:
             file.write(bytes(8))
         words = ["--count", str(len(NAMES) + 1)] + (["--store", self.store] if self.store else [])
-        env = {**os.environ, "LD_PRELOAD": library, "REFUSE": str(number), "COUNT": self.counter}
+        env = loading("refuse.c", given.folder, REFUSE=str(number), COUNT=self.counter)
         self.server = Server(given.program, *words, env=env)
         self.evening = Evening(self.server, self.store)
         self.status, self.text = None, b""
@@ -308,8 +306,7 @@ class Try:
 
     def count(self):
         """How many allocations the program has asked for."""
-        with open(self.counter, "rb") as file:
-            return struct.unpack("=Q", file.read(8))[0]
+        return counter(self.counter)
 
     def is_all_kept(self):
         """Whether everything of the evening is to be found in the store: all six played, and what was refused before
@@ -342,9 +339,9 @@ class Try:
         return "only the status told of it" if self.status else "nobody noticed"
 
 
-def count_of(given, library, tale):
+def count_of(given, tale):
     """How many allocations there are where none is refused, which differs by what the clock does meanwhile."""
-    tries = [Try(given, library, 0).run() for _ in range(3)]
+    tries = [Try(given, 0).run() for _ in range(3)]
     counts = [it.until_end for it in tries]
     faults = [fault for it in tries for fault in it.evening.faults]
     tale.holds(min(counts) > 0 and not faults, f"with none refused: {counts} allocations {faults or ''}")
@@ -353,13 +350,12 @@ def count_of(given, library, tale):
 
 def main(given, tale):
     with tempfile.TemporaryDirectory() as folder:
-        library = os.path.join(folder, "refuse.so")
-        subprocess.run(["cc", "-O2", "-shared", "-fPIC", "-o", library, os.path.join(HERE, "refuse.c")], check=True)
+        given.folder = folder
         start = time.monotonic()
-        numbers = range(1, count_of(given, library, tale) + 1, given.every)
+        numbers = range(1, count_of(given, tale) + 1, given.every)
         kinds = collections.Counter()
         with concurrent.futures.ThreadPoolExecutor(given.jobs) as jobs:
-            for one in jobs.map(lambda it: Try(given, library, it).run(), numbers):
+            for one in jobs.map(lambda it: Try(given, it).run(), numbers):
                 kinds[one.kind()] += 1
                 for fault in one.evening.faults:
                     tale.lost(f"allocation {one.number}: {fault}")

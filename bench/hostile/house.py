@@ -11,13 +11,15 @@ import select
 import shlex
 import signal
 import socket
+import struct
 import subprocess
 import sys
 import tempfile
 import threading
 import time
 
-TOP = os.path.abspath(os.path.join(os.path.dirname(os.path.abspath(__file__)), "..", ".."))
+HERE = os.path.dirname(os.path.abspath(__file__))
+TOP = os.path.abspath(os.path.join(HERE, "..", ".."))
 PROGRAM = os.path.join(TOP, "crates", "fics_server", "out", "fics_server")
 HOME = "127.0.0.1"
 PROMPTS = (b"login: ", b"password: ", b"fics% ")
@@ -113,6 +115,20 @@ def holder_of(number):
         if f"socket:[{number}]" in links:
             return int(name)
     return None
+
+
+def loading(source, folder, **names):
+    """An environment in which a program loads a library, made of a C file of this folder, that reads these names."""
+    library = os.path.join(folder, source.replace(".c", ".so"))
+    if not os.path.exists(library):
+        subprocess.run(["cc", "-O2", "-shared", "-fPIC", "-o", library, os.path.join(HERE, source)], check=True)
+    return {**os.environ, "LD_PRELOAD": library, **names}
+
+
+def counter(path):
+    """The number that such a library keeps in a file."""
+    with open(path, "rb") as file:
+        return struct.unpack("=q", file.read(8))[0]
 
 
 class Server:
