@@ -15,11 +15,11 @@ def name(number):
 
 
 class Guest(threading.Thread):
-    """One of the crowd: it comes, waits until all have tried to come in, and leaves once it may."""
+    """One of the crowd: it comes, waits until all have tried to come in and were counted, and leaves once it may."""
 
-    def __init__(self, port, number, tried, leaves):
+    def __init__(self, port, number, tried, counted, leaves):
         super().__init__(daemon=True)
-        self.port, self.number, self.tried, self.leaves = port, number, tried, leaves
+        self.port, self.number, self.tried, self.counted, self.leaves = port, number, tried, counted, leaves
         self.first = None
         self.fault = None
         self.start()
@@ -37,6 +37,7 @@ class Guest(threading.Thread):
         client = Client(self.port)
         self.first = answer = client.enter(name(self.number))
         self.tried.wait()
+        self.counted.wait()
         if answer.startswith(b"Entered"):
             self.leaves.acquire()
         while answer == b"refused 25 HallFull\n\rlogin: ":
@@ -52,8 +53,8 @@ class Guest(threading.Thread):
 
 def main(given, tale):
     with Server(given.program, "--count", str(CROWD)) as server:
-        tried, leaves = threading.Barrier(CROWD + 1), threading.Semaphore(0)
-        guests = [Guest(server.port, number, tried, leaves) for number in range(CROWD)]
+        tried, counted, leaves = threading.Barrier(CROWD + 1), threading.Event(), threading.Semaphore(0)
+        guests = [Guest(server.port, number, tried, counted, leaves) for number in range(CROWD)]
         try:
             tried.wait()
         except threading.BrokenBarrierError:
@@ -63,6 +64,7 @@ def main(given, tale):
         tale.holds((entered, full) == (ROOM, CROWD - ROOM),
                    f"{entered} came in at first, {full} were told that it is full")
         tale.saw(f"with all of them: {server.size()}")
+        counted.set()
         for _ in range(ROOM):
             leaves.release()
         for guest in guests:

@@ -1,165 +1,372 @@
 #!/usr/bin/env python3
-"""Each allocation of an evening of six players refused in turn: the session that asked for it ends, its game with it
-and its name is free; all others are answered; and the server ends by itself.
+"""Each allocation of an evening of six players refused in turn. The session that asked for it ends, its game ends with
+it, its opponent is told so at its next line, and its name is free; all others are answered; and the server ends by
+itself.
 
 An allocation of the program is refused by `refuse.c`, which is compiled and loaded into it. The program is the built
-one, and no launcher."""
+one, and no launcher. With `--store` there is a store too: two of the six register, their game is adjourned, and the
+store is good afterwards, and has all of it where it was said that all was kept."""
 
+import collections
 import concurrent.futures
 import os
-import struct
+import shlex
+import shutil
 import subprocess
 import tempfile
+import time
 
-from house import FAREWELL, Client, Server, tell
+from house import FAREWELL, Client, Server, counter, loading, tell
 
-HERE = os.path.dirname(os.path.abspath(__file__))
-NAMES = (b"Ann", b"Ben", b"Cat", b"Dan", b"Dora", b"Eve")
-# for so many seconds a greeting is waited for
-GREETED = 10
-# two games, a move at each, a seek, one who looks on at the second game, and one who quits in the middle of the first
-EVENING = (
-    (0, b"match Ben 2 12 white", b"Ok."),
-    (1, b"accept", b"Creating 2 12 chess match."),
-    (2, b"match Dan 2 12 white", b"Ok."),
-    (3, b"accept", b"Creating 2 12 chess match."),
-    (0, b"e2e4", b" P/e2-e4 (0:00) "),
-    (2, b"d2d4", b" P/d2-d4 (0:00) "),
-    (4, b"seek 5 0", b"Your seek is 1."),
-    (5, b"observe 3", b"<12> "),
-    (1, b"quit", b"Goodbye."),
-    (0, b"who", b"Eve\n\r"),
-    (3, b"d7d5", b" P/d7-d5 (0:00) "),
-    (5, b"who", b"Eve\n\r"),
+ANN, BEN, CAT, DAN, DORA, EVE = NAMES = b"Ann", b"Ben", b"Cat", b"Dan", b"Dora", b"Eve"
+OPPONENTS = {ANN: BEN, BEN: ANN, CAT: DAN, DAN: CAT}
+NEWCOMER = b"Zoe"
+PASSWORD = b"secret"
+
+# a line, of what one is in its answer, and without whom it is answered otherwise
+Line = collections.namedtuple("Line", "who text wanted needs")
+# a line that was said, its answer, and who wasn't in then
+Said = collections.namedtuple("Said", "line answer absent")
+# where there is a store
+REGISTERING = (
+    Line(ANN, b"register " + PASSWORD, (b"Ok.",), set()),
+    Line(BEN, b"register " + PASSWORD, (b"Ok.",), set()),
 )
+# two games begin
+BEFORE = (
+    Line(ANN, b"match Ben 2 12 white", (b"Ok.",), {BEN}),
+    Line(BEN, b"accept", (b"Creating 2 12 chess match.",), {ANN}),
+    Line(CAT, b"match Dan 2 12 white", (b"Ok.",), {DAN}),
+    Line(DAN, b"accept", (b"Creating 2 12 chess match.",), {CAT}),
+    Line(ANN, b"e2e4", (b" P/e2-e4 (",), {BEN}),
+    Line(BEN, b"e7e5", (b" P/e7-e5 (",), {ANN}),
+)
+# said at once: a move at desk 1 whose opponent quits meanwhile, a move at desk 2, a seek, and a look at desk 2
+AT_ONCE = (
+    Line(ANN, b"g1f3", (b" N/g1-f3 (", b"refused "), {BEN}),
+    Line(BEN, b"quit", (FAREWELL,), set()),
+    Line(CAT, b"d2d4", (b" P/d2-d4 (",), {DAN}),
+    Line(DORA, b"seek 5 0", (b"Your seek is 1.",), set()),
+    Line(EVE, b"observe 3", (b"<12> ",), {ANN, BEN, CAT, DAN}),
+)
+BEHIND = (
+    Line(ANN, b"who", (EVE,), {EVE}),
+    Line(DAN, b"d7d5", (b" P/d7-d5 (",), {CAT}),
+    Line(EVE, b"who", (DORA,), {DORA}),
+)
+
+# for so many seconds a greeting is waited for; where none comes, the door itself serves one who came before
+GREETED = 2
+# for so many seconds anything else is waited for
+PATIENCE = 60
+# so long nothing is said in mid-evening, so that all sessions fetch their news, and the steward takes its turns
+REST = 0.25
 
 
 class Guest(Client):
-    """A player who may be hung up."""
+    """A player who may be hung up, or who isn't greeted before others are gone."""
 
     def __init__(self, port, name):
         super().__init__(port)
+        self.link.settimeout(PATIENCE)
         self.name = name
+        self.seen = b""
+        self.is_greeted = False
+        self.is_in = False
         self.is_gone = False
-        self.is_served = True
+        # the place of its last answer among all of them
+        self.answered = -1
+
+    def hear(self, seconds=PATIENCE):
+        part = super().hear(seconds)
+        self.seen += part
+        return part
+
+    def try_say(self, line):
+        """Says a line, and tells whether it could be said."""
+        try:
+            self.say(line)
+        except ConnectionError:
+            self.hung_up()
+        return not self.is_gone
+
+    def try_hear(self):
+        """The answer to what was said last; none where the link was closed in place of one."""
+        try:
+            answer = self.answer(PATIENCE)
+        except (EOFError, ConnectionError):
+            return self.hung_up()
+        if answer.endswith(FAREWELL):
+            self.is_in = False
+            self.close()
+        return answer
 
     def try_line(self, line):
-        """What a line is answered; none where the link is closed in place of an answer."""
-        try:
-            if line == b"quit":
-                return FAREWELL if self.quit() else self.hung_up()
-            return self.ask(line)
-        except (EOFError, ConnectionError):
-            return self.hung_up()
+        return self.try_hear() if self.try_say(line) else None
 
-    def come(self):
-        """Comes in; where nobody greets, the server takes no links any more."""
+    def come(self, seconds=PATIENCE):
+        """What the login is answered; none where no greeting comes in time, or the link is closed."""
         try:
-            self.heard = self.hear(GREETED)
+            self.is_greeted = self.hear(seconds).endswith(b"login: ")
         except TimeoutError:
-            self.is_served = False
-            return self.hung_up()
+            return None
         except (EOFError, ConnectionError):
             return self.hung_up()
-        return self.try_login()
-
-    def try_login(self):
-        try:
-            return self.enter(self.name)
-        except (EOFError, ConnectionError):
-            return self.hung_up()
+        answer = self.try_line(self.name)
+        if answer == b"password: ":
+            answer = self.try_line(PASSWORD)
+        self.is_in = answer is not None
+        return answer
 
     def hung_up(self):
-        self.is_gone = True
+        self.is_gone, self.is_in = True, False
         self.close()
-        return None
 
 
-def is_due(answer, wanted, gone):
-    """Whether a line was answered as it should be: by this, or, once another is gone, by a refusal or otherwise."""
-    return wanted in answer or (gone and answer.endswith((b"fics% ", b"login: ")))
+class Evening:
+    """The players of one evening, and what went otherwise than it should."""
+
+    def __init__(self, server, store):
+        self.server = server
+        self.store = store
+        self.faults = []
+        self.guests = []
+        self.said = []
+        self.had_late = False
+
+    def play(self):
+        """From the first of the six who comes to the last who leaves."""
+        self.gather()
+        if self.store:
+            self.say_in_turn(REGISTERING)
+        self.say_in_turn(BEFORE)
+        time.sleep(REST)
+        self.say_at_once(AT_ONCE)
+        time.sleep(REST)
+        self.say_in_turn(BEHIND)
+        self.leave_all()
+        self.serve_late()
+
+    def gather(self):
+        """All come in, in this order, but those behind one whom the door itself serves."""
+        for name in NAMES:
+            self.welcome(name, 0.05 if self.late() else GREETED)
+        self.had_late = bool(self.late())
+
+    def welcome(self, name, seconds=PATIENCE):
+        """Somebody connects, and comes in; none where the server has ended."""
+        guest = self.knock(name)
+        if guest:
+            self.guests.append(guest)
+            self.come(guest, seconds)
+        return guest
+
+    def knock(self, name):
+        """Somebody who has connected; none where the server has ended."""
+        end = time.monotonic() + PATIENCE
+        while time.monotonic() < end:
+            try:
+                return Guest(self.server.port, name)
+            except ConnectionError:
+                if not self.server.is_up():
+                    return None
+                time.sleep(0.005)
+        raise TimeoutError(f"{name} could not connect")
+
+    def come(self, guest, seconds=PATIENCE):
+        """Somebody comes in who has connected."""
+        answer = guest.come(seconds)
+        if answer is not None and b"Entered as %s." % guest.name not in answer:
+            self.faults.append(f"{guest.name} came in: {answer!r}")
+
+    def gone(self):
+        """The names of those who are known to have been hung up."""
+        return {it.name for it in self.guests if it.is_gone}
+
+    def late(self):
+        """Those who have connected and weren't greeted yet."""
+        return [it for it in self.guests if not it.is_greeted and not it.is_gone]
+
+    def present(self, name):
+        """The guest of this name, if it is in."""
+        return next((it for it in self.guests if it.name == name and it.is_in), None)
+
+    def say_in_turn(self, lines):
+        for line in lines:
+            self.say_at_once([line])
+
+    def say_at_once(self, lines):
+        """Says lines without a look at their answers, and then looks at these."""
+        absent = {it for it in NAMES if not self.present(it)}
+        speakers = [(self.present(line.who), line) for line in lines]
+        under_way = [(guest, line) for guest, line in speakers if guest and guest.try_say(line.text)]
+        for guest, line in under_way:
+            answer = guest.try_hear()
+            if answer is not None:
+                guest.answered = len(self.said)
+                self.said.append(Said(line, answer, absent))
+                self.check_ends(guest, absent)
+
+    def check_ends(self, guest, absent):
+        """Whoever plays with one who had gone before the line was said has been told that the game is over."""
+        opponent = OPPONENTS.get(guest.name)
+        if guest.is_in and opponent in absent and b"<12> " in guest.seen:
+            adjourned = self.store and b" adjourned} *" in guest.seen
+            if not adjourned and b"%s forfeits by disconnection} " % opponent not in guest.seen:
+                self.faults.append(f"{guest.name} isn't told that {opponent} is gone: {guest.seen!r}")
+
+    def leave_all(self):
+        """All that are in see nobody who is gone, and leave."""
+        for guest in [it for it in self.guests if it.is_in]:
+            self.say_in_turn([Line(guest.name, b"who", (guest.name,), set())])
+            if guest.is_in:
+                names = set(self.said[-1].answer.split(b"\n\r"))
+                self.faults += [f"{it} is gone and in the hall" for it in self.gone() & names]
+                self.leave(guest)
+
+    def leave(self, guest):
+        if guest.is_in:
+            guest.try_line(b"quit")
+
+    def serve_late(self):
+        """Those who weren't greeted come in once the others have left."""
+        for guest in self.late():
+            self.come(guest)
+            self.leave(guest)
+            if not guest.is_greeted and not guest.is_gone:
+                self.faults.append(f"{guest.name} was never greeted")
+
+    def succeed(self):
+        """Somebody comes for whom the server waits; the name of one who is gone is free. Where the door has lost a
+        connection, one more is wanted."""
+        name = min(self.gone(), default=NEWCOMER)
+        for _ in range(3):
+            guest = self.welcome(name)
+            if guest:
+                self.leave(guest)
+            if self.server.status(1) is not None:
+                return
+
+    def judge(self, status, text):
+        """Looks at all answers, now that it is known who was hung up, and at how the server ended."""
+        last = {it.name: it.answered for it in self.guests if it.is_gone}
+        for place, (line, answer, absent) in enumerate(self.said):
+            free = absent | {name for name, answered in last.items() if answered <= place}
+            good = answer.endswith(b"fics% ") if line.needs & free else any(it in answer for it in line.wanted)
+            if not good:
+                self.faults.append(f"{line.who} said {line.text!r}: {answer!r}")
+        hung = len(self.gone())
+        fits = {
+            (0, b"ready\nclosed\n"): hung == 0,
+            (6, b"ready\nclosed\n"): hung <= 1,
+            (6, b"ready\n"): hung == 0,
+            (6, b""): hung == len(self.guests),
+        }
+        if not fits.get((status, text), False):
+            self.faults.append(f"status {status}, written {text!r}, {hung} of {len(self.guests)} hung up")
 
 
-def evening(port, faults):
-    """Says the lines; who was hung up, and who wasn't served at all."""
-    guests = [Guest(port, name) for name in NAMES]
-    for guest in guests:
-        answer = guest.come()
-        if answer is not None and not is_due(answer, b"Entered as %s." % guest.name, any(it.is_gone for it in guests)):
-            faults.append(f"{guest.name} came in: {answer!r}")
-    left = set()
-    for number, line, wanted in EVENING:
-        guest = guests[number]
-        if guest.is_gone:
-            continue
-        answer = guest.try_line(line)
-        gone = [it for it in guests if it.is_gone]
-        if answer is not None and not is_due(answer, wanted, gone):
-            faults.append(f"{guest.name} said {line!r}: {answer!r}")
-        if line == b"quit" and answer is not None:
-            left.add(number)
-    for number, guest in enumerate(guests):
-        if not guest.is_gone and number not in left:
-            names = guest.try_line(b"who")
-            if names is not None:
-                faults += [f"{it.name} is gone and in the hall" for it in guests if it.is_gone and it.name in names]
-                guest.try_line(b"quit")
-    return [it.name for it in guests if it.is_gone and it.is_served], [it.name for it in guests if not it.is_served]
+class Try:
+    """An evening with one allocation refused, or none."""
+
+    def __init__(self, given, number):
+        self.given = given
+        self.number = number
+        self.folder = tempfile.mkdtemp()
+        self.counter = os.path.join(self.folder, "count")
+        self.store = os.path.join(self.folder, "store") if given.store else None
+        with open(self.counter, "wb") as file:
+            file.write(bytes(8))
+        words = ["--count", str(len(NAMES) + 1)] + (["--store", self.store] if self.store else [])
+        env = loading("refuse.c", given.folder, REFUSE=str(number), COUNT=self.counter)
+        self.server = Server(given.program, *words, env=env)
+        self.evening = Evening(self.server, self.store)
+        self.status, self.text = None, b""
+        # how many allocations there were until the six had left, and until the end
+        self.until_left = self.until_end = 0
+
+    def run(self):
+        """Plays the evening, and looks at its end."""
+        evening = self.evening
+        try:
+            evening.play()
+            self.until_left = self.count()
+            evening.succeed()
+        except (OSError, ValueError) as fault:
+            evening.faults.append(repr(fault))
+        self.status = self.server.status(PATIENCE)
+        self.server.stop()
+        self.text = self.server.written()
+        self.until_end = self.count()
+        evening.judge(self.status, self.text)
+        if self.store:
+            self.judge_store()
+        shutil.rmtree(self.folder)
+        return self
+
+    def count(self):
+        """How many allocations the program has asked for."""
+        return counter(self.counter)
+
+    def is_all_kept(self):
+        """Whether everything of the evening is to be found in the store: all six played, and what was refused before
+        they left was tried again."""
+        evening = self.evening
+        lasts = self.status == 0 or 0 < self.number <= self.until_left
+        return bool(self.text) and lasts and not evening.gone() and not evening.had_late
+
+    def judge_store(self):
+        """Afterwards the store is good. One that was never opened may be none."""
+        words = [*shlex.split(self.given.program), "check", "--store", self.store]
+        done = subprocess.run(words, stdin=subprocess.DEVNULL, capture_output=True, check=False)
+        said = done.stdout, done.returncode
+        most = [(b"ok: %d accounts, %d games\n" % (it, it > 1 and games), 0) for it in range(3) for games in range(2)]
+        if not self.text:
+            most = [most[0], (b"", 4)]
+        if said not in (most[-1:] if self.is_all_kept() else most):
+            self.evening.faults.append(f"status {self.status}, and check says {said}")
+
+    def kind(self):
+        """What the refused allocation came to."""
+        if self.until_end < self.number:
+            return "it wasn't asked for"
+        if not self.text:
+            return "the server ended before it was ready"
+        if self.evening.gone():
+            return "a session ended"
+        if self.evening.had_late:
+            return "the door itself served a link"
+        return "only the status told of it" if self.status else "nobody noticed"
 
 
-def refusing(program, library, number, folder):
-    """The evening with one allocation refused: how many there were, who was hung up, the status, and what is wrong."""
-    path = os.path.join(folder, str(number))
-    with open(path, "wb") as file:
-        file.write(bytes(8))
-    env = {**os.environ, "LD_PRELOAD": library, "REFUSE": str(number), "COUNT": path}
-    server = Server(program, "--count", str(len(NAMES)), env=env)
-    faults, gone, unserved = [], [], []
-    try:
-        if server.listens(60):
-            gone, unserved = evening(server.port, faults)
-        status = server.status()
-        text = server.written()
-    except (OSError, ValueError) as fault:
-        faults.append(repr(fault))
-        status, text = None, b""
-    finally:
-        server.stop()
-    with open(path, "rb") as file:
-        count = struct.unpack("=Q", file.read(8))[0]
-    os.unlink(path)
-    whole = text == b"ready\nclosed\n"
-    if status not in (0, 6) or (status == 0 and not whole) or not b"ready\nclosed\n".startswith(text):
-        faults.append(f"status {status}, written {text!r}")
-    if len(gone) > 1:
-        faults.append(f"more than one was hung up: {gone}")
-    if unserved and status != 6:
-        faults.append(f"not served: {unserved}")
-    return count, gone, status, faults
+def count_of(given, tale):
+    """How many allocations there are where none is refused, which differs by what the clock does meanwhile."""
+    tries = [Try(given, 0).run() for _ in range(3)]
+    counts = [it.until_end for it in tries]
+    faults = [fault for it in tries for fault in it.evening.faults]
+    tale.holds(min(counts) > 0 and not faults, f"with none refused: {counts} allocations {faults or ''}")
+    return max(counts)
 
 
 def main(given, tale):
     with tempfile.TemporaryDirectory() as folder:
-        library = os.path.join(folder, "refuse.so")
-        subprocess.run(["cc", "-O2", "-shared", "-fPIC", "-o", library, os.path.join(HERE, "refuse.c")], check=True)
-        count, gone, status, faults = refusing(given.program, library, 0, folder)
-        tale.holds(count > 0 and not gone and status == 0 and not faults,
-                   f"with none refused: {count} allocations, status {status} {faults or ''}")
-        numbers = range(1, count + 1, given.every)
-        ended = stopped = unnoticed = 0
+        given.folder = folder
+        start = time.monotonic()
+        numbers = range(1, count_of(given, tale) + 1, given.every)
+        kinds = collections.Counter()
         with concurrent.futures.ThreadPoolExecutor(given.jobs) as jobs:
-            tries = jobs.map(lambda it: refusing(given.program, library, it, folder), numbers)
-            for number, (_, gone, status, faults) in zip(numbers, tries):
-                ended += bool(gone)
-                stopped += status == 6
-                unnoticed += status == 0
-                for fault in faults:
-                    tale.lost(f"allocation {number}: {fault}")
-        tale.saw(f"{len(numbers)} refused one by one: {ended} times a session ended by it, "
-                 f"{stopped} times the status was 6 and {unnoticed} times 0")
+            for one in jobs.map(lambda it: Try(given, it).run(), numbers):
+                kinds[one.kind()] += 1
+                for fault in one.evening.faults:
+                    tale.lost(f"allocation {one.number}: {fault}")
+        tale.saw(f"{len(numbers)} refused one by one in {time.monotonic() - start:.0f} s")
+        for kind, times in kinds.most_common():
+            tale.saw(f"{times} times {kind}")
 
 
 tell("growths", __doc__, main, [
-    (("--every",), {"type": int, "default": 1, "help": "refuses the first and then each so-manieth"}),
-    (("--jobs",), {"type": int, "default": os.cpu_count() or 1, "help": "so many servers at a time"}),
+    (("--every",), {"type": int, "default": 1, "metavar": "N", "help": "refuses the first and then each Nth"}),
+    (("--jobs",), {"type": int, "default": 2 * (os.cpu_count() or 1), "metavar": "N",
+                   "help": "so many servers at a time, which wait most of their time"}),
+    (("--store",), {"action": "store_true", "help": "the server has a store"}),
 ])

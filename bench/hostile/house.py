@@ -2,19 +2,24 @@
 ones, and the tale of what was seen."""
 
 import argparse
+import functools
+import itertools
 import os
+import random
 import re
 import select
 import shlex
 import signal
 import socket
+import struct
 import subprocess
 import sys
 import tempfile
 import threading
 import time
 
-TOP = os.path.abspath(os.path.join(os.path.dirname(os.path.abspath(__file__)), "..", ".."))
+HERE = os.path.dirname(os.path.abspath(__file__))
+TOP = os.path.abspath(os.path.join(HERE, "..", ".."))
 PROGRAM = os.path.join(TOP, "crates", "fics_server", "out", "fics_server")
 HOME = "127.0.0.1"
 PROMPTS = (b"login: ", b"password: ", b"fics% ")
@@ -73,11 +78,20 @@ class Tale:
         sys.exit(1 if self.losses else 0)
 
 
+# below those that the system gives to clients, which could take a port before the server does
+PORTS = itertools.cycle(random.sample(range(20000, 32000), 12000))
+
+
 def free_port():
-    """A port that nobody listens on."""
-    with socket.socket() as one:
-        one.bind((HOME, 0))
-        return one.getsockname()[1]
+    """A port that nobody uses, and another one at each call."""
+    while True:
+        port = next(PORTS)
+        with socket.socket() as one:
+            try:
+                one.bind((HOME, port))
+                return port
+            except OSError:
+                continue
 
 
 def socket_that_listens(port):
@@ -103,6 +117,20 @@ def holder_of(number):
     return None
 
 
+def loading(source, folder, **names):
+    """An environment in which a program loads a library, made of a C file of this folder, that reads these names."""
+    library = os.path.join(folder, source.replace(".c", ".so"))
+    if not os.path.exists(library):
+        subprocess.run(["cc", "-O2", "-shared", "-fPIC", "-o", library, os.path.join(HERE, source)], check=True)
+    return {**os.environ, "LD_PRELOAD": library, **names}
+
+
+def counter(path):
+    """The number that such a library keeps in a file."""
+    with open(path, "rb") as file:
+        return struct.unpack("=q", file.read(8))[0]
+
+
 class Server:
     """`serve` on a free port of this machine, in a process group of its own."""
 
@@ -113,7 +141,6 @@ class Server:
         command = [*shlex.split(program), "serve", "--port", str(self.port), *words]
         self.process = subprocess.Popen(command, stdin=subprocess.DEVNULL, stdout=self.out, stderr=self.errors,
                                         preexec_fn=before, start_new_session=True, env=env)
-        self.pid = None
 
     def __enter__(self):
         """The server once it listens."""
@@ -129,14 +156,17 @@ class Server:
         """Waits until it listens; False where it has ended before."""
         end = time.monotonic() + seconds
         while time.monotonic() < end:
-            number = socket_that_listens(self.port)
-            if number:
-                self.pid = holder_of(number) or self.process.pid
+            if socket_that_listens(self.port):
                 return True
             if self.process.poll() is not None:
                 return False
             time.sleep(0.02)
         return False
+
+    @functools.cached_property
+    def pid(self):
+        """The process that listens, which may be another one than the launcher that was started here."""
+        return holder_of(socket_that_listens(self.port)) or self.process.pid
 
     def is_up(self):
         return self.process.poll() is None
@@ -151,6 +181,12 @@ class Server:
     def number_of(self, name):
         with open(f"/proc/{self.pid}/status") as status:
             return next(int(line.split()[1]) for line in status if line.startswith(name))
+
+    def processor(self):
+        """The seconds of processors that it has used."""
+        with open(f"/proc/{self.pid}/stat") as stat:
+            words = stat.read().rpartition(")")[2].split()
+        return (int(words[11]) + int(words[12])) / os.sysconf("SC_CLK_TCK")
 
     def descriptors(self):
         return len(os.listdir(f"/proc/{self.pid}/fd"))

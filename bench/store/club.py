@@ -108,6 +108,12 @@ class Server:
         os.kill(self.pid(), signal.SIGKILL)
         self.process.communicate()
 
+    def processor(self):
+        """The seconds of processors that it has used."""
+        with open(f"/proc/{self.pid()}/stat", encoding="ascii") as stat:
+            words = stat.read().rpartition(")")[2].split()
+        return (int(words[11]) + int(words[12])) / os.sysconf("SC_CLK_TCK")
+
     def peak(self):
         """Its greatest memory in KiB."""
         with open(f"/proc/{self.pid()}/status", encoding="ascii") as status:

@@ -88,22 +88,23 @@ def board_of(line):
 class Evening:
     """A game: who plays it at which seats, how it begins, and what is seen of it."""
 
-    def __init__(self, name, people, match, words, lines, stored):
+    def __init__(self, name, people, match, words, hands, stored):
         self.name = name
         self.people = people
         self.match = match
         self.words = words  # of Ann and Ben in turn
-        self.lines = lines  # how many boards and hands each of them is shown
+        self.hands = hands  # those of each board, with which a game has them, behind the third half-move
+        self.lines = len(people) // 2 + len(hands)  # how many boards and hands each of them is shown
         self.stored = stored
 
 
-CHESS = Evening("chess", ("Ann", "Ben"), "match ben 2 12 white", ("e4", "e5", "Nf3"), 1, "1 Ann Ben 2 12 chess")
+CHESS = Evening("chess", ("Ann", "Ben"), "match ben 2 12 white", ("e4", "e5", "Nf3"), (), "1 Ann Ben 2 12 chess")
 EVENINGS = (
     CHESS,
-    Evening("crazyhouse", ("Ann", "Ben"), "match ben 3 1 crazyhouse white", ("e4", "d5", "exd5", "Qxd5"), 2,
-            "1 Ann Ben 3 1 crazyhouse"),
-    Evening("bughouse", ("Ann", "Ben", "Cat", "Dan"), "match ben 5 0 bughouse white", ("e4", "d5", "exd5"), 4,
-            "1 Ann Ben Cat Dan 5 0 bughouse"),
+    Evening("crazyhouse", ("Ann", "Ben"), "match ben 3 1 crazyhouse white", ("e4", "d5", "exd5", "Qxd5"),
+            ("white [P] black []",), "1 Ann Ben 3 1 crazyhouse"),
+    Evening("bughouse", ("Ann", "Ben", "Cat", "Dan"), "match ben 5 0 bughouse white", ("e4", "d5", "exd5"),
+            ("white [] black []", "white [] black [P]"), "1 Ann Ben Cat Dan 5 0 bughouse"),
 )
 
 
@@ -160,6 +161,17 @@ def come_again(evening, server):
     return links
 
 
+def looks_at_hands(evening, path, name):
+    """`examine` in a game with men in hand, up to the capture that is its third half-move, and a half-move to try."""
+    text, status = PROGRAM.run("examine", "--store", path, "--game", 1, given="forward 3\nNf6\n")
+    lines = text.splitlines()
+    shown_once = ["<12>"] + ["<b1>"] * len(evening.hands)
+    tried = ["refused"] if len(evening.people) == 4 else shown_once
+    says(f"{name}: examine", [it.split()[0] for it in lines] + [status], shown_once * 2 + tried + [0])
+    hands = lines[len(shown_once) + 1:2 * len(shown_once)]
+    says(f"{name}: examine, the hands", [" ".join(it.split()[3:7]) for it in hands], list(evening.hands))
+
+
 def try_evening(evening, folder, killed):
     """People register and play, adjourn, and go on at the next server over the same file: they see what they saw."""
     name = f"{evening.name}, {'killed' if killed else 'ended'}"
@@ -178,6 +190,8 @@ def try_evening(evening, folder, killed):
         leave(*links)
         says(f"{name}: the end", server.ends(), ("ready\nclosed\n", 0))
     checks(path, len(links), 1, name)
+    if evening.hands:
+        looks_at_hands(evening, path, name)
     server = Server(PROGRAM, path, len(links) + 1)
     links = come_again(evening, server)
     says(f"{name}: boards, hands and clocks", [shown(it, evening.lines) for it in links], before)
@@ -210,8 +224,25 @@ def looks(path, name):
     says(f"{name}: examine, the end", lines[1].split()[27:], ["N/g1-f3", "(0:02)", "Nf3", "0"])
     says(f"{name}: examine, too far", lines[2:] + [status],
          ["refused 58 NoEarlierMoves", "refused 57 NoMoreMoves", "", 0])
+    tries_moves(path, name, lines)
     says(f"{name}: no such game", PROGRAM.run("examine", "--store", path, "--game", 2), ("no such game\n", 10))
     says(f"{name}: the files", files_of(folder) == before, True)
+
+
+def tries_moves(path, name, through):
+    """Another half-move in the game of `CHESS`, and back to what is stored, by the boards of its start and its end."""
+    given = ("forward 2\nBc4\nforward\nKe3\nback 3\nforward 3\nrevert\nforward\n"
+             "back 3\nrevert\nforward 0\nback\n")
+    text, status = PROGRAM.run("examine", "--store", path, "--game", 1, given=given)
+    start, end = through[:2]
+    e5 = ("<12> rnbqkbnr pppp-ppp -------- ----p--- ----P--- -------- PPPP-PPP RNBQKBNR W 4 1 1 1 1 0 "
+          "1 Ann Ben 2 2 12 39 39 120 120 2 P/e7-e5 (0:00) e5 0")
+    bc4 = ("<12> rnbqkbnr pppp-ppp -------- ----p--- --B-P--- -------- PPPP-PPP RNBQK-NR B -1 1 1 1 1 1 "
+           "1 Ann Ben 2 2 12 39 39 120 120 2 B/f1-c4 (0:00) Bc4 0")
+    says(f"{name}: examine, another move and back", text.split("\n"),
+         [start, e5, bc4, "refused 57 NoMoreMoves", "refused 9 CannotReach", start, bc4, e5, end,
+          start, start, "bad line 11", ""])
+    says(f"{name}: examine, a bad line", status, 7)
 
 
 def try_commands(folder, path):
@@ -384,25 +415,28 @@ def try_full_disks():
 
 
 def timed(*words):
-    """The seconds and the greatest memory in KiB of a command, and what it writes."""
-    start, peak = time.monotonic(), 0
+    """The seconds of a command, those of a processor, the greatest memory in KiB, and what it writes."""
+    start, used, peak = time.monotonic(), resource.getrusage(resource.RUSAGE_CHILDREN), 0
     process = subprocess.Popen([*PROGRAM.words, *map(str, words)], stdin=subprocess.DEVNULL, stdout=subprocess.PIPE,
                                stderr=subprocess.DEVNULL, text=True)
     while process.poll() is None:
         peak = max(peak, peak_of(process))
         time.sleep(0.002)
-    return time.monotonic() - start, peak, (process.stdout.read(), process.returncode)
+    seconds, after = time.monotonic() - start, resource.getrusage(resource.RUSAGE_CHILDREN)
+    busy = after.ru_utime + after.ru_stime - used.ru_utime - used.ru_stime
+    return seconds, busy, peak, (process.stdout.read(), process.returncode)
 
 
 def try_full_store(folder):
     path = os.path.join(folder, "full")
     make_full_store(path, ACCOUNTS, GAMES)
     print(f"a full store: {os.path.getsize(path) / 1e6:.1f} MB")
-    seconds, peak, said = timed("check", "--store", path)
+    seconds, busy, peak, said = timed("check", "--store", path)
     says("check of a full store", said, (f"ok: {ACCOUNTS} accounts, {GAMES} games\n", 0))
-    print(f"check of a full store: {seconds:.2f} s, {peak / 1024:.0f} MiB")
+    print(f"check of a full store: {seconds:.2f} s, {busy:.2f} s of a processor, {peak / 1024:.0f} MiB")
     server = Server(PROGRAM, path, 2)
-    print(f"a server over a full store: ready after {server.seconds:.2f} s, {server.peak() / 1024:.0f} MiB")
+    print(f"a server over a full store: ready after {server.seconds:.2f} s, {server.processor():.2f} s of a processor, "
+          f"{server.peak() / 1024:.0f} MiB")
     link = server.enter("Newcomer")
     says("one account more", answers(link, "register x", r"^(Ok|refused \d+ \w+)")[0], "refused 47 AccountsFull")
     leave(link)
