@@ -17,7 +17,9 @@ SCRIPTS = (
     ("descriptors",),
     ("evening", "--seconds", "60"),
     ("disk",),
-    ("growths", "--every", "25"),
+    ("growths", "--every", "5"),
+    ("growths", "--every", "25", "--store"),
+    ("commands",),
 )
 
 
