@@ -19,6 +19,7 @@ SCRIPTS = (
     ("disk",),
     ("growths", "--every", "5"),
     ("growths", "--every", "25", "--store"),
+    ("growths", "--evenings", "100"),
     ("commands",),
 )
 
