@@ -205,15 +205,15 @@ class Play:
             raise TimeoutError(f"{late} lines weren't answered")
 
 
-def play(evening, given, tale):
+def play(games, given, tale):
     """Plays the whole evening; what was seen in each part behind the games that nothing is compared in."""
-    first = evening.run(lambda: min(it.games for it in evening.pairs) >= WARM)
+    first = games.run(lambda: min(it.games for it in games.pairs) >= WARM)
     tale.saw(f"each pair has ended {WARM} games after {first.seconds:.1f} s: {first.text()}")
     parts = []
     for number in range(1, PARTS + 1):
-        parts.append(evening.run_for(given.seconds / PARTS))
+        parts.append(games.run_for(given.seconds / PARTS))
         tale.saw(f"{given.seconds * number / PARTS:7.1f} s: {parts[-1].text()}")
-    evening.finish()
+    games.finish()
     tale.saw(f"the slowest of all answers came after {max(it.slowest for it in [first, *parts]):.3f} s")
     return parts
 

@@ -1,7 +1,7 @@
 #!/usr/bin/env python3
-"""Each allocation of an evening of six players refused in turn. The session that asked for it ends, its game ends with
-it, its opponent is told so at its next line, and its name is free; all others are answered; and the server ends by
-itself.
+"""Each allocation of an evening of six players refused in turn, or one at each of some evenings of lines at random. The
+session that asked for it ends, its game ends with it, its opponent is told so at its next line, and its name is free;
+all others are answered; and the server ends by itself.
 
 An allocation of the program is refused by `refuse.c`, which is compiled and loaded into it. The program is the built
 one, and no launcher. With `--store` there is a store too: two of the six register, their game is adjourned, and the
@@ -10,13 +10,15 @@ store is good afterwards, and has all of it where it was said that all was kept.
 import collections
 import concurrent.futures
 import os
+import random
 import shlex
 import shutil
 import subprocess
 import tempfile
 import time
 
-from house import FAREWELL, Client, Server, counter, loading, tell
+from any_lines import any_line
+from house import FAREWELL, STARTING, Client, Server, counter, loading, tell
 
 ANN, BEN, CAT, DAN, DORA, EVE = NAMES = b"Ann", b"Ben", b"Cat", b"Dan", b"Dora", b"Eve"
 OPPONENTS = {ANN: BEN, BEN: ANN, CAT: DAN, DAN: CAT}
@@ -61,6 +63,8 @@ GREETED = 2
 PATIENCE = 60
 # so long nothing is said in mid-evening, so that all sessions fetch their news, and the steward takes its turns
 REST = 0.25
+# so many lines are said at random
+LINES = 300
 
 
 class Guest(Client):
@@ -137,6 +141,12 @@ class Evening:
     def play(self):
         """From the first of the six who comes to the last who leaves."""
         self.gather()
+        self.talk()
+        self.leave_all()
+        self.serve_late()
+
+    def talk(self):
+        """All that is said between."""
         if self.store:
             self.say_in_turn(REGISTERING)
         self.say_in_turn(BEFORE)
@@ -144,8 +154,6 @@ class Evening:
         self.say_at_once(AT_ONCE)
         time.sleep(REST)
         self.say_in_turn(BEHIND)
-        self.leave_all()
-        self.serve_late()
 
     def gather(self):
         """All come in, in this order, but those behind one whom the door itself serves."""
@@ -266,12 +274,31 @@ class Evening:
             self.faults.append(f"status {status}, written {text!r}, {hung} of {len(self.guests)} hung up")
 
 
-class Try:
-    """An evening with one allocation refused, or none."""
+class AnyEvening(Evening):
+    """An evening of lines at random: each is answered."""
 
-    def __init__(self, given, number):
+    def __init__(self, server, store, seed):
+        super().__init__(server, store)
+        self.chance = random.Random(seed)
+
+    def talk(self):
+        for _ in range(LINES):
+            present = [it.name for it in self.guests if it.is_in]
+            if present:
+                line = any_line(self.chance, NAMES)
+                self.say_at_once([Line(self.chance.choice(present), line, (b"fics% ",), set())])
+
+    def check_ends(self, guest, absent):
+        """Who plays with whom isn't known."""
+
+
+class Try:
+    """An evening with one allocation refused, or none; one of lines at random where there is a seed."""
+
+    def __init__(self, given, number, seed=None):
         self.given = given
         self.number = number
+        self.seed = seed
         self.folder = tempfile.mkdtemp()
         self.counter = os.path.join(self.folder, "count")
         self.store = os.path.join(self.folder, "store") if given.store else None
@@ -280,7 +307,8 @@ class Try:
         words = ["--count", str(len(NAMES) + 1)] + (["--store", self.store] if self.store else [])
         env = loading("refuse.c", given.folder, REFUSE=str(number), COUNT=self.counter)
         self.server = Server(given.program, *words, env=env)
-        self.evening = Evening(self.server, self.store)
+        known = seed is None
+        self.evening = Evening(self.server, self.store) if known else AnyEvening(self.server, self.store, seed)
         self.status, self.text = None, b""
         # how many allocations there were until the six had left, and until the end
         self.until_left = self.until_end = 0
@@ -318,12 +346,16 @@ class Try:
     def judge_store(self):
         """Afterwards the store is good. One that was never opened may be none."""
         words = [*shlex.split(self.given.program), "check", "--store", self.store]
-        done = subprocess.run(words, stdin=subprocess.DEVNULL, capture_output=True, check=False)
-        said = done.stdout, done.returncode
+        with STARTING:
+            check = subprocess.Popen(words, stdin=subprocess.DEVNULL, stdout=subprocess.PIPE)
+        said = check.communicate()[0], check.returncode
         most = [(b"ok: %d accounts, %d games\n" % (it, it > 1 and games), 0) for it in range(3) for games in range(2)]
         if not self.text:
             most = [most[0], (b"", 4)]
-        if said not in (most[-1:] if self.is_all_kept() else most):
+        good = said in (most[-1:] if self.is_all_kept() else most)
+        if self.seed is not None:
+            good = check.returncode == 0 or not self.text
+        if not good:
             self.evening.faults.append(f"status {self.status}, and check says {said}")
 
     def kind(self):
@@ -341,25 +373,32 @@ class Try:
 
 def count_of(given, tale):
     """How many allocations there are where none is refused, which differs by what the clock does meanwhile."""
-    tries = [Try(given, 0).run() for _ in range(3)]
+    tries = [Try(given, 0, it if given.evenings else None).run() for it in range(3)]
     counts = [it.until_end for it in tries]
     faults = [fault for it in tries for fault in it.evening.faults]
     tale.holds(min(counts) > 0 and not faults, f"with none refused: {counts} allocations {faults or ''}")
     return max(counts)
 
 
+def places_of(given, count):
+    """Which allocations are refused, each with the seed of its evening if lines are said at random."""
+    if given.evenings:
+        return [(random.Random(seed).randint(1, count), seed) for seed in range(given.evenings)]
+    return [(number, None) for number in range(1, count + 1, given.every)]
+
+
 def main(given, tale):
     with tempfile.TemporaryDirectory() as folder:
         given.folder = folder
         start = time.monotonic()
-        numbers = range(1, count_of(given, tale) + 1, given.every)
+        places = places_of(given, count_of(given, tale))
         kinds = collections.Counter()
         with concurrent.futures.ThreadPoolExecutor(given.jobs) as jobs:
-            for one in jobs.map(lambda it: Try(given, it).run(), numbers):
+            for one in jobs.map(lambda it: Try(given, *it).run(), places):
                 kinds[one.kind()] += 1
                 for fault in one.evening.faults:
-                    tale.lost(f"allocation {one.number}: {fault}")
-        tale.saw(f"{len(numbers)} refused one by one in {time.monotonic() - start:.0f} s")
+                    tale.lost(f"allocation {one.number} (seed {one.seed}): {fault}")
+        tale.saw(f"{len(places)} refused one by one in {time.monotonic() - start:.0f} s")
         for kind, times in kinds.most_common():
             tale.saw(f"{times} times {kind}")
 
@@ -369,4 +408,6 @@ tell("growths", __doc__, main, [
     (("--jobs",), {"type": int, "default": 2 * (os.cpu_count() or 1), "metavar": "N",
                    "help": "so many servers at a time, which wait most of their time"}),
     (("--store",), {"action": "store_true", "help": "the server has a store"}),
+    (("--evenings",), {"type": int, "default": 0, "metavar": "N",
+                       "help": "N evenings of lines at random, at each of which one allocation is refused"}),
 ])

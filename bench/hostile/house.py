@@ -78,6 +78,9 @@ class Tale:
         sys.exit(1 if self.losses else 0)
 
 
+# one process is started at a time: one that another thread has just forked would hold the socket by which a port was
+# tried
+STARTING = threading.Lock()
 # below those that the system gives to clients, which could take a port before the server does
 PORTS = itertools.cycle(random.sample(range(20000, 32000), 12000))
 
@@ -135,12 +138,13 @@ class Server:
     """`serve` on a free port of this machine, in a process group of its own."""
 
     def __init__(self, program, *words, before=None, env=None):
-        self.port = free_port()
         self.out = tempfile.TemporaryFile()
         self.errors = tempfile.TemporaryFile()
-        command = [*shlex.split(program), "serve", "--port", str(self.port), *words]
-        self.process = subprocess.Popen(command, stdin=subprocess.DEVNULL, stdout=self.out, stderr=self.errors,
-                                        preexec_fn=before, start_new_session=True, env=env)
+        with STARTING:
+            self.port = free_port()
+            command = [*shlex.split(program), "serve", "--port", str(self.port), *words]
+            self.process = subprocess.Popen(command, stdin=subprocess.DEVNULL, stdout=self.out, stderr=self.errors,
+                                            preexec_fn=before, start_new_session=True, env=env)
 
     def __enter__(self):
         """The server once it listens."""

@@ -17,7 +17,10 @@ SCRIPTS = (
     ("descriptors",),
     ("evening", "--seconds", "60"),
     ("disk",),
-    ("growths", "--every", "25"),
+    ("growths", "--every", "5"),
+    ("growths", "--every", "25", "--store"),
+    ("growths", "--evenings", "100"),
+    ("commands",),
 )
 
 
