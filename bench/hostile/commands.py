@@ -1,6 +1,8 @@
 #!/usr/bin/env python3
 """Each allocation of each command that isn't `serve` refused in turn, or about a hundred where there are more: it
-ends with 6, having written a beginning of what it writes else, or as ever where it can do without.
+ends with 6, having written a beginning of what it writes else, or as ever where it can do without. A command over a
+store may end with 4 and nothing written: where its copy of the store can't be made whole for want of memory, that looks
+like a file that is cut off.
 
 An allocation of the program is refused by `refuse.c`, which is compiled and loaded into it. The program is the built
 one, and no launcher."""
@@ -69,7 +71,8 @@ class Refusals:
         for number in range(1, count + 1, max(1, count // most)):
             text, status, _ = self.refusing(number)
             kinds[status] += 1
-            if not ((text, status) == (whole, usual) or (status == 6 and whole.startswith(text))):
+            unread = "--store" in self.words and (text, status) == (b"", 4)
+            if not ((text, status) == (whole, usual) or (status == 6 and whole.startswith(text)) or unread):
                 tale.lost(f"{name}, allocation {number}: status {status}, written {text[-200:]!r}")
         tale.saw(f"{name}: " + ", ".join(f"{times} times status {it}" for it, times in sorted(kinds.items())))
 
