@@ -9,100 +9,43 @@ use Rattle.move_reader.specs.Reading.{reading}
 use Rattle.command_words.specs.declared.aliases.Alias.{Alias}
 use Rattle.command_words.specs.declared.command.Command.{Command}
 use Rattle.command_words.specs.declared.command.Command.TheVariants as command
-use Rattle.command_words.specs.declared.verbs.Verb.{Verb}
-use Rattle.command_words.specs.declared.verbs.Verb.TheVariants as verb
-use Rattle.command_words.specs.declared.verbs.Verb.TheVariants.{Accept, Decline, Flag, InChannel, JoinChannel, LeaveChannel, Match, Play, Quit, Register, Resign, Seek, Set, Shout, Sought, Tell, Unalias, Unseek, Who, Withdraw, Partner, Ptell, AddCensor, AddNoplay, DropCensor, DropNoplay, Games, Pending, Kibitz, Observe, Refresh, Style, Unobserve, GoBoard, SimNext, SimOpen, SimPrev, Adjourn, Resume, Stored}
 use Rattle.command_words.specs.Blanks.{trimmed, first_word, rest_of}
 use Rattle.command_words.specs.Aliases.{alias_of, expanded}
-use Rattle.command_words.specs.Verbs.{verb_of}
-use Rattle.command_words.specs.Abort.{abort_of}
-use Rattle.command_words.specs.Accept.{accept_of}
-use Rattle.command_words.specs.Adjourn.{adjourn_of}
 use Rattle.command_words.specs.Alias.{alias_command, unalias_command}
-use Rattle.command_words.specs.Channel.{channel_of}
-use Rattle.command_words.specs.Decline.{decline_of}
-use Rattle.command_words.specs.Draw.{draw_of}
-use Rattle.command_words.specs.Flag.{flag_of}
-use Rattle.command_words.specs.Games.{games_of}
-use Rattle.command_words.specs.GoBoard.{go_board_of}
-use Rattle.command_words.specs.InChannel.{in_channel_of}
 use Rattle.command_words.specs.Match.{match_of}
-use Rattle.command_words.specs.NameList.{censor_of, noplay_of}
-use Rattle.command_words.specs.Pending.{pending_of}
-use Rattle.command_words.specs.Play.{play_of}
-use Rattle.command_words.specs.Quit.{quit_of}
-use Rattle.command_words.specs.Register.{register_of}
-use Rattle.command_words.specs.Resign.{resign_of}
-use Rattle.command_words.specs.Resume.{resume_of}
 use Rattle.command_words.specs.Seek.{seek_of}
-use Rattle.command_words.specs.SimNext.{sim_next_of}
-use Rattle.command_words.specs.SimOpen.{sim_open_of}
-use Rattle.command_words.specs.SimPrev.{sim_prev_of}
-use Rattle.command_words.specs.Sought.{sought_of}
-use Rattle.command_words.specs.Stored.{stored_of}
 use Rattle.command_words.specs.Takeback.{takeback_of}
 use Rattle.command_words.specs.Unseek.{unseek_of}
-use Rattle.command_words.specs.Who.{who_of}
 use Rattle.command_words.specs.Set.{set_of}
-use Rattle.command_words.specs.Shout.{shout_of}
 use Rattle.command_words.specs.Tell.{tell_of}
-use Rattle.command_words.specs.Withdraw.{withdraw_of}
-use Rattle.command_words.specs.Partner.{partner_of}
-use Rattle.command_words.specs.Ptell.{ptell_of}
-use Rattle.command_words.specs.Kibitz.{kibitz_of}
-use Rattle.command_words.specs.Observe.{observe_of, unobserve_of}
-use Rattle.command_words.specs.Refresh.{refresh_of}
+use Rattle.command_words.specs.Naming.{named_by}
+use Rattle.command_words.specs.Observe.{observe_of}
+use Rattle.command_words.specs.Shapes.{named, nothing, numbered, on_channel, perhaps, saying}
+use Rattle.command_words.specs.declared.rows.Takes.{Takes}
+use Rattle.command_words.specs.declared.rows.Takes.TheVariants as takes
 use Rattle.command_words.specs.Style.{style_of}
 
 -- what the rest of the line says, as each command reads its arguments
-abbrev pub arguments_of : Verb → List ℕ → Result Command Refusal
-arguments_of verb.Abort rest = abort_of rest
-arguments_of Accept rest = accept_of rest
-arguments_of AddCensor rest = censor_of true rest
-arguments_of AddNoplay rest = noplay_of true rest
-arguments_of Adjourn rest = adjourn_of rest
-arguments_of verb.Alias rest = alias_command rest
-arguments_of Decline rest = decline_of rest
-arguments_of verb.Draw rest = draw_of rest
-arguments_of DropCensor rest = censor_of false rest
-arguments_of DropNoplay rest = noplay_of false rest
-arguments_of Flag rest = flag_of rest
-arguments_of Games rest = games_of rest
-arguments_of GoBoard rest = go_board_of rest
-arguments_of InChannel rest = in_channel_of rest
-arguments_of JoinChannel rest = channel_of true rest
-arguments_of Kibitz rest = kibitz_of rest
-arguments_of Observe rest = observe_of rest
-arguments_of Refresh rest = refresh_of rest
-arguments_of Style rest = style_of rest
-arguments_of Unobserve rest = unobserve_of rest
-arguments_of LeaveChannel rest = channel_of false rest
-arguments_of Match rest = match_of rest
-arguments_of Partner rest = partner_of rest
-arguments_of Pending rest = pending_of rest
-arguments_of Play rest = play_of rest
-arguments_of Ptell rest = ptell_of rest
-arguments_of Quit rest = quit_of rest
-arguments_of Register rest = register_of rest
-arguments_of Resign rest = resign_of rest
-arguments_of Resume rest = resume_of rest
-arguments_of Seek rest = seek_of rest
-arguments_of SimNext rest = sim_next_of rest
-arguments_of SimOpen rest = sim_open_of rest
-arguments_of SimPrev rest = sim_prev_of rest
-arguments_of Sought rest = sought_of rest
-arguments_of Stored rest = stored_of rest
-arguments_of verb.Takeback rest = takeback_of rest
-arguments_of Unalias rest = unalias_command rest
-arguments_of Unseek rest = unseek_of rest
-arguments_of Who rest = who_of rest
-arguments_of Set rest = set_of rest
-arguments_of Shout rest = shout_of rest
-arguments_of Tell rest = tell_of rest
-arguments_of Withdraw rest = withdraw_of rest
+abbrev pub arguments_of : Takes → List ℕ → Result Command Refusal
+arguments_of (takes.Nothing which) rest = nothing which rest
+arguments_of (takes.Name which) rest = named which rest
+arguments_of (takes.MaybeName which) rest = perhaps which rest
+arguments_of (takes.Text which) rest = saying which rest
+arguments_of (takes.Number which) rest = numbered which rest
+arguments_of (takes.Channel which) rest = on_channel which rest
+arguments_of takes.Alias rest = alias_command rest
+arguments_of takes.Challenge rest = match_of rest
+arguments_of takes.Look rest = observe_of rest
+arguments_of takes.Seek rest = seek_of rest
+arguments_of takes.Setting rest = set_of rest
+arguments_of takes.Style rest = style_of rest
+arguments_of takes.Takeback rest = takeback_of rest
+arguments_of takes.Telling rest = tell_of rest
+arguments_of takes.Unalias rest = unalias_command rest
+arguments_of takes.Unseek rest = unseek_of rest
 
-abbrev pub asked : Result Verb Refusal → List ℕ → Result Command Refusal
-asked (Ok verb) rest = arguments_of verb rest
+abbrev pub asked : Result Takes Refusal → List ℕ → Result Command Refusal
+asked (Ok found) rest = arguments_of found rest
 asked (Err cause) rest = Err cause
 
 -- the move word that a text is
@@ -112,7 +55,7 @@ move_in text = reading text
 -- a move, where the text is one; else the command of its first word, of which the case of letters doesn't count
 abbrev pub move_or : Option MoveWord → List ℕ → Result Command Refusal
 move_or (Some word) text = Ok (command.Move word)
-move_or None text = asked (verb_of (map to_ascii_lowercase (first_word text))) (rest_of text)
+move_or None text = asked (named_by (map to_ascii_lowercase (first_word text))) (rest_of text)
 
 -- what a line asks for after its alias, without blanks at its ends
 abbrev pub command_of : List ℕ → Result Command Refusal

@@ -1,10 +1,9 @@
--- `observe N`, `observe HANDLE` and `unobserve N`: looks on at the game of that number, or at the one that a player
--- plays, or no longer.
+-- `observe N` or `observe HANDLE`: looks on at the game of that number, or at the one that this player plays.
 use Rattle.std.specs.Prelude.{◌≡◌, ℕ, List, Option, Some, None, Result, Ok, Err, codes, refl}
 use Rattle.fics_words.specs.declared.refusal.Refusal.{Refusal}
 use Rattle.fics_words.specs.declared.refusal.Refusal.TheVariants.{BadArguments}
 use Rattle.command_words.specs.declared.command.Command.{Command}
-use Rattle.command_words.specs.declared.command.Command.TheVariants.{ObserveGame, ObservePlayer, Unobserve}
+use Rattle.command_words.specs.declared.command.Command.TheVariants.{ObserveGame, ObservePlayer}
 use Rattle.command_words.specs.Numbers.{number_of}
 use Rattle.command_words.specs.Texts.{handle_of}
 
@@ -19,13 +18,6 @@ observe_from (Some number) handle = Ok (ObserveGame number)
 
 abbrev pub observe_of : List ℕ → Result Command Refusal
 observe_of rest = observe_from (number_of 65535 rest) (handle_of rest)
-
-abbrev pub unobserve_from : Option ℕ → Result Command Refusal
-unobserve_from None = Err BadArguments
-unobserve_from (Some number) = Ok (Unobserve number)
-
-abbrev pub unobserve_of : List ℕ → Result Command Refusal
-unobserve_of rest = unobserve_from (number_of 65535 rest)
 
 example_game : observe_of (codes "12") ≡ Ok (ObserveGame 12)
 unfolding number_of

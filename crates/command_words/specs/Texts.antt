@@ -19,8 +19,3 @@ is_handle bytes =
 -- the handle that the bytes spell
 abbrev pub handle_of : List ℕ → Option (List ℕ)
 handle_of bytes = if is_handle bytes then Some bytes else None
-
--- a command that takes no arguments
-abbrev pub alone : Command → List ℕ → Result Command Refusal
-alone command [] = Ok command
-alone command (b ∷ rest) = Err BadArguments

@@ -1,26 +1,14 @@
-//! Arguments of commands: texts, handles, and none.
+//! Arguments of commands: texts and handles.
 
 ghost use Rattle.std.specs.Prelude.{◌≡◌, ◌&&◌, nat_le, IfOk, Some, None, if◌then◌else◌};
 ghost use Rattle.std.specs.List.{list_all};
-ghost use Rattle.command_words.specs.Texts.{alone, handle_of, is_text};
+ghost use Rattle.command_words.specs.Texts.{handle_of, is_text};
 
-use crate::command::Command;
-use fics_words::{Handle, Line, NoMemory, Refusal};
+use fics_words::{Handle, Line, NoMemory};
 use std::alloc::Global;
 
 /// The most bytes that a text has.
 const MOST_TEXT: usize = 800;
-
-/// The command, where nothing stands behind its word; refuses with `BadArguments` where something does.
-pub(crate) fn alone(command: Command, rest: &[u8]) -> Result<Command, Refusal>
-    ensures { result ≡ alone command rest.now }
-{
-    if rest.is_empty() {
-        Ok(command)
-    } else {
-        Err(Refusal::BadArguments)
-    }
-}
 
 /// The handle that the bytes spell.
 pub(crate) fn handle_of(bytes: &[u8]) -> Option<Handle>

@@ -1,40 +1,11 @@
-//! The commands, each in a file of its own.
+//! The commands whose arguments have a form of their own, each in a file of its own.
 
-pub(crate) mod abort;
-pub(crate) mod accept;
-pub(crate) mod adjourn;
 pub(crate) mod alias;
-pub(crate) mod channel;
-pub(crate) mod decline;
-pub(crate) mod draw;
-pub(crate) mod flag;
-pub(crate) mod games;
-pub(crate) mod go_board;
-pub(crate) mod in_channel;
-pub(crate) mod kibitz;
 pub(crate) mod matching;
-pub(crate) mod name_list;
 pub(crate) mod observe;
-pub(crate) mod partner;
-pub(crate) mod pending;
-pub(crate) mod play;
-pub(crate) mod ptell;
-pub(crate) mod quit;
-pub(crate) mod refresh;
-pub(crate) mod register;
-pub(crate) mod resign;
-pub(crate) mod resume;
 pub(crate) mod seek;
 pub(crate) mod set;
-pub(crate) mod shout;
-pub(crate) mod sim_next;
-pub(crate) mod sim_open;
-pub(crate) mod sim_prev;
-pub(crate) mod sought;
-pub(crate) mod stored;
 pub(crate) mod style;
 pub(crate) mod takeback;
 pub(crate) mod tell;
 pub(crate) mod unseek;
-pub(crate) mod who;
-pub(crate) mod withdraw;

@@ -1,8 +1,8 @@
 //! Reading the lines that players type: aliases, the rule of command words, and each command's arguments.
 //!
 //! The contract: `read_command` gives the command of `specs/Commands.antt` for the line, or the first refusal that
-//! holds, and nothing but running out of memory stands in its place. Each command is a file of its own here and in
-//! `specs/`.
+//! holds, and nothing but running out of memory stands in its place. The commands are the
+//! rows of one table (`rows.rt`), which `specs/Naming.antt` reads too.
 #![tactic(auto)]
 
 mod aliases;
@@ -12,14 +12,17 @@ mod command;
 mod commands;
 mod expansion;
 mod laws;
+mod naming;
 mod numbers;
 mod reading;
+mod rows;
+mod shapes;
 mod style;
 mod terms;
-mod verbs;
 
 pub use aliases::{Alias, Aliases};
 pub use command::Command;
 pub use laws::terms_are_read_as_spelled;
 pub use reading::read_command;
+pub use rows::{ROWS, Row};
 pub use style::Style;

@@ -10,14 +10,11 @@ ghost use Rattle.command_words.specs.Commands.{command_in, command_after, comman
 use crate::aliases::{Alias, Aliases};
 use crate::blanks::{first_word, rest_of, trimmed};
 use crate::command::Command;
-use crate::commands::{
-    abort, accept, adjourn, alias, channel, decline, draw, flag, games, go_board, in_channel,
-    kibitz, matching, name_list, observe, partner, pending, play, ptell, quit, refresh, register,
-    resign, resume, seek, set, shout, sim_next, sim_open, sim_prev, sought, stored, style,
-    takeback, tell, unseek, who, withdraw,
-};
+use crate::commands::{alias, matching, observe, seek, set, style, takeback, tell, unseek};
 use crate::expansion::expanded;
-use crate::verbs::{Verb, verb_of};
+use crate::naming::named_by;
+use crate::rows::Takes;
+use crate::shapes::{named, nothing, numbered, on_channel, perhaps, saying};
 use chess_model::MoveWord;
 use fics_words::{Fail, Line, NoMemory, Refusal};
 use move_reader::read_word;
@@ -91,70 +88,42 @@ fn move_or(alloc: Global, word: Option<MoveWord>, text: &[u8]) -> Result<Command
         Some(word) => Ok(Command::Move(word)),
         None => {
             let name = lowered(alloc, first_word(text))?;
-            read_asked(alloc, verb_of(name.as_slice()), rest_of(text))
+            read_asked(alloc, named_by(name.as_slice()), rest_of(text))
         }
     }
 }
 
 /// Reads the arguments of the command that was found, if one was.
-fn read_asked(alloc: Global, verb: Result<Verb, Refusal>, rest: &[u8]) -> Result<Command, Fail>
-    ensures { Gives (asked verb rest.now) result }
+fn read_asked(alloc: Global, takes: Result<Takes, Refusal>, rest: &[u8]) -> Result<Command, Fail>
+    ensures { Gives (asked takes rest.now) result }
 {
-    match verb {
-        Ok(verb) => read_arguments(alloc, verb, rest),
+    match takes {
+        Ok(takes) => read_arguments(alloc, takes, rest),
         Err(refusal) => Err(Fail::Refused(refusal)),
     }
 }
 
 /// Reads the arguments of a command.
-fn read_arguments(alloc: Global, verb: Verb, rest: &[u8]) -> Result<Command, Fail>
-    ensures { Gives (arguments_of verb rest.now) result }
+fn read_arguments(alloc: Global, takes: Takes, rest: &[u8]) -> Result<Command, Fail>
+    ensures { Gives (arguments_of takes rest.now) result }
 {
-    match verb {
-        Verb::Abort => settled(abort::read(rest)),
-        Verb::Accept => settled(accept::read(rest)),
-        Verb::AddCensor => settled(name_list::read_censor(true, rest)),
-        Verb::AddNoplay => settled(name_list::read_noplay(true, rest)),
-        Verb::Adjourn => settled(adjourn::read(rest)),
-        Verb::Alias => alias::read(alloc, rest),
-        Verb::Decline => settled(decline::read(rest)),
-        Verb::Draw => settled(draw::read(rest)),
-        Verb::DropCensor => settled(name_list::read_censor(false, rest)),
-        Verb::DropNoplay => settled(name_list::read_noplay(false, rest)),
-        Verb::Flag => settled(flag::read(rest)),
-        Verb::Games => settled(games::read(rest)),
-        Verb::GoBoard => settled(go_board::read(rest)),
-        Verb::InChannel => settled(in_channel::read(rest)),
-        Verb::JoinChannel => settled(channel::read(true, rest)),
-        Verb::Kibitz => kibitz::read(alloc, rest),
-        Verb::Observe => settled(observe::read(rest)),
-        Verb::Refresh => settled(refresh::read(rest)),
-        Verb::Style => settled(style::read(rest)),
-        Verb::Unobserve => settled(observe::read_unobserve(rest)),
-        Verb::LeaveChannel => settled(channel::read(false, rest)),
-        Verb::Match => settled(matching::read(rest)),
-        Verb::Partner => settled(partner::read(rest)),
-        Verb::Pending => settled(pending::read(rest)),
-        Verb::Play => settled(play::read(rest)),
-        Verb::Ptell => ptell::read(alloc, rest),
-        Verb::Quit => settled(quit::read(rest)),
-        Verb::Register => register::read(alloc, rest),
-        Verb::Resign => settled(resign::read(rest)),
-        Verb::Resume => settled(resume::read(rest)),
-        Verb::Seek => settled(seek::read(rest)),
-        Verb::SimNext => settled(sim_next::read(rest)),
-        Verb::SimOpen => settled(sim_open::read(rest)),
-        Verb::SimPrev => settled(sim_prev::read(rest)),
-        Verb::Sought => settled(sought::read(rest)),
-        Verb::Stored => settled(stored::read(rest)),
-        Verb::Takeback => settled(takeback::read(rest)),
-        Verb::Unalias => alias::read_unalias(alloc, rest),
-        Verb::Unseek => settled(unseek::read(rest)),
-        Verb::Who => settled(who::read(rest)),
-        Verb::Set => settled(set::read(rest)),
-        Verb::Shout => shout::read(alloc, rest),
-        Verb::Tell => tell::read(alloc, rest),
-        Verb::Withdraw => settled(withdraw::read(rest)),
+    match takes {
+        Takes::Nothing(which) => settled(nothing(which, rest)),
+        Takes::Name(which) => settled(named(which, rest)),
+        Takes::MaybeName(which) => settled(perhaps(which, rest)),
+        Takes::Text(which) => saying(alloc, which, rest),
+        Takes::Number(which) => settled(numbered(which, rest)),
+        Takes::Channel(which) => settled(on_channel(which, rest)),
+        Takes::Alias => alias::read(alloc, rest),
+        Takes::Challenge => settled(matching::read(rest)),
+        Takes::Look => settled(observe::read(rest)),
+        Takes::Seek => settled(seek::read(rest)),
+        Takes::Setting => settled(set::read(rest)),
+        Takes::Style => settled(style::read(rest)),
+        Takes::Takeback => settled(takeback::read(rest)),
+        Takes::Telling => tell::read(alloc, rest),
+        Takes::Unalias => alias::read_unalias(alloc, rest),
+        Takes::Unseek => settled(unseek::read(rest)),
     }
 }
 

@@ -2,12 +2,15 @@
 
 ghost use Rattle.std.specs.Prelude.{◌≡◌, ◌≤◌, Some, SomeIff, bytes_eq, length, refl};
 ghost use Rattle.std.specs.Cmp.{partial_equiv_from_equiv};
-ghost use Rattle.std.specs.Cmp.Lexicographic.{slice_cmp, nat_list_eq_equiv, nat_list_cmp_total, texts_po, texts_ties};
+ghost use Rattle.std.proofs.Common.{ap};
+ghost use Rattle.std.specs.Hash as fed;
+ghost use Rattle.std.specs.Cmp.Lexicographic.{bytes_decides, slice_cmp, nat_list_eq_equiv, nat_list_cmp_total, texts_po, texts_ties};
 ghost use Rattle.std.specs.Ordering.{nat_cmp};
 ghost use Rattle.fics_words.specs.Handle.{IsHandle, key_of, padded};
 
 use memory::{Duplicate, NoMemory};
 use std::cmp::Ordering;
+use std::hash::{Hash, Hasher};
 use std::marker::Model;
 
 /// The fewest letters of a handle.
@@ -156,6 +159,16 @@ impl Ord for HandleKey {
 
     fn cmp(&self, other: &HandleKey) -> Ordering {
         self.letters().cmp(other.letters())
+    }
+}
+
+impl Hash for HandleKey {
+    ghost hash_input = { fed.slice fed.u8 };
+
+    ghost respects_eq = { λ x y same. ap (fed.slice fed.u8) ((bytes_decides x y).0 same) };
+
+    fn hash<H: Hasher>(&self, state: &mut H) {
+        self.letters().hash(state);
     }
 }
 

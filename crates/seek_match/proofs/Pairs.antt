@@ -15,7 +15,7 @@ neither true b h = absurd (let bad : true ≡ false = h in cc)
 neither false b h = (refl, h)
 
 -- equality of numbers, seen from the other one
-turned : (a b : ℕ) → (a == b) ≡ (b == a)
+pub turned : (a b : ℕ) → (a == b) ≡ (b == a)
 turned a b =
     elim (b == a) as (λ t. (b == a) ≡ t → (a == b) ≡ t) [
       | true ↦ λ same. eq-eqb a b (sym (eqb-true b a same))

@@ -1,9 +1,10 @@
 -- Rows of seeks whose numbers rise: some go, one comes, and which number is the first that is left out.
-use Rattle.std.proofs.Common.{◌≡◌, ℕ, zero, suc, ◌+◌, ◌<◌, ◌≤◌, Bool, true, false, cond, List, [], ◌∷◌, length, refl, sym, ap, subst, ◌∙◌, arith}
+use Rattle.std.proofs.Common.{◌≡◌, ℕ, zero, suc, ◌+◌, ◌<◌, ◌≤◌, Bool, true, false, cond, List, [], ◌∷◌, None, Some, length, refl, sym, ap, subst, ◌∙◌, arith}
 use Rattle.std.specs.Prelude.{◌==◌, ◌||◌}
-use Rattle.std.specs.List.{filter, insert}
+use Rattle.std.specs.List.{filter, find, insert}
 use Rattle.std.proofs.lemmas.Bool.{eqb-true, eqb-false, ne_eqb}
 use Rattle.seek_match.specs.declared.seek.Seek.{Seek}
+use Rattle.seek_match.proofs.Pairs.{turned}
 use Rattle.seek_match.specs.Seeks.{AreSeeks, IsLeastUnused, RiseAbove, first_gap, is_used, next_number}
 
 or_false : (a b : Bool) → a ≡ false → b ≡ false → a || b ≡ false
@@ -143,3 +144,16 @@ next_number-least seeks rise =
       unused = first_gap-unused seeks 0 rise;
       least = λ k positive below. first_gap-least seeks 0 k rise positive below;
     }
+
+not_found : (seeks : List Seek) (n : ℕ) → is_used seeks n ≡ false → find (λ seek. n == seek.number) seeks ≡ None
+not_found [] n none = refl
+not_found (seek ∷ seeks) n none =
+    elim (seek.number == n) as (λ t. (seek.number == n) ≡ t → t || is_used seeks n ≡ false → find (λ seek. n == seek.number) (seek ∷ seeks) ≡ None) [
+      | true ↦ λ _ h. absurd (let bad : true ≡ false = h in cc)
+      | false ↦ λ differ h.
+          ap (λ t. cond t (Some seek) (find (λ seek. n == seek.number) seeks)) (turned n seek.number ∙ differ) ∙ not_found seeks n h
+    ] refl none
+
+-- no seek has the next number, as a table asks it
+pub next_number-new : (seeks : List Seek) → AreSeeks seeks → find (λ seek. next_number seeks == seek.number) seeks ≡ None
+next_number-new seeks rise = not_found seeks (next_number seeks) (next_number-least seeks rise).unused

@@ -1,9 +1,11 @@
 //! A seek, and whose it is.
-ghost use Rattle.std.specs.Prelude.{◌≡◌, not};
-ghost use Rattle.seek_match.specs.Seeks.{has_number, is_by};
+ghost use Rattle.std.specs.Prelude.{◌≡◌, Ok, not};
+ghost use Rattle.seek_match.specs.Seeks.{is_by};
 
 use chess_model::Terms;
 use collections::Predicate;
+use fics_words::{Duplicate, NoMemory};
+use tables::Keyed;
 
 /// A game that a player offers to whoever takes it: under which number, by which session, and on which terms.
 #[derive(Clone, Copy)]
@@ -26,15 +28,20 @@ impl Seek {
     }
 }
 
-/// The seek of that number.
-#[derive(Clone, Copy)]
-pub(crate) struct OfNumber(pub(crate) u16);
+impl Keyed<u16> for Seek {
+    ghost key_of = { λ seek. seek.number };
 
-impl Predicate<Seek> for OfNumber {
-    ghost passes = { λ test seek. has_number test.0 seek };
+    fn key(&self) -> u16 {
+        self.number
+    }
+}
 
-    fn passes(&self, seek: &Seek) -> bool {
-        seek.number == self.0
+impl Duplicate for Seek {
+    /// Takes no memory.
+    fn duplicate(&self) -> Result<Seek, NoMemory>
+        ensures { result ≡ Ok self.now }
+    {
+        Ok(*self)
     }
 }
 

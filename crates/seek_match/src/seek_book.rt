@@ -1,14 +1,15 @@
 //! The seeks that stand.
-ghost use Rattle.std.specs.Prelude.{◌≡◌, ◌+◌, ◌<◌, ◌≤◌, IfOk, length};
+ghost use Rattle.std.specs.Prelude.{◌≡◌, ◌+◌, ◌<◌, ◌≤◌, length};
 ghost use Rattle.std.specs.List.{count_by, filter};
 ghost use Rattle.seek_match.specs.Seeks.{is_by, next_number};
 
-use crate::seek::{NotBy, OfNumber, Seek};
+use crate::seek::{NotBy, Seek};
 use chess_model::Terms;
-use collections::{Predicate, find};
+use collections::Predicate;
 use fics_words::{Duplicate, Fail, NoMemory, Refusal};
 use std::alloc::Global;
 use std::marker::Model;
+use tables::Table;
 
 /// The most seeks of a player.
 const MOST: usize = 3;
@@ -16,7 +17,7 @@ const MOST: usize = 3;
 /// The seeks that stand, in the order of their numbers. Contracts see the list of them.
 #[derive(Drop)]
 pub struct SeekBook {
-    pub(crate) rows: Vec<Seek>,
+    pub(crate) rows: Table<u16, Seek>,
 }
 
 impl Model for SeekBook {
@@ -26,9 +27,9 @@ impl Model for SeekBook {
 
     ghost Value = { List Seek };
 
-    ghost view = { λ book. book.rows.items };
+    ghost view = { λ book. book.rows };
 
-    ghost invariant = { λ book. AreSeeks book.rows.items };
+    ghost invariant = { λ book. AreSeeks book.rows };
 }
 
 impl SeekBook {
@@ -42,7 +43,7 @@ impl SeekBook {
         ensures { result ≡ [] }
     {
         SeekBook {
-            rows: Vec::new(alloc),
+            rows: Table::new(alloc),
         }
     }
 
@@ -65,7 +66,7 @@ impl SeekBook {
     pub fn get(&self, number: u16) -> Option<Seek>
         ensures { result ≡ seek_of self.now number }
     {
-        find(self.rows.as_slice(), &OfNumber(number)).copied()
+        self.rows.get(number).copied()
     }
 
     /// Takes away this player's seek of that number, or without a number all seeks of this player, and gives how many
@@ -111,16 +112,9 @@ impl SeekBook {
 impl Duplicate for SeekBook {
     fn duplicate(&self) -> Result<SeekBook, NoMemory> {
         Ok(SeekBook {
-            rows: copy_of(*self.rows.allocator(), self.rows.as_slice())?,
+            rows: self.rows.duplicate()?,
         })
     }
-}
-
-/// A copy of the seeks.
-fn copy_of(alloc: Global, seeks: &[Seek]) -> Result<Vec<Seek>, NoMemory>
-    ensures { IfOk result (λ copy. copy.items ≡ seeks.now) }
-{
-    Ok(Vec::from_slice(alloc, seeks)?)
 }
 
 /// How many of these are by this player, and have the number, if one is given.
@@ -147,12 +141,10 @@ fn next_number(seeks: &[Seek]) -> u16
     number
 }
 
-/// Keeps the seeks that pass `test`. A list that is left empty gives its block back.
-fn keep_seeks<P: Predicate<Seek>>(seeks: &mut Vec<Seek>, test: &P)
-    ensures { seeks.new.items ≡ filter (P.passes test.now) seeks.old.items }
+/// Keeps the seeks that pass `test`. A table that is left empty gives its memory back.
+fn keep_seeks<P: Predicate<Seek>>(seeks: &mut Table<u16, Seek>, test: &P)
+    ensures { seeks.new ≡ filter (P.passes test.now) seeks.old }
 {
-    seeks.retain(|seek| test.passes(seek));
-    if seeks.is_empty() {
-        *seeks = Vec::new(*seeks.allocator());
-    }
+    seeks.retain(test);
+    seeks.shrink();
 }

@@ -15,24 +15,29 @@ use Rattle.lobby_state.specs.Terms.{AreTerms}
 use Rattle.command_words.specs.declared.aliases.Alias.{Alias}
 use Rattle.command_words.specs.declared.command.Command.{Command}
 use Rattle.command_words.specs.declared.command.Command.TheVariants as command
-use Rattle.command_words.specs.declared.verbs.Verb.{Verb}
-use Rattle.command_words.specs.declared.verbs.Verb.TheVariants as verb
-use Rattle.command_words.specs.Accept.{accept_from, accept_of}
 use Rattle.command_words.specs.Aliases.{alias_of, expanded, is_alias_name}
 use Rattle.command_words.specs.Blanks.{Words, first_word, rest_of, trimmed, words_of}
-use Rattle.command_words.specs.Decline.{decline_from, decline_of}
-use Rattle.command_words.specs.Channel.{channel_from}
-use Rattle.command_words.specs.GoBoard.{go_board_from}
-use Rattle.command_words.specs.InChannel.{in_channel_from}
 use Rattle.command_words.specs.Commands.{arguments_of, asked, command_after, command_in, command_made, command_of, move_in, move_or}
-use Rattle.command_words.specs.NameList.{censor_from, noplay_from}
 use Rattle.command_words.specs.Match.{challenge, challenge_of, two_twelve}
 use Rattle.chess_model.specs.VariantWord.{IsNumbered}
-use Rattle.command_words.specs.Observe.{observe_from, observe_player, unobserve_from}
-use Rattle.command_words.specs.Partner.{partner_from, partner_of}
-use Rattle.command_words.specs.Play.{play_from}
-use Rattle.command_words.specs.Resume.{resume_from}
+use Rattle.command_words.specs.Observe.{observe_from, observe_player}
 use Rattle.command_words.specs.Seek.{five_nothing, seeking}
+use Rattle.command_words.specs.Naming.{named_by}
+use Rattle.command_words.specs.Shapes.{bare, by_name, by_number, by_text, channel_from, named_from, nothing, numbered_from, perhaps, perhaps_from, to_perhaps, with_channel}
+use Rattle.command_words.specs.declared.rows.Bare.{Bare}
+use Rattle.command_words.specs.declared.rows.ByName.{ByName}
+use Rattle.command_words.specs.declared.rows.ByName.TheVariants.{AddCensor, AddNoplay, DropCensor, DropNoplay, GoBoard, Resume}
+use Rattle.command_words.specs.declared.rows.ByNumber.{ByNumber}
+use Rattle.command_words.specs.declared.rows.ByNumber.TheVariants.{Play, Unobserve}
+use Rattle.command_words.specs.declared.rows.OnChannel.{OnChannel}
+use Rattle.command_words.specs.declared.rows.OnChannel.TheVariants.{Ask, Join, Leave}
+use Rattle.command_words.specs.declared.rows.Perhaps.{Perhaps}
+use Rattle.command_words.specs.declared.rows.Perhaps.TheVariants.{Accept, Decline, Partner, Withdraw}
+use Rattle.command_words.specs.declared.rows.Saying.{Saying}
+use Rattle.command_words.specs.declared.rows.Saying.TheVariants.{Kibitz, Ptell, Register, Shout}
+use Rattle.command_words.specs.declared.rows.Takes.{Takes}
+use Rattle.command_words.specs.declared.rows.Takes.TheVariants as takes
+use Rattle.command_words.specs.declared.rows.Bare.TheVariants as empty
 use Rattle.command_words.specs.Numbers.{channel_number, is_no_channel, number_of}
 use Rattle.command_words.specs.Set.{is_on, set_to, setting_of}
 use Rattle.command_words.specs.Tell.{tell_to, telling, telling_to}
@@ -40,9 +45,7 @@ use Rattle.command_words.specs.Takeback.{takeback_from, takeback_of}
 use Rattle.command_words.specs.TermReading.{agreed, terms_of}
 use Rattle.command_words.specs.Unseek.{unseek_from, unseek_of}
 use Rattle.command_words.specs.TermWords.{Spells, SpellsTime, UsualTime, time_of}
-use Rattle.command_words.specs.Texts.{alone, handle_of, is_text}
-use Rattle.command_words.specs.Verbs.{verb_of}
-use Rattle.command_words.specs.Withdraw.{withdraw_from, withdraw_of}
+use Rattle.command_words.specs.Texts.{handle_of, is_text}
 use Rattle.command_words.proofs.Forms.{at_least, both_true}
 use Rattle.command_words.proofs.TermParts.{are_read_as_spelled}
 use Rattle.session_core.specs.Stages.{FitsCommand}
@@ -99,46 +102,6 @@ takeback_fits : (rest : List ℕ) → FitsAnswer (takeback_of rest)
 takeback_fits [] = tt
 takeback_fits (b ∷ rest) = takeback_from_fits (number_of 1200 (b ∷ rest))
 
-play_fits : (number : Option ℕ) → FitsAnswer (play_from number)
-play_fits None = tt
-play_fits (Some number) = tt
-
-accept_from_fits : (name : Option (List ℕ)) → FitsAnswer (accept_from name)
-accept_from_fits None = tt
-accept_from_fits (Some name) = tt
-
-accept_fits : (rest : List ℕ) → FitsAnswer (accept_of rest)
-accept_fits [] = tt
-accept_fits (b ∷ rest) = accept_from_fits (handle_of (b ∷ rest))
-
-decline_from_fits : (name : Option (List ℕ)) → FitsAnswer (decline_from name)
-decline_from_fits None = tt
-decline_from_fits (Some name) = tt
-
-decline_fits : (rest : List ℕ) → FitsAnswer (decline_of rest)
-decline_fits [] = tt
-decline_fits (b ∷ rest) = decline_from_fits (handle_of (b ∷ rest))
-
-partner_from_fits : (name : Option (List ℕ)) → FitsAnswer (partner_from name)
-partner_from_fits None = tt
-partner_from_fits (Some name) = tt
-
-partner_fits : (rest : List ℕ) → FitsAnswer (partner_of rest)
-partner_fits [] = tt
-partner_fits (b ∷ rest) = partner_from_fits (handle_of (b ∷ rest))
-
-withdraw_from_fits : (name : Option (List ℕ)) → FitsAnswer (withdraw_from name)
-withdraw_from_fits None = tt
-withdraw_from_fits (Some name) = tt
-
-withdraw_fits : (rest : List ℕ) → FitsAnswer (withdraw_of rest)
-withdraw_fits [] = tt
-withdraw_fits (b ∷ rest) = withdraw_from_fits (handle_of (b ∷ rest))
-
-alone_fits : (command : Command) (rest : List ℕ) → FitsCommand command → FitsAnswer (alone command rest)
-alone_fits command [] fits = fits
-alone_fits command (b ∷ rest) fits = tt
-
 -- a text that was read has at most 800 bytes
 text_short : (text : List ℕ) → is_text text ≡ true → length text ≤ 800
 text_short text e = at_least (length text) 800 (both_true _ _ (both_true (nat_le 1 (length text)) _ e).1).0
@@ -168,18 +131,6 @@ observe_fits : (number : Option ℕ) (handle : Option (List ℕ)) → FitsAnswer
 observe_fits None handle = observe_player_fits handle
 observe_fits (Some number) handle = tt
 
-unobserve_fits : (number : Option ℕ) → FitsAnswer (unobserve_from number)
-unobserve_fits None = tt
-unobserve_fits (Some number) = tt
-
-channel_fits : (on : Bool) (asked : Result ℕ Refusal) → FitsAnswer (channel_from on asked)
-channel_fits on (Ok number) = tt
-channel_fits on (Err cause) = tt
-
-in_channel_fits : (asked : Result ℕ Refusal) → FitsAnswer (in_channel_from asked)
-in_channel_fits (Ok number) = tt
-in_channel_fits (Err cause) = tt
-
 tell_fits : (word text : List ℕ) → FitsAnswer (tell_to word text)
 tell_fits word text = either_fits (is_no_channel word) (Err BadChannel) (telling_to (number_of 255 word) word text) tt (telling_to_fits (number_of 255 word) word text)
 
@@ -195,76 +146,102 @@ setting_fits (name ∷ []) = tt
 setting_fits (name ∷ value ∷ []) = set_to_fits name (is_on value)
 setting_fits (name ∷ value ∷ more ∷ words) = tt
 
-censor_fits : (on : Bool) (name : Option (List ℕ)) → FitsAnswer (censor_from on name)
-censor_fits on None = tt
-censor_fits on (Some name) = tt
+bare_fits : (which : Bare) → FitsCommand (bare which)
+bare_fits empty.Abort = tt
+bare_fits empty.Adjourn = tt
+bare_fits empty.Draw = tt
+bare_fits empty.Flag = tt
+bare_fits empty.Games = tt
+bare_fits empty.Pending = tt
+bare_fits empty.Quit = tt
+bare_fits empty.Refresh = tt
+bare_fits empty.Resign = tt
+bare_fits empty.SimNext = tt
+bare_fits empty.SimOpen = tt
+bare_fits empty.SimPrev = tt
+bare_fits empty.Sought = tt
+bare_fits empty.Stored = tt
+bare_fits empty.Who = tt
 
-noplay_fits : (on : Bool) (name : Option (List ℕ)) → FitsAnswer (noplay_from on name)
-noplay_fits on None = tt
-noplay_fits on (Some name) = tt
+nothing_fits : (which : Bare) (rest : List ℕ) → FitsAnswer (nothing which rest)
+nothing_fits which [] = bare_fits which
+nothing_fits which (b ∷ rest) = tt
 
-go_board_fits : (name : Option (List ℕ)) → FitsAnswer (go_board_from name)
-go_board_fits None = tt
-go_board_fits (Some name) = tt
+by_name_fits : (which : ByName) (name : List ℕ) → FitsCommand (by_name which name)
+by_name_fits AddCensor name = tt
+by_name_fits AddNoplay name = tt
+by_name_fits DropCensor name = tt
+by_name_fits DropNoplay name = tt
+by_name_fits GoBoard name = tt
+by_name_fits Resume name = tt
 
-resume_fits : (name : Option (List ℕ)) → FitsAnswer (resume_from name)
-resume_fits None = tt
-resume_fits (Some name) = tt
+named_fits : (which : ByName) (name : Option (List ℕ)) → FitsAnswer (named_from which name)
+named_fits which None = tt
+named_fits which (Some name) = by_name_fits which name
 
-arguments_fit : (v : Verb) (rest : List ℕ) → FitsAnswer (arguments_of v rest)
-arguments_fit verb.Abort rest = alone_fits command.Abort rest tt
-arguments_fit verb.Accept rest = accept_fits rest
-arguments_fit verb.Adjourn rest = alone_fits command.Adjourn rest tt
-arguments_fit verb.Alias rest =
+to_perhaps_fits : (which : Perhaps) (name : Option (List ℕ)) → FitsCommand (to_perhaps which name)
+to_perhaps_fits Accept name = tt
+to_perhaps_fits Decline name = tt
+to_perhaps_fits Partner name = tt
+to_perhaps_fits Withdraw name = tt
+
+perhaps_from_fits : (which : Perhaps) (name : Option (List ℕ)) → FitsAnswer (perhaps_from which name)
+perhaps_from_fits which None = tt
+perhaps_from_fits which (Some name) = to_perhaps_fits which (Some name)
+
+perhaps_fits : (which : Perhaps) (rest : List ℕ) → FitsAnswer (perhaps which rest)
+perhaps_fits which [] = to_perhaps_fits which None
+perhaps_fits which (b ∷ rest) = perhaps_from_fits which (handle_of (b ∷ rest))
+
+by_text_fits : (which : Saying) (text : List ℕ) → length text ≤ 800 → FitsCommand (by_text which text)
+by_text_fits Kibitz text short = short
+by_text_fits Ptell text short = short
+by_text_fits Register text short = tt
+by_text_fits Shout text short = short
+
+by_number_fits : (which : ByNumber) (number : ℕ) → FitsCommand (by_number which number)
+by_number_fits Play number = tt
+by_number_fits Unobserve number = tt
+
+numbered_fits : (which : ByNumber) (number : Option ℕ) → FitsAnswer (numbered_from which number)
+numbered_fits which None = tt
+numbered_fits which (Some number) = by_number_fits which number
+
+with_channel_fits : (which : OnChannel) (number : ℕ) → FitsCommand (with_channel which number)
+with_channel_fits Ask number = tt
+with_channel_fits Join number = tt
+with_channel_fits Leave number = tt
+
+channel_fits : (which : OnChannel) (asked : Result ℕ Refusal) → FitsAnswer (channel_from which asked)
+channel_fits which (Ok number) = with_channel_fits which number
+channel_fits which (Err cause) = tt
+
+arguments_fit : (found : Takes) (rest : List ℕ) → FitsAnswer (arguments_of found rest)
+arguments_fit (takes.Nothing which) rest = nothing_fits which rest
+arguments_fit (takes.Name which) rest = named_fits which (handle_of rest)
+arguments_fit (takes.MaybeName which) rest = perhaps_fits which rest
+arguments_fit (takes.Text which) rest = text_fits (by_text which) rest (by_text_fits which rest)
+arguments_fit (takes.Number which) rest = numbered_fits which (number_of 65535 rest)
+arguments_fit (takes.Channel which) rest = channel_fits which (channel_number rest)
+arguments_fit takes.Alias rest =
     either_fits (is_alias_name (first_word rest) && is_text (rest_of rest)) (Ok (command.Alias (first_word rest) (rest_of rest))) (Err BadArguments) tt tt
-arguments_fit verb.Decline rest = decline_fits rest
-arguments_fit verb.Draw rest = alone_fits command.Draw rest tt
-arguments_fit verb.Flag rest = alone_fits command.Flag rest tt
-arguments_fit verb.InChannel rest = in_channel_fits (channel_number rest)
-arguments_fit verb.JoinChannel rest = channel_fits true (channel_number rest)
-arguments_fit verb.Kibitz rest = text_fits command.Kibitz rest (λ short. short)
-arguments_fit verb.Observe rest = observe_fits (number_of 65535 rest) (handle_of rest)
-arguments_fit verb.Refresh rest = alone_fits command.Refresh rest tt
-arguments_fit verb.Style rest = either_fits (bytes_eq rest (codes "1")) _ _ tt (either_fits (bytes_eq rest (codes "12")) _ _ tt tt)
-arguments_fit verb.Unobserve rest = unobserve_fits (number_of 65535 rest)
-arguments_fit verb.LeaveChannel rest = channel_fits false (channel_number rest)
-arguments_fit verb.Match rest = challenge_of_fits (words_of rest)
-arguments_fit verb.Partner rest = partner_fits rest
-arguments_fit verb.Ptell rest = text_fits command.Ptell rest (λ short. short)
-arguments_fit verb.Play rest = play_fits (number_of 65535 rest)
-arguments_fit verb.Quit rest = alone_fits command.Quit rest tt
-arguments_fit verb.Register rest = either_fits (is_text rest) (Ok (command.Register rest)) (Err BadArguments) tt tt
-arguments_fit verb.Resign rest = alone_fits command.Resign rest tt
-arguments_fit verb.Resume rest = resume_fits (handle_of rest)
-arguments_fit verb.Takeback rest = takeback_fits rest
-arguments_fit verb.Unalias rest = either_fits (is_alias_name rest) (Ok (command.Unalias rest)) (Err BadArguments) tt tt
-arguments_fit verb.Seek rest = seeking_fits (words_of rest) (terms_of five_nothing (words_of rest)) refl
-arguments_fit verb.SimOpen rest = alone_fits command.SimOpen rest tt
-arguments_fit verb.SimNext rest = alone_fits command.SimNext rest tt
-arguments_fit verb.SimPrev rest = alone_fits command.SimPrev rest tt
-arguments_fit verb.GoBoard rest = go_board_fits (handle_of rest)
-arguments_fit verb.Sought rest = alone_fits command.Sought rest tt
-arguments_fit verb.Stored rest = alone_fits command.Stored rest tt
-arguments_fit verb.Unseek rest = unseek_fits rest
-arguments_fit verb.AddCensor rest = censor_fits true (handle_of rest)
-arguments_fit verb.DropCensor rest = censor_fits false (handle_of rest)
-arguments_fit verb.AddNoplay rest = noplay_fits true (handle_of rest)
-arguments_fit verb.DropNoplay rest = noplay_fits false (handle_of rest)
-arguments_fit verb.Pending rest = alone_fits command.Pending rest tt
-arguments_fit verb.Games rest = alone_fits command.Games rest tt
-arguments_fit verb.Who rest = alone_fits command.Who rest tt
-arguments_fit verb.Set rest = setting_fits (words_of rest)
-arguments_fit verb.Shout rest = text_fits command.Shout rest (λ short. short)
-arguments_fit verb.Tell rest = tell_fits (first_word rest) (rest_of rest)
-arguments_fit verb.Withdraw rest = withdraw_fits rest
+arguments_fit takes.Challenge rest = challenge_of_fits (words_of rest)
+arguments_fit takes.Look rest = observe_fits (number_of 65535 rest) (handle_of rest)
+arguments_fit takes.Seek rest = seeking_fits (words_of rest) (terms_of five_nothing (words_of rest)) refl
+arguments_fit takes.Setting rest = setting_fits (words_of rest)
+arguments_fit takes.Style rest = either_fits (bytes_eq rest (codes "1")) _ _ tt (either_fits (bytes_eq rest (codes "12")) _ _ tt tt)
+arguments_fit takes.Takeback rest = takeback_fits rest
+arguments_fit takes.Telling rest = tell_fits (first_word rest) (rest_of rest)
+arguments_fit takes.Unalias rest = either_fits (is_alias_name rest) (Ok (command.Unalias rest)) (Err BadArguments) tt tt
+arguments_fit takes.Unseek rest = unseek_fits rest
 
-asked_fits : (v : Result Verb Refusal) (rest : List ℕ) → FitsAnswer (asked v rest)
-asked_fits (Ok v) rest = arguments_fit v rest
+asked_fits : (found : Result Takes Refusal) (rest : List ℕ) → FitsAnswer (asked found rest)
+asked_fits (Ok found) rest = arguments_fit found rest
 asked_fits (Err cause) rest = tt
 
 move_fits : (word : Option MoveWord) (text : List ℕ) → FitsAnswer (move_or word text)
 move_fits (Some word) text = tt
-move_fits None text = asked_fits (verb_of (map to_ascii_lowercase (first_word text))) (rest_of text)
+move_fits None text = asked_fits (named_by (map to_ascii_lowercase (first_word text))) (rest_of text)
 
 command_fits : (text : List ℕ) → FitsAnswer (command_of text)
 command_fits [] = tt

@@ -7,4 +7,4 @@ use Rattle.seek_match.proofs.laws.next_number_is_least.Goals as goal
 pub returns : goal.returns
 returns c =
     subst (λ (seeks : List Seek). IsLeastUnused seeks (next_number seeks)) c.book.view_is
-    (next_number-least c.book.inside.rows.items c.book.invariant)
+    (next_number-least c.book.inside.rows c.book.invariant)

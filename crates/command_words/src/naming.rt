@@ -1,0 +1,69 @@
+//! The rule by which a word names a command.
+
+ghost use Rattle.std.specs.Prelude.{◌≡◌, count_by, find};
+ghost use Rattle.command_words.specs.declared.rows.TheConstants.{ROWS};
+ghost use Rattle.command_words.specs.Naming.{begins, is_called, is_name, named_by, taken};
+
+use crate::rows::{ROWS, Row, Takes};
+use fics_words::Refusal;
+
+/// The command that a word in lower case names: the one whose name or short form it is, and else the one whose name it
+/// begins. Refuses with `Unknown` where it begins none, and with `AmbiguousWord` where it begins several.
+pub(crate) fn named_by(word: &[u8]) -> Result<Takes, Refusal>
+    ensures { result ≡ named_by word.now }
+{
+    if let Some(takes) = called(word) {
+        return Ok(takes);
+    }
+    if count_begun(word) > 1 {
+        return Err(Refusal::AmbiguousWord);
+    }
+    match first_begun(word) {
+        Some(takes) => Ok(takes),
+        None => Err(Refusal::Unknown),
+    }
+}
+
+/// The command whose name or short form the word is.
+fn called(word: &[u8]) -> Option<Takes>
+    ensures { result ≡ taken (find (is_called word.now) ROWS) }
+{
+    let row = ROWS.iter().find(|row| is_called(row, word))?;
+    Some(row.2)
+}
+
+/// The first command whose name begins with the word.
+fn first_begun(word: &[u8]) -> Option<Takes>
+    ensures { result ≡ taken (find (begins word.now) ROWS) }
+{
+    let row = ROWS.iter().find(|row| begins(row, word))?;
+    Some(row.2)
+}
+
+/// How many commands have a name that begins with the word.
+fn count_begun(word: &[u8]) -> usize
+    ensures { result ≡ count_by (begins word.now) ROWS }
+{
+    ROWS.iter().filter(|row| begins(row, word)).count()
+}
+
+/// Whether the word is the command's name or its short form.
+fn is_called(row: &Row, word: &[u8]) -> bool
+    ensures { result ≡ is_called word.now row.now }
+{
+    is_name(row, word) || word == [row.1].as_slice()
+}
+
+/// Whether the word is the command's name.
+fn is_name(row: &Row, word: &[u8]) -> bool
+    ensures { result ≡ is_name word.now row.now }
+{
+    begins(row, word) && row.0.iter().filter(|byte| **byte != b' ').count() == word.len()
+}
+
+/// Whether the command's name begins with the word.
+fn begins(row: &Row, word: &[u8]) -> bool
+    ensures { result ≡ begins word.now row.now }
+{
+    row.0.starts_with(word)
+}

@@ -1,0 +1,4 @@
+-- Lemmas of this crate.
+pub mod KeyedRows
+pub mod Placed
+pub mod Firsts
