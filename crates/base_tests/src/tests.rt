@@ -1,3 +1,4 @@
+//! The tests of the base crates, a test a table.
 use crate::{Bump, Pair};
 use std::test::Fail;
 

@@ -28,11 +28,6 @@ toward-is Rises x y z k d h e l = omega (arith, h, e)
 toward-is Stays x y z k d h e l = omega (arith, h, e)
 toward-is Falls x y z k d h e l = omega (arith, h, e)
 
-apart-leads : (s : Sense) (x y d : ℕ) → Leads s x y d → (abs_diff x y ≡ d) ⊎ (abs_diff x y ≡ 0)
-apart-leads Rises x y d h = inl (omega (arith, h))
-apart-leads Stays x y d h = inr (omega (arith, h))
-apart-leads Falls x y d h = inl (omega (arith, h))
-
 -- the ways that lead to greater numbers, and those that lead to lesser ones
 abbrev pub Climbs : Sense → Sense → Type 0
 Climbs Rises Rises = ⊤

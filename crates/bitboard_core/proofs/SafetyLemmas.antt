@@ -60,10 +60,6 @@ checked-more side by occupied kings s n old here gap P men all own k lk lk64 h =
   ]
 ]
 
-pub safe-all : (side : Side) (by : Colour) (occupied kings s : ℕ) → AreCheckedBelow side by occupied kings s → 64 ≤ s →
-    (P : Placement) → AreMenOf P by side → IsOccupied P occupied → AreKingsOf P (opposite by) kings → IsKingSafe P (opposite by)
-safe-all side by occupied kings s old end P men all own = record { safe = λ k lk. old P men all own k (omega (arith, end, lk)) lk }
-
 pub unsafe-one : (P : Placement) (by : Colour) (kings s : ℕ) → AreKingsOf P (opposite by) kings → s < 64 → Has kings s →
     IsAttacked P by s → ¬ IsKingSafe P (opposite by)
 unsafe-one P by kings s own ls h attacked safe =

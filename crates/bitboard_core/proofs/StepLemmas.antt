@@ -87,9 +87,6 @@ straight_on_rank f a t on = (not_here a t on.away, inr (omega (arith, on.rank)))
 abbrev pub OneOf : Type 0 → Type 0 → Type 0 → Type 0 → Type 0
 OneOf A B C D = A ⊎ (B ⊎ (C ⊎ D))
 
-way_up : (x z y w : ℕ) → abs_diff x z ≡ abs_diff y w → x < z → y < w → (0 < max (abs_diff x z) (abs_diff y w)) × (z ≡ x + max (abs_diff x z) (abs_diff y w)) × (w ≡ y + max (abs_diff x z) (abs_diff y w))
-way_up x z y w e l m = (omega (arith, e), omega (arith, e), omega (arith, e))
-
 diagonal-ways : (a t : ℕ) → IsDiagonal a t → OneOf (IsOn Rises Rises a t) (IsOn Falls Rises a t) (IsOn Rises Falls a t) (IsOn Falls Falls a t)
 diagonal-ways a t h = elim (cases_order (file_of a) (file_of t)) [
   | inl same ↦ absurd (h.0 (same_square a t same (omega (arith, h.1, same))))

@@ -1,3 +1,4 @@
+//! A placement as sets of squares, by kind and colour, and how half-moves change it.
 ghost use Rattle.std.specs.Prelude.{◌≡◌, ◌≢◌, ℕ, ◌<◌, IsSome, Some, None, slice_set, replicate};
 ghost use Rattle.chess_model.specs.Placement.{man_at};
 ghost use Rattle.chess_model.specs.Men.{is_held_by};

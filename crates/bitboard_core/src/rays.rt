@@ -1,3 +1,4 @@
+//! The squares along each of the eight lines from a square, up to the first occupied one.
 ghost use Rattle.bitboard_core.specs.Rays.{Sense, IsRaySet};
 
 use crate::stops::{down_to_stop, up_to_stop};

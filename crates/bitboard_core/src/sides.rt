@@ -1,3 +1,4 @@
+//! The men of one colour, and what they attack.
 ghost use Rattle.std.specs.Prelude.{◌↔◌, IsTrue};
 ghost use Rattle.chess_model.specs.Placement.{Placement, opposite};
 ghost use Rattle.chess_model.specs.Attacked.{IsAttacked, IsKingSafe};

@@ -1,3 +1,4 @@
+//! The squares of a set, one after another.
 ghost use Rattle.std.specs.Prelude.{◌≡◌, ℕ, ◌<◌, ◌≤◌, ◌↔◌, IsTrue};
 ghost use Rattle.bitboard_core.specs.Sets.{Has};
 

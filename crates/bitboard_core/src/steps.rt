@@ -1,3 +1,4 @@
+//! The squares that each kind of man strikes from a square.
 ghost use Rattle.chess_model.specs.Placement.{Placement};
 ghost use Rattle.bitboard_core.specs.Strikers.{IsOccupied, IsStruckSet, IsPushSet};
 

@@ -1,3 +1,4 @@
+//! A line cut behind its first occupied square.
 ghost use Rattle.bitboard_core.specs.Stops.{IsUpStop, IsDownStop};
 
 /// The squares of a ray of greater numbers up to its first occupied one.

@@ -1,3 +1,5 @@
+//! The squares of each line from each square of an empty board, as constants.
+
 // Printed by tables.py, which the crate keeps beside this folder.
 
 /// The squares straight ahead of White.

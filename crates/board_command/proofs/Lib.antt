@@ -1,2 +1,1 @@
 pub mod LineAnswers
-pub mod Names

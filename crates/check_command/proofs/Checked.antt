@@ -57,12 +57,6 @@ not_opened A table a b store.WriteFault h = inr (bad_record_line h.0, inr (h.0, 
 not_opened A table a b store.Memory (inl nothing) = inl nothing
 not_opened A table a b store.Memory (inr h) = inr (bad_record_line h.0, inr (h.0, h.1, refl), h.2)
 
-pub keeper_failed : (A : Type 0) (fault : StoreFault) (P : Type 0) → load.OnReadFault {A = A} (Err fault) P → OnKeeperFault (outcome_of fault) P
-keeper_failed A store.BadRecord P h = tt
-keeper_failed A store.KeeperFault P h = h
-keeper_failed A store.WriteFault P h = tt
-keeper_failed A store.Memory P h = tt
-
 pub write_failed : (A : Type 0) (fault : StoreFault) (P : Type 0) → load.OnWriteFault {A = A} (Err fault) P → OnWriteFault (outcome_of fault) P
 write_failed A store.BadRecord P h = tt
 write_failed A store.KeeperFault P h = tt

@@ -50,9 +50,6 @@ AreTurned-mirrored P = record {
 pub empty-turned : (P Q : Placement) → AreTurned P Q → (s : ℕ) → s < 64 → man_at P s ≡ None → man_at Q (turned s) ≡ None
 empty-turned P Q h s less free = h.each s less ∙ ap recoloured free
 
-opposite-same : (c d : Colour) → c ≡ d → opposite c ≡ opposite d
-opposite-same c d e = ap opposite e
-
 held-recoloured : (c : Colour) (man : Option Man) → IsHeldBy c man → IsHeldBy (opposite c) (recoloured man)
 held-recoloured c None h = h
 held-recoloured c (Some m) h = ap opposite h

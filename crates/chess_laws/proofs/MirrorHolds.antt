@@ -143,9 +143,6 @@ pub record AreMirrored (P Q : Placement) : Type 0 where
   first : length P ≡ 64
   second : length Q ≡ 64
 
-AreMirrored-back : (P Q : Placement) → AreMirrored P Q → AreMirrored Q P
-AreMirrored-back P Q h = record { turn = AreTurned-back P Q h.turn; first = h.second; second = h.first }
-
 set-each : (P Q : Placement) → AreMirrored P Q → (t : ℕ) (man : Option Man) → t < 64 → (s : ℕ) → s < 64 → (s ≡ t) ⊎ (s ≢ t) →
     man_at (slice_set Q (turned t) (recoloured man)) (turned s) ≡ recoloured (man_at (slice_set P t man) s)
 set-each P Q h t man ht s hs (inl same) =

@@ -42,13 +42,6 @@ turned-turned s = elim (on_board s) [
   | inr far ↦ ap turned (turned-off s far) ∙ turned-off s far
 ]
 
--- a turned square is on the board where the square is
-pub turned-back : (s : ℕ) → turned s < 64 → s < 64
-turned-back s h = elim (on_board s) [
-  | inl less ↦ less
-  | inr far ↦ absurd (omega (arith, h, far, turned-off s far))
-]
-
 pub turned-same : (a b : ℕ) → turned a ≡ turned b → a ≡ b
 turned-same a b e = sym (turned-turned a) ∙ ap turned e ∙ turned-turned b
 

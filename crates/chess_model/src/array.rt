@@ -1,3 +1,4 @@
+//! How the men stand at the start, in each variant.
 ghost use Rattle.std.specs.Prelude.{◌≡◌, map, unwrap_or};
 ghost use Rattle.chess_model.specs.Placement.{array_from, array_of, unpromoted};
 

@@ -1,3 +1,4 @@
+//! What a printed board shows of a game.
 use crate::man::{Colour, Man};
 use crate::text::MoveText;
 

@@ -1,3 +1,4 @@
+//! The men that a player may drop.
 ghost use Rattle.std.specs.Prelude.{◌≡◌};
 ghost use Rattle.chess_model.specs.Holdings.{count_in, hand_of};
 

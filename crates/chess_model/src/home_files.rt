@@ -1,3 +1,5 @@
+//! The files of king and rooks in the 960 arrays of Fischer random, as constants.
+
 // Printed by tables.py, which the crate keeps beside this folder.
 
 /// The file of the king, by the array's number.

@@ -1,3 +1,4 @@
+//! Colours, kinds of men, and men.
 ghost use Rattle.std.specs.Prelude.{◌≡◌};
 ghost use Rattle.chess_model.specs.Men.{same_colour, same_kind};
 ghost use Rattle.chess_model.specs.Placement.{opposite};

@@ -1,3 +1,4 @@
+//! Half-moves, the words that players write for them, and why a word has none.
 use crate::man::Kind;
 use crate::square::Square;
 

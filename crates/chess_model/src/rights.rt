@@ -1,3 +1,5 @@
+//! Which castlings are still possible.
+
 /// Which castlings are still possible later in the game (FIDE Laws, 3.8.2.1).
 #[derive(Clone, Copy)]
 pub struct Rights {

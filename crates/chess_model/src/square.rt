@@ -1,3 +1,4 @@
+//! The squares of the board by their numbers.
 ghost use Rattle.std.specs.Prelude.{◌≡◌, ℕ, ◌<◌, ◌↔◌, IsSome, IfSome};
 ghost use Rattle.chess_model.specs.Squares.{file_of, rank_of, square_at};
 

@@ -1,3 +1,4 @@
+//! What a position is for its player, and what the text of a move shows.
 ghost use Rattle.std.specs.Prelude.{◌≡◌};
 ghost use Rattle.chess_model.specs.Result.{is_end};
 

@@ -1,3 +1,4 @@
+//! The text of a move, in a place of fixed size.
 ghost use Rattle.std.specs.Prelude.{◌≡◌, ◌↔◌, IsSome, IfSome};
 ghost use Rattle.std.specs.List.{list_all};
 ghost use Rattle.chess_model.specs.MoveText.{IsMoveText, is_printable};

@@ -1,3 +1,4 @@
+//! The variants, and the terms of a game.
 use crate::man::Colour;
 
 /// The rules by which a game is played.

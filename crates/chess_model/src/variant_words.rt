@@ -1,3 +1,4 @@
+//! The words for variants, written and read.
 ghost use Rattle.std.specs.Prelude.{◌≡◌, ◌≢◌, ◌+◌, ◌<◌, ◌++◌, ℕ, IfSome, IfNone, codes, decimal};
 ghost use Rattle.chess_model.specs.VariantWord.{IsNumbered, word_of};
 ghost use Rattle.chess_model.specs.declared.variant.Variant.{Variant};

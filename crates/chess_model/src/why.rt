@@ -1,3 +1,5 @@
+//! Why a game ended.
+
 /// Why a game ended.
 #[derive(Clone, Copy, PartialEq, Eq)]
 pub enum Why {

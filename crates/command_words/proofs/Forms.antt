@@ -38,27 +38,6 @@ each_again : (test : ℕ → Bool) (P : ℕ → Type 0) → ((b : ℕ) → P b �
 each_again test P means [] all = refl
 each_again test P means (b ∷ bytes) all = true_both (test b) (list_all test bytes) (means b all.0) (each_again test P means bytes all.1)
 
-printable_within : (lo hi : ℕ) → 0x20 ≤ lo → hi ≤ 0x7E → (b : ℕ) → (nat_le lo b && nat_le b hi) ≡ true → IsPrintable b
-printable_within lo hi p q b e = let h = within lo hi b e in (omega (arith, h.0), omega (arith, h.1))
-
-pub text_is_line : (bytes : List ℕ) → is_text bytes ≡ true → IsLine bytes
-text_is_line bytes e =
-    let parts = both_true (nat_le 1 (length bytes)) (nat_le (length bytes) 800 && list_all (λ b. nat_le 0x20 b && nat_le b 0x7E) bytes) e in
-    let rest = both_true (nat_le (length bytes) 800) (list_all (λ b. nat_le 0x20 b && nat_le b 0x7E) bytes) parts.1 in
-    let short = at_least (length bytes) 800 rest.0 in (
-      omega (arith, short),
-      All-from_recursion IsPrintable bytes (each (λ b. nat_le 0x20 b && nat_le b 0x7E) IsPrintable (printable_within 0x20 0x7E (omega arith) (omega arith)) bytes rest.1),
-    )
-
-pub name_is_line : (bytes : List ℕ) → is_alias_name bytes ≡ true → IsLine bytes
-name_is_line bytes e =
-    let parts = both_true (nat_le 1 (length bytes)) (nat_le (length bytes) 15 && list_all (λ b. nat_le 97 b && nat_le b 122) bytes) e in
-    let rest = both_true (nat_le (length bytes) 15) (list_all (λ b. nat_le 97 b && nat_le b 122) bytes) parts.1 in
-    let short = at_least (length bytes) 15 rest.0 in (
-      omega (arith, short),
-      All-from_recursion IsPrintable bytes (each (λ b. nat_le 97 b && nat_le b 122) IsPrintable (printable_within 97 122 (omega arith) (omega arith)) bytes rest.1),
-    )
-
 letter : (b : ℕ) → ((nat_le 65 b && nat_le b 90) || (nat_le 97 b && nat_le b 122)) ≡ true → IsAsciiAlphabetic b
 letter b e =
     elim (nat_le 65 b && nat_le b 90) as (λ t. (nat_le 65 b && nat_le b 90) ≡ t → t || (nat_le 97 b && nat_le b 122) ≡ true → IsAsciiAlphabetic b) [

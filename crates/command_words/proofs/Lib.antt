@@ -4,4 +4,3 @@ pub mod Digits
 pub mod Forms
 pub mod Parts
 pub mod TermParts
-pub mod WordsOfText

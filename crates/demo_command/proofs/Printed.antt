@@ -19,13 +19,6 @@ printable byte h = (search (rules, tests), search (rules, tests))
 all_printable : (text : List ℕ) → list_all is_printable text ≡ true → All IsPrintable text
 all_printable text h = λ k d inside. printable _ (AllPass-from_list_all is_printable text h k d inside)
 
--- words whose bytes pass the test
-pub words_tested : (words : List ℕ) → length words ≤ 500 → list_all is_printable words ≡ true → AreWords words
-words_tested words short h = record { short = short; shown = all_printable words h }
-
-pub words_line : (words : List ℕ) → AreWords words → IsLine words
-words_line words w = (omega (arith, w.short), w.shown)
-
 -- a name between words
 IsPrintable-letter : (byte : ℕ) → IsAsciiAlphabetic byte → IsPrintable byte
 IsPrintable-letter byte (inl upper) = (omega (arith, upper), omega (arith, upper))
@@ -54,7 +47,3 @@ number_line front n f few =
       All-append IsPrintable front (decimal n) f.shown
           (λ k d inside. subst IsPrintable (get_or_default (decimal n) k 0 d inside) (IsPrintable-digit _ (digit_at (decimal n) k (decimal_is_IsNumeral n fits).0.1 inside))),
     )
-
--- a move's text
-pub move_words : (text : List ℕ) → IsMoveText text → AreWords text
-move_words text h = words_tested text (omega (arith, h.most)) h.printable

@@ -69,12 +69,3 @@ told_or_cut number written written' Q WriteFault h q no_write = absurd (no_write
 told_or_cut number written written' Q Memory h q no_write = inr refl
 told_or_cut number written written' Q BadLine h q no_write = absurd h
 told_or_cut number written written' Q Spent h q no_write = absurd h
-
--- no read fails, since none is made
-pub reads_nothing : (number : ℕ) (written written' : Option (List ℕ)) (P : Type 0) (end : End) → DemoEnds number written written' end → OnReadFault end P
-reads_nothing number written written' P Done h = tt
-reads_nothing number written written' P ReadFault h = absurd h
-reads_nothing number written written' P WriteFault h = tt
-reads_nothing number written written' P Memory h = tt
-reads_nothing number written written' P BadLine h = tt
-reads_nothing number written written' P Spent h = tt

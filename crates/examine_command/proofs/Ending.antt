@@ -52,15 +52,6 @@ not_shown A e left written written' Spent h = absurd h
 pub no_memory : (e : ExamState) (left written : Option (List ℕ)) → AnswersFrom e left left written written Memory
 no_memory e left written = inr (record { unread = refl; text = (0, Appends-nil written) })
 
--- that there is no such game wasn't all written
-pub not_told : (A : Type 0) (written written' : Option (List ℕ)) (end : End) → AfterSend {A = A} written written' no_such_game (Err end) → TellsNone written written' (outcome.Read end)
-not_told A written written' Done h = absurd h
-not_told A written written' ReadFault h = absurd h
-not_told A written written' WriteFault h = h
-not_told A written written' Memory h = h
-not_told A written written' BadLine h = absurd h
-not_told A written written' Spent h = absurd h
-
 -- ---- behind an opening of the store that wrote nothing
 
 module _ (table : Option Table) (number : ℕ) (left left' written mid written' : Option (List ℕ)) (none : Appends written mid []) where

@@ -23,9 +23,6 @@ use Rattle.game_board.specs.Learn.{with_captured}
 pub boards_differ : (b : ℕ) → other_board b ≢ b
 boards_differ b = λ e. omega arith
 
-pub there_and_back : (b : ℕ) → 1 ≤ b → b ≤ 2 → other_board (other_board b) ≡ b
-there_and_back b low high = omega arith
-
 -- how many men come into a hand by a half-move on the other board
 abbrev pub came : Colour → Kind → Option Man → ℕ
 came c k man = cond (is_held_by c man && hands_over k man) 1 0

@@ -24,25 +24,3 @@ one_passes f k within e = list_any-from f squares k (Among-range 0 64 k (omega a
 pub none_passes : (f : ℕ → Bool) → ((k : ℕ) → k < 64 → f k ≡ false) → list_any f squares ≡ false
 none_passes f each =
     false_unless (list_any f squares) (λ some. let t = list_any-some f squares some in let within = Among-ranged 0 64 t.0 t.1 in unlike (sym t.2 ∙ each t.0 (omega (arith, within.1))))
-
--- a test that fails makes those after it fail
-pub first_fails : (a b c d : Bool) → a ≡ false → (a && b && c && d) ≡ false
-first_fails true b c d e = absurd (unlike e)
-first_fails false b c d e = refl
-
-pub second_fails : (a b c d : Bool) → b ≡ false → (a && b && c && d) ≡ false
-second_fails true true c d e = absurd (unlike e)
-second_fails true false c d e = refl
-second_fails false b c d e = refl
-
-pub third_fails : (a b c d : Bool) → c ≡ false → (a && b && c && d) ≡ false
-third_fails true true true d e = absurd (unlike e)
-third_fails true true false d e = refl
-third_fails true false c d e = refl
-third_fails false b c d e = refl
-
-pub fourth_counts : (a b c d : Bool) → a ≡ true → b ≡ true → c ≡ true → (a && b && c && d) ≡ d
-fourth_counts true true true d e f g = refl
-fourth_counts true true false d e f g = absurd (unlike (sym g))
-fourth_counts true false c d e f g = absurd (unlike (sym f))
-fourth_counts false b c d e f g = absurd (unlike (sym e))

@@ -119,12 +119,6 @@ clock_of-shorter t c mover list p k same is_mover =
     ∙ ap (λ (cs : List Charge). record { minutes = t.minutes; increment = t.increment; charges = without_end x cs }) (charges_of-last c mover list p is_mover)
     ∙ ap (λ (cs : List Charge). record { minutes = t.minutes; increment = t.increment; charges = cs }) (without_end-append (charges_of c list) x)
 
-take_take : {X : Type 0} (m n : ℕ) (xs : List X) → m ≤ n → take m (take n xs) ≡ take m xs
-take_take zero n xs h = refl
-take_take (suc m) zero xs h = absurd (omega arith)
-take_take (suc m) (suc n) [] h = refl
-take_take (suc m) (suc n) (x ∷ xs) h = ap (λ l. x ∷ l) (take_take m n xs (omega arith))
-
 take_map : {X Y : Type 0} (f : X → Y) (n : ℕ) (xs : List X) → take n (map f xs) ≡ map f (take n xs)
 take_map f zero xs = refl
 take_map f (suc n) [] = refl
@@ -149,18 +143,3 @@ made_left number all rest p alone =
     ∙ ap (λ (T : List HalfMove). take (length T - 1) T) alone
     ∙ half_moves_shorter number 1 (rest ++ p ∷ [])
     ∙ ap (half_moves number) (ap (λ n. take n (rest ++ p ∷ [])) size ∙ take-append_seam rest (p ∷ []))
-
-take_shorter : {X : Type 0} (xs : List X) (n : ℕ) → take (length (take (length xs - n) xs) - 1) (take (length xs - n) xs) ≡ take (length xs - (n + 1)) xs
-take_shorter xs n =
-    let size : length (take (length xs - n) xs) - 1 ≡ length xs - (n + 1) = omega (arith, length-take (length xs - n) xs) in
-    ap (λ k. take k (take (length xs - n) xs)) size ∙ take_take (length xs - (n + 1)) (length xs - n) xs (omega arith)
-
--- one half-move after another
-pub without_last-one : (b : Board) (n : ℕ) → without_last (without_last b n) 1 ≡ without_last b (n + 1)
-without_last-one b n =
-    let resumed : min (min b.resumed (length b.list - n)) (length (take (length b.list - n) b.list) - 1) ≡ min b.resumed (length b.list - (n + 1)) =
-    omega (arith, length-take (length b.list - n) b.list) in
-    λ i. record b { list = take_shorter b.list n i; all = take_shorter b.all n i; resumed = resumed i }
-
-pub some_left : (b : Board) (n : ℕ) → n < length b.list → 0 < length (without_last b n).list
-some_left b n h = omega (arith, length-take (length b.list - n) b.list)

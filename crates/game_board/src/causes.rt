@@ -1,3 +1,4 @@
+//! Why a word has no move, as a refusal.
 ghost use Rattle.std.specs.Prelude.{◌≡◌, IfOk};
 ghost use Rattle.chess_model.specs.Allowed.{Allowed};
 ghost use Rattle.game_board.specs.Causes.{refusal_of, in_words};

@@ -1,3 +1,4 @@
+//! A game on one board with its clocks: playing, taking back, ending.
 ghost use Rattle.std.specs.Prelude.{◌≡◌, ◌≢◌, Option, ◌<◌, ◌≤◌, ◌^◌, IfOk, OnOk, OnErr, IfSome, length, option_and_then};
 ghost use Rattle.clock_ledger.specs.declared.charges.Charge.{Charge};
 ghost use Rattle.clock_ledger.specs.Charges.{IsChargeable};

@@ -1,3 +1,4 @@
+//! Half-moves of a game with what they charged.
 use chess_model::{Move, Shown};
 use clock_ledger::Charge;
 use variant_rules::Undo;

@@ -20,10 +20,6 @@ pub four-read : (n : ℕ) (rest : List ℕ) → n < 2 ^ 32 → four_in (four_byt
 unfolding four_in four_bytes
 four-read n rest h = from_be_bytes-to_be_bytes_4 n h
 
-pub four-behind : (n : ℕ) (rest : List ℕ) → drop 4 (four_bytes n ++ rest) ≡ rest
-unfolding four_bytes
-four-behind n rest = refl
-
 pub eight-read : (n : ℕ) (rest : List ℕ) → n < 2 ^ 64 → eight_in (eight_bytes n ++ rest) ≡ n
 unfolding eight_in eight_bytes
 eight-read n rest h = from_be_bytes-to_be_bytes_8 n h

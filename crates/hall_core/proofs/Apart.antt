@@ -39,33 +39,9 @@ next_desk one tail taken next rest whole e =
     let there = behind one tail whole in
     desk_next taken there.0 next rest (e ∙ there.1)
 
--- where as many are taken as there are, they are all
-all_taken : (taken : List DeskState) (rest tail : List Part) → map ADesk taken ++ rest ≡ tail → length taken ≡ length tail → map ADesk taken ≡ tail
-all_taken [] rest [] e n = refl
-all_taken [] rest (part ∷ tail) e n = absurd (omega (arith, n))
-all_taken (desk ∷ taken) rest [] e n = absurd cc
-all_taken (desk ∷ taken) rest (part ∷ tail) e n =
-    let head : ADesk desk ≡ part = cc in
-    let more : map ADesk taken ++ rest ≡ tail = cc in
-    let same = all_taken taken rest tail more (omega (arith, n)) in
-    λ i. head i ∷ same i
-
-pub parts_again : (lobby : LobbyState) (tail : List Part) (taken : List DeskState) (rest : List Part) → IsWhole (TheLobby lobby ∷ tail) → map ADesk taken ++ rest ≡ tail → length taken ≡ desk_count → parts_of lobby taken ≡ TheLobby lobby ∷ tail
-parts_again lobby tail taken rest whole e n =
-    let there = behind (TheLobby lobby) tail whole in
-    ap (λ ps. TheLobby lobby ∷ ps) (all_taken taken rest tail e (n ∙ sym there.2))
-
 -- the first one is the lobby
 pub first_lobby : (first : Part) (tail : List Part) → IsWhole (first ∷ tail) → (lobby : LobbyState) × (first ≡ TheLobby lobby)
 first_lobby first tail whole =
     let e : Some first ≡ Some (TheLobby whole.lobby) = whole.first in
     let same : first ≡ TheLobby whole.lobby = cc in
     (whole.lobby, same)
-
--- one more is taken
-pub taken_more : (taken more : List DeskState) (desk : DeskState) (old rest tail : List Part) → more ≡ taken ++ desk ∷ [] → old ≡ ADesk desk ∷ rest → map ADesk taken ++ old ≡ tail → map ADesk more ++ rest ≡ tail
-taken_more taken more desk old rest tail n o e =
-    ap (λ ds. map ADesk ds ++ rest) n
-    ∙ (ap (λ ps. ps ++ rest) (map-append ADesk taken (desk ∷ []))
-    ∙ (append_assoc (map ADesk taken) (ADesk desk ∷ []) rest
-    ∙ (ap (λ ps. map ADesk taken ++ ps) (sym o) ∙ e)))

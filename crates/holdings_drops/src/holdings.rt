@@ -1,3 +1,4 @@
+//! A player's men in hand, counted by kind.
 ghost use Rattle.std.specs.Prelude.{◌≡◌, ◌≢◌, ◌+◌, ◌-◌, ◌<◌, cond};
 ghost use Rattle.chess_model.specs.Holdings.{count_in, hand_of};
 ghost use Rattle.chess_model.specs.Men.{same_kind};

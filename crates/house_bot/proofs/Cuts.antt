@@ -9,16 +9,6 @@ use Rattle.house_bot.specs.Searching.{cut, IsWindow}
 pub cut-neg : (low high x r : ℤ) → low <ℤ high → r ≡ cut (neg_ℤ high) (neg_ℤ low) x → neg_ℤ r ≡ cut low high (neg_ℤ x)
 cut-neg low high x r h e = omega (arith, ints, clamps, e)
 
--- the same window, seen from the other side
-pub IsWindow-neg : (low high : ℤ) → IsWindow low high → IsWindow (neg_ℤ high) (neg_ℤ low)
-IsWindow-neg low high h =
-    record { from = omega (arith, ints, h.to); order = omega (arith, ints, h.order); to = omega (arith, ints, h.from) }
-
--- a higher bound below the window's end
-pub IsWindow-raised : (low high best : ℤ) → IsWindow low high → low ≤ℤ best → best <ℤ high → IsWindow best high
-IsWindow-raised low high best h more less =
-    record { from = omega (arith, ints, h.from, more); order = less; to = h.to }
-
 pub int_max-swap : (a b c : ℤ) → int_max (int_max a b) c ≡ int_max (int_max a c) b
 int_max-swap a b c = omega (arith, ints, clamps)
 
@@ -28,17 +18,6 @@ int_max-comm a b = omega (arith, ints, clamps)
 pub le-trans : (a b c : ℤ) → a ≤ℤ b → b ≤ℤ c → a ≤ℤ c
 le-trans a b c h k = omega (arith, ints, h, k)
 
--- one move more, where its cut worth didn't reach the end of the window
-pub cut-below : (best high x r : ℤ) → best <ℤ high → r ≡ cut best high x → r <ℤ high → r ≡ int_max best x
-cut-below best high x r h e less = omega (arith, ints, clamps, e, less, h)
-
--- and where it did
-pub cut-reaches : (best high x r : ℤ) → best <ℤ high → r ≡ cut best high x → high ≤ℤ r → high ≤ℤ int_max best x
-cut-reaches best high x r h e more = omega (arith, ints, clamps, e, more, h)
-
-pub cut-least : (best high x r : ℤ) → best <ℤ high → r ≡ cut best high x → best ≤ℤ r
-cut-least best high x r h e = omega (arith, ints, clamps, e, h)
-
 pub int_min-reached : (high x : ℤ) → high ≤ℤ x → high ≡ int_min high x
 int_min-reached high x h = omega (arith, ints, clamps, h)
 
@@ -47,9 +26,6 @@ int_min-below high x r e less = omega (arith, ints, clamps, e, less)
 
 pub int_min-over : (high x r : ℤ) → r ≡ int_min high x → high ≤ℤ r → high ≤ℤ x
 int_min-over high x r e more = omega (arith, ints, clamps, e, more)
-
-pub int_min-same : (high x : ℤ) → x <ℤ high → x ≡ int_min high x
-int_min-same high x h = omega (arith, ints, clamps, h)
 
 -- the greatest of the bound and of a value, cut above, is the value cut to the window
 pub cut-whole : (low high x : ℤ) → low <ℤ high → int_min high (int_max low x) ≡ cut low high x

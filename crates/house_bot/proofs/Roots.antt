@@ -79,7 +79,3 @@ found d e p choice same small two ahead some chosen =
   where
     reaches : (a x t y : ℤ) → x ≡ y → t ≡ int_max a y → a <ℤ x → x ≡ t
     reaches a x t y same_as is less = omega (arith, ints, clamps, same_as, is, less)
-
-pub no_elements : (ms : List Move) → length ms ≡ 0 → ms ≡ []
-no_elements [] none = refl
-no_elements (m ∷ ms) none = absurd (omega (arith, none))

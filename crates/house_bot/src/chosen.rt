@@ -1,3 +1,4 @@
+//! The search for the best half-move ahead.
 ghost use Rattle.std.specs.Prelude.{◌≡◌, ◌≢◌, ◌⊎◌, ◌↔◌, [], IfOk, None};
 ghost use Rattle.chess_model.specs.AllMoves.{allowed_moves};
 ghost use Rattle.house_bot.specs.Value.{value, best_move};

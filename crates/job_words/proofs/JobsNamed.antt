@@ -39,9 +39,6 @@ command_by-text name.Serve = refl
 pub one_command : (command other : CommandName) → text_of command ≡ text_of other → command ≡ other
 one_command command other e = sym (command_by-text command) ∙ ap (λ (n : List ℕ). command_by (get_or n 1 0) (get_or n 2 0)) e ∙ command_by-text other
 
-pub no_texts : (job : Job) → TextsName [] job → ⊥
-no_texts job h = absurd (let bad : [] ≡ text_of h.0 ∷ h.1 = h.2 in cc)
-
 pub no_command : (word : List ℕ) (rest : List (List ℕ)) → ((command : CommandName) → word ≢ text_of command) → (job : Job) → TextsName (word ∷ rest) job → ⊥
 no_command word rest none job h = none h.0 (let same : word ∷ rest ≡ text_of h.0 ∷ h.1 = h.2 in cc)
 
@@ -53,35 +50,11 @@ none_behind word rest command is none job h =
     let behind : h.1 ≡ rest = sym cc in
     none job (subst (λ (w : List (List ℕ)). IsBehind command w job) behind (subst (λ (c : CommandName). IsBehind c h.1 job) (one_command h.0 command called) h.3))
 
--- the job of serving is behind `serve` alone
-is_serve : (command : CommandName) (words : List (List ℕ)) (port : ℕ) (bind : String Global) (store : Option (String Global)) (count : Option ℕ)
-    → IsBehind command words (Serve port bind store count) → command ≡ name.Serve
-is_serve name.Board words port bind store count h = absurd (let bad : Serve port bind store count ≡ Board = h.1 in cc)
-is_serve name.Replay words port bind store count h = absurd (let bad : Serve port bind store count ≡ Replay = h.1 in cc)
-is_serve name.Tourney words port bind store count h = absurd (let bad : Serve port bind store count ≡ Tourney = h.1 in cc)
-is_serve name.Tidy words port bind store count h = absurd (let bad : Serve port bind store count ≡ Tidy = h.1 in cc)
-is_serve name.Bot words port bind store count h = absurd (let bad : Serve port bind store count ≡ Bot h.0 = h.2 in cc)
-is_serve name.Demo words port bind store count h = absurd (let bad : Serve port bind store count ≡ Demo h.0 = h.2 in cc)
-is_serve name.Check words port bind store count h = absurd (let bad : Serve port bind store count ≡ Check h.0 = h.2 in cc)
-is_serve name.Pgn words port bind store count h = absurd (let bad : Serve port bind store count ≡ Pgn h.0 = h.2 in cc)
-is_serve name.Examine words port bind store count h = absurd (let bad : Serve port bind store count ≡ Examine h.0 h.1 = h.3 in cc)
-is_serve name.Serve words port bind store count h = refl
-
 serves : (command : CommandName) (words : List (List ℕ)) (job : Job) → command ≡ name.Serve → IsBehind command words job
     → (port : ℕ) × (bind : String Global) × (store : Option (String Global)) × (count : Option ℕ) × (job ≡ Serve port bind store count)
 serves command words job is h =
     let behind : IsBehind name.Serve words job = subst (λ (c : CommandName). IsBehind c words job) is h in
     (behind.0, behind.1, behind.2, behind.3, behind.5)
-
--- words that ask to serve name no other job
-pub asked_to_serve : (words : List (String Global)) (job : Job) → Names words job → AsksToServe words
-    → (port : ℕ) × (bind : String Global) × (store : Option (String Global)) × (count : Option ℕ) × (job ≡ Serve port bind store count)
-asked_to_serve words job h asks =
-    let serve = asks.4 in
-    let both : text_of h.0 ∷ h.1 ≡ text_of serve.0 ∷ serve.1 = sym h.2 ∙ serve.2 in
-    let same : text_of h.0 ≡ text_of serve.0 = cc in
-    let called : h.0 ≡ serve.0 = one_command h.0 serve.0 same in
-    serves h.0 h.1 job (called ∙ is_serve serve.0 serve.1 asks.0 asks.1 asks.2 asks.3 serve.3) h.3
 
 -- ---- the values of the options
 

@@ -103,28 +103,6 @@ pub shorter : (command : CommandName) (words : List (List ℕ)) (option : JobOpt
 shorter command words option value rest (inl e, good, taken) = let l : length words ≡ length (name_of option ∷ value ∷ rest) = ap length e in omega (arith, l)
 shorter command words option value rest (inr e, good, taken) = let l : length words ≡ length ((name_of option ++ 61 ∷ value) ∷ rest) = ap length e in omega (arith, l)
 
--- a first word without `=` that is no name
-pub no_name : (command : CommandName) (word : List ℕ) (tail : List (List ℕ)) → position_or_len is_equals word ≡ length word → ((other : JobOption) → word ≡ name_of other → IsTrue (takes command other) → ⊥)
-    → (other : JobOption) (v : List ℕ) (r : List (List ℕ)) → BeginsWith command (word ∷ tail) other v r → ⊥
-no_name command word tail whole none other v r (inl e, good, taken) =
-    let one : word ≡ name_of other = cc in
-    none other one taken
-no_name command word tail whole none other v r (inr e, good, taken) =
-    let one : word ≡ name_of other ++ 61 ∷ v = cc in
-    let cut : position_or_len is_equals word < length word = subst (λ (w : List ℕ). position_or_len is_equals w < length w) (sym one) (has_cut other v) in
-    absurd (omega (arith, cut, whole))
-
--- a first word with `=` whose beginning is no name
-pub no_name_before : (command : CommandName) (word : List ℕ) (tail : List (List ℕ)) → position_or_len is_equals word < length word → ((other : JobOption) → before_first is_equals word ≡ name_of other → IsTrue (takes command other) → ⊥)
-    → (other : JobOption) (v : List ℕ) (r : List (List ℕ)) → BeginsWith command (word ∷ tail) other v r → ⊥
-no_name_before command word tail cut none other v r (inl e, good, taken) =
-    let one : word ≡ name_of other = cc in
-    let whole : position_or_len is_equals word ≡ length word = ap (position_or_len is_equals) one ∙ no_cut other ∙ ap length (sym one) in
-    absurd (omega (arith, cut, whole))
-no_name_before command word tail cut none other v r (inr e, good, taken) =
-    let one : word ≡ name_of other ++ 61 ∷ v = cc in
-    none other (ap (before_first is_equals) one ∙ before_cut other v) taken
-
 -- ---- options one after the other
 
 pub one_options : (command : CommandName) (words : List (List ℕ)) (given other : List GivenValue) → AreOptions command words given → AreOptions command words other → given ≡ other

@@ -45,10 +45,6 @@ kept_long kept line e many =
 pub IsOutsideAt-long : {S : Type 0} (reached : Reaching S) → AreLines reached → (old : S) (line : List ℕ) → 1023 < length line → IsOutsideAt reached old line
 IsOutsideAt-long reached laws old line long lines due p s after h = absurd (omega (arith, long, laws.short lines line s after h))
 
--- an empty line takes the handler nowhere
-pub Takes-empty : {S : Type 0} (reached : Reaching S) → AreLines reached → (old : S) → Takes reached old [] old []
-Takes-empty reached laws old lines due p = subst (λ (text : List ℕ). reached (lines ++ [] ∷ []) old text) (sym (append-nil due)) (laws.empty lines old due p)
-
 -- the machine before the first byte, and after each
 module _ {S : Type 0} (reached : Reaching S) where
   -- before the first byte

@@ -72,9 +72,6 @@ passes true true line b text kept e is =
     (sym (ap (λ (t : Bool). cond t (b ∷ filter is_kept text) (filter is_kept text)) is))
     (joins line b (filter is_kept text) kept e (room_or_not (length line)))
 
-grown_is : (place : Telnet) (line : List ℕ) (b : ℕ) (k : Bool) → is_kept b ≡ k → grown place line b ≡ cond (is_data place b && k) (take 1034 (line ++ b ∷ [])) line
-grown_is place line b k e = ap (λ (t : Bool). cond (is_data place b && t) (take 1034 (line ++ b ∷ [])) line) e
-
 -- a byte that doesn't end the line
 pub pass_same : (place : Telnet) (line : List ℕ) (b : ℕ) (fed : List ℕ) → IsKept line → ends_line place b ≡ false
     → GiveSame (record { place = place; line = line; fed = b ∷ fed }) (record { place = after place b; line = grown place line b; fed = fed })

@@ -24,9 +24,6 @@ written_none None b same = tt
 written_none (Some x) b same =
     subst (λ (o : Option Tale). Written [] (Some x) o) (sym same) (ap (λ (w : List ℕ). record x { written = w }) (sym (append-nil x.written)))
 
-pub written_all : (bytes : List ℕ) (a b : Option Tale) → Both a b (Writes All bytes) → Written bytes a b
-written_all bytes a b w = both_map a b w (λ x y p. p.1 ∙ ap (λ (l : List ℕ). record x { written = l }) p.0)
-
 part_of_taken : (n : ℕ) (bytes : List ℕ) → IsPrefix (take n bytes) bytes
 part_of_taken n bytes = (drop n bytes, take-append-drop n bytes)
 

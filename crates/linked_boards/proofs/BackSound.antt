@@ -75,12 +75,6 @@ alike : {X : Type 0} (of : Board → X) (few : Bool) (b new : Board) → of new 
 alike of true b new e = refl
 alike of false b new e = e
 
-pub alike_back : {X : Type 0} (of : Board → X) (v : Variant) (b : Board) (n moment : ℕ) → of (taken_back b n moment) ≡ of b → of (back_by v b n moment) ≡ of b
-alike_back of Chess b n moment e = alike of (has_too_few b n) b (taken_back b n moment) e
-alike_back of Crazyhouse b n moment e = alike of (has_too_few b n) b (taken_back b n moment) e
-alike_back of (Fischer number) b n moment e = alike of (has_too_few b n) b (taken_back b n moment) e
-alike_back of Bughouse b n moment e = refl
-
 back_single : (v : Variant) (b : Board) (n moment : ℕ) → v ≢ Bughouse → back_by v b n moment ≡ take_back_after b n moment
 back_single Chess b n moment single = refl
 back_single Crazyhouse b n moment single = refl

@@ -58,33 +58,8 @@ All-changed_at P (b ∷ boards) (suc k) change step h =
     subst (All P) (sym (changed_at-cons b boards k change))
     (All-cons P b (changed_at boards k change) (h 0 b (omega arith)) (All-changed_at P boards k change step (All-drop P 1 (b ∷ boards) h)))
 
--- and there are as many
-pub length-changed_at : (boards : List Board) (k : ℕ) (change : Board → Board) → length (changed_at boards k change) ≡ length boards
-length-changed_at [] k change = refl
-length-changed_at (b ∷ boards) zero change = refl
-length-changed_at (b ∷ boards) (suc k) change =
-    ap length (changed_at-cons b boards k change)
-    ∙ ap suc (length-changed_at boards k change)
-
--- the boards in the other places stand as they stood
-pub else-changed_at : (boards : List Board) (k j : ℕ) (change : Board → Board) → j ≢ k → slice_get (changed_at boards k change) j ≡ slice_get boards j
-else-changed_at [] k j change differ = refl
-else-changed_at (b ∷ boards) zero zero change differ = absurd (differ refl)
-else-changed_at (b ∷ boards) zero (suc j) change differ = refl
-else-changed_at (b ∷ boards) (suc k) zero change differ = ap (λ (bs : List Board). slice_get bs 0) (changed_at-cons b boards k change)
-else-changed_at (b ∷ boards) (suc k) (suc j) change differ =
-    ap (λ (bs : List Board). slice_get bs (suc j)) (changed_at-cons b boards k change)
-    ∙ else-changed_at boards k j change (λ e. differ (ap suc e))
-
 -- and all of them where the change changes nothing
 pub nothing-changed_at : (boards : List Board) (k : ℕ) → changed_at boards k (λ b. b) ≡ boards
 nothing-changed_at [] k = refl
 nothing-changed_at (b ∷ boards) zero = refl
 nothing-changed_at (b ∷ boards) (suc k) = changed_at-cons b boards k (λ c. c) ∙ ap (λ (bs : List Board). b ∷ bs) (nothing-changed_at boards k)
-
--- two items of a list whose items are the same
-pub AreSame-at : {X : Type 0} (xs : List X) (i j : ℕ) (x y : X) → AreSame xs → slice_get xs i ≡ Some x → slice_get xs j ≡ Some y → x ≡ y
-AreSame-at [] i j x y same e f = absurd cc
-AreSame-at (z ∷ zs) i j x y same e f =
-    let all : All (λ w. w ≡ z) (z ∷ zs) = All-cons (λ w. w ≡ z) z zs refl same in
-    All-at (λ w. w ≡ z) (z ∷ zs) i x all e ∙ sym (All-at (λ w. w ≡ z) (z ∷ zs) j y all f)

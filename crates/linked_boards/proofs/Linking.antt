@@ -70,7 +70,3 @@ pub linked-put : (own other after told : Board) (p : Played) → AreLinked own o
 linked-put own other after told p h put learns =
     subst (λ (b : Board). AreLinked b told) (sym put)
     (subst (λ (b : Board). AreLinked (with_put own p) b) (sym learns) (linked-with_put own other p h))
-
--- and so at the start of the game
-pub linked-rewound : (one another : Board) → AreLinked one another → AreLinked (rewound one) (rewound another)
-linked-rewound one another h = record { pair = h.pair; terms = h.terms; numbers = h.numbers; together = refl; each = refl }

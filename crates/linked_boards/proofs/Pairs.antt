@@ -43,18 +43,6 @@ number_at v boards k b numbers there =
     ∙ slice_get-map (λ (x : Board). x.number) boards k
     ∙ ap (option_map (λ (x : Board). x.number)) there
 
-pub numbers_linked : (v : Variant) (place m n : ℕ) → slice_get (board_numbers v) place ≡ Some m → slice_get (board_numbers v) (other_place place) ≡ Some n →
-    (v ≡ Bughouse) × (m ≡ other_board n)
-numbers_linked Chess zero m n e f = absurd cc
-numbers_linked Chess (suc k) m n e f = absurd cc
-numbers_linked Crazyhouse zero m n e f = absurd cc
-numbers_linked Crazyhouse (suc k) m n e f = absurd cc
-numbers_linked (Fischer number) zero m n e f = absurd cc
-numbers_linked (Fischer number) (suc k) m n e f = absurd cc
-numbers_linked Bughouse zero m n e f = let one : 1 ≡ m = cc in let two : 2 ≡ n = cc in (refl, omega (arith, one, two))
-numbers_linked Bughouse (suc zero) m n e f = let two : 2 ≡ m = cc in let one : 1 ≡ n = cc in (refl, omega (arith, one, two))
-numbers_linked Bughouse (suc (suc k)) m n e f = absurd cc
-
 -- the list that the board in a place has of all half-moves
 pub all_at : (boards : List Board) (k : ℕ) (b : Board) → slice_get boards k ≡ Some b → slice_get (map (λ (x : Board). x.all) boards) k ≡ Some b.all
 all_at boards k b there = slice_get-map (λ (x : Board). x.all) boards k ∙ ap (option_map (λ (x : Board). x.all)) there
@@ -96,22 +84,3 @@ same_two T U m here there same number =
 
 not_some : false ≡ true → ⊥
 not_some e = cc
-
--- the boards have one list of all half-moves after a word, where they had one before
-pub together_after : (v : Variant) (boards : List Board) (place moment : ℕ) (stamp : Option ℕ) (answer : Result Move Refusal) → map (λ (b : Board). b.number) boards ≡ board_numbers v →
-    ((m : Move) → answer ≡ Ok m → IsSome (slice_get boards place)) → AreSame (map (λ (b : Board). b.all) boards) →
-    AreSame (map (λ (b : Board). b.all) (boards_after boards place moment stamp answer))
-together_after v boards place moment stamp (Err cause) numbers there same =
-    subst (λ (bs : List Board). AreSame (map (λ (b : Board). b.all) bs))
-    (sym (nothing-changed_at (changed_at boards place (λ b. b)) (other_place place) ∙ nothing-changed_at boards place)) same
-together_after v [] place moment stamp (Ok m) numbers there same = absurd (not_some (there m refl))
-together_after v (b ∷ []) zero moment stamp (Ok m) numbers there same = All-nil (λ (T : List HalfMove). T ≡ b.all ++ on b.number m ∷ [])
-together_after v (b ∷ []) (suc k) moment stamp (Ok m) numbers there same = absurd (not_some (there m refl))
-together_after v (b ∷ c ∷ []) zero moment stamp (Ok m) numbers there same =
-    let two = numbers_of_two v b c numbers in
-    same_two b.all c.all m b.number (other_board c.number) same (omega (arith, two.1, two.2))
-together_after v (b ∷ c ∷ []) (suc zero) moment stamp (Ok m) numbers there same =
-    let two = numbers_of_two v b c numbers in
-    same_two b.all c.all m (other_board b.number) c.number same (omega (arith, two.1, two.2))
-together_after v (b ∷ c ∷ []) (suc (suc k)) moment stamp (Ok m) numbers there same = absurd (not_some (there m refl))
-together_after v (b ∷ c ∷ d ∷ more) place moment stamp (Ok m) numbers there same = absurd (never_three v b c d more numbers)

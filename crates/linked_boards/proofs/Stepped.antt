@@ -134,10 +134,6 @@ step_second t b c new p s more grows =
     (subst (λ (T : List HalfMove). AreSame ((b.all ++ on (other_board b.number) p.what ∷ []) ∷ T ∷ [])) (sym more.all) together)
     halves grows.each grows.played
 
--- a board in a place, and the one that stands there
-at_there : (P : Board → Type 0) (b own : Board) → Some b ≡ Some own → P own → P b
-at_there P b own there h = subst P (sym (same_board b own there)) h
-
 -- sound boards stay sound by one half-move more, and have it behind the others
 pub sound_step : (t : Terms) (boards : List Board) (k : ℕ) (own : Board) (p : Played) (change : Board → Board) → AreSoundBoards t boards → slice_get boards k ≡ Some own →
     IsOneMore own p (change own) → ((other : Board) → slice_get boards (other_place k) ≡ Some other → GoesOn (position_of other)) →

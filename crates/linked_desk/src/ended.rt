@@ -1,3 +1,4 @@
+//! How a game ended.
 use chess_model::{Colour, Why};
 
 /// How a game ended.

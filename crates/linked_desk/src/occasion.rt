@@ -1,3 +1,5 @@
+//! On which occasion a game begins.
+
 /// On which occasion a game begins at a desk.
 #[derive(Clone, Copy)]
 pub(crate) enum Occasion {

@@ -42,13 +42,6 @@ good_told told rows r rise all made =
     ok_then r (HasRows rows) (λ lobby. IfSome told IsGoodStore)
     (λ lobby h. of_told told rows IsGoodStore all (λ table e. made_good table lobby rows rise e h)) made
 
-pub bad_told : {A : Type 0} (told : Option Table) (rows : Pairs) (r : Result A LoadRefusal) → AreAllOf told rows → OnBadRecord r (IsLeastBadOf rows)
-    → OnBadRecord r (λ key. IfSome told (λ table. IsLeastBad table key))
-bad_told told rows (Ok lobby) all bad = tt
-bad_told told rows (Err (BadRecord key)) all bad = of_told told rows (λ table. IsLeastBad table key) all bad
-bad_told told rows (Err KeeperFault) all bad = tt
-bad_told told rows (Err Memory) all bad = tt
-
 pub no_fault : {A : Type 0} (r : Result A LoadRefusal) (P : Type 0) → OnKeeperFault r ⊥ → OnKeeperFault r P
 no_fault (Ok lobby) P none = tt
 no_fault (Err (BadRecord key)) P none = tt

@@ -33,21 +33,6 @@ pub no_game_at : (lobby : LobbyState) (key : List ℕ) → wanted_by lobby key �
 no_game_at lobby key e =
     no_game_record (find (is_account_at key) lobby.accounts) (find (is_game_at key) lobby.shelf.games) e
 
-none_named : (accounts : List Account) (letters : List ℕ) → find (is_account_at (account_key letters)) accounts ≡ None
-    → is_some (account_of accounts letters) ≡ false
-none_named [] letters none = refl
-none_named (account ∷ accounts) letters none =
-    elim (bytes_eq (key_of account.name) letters) as (λ t. cond t (Some account) (find (is_account_at (account_key letters)) accounts) ≡ None
-    → is_some (cond t (Some account) (account_of accounts letters)) ≡ false) [
-      | true ↦ λ bad. absurd cc
-      | false ↦ λ rest. none_named accounts letters rest
-    ] none
-
--- so the handle of an account with this key has none
-pub not_registered : (lobby : LobbyState) (name : List ℕ) → wanted_by lobby (account_key (key_of name)) ≡ None
-    → has_account lobby.accounts name ≡ false
-not_registered lobby name e = none_named lobby.accounts (key_of name) (no_account_at lobby (account_key (key_of name)) e)
-
 none_stored : (games : List Shelved) (number : ℕ) → find (is_game_at (game_key number)) games ≡ None → stored_game games number ≡ None
 none_stored [] number none = refl
 none_stored (row ∷ games) number none =

@@ -129,10 +129,3 @@ IsWellFormed-taken lobby effect new (Ok reply) keeps h t =
     subst IsWellFormed (sym t.2) (keeps (none_holds effect.causes t.0) h)
 IsWellFormed-taken lobby effect new (Err (Refused cause)) keeps h t = subst IsWellFormed (sym t.1) h
 IsWellFormed-taken lobby effect new (Err Memory) keeps h t = subst IsWellFormed (sym t.1) h
-
--- an act that needs no memory meets no want of it
-pub memory-lobby_effect : (lobby : LobbyState) (session : ℕ) (act : LobbyAct) → LobbyNeedsNoMemory act → (lobby_effect lobby session act).memory ≡ false
-memory-lobby_effect lobby session Where h = refl
-memory-lobby_effect lobby session Going h = refl
-memory-lobby_effect lobby session Bye h = refl
-memory-lobby_effect lobby session _ h = absurd h

@@ -80,12 +80,3 @@ keeps_part lobby session = record {
 pub keeps_partner : (lobby : LobbyState) (session : ℕ) (name : Option (List ℕ)) → Keeps lobby (partner_effect lobby session name)
 keeps_partner lobby session None = keeps_part lobby session
 keeps_partner lobby session (Some to) = keeps_ask lobby session to
-
-no_lists-asked_reply : (linked : Bool) → no_lists ≡ lists_told (asked_reply linked)
-no_lists-asked_reply true = refl
-no_lists-asked_reply false = refl
-
--- neither tells a list
-pub no_lists-partner : (lobby : LobbyState) (session : ℕ) (name : Option (List ℕ)) → no_lists ≡ lists_told (partner_effect lobby session name).reply
-no_lists-partner lobby session None = refl
-no_lists-partner lobby session (Some to) = no_lists-asked_reply (holds (is_asked_by lobby session) (named lobby to))

@@ -51,7 +51,6 @@ pub mod KeepsStored
 pub mod KeepsOrders
 pub mod KeepsSaved
 pub mod Listing
-pub mod Copying
 pub mod KeepsActs
 pub mod DesksUsed
 pub mod Starts

@@ -1,3 +1,5 @@
+//! A desk in use.
+
 /// A desk that is in use, and for which game.
 #[derive(Clone, Copy, PartialEq, Eq)]
 pub struct DeskInUse {

@@ -1,3 +1,5 @@
+//! What a member wants to hear.
+
 /// What a member wants others to send; a newcomer wants all of it.
 #[derive(Clone, Copy)]
 pub struct Wants {

@@ -34,11 +34,6 @@ pub carries_none : (table : Option Table) → Carries table table []
 carries_none None = tt
 carries_none (Some table) = λ key. refl
 
-pub carries_stay : (old new : Option Table) → Stays old new → Carries old new []
-carries_stay None new stays = tt
-carries_stay (Some old) None stays = absurd stays
-carries_stay (Some old) (Some new) stays = λ key. ap (λ (t : Table). held t key) stays
-
 pub carries_then : (old mid new : Option Table) (first rest : List Order) → Carries old mid first → Carries mid new rest → Carries old new (first ++ rest)
 carries_then None mid new first rest p q = tt
 carries_then (Some old) None new first rest p q = absurd p

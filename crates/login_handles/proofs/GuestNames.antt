@@ -92,10 +92,6 @@ small d h = (lowercase_is (65 + d)).0 (omega arith, omega arith) ∙ (let same :
 digit : (a b : ℕ) → a < 26 → b < 26 → to_ascii_lowercase (65 + a) ≡ to_ascii_lowercase (65 + b) → a ≡ b
 digit a b p q e = let same : 97 + a ≡ 97 + b = sym (small a p) ∙ e ∙ small b q in omega arith
 
-head_of : List ℕ → ℕ
-head_of [] = 0
-head_of (x ∷ xs) = x
-
 at : ℕ → List ℕ → ℕ
 at zero [] = 0
 at (suc n) [] = 0

@@ -67,9 +67,6 @@ pub record IsPassed (pairs : Pairs) (key : List ℕ) (i : ℕ) : Type 0 where
   pub puts : (bytes : List ℕ) → put keys_order key bytes pairs ≡ take i pairs ++ put keys_order key bytes (drop i pairs)
   pub others : without key pairs ≡ take i pairs ++ without key (drop i pairs)
 
-pub IsPassed-start : (pairs : Pairs) (key : List ℕ) → IsPassed pairs key 0
-IsPassed-start pairs key = record { puts = λ bytes. refl; others = refl }
-
 -- what follows the pairs that were passed
 module _ (pairs : Pairs) (key : List ℕ) (i : ℕ) (e : List ℕ × List ℕ) (within : i < length pairs) (there : e ≡ get_or pairs i e) (passed : IsPassed pairs key i) where
   rest : Pairs
@@ -129,11 +126,3 @@ module _ (pairs : Pairs) (key : List ℕ) (i : ℕ) (e : List ℕ × List ℕ) (
         λ bytes. puts_next bytes Equal equal ∙ ap (λ k. take i pairs ++ (k, bytes) ∷ rest) (sym same) ∙ sym (set_split pairs i (key, bytes) within),
         others_next Equal equal ∙ ap (λ l. take i pairs ++ l) (without-below key rest below),
       )
-
-pub IsPlace-end : (pairs : Pairs) (key : List ℕ) (i : ℕ) → i ≡ length pairs → IsPassed pairs key i → IsPlace pairs key (Gap i)
-IsPlace-end pairs key i is passed =
-    let none : drop i pairs ≡ [] = ap (λ n. drop n pairs) is ∙ drop-length pairs in (
-      omega arith,
-      λ bytes. passed.puts bytes ∙ ap (λ l. take i pairs ++ put keys_order key bytes l) none ∙ ap (λ l. take i pairs ++ (key, bytes) ∷ l) (sym none),
-      passed.others ∙ ap (λ l. take i pairs ++ without key l) none ∙ append-nil (take i pairs) ∙ sym (append-nil (take i pairs)) ∙ ap (λ l. take i pairs ++ l) (sym none) ∙ take-append-drop i pairs,
-    )

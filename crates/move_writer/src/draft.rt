@@ -1,3 +1,4 @@
+//! A move's text while it is written, which takes no memory.
 ghost use Rattle.std.specs.Prelude.{◌≡◌, ◌+◌, ◌<◌, ◌≤◌, List, [], ◌∷◌, ◌++◌, length, All};
 ghost use Rattle.move_writer.specs.Letters.{square_text, promotion_text};
 ghost use Rattle.move_writer.specs.Pretty.{only_if};

@@ -1,3 +1,4 @@
+//! The letters of men and the names of squares.
 ghost use Rattle.std.specs.Prelude.{◌≡◌};
 ghost use Rattle.move_writer.specs.Letters.{letter_of, file_letter, rank_digit};
 ghost use Rattle.move_writer.specs.Blanks.{Shows};

@@ -1,3 +1,4 @@
+//! The short text of a move, as `Nf3`.
 ghost use Rattle.std.specs.Prelude.{◌≡◌, ◌<◌, ◌≤◌, ◌++◌, length};
 ghost use Rattle.move_writer.specs.Pretty.{origin_text, pretty_move, mark_text, pretty_of};
 ghost use Rattle.move_writer.specs.Blanks.{HasNoBlank};

@@ -1,3 +1,4 @@
+//! A move as players type it, as `g1f3`.
 ghost use Rattle.std.specs.Prelude.{◌≡◌, ◌+◌, ◌<◌, ◌≤◌, ◌++◌, length};
 ghost use Rattle.move_writer.specs.Blanks.{HasNoBlank};
 ghost use Rattle.move_writer.specs.Spelling.{lower_promotion, spelling_of};

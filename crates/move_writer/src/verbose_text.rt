@@ -1,3 +1,4 @@
+//! The long text of a move, as `N/g1-f3`.
 ghost use Rattle.std.specs.Prelude.{◌≡◌};
 ghost use Rattle.move_writer.specs.Blanks.{HasNoBlank};
 ghost use Rattle.move_writer.specs.Verbose.{verbose_of};

@@ -174,12 +174,3 @@ AreOffers-settled seat offer book h seated lacking =
 pub one_seat_more : (n : ℕ) (rows : List Standing) (offer : Offer)
     → stands_for_all (n + 1) rows offer ≡ (stands_for_all n rows offer && stands rows n offer)
 one_seat_more n rows offer = ap (λ k. stands_for_all k rows offer) (add-one n)
-
--- one row more is kept, or isn't
-pub kept_more : (p : Standing → Bool) (rows kept new : List Standing) (i : ℕ) (d : Standing) (b : Bool) → i < length rows
-    → kept ≡ filter p (take i rows) → b ≡ p (get_or rows i d) → new ≡ kept ++ cond b (get_or rows i d ∷ []) []
-    → new ≡ filter p (take (i + 1) rows)
-kept_more p rows kept new i d b inside so_far test pushed =
-    pushed ∙ ap (λ (zs : List Standing). zs ++ cond b (get_or rows i d ∷ []) []) so_far
-    ∙ ap (λ (t : Bool). filter p (take i rows) ++ cond t (get_or rows i d ∷ []) []) test
-    ∙ sym (filter_more p rows i d inside)

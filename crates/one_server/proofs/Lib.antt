@@ -4,5 +4,4 @@ pub mod Copying
 pub mod Opens
 pub mod Replies
 pub mod Lending
-pub mod Effects
 pub mod Resumed

@@ -241,10 +241,6 @@ number_token n h =
           (sign_shown 46 false rest more refl s));
     }
 
--- the number before a move, if one stands there
-number_pieces : ℕ → List Piece
-number_pieces place = cond (nat_eq (place % 2) 0) (Word (decimal (place / 2 + 1)) ∷ Sign 46 ∷ []) []
-
 -- the pretty text of an allowed move
 record IsPrettyWord (before : List Move) (m : Move) : Type 0 where
   allowed : Allowed (position_of before) m

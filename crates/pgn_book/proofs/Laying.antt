@@ -19,9 +19,6 @@ lays_both a b c xs ys h g = record {
       g.laid_so more ∙ h.laid_so (ys ++ more) ∙ ap (λ (l : List (List ℕ)). a.text ++ laid a.column l) (sym (append_assoc xs ys more));
 }
 
-pub lays_none : (a : Page) → Lays a a []
-lays_none a = record { laid_so = λ more. refl }
-
 -- what is laid is the text behind that before
 pub laid_text : (a b : Page) (xs : List (List ℕ)) → Lays a b xs → b.text ≡ a.text ++ laid a.column xs
 laid_text a b xs h =

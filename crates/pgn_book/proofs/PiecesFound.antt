@@ -129,9 +129,6 @@ found_word b text all fresh depth book is deep h =
     moved_text (here depth fresh) (b ∷ text) ((b ∷ w.more) ++ w.rest) (ap (λ (l : List ℕ). b ∷ l) w.split)
     (piece_found (here depth fresh) (Word (b ∷ w.more)) w.rest (deep, λ e. cc, word) w.on)
 
-found_line : (text : List ℕ) (all : FoundAll text) (depth : ℕ) (book : Book) → Whole (Some (state_at InLine depth book)) text → FoundLine depth text
-found_line text all depth book h = all InLine depth book h
-
 found_comment : (b : ℕ) (text : List ℕ) (all : FoundAll text) (fresh : Bool) (depth : ℕ) (book : Book) → b ≡ 59 →
     Whole (Some (state_at InLine depth book)) text → FoundAt (here depth fresh) (b ∷ text)
 found_comment b text all fresh depth book is h =

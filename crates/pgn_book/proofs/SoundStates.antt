@@ -442,9 +442,6 @@ more_given : (given : Option PgnGame) (o : Outcome) → IsExportableIf given →
 more_given None o h all = all
 more_given (Some g) o h all = (h, all)
 
-none_resting : (depth : ℕ) (on : Option Book) → EachExportable (resting depth on).games
-none_resting depth on = tt
-
 finished_exportable : (place : Place) (depth : ℕ) (book : Book) → IsSoundBook book → EachExportable (finished_in place depth book).games
 finished_exportable Start depth book h = tt
 finished_exportable AfterOne depth book h = tt

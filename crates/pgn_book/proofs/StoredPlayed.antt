@@ -94,6 +94,3 @@ exportable g moves tags white black stored are is w b =
     }))
 
 -- ---- stored games
-
-pub stored_names : (g : StoredGame) → IsStoredChess g → length g.names ≡ 2
-stored_names g h = h.replays.spelled.players ∙ ap seats h.variant

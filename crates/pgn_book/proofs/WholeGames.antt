@@ -30,10 +30,6 @@ given_listed : (given : Option PgnGame) (g : Gone) → (with_given given g).game
 given_listed None g = refl
 given_listed (Some x) g = refl
 
-given_on : (given : Option PgnGame) (g : Gone) → (with_given given g).on ≡ g.on
-given_on None g = refl
-given_on (Some x) g = refl
-
 -- ---- a word that gives a game leaves nothing of one
 
 abbrev LeavesNone : Taken → Type 0

@@ -123,9 +123,6 @@ next_lost text games line old new h is more =
     (same.read more ∙ ap (λ (on : Option State). adding_all games (read_from on (new.rest ++ more))) is.1)
     (is.3 ∙ sym (same.line more ∙ ap (λ (on : Option State). line_from new.line on (new.rest ++ more)) is.1))
 
-abbrev on_state : Reader → Option State
-on_state r = r.on
-
 -- no game more, and the text may go on
 pub record HasNoMore (text : List ℕ) (games : List PgnGame) : Type 0 where
   pub games_are : (begun_with text).games ≡ games

@@ -60,10 +60,6 @@ module _ (old mid new : Option (List ℕ)) (games : List Shelved) (k : ℕ) (row
   pub sent_next : Appends mid new (game_export row.game) → Appends old new (exports (take (k + 1) games))
   sent_next p = subst (Appends old new) (sym (exports_more games k row within is)) (Appends-trans old mid new (exports (take k games)) (game_export row.game) so_far p)
 
--- all were written
-pub sent_all : (old new : Option (List ℕ)) (games : List Shelved) (k : ℕ) → length games ≤ k → Appends old new (exports (take k games)) → Appends old new (exports games)
-sent_all old new games k end p = subst (λ (l : List Shelved). Appends old new (exports l)) (take_all k games end) p
-
 -- ---- one game
 
 -- a game that replays, but of which PGN text can't tell, isn't chess
@@ -72,9 +68,6 @@ passed_over game Chess e replays none = absurd (none (record { variant = e; repl
 passed_over game Crazyhouse e replays none = refl
 passed_over game Bughouse e replays none = refl
 passed_over game (Fischer number) e replays none = refl
-
-pub no_export : (game : StoredGame) → Replays game → (IsStoredChess game → ⊥) → game_export game ≡ []
-no_export game replays none = passed_over game game.terms.variant refl replays none
 
 own_export : (game : StoredGame) (made : PgnGame) → made ≡ stored_text game → IsStoredChess game → export_text made ≡ game_export game
 own_export game made is chess = ap export_text is ∙ sym (ap (λ (v : Variant). export_as v game) chess.variant)

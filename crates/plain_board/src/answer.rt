@@ -1,3 +1,4 @@
+//! Which half-move a word stands for.
 ghost use Rattle.std.specs.Prelude.{◌≡◌, ℕ, ◌<◌, ◌≤◌, ◌↔◌, IsTrue, IsFalse, ◌+◌, IfOk, IfErr, IfSome, IfNone, Some, None};
 ghost use Rattle.chess_model.specs.Men.{is_held_as};
 ghost use Rattle.chess_model.specs.Answer.{is_promotion, promotion_of, is_king_at_home, castling_of, IsAsGiven, IsAnswer, IsRefusal};

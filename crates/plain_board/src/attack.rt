@@ -1,3 +1,4 @@
+//! Which squares a colour attacks.
 ghost use Rattle.std.specs.Prelude.{◌↔◌, IsTrue};
 ghost use Rattle.chess_model.specs.Attacked.{StrikesFrom, IsAttacked, IsInCheckOn, IsKingSafe};
 

@@ -1,3 +1,4 @@
+//! What a half-move changes on the board.
 ghost use Rattle.std.specs.Prelude.{◌≡◌, Option};
 ghost use Rattle.chess_model.specs.MoveList.{is_pawn_kind, is_pawn, is_en_passant, taking_square, landed, two_moved, place_after, taken};
 

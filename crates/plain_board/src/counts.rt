@@ -1,3 +1,4 @@
+//! The square passed by a double push, and the quiet count.
 ghost use Rattle.std.specs.Prelude.{◌≡◌};
 ghost use Rattle.chess_model.specs.RightsAndCounts.{passed_over, is_quiet};
 ghost use Rattle.chess_model.specs.Next.{next_quiet};

@@ -1,3 +1,4 @@
+//! The men in hand after a half-move.
 ghost use Rattle.std.specs.Prelude.{◌≡◌, ◌+◌, ◌-◌, ◌<◌, ◌&&◌, cond};
 ghost use Rattle.chess_model.specs.Holdings.{same_colour, same_kind, handed_kind, hands_over, is_drop_of, count_in, hand_of};
 ghost use Rattle.chess_model.specs.Next.{gain, next_hand};

@@ -1,3 +1,4 @@
+//! The man on each of 64 squares.
 ghost use Rattle.std.specs.Prelude.{◌≡◌, ◌<◌, ◌↔◌, IsTrue, Option};
 ghost use Rattle.chess_model.specs.Placement.{man_at, IsHeldBy, IsHeldAs, home_rank, second_rank, last_rank, king_home, rook_home, king_end, rook_end};
 

@@ -1,3 +1,4 @@
+//! The slow board, beside which the fast one is tried.
 ghost use Rattle.std.specs.Prelude.{◌≡◌, ℕ, ◌++◌, List, [], ◌∷◌, Option};
 ghost use Rattle.chess_model.specs.Placement.{man_at};
 ghost use Rattle.chess_model.specs.MoveList.{HalfMove};

@@ -1,3 +1,4 @@
+//! Which squares a man reaches.
 ghost use Rattle.std.specs.Prelude.{◌+◌, ◌<◌, ◌↔◌, IsTrue, Option, Some};
 ghost use Rattle.chess_model.specs.Reach.{IsForward, IsStraight, IsDiagonal, IsKnightStep, IsStep, Clear, IsOpen, Strikes, IsAhead, Advances, PawnTakes, Goes, Reaches};
 

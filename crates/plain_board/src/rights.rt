@@ -1,3 +1,4 @@
+//! The castlings that a half-move leaves possible.
 ghost use Rattle.std.specs.Prelude.{◌≡◌};
 ghost use Rattle.chess_model.specs.RightsAndCounts.{touches, keeps_right};
 ghost use Rattle.chess_model.specs.Next.{next_rights};

@@ -1,3 +1,4 @@
+//! Squares by their files and ranks, and the ways between them.
 ghost use Rattle.std.specs.Prelude.{◌≡◌, ◌<◌};
 ghost use Rattle.chess_model.specs.Squares.{files_apart, ranks_apart, distance, toward, along};
 

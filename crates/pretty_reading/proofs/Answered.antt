@@ -51,13 +51,6 @@ no_pawn_for : {A : Type 0} (x y : Bool) (t e : A) → x ≡ false → cond (x &&
 no_pawn_for true y t e h = cc
 no_pawn_for false y t e h = refl
 
-became : (promo : Option Kind) → MayBecome promo → (promo ≡ None → ⊥) → Some (unwrap_or promo Queen) ≡ promo
-became None h some = absurd (some refl)
-became (Some k) h some = refl
-
-promotes : (promo : Option Kind) → (k : Kind) → promo ≡ Some k → promo ≡ None → ⊥
-promotes promo k e f = let g : None ≡ Some k = sym f ∙ e in cc
-
 -- the promotion of a pawn's move is the one that its word names
 pub pawn_promotion : (p : Position) (a b : ℕ) (promo : Option Kind) → IsHeldAs p.to_move Pawn (man_at p.men a) → HasPromotion p.to_move Pawn b promo →
     (MayBecome promo) × (promotion_of p a b promo ≡ promo)

@@ -8,10 +8,6 @@ use Rattle.one_server.specs.declared.reply.Reply.{Reply}
 use Rattle.one_server.specs.Running.{Log}
 use Rattle.replay_command.specs.Evening.{HasMade, asked_of}
 
--- one act was made
-pub made_one : (session : ℕ) (act : Timed) (reply : Reply) (before after : Log) → after ≡ before ++ entry session act reply ∷ [] → HasMade ((session, act) ∷ []) before after
-made_one session act reply before after e = record { entries = entry session act reply ∷ []; more = e; acts_are = refl }
-
 -- and then others
 pub made_then : (acts more : List (ℕ × Timed)) (before mid after : Log) → HasMade acts before mid → HasMade more mid after → HasMade (acts ++ more) before after
 made_then acts more before mid after p q = record {

@@ -65,10 +65,6 @@ none_kept (Some progress) rows h e = absurd (h.0 e)
 pub keeps_some : (progress : Attendance) (order : Option Attendance) → order ≡ Some progress → KeepsOrder progress order
 keeps_some progress order e rows h = (subst (λ (o : Option Attendance). IsOrdered o rows) e h).1
 
-pub keeps_none : (progress : Attendance) (order : Option Attendance) → order ≡ None → IsAfter progress 0 [] → KeepsOrder progress order
-keeps_none progress order e after rows h =
-    subst (λ (r : List Row). IsAfter progress (seated_by r) (arrivals_of r)) (sym (no_rows order rows h e)) after
-
 -- behind the first line no seat line comes, and neither does a line of a session that may not come
 no_next_row : (progress : Attendance) (rows : List Row) (line : List ℕ) → IsAfter progress (seated_by rows) (arrivals_of rows) → IsNoNext progress line
     → (rows ≡ [] → (seat : SeatLine) → IsSeatLine seat → line ≢ seat_text seat)

@@ -23,11 +23,6 @@ new_memories memories is =
           ∙ ap Some (get_or-replicate 64 (session - 1) newcomer newcomer (omega (arith, first, last)));
     })
 
--- the same memories in other words
-pub same_memories : (memories : List MemoryState) (remember then : ℕ → MemoryState) → ((session : ℕ) → remember session ≡ then session)
-    → AreMemories memories remember → AreMemories memories then
-same_memories memories remember then same h = record { count = h.count; each = λ session first last. h.each session first last ∙ ap Some (same session) }
-
 -- what a session remembers, read out of the list in which the memory of one of them was set
 one_read : (memories : List MemoryState) (remember : ℕ → MemoryState) (one session : ℕ) (kept : MemoryState) (same : Bool) → (one == session) ≡ same → 1 ≤ one → 1 ≤ session → session ≤ 64
     → AreMemories memories remember → get_or (slice_set memories (one - 1) kept) (session - 1) newcomer ≡ cond same kept (remember session)

@@ -6,11 +6,6 @@ use Rattle.std.specs.List.{slice_get}
 use Rattle.std.specs.declared.option.Option.TheVariants.{Some}
 use Rattle.turn_table.specs.Views.{In}
 
-pub in_left : {T : Type 0} (x : T) (xs ys : List T) → In x xs → In x (xs ++ ys)
-in_left x [] ys p = absurd p
-in_left x (z ∷ xs) ys (inl e) = inl e
-in_left x (z ∷ xs) ys (inr p) = inr (in_left x xs ys p)
-
 pub in_last : {T : Type 0} (x : T) (xs ys : List T) → In x (xs ++ x ∷ ys)
 in_last x [] ys = inl refl
 in_last x (z ∷ xs) ys = inr (in_last x xs ys)

@@ -96,9 +96,6 @@ never_short KeeperFault clean short = clean
 never_short Memory clean short = clean
 never_short DoorFault clean short = clean
 
-pub last_failed : (end : ServeEnd) (last : StewardEnd) → LastEnds end last → end ≡ KeeperFault → last ≡ steward.KeeperFault
-last_failed end last ends e = subst (λ (x : ServeEnd). LastEnds x last) e ends
-
 -- ---- the links that are left
 
 abbrev pub NoneLeft : ServeEnd → ℕ → DoorTale → Type 0
@@ -144,9 +141,6 @@ closes_by why s last supply door splits before now first after mid p ready close
   spent = λ e. count_by why door splits before now p ((comes why s last supply).spent e);
   not_done = λ n e. omega (arith, n, (left_by why door splits before now p ((comes why s last supply).closed e)).1);
 }
-
-pub rose_by : (why : DoorEnd) (s : Sent) (last : StewardEnd) (supply : Supply) (door : Option DoorTale) (splits before now : ℕ) → Stopped why splits door before now → end_of why s last supply ≡ DoorFault → Rose before now
-rose_by why s last supply door splits before now p e = (subst (λ w. Stopped w splits door before now) ((comes why s last supply).failed e) p).0
 
 -- `ready` couldn't be written
 pub closes_failed : (door : Option DoorTale) (splits : ℕ) (first after : Sheet) → splits ≡ 0 → AppendsFront first.written after.written ready_text → Rose first.faults after.faults → Closes WriteFault door first after splits

@@ -47,11 +47,3 @@ pub caused : (s : Sent) (start before now : ℕ) → start ≤ before → OnWrit
 caused sent.All start before now s c = tt
 caused sent.Failed start before now s c = rose_then start before now now s c refl
 caused sent.Memory start before now s c = tt
-
--- why no more links are taken, once all workers were waited for
-pub stopped_then : (end : DoorEnd) (count splits : ℕ) (door door' : Option DoorTale) (start before now after : ℕ) → Stopped end count door before now → splits ≡ count → Goes door door' KeepsLeft → start ≤ before → after ≡ now → Stopped end splits door' start after
-stopped_then door_end.Closed count splits door door' start before now after p n goes s a =
-    (told_then door door' KeepsLeft (λ tale. tale.left ≡ []) (λ tale. tale.left ≡ []) (λ x y e f. e.0 ∙ f) goes p.0, omega (arith, n, p.1))
-stopped_then door_end.Failed count splits door door' start before now after p n goes s a =
-    (rose_then start before now after s p.0 a, omega (arith, n, p.1))
-stopped_then door_end.Spent count splits door door' start before now after p n goes s a = n ∙ p

@@ -63,13 +63,6 @@ follows_leads course memory session moment es put h =
     subst (λ (l : Log). Follows course session moment l put memory) (append-nil es)
     (subst (λ (t : List ℕ). Follows course session moment (es ++ []) t memory) (append-nil put) (h.whole [] [] memory (refl, refl, refl)))
 
--- and a course that was followed was followed so far
-begins_follows : (course : Course) (session moment : ℕ) (es : Log) (text : List ℕ) (memory : MemoryState) → Follows course session moment es text memory → Begins course session moment es
-begins_follows (Done kept) session moment es text memory f = f.0
-begins_follows (Writes put rest) session moment es text memory f = begins_follows rest session moment es f.0 memory f.2
-begins_follows (Asks act rest) session moment [] text memory f = tt
-begins_follows (Asks act rest) session moment (e ∷ es) text memory f = (f.0, begins_follows (rest e.reply) session moment es text memory f.1)
-
 -- what a course writes before its next act
 written : (course : Course) → List ℕ
 written (Writes put rest) = put ++ written rest

@@ -62,9 +62,6 @@ beside_taken (Err e) course answer moment number after old start new before now 
 beside_taken (Err e) course answer moment number after old start new before now two is a (inr l) =
     subst (λ (s : ServerState). Beside s new) is (beside_made number after start new l.part.entries two l.part.grew)
 
-pub beside_none : (server : ServerState) → Legal house server.opening server.log → Beside server server
-beside_none server legal = record { opening = refl; begins = prefix_refl server.log; legal = legal; none = refl }
-
 -- session 1 makes no act
 made_beside : (old new : ServerState) → Beside old new → Made (opposed old) [] (opposed new)
 made_beside old new b = record {

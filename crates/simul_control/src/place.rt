@@ -1,3 +1,5 @@
+//! A place: a seat at a desk in use.
+
 /// A seat that a member has at a desk in use.
 #[derive(Clone, Copy, PartialEq, Eq)]
 pub struct Place {

@@ -1,3 +1,5 @@
+//! The two ways round a simul.
+
 /// Which way a giver turns in the circle of its places.
 #[derive(Clone, Copy)]
 pub enum Way {

@@ -10,23 +10,6 @@ use Rattle.stamp_codec.specs.Spelling.{key, key_at, by_place, cipher}
 use Rattle.stamp_codec.specs.Opening.{decipher}
 use Rattle.stamp_codec.proofs.Each.{each_of}
 
-pub length-by_place : (f : ℕ → ℕ → ℕ) (place : ℕ) (bytes : List ℕ) → length (by_place f place bytes) ≡ length bytes
-length-by_place f place [] = refl
-length-by_place f place (byte ∷ bytes) = ap suc (length-by_place f (place + 1) bytes)
-
--- one byte more, at its place in the whole
-pub by_place-more : (f : ℕ → ℕ → ℕ) (n : ℕ) (bytes whole : List ℕ) (changed : ℕ) → n < length bytes → changed ≡ f n (get_or bytes n 0)
-    → take n bytes ++ by_place f n (drop n bytes) ≡ whole
-    → take (n + 1) (set bytes n changed) ++ by_place f (n + 1) (drop (n + 1) (set bytes n changed)) ≡ whole
-by_place-more f n bytes whole changed within is so_far =
-    let same : n < n + 1 = omega arith in
-    ap (λ (l : List ℕ). l ++ by_place f (n + 1) (drop (n + 1) (set bytes n changed))) (take_more_set bytes n changed within)
-    ∙ ap (λ (l : List ℕ). (take n bytes ++ changed ∷ []) ++ by_place f (n + 1) l) (drop-set-lt (n + 1) bytes n changed same)
-    ∙ append_assoc (take n bytes) (changed ∷ []) (by_place f (n + 1) (drop (n + 1) bytes))
-    ∙ ap (λ (c : ℕ). take n bytes ++ c ∷ by_place f (n + 1) (drop (n + 1) bytes)) is
-    ∙ ap (λ (l : List ℕ). take n bytes ++ by_place f n l) (sym (drop-cons bytes n 0 within ∙ ap (λ (m : ℕ). get_or bytes n 0 ∷ drop m bytes) (sym (add-one n))))
-    ∙ so_far
-
 -- ---- one byte
 
 -- xor twice gives the number back

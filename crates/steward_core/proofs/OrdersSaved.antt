@@ -153,7 +153,3 @@ module _ (moment : ℕ) (orders : List Order) (before after : Option Table) (ans
             (ends_by s.outcome s.said s.carried s.left said.0 s.all s.whole s.only_whole said.2.0 said.2.1);
         kept = s.table;
       }
-
--- a round whose question ran out of memory
-pub round_short : (moment : ℕ) (table : Option Table) (old new : RunnerState) → Made old [] new → RunsRound moment round.Memory table table old new
-round_short moment table old new made = record { entries = []; carried = []; grew = made; ends = inr (refl, refl); kept = carries_none table }

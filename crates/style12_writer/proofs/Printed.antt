@@ -16,12 +16,6 @@ use Rattle.style12_writer.proofs.Decimals.{All-decimal, All-signed_decimal}
 pub printable_from_All : (text : List ℕ) → All IsPrintable text → IsTrue (list_all is_printable text)
 printable_from_All text h = list_all-from_AllPass is_printable text (λ k d within. let shows = h k d within in search (rules, tests))
 
-pub All-from_printable : (text : List ℕ) → IsTrue (list_all is_printable text) → All IsPrintable text
-All-from_printable text h k d within =
-    let passes = AllPass-from_list_all is_printable text h k d within in
-    let parts = and_parts _ _ passes in
-    (leb-true 32 _ parts.0, leb-true _ 126 parts.1)
-
 pub printable-decimal : (n : ℕ) → IsTrue (list_all is_printable (decimal n))
 printable-decimal n = printable_from_All (decimal n) (λ k d within. let digit = All-decimal n k d within in (omega arith, omega arith))
 

@@ -1,3 +1,4 @@
+//! What a board's lines are written from, and who looks at them.
 use chess_model::Face;
 use fics_words::Handle;
 

@@ -92,21 +92,6 @@ module _ (t : TourneyState) (space : ℕ) (h : IsTourney t space) (started : t.s
         room = λ e. let all : 4096 ≤ length t.results + space = h.room started in omega (arith, all, more, place);
       }
 
--- one more player, before the start
-pub kept_join : (t : TourneyState) (space : ℕ) (name : List ℕ) → IsTourney t space → t.started ≡ false → length t.players < 64
-    → IsTourney (record t { players = t.players ++ name ∷ [] }) space
-kept_join t space name h waiting room =
-    let n = length (t.players ++ name ∷ []) in
-    let long : length (t.players ++ name ∷ []) ≡ length t.players + 1 = length_push t.players name in
-    record {
-      few = omega (arith, long, room);
-      enough = λ e. absurd (clash t.started waiting e);
-      waits = h.waits;
-      games = subst (All (IsGame n)) (sym (h.waits waiting)) (All-nil (IsGame n));
-      apart = h.apart;
-      room = h.room;
-    }
-
 -- the start
 pub kept_start : (t : TourneyState) (space : ℕ) → IsTourney t space → 2 ≤ length t.players → IsTourney (record t { started = true }) (max space 4096)
 kept_start t space h two = record {

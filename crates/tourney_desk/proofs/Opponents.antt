@@ -58,10 +58,6 @@ none_if n round i j some is before other less joined =
 pub none_above_circle : (n round i : ℕ) → 0 < n → rounds_of n ≤ i → HasNone n round i
 none_above_circle n round i some high other less joined = absurd (let are = rounds_are n some in omega (arith, are.least, high, less, joined))
 
--- a player who is across from itself meets the last player
-pub with_last_player : (n round i : ℕ) → i < rounds_of n → (i + i) % rounds_of n ≡ round - 1 → IsMet (rounds_of n) (round - 1) i (rounds_of n)
-with_last_player n round i low e = WithLast low refl e
-
 -- and is free where there is no last player
 pub free : (n round i : ℕ) → 0 < n → n ≤ rounds_of n → i < rounds_of n → (i + i) % rounds_of n ≡ round - 1 → HasNone n round i
 free n round i some no_last low e other less joined =

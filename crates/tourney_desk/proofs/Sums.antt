@@ -94,13 +94,6 @@ total-cross n a f low at_cross off =
 
 -- ---- sums over lists
 
-pub sum_by-same : {X : Type 0} (f g : X → ℕ) → ((x : X) → f x ≡ g x) → (xs : List X) → sum_by f xs ≡ sum_by g xs
-sum_by-same f g h [] = refl
-sum_by-same f g h (x ∷ xs) =
-    let first : f x ≡ g x = h x in
-    let rest : sum_by f xs ≡ sum_by g xs = sum_by-same f g h xs in
-    omega (arith, sum_by-cons f x xs, sum_by-cons g x xs, first, rest)
-
 pub sum_by-map : {X Y : Type 0} (f : Y → ℕ) (g : X → Y) (xs : List X) → sum_by f (map g xs) ≡ sum_by (λ x. f (g x)) xs
 sum_by-map f g [] = refl
 sum_by-map f g (x ∷ xs) =

@@ -28,12 +28,6 @@ flag_gone [] k = refl
 flag_gone (b ∷ bs) zero = refl
 flag_gone (b ∷ bs) (suc k) = flag_gone bs k
 
-pub take_zeros : (xs : List ℕ) (n k : ℕ) → ((j : ℕ) → get_or xs j 0 ≡ 0) → get_or (take n xs) k 0 ≡ 0
-take_zeros xs zero k z = refl
-take_zeros [] (suc n) k z = refl
-take_zeros (x ∷ xs) (suc n) zero z = z 0
-take_zeros (x ∷ xs) (suc n) (suc k) z = take_zeros xs n k (λ j. z (suc j))
-
 pub take_more : {U : Type 0} (xs : List U) (k : ℕ) (x : U) → get_elem? xs k ≡ some x → take (suc k) xs ≡ take k xs ++ x ∷ []
 take_more [] k x e = absurd (some-ne-none x (sym e))
 take_more (y ∷ ys) zero x e = ap (λ z. z ∷ []) (some-injective y x e)

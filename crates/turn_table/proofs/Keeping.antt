@@ -235,22 +235,6 @@ module _ {P A R : Type 0} (c : Core P A R) (slots number splits : ℕ) where
     pub no_slot : m.0.held ≡ [] → m.1 ≡ []
     no_slot e = p0.slots_out ∙ ap (λ (xs : List (ℕ × P)). map out xs) e
 
--- a new pass
-pub sound_new : {P A R : Type 0} (c : Core P A R) (opening : List P) (slots : ℕ) → length opening ≡ slots → Sound c slots 0 0 0 0 (newcomer opening, [])
-sound_new c opening slots e = (
-  record {
-    alive = refl;
-    sized = e;
-    slots_out = refl;
-    order = tt;
-    may_there = λ k h. absurd h;
-    held_there = λ k p h. absurd h;
-    knows = record { legal = tt; own = refl; joined = λ j h. absurd h; no_others = λ z n far. refl };
-  },
-  refl,
-  refl,
-)
-
 -- what a caller is told of a commit
 pub committed : {P A R : Type 0} (c : Core P A R) (m : Sat c) (a : A) (p : P) (o : Option P) (m' : Sat c) → CommitsAct c m a p o m' → Committed c m.0 a p o m'.0
 committed c m a p o m' t = record { view = t.view; between = t.between; last = t.last; legal = t.legal; own = t.own; before = t.before; held = t.held }

@@ -79,18 +79,9 @@ module _ {P A R : Type 0} (c : Core P A R) (law : Lawful c) (opening : List P) w
         told,
       )
 
--- what begins with the longer and with the shorter of two lists begins with both
-of_longer : {T : Type 0} (b : Bool) (xs ys zs : List T) → IsPrefix (cond b ys xs) zs → IsPrefix (cond b xs ys) zs → IsPrefix xs zs × IsPrefix ys zs
-of_longer true xs ys zs long short = (short, long)
-of_longer false xs ys zs long short = (long, short)
-
 module _ {P A R : Type 0} (c : Core P A R) (m : Sat c) (m' : Sat c) where
   -- what a pass knows that looked
   pub knows_seen : LooksOn c m m' → Knows c m'.0
   knows_seen told =
       let l : Looks c m.0 m'.0.seen = told.looks in
       subst (λ v. Knows c v) (sym told.view) (record { legal = l.legal; own = l.own; joined = l.joined; no_others = l.no_others })
-
--- after a join what was seen begins with what each of the two had seen
-pub both_begin : {P A R : Type 0} (c : Core P A R) (v w : View P A R) (cs : List (ℕ × Option P)) (m' : Sat c) → LooksOn c (merged v w, cs) m' → IsPrefix v.seen m'.0.seen × IsPrefix w.seen m'.0.seen
-both_begin c v w cs m' told = of_longer (nat_lt (length v.seen) (length w.seen)) v.seen w.seen m'.0.seen told.looks.on told.shorter

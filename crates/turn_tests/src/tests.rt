@@ -1,3 +1,4 @@
+//! The tests of parts behind turns, with threads.
 use crate::{one_act_seen, open_gate, three_acts, tries_beside, two_counters};
 use std::test::Fail;
 

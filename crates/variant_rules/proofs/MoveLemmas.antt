@@ -109,14 +109,6 @@ last_between p a b held last =
 
 -- targets by a set
 
-reach-target : (p : Position) (k : Kind) (a set : ℕ) → k ≢ Pawn → IsReachSet p.men p.to_move k a set → IsTargetSet p k a set
-reach-target p Pawn a set other all = absurd (other refl)
-reach-target p Knight a set other all = record { each = all.each }
-reach-target p Bishop a set other all = record { each = all.each }
-reach-target p Rook a set other all = record { each = all.each }
-reach-target p Queen a set other all = record { each = all.each }
-reach-target p King a set other all = record { each = all.each }
-
 no_move : (p : Position) (k : Kind) (a set b : ℕ) → IsHeldAs p.to_move k (man_at p.men a) → IsTargetSet p k a set → b < 64 → ¬ Has set b →
     (promo : Option Kind) → ¬ IsMove p (Plain a b promo)
 no_move p k a set b held all lb out promo move = out ((all.each b lb).1 (move_reaches p k a b promo held move))
