@@ -82,8 +82,8 @@ impl<const DEPTH: u8> ClosingAnswerer for BotBoard<DEPTH> {
     }
 }
 
-/// Reads the source to its end, and writes what the bot answers, `depth` half-moves ahead, in the position that its lines
-/// give.
+/// Reads the source to its end, and writes what the bot answers, `depth` half-moves ahead, in the position that its
+/// lines give.
 pub fn bot<S: Source, K: Sink>(alloc: Global, depth: u8, source: &mut S, sink: &mut K) -> End
     requires { depth ≤ 4 }
     ensures ends { BotEnds depth (S.left source.old) (S.left source.new) (K.written sink.old) (K.written sink.new)

@@ -25,8 +25,9 @@ pub(crate) struct Time {
 }
 
 /// Reads `[MINUTES INCREMENT] [unrated] [VARIANT] [COLOUR]`, where what stands in brackets may be left out: without
-/// numbers the time is the usual one, without a variant it is chess, and without a colour none is asked for. Minutes and
-/// increment are at most 600, the number of an array of Fischer random is at most 959, and the case of letters counts.
+/// numbers the time is the usual one, without a variant it is chess, and without a colour none is asked for. Minutes
+/// and increment are at most 600, the number of an array of Fischer random is at most 959, and the case of letters
+/// counts.
 pub(crate) fn read_terms(usual: Time, text: &[u8]) -> Option<Terms>
     ensures { result ≡ terms_of usual (words_of text.now) }
 {

@@ -241,8 +241,8 @@ const REPETITION: &[Stage] = &[
 /// A hundred quiet half-moves: that is claimed before the repetition.
 const HUNDRED: &[Stage] = &[Shuffles(25), Row(BEN, DRAW, None), Over(Some(Why::Fifty))];
 
-/// The position never stood before, neither behind 99 quiet half-moves nor behind 100: Ann's draw is an offer there, and
-/// a claim here.
+/// The position never stood before, neither behind 99 quiet half-moves nor behind 100: Ann's draw is an offer there,
+/// and a claim here.
 const HUNDREDTH: &[Stage] = &[
     Shuffles(24),
     Moves(STRAY),

@@ -1,5 +1,5 @@
-//! What forty guests type in an evening, drawn from a seed, and what they are answered: a plain model of the lobby, written
-//! from the rules in docs/RULES.md, which shares nothing with the server. `session_tests` compares the two.
+//! What forty guests type in an evening, drawn from a seed, and what they are answered: a plain model of the lobby,
+//! written from the rules in docs/RULES.md, which shares nothing with the server. `session_tests` compares the two.
 #![tactic(auto)]
 
 mod draws;

@@ -31,7 +31,8 @@ pub enum Wish {
     Seek,
 }
 
-/// What a guest types. Players are told by the places of their names, terms by their places above, and texts by numbers.
+/// What a guest types. Players are told by the places of their names, terms by their places above, and texts by
+/// numbers.
 #[derive(Clone, Copy)]
 pub enum Order {
     Seek(usize),

@@ -16,8 +16,8 @@ pub enum Stored {
     Of(Game),
 }
 
-/// An evening: what the store has, the number that is asked for, which writes fail, the status, and a text in which a line
-/// behind `> ` is read and the others are written, in the order in which they are due.
+/// An evening: what the store has, the number that is asked for, which writes fail, the status, and a text in which a
+/// line behind `> ` is read and the others are written, in the order in which they are due.
 #[derive(Clone, Copy)]
 pub struct Evening(
     pub Stored,

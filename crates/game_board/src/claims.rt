@@ -66,9 +66,11 @@ impl GameBoard {
         ensures found { IfSome result (λ k. (k < from) × IsTrue (same_position (position_of self.now) past.new)
             × (past.new ≡ position_at self.now.terms.variant self.now.number self.now.list k)) }
         ensures last { IfSome result (λ k. (j : ℕ) → k < j → j < from → ¬ IsTrue
-            (same_position (position_of self.now) (position_at self.now.terms.variant self.now.number self.now.list j))) }
+            (same_position (position_of self.now)
+            (position_at self.now.terms.variant self.now.number self.now.list j))) }
         ensures none { IfNone result ((j : ℕ) → j < from → ¬ IsTrue
-            (same_position (position_of self.now) (position_at self.now.terms.variant self.now.number self.now.list j))) }
+            (same_position (position_of self.now)
+            (position_at self.now.terms.variant self.now.number self.now.list j))) }
     {
         let mut k = from;
         while k > 0 {

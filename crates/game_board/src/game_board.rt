@@ -285,8 +285,8 @@ impl GameBoard {
         answer_of(self.position(), word)
     }
 
-    /// Makes an allowed half-move at `moment`, with the client's stamp if there is one, as `play` does with the one that
-    /// its word stands for, and gives the man that it captures.
+    /// Makes an allowed half-move at `moment`, with the client's stamp if there is one, as `play` does with the one
+    /// that its word stands for, and gives the man that it captures.
     pub fn make(&mut self, what: &Move, moment: u64, stamp: Option<u32>) -> Option<Man>
         requires allowed { Allowed (position_of self.old) what.now }
         requires room { self.old.played < 1200 }

@@ -11,8 +11,8 @@ use chess_model::{Kind, Man, Move, Variant};
 use variant_rules::Position;
 
 impl GameBoard {
-    /// Learns of a half-move on the other board of a game of bughouse, which captured this man there, if it did: the man
-    /// comes into the hand of its own colour, a promoted one as a pawn. Takes no memory.
+    /// Learns of a half-move on the other board of a game of bughouse, which captured this man there, if it did: the
+    /// man comes into the hand of its own colour, a promoted one as a pawn. Takes no memory.
     pub fn learn(&mut self, what: Move, man: Option<Man>)
         requires variant { self.old.terms.variant ≡ Variant.Bughouse }
         requires allowed { Allowed (partner_position self.old) what }

@@ -60,8 +60,8 @@ impl GameShelf {
         self.made += 1;
     }
 
-    /// Takes the game of that number off the shelf, with the requests for it and with the order that removes it from the
-    /// store. It takes no memory.
+    /// Takes the game of that number off the shelf, with the requests for it and with the order that removes it from
+    /// the store. It takes no memory.
     pub fn take_off(&mut self, number: u64, saving: Saving)
         requires order { saving ≡ removal_order self.old number }
         requires count { self.old.made + 1 < 2 ^ 64 }

@@ -13,8 +13,8 @@ use std::marker::Model;
 /// The most games that are stored.
 pub(crate) const MOST_STORED: usize = 10_000;
 
-/// The stored games in the order of their numbers, which contracts see as that list. The room for 10,000 is taken when it
-/// is made, and kept.
+/// The stored games in the order of their numbers, which contracts see as that list. The room for 10,000 is taken when
+/// it is made, and kept.
 #[derive(Drop)]
 pub(crate) struct Rack {
     games: Vec<Shelved>,

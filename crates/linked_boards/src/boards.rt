@@ -141,8 +141,8 @@ impl Boards {
         }
     }
 
-    /// Puts a half-move on the board in that place, with the charge that it has. The other board of a pair learns of it.
-    /// Takes no memory.
+    /// Puts a half-move on the board in that place, with the charge that it has. The other board of a pair learns of
+    /// it. Takes no memory.
     pub(crate) fn put(&mut self, place: u8, half: &Played)
         requires takes { IsTrue (own_takes (slice_get self.old place) half.now) }
         requires short { IfSome (slice_get self.old place) (λ b. length b.list < 1200) }

@@ -22,8 +22,8 @@ impl Boards {
         }
     }
 
-    /// Lays an allowed half-move on the board in that place, with the charge that it has, if it has one; whether a charge
-    /// belongs there isn't asked. The other board of a pair learns of it. Takes no memory.
+    /// Lays an allowed half-move on the board in that place, with the charge that it has, if it has one; whether a
+    /// charge belongs there isn't asked. The other board of a pair learns of it. Takes no memory.
     pub fn lay(&mut self, place: u8, half: &Played)
         requires board { IsSome (slice_get self.old place) }
         requires allowed { IfSome (slice_get self.old place) (λ b. Allowed (position_of b) half.now.what) }

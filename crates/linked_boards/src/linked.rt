@@ -44,8 +44,8 @@ pub(crate) fn play_linked(
     Ok(captured)
 }
 
-/// Lays an allowed half-move with the charge that it has, if it has one, on one board of a pair. The other board learns of
-/// it, so that a man that is captured comes into the hand of its own colour there. Takes no memory.
+/// Lays an allowed half-move with the charge that it has, if it has one, on one board of a pair. The other board
+/// learns of it, so that a man that is captured comes into the hand of its own colour there. Takes no memory.
 pub(crate) fn lay_linked(own: &mut GameBoard, other: &mut GameBoard, half: &Played)
     requires linked { AreLinked own.old other.old }
     requires allowed { Allowed (position_of own.old) half.now.what }

@@ -13,7 +13,8 @@ use style12_writer::ItemList;
 #[derive(Drop)]
 pub enum DeskAct {
     /// Plays a word at the session's board. `stamp` is the client's own time, below `STAMP_CYCLE`, where its link is
-    /// stamped. Refused with `NotPlaying`, `GameOver`, `NotYourTurn`, `TooManyMoves`, then as the rules answer the word.
+    /// stamped. Refused with `NotPlaying`, `GameOver`, `NotYourTurn`, `TooManyMoves`, then as the rules answer the
+    /// word.
     Move { word: MoveWord, stamp: Option<u32> },
     /// The session's client has got the board that was shown last, at its own time `stamp`, below `STAMP_CYCLE`: the
     /// client's time for the next move counts from there. Keeps the stamp where the game runs and the session is to

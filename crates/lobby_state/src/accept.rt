@@ -11,9 +11,9 @@ use seek_match::Challenge;
 
 impl Register {
     /// What an acceptance is to do. The causes of a refusal, in order: the session isn't a member; there is no such
-    /// challenge; in bughouse the two are partners by now, one of them gives a simul, or one has no partner; one of those
-    /// who would be seated has a place and gives no simul; one of them has 32 places; all desks are in use, or 2^62 games
-    /// were started; stored games and desks in use are 10,000 together.
+    /// challenge; in bughouse the two are partners by now, one of them gives a simul, or one has no partner; one of
+    /// those who would be seated has a place and gives no simul; one of them has 32 places; all desks are in use, or
+    /// 2^62 games were started; stored games and desks in use are 10,000 together.
     pub(crate) fn accept_plan(&self, session: u32, name: Option<HandleKey>) -> Result<Plan, Refusal>
         ensures { result ≡ answer_of (accept_effect self.now session name) }
     {

@@ -86,8 +86,8 @@ pub fn games_lists_what_is_found(lobby: &Lobby)
     let _ = &lobby.register;
 }
 
-/// As a game starts the seeks and challenges of its players go, but for a giver's challenges with those who don't play in
-/// it; those of everybody else stay.
+/// As a game starts the seeks and challenges of its players go, but for a giver's challenges with those who don't play
+/// in it; those of everybody else stay.
 pub fn starts_settle_offers(lobby: &Lobby)
     ensures { (desk serial : ℕ) (terms : Terms) (seats : Seats)
         → SettleOffers lobby.now seats (seated lobby.now desk serial terms seats) }

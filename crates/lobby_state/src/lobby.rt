@@ -24,7 +24,8 @@ use simul_control::Places;
 use std::alloc::Global;
 use std::marker::Model;
 
-/// Who is registered and who is in the hall, which challenges stand, and which desks are in use. Every lobby is well-formed.
+/// Who is registered and who is in the hall, which challenges stand, and which desks are in use. Every lobby is
+/// well-formed.
 pub struct Lobby {
     pub(crate) register: Register,
 }

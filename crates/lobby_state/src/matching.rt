@@ -19,9 +19,9 @@ use std::alloc::Global;
 
 impl Register {
     /// The session challenges the named player. The causes of a refusal, in order: the session isn't a member; nobody
-    /// has the handle, or that member is going; it is the session itself, or in bughouse its partner; one of the two has
-    /// a place and gives no simul; the other has `open` off, or has the member on one of its lists; in bughouse one of
-    /// the two gives a simul, or one has no partner; 512 lines wait for the other.
+    /// has the handle, or that member is going; it is the session itself, or in bughouse its partner; one of the two
+    /// has a place and gives no simul; the other has `open` off, or has the member on one of its lists; in bughouse
+    /// one of the two gives a simul, or one has no partner; 512 lines wait for the other.
     pub(crate) fn challenge(
         &mut self,
         session: u32,

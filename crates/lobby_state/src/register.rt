@@ -16,9 +16,9 @@ use simul_control::Places;
 use std::alloc::Global;
 use std::marker::Model;
 
-/// Who is registered and who is in the hall, which challenges and seeks stand, who is in which channel, who are partners,
-/// which adjourned games lie on the shelf, and which desks are in use: the acts are carried out here, one file an act.
-/// That they leave it well-formed, `Lobby` knows.
+/// Who is registered and who is in the hall, which challenges and seeks stand, who is in which channel, who are
+/// partners, which adjourned games lie on the shelf, and which desks are in use: the acts are carried out here, one
+/// file an act. That they leave it well-formed, `Lobby` knows.
 #[derive(Drop)]
 pub(crate) struct Register {
     pub(crate) alloc: Global,

@@ -43,7 +43,8 @@ impl Register {
     /// The plan of a game of which the caller is a player: it starts where all other players ask for it.
     fn resume_row(&self, caller: &Member, other: &Member, row: &Shelved) -> Result<Plan, Refusal>
         requires { Replays row.now.game }
-        ensures { result ≡ answer_of (resuming self.now (record { caller = caller.now; other = other.now; row = row.now })) }
+        ensures { result ≡ answer_of
+            (resuming self.now (record { caller = caller.now; other = other.now; row = row.now })) }
     {
         if self.would_start(caller, row) {
             return self.go_on(row);

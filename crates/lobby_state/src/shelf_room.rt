@@ -21,8 +21,8 @@ impl Register {
         self.shelf.games().len() + self.desks_used() >= MOST_STORED
     }
 
-    /// Puts a game that was kept elsewhere on the shelf, under its number there, and makes no order. Refused where stored
-    /// games and desks in use are 10,000 together.
+    /// Puts a game that was kept elsewhere on the shelf, under its number there, and makes no order. Refused where
+    /// stored games and desks in use are 10,000 together.
     pub(crate) fn add_stored(&mut self, number: u64, game: StoredGame) -> Result<(), Fail>
         requires positive { 1 ≤ number }
         requires unused { is_used self.old.shelf.games number ≡ false }

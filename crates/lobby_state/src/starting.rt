@@ -16,9 +16,9 @@ use login_handles::Accounts;
 pub(crate) const MOST_GAMES: u64 = 1 << 62;
 
 impl Register {
-    /// The plan of a game of the two on these terms. The causes of a refusal, in order: one of those who would be seated
-    /// has a place and gives no simul; one of them has 32 places; all desks are in use, or 2^62 games were started; stored
-    /// games and desks in use are 10,000 together.
+    /// The plan of a game of the two on these terms. The causes of a refusal, in order: one of those who would be
+    /// seated has a place and gives no simul; one of them has 32 places; all desks are in use, or 2^62 games were
+    /// started; stored games and desks in use are 10,000 together.
     pub(crate) fn start_plan(
         &self,
         accepting: &Member,

@@ -21,8 +21,8 @@ pub(crate) fn with_terms(
     Ok(text)
 }
 
-/// Appends the terms as lines of the lobby have them, `M I V C`: the minutes, the increment in seconds, the variant, and
-/// the colour where one is asked for.
+/// Appends the terms as lines of the lobby have them, `M I V C`: the minutes, the increment in seconds, the variant,
+/// and the colour where one is asked for.
 pub(crate) fn put_terms(alloc: Global, terms: Terms, text: &mut Vec<u8>) -> Result<(), NoMemory>
     ensures { OnOk result (text.new.items ≡ text.old.items ++ terms_words terms) }
 {

@@ -130,7 +130,8 @@ impl Offers {
         requires seated { seat < self.old.seats }
         requires lacking { stands self.old.standing seat offer ≡ false }
         ensures agreed { result ≡ stands_for_all self.old.seats (with_offer seat offer self.old.standing) offer }
-        ensures after { self.new ≡ where_stand (settled self.old.seats offer (with_offer seat offer self.old.standing)) self.old }
+        ensures after { self.new ≡ where_stand
+            (settled self.old.seats offer (with_offer seat offer self.old.standing)) self.old }
     {
         self.rows.add(seat, offer);
         self.rows.settle(self.seats, offer)

@@ -13,9 +13,9 @@ use lobby_state::{Lobby, Plan, Ready};
 use memory::NoMemory;
 use std::alloc::Global;
 
-/// Gives up the caller's place at the desk of that number: nothing is done where no game of that serial has ended there.
-/// Where nobody looks on any more the desk is cleared, and a game that was adjourned goes on the shelf. Want of memory,
-/// which such a game alone can meet, changes neither.
+/// Gives up the caller's place at the desk of that number: nothing is done where no game of that serial has ended
+/// there. Where nobody looks on any more the desk is cleared, and a game that was adjourned goes on the shelf. Want of
+/// memory, which such a game alone can meet, changes neither.
 pub(crate) fn clear_step(
     alloc: Global,
     lobby: &mut Lobby,

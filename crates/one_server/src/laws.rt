@@ -42,14 +42,14 @@ pub fn every_board_keeps_a_true_score()
     ensures { HoldsInEachState KeepsTrueScores }
 {}
 
-/// In every state the men of each game are whole: no half-move has made or lost one, by the boards and hands of one board
-/// or of a pair.
+/// In every state the men of each game are whole: no half-move has made or lost one, by the boards and hands of one
+/// board or of a pair.
 pub fn every_game_keeps_its_men()
     ensures { HoldsInEachState KeepsMen }
 {}
 
-/// In every state no board of a game that runs is at an end, each game on the shelf can be played again as it is stored,
-/// and the save orders stand in the order in which they were made.
+/// In every state no board of a game that runs is at an end, each game on the shelf can be played again as it is
+/// stored, and the save orders stand in the order in which they were made.
 pub fn every_stored_game_replays()
     ensures running { HoldsInEachState GoesOnWhileItRuns }
     ensures stored { HoldsInEachState StoresWhatReplays }

@@ -107,8 +107,8 @@ impl PgnReader {
     }
 
     /// At the end of the text, the next game, which may be exported; `More`, from then on, exactly where nothing of a
-    /// game is left; `Bad`, from then on, where something is, or something is outside the grammar. Out of memory, nothing is promised
-    /// of the reader.
+    /// game is left; `Bad`, from then on, where something is, or something is outside the grammar. Out of memory,
+    /// nothing is promised of the reader.
     pub fn finish(&mut self) -> Result<PgnStep, NoMemory>
         ensures last { IfOk result (λ step. IsLast self.old step self.new) }
         ensures ended { IfOk result (λ step. StaysAtEnd step self.new) }

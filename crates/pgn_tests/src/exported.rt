@@ -57,7 +57,8 @@ const CAT_DAN_TEXT: &[u8] = b"\
 
 ";
 
-/// What the store is given, in this order; at which calls the keeper and the sink fail; what is written, and the outcome.
+/// What the store is given, in this order; at which calls the keeper and the sink fail; what is written, and the
+/// outcome.
 struct Row {
     pairs: &'static [Pair],
     keeper: &'static [u64],

@@ -1,5 +1,5 @@
-//! The ends of games of `board`, and words that could be taken two ways. The board lines come from outside: from what the
-//! Laws say of these games, and from the positions that Stockfish 15.1 prints for them.
+//! The ends of games of `board`, and words that could be taken two ways. The board lines come from outside: from what
+//! the Laws say of these games, and from the positions that Stockfish 15.1 prints for them.
 
 use crate::running::{board, outcome};
 use std::alloc::Global;

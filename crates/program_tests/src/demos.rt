@@ -1,7 +1,8 @@
 //! Evenings that `run` makes from a number. The counts themselves are known from nowhere else; what is known of them by
-//! hand is asserted: the six lines and their order, that 40 sessions come and nothing is stored, and bounds. Each of the
-//! 40 guests makes an entry to come in and one at least to leave, and each of the 4,000 turns one at least, with which
-//! the session asks for its news: 4,080 entries. A turn starts one game at most, and makes one half-move at most.
+//! hand is asserted: the six lines and their order, that 40 sessions come and nothing is stored, and bounds. Each of
+//! the 40 guests makes an entry to come in and one at least to leave, and each of the 4,000 turns one at least, with
+//! which the session asks for its news: 4,080 entries. A turn starts one game at most, and makes one half-move at
+//! most.
 
 use crate::running::{Case, Row, expect_tables, outcome};
 use std::alloc::Global;

@@ -1,5 +1,5 @@
-//! `replay` over the fakes: Fischer random. The cases are written as those of `replays`, and what is written was said by
-//! the rules alone.
+//! `replay` over the fakes: Fischer random. The cases are written as those of `replays`, and what is written was said
+//! by the rules alone.
 
 /// King and rook exchange at once.
 const EXCHANGED: &str = "\

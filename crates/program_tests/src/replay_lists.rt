@@ -1,8 +1,8 @@
 //! `replay` over the fakes: the lists of names of players, and the lists of challenges and games. The case is written
 //! as those of `replays`, and what is written was said by the rules alone.
 
-/// Ben keeps Ann away by one list and then by the other; challenges are listed; a game is listed until both players have
-/// heard of its end; and a list goes with its member.
+/// Ben keeps Ann away by one list and then by the other; challenges are listed; a game is listed until both players
+/// have heard of its end; and a list goes with its member.
 pub(crate) const LISTS: &str = "\
 0 1 +
   1|Free Internet Chess Server profile

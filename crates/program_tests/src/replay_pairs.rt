@@ -1,5 +1,5 @@
-//! `replay` over the fakes: bughouse at two boards. The cases are written as those of `replays`, and what is written was
-//! said by the rules alone.
+//! `replay` over the fakes: bughouse at two boards. The cases are written as those of `replays`, and what is written
+//! was said by the rules alone.
 
 /// White of the first board captures a pawn, which comes into the hand of Black of the second.
 const CAPTURED: &str = "\
@@ -30,8 +30,8 @@ seat Ann Ben Cat Dan 2 0 bughouse
   1|fics%\x20\
 ";
 
-/// White of the second board captures two pawns, and a knight with a pawn that becomes a queen by it. Black captures the
-/// queen, which comes to the first board as a pawn.
+/// White of the second board captures two pawns, and a knight with a pawn that becomes a queen by it. Black captures
+/// the queen, which comes to the first board as a pawn.
 const HANDED_OVER: &str = "\
 seat Ann Ben Cat Dan 2 0 bughouse
 0 3 > a2a4

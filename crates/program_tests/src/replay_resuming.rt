@@ -1,9 +1,9 @@
-//! `replay` over the fakes: games that are adjourned and resumed. The cases are written as those of `replays`, and what is
-//! written was said by the rules alone.
+//! `replay` over the fakes: games that are adjourned and resumed. The cases are written as those of `replays`, and
+//! what is written was said by the rules alone.
 
-/// Two registered players adjourn a game, ask for it again and resume it: the board and the clocks are as they were, and
-/// who is to move thinks from the resuming on. Then one of them leaves, which adjourns the game again; he comes back, it
-/// is resumed once more, and half-moves from before the first adjournment are taken back.
+/// Two registered players adjourn a game, ask for it again and resume it: the board and the clocks are as they were,
+/// and who is to move thinks from the resuming on. Then one of them leaves, which adjourns the game again; he comes
+/// back, it is resumed once more, and half-moves from before the first adjournment are taken back.
 const RESUMED: &str = "\
 0 1 +
   1|Free Internet Chess Server profile
@@ -361,8 +361,8 @@ const TWO_STORED: &str = "\
   1|fics%\x20\
 ";
 
-/// A pair is adjourned once all four have said so, and resumed by the fourth who asks; links of partners don't count. Who
-/// leaves a pair loses it.
+/// A pair is adjourned once all four have said so, and resumed by the fourth who asks; links of partners don't count.
+/// Who leaves a pair loses it.
 const OF_FOUR: &str = "\
 0 1 +
   1|Free Internet Chess Server profile

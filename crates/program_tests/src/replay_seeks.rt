@@ -1,5 +1,5 @@
-//! `replay` over the fakes: seeks. The cases are written as those of `replays`, and what is written was said by the rules
-//! alone.
+//! `replay` over the fakes: seeks. The cases are written as those of `replays`, and what is written was said by the
+//! rules alone.
 
 /// Alice seeks a game and asks for White, and Bob takes the seek.
 pub(crate) const SOUGHT: &str = "\

@@ -1,9 +1,9 @@
 //! `replay` over the fakes: one player at many boards. The cases are written as those of `replays`, and what is written
 //! was said by the rules alone.
 
-/// Ann gives a simul to Ben, Cid and Dan, whatever colours they name. After each half-move that is accepted she is at the
-/// next place, and after a refused one at the same; she turns over the places, and goes to one by its player. A game of
-/// which she has seen the end is a place no longer; with one place left she gives no simul any more.
+/// Ann gives a simul to Ben, Cid and Dan, whatever colours they name. After each half-move that is accepted she is at
+/// the next place, and after a refused one at the same; she turns over the places, and goes to one by its player. A
+/// game of which she has seen the end is a place no longer; with one place left she gives no simul any more.
 const THREE: &str = "\
 0 1 +
   1|Free Internet Chess Server profile

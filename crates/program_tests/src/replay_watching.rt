@@ -167,8 +167,8 @@ seat Ann Ben 2 0 chess
   3|fics%\x20\
 ";
 
-/// In a variant with hands they are shown to a player who asks again, and not to who begins to look on. Who leaves looks
-/// on no longer, so that the desk is free behind the players.
+/// In a variant with hands they are shown to a player who asks again, and not to who begins to look on. Who leaves
+/// looks on no longer, so that the desk is free behind the players.
 const HOUSE: &str = "\
 seat Ann Ben 0 0 crazyhouse
 0 3 +

@@ -1,6 +1,6 @@
-//! Round robins that `run` directs over the fakes. Pairs and tables are worked out by hand from the rule of the pairing:
-//! in round r those meet whose numbers, in order of joining, have the sum r - 1 modulo the odd number of rounds, and the
-//! one who would meet himself meets the last player of an even number, or is free.
+//! Round robins that `run` directs over the fakes. Pairs and tables are worked out by hand from the rule of the
+//! pairing: in round r those meet whose numbers, in order of joining, have the sum r - 1 modulo the odd number of
+//! rounds, and the one who would meet himself meets the last player of an even number, or is free.
 
 use crate::running::{Row, expect, expect_tables, tourney};
 use std::alloc::Global;

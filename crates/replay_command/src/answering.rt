@@ -41,8 +41,8 @@ pub fn do_event(
     session: &mut Session,
 ) -> Result<Wrote, NoMemory>
     requires { IsScriptLine line.now }
-    ensures done { IfOk result (λ wrote. HasAnswered line.now.event line.now.session line.now.moment server.old session.old
-        server.new session.new wrote.bytes.items) }
+    ensures done { IfOk result (λ wrote. HasAnswered line.now.event line.now.session line.now.moment
+        server.old session.old server.new session.new wrote.bytes.items) }
     ensures quit { IfOk result (λ wrote. wrote.quit ≡ quit_of line.now.event session.new) }
 {
     let number = line.session;

@@ -27,8 +27,8 @@ pub struct SeatLine {
 }
 
 /// Reads a seat line: `seat A B M I V`, where V is `chess`, `crazyhouse` or `fischer N`, N from 0 to 959, or
-/// `seat A B C D M I bughouse`. It gives the line exactly where these bytes are its one spelling, and no two names differ
-/// in case alone.
+/// `seat A B C D M I bughouse`. It gives the line exactly where these bytes are its one spelling, and no two names
+/// differ in case alone.
 pub fn read_seat(alloc: Global, line: &Line) -> Result<Option<SeatLine>, NoMemory>
     ensures spelled { IfOk result (λ read. IfSome read (λ seat. line.now ≡ seat_text seat)) }
     ensures in_range { IfOk result (λ read. IfSome read IsSeatLine) }

@@ -17,9 +17,10 @@ use one_server::{Act, Reply, Runner};
 use std::alloc::Global;
 
 /// Makes the acts of leaving, all at `moment`, in milliseconds and at most 2^48: the member goes, leaves each of its
-/// games, and those at which it looks on, and gives it up, and is gone. An act that runs out of memory is passed over, the others are made, and then
-/// the answer is running out of memory. Where Going is passed over, the places are those that the session remembers.
-/// Where the runner's mark is true, nothing but the giving up of a place can be passed over.
+/// games, and those at which it looks on, and gives it up, and is gone. An act that runs out of memory is passed over,
+/// the others are made, and then the answer is running out of memory. Where Going is passed over, the places are those
+/// that the session remembers. Where the runner's mark is true, nothing but the giving up of a place can be passed
+/// over.
 pub(crate) fn leave<R: Runner>(
     alloc: Global,
     r: &mut R,

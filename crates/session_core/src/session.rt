@@ -97,10 +97,10 @@ impl Session {
     }
 
     /// Makes the acts of leaving, where the session has entered and hasn't left: the member goes, leaves each of its
-    /// games, and those at which it looks on, and gives it up, and is gone. All are made at `moment`, in milliseconds and at most 2^48. An act that
-    /// runs out of memory is passed over, the others are made, and then the answer is running out of memory. Where
-    /// Going is passed over, the places are those that the session remembers. Where the runner's mark is true, nothing
-    /// but the giving up of a place can be passed over.
+    /// games, and those at which it looks on, and gives it up, and is gone. All are made at `moment`, in milliseconds
+    /// and at most 2^48. An act that runs out of memory is passed over, the others are made, and then the answer is
+    /// running out of memory. Where Going is passed over, the places are those that the session remembers. Where the
+    /// runner's mark is true, nothing but the giving up of a place can be passed over.
     pub fn leave<R: Runner>(&mut self, r: &mut R, moment: u64) -> Result<(), NoMemory>
         requires { moment ≤ 2 ^ 48 }
         ensures home { R.home r.new ≡ R.home r.old }

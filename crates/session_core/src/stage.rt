@@ -331,7 +331,8 @@ pub(crate) fn ask_place(stamp: u32) -> Next<Stage>
     Next::Ask(Act::Lobby(LobbyAct::Where), Stage::AwaitingPlace(stamp))
 }
 
-/// Of a game that is given up the session remembers nothing: it looks on there no longer; of its places the lobby tells.
+/// Of a game that is given up the session remembers nothing: it looks on there no longer; of its places the lobby
+/// tells.
 fn forget(memory: &mut Memory, visit: &Visit)
     ensures after { memory.new ≡ forgets visit.now.seat visit.now.desk memory.old }
     ensures stands { memory.new.standing ≡ memory.old.standing }

@@ -81,8 +81,8 @@ fn remark_line(memory: &Memory, text: &Line, out: &Vec<u8>) -> Result<Line, NoMe
     }
 }
 
-/// The lobby has answered where a game is played: there the session asks to look on. Any other reply is printed, and the
-/// round comes.
+/// The lobby has answered where a game is played: there the session asks to look on. Any other reply is printed, and
+/// the round comes.
 pub(crate) fn found(
     memory: &mut Memory,
     reply: &Reply,

@@ -101,7 +101,8 @@ impl<K: Eq + Hash + Copy, T: Keyed<K>> Table<K, T> {
     where
         T: Parted<P, W>,
         requires keeps { (row : T) (part : P) → T.key_of (T.with_part row part) ≡ T.key_of row }
-        ensures* writes_back { sem 𝓛 (lends_part_of K.row T.row P.row K.Hash T.Keyed T.with_part self.entry (has_key T.key_of K.eq key) result) }
+        ensures* writes_back { sem 𝓛 (lends_part_of K.row T.row P.row K.Hash T.Keyed T.with_part self.entry
+            (has_key T.key_of K.eq key) result) }
         ensures value { option_copied_mut result ≡ option_map T.part (find (has_key T.key_of K.eq key) self.old) }
     {
         match self.place(key) {

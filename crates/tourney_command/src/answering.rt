@@ -51,7 +51,8 @@ impl LineAnswerer for Evening {
 
 /// Reads the source to its end, and writes what its lines give: one write a read.
 pub fn tourney<S: Source, K: Sink>(alloc: Global, source: &mut S, sink: &mut K) -> End
-    ensures ends { TourneyEnds (S.left source.old) (S.left source.new) (K.written sink.old) (K.written sink.new) result }
+    ensures ends { TourneyEnds (S.left source.old) (S.left source.new)
+        (K.written sink.old) (K.written sink.new) result }
     ensures read_cause { OnReadFault result (Rose (S.faults source.old) (S.faults source.new)) }
     ensures write_cause { OnWriteFault result (Rose (K.faults sink.old) (K.faults sink.new)) }
 {

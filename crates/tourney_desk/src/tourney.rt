@@ -57,8 +57,8 @@ impl Tourney {
         }
     }
 
-    /// The player joins, and has the next number. Refuses with `TourneyStarted` after the start, else with `HandleTaken`
-    /// where the handle has joined, in whatever capitals, and else with `TourneyFull` where 64 have.
+    /// The player joins, and has the next number. Refuses with `TourneyStarted` after the start, else with
+    /// `HandleTaken` where the handle has joined, in whatever capitals, and else with `TourneyFull` where 64 have.
     pub fn join(&mut self, name: Handle) -> Result<(), Fail>
         ensures { Takes (joining self.old name) self.old self.new result }
     {
@@ -146,7 +146,8 @@ impl Tourney {
     }
 
     /// The table: a row for each player, with the results that stand for that player and the half-points from them, in
-    /// descending order of half-points and then by the players' keys. Refuses with `TourneyNotStarted` before the start.
+    /// descending order of half-points and then by the players' keys. Refuses with `TourneyNotStarted` before the
+    /// start.
     pub fn table(&self) -> Result<Vec<Row>, Fail>
         ensures told { GivesList (table_told self.now) result }
         ensures sums { IfOk result (λ rows. IsTable self.now.players self.now.results rows.items) }

@@ -41,8 +41,8 @@ fn first_pair(tourney: &Tourney, round: u8) -> Option<(usize, (u8, u8))> {
     Some((pairs.len(), *first))
 }
 
-/// What 63 players play: they are odd, so one is free in each of 63 rounds. In the first round player 0 is free, since 0
-/// and 0 leave nothing, and 1 meets 62; in the second 0 meets 1.
+/// What 63 players play: they are odd, so one is free in each of 63 rounds. In the first round player 0 is free, since
+/// 0 and 0 leave nothing, and 1 meets 62; in the second 0 meets 1.
 #[test]
 fn sixty_three_play(rt: HostRuntime) -> Result<(), TestFail> {
     let mut tourney = Tourney::new(rt.alloc());
