@@ -10,50 +10,17 @@ use Rattle.chess_model.specs.declared.man.Man.{Man}
 use Rattle.chess_model.specs.declared.moves.Move.TheVariants.{Plain, Drop}
 use Rattle.chess_model.specs.declared.variant.Variant.{Variant}
 use Rattle.chess_model.specs.Placement.{Placement, man_at, opposite, unpromoted, IsHeldBy, IsHeldAs}
-use Rattle.chess_model.specs.Attacked.{StrikesAs, IsAttacked, IsKingSafe}
+use Rattle.chess_model.specs.Attacked.{IsKingSafe}
 use Rattle.chess_model.specs.MoveList.{is_en_passant, taking_square, landed, place_after}
 use Rattle.chess_model.specs.Holdings.{count_in}
 use Rattle.chess_model.specs.Position.{Position, hand_of_side}
 use Rattle.chess_model.specs.Allowed.{IsPromotion, HasPromotion, GoesAs, IsMove, IsSafeAfter}
 use Rattle.bitboard_core.specs.Sets.{Has}
-use Rattle.variant_rules.specs.Listing.{AreExposed, IsUnguarded}
-use Rattle.variant_rules.proofs.LineLemmas.{Fills, same_or_other, still-strikes}
-
-colours-apart : (c : Colour) → c ≢ opposite c
-colours-apart White e = cc
-colours-apart Black e = cc
-
-held-both : (c : Colour) (man : Option Man) → IsHeldBy c man → IsHeldBy (opposite c) man → ⊥
-held-both c None own other = own
-held-both c (Some m) own other = colours-apart c (sym own ∙ other)
-
-strikes-held : (P : Placement) (c : Colour) (a s : ℕ) (man : Option Man) → StrikesAs P c a s man → IsHeldBy c man
-strikes-held P c a s None h = absurd h
-strikes-held P c a s (Some m) h = h.0
-
--- the kings of Q stood in P, where no more ways were open to them, and the enemy men of Q stood in P
-pub record Covers (P Q : Placement) (c : Colour) : Type 0 where
-  pub kings : (s : ℕ) → s < 64 → IsHeldAs c King (man_at Q s) → IsHeldAs c King (man_at P s)
-  pub ways : (s : ℕ) → s < 64 → IsHeldAs c King (man_at Q s) → (a : ℕ) × Fills P Q c s a
-  pub enemies : (x : ℕ) → IsHeldBy (opposite c) (man_at Q x) → man_at Q x ≡ man_at P x
-
-hit-before : (P Q : Placement) (c by : Colour) (s x a : ℕ) (man : Option Man) → s < 64 → x < 64 → Fills P Q c s a →
-    StrikesAs Q by x s man → StrikesAs P by x s man
-hit-before P Q c by s x a None ls lx fills h = absurd h
-hit-before P Q c by s x a (Some m) ls lx fills h = (h.0, still-strikes P Q c by m.kind s x a ls lx fills h.1)
-
-pub safe-from : (P Q : Placement) (c : Colour) → IsKingSafe P c → Covers P Q c → IsKingSafe Q c
-unfolding IsAttacked
-safe-from P Q c safe covers = record {
-  safe = λ s ls check.
-      let hit = check.1 in
-      let x : ℕ = hit.0 in
-      let way = covers.ways s ls check.0 in
-      let same : man_at Q x ≡ man_at P x = covers.enemies x (strikes-held Q (opposite c) x s (man_at Q x) hit.2) in
-      let before : StrikesAs P (opposite c) x s (man_at Q x) =
-      hit-before P Q c (opposite c) s x way.0 (man_at Q x) ls hit.1 way.1 hit.2 in
-      safe.safe s ls (covers.kings s ls check.0, (x, hit.1, subst (λ (man : Option Man). StrikesAs P (opposite c) x s man) same before));
-}
+use Rattle.variant_rules.specs.declared.guard.Guard.{Guard}
+use Rattle.variant_rules.specs.Checks.{IsBare, IsUnanswered, AreWatched}
+use Rattle.variant_rules.specs.Listing.{IsUnguarded, IsGuard}
+use Rattle.variant_rules.proofs.LineLemmas.{same_or_other}
+use Rattle.variant_rules.proofs.CheckLemmas.{Eases, eased-attack, held-both, none-held, at-written, at-unwritten}
 
 -- a plain move
 
@@ -67,77 +34,124 @@ landed-king c man None other plain h = other h
 landed-king c None (Some k) other plain h = h
 landed-king c (Some m) (Some k) other plain h = plain (ap Some h.1)
 
-none-held : (c : Colour) (man : Option Man) → man ≡ None → ¬ IsHeldBy c man
-none-held c man e h = subst (λ (x : Option Man). IsHeldBy c x) e h
+pub held_by : (c : Colour) (k : Kind) (man : Option Man) → IsHeldAs c k man → IsHeldBy c man
+held_by c k None h = h
+held_by c k (Some m) h = h.0
 
-none-held_as : (c : Colour) (k : Kind) (man : Option Man) → man ≡ None → ¬ IsHeldAs c k man
+pub none-held_as : (c : Colour) (k : Kind) (man : Option Man) → man ≡ None → ¬ IsHeldAs c k man
 none-held_as c k man e h = subst (λ (x : Option Man). IsHeldAs c k x) e h
 
 module _ (P : Placement) (c : Colour) (a b : ℕ) (L : Option Man) (size : length P ≡ 64) (la : a < 64) (lb : b < 64) where
   abbrev moved : Placement
   moved = slice_set (slice_set (slice_set P b None) a None) b L
 
-  at-target : man_at moved b ≡ L
+  pub at-target : man_at moved b ≡ L
   at-target =
       get_or-set_same (slice_set (slice_set P b None) a None) b L None
       (omega (arith, lb, size, length-set (slice_set P b None) a None, length-set P b None))
 
-  at-origin : a ≢ b → man_at moved a ≡ None
+  pub at-origin : a ≢ b → man_at moved a ≡ None
   at-origin apart =
       get_or-set_other (slice_set (slice_set P b None) a None) b a L None apart
       ∙ get_or-set_same (slice_set P b None) a None None (omega (arith, la, size, length-set P b None))
 
-  at-others : (t : ℕ) → t ≢ a → t ≢ b → man_at moved t ≡ man_at P t
+  pub at-others : (t : ℕ) → t ≢ a → t ≢ b → man_at moved t ≡ man_at P t
   at-others t na nb =
       get_or-set_other (slice_set (slice_set P b None) a None) b t L None nb
       ∙ get_or-set_other (slice_set P b None) a t None None na
       ∙ get_or-set_other P b t None None nb
 
-  moved-covers : (set : ℕ) → IsHeldBy c L → ¬ IsHeldAs c King L → AreExposed P c set → ¬ Has set a → Covers P moved c
-  moved-covers set own plain exposed out = record {
-    kings = λ s ls held. king s held;
-    ways = λ s ls held. (
-      a,
-      record {
-        same = λ t lt other free. elim (same_or_other t b) [
-          | inl here ↦ absurd (none-held c L (sym at-target ∙ ap (man_at moved) (sym here) ∙ free) own)
-          | inr apart ↦ sym (at-others t other apart) ∙ free
-        ];
-        left = inr (λ strikes. out (exposed.lines s a ls la (king s held) strikes));
-      },
-    );
-    enemies = λ x held. elim (same_or_other x b) [
+  -- after the move no man sees more of a king than without the man on a
+  moved-bare : (s : ℕ) → IsHeldBy c L → Eases moved (slice_set P a None) (opposite c) s
+  moved-bare s own = record {
+    empty = λ t lt far free. elim (same_or_other t b) [
+      | inl here ↦ absurd (none-held c L (sym at-target ∙ ap (man_at moved) (sym here) ∙ free) own)
+      | inr apart ↦ elim (same_or_other t a) [
+        | inl left ↦ ap (man_at (slice_set P a None)) left ∙ at-written P a None size la
+        | inr other ↦ at-unwritten P a t None other ∙ sym (at-others t other apart) ∙ free
+      ]
+    ];
+    men = λ x lx far held. elim (same_or_other x b) [
       | inl here ↦ absurd (held-both c L own (subst (λ (man : Option Man). IsHeldBy (opposite c) man) (ap (man_at moved) here ∙ at-target) held))
       | inr apart ↦ elim (same_or_other x a) [
         | inl left ↦ absurd (none-held (opposite c) (man_at moved x) (ap (man_at moved) left ∙ at-origin (λ e. apart (left ∙ e))) held)
-        | inr other ↦ at-others x other apart
+        | inr other ↦ at-unwritten P a x None other ∙ sym (at-others x other apart)
       ]
     ];
   }
-    where
-      king : (s : ℕ) → IsHeldAs c King (man_at moved s) → IsHeldAs c King (man_at P s)
-      king s held = elim (same_or_other s b) [
-        | inl here ↦ absurd (plain (subst (λ (man : Option Man). IsHeldAs c King man) (ap (man_at moved) here ∙ at-target) held))
-        | inr apart ↦ elim (same_or_other s a) [
-          | inl left ↦ absurd (none-held_as c King (man_at moved s) (ap (man_at moved) left ∙ at-origin (λ e. apart (left ∙ e))) held)
-          | inr other ↦ subst (λ (man : Option Man). IsHeldAs c King man) (at-others s other apart) held
-        ]
-      ]
 
-pub plain-safe : (v : Variant) (P : Placement) (c : Colour) (a b : ℕ) (promo : Option Kind) (set : ℕ) → length P ≡ 64 → a < 64 → b < 64 →
-    is_en_passant P a b ≡ false → IsHeldBy c (man_at P a) → promo ≢ Some King → IsKingSafe P c → AreExposed P c set → ¬ Has set a →
+  -- and none sees less of it than with the man on both squares
+  moved-past : (s : ℕ) → a ≢ b → IsHeldBy c L → IsHeldBy c (man_at P a) → Eases (slice_set P b L) moved (opposite c) s
+  moved-past s ab own from = record {
+    empty = λ t lt far free. elim (same_or_other t b) [
+      | inl here ↦ absurd (none-held c L (sym (at-written P b L size lb) ∙ ap (man_at (slice_set P b L)) (sym here) ∙ free) own)
+      | inr apart ↦ elim (same_or_other t a) [
+        | inl left ↦ ap (man_at moved) left ∙ at-origin ab
+        | inr other ↦ at-others t other apart ∙ sym (at-unwritten P b t L apart) ∙ free
+      ]
+    ];
+    men = λ x lx far held. elim (same_or_other x b) [
+      | inl here ↦ absurd (held-both c L own
+          (subst (λ (man : Option Man). IsHeldBy (opposite c) man) (ap (man_at (slice_set P b L)) here ∙ at-written P b L size lb) held))
+      | inr apart ↦ elim (same_or_other x a) [
+        | inl left ↦ absurd (held-both c (man_at P a) from
+            (subst (λ (man : Option Man). IsHeldBy (opposite c) man) (at-unwritten P b x L apart ∙ ap (man_at P) left) held))
+        | inr other ↦ at-others x other apart ∙ sym (at-unwritten P b x L apart)
+      ]
+    ];
+  }
+
+  king-before : (s : ℕ) → ¬ IsHeldAs c King L → IsHeldAs c King (man_at moved s) → IsHeldAs c King (man_at P s)
+  king-before s plain held = elim (same_or_other s b) [
+    | inl here ↦ absurd (plain (subst (λ (man : Option Man). IsHeldAs c King man) (ap (man_at moved) here ∙ at-target) held))
+    | inr apart ↦ elim (same_or_other s a) [
+      | inl left ↦ absurd (none-held_as c King (man_at moved s) (ap (man_at moved) left ∙ at-origin (λ e. apart (left ∙ e))) held)
+      | inr other ↦ subst (λ (man : Option Man). IsHeldAs c King man) (at-others s other apart) held
+    ]
+  ]
+
+  king-after : (s : ℕ) → s ≢ a → s ≢ b → IsHeldAs c King (man_at P s) → IsHeldAs c King (man_at moved s)
+  king-after s na nb held = subst (λ (man : Option Man). IsHeldAs c King man) (sym (at-others s na nb)) held
+
+pub target : (P : Placement) (a b : ℕ) → is_en_passant P a b ≡ false → taking_square P a b ≡ b
+target P a b e = rw e refl
+
+pub plain-safe : (v : Variant) (P : Placement) (c : Colour) (a b : ℕ) (promo : Option Kind) (guard : Guard) → length P ≡ 64 → a < 64 → b < 64 →
+    is_en_passant P a b ≡ false → IsHeldBy c (man_at P a) → promo ≢ Some King → AreWatched P c guard → ¬ Has guard.from a →
     IsKingSafe (place_after v P c (Plain a b promo)) c
-plain-safe v P c a b promo set size la lb usual own plain safe exposed out =
+plain-safe v P c a b promo guard size la lb usual own plain watched out =
     let L : Option Man = landed (man_at P a) promo in
-    let not_king : ¬ IsHeldAs c King L = landed-king c (man_at P a) promo (λ h. out (exposed.kings a la h)) plain in
-    let after : IsKingSafe (slice_set (slice_set (slice_set P b None) a None) b L) c =
-    safe-from P (slice_set (slice_set (slice_set P b None) a None) b L) c safe
-    (moved-covers P c a b L size la lb set (landed-own c (man_at P a) promo own) not_king exposed out) in
-    let e : taking_square P a b ≡ b = target usual in
-    subst (λ (t : ℕ). IsKingSafe (slice_set (slice_set (slice_set P t None) a None) b L) c) (sym e) after
-  where
-    target : is_en_passant P a b ≡ false → taking_square P a b ≡ b
-    target e = rw e refl
+    let Q : Placement = slice_set (slice_set (slice_set P b None) a None) b L in
+    let landed : IsHeldBy c L = landed-own c (man_at P a) promo own in
+    let not_king : ¬ IsHeldAs c King L = landed-king c (man_at P a) promo (λ h. out (watched.kings a la h)) plain in
+    let after : IsKingSafe Q c = record {
+      safe = λ s ls check.
+          let king : IsHeldAs c King (man_at P s) = king-before P c a b L size la lb s not_king check.0 in
+          let bare : IsBare P c s a =
+          eased-attack Q (slice_set P a None) (opposite c) s ls (moved-bare P c a b L size la lb s landed) check.1 in
+          out ((watched.pinned s ls king).each a la own bare);
+    } in
+    subst (λ (t : ℕ). IsKingSafe (slice_set (slice_set (slice_set P t None) a None) b L) c) (sym (target P a b usual)) after
+
+pub plain-unsafe : (v : Variant) (P : Placement) (c : Colour) (a b : ℕ) (promo : Option Kind) (guard : Guard) → length P ≡ 64 → a < 64 → b < 64 →
+    is_en_passant P a b ≡ false → IsHeldBy c (man_at P a) → ¬ IsHeldAs c King (man_at P a) → ¬ IsHeldBy c (man_at P b) → AreWatched P c guard →
+    ¬ Has guard.answers b → ¬ IsKingSafe (place_after v P c (Plain a b promo)) c
+plain-unsafe v P c a b promo guard size la lb usual own man free watched out safe =
+    let L : Option Man = landed (man_at P a) promo in
+    let Q : Placement = slice_set (slice_set (slice_set P b None) a None) b L in
+    let landed : IsHeldBy c L = landed-own c (man_at P a) promo own in
+    let ab : a ≢ b = λ e. free (subst (λ (t : ℕ). IsHeldBy c (man_at P t)) e own) in
+    let left = watched.answers b L lb out landed in
+    let s : ℕ = left.0 in
+    let king : IsUnanswered P c b L s = left.1 in
+    let na : s ≢ a = λ e. man (subst (λ (t : ℕ). IsHeldAs c King (man_at P t)) e king.held) in
+    let nb : s ≢ b = λ e. free (held_by c King (man_at P b) (subst (λ (t : ℕ). IsHeldAs c King (man_at P t)) e king.held)) in
+    let after : IsKingSafe Q c =
+    subst (λ (t : ℕ). IsKingSafe (slice_set (slice_set (slice_set P t None) a None) b L) c) (target P a b usual) safe in
+    after.safe s king.square (
+      king-after P c a b L size la lb s na nb king.held,
+      eased-attack (slice_set P b L) Q (opposite c) s king.square (moved-past P c a b L size la lb s ab landed own) king.attacked,
+    )
 
 -- a drop
 
@@ -145,21 +159,41 @@ pub drop-safe : (v : Variant) (P : Placement) (c : Colour) (k : Kind) (to : ℕ)
     IsKingSafe P c → IsKingSafe (place_after v P c (Drop k to)) c
 drop-safe v P c k to size lt free plain safe =
     let Q : Placement = slice_set P to (unpromoted c k) in
-    let here : man_at Q to ≡ unpromoted c k = get_or-set_same P to (unpromoted c k) None (omega (arith, lt, size)) in
-    let others : (t : ℕ) → t ≢ to → man_at Q t ≡ man_at P t = λ t other. get_or-set_other P to t (unpromoted c k) None other in
-    safe-from P Q c safe (record {
-      kings = λ s ls held. elim (same_or_other s to) [
-        | inl same ↦
-            let h : IsHeldAs c King (unpromoted c k) = subst (λ (man : Option Man). IsHeldAs c King man) (ap (man_at Q) same ∙ here) held in
-            absurd (plain h.1)
-        | inr other ↦ subst (λ (man : Option Man). IsHeldAs c King man) (others s other) held
-      ];
-      ways = λ s ls held. (to, record { same = λ t lt2 other empty. sym (others t other) ∙ empty; left = inl (λ e. free) });
-      enemies = λ x held. elim (same_or_other x to) [
-        | inl same ↦ absurd (held-both c (unpromoted c k) refl (subst (λ (man : Option Man). IsHeldBy (opposite c) man) (ap (man_at Q) same ∙ here) held))
-        | inr other ↦ others x other
-      ];
-    })
+    let here : man_at Q to ≡ unpromoted c k = at-written P to (unpromoted c k) size lt in
+    record {
+      safe = λ s ls check.
+          let king : IsHeldAs c King (man_at P s) = elim (same_or_other s to) [
+            | inl same ↦
+                let h : IsHeldAs c King (unpromoted c k) =
+                subst (λ (man : Option Man). IsHeldAs c King man) (ap (man_at Q) same ∙ here) check.0 in
+                absurd (plain h.1)
+            | inr other ↦ subst (λ (man : Option Man). IsHeldAs c King man) (at-unwritten P to s (unpromoted c k) other) check.0
+          ] in
+          let before : Eases Q P (opposite c) s = record {
+            empty = λ t lt2 far empty. elim (same_or_other t to) [
+              | inl same ↦ ap (man_at P) same ∙ free
+              | inr other ↦ sym (at-unwritten P to t (unpromoted c k) other) ∙ empty
+            ];
+            men = λ x lx far held. elim (same_or_other x to) [
+              | inl same ↦ absurd (held-both c (unpromoted c k) refl
+                  (subst (λ (man : Option Man). IsHeldBy (opposite c) man) (ap (man_at Q) same ∙ here) held))
+              | inr other ↦ sym (at-unwritten P to x (unpromoted c k) other)
+            ];
+          } in
+          safe.safe s ls (king, eased-attack Q P (opposite c) s ls before check.1);
+    }
+
+pub drop-unsafe : (v : Variant) (P : Placement) (c : Colour) (k : Kind) (to : ℕ) (guard : Guard) → length P ≡ 64 → to < 64 → man_at P to ≡ None →
+    AreWatched P c guard → ¬ Has guard.answers to → ¬ IsKingSafe (place_after v P c (Drop k to)) c
+drop-unsafe v P c k to guard size lt free watched out safe =
+    let left = watched.answers to (unpromoted c k) lt out refl in
+    let s : ℕ = left.0 in
+    let king : IsUnanswered P c to (unpromoted c k) s = left.1 in
+    let other : s ≢ to = λ e. none-held_as c King (man_at P s) (ap (man_at P) e ∙ free) king.held in
+    safe.safe s king.square (
+      subst (λ (man : Option Man). IsHeldAs c King man) (sym (at-unwritten P to s (unpromoted c k) other)) king.held,
+      king.attacked,
+    )
 
 -- the half-moves of a position
 
@@ -192,12 +226,12 @@ goes-plain : (p : Position) (a b : ℕ) (promo : Option Kind) (man : Option Man)
 goes-plain p a b promo None h = absurd h
 goes-plain p a b promo (Some m) h = never-king p.to_move m.kind b promo h.2
 
-pub unguarded : (p : Position) (a set : ℕ) → length p.men ≡ 64 → IsKingSafe p.men p.to_move → AreExposed p.men p.to_move set → ¬ Has set a →
+unguarded : (p : Position) (a : ℕ) (guard : Guard) → length p.men ≡ 64 → AreWatched p.men p.to_move guard → ¬ Has guard.from a →
     IsUnguarded p a
-unguarded p a set size safe exposed out = record {
+unguarded p a guard size watched out = record {
   safe = λ b promo move usual.
-      plain-safe p.variant p.men p.to_move a b promo set size move.from move.to usual
-      (goes-held p a b promo (man_at p.men a) move.goes) (goes-plain p a b promo (man_at p.men a) move.goes) safe exposed out;
+      plain-safe p.variant p.men p.to_move a b promo guard size move.from move.to usual
+      (goes-held p a b promo (man_at p.men a) move.goes) (goes-plain p a b promo (man_at p.men a) move.goes) watched out;
 }
 
 in-hand : (p : Position) (k : Kind) → 0 < count_in (hand_of_side p p.to_move) k → k ≢ King
@@ -208,6 +242,13 @@ in-hand p Rook h e = cc
 in-hand p Queen h e = cc
 in-hand p King h e = absurd (omega arith)
 
-pub drops-safe : (p : Position) → length p.men ≡ 64 → IsKingSafe p.men p.to_move → (k : Kind) (to : ℕ) → IsMove p (Drop k to) →
-    IsSafeAfter p (Drop k to)
-drops-safe p size safe k to move = drop-safe p.variant p.men p.to_move k to size move.square move.free (in-hand p k move.held) safe
+pub guard-is : (p : Position) (guard : Guard) → length p.men ≡ 64 → AreWatched p.men p.to_move guard → IsGuard p guard
+guard-is p guard size watched = record {
+  from = λ a la out. unguarded p a guard size watched out;
+  drops = λ calm k to move.
+      drop-safe p.variant p.men p.to_move k to size move.square move.free (in-hand p k move.held) (watched.safe calm);
+  answers = λ a b promo out move man free usual.
+      plain-unsafe p.variant p.men p.to_move a b promo guard size move.from move.to usual
+      (goes-held p a b promo (man_at p.men a) move.goes) man free watched out;
+  shields = λ k to out move. drop-unsafe p.variant p.men p.to_move k to guard size move.square move.free watched out;
+}

@@ -1,5 +1,8 @@
+pub mod CheckLemmas
 pub mod GuardLemmas
+pub mod KingLemmas
 pub mod HandLemmas
+pub mod LiftLemmas
 pub mod LineLemmas
 pub mod MoveLemmas
 pub mod NamedAnswers

@@ -83,7 +83,7 @@ along-short s x k j le =
 
 -- a square on the way along a queen's line is on such a line
 
-distance-self : (s t : ℕ) → s ≡ t → distance s t ≡ 0
+pub distance-self : (s t : ℕ) → s ≡ t → distance s t ≡ 0
 distance-self s t e = ap (distance s) (sym e) ∙ zero_apart (file_of s) (rank_of s)
   where
     zero_apart : (x y : ℕ) → max (abs_diff x x) (abs_diff y y) ≡ 0

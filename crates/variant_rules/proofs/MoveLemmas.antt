@@ -1,6 +1,7 @@
 -- The moves of a man to its targets.
-use Rattle.std.proofs.Common.{arith, ◌≡◌, ◌≢◌, ℕ, ◌+◌, ◌<◌, ◌≤◌, inl, inr, List, [], ◌∷◌, ◌++◌, Bool, false, ◌&&◌, not, nat_eq, is_none, refl, sym, ap, subst, ◌∙◌, Option, Some, None}
-use Rattle.std.proofs.lemmas.Bool.{cases_order}
+use Rattle.std.proofs.Common.{arith, ◌≡◌, ◌≢◌, ℕ, ◌+◌, ◌<◌, ◌≤◌, inl, inr, List, [], ◌∷◌, ◌++◌, Bool, true, false, ◌&&◌, not, nat_eq, is_none, refl, sym, ap, subst, ◌∙◌, Option, Some, None}
+use Rattle.std.specs.Int.{abs_diff}
+use Rattle.std.proofs.lemmas.Bool.{cases_order, eq-eqb}
 use Rattle.chess_model.specs.declared.man.Colour.{Colour}
 use Rattle.chess_model.specs.declared.man.Kind.{Kind}
 use Rattle.chess_model.specs.declared.man.Kind.TheVariants.{Pawn, Knight, Bishop, Rook, Queen, King}
@@ -8,15 +9,19 @@ use Rattle.chess_model.specs.declared.man.Man.{Man}
 use Rattle.chess_model.specs.declared.moves.Move.{Move}
 use Rattle.chess_model.specs.declared.moves.Move.TheVariants.{Plain}
 use Rattle.chess_model.specs.Squares.{file_of, rank_of}
-use Rattle.chess_model.specs.Placement.{Placement, man_at, last_rank, IsHeldBy, IsHeldAs}
+use Rattle.chess_model.specs.Placement.{Placement, man_at, opposite, last_rank, IsHeldBy, IsHeldAs}
 use Rattle.chess_model.specs.Reach.{Reaches}
 use Rattle.chess_model.specs.MoveList.{is_pawn_kind, is_pawn, is_en_passant}
 use Rattle.chess_model.specs.Position.{Position}
-use Rattle.chess_model.specs.Allowed.{HasPromotion, GoesAs, IsMove}
+use Rattle.chess_model.specs.Allowed.{HasPromotion, GoesAs, IsMove, Allowed}
 use Rattle.bitboard_core.specs.Sets.{Has}
 use Rattle.bitboard_core.specs.Strikers.{IsReachSet}
-use Rattle.variant_rules.specs.Listing.{moves_between, moves_from_below, if_allowed, IsTargetSet}
-use Rattle.variant_rules.proofs.PartLemmas.{between-none, between-one, between-four, from-start, from-step}
+use Rattle.bitboard_core.proofs.SetLemmas.{Has-and, Has-and_both}
+use lib.Bits.{bit_and}
+use Rattle.variant_rules.specs.declared.guard.Guard.{Guard}
+use Rattle.variant_rules.specs.Listing.{moves_between, moves_from_below, if_allowed, IsGuard, IsTargetSet, AreGoals}
+use Rattle.variant_rules.proofs.CheckLemmas.{has_or_not, held-both, none-held}
+use Rattle.variant_rules.proofs.PartLemmas.{between-none, between-not, between-one, between-four, from-start, from-step}
 
 -- which moves a man of a kind has
 
@@ -113,15 +118,114 @@ no_move : (p : Position) (k : Kind) (a set b : ℕ) → IsHeldAs p.to_move k (ma
     (promo : Option Kind) → ¬ IsMove p (Plain a b promo)
 no_move p k a set b held all lb out promo move = out ((all.each b lb).1 (move_reaches p k a b promo held move))
 
-pub targets-start : (p : Position) (k : Kind) (a set n : ℕ) → IsHeldAs p.to_move k (man_at p.men a) → IsTargetSet p k a set → n ≤ 64 →
-    ((j : ℕ) → 0 ≤ j → j < n → ¬ Has set j) → moves_from_below p a n ≡ []
-targets-start p k a set n held all le none =
-    from-start p a n (λ j less. between-none p a j (no_move p k a set j held all (omega arith) (none j (omega arith) less)))
+pub same-some : (s t : ℕ) → Some s ≡ Some t → t ≡ s
+same-some s t e = let g : t ≡ s = cc in g
 
-pub targets-step : (p : Position) (k : Kind) (a set m n : ℕ) → IsHeldAs p.to_move k (man_at p.men a) → IsTargetSet p k a set → m < n → n ≤ 64 →
+pub none-some : (t : ℕ) → None ≡ Some t → ⊥
+none-some t e = cc
+
+-- what is left of its targets without those to which no move is allowed
+goals_of : (p : Position) (k : Kind) (a targets some : ℕ) → IsHeldAs p.to_move k (man_at p.men a) → IsTargetSet p k a targets →
+    ((b : ℕ) → b < 64 → ¬ Has some b → (promo : Option Kind) → ¬ Allowed p (Plain a b promo)) → AreGoals p k a (bit_and targets some)
+goals_of p k a targets some held all less = record {
+  reached = λ b lb h. (all.each b lb).0 (Has-and targets some b h).0;
+  others = λ b lb out promo allowed. elim (has_or_not targets b) [
+    | inl reached ↦ elim (has_or_not some b) [
+      | inl both ↦ out (Has-and_both targets some b reached both)
+      | inr left ↦ less b lb left promo allowed
+    ]
+    | inr left ↦ no_move p k a targets b held all lb left promo allowed.move
+  ];
+}
+
+pub all-goals : (p : Position) (k : Kind) (a targets : ℕ) → IsHeldAs p.to_move k (man_at p.men a) → IsTargetSet p k a targets → AreGoals p k a targets
+all-goals p k a targets held all = record {
+  reached = λ b lb h. (all.each b lb).0 h;
+  others = λ b lb out promo allowed. no_move p k a targets b held all lb out promo allowed.move;
+}
+
+goes-not_own : (P : Placement) (e : Option ℕ) (c : Colour) (k : Kind) (a b : ℕ) → k ≢ Pawn → Reaches P e c k a b → ¬ IsHeldBy c (man_at P b)
+goes-not_own P e c Pawn a b other r = absurd (other refl)
+goes-not_own P e c Knight a b other r = r.not_own
+goes-not_own P e c Bishop a b other r = r.not_own
+goes-not_own P e c Rook a b other r = r.not_own
+goes-not_own P e c Queen a b other r = r.not_own
+goes-not_own P e c King a b other r = r.not_own
+
+not-king : (c : Colour) (k : Kind) (man : Option Man) → IsHeldAs c k man → k ≢ King → ¬ IsHeldAs c King man
+not-king c k None held other h = h
+not-king c k (Some m) held other h = other (sym held.1 ∙ h.1)
+
+-- a man that is neither a pawn nor a king has no move outside the answers
+pub other-goals : (p : Position) (k : Kind) (a targets : ℕ) (guard : Guard) → k ≢ Pawn → k ≢ King → IsHeldAs p.to_move k (man_at p.men a) →
+    IsTargetSet p k a targets → IsGuard p guard → AreGoals p k a (bit_and targets guard.answers)
+other-goals p k a targets guard pawn king held all guarded =
+    goals_of p k a targets guard.answers held all (λ b lb out promo allowed.
+    guarded.answers a b promo out allowed.move (not-king p.to_move k (man_at p.men a) held king)
+    (goes-not_own p.men p.en_passant p.to_move k a b pawn (move_reaches p k a b promo held allowed.move))
+    (not_passing p.men p.to_move k a b held pawn) allowed.safe)
+
+-- a pawn that doesn't take in passing
+
+no-and : (x y : Bool) → (x && (y && false)) ≡ false
+no-and true true = refl
+no-and true false = refl
+no-and false y = refl
+
+not-both : (x y : Bool) → (x && (false && y)) ≡ false
+not-both true y = refl
+not-both false y = refl
+
+no_diff : (x y : ℕ) → abs_diff x y ≡ 0 → x ≡ y
+no_diff x y e = omega arith
+
+some-held : (c : Colour) (man : Option Man) → IsHeldBy c man → is_none man ≡ false
+some-held c None h = absurd h
+some-held c (Some m) h = refl
+
+pawn-usual : (P : Placement) (e : Option ℕ) (c : Colour) (a b : ℕ) → e ≢ Some b → Reaches P e c Pawn a b →
+    (¬ IsHeldBy c (man_at P b)) × (is_en_passant P a b ≡ false)
+pawn-usual P e c a b other r = elim r [
+  | inl push ↦ (
+    none-held c (man_at P b) push.free,
+    ap (λ (x : Bool). is_pawn (man_at P a) && (is_none (man_at P b) && not x))
+    (eq-eqb (file_of a) (file_of b) (no_diff (file_of a) (file_of b) push.file))
+    ∙ no-and (is_pawn (man_at P a)) (is_none (man_at P b)),
+  )
+  | inr takes ↦ elim (takes.enemy) [
+    | inl held ↦ (
+      λ own. held-both c (man_at P b) own held,
+      ap (λ (x : Bool). is_pawn (man_at P a) && (x && not (nat_eq (file_of a) (file_of b)))) (some-held (opposite c) (man_at P b) held)
+      ∙ not-both (is_pawn (man_at P a)) (not (nat_eq (file_of a) (file_of b))),
+    )
+    | inr passed ↦ absurd (other passed)
+  ]
+]
+
+pub king-apart : King ≢ Pawn
+king-apart e = cc
+
+pawn-apart : (e : Kind) → e ≡ Pawn → e ≢ King
+pawn-apart e here f = cc
+
+pub pawn-goals : (p : Position) (a targets some : ℕ) (guard : Guard) → IsHeldAs p.to_move Pawn (man_at p.men a) →
+    IsTargetSet p Pawn a targets → IsGuard p guard →
+    ((t : ℕ) → t < 64 → ¬ Has some t → (¬ Has guard.answers t) × (p.en_passant ≢ Some t)) → AreGoals p Pawn a (bit_and targets some)
+pawn-goals p a targets some guard held all guarded less =
+    goals_of p Pawn a targets some held all (λ b lb out promo allowed.
+    let left = less b lb out in
+    let usual = pawn-usual p.men p.en_passant p.to_move a b left.1 (move_reaches p Pawn a b promo held allowed.move) in
+    guarded.answers a b promo left.0 allowed.move (not-king p.to_move Pawn (man_at p.men a) held (pawn-apart Pawn refl)) usual.0 usual.1 allowed.safe)
+
+pub goals-start : (p : Position) (k : Kind) (a set n : ℕ) → AreGoals p k a set → n ≤ 64 → ((j : ℕ) → 0 ≤ j → j < n → ¬ Has set j) →
+    moves_from_below p a n ≡ []
+goals-start p k a set n all le none =
+    from-start p a n (λ j less. between-not p a j (all.others j (omega (arith, less, le)) (none j (omega arith) less)))
+
+pub goals-step : (p : Position) (k : Kind) (a set m n : ℕ) → AreGoals p k a set → m < n → n ≤ 64 →
     ((j : ℕ) → m + 1 ≤ j → j < n → ¬ Has set j) → moves_from_below p a n ≡ moves_from_below p a m ++ moves_between p a m
-targets-step p k a set m n held all less le none =
-    from-step p a m n less (λ j from below. between-none p a j (no_move p k a set j held all (omega arith) (none j from below)))
+goals-step p k a set m n all less le none =
+    from-step p a m n less (λ j from below. between-not p a j (all.others j (omega (arith, below, le)) (none j from below)))
 
 pub next-more : (b n : ℕ) → b < 64 → (n < 64 → b + 1 ≤ n) → n ≤ 64 → b < n
 next-more b n lb from le = elim (cases_order n 64) [

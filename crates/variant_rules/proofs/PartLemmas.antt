@@ -64,6 +64,10 @@ pub if_allowed-yes : (p : Position) (m : Move) → IsMove p m → IsSafeAfter p 
 unfolding if_allowed
 if_allowed-yes p m here safe = ap (λ (b : Bool). cond b (m ∷ []) []) (allowed-yes p m here safe)
 
+pub if_allowed-not : (p : Position) (m : Move) → ¬ Allowed p m → if_allowed p m ≡ []
+unfolding if_allowed
+if_allowed-not p m none = ap (λ (b : Bool). cond b (m ∷ []) []) (allowed-no p m none)
+
 pub if_allowed-unsafe : (p : Position) (m : Move) → ¬ IsSafeAfter p m → if_allowed p m ≡ []
 unfolding if_allowed
 if_allowed-unsafe p m bare = ap (λ (b : Bool). cond b (m ∷ []) []) (allowed-no p m (λ h. bare h.safe))
@@ -93,14 +97,17 @@ unfolding moves_between
 between-five p a b =
     filter-five p (Plain a b None) (Plain a b (Some Queen)) (Plain a b (Some Rook)) (Plain a b (Some Bishop)) (Plain a b (Some Knight))
 
-pub between-none : (p : Position) (a b : ℕ) → ((promo : Option Kind) → ¬ IsMove p (Plain a b promo)) → moves_between p a b ≡ []
-between-none p a b none =
-    let q = if_allowed-none p (Plain a b (Some Queen)) (none (Some Queen)) in
-    let r = if_allowed-none p (Plain a b (Some Rook)) (none (Some Rook)) in
-    let s = if_allowed-none p (Plain a b (Some Bishop)) (none (Some Bishop)) in
-    let t = if_allowed-none p (Plain a b (Some Knight)) (none (Some Knight)) in
-    let u = if_allowed-none p (Plain a b None) (none None) in
+pub between-not : (p : Position) (a b : ℕ) → ((promo : Option Kind) → ¬ Allowed p (Plain a b promo)) → moves_between p a b ≡ []
+between-not p a b none =
+    let q = if_allowed-not p (Plain a b (Some Queen)) (none (Some Queen)) in
+    let r = if_allowed-not p (Plain a b (Some Rook)) (none (Some Rook)) in
+    let s = if_allowed-not p (Plain a b (Some Bishop)) (none (Some Bishop)) in
+    let t = if_allowed-not p (Plain a b (Some Knight)) (none (Some Knight)) in
+    let u = if_allowed-not p (Plain a b None) (none None) in
     between-five p a b ∙ (λ i. u i ++ (q i ++ (r i ++ (s i ++ t i))))
+
+pub between-none : (p : Position) (a b : ℕ) → ((promo : Option Kind) → ¬ IsMove p (Plain a b promo)) → moves_between p a b ≡ []
+between-none p a b none = between-not p a b (λ promo h. none promo h.move)
 
 pub between-one : (p : Position) (a b : ℕ) → ((k : Kind) → ¬ IsMove p (Plain a b (Some k))) → moves_between p a b ≡ if_allowed p (Plain a b None)
 between-one p a b none =

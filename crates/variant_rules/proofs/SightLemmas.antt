@@ -34,6 +34,12 @@ king-bit P c kings s all ls held =
     ∙ bit_if-of_true (is_placed (man_place c King) (man_at P s))
     (sym (held-placed c King (man_at P s)) ∙ (Decides-held_as c King (man_at P s)).1 held)
 
+-- and nothing else
+pub king-of-bit : (P : Placement) (c : Colour) (kings s : ℕ) → AreKingsOf P c kings → s < 64 → Has kings s → IsHeldAs c King (man_at P s)
+king-of-bit P c kings s all ls h =
+    (Decides-held_as c King (man_at P s)).0
+    (held-placed c King (man_at P s) ∙ bit_if-true (is_placed (man_place c King) (man_at P s)) (sym (all.each s ls) ∙ h))
+
 -- the set of a colour's men has exactly the squares where one stands
 pub own-bit : (P : Placement) (c : Colour) (set s : ℕ) → IsSetOf (is_held_by c) P set → s < 64 → Has set s ↔ IsHeldBy c (man_at P s)
 own-bit P c set s all ls = (

@@ -7,10 +7,10 @@ use Rattle.chess_model.specs.declared.man.Kind.TheVariants.{Pawn, Knight, Bishop
 use Rattle.chess_model.specs.declared.moves.Move.{Move}
 use Rattle.chess_model.specs.declared.moves.Move.TheVariants.{Plain, Drop}
 use Rattle.chess_model.specs.MoveList.{is_en_passant}
-use Rattle.chess_model.specs.Placement.{Placement, man_at, IsHeldAs}
-use Rattle.chess_model.specs.Reach.{Strikes, Reaches}
+use Rattle.chess_model.specs.Placement.{Placement, man_at, IsHeldBy, IsHeldAs}
+use Rattle.chess_model.specs.Reach.{Reaches}
 use Rattle.chess_model.specs.Position.{Position}
-use Rattle.chess_model.specs.Allowed.{IsMove, IsSafeAfter}
+use Rattle.chess_model.specs.Allowed.{IsMove, IsSafeAfter, Allowed}
 use Rattle.chess_model.specs.Tests.{is_allowed}
 use Rattle.chess_model.specs.AllMoves.{promotions, moves_from}
 use Rattle.bitboard_core.specs.Sets.{Has}
@@ -51,15 +51,15 @@ pub record IsUnguarded (p : Position) (a : ℕ) : Type 0 where
   pub safe : (b : ℕ) (promo : Option Kind) → IsMove p (Plain a b promo) → is_en_passant p.men a b ≡ false
       → IsSafeAfter p (Plain a b promo)
 
--- the set has the kings of that colour, and every square that such a king would strike as a queen
-pub record AreExposed (P : Placement) (c : Colour) (set : ℕ) : Type 0 where
-  pub kings : (s : ℕ) → s < 64 → IsHeldAs c King (man_at P s) → Has set s
-  pub lines : (s a : ℕ) → s < 64 → a < 64 → IsHeldAs c King (man_at P s) → Strikes P c Queen s a → Has set a
-
--- which half-moves have to be tried for the safety of the own king: those from a set of squares, and, in check, drops
+-- which half-moves have to be tried for the safety of the own king: those from a set of squares and, in check, drops; and
+-- which can't leave it safe: those of other men, and drops, outside a set of squares
 pub record IsGuard (p : Position) (guard : Guard) : Type 0 where
   pub from : (a : ℕ) → a < 64 → ¬ Has guard.from a → IsUnguarded p a
   pub drops : guard.in_check ≡ false → (k : Kind) (to : ℕ) → IsMove p (Drop k to) → IsSafeAfter p (Drop k to)
+  pub answers : (a b : ℕ) (promo : Option Kind) → ¬ Has guard.answers b → IsMove p (Plain a b promo) →
+      ¬ IsHeldAs p.to_move King (man_at p.men a) → ¬ IsHeldBy p.to_move (man_at p.men b) → is_en_passant p.men a b ≡ false →
+      ¬ IsSafeAfter p (Plain a b promo)
+  pub shields : (k : Kind) (to : ℕ) → ¬ Has guard.answers to → IsMove p (Drop k to) → ¬ IsSafeAfter p (Drop k to)
 
 -- the set has the squares that a man of that colour and kind on a reaches; e is the en passant square
 pub record AreTargets (P : Placement) (e : Option ℕ) (c : Colour) (k : Kind) (a set : ℕ) : Type 0 where
@@ -68,3 +68,8 @@ pub record AreTargets (P : Placement) (e : Option ℕ) (c : Colour) (k : Kind) (
 -- the set has the squares that a man of the player to move and of that kind on a reaches
 abbrev pub IsTargetSet : Position → Kind → ℕ → ℕ → Type 0
 IsTargetSet p k a set = AreTargets p.men p.en_passant p.to_move k a set
+
+-- the set has every square to which an allowed move of the man of that kind on a goes, and none that it doesn't reach
+pub record AreGoals (p : Position) (k : Kind) (a set : ℕ) : Type 0 where
+  pub reached : (b : ℕ) → b < 64 → Has set b → Reaches p.men p.en_passant p.to_move k a b
+  pub others : (b : ℕ) → b < 64 → ¬ Has set b → (promo : Option Kind) → ¬ Allowed p (Plain a b promo)

@@ -10,6 +10,7 @@ mod answer;
 mod changes;
 mod guard;
 mod homes;
+mod kings;
 mod listing;
 mod make;
 mod position;

@@ -6,11 +6,11 @@ ghost use Rattle.chess_model.specs.Men.{is_held_by};
 ghost use Rattle.chess_model.specs.Reach.{Reaches};
 ghost use Rattle.chess_model.specs.Holdings.{count_in};
 ghost use Rattle.chess_model.specs.Position.{hand_of_side};
-ghost use Rattle.chess_model.specs.Allowed.{IsMove, IsSafeAfter};
+ghost use Rattle.chess_model.specs.Allowed.{IsMove, IsSafeAfter, Allowed};
 ghost use Rattle.chess_model.specs.AllMoves.{allowed_moves};
 ghost use Rattle.bitboard_core.specs.Sets.{Has, IsSetOf};
 ghost use Rattle.bitboard_core.specs.Strikers.{IsOccupied, IsReachSet};
-ghost use Rattle.variant_rules.specs.Listing.{moves_between, moves_from_below, plain_moves_below, drops_below, drops_listed, if_allowed, IsLeftSafe, IsUnguarded, IsGuard, AreTargets, IsTargetSet};
+ghost use Rattle.variant_rules.specs.Listing.{moves_between, moves_from_below, plain_moves_below, drops_below, drops_listed, if_allowed, IsLeftSafe, IsUnguarded, IsGuard, AreTargets, IsTargetSet, AreGoals};
 
 use crate::changes::takes_en_passant;
 use crate::guard::Guard;
@@ -26,7 +26,7 @@ use std::alloc::Global;
 const USUAL_ROOM: usize = 64;
 
 /// The set with one square more.
-fn with_square(set: u64, s: Square) -> u64
+pub(crate) fn with_square(set: u64, s: Square) -> u64
     ensures { (t : ℕ) → t < 64 → Has result t ↔ (Has set t ⊎ (t ≡ s)) }
 {
     set | 1 << s.number()
@@ -109,6 +109,7 @@ impl Position {
 
     /// Appends a half-move that is one but for the safety of the own king, where that holds too; `tried` says whether
     /// it has to be tried.
+    #[inline(always)]
     fn add(&self, out: &mut Vec<Move>, m: &Move, tried: bool) -> Result<(), NoMemory>
         requires is_move { IsMove self.now m.now }
         requires safe { tried ≡ false → IsSafeAfter self.now m.now }
@@ -175,6 +176,19 @@ impl Position {
         Ok(())
     }
 
+    /// Appends the move of a king.
+    fn add_king_move(&self, out: &mut Vec<Move>, a: Square, b: Square) -> Result<(), NoMemory>
+        requires held { IsHeldAs self.now.to_move Kind.King (man_at self.now.men a) }
+        requires reached { Reaches self.now.men self.now.en_passant self.now.to_move Kind.King a b }
+        ensures { OnOk result (out.new.items ≡ out.old.items ++ moves_between self.now a b) }
+    {
+        if !self.king_may_go(a, b) {
+            return Ok(());
+        }
+        out.push(going(a, b))?;
+        Ok(())
+    }
+
     /// Appends the move of a man that isn't a pawn.
     fn add_other_move(
         &self,
@@ -210,27 +224,56 @@ impl Position {
     {
         match k {
             Kind::Pawn => self.add_pawn_moves(out, a, b, tried),
+            Kind::King => self.add_king_move(out, a, b),
             _ => self.add_other_move(out, k, a, b, tried),
         }
     }
 
-    /// Appends the moves of a man of that kind on a to all its targets.
+    /// The set with the en passant square, if there is one.
+    fn with_passed_square(&self, set: u64) -> u64
+        ensures { (t : ℕ) → t < 64 → ¬ Has result t → (¬ Has set t) × (self.now.en_passant ≢ Some t) }
+    {
+        match self.en_passant {
+            Some(s) => with_square(set, s),
+            None => set,
+        }
+    }
+
+    /// The squares that a man of that kind on a reaches, less those where it answers no check.
+    fn goals(&self, k: Kind, a: Square, guard: &Guard) -> u64
+        requires held { IsHeldAs self.now.to_move k (man_at self.now.men a) }
+        requires guarded { IsGuard self.now guard.now }
+        ensures { AreGoals self.now k a result }
+    {
+        let targets = self.targets(k, a);
+        match k {
+            Kind::Pawn => targets & self.with_passed_square(guard.answers),
+            Kind::Knight => targets & guard.answers,
+            Kind::Bishop => targets & guard.answers,
+            Kind::Rook => targets & guard.answers,
+            Kind::Queen => targets & guard.answers,
+            Kind::King => targets,
+        }
+    }
+
+    /// Appends the moves of a man of that kind on a.
     fn add_moves_of(
         &self,
         out: &mut Vec<Move>,
         k: Kind,
         a: Square,
-        tried: bool,
+        guard: &Guard,
     ) -> Result<(), NoMemory>
         requires held { IsHeldAs self.now.to_move k (man_at self.now.men a) }
-        requires safe { tried ≡ false → IsUnguarded self.now a }
+        requires guarded { IsGuard self.now guard.now }
         ensures { OnOk result (out.new.items ≡ out.old.items ++ moves_from_below self.now a 64) }
     {
-        let targets = self.targets(k, a);
-        let mut b = next_square(targets, 0);
+        let tried = has_square(guard.from, a);
+        let goals = self.goals(k, a, guard);
+        let mut b = next_square(goals, 0);
         while b < 64 {
             self.add_moves(out, k, a, square_of(b), tried)?;
-            b = next_square(targets, b + 1);
+            b = next_square(goals, b + 1);
         }
         Ok(())
     }
@@ -242,7 +285,7 @@ impl Position {
         ensures { OnOk result (out.new.items ≡ out.old.items ++ moves_from_below self.now a 64) }
     {
         match self.men.man(a) {
-            Some(m) => self.add_moves_of(out, m.kind, a, has_square(guard.from, a)),
+            Some(m) => self.add_moves_of(out, m.kind, a, guard),
             None => Ok(()),
         }
     }
@@ -286,6 +329,14 @@ impl Position {
         Ok(())
     }
 
+    /// The empty squares where a man answers each check.
+    fn free_squares(&self, guard: &Guard) -> u64
+        requires guarded { IsGuard self.now guard.now }
+        ensures { (k : Kind) (t : ℕ) → t < 64 → ¬ Has result t → ¬ Allowed self.now (Move.Drop k t) }
+    {
+        !self.occupied_squares() & guard.answers
+    }
+
     /// Appends all drops of a kind.
     fn add_drops_of(&self, out: &mut Vec<Move>, k: Kind, guard: &Guard) -> Result<(), NoMemory>
         requires guarded { IsGuard self.now guard.now }
@@ -294,7 +345,7 @@ impl Position {
         if !self.has_in_hand(k) {
             return Ok(());
         }
-        let free = !self.occupied_squares();
+        let free = self.free_squares(guard);
         let mut t = next_square(free, 0);
         while t < 64 {
             self.add_drop(out, k, square_of(t), guard)?;
@@ -334,7 +385,8 @@ impl Position {
     }
 }
 
-fn going(from: Square, to: Square) -> Move
+#[inline(always)]
+pub(crate) fn going(from: Square, to: Square) -> Move
     ensures { result ≡ Move.Plain from to None }
 {
     Move::Plain {
@@ -344,6 +396,7 @@ fn going(from: Square, to: Square) -> Move
     }
 }
 
+#[inline(always)]
 fn promoting(from: Square, to: Square, kind: Kind) -> Move
     ensures { result ≡ Move.Plain from to (Some kind) }
 {

@@ -232,12 +232,12 @@ impl Position {
     pub(crate) fn can_castle(&self, long: bool) -> bool
         ensures { IsTrue result ↔ CanCastle self.now long }
     {
-        let king = home_of_king(self.variant, self.to_move);
-        let rook = home_of_rook(self.variant, self.to_move, long);
-        let end = end_of_king(self.to_move, long);
         if !has_right(self.rights, self.to_move, long) {
             return false;
         }
+        let king = home_of_king(self.variant, self.to_move);
+        let rook = home_of_rook(self.variant, self.to_move, long);
+        let end = end_of_king(self.to_move, long);
         if !is_free_way(&self.men, king, rook, king, end) {
             return false;
         }

@@ -24,7 +24,7 @@ pub(crate) struct Sights {
 
 /// The set after the square has changed: it has the square where the new man is one of the set's.
 #[inline]
-fn written(set: u64, s: Square, holds: bool) -> u64
+pub(crate) fn written(set: u64, s: Square, holds: bool) -> u64
     ensures { (f : Option Man → Bool) (P : Placement) (man : Option Man) → length P ≡ 64 → IsSetOf f P set
         → f man ≡ holds → IsSetOf f (slice_set P s man) result }
 {

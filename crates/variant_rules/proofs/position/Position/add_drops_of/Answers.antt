@@ -1,22 +1,12 @@
-use Rattle.std.proofs.Common.{arith, ◌≡◌, ◌++◌, ◌<◌, ◌≤◌, ◌^◌, ℕ, [], sym, ap, ◌∙◌, w64}
-use Rattle.std.specs.Int.{bit_not}
+use Rattle.std.proofs.Common.{arith, ◌≡◌, ◌++◌, ◌<◌, ◌≤◌, ℕ, sym, ap, ◌∙◌}
 use Rattle.std.proofs.lemmas.Bool.{true≢false}
 use Rattle.std.proofs.lemmas.List.{append-nil}
-use Rattle.chess_model.specs.declared.man.Kind.{Kind}
 use Rattle.chess_model.specs.declared.moves.Move.TheVariants.{Drop}
-use Rattle.chess_model.specs.Position.{Position}
-use Rattle.bitboard_core.specs.Sets.{Has}
-use Rattle.bitboard_core.specs.Strikers.{IsOccupied}
 use Rattle.variant_rules.specs.Listing.{drops_below, if_allowed}
-use Rattle.variant_rules.proofs.SightLemmas.{free-bit}
-use Rattle.variant_rules.proofs.PartLemmas.{if_allowed-none, drops-start, drops-step}
+use Rattle.variant_rules.proofs.PartLemmas.{if_allowed-not, drops-start, drops-step}
 use Rattle.variant_rules.proofs.WholeList.{no-drops-of}
 use Rattle.variant_rules.proofs.MoveLemmas.{next-more, appended}
 use Rattle.variant_rules.proofs.position.Position.add_drops_of.Goals as goal
-
-taken : (p : Position) (k : Kind) (occupied t : ℕ) → occupied < 2 ^ 64 → IsOccupied p.men occupied → t < 64 → ¬ Has (bit_not w64 occupied) t →
-    if_allowed p (Drop k t) ≡ []
-taken p k occupied t fits all lt out = if_allowed-none p (Drop k t) (λ move. free-bit p.men occupied t fits all lt out move.free)
 
 pub returns-then-not-has_in_hand : goal.returns-then-not-has_in_hand
 returns-then-not-has_in_hand c =
@@ -32,8 +22,8 @@ loop-t-init c =
     let within : n ≤ 64 = c.next_square-t.ensures.within in
     record {
       done = sym (ap (λ x. out ++ x) (drops-start p c.args.k n (λ t less.
-          taken p c.args.k c.occupied_squares-free.result t c.occupied_squares-free.type_inv c.occupied_squares-free.ensures (omega (arith, less, within))
-          (c.next_square-t.ensures.first t (omega arith) less)))
+          if_allowed-not p (Drop c.args.k t)
+          (c.free_squares-free.ensures c.args.k t (omega (arith, less, within)) (c.next_square-t.ensures.first t (omega arith) less))))
           ∙ append-nil out);
       here = c.next_square-t.ensures.found;
       within = within;
@@ -48,8 +38,7 @@ loop-t-preserved c =
     let next = c.next_square-t-in-loop-t.ensures in
     let within : n ≤ 64 = next.within in
     let more = drops-step p k t n (next-more t n c.loop-t-test.true next.from within) (λ u from less.
-    taken p k c.occupied_squares-free.result u c.occupied_squares-free.type_inv c.occupied_squares-free.ensures (omega (arith, less, within))
-    (next.first u from less))
+    if_allowed-not p (Drop k u) (c.free_squares-free.ensures k u (omega (arith, less, within)) (next.first u from less)))
     ∙ ap (λ (u : ℕ). drops_below p k t ++ if_allowed p (Drop k u)) (sym c.square_of.ensures) in
     record {
       done = c.in_ok-add_drop.ensures
