@@ -16,7 +16,6 @@ import os
 import random
 import re
 import shutil
-import socket
 import subprocess
 import sys
 import tempfile
@@ -25,7 +24,7 @@ import threading
 HERE = os.path.dirname(os.path.abspath(__file__))
 sys.path[:0] = [HERE, os.path.join(HERE, "..", "serve"), os.path.join(HERE, "..")]
 sys.dont_write_bytecode = True
-from link import Link  # noqa: E402
+from link import Link, free_port, started  # noqa: E402
 from measure import program_of  # noqa: E402
 from pairs import tries  # noqa: E402
 
@@ -239,19 +238,6 @@ def try_bot(server_port, face_port, games, folder):
         os.close(display_read)
         os.close(display_write)
     return wrong
-
-
-def free_port():
-    with socket.create_server(("127.0.0.1", 0)) as it:
-        return it.getsockname()[1]
-
-
-def started(words):
-    """A program that has written `ready`."""
-    process = subprocess.Popen(words, stdout=subprocess.PIPE, text=True)
-    if process.stdout.readline().strip() != "ready":
-        raise SystemExit(f"{words[0]} doesn't run")
-    return process
 
 
 def main():
