@@ -1,6 +1,6 @@
 #!/usr/bin/env python3
-"""An example of a client: it speaks the server's own lines and plays a whole game of chess. It knows no rules: it tries
-one word after the other until the server takes it.
+"""An example of a client: it speaks the server's own lines and plays a whole game of chess. It leaves the rules to the
+server: it tries one word after the other until one is taken.
 
 usage: example.py PORT                   plays against itself, over two links
        example.py PORT NAME              enters as NAME, and accepts whoever challenges it
@@ -92,10 +92,16 @@ class Player:
         print(self.name, self.end or self.board[SHORT_FORM], flush=True)
 
     def words(self):
-        """From each man of its own to each square, in any order."""
+        """From each man of its own to each square without one to which some kind of man goes, in any order."""
         is_own = str.isupper if self.board[SIDE] == "W" else str.islower
-        words = [start + end for start, man in zip(SQUARES, "".join(self.board[1:9])) if is_own(man) for end in SQUARES]
+        own = {square for square, man in zip(SQUARES, "".join(self.board[1:9])) if is_own(man)}
+        words = [start + end for start in own for end in SQUARES if end not in own and is_line_or_jump(start, end)]
         return random.sample(words, len(words))
+
+
+def is_line_or_jump(start, end):
+    across, up = abs(ord(start[0]) - ord(end[0])), abs(int(start[1]) - int(end[1]))
+    return across == up or 0 in (across, up) or across * up == 2
 
 
 def main(port, name="guest", opponent=None):
