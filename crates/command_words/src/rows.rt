@@ -118,8 +118,8 @@ pub const ROWS: [Row; 44] = [
     // `alias NAME TEXT`: lets NAME, 1 to 15 lower-case letters, stand for TEXT at the beginning of a line; at most
     // 32.
     Row(*b"alias    ", b' ', Takes::Alias),
-    // `+censor H`: puts H on the list of those whom one neither hears nor plays, at most 100;
-    // [below](#keeping-others-away).
+    // `+censor H`: puts H on the list of those who can't tell one anything, challenge one or take one's seek, at most
+    // 100; [below](#keeping-others-away).
     Row(*b"+censor  ", b' ', Takes::Name(ByName::AddCensor)),
     // `-censor H`: takes H off that list.
     Row(*b"-censor  ", b' ', Takes::Name(ByName::DropCensor)),
@@ -148,7 +148,7 @@ pub const ROWS: [Row; 44] = [
     // bughouse both must have a partner: where H accepts, the partners sit down at a second board, each with the
     // colour that its partner doesn't have.
     Row(*b"match    ", b'm', Takes::Challenge),
-    // `+noplay H`: puts H on the list of those with whom one doesn't play, at most 100.
+    // `+noplay H`: puts H on the list of those who can't challenge one or take one's seek, at most 100.
     Row(*b"+noplay  ", b' ', Takes::Name(ByName::AddNoplay)),
     // `-noplay H`: takes H off that list.
     Row(*b"-noplay  ", b' ', Takes::Name(ByName::DropNoplay)),
