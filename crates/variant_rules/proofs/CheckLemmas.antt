@@ -1,16 +1,16 @@
 -- Attacks on a square before and after a man comes or goes.
-use Rattle.std.proofs.Common.{arith, ◌≡◌, ◌≢◌, ◌⊎◌, ℕ, ◌<◌, ◌≤◌, inl, inr, length, Bool, true, false, ◌||◌, refl, sym, ap, subst, ◌∙◌, Option, Some, None}
+use Rattle.std.proofs.Common.{arith, ◌≡◌, ◌≢◌, ◌⊎◌, ℕ, not, nat_eq, ◌<◌, inl, inr, length, Bool, true, false, ◌||◌, refl, sym, ap, subst, ◌∙◌, Option, Some, None}
 use Rattle.std.specs.Prelude.{slice_set}
 use Rattle.std.proofs.lemmas.Bool.{cases_order}
-use Rattle.std.proofs.lemmas.List.{length-set, get_or-set_other, get_or-set_same}
-use Rattle.std.proofs.lemmas.Nat.Bits.{bit_at-lt}
+use Rattle.std.proofs.lemmas.Bool.Decides.{eqb_tells}
+use Rattle.std.proofs.lemmas.List.{get_or-set_other, get_or-set_same}
 use Rattle.std.specs.Int.{bit_at}
 use Rattle.chess_model.specs.declared.man.Colour.{Colour}
 use Rattle.chess_model.specs.declared.man.Colour.TheVariants.{White, Black}
 use Rattle.chess_model.specs.declared.man.Kind.{Kind}
 use Rattle.chess_model.specs.declared.man.Kind.TheVariants.{Pawn, Knight, Bishop, Rook, Queen, King}
 use Rattle.chess_model.specs.declared.man.Man.{Man}
-use Rattle.chess_model.specs.Squares.{files_apart, ranks_apart, distance, along}
+use Rattle.chess_model.specs.Squares.{distance, along}
 use Rattle.chess_model.specs.Placement.{Placement, man_at, opposite, IsHeldBy}
 use Rattle.chess_model.specs.Reach.{IsStep, Clear, Strikes}
 use Rattle.chess_model.specs.Attacked.{StrikesAs, StrikesFrom, IsAttacked}
@@ -29,6 +29,13 @@ has_or_not set t = elim (cases_order (bit_at set t) 1) [
 pub neither : (x y : Bool) → (x || y) ≡ false → (x ≡ false) × (y ≡ false)
 neither true y e = cc
 neither false y e = (refl, e)
+
+pub one_of : (x y : Bool) → (x || y) ≡ true → (x ≡ true) ⊎ (y ≡ true)
+one_of true y e = inl refl
+one_of false y e = inr e
+
+pub some-not : (n : ℕ) → n ≢ 0 → not (nat_eq n 0) ≡ true
+some-not n other = elim (eqb_tells n 0) [ inl same ↦ absurd (other same.1) | inr apart ↦ ap not apart.0 ]
 
 -- men of both colours
 
@@ -153,12 +160,14 @@ bare-from P c s a size la h =
     let Q : Placement = slice_set P a None in
     let here : StrikesAs Q (opposite c) x s (man_at Q x) = h.2 in
     let apart : x ≢ a = λ e.
-      none-held (opposite c) (man_at Q x) (ap (man_at Q) e ∙ at-written P a None size la) (strikes-held Q (opposite c) x s (man_at Q x) here) in
-    (x, record {
-      square = h.1;
-      apart = apart;
-      strikes = subst (λ (man : Option Man). StrikesAs Q (opposite c) x s man) (at-unwritten P a x None apart) here;
-    })
+    none-held (opposite c) (man_at Q x) (ap (man_at Q) e ∙ at-written P a None size la) (strikes-held Q (opposite c) x s (man_at Q x) here) in (
+      x,
+      record {
+        square = h.1;
+        apart = apart;
+        strikes = subst (λ (man : Option Man). StrikesAs Q (opposite c) x s man) (at-unwritten P a x None apart) here;
+      },
+    )
 
 pub bare-strikes : (P : Placement) (c : Colour) (s a x : ℕ) → length P ≡ 64 → a < 64 → IsBareFrom P c s a x →
     StrikesFrom (slice_set P a None) (opposite c) x s

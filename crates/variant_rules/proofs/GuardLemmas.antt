@@ -3,7 +3,6 @@ use Rattle.std.proofs.Common.{arith, ◌≡◌, ◌≢◌, ℕ, ◌<◌, inl, in
 use Rattle.std.specs.Prelude.{slice_set}
 use Rattle.std.proofs.lemmas.List.{length-set, get_or-set_other, get_or-set_same}
 use Rattle.chess_model.specs.declared.man.Colour.{Colour}
-use Rattle.chess_model.specs.declared.man.Colour.TheVariants.{White, Black}
 use Rattle.chess_model.specs.declared.man.Kind.{Kind}
 use Rattle.chess_model.specs.declared.man.Kind.TheVariants.{Pawn, Knight, Bishop, Rook, Queen, King}
 use Rattle.chess_model.specs.declared.man.Man.{Man}
@@ -14,7 +13,7 @@ use Rattle.chess_model.specs.Attacked.{IsKingSafe}
 use Rattle.chess_model.specs.MoveList.{is_en_passant, taking_square, landed, place_after}
 use Rattle.chess_model.specs.Holdings.{count_in}
 use Rattle.chess_model.specs.Position.{Position, hand_of_side}
-use Rattle.chess_model.specs.Allowed.{IsPromotion, HasPromotion, GoesAs, IsMove, IsSafeAfter}
+use Rattle.chess_model.specs.Allowed.{IsPromotion, HasPromotion, GoesAs}
 use Rattle.bitboard_core.specs.Sets.{Has}
 use Rattle.variant_rules.specs.declared.guard.Guard.{Guard}
 use Rattle.variant_rules.specs.Checks.{IsBare, IsUnanswered, AreWatched}
@@ -244,11 +243,13 @@ in-hand p King h e = absurd (omega arith)
 
 pub guard-is : (p : Position) (guard : Guard) → length p.men ≡ 64 → AreWatched p.men p.to_move guard → IsGuard p guard
 guard-is p guard size watched = record {
+  safe = watched.safe;
+  check = watched.check;
   from = λ a la out. unguarded p a guard size watched out;
   drops = λ calm k to move.
       drop-safe p.variant p.men p.to_move k to size move.square move.free (in-hand p k move.held) (watched.safe calm);
   answers = λ a b promo out move man free usual.
       plain-unsafe p.variant p.men p.to_move a b promo guard size move.from move.to usual
       (goes-held p a b promo (man_at p.men a) move.goes) man free watched out;
-  shields = λ k to out move. drop-unsafe p.variant p.men p.to_move k to guard size move.square move.free watched out;
+  shields = λ k to lt out free. drop-unsafe p.variant p.men p.to_move k to guard size lt free watched out;
 }

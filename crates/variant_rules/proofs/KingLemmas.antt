@@ -10,11 +10,11 @@ use Rattle.chess_model.specs.Placement.{Placement, man_at, opposite, IsHeldBy, I
 use Rattle.chess_model.specs.Attacked.{IsAttacked, IsKingSafe}
 use Rattle.chess_model.specs.MoveList.{is_en_passant, place_after}
 use Rattle.bitboard_core.specs.declared.sides.Side.{Side}
-use Rattle.bitboard_core.specs.Sets.{Has, IsSetOf, bit_if}
+use Rattle.bitboard_core.specs.Sets.{IsSetOf, bit_if}
 use Rattle.bitboard_core.specs.Strikers.{man_place, is_placed, AreMenOf}
 use Rattle.variant_rules.specs.Checks.{IsOnlyKing}
 use Rattle.variant_rules.proofs.LineLemmas.{same_or_other}
-use Rattle.variant_rules.proofs.CheckLemmas.{Eases, eased-attack, held-both, none-held, at-written, at-unwritten}
+use Rattle.variant_rules.proofs.CheckLemmas.{Eases, eased-attack, at-written, at-unwritten}
 use Rattle.variant_rules.proofs.GuardLemmas.{at-target, at-origin, at-others, held_by, none-held_as, target}
 use Rattle.variant_rules.proofs.LiftLemmas.{own-unplaced}
 

@@ -33,6 +33,14 @@ lift_man (suc n) man = None
 unfoldable pub lifted : Placement → ℕ → Placement
 lifted P set = map (λ t. lift_man (bit_at set t) (man_at P t)) (range_with_len 0 64)
 
+no-bit : (set t : ℕ) → ¬ Has set t → bit_at set t ≡ 0
+no-bit set t out = none (bit_at set t) (bit_at-lt set t) out
+  where
+    none : (n : ℕ) → n < 2 → n ≢ 1 → n ≡ 0
+    none zero l other = refl
+    none (suc zero) l other = absurd (other refl)
+    none (suc (suc n)) l other = absurd (omega arith)
+
 lifted-at : (P : Placement) (set t : ℕ) → t < 64 → man_at (lifted P set) t ≡ lift_man (bit_at set t) (man_at P t)
 unfolding lifted
 lifted-at P set t lt = get_or-map-range_with_len (λ u. lift_man (bit_at set u) (man_at P u)) 0 64 t t None lt (zero-add t)
@@ -41,12 +49,7 @@ lifted-in : (P : Placement) (set t : ℕ) → t < 64 → Has set t → man_at (l
 lifted-in P set t lt h = lifted-at P set t lt ∙ ap (λ n. lift_man n (man_at P t)) h
 
 lifted-out : (P : Placement) (set t : ℕ) → t < 64 → ¬ Has set t → man_at (lifted P set) t ≡ man_at P t
-lifted-out P set t lt out = lifted-at P set t lt ∙ ap (λ n. lift_man n (man_at P t)) (none (bit_at set t) (bit_at-lt set t) out)
-  where
-    none : (n : ℕ) → n < 2 → n ≢ 1 → n ≡ 0
-    none zero l other = refl
-    none (suc zero) l other = absurd (other refl)
-    none (suc (suc n)) l other = absurd (omega arith)
+lifted-out P set t lt out = lifted-at P set t lt ∙ ap (λ n. lift_man n (man_at P t)) (no-bit set t out)
 
 lifted-none : (P : Placement) (set t : ℕ) → t < 64 → man_at P t ≡ None → man_at (lifted P set) t ≡ None
 lifted-none P set t lt free = elim (has_or_not set t) [
@@ -66,7 +69,7 @@ lifted-occupied P occupied set fits all = record {
         less ∙ ap (λ (o : Option Man). bit_if (is_some o)) (sym (lifted-in P set t lt here))
     | inr out ↦
         let same : bit_at (bit_and occupied (bit_not w64 set)) t ≡ bit_at occupied t =
-        omega (arith, out, bit_at_and occupied (bit_not w64 set) t, bit_at_not w64 set t fits lt, bit_at-lt occupied t, bit_at-lt set t) in
+        omega (arith, no-bit set t out, bit_at_and occupied (bit_not w64 set) t, bit_at_not w64 set t fits lt, bit_at-lt occupied t) in
         same ∙ all.each t lt ∙ ap (λ (o : Option Man). bit_if (is_some o)) (sym (lifted-out P set t lt out))
   ];
 }

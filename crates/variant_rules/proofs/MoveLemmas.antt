@@ -189,14 +189,14 @@ pawn-usual P e c a b other r = elim r [
   | inl push ↦ (
     none-held c (man_at P b) push.free,
     ap (λ (x : Bool). is_pawn (man_at P a) && (is_none (man_at P b) && not x))
-    (eq-eqb (file_of a) (file_of b) (no_diff (file_of a) (file_of b) push.file))
-    ∙ no-and (is_pawn (man_at P a)) (is_none (man_at P b)),
+        (eq-eqb (file_of a) (file_of b) (no_diff (file_of a) (file_of b) push.file))
+        ∙ no-and (is_pawn (man_at P a)) (is_none (man_at P b)),
   )
   | inr takes ↦ elim (takes.enemy) [
     | inl held ↦ (
       λ own. held-both c (man_at P b) own held,
       ap (λ (x : Bool). is_pawn (man_at P a) && (x && not (nat_eq (file_of a) (file_of b)))) (some-held (opposite c) (man_at P b) held)
-      ∙ not-both (is_pawn (man_at P a)) (not (nat_eq (file_of a) (file_of b))),
+          ∙ not-both (is_pawn (man_at P a)) (not (nat_eq (file_of a) (file_of b))),
     )
     | inr passed ↦ absurd (other passed)
   ]

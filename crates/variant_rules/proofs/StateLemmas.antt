@@ -11,7 +11,7 @@ use Rattle.chess_model.specs.declared.moves.Move.{Move}
 use Rattle.chess_model.specs.declared.moves.Move.TheVariants.{Plain, Castle, Drop}
 use Rattle.chess_model.specs.declared.variant.Variant.TheVariants.{Chess, Crazyhouse, Bughouse, Fischer}
 use Rattle.chess_model.specs.declared.variant.Variant.{Variant}
-use Rattle.chess_model.specs.Placement.{man_at, IsHeldAs, IsHeldBy}
+use Rattle.chess_model.specs.Placement.{man_at, IsHeldBy}
 use Rattle.chess_model.specs.Holdings.{count_in}
 use Rattle.chess_model.specs.Position.{Position, hand_of_side}
 use Rattle.chess_model.specs.Allowed.{IsPromotion, HasPromotion, GoesAs, HasDrops, Allowed}
@@ -20,9 +20,8 @@ use Rattle.chess_model.specs.declared.states.State.{State}
 use Rattle.chess_model.specs.declared.states.State.TheVariants.{Safe, Check, Mate, Stalemate}
 use Rattle.chess_model.specs.Result.{state_of, IsOnBoard, HasAnswer, Shields, IsState}
 use Rattle.bitboard_core.specs.Sets.{Has}
-use Rattle.variant_rules.specs.Listing.{IsTargetSet}
+use Rattle.variant_rules.specs.Listing.{AreGoals}
 use Rattle.variant_rules.specs.States.{NoneFrom, CanMove, CanDropAny, CanBeShielded}
-use Rattle.variant_rules.proofs.MoveLemmas.{move_reaches}
 
 pub can-move : (p : Position) (a b : ℕ) (promo : Option Kind) → Allowed p (Plain a b promo) → CanMove p
 unfolding CanMove
@@ -75,20 +74,19 @@ five-none p a b n q r s t (Some King) h = (goes-becomes p a b (Some King) (man_a
 pub record NoneBelow (p : Position) (a n : ℕ) : Type 0 where
   pub none : (b : ℕ) → b < n → (promo : Option Kind) → ¬ Allowed p (Plain a b promo)
 
-pub none-start : (p : Position) (k : Kind) (a set n : ℕ) → IsHeldAs p.to_move k (man_at p.men a) → IsTargetSet p k a set → n ≤ 64 →
-    ((j : ℕ) → 0 ≤ j → j < n → ¬ Has set j) → NoneBelow p a n
-none-start p k a set n held all le out = record {
-  none = λ b less promo h. out b (omega arith) less ((all.each b (omega arith)).1 (move_reaches p k a b promo held h.move));
+pub none-start : (p : Position) (k : Kind) (a set n : ℕ) → AreGoals p k a set → n ≤ 64 → ((j : ℕ) → 0 ≤ j → j < n → ¬ Has set j) → NoneBelow p a n
+none-start p k a set n all le out = record {
+  none = λ b less promo h. all.others b (omega (arith, less, le)) (out b (omega arith) less) promo h;
 }
 
-pub none-step : (p : Position) (k : Kind) (a set m n : ℕ) → IsHeldAs p.to_move k (man_at p.men a) → IsTargetSet p k a set → n ≤ 64 →
-    NoneBelow p a m → ((promo : Option Kind) → ¬ Allowed p (Plain a m promo)) → ((j : ℕ) → m + 1 ≤ j → j < n → ¬ Has set j) → NoneBelow p a n
-none-step p k a set m n held all le old here out = record {
+pub none-step : (p : Position) (k : Kind) (a set m n : ℕ) → AreGoals p k a set → n ≤ 64 → NoneBelow p a m →
+    ((promo : Option Kind) → ¬ Allowed p (Plain a m promo)) → ((j : ℕ) → m + 1 ≤ j → j < n → ¬ Has set j) → NoneBelow p a n
+none-step p k a set m n all le old here out = record {
   none = λ b less promo h. elim (cases_order b m) [
     | inl same ↦ here promo (subst (λ (x : ℕ). Allowed p (Plain a x promo)) same h)
     | inr other ↦ elim other [
       | inl before ↦ old.none b before promo h
-      | inr after ↦ out b (omega (arith, after)) less ((all.each b (omega arith)).1 (move_reaches p k a b promo held h.move))
+      | inr after ↦ all.others b (omega (arith, less, le)) (out b (omega (arith, after)) less) promo h
     ]
   ];
 }

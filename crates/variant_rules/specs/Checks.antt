@@ -1,5 +1,5 @@
 -- Which men keep the enemy from a king, and where a check is answered (FIDE Laws 3.9).
-use Rattle.std.specs.Prelude.{◌≡◌, ℕ, ◌<◌, ◌⊎◌, Bool, false, Option, None, slice_set}
+use Rattle.std.specs.Prelude.{◌≡◌, ℕ, ◌<◌, ◌⊎◌, true, false, Option, None, slice_set}
 use Rattle.chess_model.specs.declared.man.Colour.{Colour}
 use Rattle.chess_model.specs.declared.man.Kind.TheVariants.{Queen, King}
 use Rattle.chess_model.specs.declared.man.Man.{Man}
@@ -39,18 +39,26 @@ pub record IsWatch (P : Placement) (c : Colour) (s : ℕ) (guard : Guard) : Type
   pub pinned : ArePinned P c s guard.from
   pub answers : AreAnswers P c s guard.answers
   pub safe : guard.in_check ≡ false → ¬ IsAttacked P (opposite c) s
+  pub check : guard.in_check ≡ true → IsAttacked P (opposite c) s
 
 -- what two kings tell: each may be in check, have men that keep the enemy from it, and leave squares without an answer
 pub record IsJoined (one two guard : Guard) : Type 0 where
   pub from : (t : ℕ) → Has one.from t ⊎ Has two.from t → Has guard.from t
   pub answers : (t : ℕ) → ¬ Has guard.answers t → (¬ Has one.answers t) ⊎ (¬ Has two.answers t)
   pub safe : guard.in_check ≡ false → (one.in_check ≡ false) × (two.in_check ≡ false)
+  pub check : guard.in_check ≡ true → (one.in_check ≡ true) ⊎ (two.in_check ≡ true)
 
 -- a king of that colour that is attacked past that man on b
 pub record IsUnanswered (P : Placement) (c : Colour) (b : ℕ) (man : Option Man) (s : ℕ) : Type 0 where
   pub square : s < 64
   pub held : IsHeldAs c King (man_at P s)
   pub attacked : IsAttackedPast P c s b man
+
+-- a king of that colour on s is attacked
+pub record IsKingAttacked (P : Placement) (c : Colour) (s : ℕ) : Type 0 where
+  pub square : s < 64
+  pub held : IsHeldAs c King (man_at P s)
+  pub attacked : IsAttacked P (opposite c) s
 
 -- what the kings of that colour tell
 pub record AreWatched (P : Placement) (c : Colour) (guard : Guard) : Type 0 where
@@ -59,6 +67,7 @@ pub record AreWatched (P : Placement) (c : Colour) (guard : Guard) : Type 0 wher
   pub answers : (b : ℕ) (man : Option Man) → b < 64 → ¬ Has guard.answers b → IsHeldBy c man →
       (s : ℕ) × IsUnanswered P c b man s
   pub safe : guard.in_check ≡ false → IsKingSafe P c
+  pub check : guard.in_check ≡ true → ¬ IsKingSafe P c
 
 -- no king of that colour stands outside a
 pub record IsOnlyKing (P : Placement) (c : Colour) (a : ℕ) : Type 0 where

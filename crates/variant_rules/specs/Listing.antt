@@ -1,5 +1,5 @@
 -- The list of allowed half-moves, part by part.
-use Rattle.std.specs.Prelude.{◌≡◌, ℕ, ◌<◌, ◌↔◌, false, List, [], ◌∷◌, ◌++◌, map, Option}
+use Rattle.std.specs.Prelude.{◌≡◌, ℕ, ◌<◌, ◌↔◌, true, false, List, [], ◌∷◌, ◌++◌, map, Option, None}
 use Rattle.std.specs.List.{filter, flat_map, range_with_len}
 use Rattle.chess_model.specs.declared.man.Colour.{Colour}
 use Rattle.chess_model.specs.declared.man.Kind.{Kind}
@@ -9,6 +9,7 @@ use Rattle.chess_model.specs.declared.moves.Move.TheVariants.{Plain, Drop}
 use Rattle.chess_model.specs.MoveList.{is_en_passant}
 use Rattle.chess_model.specs.Placement.{Placement, man_at, IsHeldBy, IsHeldAs}
 use Rattle.chess_model.specs.Reach.{Reaches}
+use Rattle.chess_model.specs.Attacked.{IsKingSafe}
 use Rattle.chess_model.specs.Position.{Position}
 use Rattle.chess_model.specs.Allowed.{IsMove, IsSafeAfter, Allowed}
 use Rattle.chess_model.specs.Tests.{is_allowed}
@@ -54,12 +55,14 @@ pub record IsUnguarded (p : Position) (a : ℕ) : Type 0 where
 -- which half-moves have to be tried for the safety of the own king: those from a set of squares and, in check, drops; and
 -- which can't leave it safe: those of other men, and drops, outside a set of squares
 pub record IsGuard (p : Position) (guard : Guard) : Type 0 where
+  pub safe : guard.in_check ≡ false → IsKingSafe p.men p.to_move
+  pub check : guard.in_check ≡ true → ¬ IsKingSafe p.men p.to_move
   pub from : (a : ℕ) → a < 64 → ¬ Has guard.from a → IsUnguarded p a
   pub drops : guard.in_check ≡ false → (k : Kind) (to : ℕ) → IsMove p (Drop k to) → IsSafeAfter p (Drop k to)
   pub answers : (a b : ℕ) (promo : Option Kind) → ¬ Has guard.answers b → IsMove p (Plain a b promo) →
       ¬ IsHeldAs p.to_move King (man_at p.men a) → ¬ IsHeldBy p.to_move (man_at p.men b) → is_en_passant p.men a b ≡ false →
       ¬ IsSafeAfter p (Plain a b promo)
-  pub shields : (k : Kind) (to : ℕ) → ¬ Has guard.answers to → IsMove p (Drop k to) → ¬ IsSafeAfter p (Drop k to)
+  pub shields : (k : Kind) (to : ℕ) → to < 64 → ¬ Has guard.answers to → man_at p.men to ≡ None → ¬ IsSafeAfter p (Drop k to)
 
 -- the set has the squares that a man of that colour and kind on a reaches; e is the en passant square
 pub record AreTargets (P : Placement) (e : Option ℕ) (c : Colour) (k : Kind) (a set : ℕ) : Type 0 where

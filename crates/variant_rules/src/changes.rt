@@ -23,7 +23,7 @@ pub(crate) fn is_a_pawn(man: Option<Man>) -> bool
     }
 }
 
-fn is_pawn_of_kind(k: Kind) -> bool
+pub(crate) fn is_pawn_of_kind(k: Kind) -> bool
     ensures { result ≡ is_pawn_kind k }
 {
     match k {

@@ -26,7 +26,12 @@ fn is_attacked_without(men: &Bits, c: Colour, a: Square, b: Square) -> bool
     ensures { IsTrue result ↔ IsAttacked (slice_set men.now a None) (opposite c) b }
 {
     let enemy = c.opposite();
-    is_struck(&men.side(enemy), enemy, written(men.occupied(), a, false), b)
+    is_struck(
+        &men.side(enemy),
+        enemy,
+        written(men.occupied(), a, false),
+        b,
+    )
 }
 
 impl Position {

@@ -240,7 +240,7 @@ impl Position {
     }
 
     /// The squares that a man of that kind on a reaches, less those where it answers no check.
-    fn goals(&self, k: Kind, a: Square, guard: &Guard) -> u64
+    pub(crate) fn goals(&self, k: Kind, a: Square, guard: &Guard) -> u64
         requires held { IsHeldAs self.now.to_move k (man_at self.now.men a) }
         requires guarded { IsGuard self.now guard.now }
         ensures { AreGoals self.now k a result }

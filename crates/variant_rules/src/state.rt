@@ -4,13 +4,15 @@ ghost use Rattle.chess_model.specs.Attacked.{IsKingSafe};
 ghost use Rattle.chess_model.specs.Placement.{man_at, unpromoted, IsHeldAs};
 ghost use Rattle.chess_model.specs.Allowed.{Allowed};
 ghost use Rattle.chess_model.specs.Result.{state_of, HasAnswer, Shields};
+ghost use Rattle.variant_rules.specs.Listing.{IsGuard, AreGoals};
 ghost use Rattle.variant_rules.specs.States.{state_in, NoneFrom, CanMove, CanDropAny, CanBeShielded};
 
-use crate::changes::unpromoted_man;
+use crate::changes::{is_pawn_of_kind, unpromoted_man};
+use crate::guard::Guard;
 use crate::position::Position;
 use crate::rules::has_drops;
 use crate::sights::sights_of;
-use bitboard_core::{next_square, square_of};
+use bitboard_core::{has_square, next_square, square_of};
 use chess_model::{Kind, Man, Move, Square, State, Variant};
 
 /// The state by the variant, whether the player is in check, and whether there is an answer.
@@ -31,13 +33,6 @@ fn state_by(v: Variant, in_check: bool, has_answer: bool) -> State
 }
 
 impl Position {
-    /// Whether the own king isn't attacked.
-    fn is_safe(&self) -> bool
-        ensures { IsTrue result ↔ IsKingSafe self.now.men self.now.to_move }
-    {
-        sights_of(&self.men, self.to_move).are_safe(self.to_move)
-    }
-
     fn may_go(&self, from: Square, to: Square, promo: Option<Kind>) -> bool
         ensures { IsTrue result ↔ Allowed self.now (Move.Plain from to promo) }
     {
@@ -64,19 +59,39 @@ impl Position {
         self.may_go(a, b, Some(Kind::Knight))
     }
 
+    /// Whether the own man of that kind on a, which isn't a pawn, has a move that needn't be tried.
+    fn goes_untried(&self, k: Kind, a: Square, goals: u64, guard: &Guard) -> bool
+        requires held { IsHeldAs self.now.to_move k (man_at self.now.men a) }
+        requires all { AreGoals self.now k a goals }
+        requires guarded { IsGuard self.now guard.now }
+        ensures { IsTrue result → CanMove self.now }
+    {
+        if is_pawn_of_kind(k) {
+            return false;
+        }
+        if has_square(guard.from, a) {
+            return false;
+        }
+        next_square(goals, 0) < 64
+    }
+
     /// Whether some move of the own man of that kind on a is allowed.
-    fn can_leave_as(&self, k: Kind, a: Square) -> bool
-        requires { IsHeldAs self.now.to_move k (man_at self.now.men a) }
+    fn can_leave_as(&self, k: Kind, a: Square, guard: &Guard) -> bool
+        requires held { IsHeldAs self.now.to_move k (man_at self.now.men a) }
+        requires guarded { IsGuard self.now guard.now }
         ensures some { IsTrue result → CanMove self.now }
         ensures none { IsFalse result → NoneFrom self.now a }
     {
-        let targets = self.targets(k, a);
-        let mut b = next_square(targets, 0);
+        let goals = self.goals(k, a, guard);
+        if self.goes_untried(k, a, goals, guard) {
+            return true;
+        }
+        let mut b = next_square(goals, 0);
         while b < 64 {
             if self.can_go(a, square_of(b)) {
                 return true;
             }
-            b = next_square(targets, b + 1);
+            b = next_square(goals, b + 1);
         }
         false
     }
@@ -88,35 +103,38 @@ impl Position {
     }
 
     /// Whether some move of the man m on a is allowed.
-    fn can_leave_with(&self, m: Man, a: Square) -> bool
-        requires { man_at self.now.men a ≡ Some m }
+    fn can_leave_with(&self, m: Man, a: Square, guard: &Guard) -> bool
+        requires stands { man_at self.now.men a ≡ Some m }
+        requires guarded { IsGuard self.now guard.now }
         ensures some { IsTrue result → CanMove self.now }
         ensures none { IsFalse result → NoneFrom self.now a }
     {
         if !self.is_own(m) {
             return false;
         }
-        self.can_leave_as(m.kind, a)
+        self.can_leave_as(m.kind, a, guard)
     }
 
     /// Whether some move from a is allowed.
-    fn can_leave(&self, a: Square) -> bool
+    fn can_leave(&self, a: Square, guard: &Guard) -> bool
+        requires { IsGuard self.now guard.now }
         ensures some { IsTrue result → CanMove self.now }
         ensures none { IsFalse result → NoneFrom self.now a }
     {
         match self.man(a) {
-            Some(m) => self.can_leave_with(m, a),
+            Some(m) => self.can_leave_with(m, a, guard),
             None => false,
         }
     }
 
     /// Whether some plain move is allowed.
-    fn can_leave_some(&self) -> bool
+    fn can_leave_some(&self, guard: &Guard) -> bool
+        requires { IsGuard self.now guard.now }
         ensures some { IsTrue result → CanMove self.now }
         ensures none { IsFalse result → (a : ℕ) → a < 64 → NoneFrom self.now a }
     {
         for a in 0..64 {
-            if self.can_leave(square_of(a)) {
+            if self.can_leave(square_of(a), guard) {
                 return true;
             }
         }
@@ -130,10 +148,11 @@ impl Position {
     }
 
     /// Whether some plain move or castling is allowed.
-    fn can_move(&self) -> bool
+    fn can_move(&self, guard: &Guard) -> bool
+        requires { IsGuard self.now guard.now }
         ensures { IsTrue result ↔ CanMove self.now }
     {
-        if self.can_leave_some() {
+        if self.can_leave_some(guard) {
             return true;
         }
         if self.may_castle(false) {
@@ -142,19 +161,24 @@ impl Position {
         self.may_castle(true)
     }
 
-    fn may_drop(&self, kind: Kind, to: Square) -> bool
+    fn may_drop(&self, kind: Kind, to: Square, guard: &Guard) -> bool
+        requires { IsGuard self.now guard.now }
         ensures { IsTrue result ↔ Allowed self.now (Move.Drop kind to) }
     {
+        if !has_square(guard.answers, to) {
+            return false;
+        }
         self.is_allowed(&Move::Drop { kind, to })
     }
 
     /// Whether some drop of that kind is allowed.
-    fn can_drop_kind(&self, k: Kind) -> bool
+    fn can_drop_kind(&self, k: Kind, guard: &Guard) -> bool
+        requires { IsGuard self.now guard.now }
         ensures some { IsTrue result → CanDropAny self.now }
         ensures none { IsFalse result → (to : ℕ) → to < 64 → ¬ Allowed self.now (Move.Drop k to) }
     {
         for to in 0..64 {
-            if self.may_drop(k, square_of(to)) {
+            if self.may_drop(k, square_of(to), guard) {
                 return true;
             }
         }
@@ -162,25 +186,26 @@ impl Position {
     }
 
     /// Whether some drop is allowed.
-    fn can_drop_any(&self) -> bool
+    fn can_drop_any(&self, guard: &Guard) -> bool
+        requires { IsGuard self.now guard.now }
         ensures { IsTrue result ↔ CanDropAny self.now }
     {
         if !has_drops(self.variant) {
             return false;
         }
-        if self.can_drop_kind(Kind::Pawn) {
+        if self.can_drop_kind(Kind::Pawn, guard) {
             return true;
         }
-        if self.can_drop_kind(Kind::Knight) {
+        if self.can_drop_kind(Kind::Knight, guard) {
             return true;
         }
-        if self.can_drop_kind(Kind::Bishop) {
+        if self.can_drop_kind(Kind::Bishop, guard) {
             return true;
         }
-        if self.can_drop_kind(Kind::Rook) {
+        if self.can_drop_kind(Kind::Rook, guard) {
             return true;
         }
-        self.can_drop_kind(Kind::Queen)
+        self.can_drop_kind(Kind::Queen, guard)
     }
 
     fn is_free(&self, s: Square) -> bool
@@ -201,19 +226,24 @@ impl Position {
     }
 
     /// Whether a square is empty, and an own knight put there would leave the king unattacked.
-    fn shields(&self, s: Square) -> bool
+    fn shields(&self, s: Square, guard: &Guard) -> bool
+        requires { IsGuard self.now guard.now }
         ensures { IsTrue result ↔ Shields self.now s }
     {
+        if !has_square(guard.answers, s) {
+            return false;
+        }
         self.is_free(s) && self.is_shielded_on(s)
     }
 
     /// Whether a man on some square would shield the king.
-    fn can_be_shielded(&self) -> bool
+    fn can_be_shielded(&self, guard: &Guard) -> bool
+        requires { IsGuard self.now guard.now }
         ensures some { IsTrue result → CanBeShielded self.now }
         ensures none { IsFalse result → (s : ℕ) → s < 64 → ¬ Shields self.now s }
     {
         for s in 0..64 {
-            if self.shields(square_of(s)) {
+            if self.shields(square_of(s), guard) {
                 return true;
             }
         }
@@ -221,17 +251,18 @@ impl Position {
     }
 
     /// Whether the player to move isn't stuck.
-    fn has_answer(&self) -> bool
+    fn has_answer(&self, guard: &Guard) -> bool
+        requires { IsGuard self.now guard.now }
         ensures { IsTrue result ↔ HasAnswer self.now.variant self.now }
     {
-        if self.can_move() {
+        if self.can_move(guard) {
             return true;
         }
         match self.variant {
-            Variant::Chess => self.can_drop_any(),
-            Variant::Crazyhouse => self.can_drop_any(),
-            Variant::Bughouse => self.can_be_shielded(),
-            Variant::Fischer(_) => self.can_drop_any(),
+            Variant::Chess => self.can_drop_any(guard),
+            Variant::Crazyhouse => self.can_drop_any(guard),
+            Variant::Bughouse => self.can_be_shielded(guard),
+            Variant::Fischer(_) => self.can_drop_any(guard),
         }
     }
 
@@ -241,8 +272,8 @@ impl Position {
     pub fn state(&self) -> State
         ensures { result ≡ state_in self.now }
     {
-        let safe = self.is_safe();
-        let answered = self.has_answer();
-        state_by(self.variant, !safe, answered)
+        let guard = self.guard();
+        let answered = self.has_answer(&guard);
+        state_by(self.variant, guard.in_check, answered)
     }
 }

@@ -1,4 +1,4 @@
-use Rattle.std.proofs.Common.{ℕ, ◌-◌, ◌<◌}
+use Rattle.std.proofs.Common.{◌-◌, ◌<◌}
 use Rattle.bitboard_core.specs.Sets.{Has}
 use Rattle.variant_rules.specs.Checks.{AreAnswers}
 use Rattle.variant_rules.proofs.guard.answers.Given as goal

@@ -1,6 +1,6 @@
 use Rattle.std.proofs.Common.{inl, inr, sym, ◌∙◌}
 use Rattle.bitboard_core.proofs.SetLemmas.{Has-or_left, Has-or_right, Has-and_both}
-use Rattle.variant_rules.proofs.CheckLemmas.{has_or_not, neither}
+use Rattle.variant_rules.proofs.CheckLemmas.{has_or_not, neither, one_of}
 use Rattle.variant_rules.proofs.guard.joined.Goals as goal
 
 pub returns : goal.returns
@@ -14,4 +14,5 @@ returns c =
         | inl a ↦ elim (has_or_not two.answers t) [ inr left ↦ inr left | inl b ↦ absurd (out (Has-and_both one.answers two.answers t a b)) ]
       ];
       safe = λ e. neither one.in_check two.in_check (sym c.either.ensures ∙ e);
+      check = λ e. one_of one.in_check two.in_check (sym c.either.ensures ∙ e);
     }

@@ -1,5 +1,4 @@
-use Rattle.std.proofs.Common.{◌≢◌, ◌<◌, ℕ, rules, inl, inr, sym}
-use Rattle.bitboard_core.specs.Sets.{Has}
+use Rattle.std.proofs.Common.{◌≢◌, ◌<◌, rules, inl, inr, sym}
 use Rattle.bitboard_core.proofs.SetLemmas.{Has-and_both}
 use Rattle.variant_rules.proofs.CheckLemmas.{has_or_not, stops-near, stops-far}
 use Rattle.variant_rules.proofs.guard.stops.Goals as goal

@@ -1,5 +1,5 @@
 use Rattle.std.proofs.Common.{arith, ◌<◌, ℕ, rules, inl, inr, sym, subst, ◌∙◌}
-use Rattle.std.proofs.lemmas.Bool.{cases_order}
+use Rattle.std.proofs.lemmas.Bool.{cases_order, true≢false}
 use Rattle.std.proofs.lemmas.Nat.Bits.{bit_at_ones}
 use Rattle.chess_model.specs.Placement.{opposite}
 use Rattle.chess_model.specs.Attacked.{IsAttacked}
@@ -14,6 +14,7 @@ loop-s-init c = record {
   pinned = λ s less king. absurd (c.next_square-s.ensures.first s (omega arith) less king);
   answers = λ b man lb out own. absurd (out (bit_at_ones 64 b lb));
   safe = λ calm s less king. absurd (c.next_square-s.ensures.first s (omega arith) less king);
+  check = λ e. absurd (true≢false (sym e));
   here = c.next_square-s.ensures.found;
 }
 
@@ -41,12 +42,15 @@ loop-s-preserved c =
       ];
       answers = λ b man lb out own. elim (both.answers b out) [
         | inl left ↦ old.answers b man lb left own
-        | inr left ↦ (c.square_of.result, record {
-          square = here;
-          held = king-of-bit P k c.side-kings.result.kings c.square_of.result c.side-kings.ensures.kings here
-              (subst (λ (x : ℕ). Has c.side-kings.result.kings x) (sym same_square) king);
-          attacked = one.answers.each b man lb left own;
-        })
+        | inr left ↦ (
+          c.square_of.result,
+          record {
+            square = here;
+            held = king-of-bit P k c.side-kings.result.kings c.square_of.result c.side-kings.ensures.kings here
+                (subst (λ (x : ℕ). Has c.side-kings.result.kings x) (sym same_square) king);
+            attacked = one.answers.each b man lb left own;
+          },
+        )
       ];
       safe = λ calm s less held. elim (cases_order s c.loop-s.s) [
         | inl same ↦ λ attacked.
@@ -55,6 +59,18 @@ loop-s-preserved c =
           | inl before ↦ old.safe (both.safe calm).0 s before held
           | inr after ↦ absurd (c.next_square-s-in-loop-s.ensures.first s (omega (arith, after)) less held)
         ]
+      ];
+      check = λ e. elim (both.check e) [
+        | inl before ↦ old.check before
+        | inr mine ↦ (
+          c.square_of.result,
+          record {
+            square = here;
+            held = king-of-bit P k c.side-kings.result.kings c.square_of.result c.side-kings.ensures.kings here
+                (subst (λ (x : ℕ). Has c.side-kings.result.kings x) (sym same_square) king);
+            attacked = one.check mine;
+          },
+        )
       ];
       here = c.next_square-s-in-loop-s.ensures.found;
     }
@@ -73,4 +89,5 @@ returns c =
       safe = λ calm. record {
         safe = λ s ls check. all.safe calm s (omega (arith, ls, end)) (king-bit P k kings s c.side-kings.ensures.kings ls check.0) check.1;
       };
+      check = λ e safe. let there = all.check e in safe.safe there.0 there.1.square (there.1.held, there.1.attacked);
     }

@@ -1,11 +1,11 @@
-use Rattle.std.proofs.Common.{arith, ◌≡◌, ℕ, inl, inr, refl, sym, ap, subst, ◌∙◌, Option, None}
+use Rattle.std.proofs.Common.{arith, ◌≡◌, inl, inr, refl, sym, ap, subst, Option, None}
 use Rattle.std.specs.Prelude.{slice_set, slice_index_or}
 use Rattle.std.specs.Int.{bit_at}
 use Rattle.std.proofs.lemmas.Bool.{eqb-true}
 use Rattle.std.proofs.lemmas.Nat.Bits.{bit_at-zero}
 use Rattle.chess_model.specs.declared.man.Kind.TheVariants.{King}
 use Rattle.chess_model.specs.declared.man.Man.{Man}
-use Rattle.chess_model.specs.Placement.{Placement, IsHeldAs}
+use Rattle.chess_model.specs.Placement.{IsHeldAs}
 use Rattle.bitboard_core.specs.Strikers.{man_place, is_placed}
 use Rattle.variant_rules.proofs.LineLemmas.{same_or_other}
 use Rattle.variant_rules.proofs.CheckLemmas.{at-unwritten}

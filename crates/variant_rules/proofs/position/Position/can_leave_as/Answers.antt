@@ -7,7 +7,7 @@ use Rattle.variant_rules.proofs.position.Position.can_leave_as.Goals as goal
 
 pub loop-b-init : goal.loop-b-init
 loop-b-init c = record {
-  none = none-start c.args.self.now c.args.k c.args.a c.targets-targets.result c.next_square-b.result c.requires c.targets-targets.ensures
+  none = none-start c.args.self.now c.args.k c.args.a c.goals-goals.result c.next_square-b.result c.goals-goals.ensures
       c.next_square-b.ensures.within c.next_square-b.ensures.first;
   here = c.next_square-b.ensures.found;
   within = c.next_square-b.ensures.within;
@@ -20,7 +20,7 @@ loop-b-preserved c =
     let next = c.next_square-b-in-loop-b.ensures in
     let here : (promo : Option Kind) → ¬ Allowed p (Plain a c.square_of.result promo) = c.can_go.ensures.none c.if-can_go.false in
     record {
-      none = none-step p c.args.k a c.targets-targets.result c.loop-b.b c.next_square-b-in-loop-b.result c.requires c.targets-targets.ensures next.within
+      none = none-step p c.args.k a c.goals-goals.result c.loop-b.b c.next_square-b-in-loop-b.result c.goals-goals.ensures next.within
           c.loop-b.invariant.none (subst (λ (t : ℕ). (promo : Option Kind) → ¬ Allowed p (Plain a t promo)) c.square_of.ensures here) next.first;
       here = next.found;
       within = next.within;

@@ -6,7 +6,7 @@ use Rattle.variant_rules.proofs.position.Position.can_leave_as.Given as goal
 abbrev pub invariant-loop-b : goal.invariant-loop-b
 invariant-loop-b l = record {
   none : NoneBelow l.self l.a l.b;
-  here : l.b < 64 → Has l.targets l.b;
+  here : l.b < 64 → Has l.goals l.b;
   within : l.b ≤ 64;
 }
 

@@ -13,6 +13,6 @@ returns c k t lt out allowed =
       | inr left ↦ free-bit p.men occupied t c.occupied_squares.type_inv c.occupied_squares.ensures lt left allowed.move.free
       | inl free ↦ elim (has_or_not c.args.guard.now.answers t) [
         | inl here ↦ out (Has-and_both (bit_not w64 occupied) c.args.guard.now.answers t free here)
-        | inr left ↦ c.requires.guarded.shields k t left allowed.move allowed.safe
+        | inr left ↦ c.requires.guarded.shields k t lt left allowed.move.free allowed.safe
       ]
     ]

@@ -1,15 +1,12 @@
-use Rattle.std.proofs.Common.{◌≡◌, ◌↔◌, ◌<◌, ℕ, IsTrue, Bool, true, false, not, rules, refl, sym, subst, ◌∙◌, None}
-use Rattle.std.specs.Prelude.{slice_set}
+use Rattle.std.proofs.Common.{◌↔◌, ◌<◌, IsTrue, Bool, true, false, not, rules, refl, sym, subst, None}
 use Rattle.std.proofs.lemmas.Bool.{true≢false}
 use Rattle.chess_model.specs.declared.man.Kind.TheVariants.{King}
 use Rattle.chess_model.specs.declared.moves.Move.{Move}
 use Rattle.chess_model.specs.declared.moves.Move.TheVariants.{Plain}
-use Rattle.chess_model.specs.Placement.{man_at, opposite, IsHeldAs}
+use Rattle.chess_model.specs.Placement.{man_at, IsHeldAs}
 use Rattle.chess_model.specs.Reach.{Reaches}
-use Rattle.chess_model.specs.Attacked.{IsAttacked}
 use Rattle.chess_model.specs.Position.{Position}
 use Rattle.chess_model.specs.Allowed.{IsSafeAfter}
-use Rattle.variant_rules.specs.Checks.{IsOnlyKing}
 use Rattle.variant_rules.proofs.MoveLemmas.{not_passing, king-apart}
 use Rattle.variant_rules.proofs.KingLemmas.{king-safe}
 use Rattle.variant_rules.proofs.position.Position.king_may_go.Goals as goal
@@ -50,6 +47,7 @@ returns c =
     off : (x : Bool) → IsTrue (not x) → IsTrue x → ⊥
     off true e f = true≢false (sym e)
     off false e f = true≢false (sym f)
+
     on : (x : Bool) → (¬ IsTrue x) → IsTrue (not x)
     on true out = absurd (out refl)
     on false out = refl

@@ -1,4 +1,4 @@
-use Rattle.std.proofs.Common.{◌≡◌, ℕ, inl, inr, sym, ap, ◌∙◌, Option, Some, None}
+use Rattle.std.proofs.Common.{inl, inr, sym, ap, ◌∙◌}
 use Rattle.chess_model.specs.Position.{Position}
 use Rattle.variant_rules.proofs.MoveLemmas.{same-some, none-some}
 use Rattle.variant_rules.proofs.position.Position.with_passed_square.Goals as goal
