@@ -1,0 +1,51 @@
+# Runs a program for the launcher `ficsd` and for the command that tools/install lays out. Both source this file.
+
+# hands a signal on to the program. A terminal sends Ctrl-C to the program too, which then gets a moment to end of itself
+hand_on() {
+  interrupted=yes
+  [[ $1 == INT || $1 == QUIT ]] && sleep 0.3
+  kill -s "$1" "$child" 2>/dev/null
+}
+
+# Runs the words in the foreground of this script, with each signal of who stops it handed on, and gives their status in
+# `status`, and where a signal ended them its name in `ended_by`. Where this script is killed, they are ended too.
+run() {
+  local tied=()
+  command -v setpriv >/dev/null && tied=(setpriv --pdeathsig TERM --)
+  (trap - INT QUIT; exec "${tied[@]}" "$@") <&0 &
+  child=$!
+  local signal
+  for signal in INT TERM HUP QUIT; do
+    trap "hand_on $signal" "$signal"
+  done
+  interrupted=yes
+  while [[ -n $interrupted ]]; do
+    interrupted=
+    { wait "$child"; } 2>/dev/null
+    status=$?
+  done
+  trap - INT TERM HUP QUIT
+  ended_by=
+  ((status <= 128)) || ended_by=$(kill -l "$((status - 128))")
+}
+
+# ends this script as what `run` ran has ended, by its status or by the same signal
+end_so() {
+  if [[ -n $ended_by ]]; then
+    ulimit -c 0
+    kill -s "$ended_by" $$
+  fi
+  exit "$status"
+}
+
+# Runs the program over the words, and says what its status means where it isn't 0; $1 is how it is called, $2 its file.
+run_and_tell() {
+  local name=$1 program=$2
+  shift 2
+  run "$program" "$@"
+  case $ended_by$status in
+    0 | INT* | TERM* | HUP* | QUIT* | PIPE*) ;;
+    *) echo "ficsd: status $status: $(meaning "$name" "${1-}" "${ended_by:-$status}")" >&2 ;;
+  esac
+  end_so
+}
