@@ -1,30 +1,28 @@
 # Runs a program for the launcher `ficsd` and for the command that tools/install lays out. Both source this file.
 
-# hands a signal on to the program. A terminal sends Ctrl-C to the program too, which then gets a moment to end of itself
 hand_on() {
   interrupted=yes
-  [[ $1 == INT || $1 == QUIT ]] && sleep 0.3
   kill -s "$1" "$child" 2>/dev/null
 }
 
-# Runs the words in the foreground of this script, with each signal of who stops it handed on, and gives their status in
-# `status`, and where a signal ended them its name in `ended_by`. Where this script is killed, they are ended too.
+# Runs the words in the foreground of this script, and gives their status in `status`, and where a signal ended them its
+# name in `ended_by`. TERM and HUP are handed on to them; Ctrl-C they get from the terminal, and this script waits for
+# what they make of it. Where this script is killed, they are ended too.
 run() {
   local tied=()
   command -v setpriv >/dev/null && tied=(setpriv --pdeathsig TERM --)
   (trap - INT QUIT; exec "${tied[@]}" "$@") <&0 &
   child=$!
-  local signal
-  for signal in INT TERM HUP QUIT; do
-    trap "hand_on $signal" "$signal"
-  done
+  trap '' INT QUIT
+  trap 'hand_on TERM' TERM
+  trap 'hand_on HUP' HUP
   interrupted=yes
   while [[ -n $interrupted ]]; do
     interrupted=
     { wait "$child"; } 2>/dev/null
     status=$?
   done
-  trap - INT TERM HUP QUIT
+  trap - INT QUIT TERM HUP
   ended_by=
   ((status <= 128)) || ended_by=$(kill -l "$((status - 128))")
 }
@@ -43,9 +41,10 @@ run_and_tell() {
   local name=$1 program=$2
   shift 2
   run "$program" "$@"
-  case $ended_by$status in
-    0 | INT* | TERM* | HUP* | QUIT* | PIPE*) ;;
-    *) echo "ficsd: status $status: $(meaning "$name" "${1-}" "${ended_by:-$status}")" >&2 ;;
+  case $ended_by in
+    '') [[ $status == 0 ]] || echo "ficsd: status $status: $(meaning "$name" "${1-}" "$status")" >&2 ;;
+    INT | TERM | HUP | QUIT | PIPE) ;;
+    *) echo "ficsd: ended by SIG$ended_by: $(meaning "$name" "${1-}" "$ended_by")" >&2 ;;
   esac
   end_so
 }
