@@ -60,15 +60,15 @@ def make_root(root):
 
 
 def pack(program, lines, folder):
-    """Runs the lines of the page where the program was built, up to the copying, in a folder of their own."""
-    laid = os.path.join(folder, "laid")
+    """Runs the lines of the page where the program was built, up to the copying; the pack is put into the folder."""
     words = f"--program {program} " if program else ""
-    for line in lines:
-        if line.startswith("./ficsd") and program:
-            continue
-        line = line.replace("tools/install ", f"tools/install {words}").replace("/tmp/ficsd", laid)
-        line = line.replace("-czf ficsd.tgz", f"-czf {folder}/ficsd.tgz")
-        run(["bash", "-c", line], cwd=TOP, stdout=subprocess.DEVNULL)
+    with tempfile.TemporaryDirectory() as laid:
+        for line in lines:
+            if line.startswith("./ficsd") and program:
+                continue
+            line = line.replace("tools/install ", f"tools/install {words}").replace("/tmp/ficsd", laid)
+            line = line.replace("-czf ficsd.tgz", f"-czf {folder}/ficsd.tgz")
+            run(["bash", "-c", line], cwd=TOP, stdout=subprocess.DEVNULL)
 
 
 def fill(root, blocks, program):
