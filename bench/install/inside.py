@@ -37,8 +37,6 @@ def says(name, got, wanted):
 def shell(line):
     """What a line writes to its standard output, and its status."""
     done = subprocess.run(["bash", "-c", line], stdin=subprocess.DEVNULL, capture_output=True, text=True)
-    if done.returncode:
-        print(f"  {line}: status {done.returncode} {done.stderr.strip()}", flush=True)
     return done.stdout, done.returncode
 
 
@@ -102,8 +100,8 @@ def play(ann, ben):
     ann.say("match ben 2 12 white")
     ben.until("^Challenge")
     ben.say("accept")
-    for who, word in ((ann, "e4"), (ben, "e5"), (ann, "Nf3")):
-        who.until("^<12>")
+    for who, last, word in ((ann, "none", "e4"), (ben, "e4", "e5"), (ann, "e5", "Nf3")):
+        who.until(rf"^<12>.* {last} [01]$")
         who.say(word)
     ann.until("^<12>.* Nf3 ")
     return "rnbqkbnr pppp-ppp -------- ----p--- ----P--- -----N-- PPPP-PPP RNBQKB-R B"
@@ -146,12 +144,15 @@ def try_kills():
 def cuts_links():
     """Whether this machine's kernel lets `ss -K` cut a link."""
     link = enter("Tester")
+    link.link.settimeout(PATIENCE)
     shell(f"ss -tK state established 'sport = :{SERVER}'")
     time.sleep(A_MOMENT)
     try:
         return link.link.recv(1000) == b""
     except ConnectionResetError:
         return True
+    except TimeoutError:
+        return False
     finally:
         link.link.close()
 

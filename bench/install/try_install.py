@@ -54,6 +54,11 @@ def run(words, **more):
     subprocess.run(words, check=True, **more)
 
 
+def machine(root):
+    """The words that enter the new machine, also where no systemd runs here."""
+    return ["systemd-nspawn", "-q", "-D", root, "--register=no", "--keep-unit"]
+
+
 def make_root(root):
     run(["mmdebstrap", "--variant=minbase", f"--include={NEEDED}", SUITE, root], stdout=subprocess.DEVNULL,
         stderr=subprocess.DEVNULL)
@@ -81,8 +86,7 @@ def fill(root, blocks, program):
     behind = blocks["setup"][at + 1:]
     # what fetches packages runs before the boot, since the booted machine has no network but its own
     for line in [it for it in behind if it.startswith("apt-get")]:
-        run(["systemd-nspawn", "-q", "-D", root, "--pipe", "bash", "-c", line], stdout=subprocess.DEVNULL,
-            stderr=subprocess.DEVNULL)
+        run([*machine(root), "--pipe", "bash", "-c", line], stdout=subprocess.DEVNULL, stderr=subprocess.DEVNULL)
     blocks = blocks | {"setup": [it for it in behind if not it.startswith("apt-get")]}
     for name, lines in blocks.items():
         with open(os.path.join(there, f"{name}.sh"), "w", encoding="utf-8") as file:
@@ -96,8 +100,7 @@ def fill(root, blocks, program):
 
 def boot(root):
     """Boots the machine, which ends by itself, and says what came of it."""
-    words = ["systemd-nspawn", "-q", "-D", root, "-b", "--private-network", "--register=no", "--keep-unit"]
-    run(words, stdin=subprocess.DEVNULL, stdout=subprocess.DEVNULL, stderr=subprocess.DEVNULL, timeout=900)
+    run([*machine(root), "-b", "--private-network"], stdin=subprocess.DEVNULL, stdout=subprocess.DEVNULL, stderr=subprocess.DEVNULL, timeout=900)
     with open(os.path.join(root, "root", "try", "said"), encoding="utf-8") as file:
         return file.read()
 
