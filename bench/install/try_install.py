@@ -79,7 +79,8 @@ def pack(program, lines, folder):
 def fill(root, blocks, program):
     """Puts into the new machine what its operator copies there, and the script that tries it."""
     there = os.path.join(root, "root", "try")
-    shutil.rmtree(there, ignore_errors=True)
+    for it in (there, os.path.join(root, "var", "lib", "ficsd")):
+        shutil.rmtree(it, ignore_errors=True)
     os.makedirs(there)
     at = next(place for place, line in enumerate(blocks["setup"]) if line.startswith("scp"))
     pack(program, blocks["setup"][:at], there)
