@@ -133,9 +133,9 @@ def try_stop_and_start():
 
 
 def try_kills():
-    for name, pid in (("the program", servers()[0]), ("the command that runs it", main_process())):
+    for name, found in (("the program", lambda: servers()[0]), ("the command that runs it", main_process)):
         before = servers()
-        os.kill(int(pid), 9)
+        os.kill(int(found()), 9)
         comes(f"kill -9 of {name}: another one serves", lambda: len(servers()) == 1 and servers() != before, True)
         both_up(f"kill -9 of {name}")
         says(f"kill -9 of {name}: who has an account", shell(f"ficsd check --store {STORE}")[0], "ok: 2 accounts, 1 games\n")
