@@ -101,7 +101,8 @@ def fill(root, blocks, program):
 
 def boot(root):
     """Boots the machine, which ends by itself, and says what came of it."""
-    run([*machine(root), "-b", "--private-network"], stdin=subprocess.DEVNULL, stdout=subprocess.DEVNULL, stderr=subprocess.DEVNULL, timeout=900)
+    run([*machine(root), "-b", "--private-network"], stdin=subprocess.DEVNULL, stdout=subprocess.DEVNULL,
+        stderr=subprocess.DEVNULL, timeout=900)
     with open(os.path.join(root, "root", "try", "said"), encoding="utf-8") as file:
         return file.read()
 
