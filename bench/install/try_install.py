@@ -109,8 +109,8 @@ def boot(root):
 
 def in_mounts_of_its_own():
     """Starts this script again with a /run that is in memory, which systemd-nspawn wants, where it isn't so."""
-    if "FICSD_TRY_INSTALL" not in os.environ:
-        os.environ["FICSD_TRY_INSTALL"] = "1"
+    kind = subprocess.run(["stat", "-f", "-c", "%T", "/run"], capture_output=True, text=True, check=True)
+    if kind.stdout != "tmpfs\n":
         words = [sys.executable, os.path.abspath(__file__), *sys.argv[1:]]
         os.execvp("unshare", ["unshare", "-m", "sh", "-c", 'mount -t tmpfs tmpfs /run && exec "$@"', "sh", *words])
 
