@@ -1,3 +1,4 @@
+//! The half-move that a word stands for, or why it stands for none.
 ghost use Rattle.std.specs.Prelude.{◌≡◌, ℕ, ◌<◌, ◌≤◌, ◌↔◌, IsTrue, IsFalse, ◌+◌, IfOk, IfErr, IfSome, IfNone, Some, None};
 ghost use Rattle.chess_model.specs.Placement.{IsHeldBy, IsHeldAs};
 ghost use Rattle.chess_model.specs.Answer.{is_promotion, promotion_of, is_king_at_home, castling_of, IsAsGiven, IsAnswer, IsRefusal};

@@ -1,3 +1,4 @@
+//! What a half-move changes: men, passed square, quiet count, rights and hands.
 ghost use Rattle.std.specs.Prelude.{◌≡◌, ◌+◌, ◌-◌, ◌<◌, ◌&&◌, cond, Option, Some};
 ghost use Rattle.chess_model.specs.Placement.{unpromoted};
 ghost use Rattle.chess_model.specs.Men.{same_colour};

@@ -1,3 +1,4 @@
+//! One look from the kings of the player to move, which decides for most half-moves whether they leave them safe.
 ghost use Rattle.std.specs.Prelude.{◌≡◌, ◌||◌, length};
 ghost use Rattle.chess_model.specs.Placement.{opposite};
 ghost use Rattle.chess_model.specs.Attacked.{IsAttacked};

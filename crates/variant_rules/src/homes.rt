@@ -1,3 +1,4 @@
+//! The squares on which kings and rooks begin.
 ghost use Rattle.std.specs.Prelude.{◌≡◌, ◌<◌};
 ghost use Rattle.chess_model.specs.Placement.{home_rank, last_rank, king_home, rook_home, king_end, rook_end};
 

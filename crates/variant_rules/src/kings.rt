@@ -1,3 +1,4 @@
+//! Where the kings themselves may go.
 ghost use Rattle.std.specs.Prelude.{◌≡◌, ◌↔◌, IsTrue, None, length, slice_set};
 ghost use Rattle.chess_model.specs.Placement.{man_at, opposite, IsHeldBy, IsHeldAs};
 ghost use Rattle.chess_model.specs.Reach.{Reaches};

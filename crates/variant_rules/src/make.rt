@@ -1,3 +1,4 @@
+//! Making a half-move and taking it back.
 ghost use Rattle.std.specs.Prelude.{◌≡◌, ℕ, ◌<◌, List, [], ◌∷◌, ◌++◌};
 ghost use Rattle.chess_model.specs.MoveList.{HalfMove, taken};
 ghost use Rattle.chess_model.specs.Placement.{man_at};

@@ -1,3 +1,4 @@
+//! The position of one board, as contracts see it.
 ghost use Rattle.std.specs.Prelude.{◌≡◌, ◌≢◌, ℕ, ◌<◌, []};
 ghost use Rattle.std.specs.Option.{option_map};
 ghost use Rattle.chess_model.specs.Squares.{file_of};

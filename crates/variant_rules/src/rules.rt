@@ -1,3 +1,4 @@
+//! Which half-moves are allowed.
 ghost use Rattle.std.specs.Prelude.{◌≡◌, ◌<◌, ◌↔◌, IsTrue, Some};
 ghost use Rattle.chess_model.specs.Placement.{man_at};
 ghost use Rattle.chess_model.specs.Reach.{Strikes, Reaches};

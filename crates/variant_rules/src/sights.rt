@@ -1,3 +1,4 @@
+//! Whether the kings of a colour are safe in a placement.
 ghost use Rattle.std.specs.Prelude.{◌≡◌, ◌↔◌, IsTrue, Bool, Option, length, slice_set};
 ghost use Rattle.chess_model.specs.Men.{is_held_as};
 ghost use Rattle.chess_model.specs.declared.man.Man.{Man};
