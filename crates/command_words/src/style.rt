@@ -1,3 +1,5 @@
+//! How boards are printed.
+
 /// How boards are printed.
 #[derive(Clone, Copy)]
 pub enum Style {
