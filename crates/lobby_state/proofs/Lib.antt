@@ -1,4 +1,5 @@
 pub mod First
+pub mod Lent
 pub mod Words
 pub mod Lists
 pub mod SeekRows

@@ -1,4 +1,5 @@
 pub mod Change
+pub mod Lent
 pub mod Desks
 pub mod Places
 pub mod Lobby

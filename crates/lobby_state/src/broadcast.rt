@@ -1,10 +1,12 @@
 //! A line that goes to all members whom a test names.
-ghost use Rattle.std.specs.Prelude.{◌≡◌, ◌+◌, ◌≤◌, ◌++◌, IfOk, OnErr, OnOk, drop, length, take};
-ghost use Rattle.channel_feed.specs.Waiting.{without_last};
+ghost use Rattle.std.specs.Prelude.{◌≡◌, ◌+◌, ◌<◌, ◌≤◌, ◌++◌, IfOk, OnErr, OnOk, Some, drop, length, slice_get, take};
 ghost use Rattle.lobby_state.specs.Broadcast.{broadcast, heard, hears, hearing};
 ghost use Rattle.lobby_state.specs.Said.{IsText, IsWording, said};
+ghost use Rattle.lobby_state.specs.declared.member.Member.{Member};
+ghost use Rattle.tables.specs.Rows.{change_at};
 
-use crate::member::{MOST_MEMBERS, Member, Members};
+use crate::member::Member;
+use crate::members::{MOST_MEMBERS, Members};
 use crate::register::Register;
 use crate::said::said_line;
 use collections::Predicate;
@@ -87,33 +89,44 @@ fn tell_from<P: Predicate<Member>>(
     if place == members.len() {
         return Ok(0);
     }
-    let is_told = tell(members.item_mut(place), test, line)?;
+    let is_told = tell(members, place, test, line)?;
     match tell_from(members, place + 1, test, line) {
         Ok(others) => Ok(if is_told { others + 1 } else { others }),
         Err(NoMemory) => {
             if is_told {
-                take_back(members.item_mut(place));
+                members.waiting_mut(place).take_back();
             }
             Err(NoMemory)
         }
     }
 }
 
-/// Tells one member, where the test names it and fewer than 512 lines wait for it, and answers whether it did.
-fn tell<P: Predicate<Member>>(member: &mut Member, test: &P, line: &Line) -> Result<bool, NoMemory>
-    ensures told { IfOk result (λ is_told. is_told ≡ hears (P.passes test.now) member.old) }
-    ensures ok { OnOk result (member.new ≡ hearing (P.passes test.now) line.now member.old) }
-    ensures err { OnErr result (member.new ≡ member.old) }
+/// Tells the member at this place, where the test names it and fewer than 512 lines wait for it, and answers whether it
+/// did.
+fn tell<P: Predicate<Member>>(
+    members: &mut Members,
+    place: usize,
+    test: &P,
+    line: &Line,
+) -> Result<bool, NoMemory>
+    requires { place < length members.old }
+    ensures told { IfOk result (λ is_told.
+        (member : Member) → slice_get members.old place ≡ Some member → is_told ≡ hears (P.passes test.now) member) }
+    ensures many { length members.new ≡ length members.old }
+    ensures ok { OnOk result (members.new ≡ change_at place (hearing (P.passes test.now) line.now) members.old) }
+    ensures err { OnErr result (members.new ≡ members.old) }
 {
-    if !test.passes(member) || member.is_full() {
+    if !hears(members.at(place), test) {
         return Ok(false);
     }
-    member.waiting.push(line.duplicate()?)
+    let copy = line.duplicate()?;
+    members.waiting_mut(place).push(copy)?;
+    Ok(true)
 }
 
-/// Takes back the line that the member was told last.
-fn take_back(member: &mut Member)
-    ensures { member.new ≡ record member.old { waiting = without_last member.old.waiting } }
+/// Whether the test names the member, and fewer than 512 lines wait for it.
+fn hears<P: Predicate<Member>>(member: &Member, test: &P) -> bool
+    ensures { result ≡ hears (P.passes test.now) member.now }
 {
-    member.waiting.take_back();
+    test.passes(member) && !member.is_full()
 }

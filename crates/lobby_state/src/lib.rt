@@ -35,6 +35,7 @@ mod laws;
 mod lobby;
 mod matching;
 mod member;
+mod members;
 mod name_list;
 mod orders;
 mod own_places;

@@ -1,4 +1,4 @@
-//! The members, and the changes of one of them.
+//! Somebody who is in the hall, and what waits for one.
 ghost use Rattle.std.specs.Prelude.{◌≡◌, OnOk, OnErr};
 ghost use Rattle.std.specs.List.{find};
 ghost use Rattle.lobby_state.specs.Change.{change_first};
@@ -9,18 +9,13 @@ ghost use Rattle.lobby_state.specs.Match.{is_full, with_line};
 ghost use Rattle.lobby_state.specs.Pairing.{is_crowded};
 
 use crate::inbox::Inbox;
+use crate::members::Members;
 use crate::wants::Wants;
 use channel_feed::NameList;
-use collections::{Change, Listed, Predicate, Roomy, position};
+use collections::{Listed, Predicate};
 use fics_words::{Handle, HandleKey, Line, NoMemory};
 use simul_control::Places;
 use std::alloc::Global;
-
-/// The most members that the hall holds.
-pub(crate) const MOST_MEMBERS: usize = 256;
-
-/// The members, in the order in which they entered.
-pub(crate) type Members = Roomy<Member, MOST_MEMBERS>;
 
 /// Somebody who is in the hall.
 #[derive(Drop)]
@@ -133,30 +128,15 @@ impl Predicate<Member> for Named {
     }
 }
 
-/// Changes the first member that passes the test, if any does.
-#[tactic(auto, using(crate::proofs::First::the_first))]
-pub(crate) fn change_first<P: Predicate<Member>, C: Change<Member>>(
-    members: &mut Members,
-    test: &P,
-    change: &C,
-)
-    ensures { members.new ≡ change_first (P.passes test.now) (C.changed change.now) members.old }
-{
-    if let Some(place) = position(members, test) {
-        change.change(members.item_mut(place));
-    }
-}
-
 /// Puts a line behind those that wait for the member that the key names, where fewer than 512 do.
 pub(crate) fn add_line(members: &mut Members, to: HandleKey, line: Line) -> Result<(), NoMemory>
     ensures ok { OnOk result (members.new ≡ change_first (is_named to) (with_line line) members.old) }
     ensures err { OnErr result (members.new ≡ members.old) }
 {
-    let Some(place) = position(members, &Named(to)) else {
+    let Some(place) = members.place_named(to) else {
         return Ok(());
     };
-    let member = members.item_mut(place);
-    member.waiting.push(line)?;
+    members.waiting_mut(place).push(line)?;
     Ok(())
 }
 
@@ -165,9 +145,8 @@ pub(crate) fn take_lines(alloc: Global, members: &mut Members, session: u32) -> 
     ensures lines { result ≡ lines_in (find (is_session session) members.old) }
     ensures emptied { members.new ≡ change_first (is_session session) emptied members.old }
 {
-    let Some(place) = position(members, &OfSession(session)) else {
+    let Some(place) = members.place(session) else {
         return Listed::new(alloc);
     };
-    let member = members.item_mut(place);
-    member.waiting.take_all()
+    members.waiting_mut(place).take_all()
 }

@@ -8,7 +8,8 @@ ghost use Rattle.lobby_state.specs.Partner.{partner_effect, partner_words};
 
 use crate::acts::LobbyReply;
 use crate::broadcast::broadcast;
-use crate::member::{Member, Members, OfSession};
+use crate::member::{Member, OfSession};
+use crate::members::Members;
 use crate::register::Register;
 use crate::said::{joined, said_line};
 use fics_words::{Fail, Handle, HandleKey, Line, NoMemory, Refusal};

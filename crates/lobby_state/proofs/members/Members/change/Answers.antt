@@ -1,0 +1,19 @@
+use Rattle.std.proofs.Common.{◌≤◌, length, sym, ap, subst, ◌∙◌}
+use Rattle.std.specs.Prelude.{◌==◌}
+use Rattle.tables.proofs.Firsts.{length-change_first}
+use Rattle.lobby_state.specs.declared.member.Member.{Member}
+use Rattle.lobby_state.specs.Change.{change_first}
+use Rattle.lobby_state.specs.Lobby.{is_session}
+use Rattle.lobby_state.proofs.Lent.{by_session}
+use Rattle.lobby_state.proofs.members.Members.change.Goals as goal
+
+pub invariant_of-self : goal.invariant_of-self
+invariant_of-self g c =
+    let test = λ (member : Member). c.args.session == member.session in
+    let f = g.C.Change.changed c.args.change.now in
+    subst (λ n. n ≤ 256) (sym (ap length c.change.ensures ∙ length-change_first test f c.self.inside.rows)) c.self.invariant
+
+pub returns : goal.returns
+returns g c =
+    let f = g.C.Change.changed c.args.change.now in
+    c.change.ensures ∙ by_session c.args.session f c.self.inside.rows ∙ ap (change_first (is_session c.args.session) f) c.self.view_is
