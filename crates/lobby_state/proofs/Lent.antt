@@ -1,6 +1,6 @@
 -- A part of one member that is lent: the member at a place with that part written, where the place is that of the first
 -- member that passes a test.
-use Rattle.std.proofs.Common.{◌≡◌, ℕ, ◌<◌, ◌≤◌, zero, suc, Bool, true, false, not, filter, List, [], ◌∷◌, cond, Some, Result, Ok, Err, OnErr, length, slice_get, refl, sym, ap, ◌∙◌, arith}
+use Rattle.std.proofs.Common.{◌≡◌, ℕ, ◌<◌, ◌≤◌, zero, suc, Bool, true, false, not, filter, List, [], ◌∷◌, ◌++◌, cond, Some, Result, Ok, Err, OnErr, length, slice_get, refl, sym, ap, ◌∙◌, arith}
 use Rattle.std.specs.Prelude.{◌==◌}
 use Rattle.std.specs.List.{position}
 use Rattle.std.proofs.Math.ListN.{set}
@@ -80,3 +80,8 @@ pub by_session : (session : ℕ) (f : Member → Member) (members : List Member)
     → change_row (λ (member : Member). session == member.session) f members ≡ change_first (is_session session) f members
 by_session session f [] = refl
 by_session session f (m ∷ members) = λ j. cond (turned session m.session j) (f m ∷ members) (m ∷ by_session session f members j)
+
+-- one more item
+pub length-push : {X : Type 0} (xs : List X) (x : X) → length (xs ++ x ∷ []) ≡ suc (length xs)
+length-push [] x = refl
+length-push (y ∷ ys) x = ap suc (length-push ys x)

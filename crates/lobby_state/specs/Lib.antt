@@ -14,6 +14,7 @@ pub mod Post
 pub mod Unpost
 pub mod Sought
 pub mod Who
+pub mod Names
 pub mod Pending
 pub mod Games
 pub mod GamesFound

@@ -1,6 +1,7 @@
 //! A line that goes to all members whom a test names.
 ghost use Rattle.std.specs.Prelude.{◌≡◌, ◌+◌, ◌<◌, ◌≤◌, ◌++◌, IfOk, OnErr, OnOk, Some, drop, length, slice_get, take};
 ghost use Rattle.lobby_state.specs.Broadcast.{broadcast, heard, hears, hearing};
+ghost use Rattle.lobby_state.specs.Lobby.{is_session};
 ghost use Rattle.lobby_state.specs.Said.{IsText, IsWording, said};
 ghost use Rattle.lobby_state.specs.declared.member.Member.{Member};
 ghost use Rattle.tables.specs.Rows.{change_at};
@@ -33,6 +34,41 @@ impl Register {
     {
         say(self.alloc, &mut self.members, test, name, wording, text)
     }
+
+    /// Says something to the member of this session, where it is one and fewer than 512 lines wait for it: who says it,
+    /// how it is said, and its text. Running out of memory changes nothing.
+    pub(crate) fn say_to(
+        &mut self,
+        to: u32,
+        name: Handle,
+        wording: &[u8],
+        text: &[u8],
+    ) -> Result<(), NoMemory>
+        requires wording { IsWording wording.now }
+        requires text { IsText text.now }
+        ensures ok { OnOk result (self.new ≡ record self.old {
+          members = broadcast (is_session to) (said name wording.now text.now) self.old.members;
+        }) }
+        ensures err { OnErr result (self.new ≡ self.old) }
+    {
+        let line = said_line(self.alloc, name, wording, text)?;
+        tell_session(&mut self.members, to, line)
+    }
+}
+
+/// Puts the line behind those that wait for the member of the session, where it is one and fewer than 512 do. Running out
+/// of memory changes nothing.
+pub(crate) fn tell_session(members: &mut Members, session: u32, line: Line) -> Result<(), NoMemory>
+    ensures ok { OnOk result (members.new ≡ broadcast (is_session session) line members.old) }
+    ensures err { OnErr result (members.new ≡ members.old) }
+{
+    // The slice is what says that no two sessions are equal.
+    let _rows = members.as_slice();
+    let Some(place) = members.place(session) else {
+        return Ok(());
+    };
+    members.waiting_mut(place).push(line)?;
+    Ok(())
 }
 
 /// Says something to each of these members whom the test names and for whom fewer than 512 lines wait, and answers how

@@ -3,7 +3,7 @@ ghost use Rattle.std.specs.Prelude.{◌≡◌, ◌<◌, ◌++◌, IfOk, None, On
 ghost use Rattle.fics_words.specs.Effect.{Takes};
 ghost use Rattle.fics_words.specs.Handle.{key_of};
 ghost use Rattle.lobby_state.specs.Enter.{enter_effect, entering, entrant_of, guest_in};
-ghost use Rattle.lobby_state.specs.Lobby.{member_of, most_members};
+ghost use Rattle.lobby_state.specs.Lobby.{holder_of, member_of, most_members};
 
 use crate::acts::LobbyReply;
 use crate::member::Member;
@@ -49,6 +49,7 @@ impl Register {
     fn come_in(&mut self, session: u32, name: Handle) -> Result<LobbyReply, Fail>
         requires room { length self.old.members < most_members }
         requires new { member_of self.old session ≡ None }
+        requires handle { holder_of self.old (key_of name) ≡ None }
         ensures { Takes (entering self.old session name) self.old self.new result }
     {
         let newcomer = Member::newcomer(self.alloc, session, name);

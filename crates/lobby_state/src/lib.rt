@@ -37,6 +37,7 @@ mod matching;
 mod member;
 mod members;
 mod name_list;
+mod name_row;
 mod orders;
 mod own_places;
 mod pairing;

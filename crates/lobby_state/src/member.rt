@@ -4,7 +4,7 @@ ghost use Rattle.std.specs.List.{find};
 ghost use Rattle.lobby_state.specs.Change.{change_first};
 ghost use Rattle.lobby_state.specs.Enter.{newcomer};
 ghost use Rattle.lobby_state.specs.Fetch.{emptied};
-ghost use Rattle.lobby_state.specs.Lobby.{has_handle, is_session, is_named, gives, has_place, is_busy, lines_in};
+ghost use Rattle.lobby_state.specs.Lobby.{is_session, is_named, gives, has_place, is_busy, lines_in};
 ghost use Rattle.lobby_state.specs.Match.{is_full, with_line};
 ghost use Rattle.lobby_state.specs.Pairing.{is_crowded};
 
@@ -12,7 +12,7 @@ use crate::inbox::Inbox;
 use crate::members::Members;
 use crate::wants::Wants;
 use channel_feed::NameList;
-use collections::{Listed, Predicate};
+use collections::Listed;
 use fics_words::{Handle, HandleKey, Line, NoMemory};
 use simul_control::Places;
 use std::alloc::Global;
@@ -89,42 +89,6 @@ impl Member {
         ensures { result ≡ is_full self.now }
     {
         self.waiting.is_full()
-    }
-}
-
-/// The member of this session.
-#[derive(Clone, Copy)]
-pub(crate) struct OfSession(pub(crate) u32);
-
-impl Predicate<Member> for OfSession {
-    ghost passes = { λ test member. is_session test.0 member };
-
-    fn passes(&self, member: &Member) -> bool {
-        member.session == self.0
-    }
-}
-
-/// The member that has the handle with this key, going or not.
-#[derive(Clone, Copy)]
-pub(crate) struct WithHandle(pub(crate) HandleKey);
-
-impl Predicate<Member> for WithHandle {
-    ghost passes = { λ test member. has_handle test.0 member };
-
-    fn passes(&self, member: &Member) -> bool {
-        member.name.key() == self.0
-    }
-}
-
-/// The member that this key names.
-#[derive(Clone, Copy)]
-pub(crate) struct Named(pub(crate) HandleKey);
-
-impl Predicate<Member> for Named {
-    ghost passes = { λ test member. is_named test.0 member };
-
-    fn passes(&self, member: &Member) -> bool {
-        WithHandle(self.0).passes(member) && !member.going
     }
 }
 

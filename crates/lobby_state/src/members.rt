@@ -1,14 +1,18 @@
 //! The members of the hall, and how one is found.
-ghost use Rattle.std.specs.Prelude.{◌≡◌, ◌<◌, ◌≤◌, [], ◌∷◌, ◌++◌, IfOk, None, OnErr, OnOk, Some, length, map, not, option_copied, slice_get};
+ghost use Rattle.std.specs.Prelude.{◌≡◌, ◌<◌, ◌≤◌, [], ◌∷◌, ◌++◌, IfOk, None, OnErr, OnOk, Some, eqb, length, map, not, option_copied, slice_get};
 ghost use Rattle.std.specs.Borrow.{sem};
 ghost use Rattle.std.specs.List.{filter, find, position};
 ghost use Rattle.lobby_state.specs.Change.{change_first};
+ghost use Rattle.fics_words.specs.Handle.{key_of};
 ghost use Rattle.lobby_state.specs.Lobby.{has_handle, is_named, is_session, most_members};
+ghost use Rattle.lobby_state.specs.Names.{AreNamedApart, with_rows};
+ghost use Rattle.tables.specs.Rows.{AreApart};
 
 use crate::inbox::Inbox;
-use crate::member::{Member, Named, WithHandle};
+use crate::member::Member;
+use crate::name_row::{NameRow, OfAnother, put_name};
 use channel_feed::NameList;
-use collections::{Change, find, position};
+use collections::Change;
 use fics_words::{HandleKey, NoMemory};
 use std::alloc::Global;
 use std::marker::Model;
@@ -64,22 +68,28 @@ impl Parted<NameList, NoplayPart> for Member {
     }
 }
 
-/// The members in the order in which they entered, at most 256, each found by its session. Contracts see the list of
-/// them.
+/// The members in the order in which they entered, at most 256, each found by its session or its handle, and beside
+/// them their names in the order of their keys. Contracts see the list of the members.
 #[derive(Drop)]
 pub(crate) struct Members {
     rows: Table<u32, Member>,
+    names: Table<HandleKey, NameRow>,
 }
 
 impl Model for Members {
-    ghost use Rattle.std.specs.Prelude.{◌≤◌, List, length};
+    ghost use Rattle.std.specs.Prelude.{◌≡◌, ◌≤◌, List, [], length};
     ghost use Rattle.lobby_state.specs.declared.member.Member.{Member};
+    ghost use Rattle.lobby_state.specs.Names.{AreNamedApart, with_rows};
 
     ghost Value = { List Member };
 
     ghost view = { λ members. members.rows };
 
-    ghost invariant = { λ members. length members.rows ≤ 256 };
+    ghost invariant = { λ members. record {
+      within : length members.rows ≤ 256;
+      names : members.names ≡ with_rows [] members.rows;
+      apart : AreNamedApart members.rows;
+    } };
 }
 
 impl Members {
@@ -91,6 +101,7 @@ impl Members {
     {
         Ok(Members {
             rows: Table::with_room(alloc, MOST_MEMBERS)?,
+            names: Table::with_room(alloc, MOST_MEMBERS)?,
         })
     }
 
@@ -102,11 +113,19 @@ impl Members {
         self.rows.len()
     }
 
-    /// The members, in the order in which they entered.
+    /// The members, in the order in which they entered. No two have one session.
     pub(crate) fn as_slice(&self) -> &[Member]
-        ensures { result.now ≡ self.now }
+        ensures members { result.now ≡ self.now }
+        ensures apart { AreApart eqb (λ member. member.session) self.now }
     {
         self.rows.as_slice()
+    }
+
+    /// The names of the members, in the order of their keys.
+    pub(crate) fn names(&self) -> &[NameRow]
+        ensures { result.now ≡ with_rows [] self.now }
+    {
+        self.names.as_slice()
     }
 
     /// The member of the session, if it has entered.
@@ -120,14 +139,26 @@ impl Members {
     pub(crate) fn named(&self, key: HandleKey) -> Option<&Member>
         ensures { option_copied result ≡ find (is_named key) self.now }
     {
-        find(self.rows.as_slice(), &Named(key))
+        let Some(member) = self.with_handle(key) else {
+            return None;
+        };
+        if member.going {
+            return None;
+        }
+        Some(member)
     }
 
-    /// The member that has the handle with this key, going or not.
+    /// The member that has the handle with this key, going or not. No two have one handle.
     pub(crate) fn with_handle(&self, key: HandleKey) -> Option<&Member>
-        ensures { option_copied result ≡ find (has_handle key) self.now }
+        ensures member { option_copied result ≡ find (has_handle key) self.now }
+        ensures apart { AreNamedApart self.now }
     {
-        find(self.rows.as_slice(), &WithHandle(key))
+        // The slice is what says that no two sessions are equal.
+        let _rows = self.rows.as_slice();
+        match self.names.get(key) {
+            Some(row) => self.rows.get(row.session),
+            None => None,
+        }
     }
 
     /// Where the member of the session stands, counted from 0, if it has entered.
@@ -141,7 +172,12 @@ impl Members {
     pub(crate) fn place_named(&self, key: HandleKey) -> Option<usize>
         ensures { result ≡ position (is_named key) self.now }
     {
-        position(self.rows.as_slice(), &Named(key))
+        // The slice is what says that no two sessions are equal.
+        let _rows = self.rows.as_slice();
+        match self.named(key) {
+            Some(member) => self.rows.place(member.session),
+            None => None,
+        }
     }
 
     /// The member at `place`.
@@ -152,34 +188,45 @@ impl Members {
         &self.rows.as_slice()[place]
     }
 
-    /// Puts a member of a new session behind the others. Running out of memory changes nothing.
+    /// Puts a member of a new session and a new handle behind the others. Running out of memory changes nothing.
     pub(crate) fn push(&mut self, member: Member) -> Result<(), NoMemory>
         requires room { length self.old < most_members }
-        requires new { find (is_session member.session) self.old ≡ None }
+        requires session { find (is_session member.session) self.old ≡ None }
+        requires handle { find (has_handle (key_of member.name)) self.old ≡ None }
         ensures ok { OnOk result (self.new ≡ self.old ++ member ∷ []) }
         ensures err { OnErr result (self.new ≡ self.old) }
     {
-        self.rows.push(member)
+        let session = member.session;
+        let name = member.name;
+        self.rows.push(member)?;
+        if let Err(NoMemory) = put_name(&mut self.names, name, session) {
+            self.rows.remove(session);
+            return Err(NoMemory);
+        }
+        Ok(())
     }
 
     /// The session is gone. It takes no memory.
     pub(crate) fn remove(&mut self, session: u32)
         ensures { self.new ≡ filter (λ member. not (is_session session member)) self.old }
     {
-        drop(self.rows.remove(session));
+        self.rows.remove(session);
+        self.names.retain(&OfAnother(session));
     }
 
-    /// Changes the member of the session, if it has entered. The change leaves its session as it is.
+    /// Changes the member of the session, if it has entered. The change leaves its session and its name as they are.
     pub(crate) fn change<C: Change<Member>>(&mut self, session: u32, change: &C)
         requires sessions { (member : Member) → (C.changed change.now member).session ≡ member.session }
+        requires names { (member : Member) → (C.changed change.now member).name ≡ member.name }
         ensures { self.new ≡ change_first (is_session session) (C.changed change.now) self.old }
     {
         self.rows.change(session, change);
     }
 
-    /// Changes each member. The change leaves their sessions as they are.
+    /// Changes each member. The change leaves their sessions and names as they are.
     pub(crate) fn change_each<C: Change<Member>>(&mut self, change: &C)
         requires sessions { (member : Member) → (C.changed change.now member).session ≡ member.session }
+        requires names { (member : Member) → (C.changed change.now member).name ≡ member.name }
         ensures { self.new ≡ map (C.changed change.now) self.old }
     {
         self.rows.change_each(change);
