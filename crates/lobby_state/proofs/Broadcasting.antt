@@ -1,11 +1,11 @@
 -- A broadcast goes from member to member, and what a broadcast leaves well-formed.
-use Rattle.std.proofs.Common.{◌≡◌, ℕ, ◌+◌, zero, suc, Bool, true, false, not, cond, List, [], ◌∷◌, ◌++◌, Some, take, drop, slice_get, refl, sym, ap, ◌∙◌, arith}
+use Rattle.std.proofs.Common.{◌≡◌, ℕ, ◌+◌, ◌<◌, Bool, true, false, not, cond, List, [], ◌∷◌, ◌++◌, Some, length, take, drop, slice_get, refl, sym, ap, ◌∙◌, arith}
 use Rattle.std.proofs.Math.ListN.{set}
 use Rattle.std.proofs.lemmas.Bool.{and_parts, not-true}
 use Rattle.std.proofs.lemmas.List.{append_assoc, drop-set, drop-set-lt, set-set, take_more_set}
 use Rattle.std.proofs.lemmas.List.Sums.{sum_by-cons}
 use Rattle.std.proofs.lemmas.Option.{slice_get_within}
-use Rattle.channel_feed.specs.Waiting.{without_last}
+use Rattle.channel_feed.specs.Waiting.{with_line as with_one_more, without_last}
 use Rattle.channel_feed.proofs.TakenBack.{without_last-with_line}
 use Rattle.fics_words.specs.Handle.{key_of}
 use Rattle.lobby_state.specs.declared.member.Member.{Member}
@@ -15,11 +15,8 @@ use Rattle.lobby_state.specs.Match.{is_full, with_line}
 use Rattle.lobby_state.specs.WellFormed.{IsWellFormed, HasSeats}
 use Rattle.lobby_state.proofs.Lists.{map-map_same, All-map_each, get-set_same}
 use Rattle.lobby_state.proofs.WellFormed.{kept}
-
-set-same : {X : Type 0} (xs : List X) (i : ℕ) (x : X) → slice_get xs i ≡ Some x → set xs i x ≡ xs
-set-same [] i x e = cc
-set-same (z ∷ zs) zero x e = let same : z ≡ x = cc in ap (λ u. u ∷ zs) (sym same)
-set-same (z ∷ zs) (suc i) x e = ap (λ us. z ∷ us) (set-same zs i x e)
+use Rattle.lobby_state.proofs.Lent.{at_place, change_at-set, set-same}
+use Rattle.tables.specs.Rows.{change_at}
 
 -- an item that was changed is put back
 pub put_back : {X : Type 0} (xs : List X) (i : ℕ) (x y : X) → slice_get xs i ≡ Some x → set (set xs i y) i x ≡ xs
@@ -66,6 +63,22 @@ went_out test line xs after i x there e is went =
     ∙ ap (λ (m : Member). take i xs ++ m ∷ broadcast test line (drop (i + 1) xs)) is
     ∙ ap (λ (ms : List Member). take i xs ++ broadcast test line ms) (sym (from_here xs i x e))
 
+-- a member that doesn't hear the line stays as it was
+pub not_told : (test : Member → Bool) (line : List ℕ) (xs : List Member) (i : ℕ) (x : Member) (heard : Bool) → slice_get xs i ≡ Some x
+    → heard ≡ hears test x → heard ≡ false → xs ≡ change_at i (hearing test line) xs
+not_told test line xs i x heard e is fails =
+    sym (change_at-set (hearing test line) xs i x e ∙ ap (λ (b : Bool). set xs i (cond b (with_line line x) x)) (sym is ∙ fails) ∙ set-same xs i x e)
+
+-- and one that hears it has it behind the others
+pub was_told : (test : Member → Bool) (line : List ℕ) (xs : List Member) (i : ℕ) (x : Member) (heard : Bool) (lines more : List (List ℕ))
+    → slice_get xs i ≡ Some x → heard ≡ hears test x → heard ≡ true → ((m : Member) → slice_get xs i ≡ Some m → lines ≡ m.waiting)
+    → more ≡ with_one_more line lines → change_at i (λ m. record m { waiting = more }) xs ≡ change_at i (hearing test line) xs
+was_told test line xs i x heard lines more e is was reads put =
+    change_at-set (λ m. record m { waiting = more }) xs i x e
+    ∙ ap (λ (lines : List (List ℕ)). set xs i (record x { waiting = lines })) (put ∙ ap (with_one_more line) (reads x e))
+    ∙ ap (λ (b : Bool). set xs i (cond b (with_line line x) x)) (sym was ∙ is)
+    ∙ sym (change_at-set (hearing test line) xs i x e)
+
 -- a line that was put last is taken back
 taken_back : (line : List ℕ) (m : Member) → is_full m ≡ false → record m { waiting = without_last (with_line line m).waiting } ≡ m
 taken_back line m room =
@@ -76,19 +89,26 @@ room_heard : (test : Member → Bool) (m : Member) → hears test m ≡ true →
 room_heard test m heard = not-true (is_full m) (and_parts (test m) (not (is_full m)) heard).1
 
 -- where memory ran out behind a member that was told, the members are as before
-pub undone : (test : Member → Bool) (line : List ℕ) (xs after : List Member) (i : ℕ) (x there now back : Member) (is_told : Bool)
-    → slice_get xs i ≡ Some x → there ≡ hearing test line x → is_told ≡ hears test x → is_told ≡ true
-    → after ≡ set xs i there → slice_get after i ≡ Some now
-    → back ≡ record now { waiting = without_last now.waiting } → set after i back ≡ xs
-undone test line xs after i x there now back is_told e is told was same found taken =
+pub undone : (test : Member → Bool) (line : List ℕ) (xs after : List Member) (i : ℕ) (x : Member) (is_told : Bool) (lines left : List (List ℕ))
+    → slice_get xs i ≡ Some x → after ≡ set xs i (hearing test line x) → is_told ≡ hears test x → is_told ≡ true
+    → ((m : Member) → slice_get after i ≡ Some m → lines ≡ m.waiting) → left ≡ without_last lines
+    → change_at i (λ m. record m { waiting = left }) after ≡ xs
+undone test line xs after i x is_told lines left e same told was reads taken =
     let heard : hears test x ≡ true = sym told ∙ was in
-    let with : there ≡ with_line line x = is ∙ ap (λ b. cond b (with_line line x) x) heard in
-    let at : slice_get (set xs i there) i ≡ Some there = get-set_same xs i there (slice_get_within xs i x e) in
-    let both : Some there ≡ Some now = sym at ∙ ap (λ (ms : List Member). slice_get ms i) (sym same) ∙ found in
-    let one : there ≡ now = cc in
-    let fresh : now ≡ with_line line x = sym one ∙ with in
-    let old : back ≡ x = taken ∙ ap (λ (m : Member). record m { waiting = without_last m.waiting }) fresh ∙ taken_back line x (room_heard test x heard) in
-    ap (λ (ms : List Member). set ms i back) same ∙ ap (λ (m : Member). set (set xs i there) i m) old ∙ put_back xs i x there e
+    let fresh = with_line line x in
+    let made : after ≡ set xs i fresh = same ∙ ap (λ b. set xs i (cond b (with_line line x) x)) heard in
+    let at : slice_get after i ≡ Some fresh = ap (λ (ms : List Member). slice_get ms i) made ∙ get-set_same xs i fresh (slice_get_within xs i x e) in
+    let old : record fresh { waiting = left } ≡ x =
+    ap (λ (lines : List (List ℕ)). record x { waiting = lines }) (taken ∙ ap without_last (reads fresh at)) ∙ taken_back line x (room_heard test x heard) in
+    change_at-set (λ m. record m { waiting = left }) after i fresh at ∙ ap (set after i) old
+    ∙ ap (λ (ms : List Member). set ms i x) made ∙ put_back xs i x fresh e
+
+-- the members once the one at this place was told
+pub told_at : (test : Member → Bool) (line : List ℕ) (xs after : List Member) (i : ℕ) → i < length xs → after ≡ change_at i (hearing test line) xs
+    → (x : Member) × (slice_get xs i ≡ Some x) × (after ≡ set xs i (hearing test line x))
+told_at test line xs after i inside is =
+    let found = at_place xs i inside in
+    (found.0, found.1, is ∙ change_at-set (hearing test line) xs i found.0 found.1)
 
 session_by_test : (b : Bool) (line : List ℕ) (m : Member) → (cond b (with_line line m) m).session ≡ m.session
 session_by_test true line m = refl

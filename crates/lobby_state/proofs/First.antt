@@ -73,14 +73,3 @@ pub change_first-missing : {X : Type 0} (p : X → Bool) (f : X → X) (xs : Lis
 change_first-missing p f xs e =
     let past : length xs ≤ position_or_len p xs = past_end _ _ (none_by_test _ (position_or_len p xs) e) in
     change_first-nowhere p f xs (λ k d h. fails_before_first p xs k d (omega arith))
-
--- a list was searched by a view of it: a write at the place that was found, and nothing where none was, is the change
-pub changed_here : {X : Type 0} (p : X → Bool) (f : X → X) (view xs : List X) (i : ℕ) (x y : X) → view ≡ xs → Some i ≡ position p view
-    → slice_get xs i ≡ Some x → y ≡ f x → set xs i y ≡ change_first p f xs
-changed_here p f view xs i x y same here at is =
-    ap (λ z. set xs i z) is ∙ sym (change_first-found p f xs i x (ap (position p) (sym same) ∙ sym here) at)
-
-pub unchanged : {X : Type 0} (p : X → Bool) (f : X → X) (view xs : List X) → view ≡ xs → None ≡ position p view → xs ≡ change_first p f xs
-unchanged p f view xs same nowhere = sym (change_first-missing p f xs (ap (position p) (sym same) ∙ sym nowhere))
-
-pub ruleset the_first = (position-within, find-found, find-missing, change_first-found, change_first-missing)

@@ -1,10 +1,10 @@
--- Handles in the order of their keys: where one more belongs among them, that they stay in order, and that each member's
--- is among them once.
-use Rattle.std.proofs.Common.{◌≡◌, ◌⊎◌, ℕ, ◌≤◌, ◌<◌, zero, suc, Bool, true, false, not, List, [], ◌∷◌, length, get_or, refl, sym, ap, ◌∙◌, inl, inr, arith}
+-- Handles in the order of their keys: that they stay in order where one more takes its place, and that each member's is
+-- among them once.
+use Rattle.std.proofs.Common.{◌≡◌, ℕ, suc, Bool, true, false, List, [], ◌∷◌, refl, arith}
 use Rattle.std.specs.Prelude.{All, if◌then◌else◌}
 use Rattle.std.specs.Cmp.{IsStrictWeakOrder}
-use Rattle.std.specs.List.{AllPairs, insert}
-use Rattle.std.specs.List.Sorted.{IsPartitionPoint, IsPartitionedBy, IsPermutation}
+use Rattle.std.specs.List.{AllPairs}
+use Rattle.std.specs.List.Sorted.{IsPermutation}
 use Rattle.std.proofs.lemmas.Cmp.{nat_list_cmp_total}
 use Rattle.std.proofs.lemmas.List.Elements.{All-nil, All-cons, All-weaker}
 use Rattle.std.proofs.lemmas.List.Kept.{AllPairs-cons}
@@ -16,46 +16,6 @@ use Rattle.lobby_state.specs.Who.{AreInOrder, is_before, with_name}
 -- of any two keys one comes before the other, or they are one
 keys_rank : IsStrictWeakOrder is_before
 keys_rank = ranks_by nat_list_cmp_total key_of
-
-was_not : (b : Bool) → not b ≡ true → b ≡ false
-was_not true e = cc
-was_not false e = refl
-
-not_false : (b : Bool) → b ≡ false → not b ≡ true
-not_false true e = cc
-not_false false e = refl
-
-same_or_before : (i j : ℕ) → i ≤ j → (i ≡ j) ⊎ (i < j)
-same_or_before i j h = grind arith
-
--- the handles that come no later than this one stand before the others
-pub parted : (name : List ℕ) (names : List (List ℕ)) → AreInOrder names → IsPartitionedBy (λ other. not (is_before name other)) names
-parted name names order i j d low inside up = elim (same_or_before i j low) [
-  | inl same ↦ ap (λ (k : ℕ). not (is_before name (get_or names k d))) same ∙ up
-  | inr before ↦ not_false (is_before name (get_or names i d))
-      (keys_rank.chain name (get_or names j d) (get_or names i d) (was_not (is_before name (get_or names j d)) up) (order i j d before inside))
-]
-
-the_first : (b : Bool) (one another : List (List ℕ)) → not b ≡ false → (if b then one else another) ≡ one
-the_first true one another e = refl
-the_first false one another e = cc
-
-the_second : (b : Bool) (one another : List (List ℕ)) → not b ≡ true → (if b then one else another) ≡ another
-the_second true one another e = cc
-the_second false one another e = refl
-
--- and behind them it has its place
-pub put_there : (name : List ℕ) (names : List (List ℕ)) (i : ℕ) → i ≤ length names
-    → IsPartitionPoint (λ other. not (is_before name other) ≡ true) (λ other. not (is_before name other) ≡ false) names i
-    → insert names i name ≡ with_name name names
-put_there name [] zero low h = refl
-put_there name [] (suc i) low h = absurd (omega (arith, low))
-put_there name (other ∷ names) zero low h =
-    sym (the_first (is_before name other) (name ∷ other ∷ names) (other ∷ with_name name names) (h.1 0 other (omega arith) (omega arith)))
-put_there name (other ∷ names) (suc i) low h =
-    ap (λ (ns : List (List ℕ)). other ∷ ns) (put_there name names i (omega (arith, low))
-    ((λ k d from below. h.0 (suc k) d (omega arith) (omega (arith, below))), λ k d from inside. h.1 (suc k) d (omega (arith, from)) (omega (arith, inside))))
-    ∙ sym (the_second (is_before name other) (name ∷ other ∷ names) (other ∷ with_name name names) (h.0 0 other (omega arith) (omega arith)))
 
 pub pairs_head : {X : Type 0} (R : X → X → Type 0) (x : X) (xs : List X) → AllPairs R (x ∷ xs) → All (R x) xs
 pairs_head R x xs h k d inside = h 0 (suc k) d (omega arith) (omega (arith, inside))

@@ -1,4 +1,10 @@
 pub mod First
+pub mod Lent
+pub mod NamesInOrder
+pub mod NamedApart
+pub mod NamesKept
+pub mod NewNames
+pub mod RowsOfNames
 pub mod Words
 pub mod Lists
 pub mod SeekRows
@@ -21,6 +27,7 @@ pub mod GamesFound
 pub mod WaitingKept
 pub mod SettledOffers
 pub mod Naming
+pub mod OneHears
 pub mod KeepsShout
 pub mod KeepsTell
 pub mod KeepsChannel

@@ -1,5 +1,5 @@
 -- The change of a list of the session's member, among the members.
-use Rattle.std.proofs.Common.{◌≡◌, ℕ, Bool, true, false, List, Option, None, Some, Result, Ok, Err, slice_get, refl, sym, ap, ◌∙◌}
+use Rattle.std.proofs.Common.{◌≡◌, ℕ, Bool, true, false, List, Option, None, Some, Result, Ok, Err, slice_get, refl, sym, ap, subst, ◌∙◌}
 use Rattle.std.specs.List.{position}
 use Rattle.std.proofs.Math.ListN.{set}
 use Rattle.fics_words.specs.Effect.{Takes, first_cause}
@@ -7,9 +7,12 @@ use Rattle.fics_words.specs.declared.fail.Fail.{Fail}
 use Rattle.fics_words.specs.declared.fail.Fail.TheVariants.{Refused, Memory}
 use Rattle.lobby_state.specs.declared.member.Member.{Member}
 use Rattle.lobby_state.specs.declared.name_list.WhichList.{WhichList}
+use Rattle.lobby_state.specs.declared.name_list.WhichList.TheVariants.{Censor, Noplay}
 use Rattle.lobby_state.specs.Lobby.{is_session}
-use Rattle.lobby_state.specs.NameList.{change_among, list_causes, listing, names_on, naming}
-use Rattle.lobby_state.proofs.First.{change_first-found, change_first-missing, find-found, find-missing}
+use Rattle.lobby_state.specs.NameList.{change_among, list_causes, listing, names_on, naming, with_names_on}
+use Rattle.lobby_state.proofs.First.{change_first-found, change_first-missing, find-found, find-missing, position-within}
+use Rattle.lobby_state.proofs.Lent.{at_place, change_at-set, set-same}
+use Rattle.tables.specs.Rows.{change_at}
 
 -- an adding may need memory, and a removing doesn't
 memory_is : (names : List (List ℕ)) (key : List ℕ) (on : Bool) → (naming names key on).memory ≡ on
@@ -26,21 +29,41 @@ takes_nowhere members session which key on nowhere = (
   sym (change_first-missing (is_session session) (λ m. (listing which key on m).after) members nowhere),
 )
 
--- else that member changes, at its place
-pub takes_at : (members : List Member) (session : ℕ) (which : WhichList) (key : List ℕ) (on : Bool) (place : ℕ) (member new : Member)
-    (result : Result (Unit {0}) Fail) → position (is_session session) members ≡ Some place → slice_get members place ≡ Some member
-    → set members place member ≡ members → Takes (listing which key on member) member new result
-    → Takes (change_among session which key on members) members (set members place new) result
-takes_at members session which key on place member new (Ok reply) here there same t = (
-  ap (λ (m : Option Member). first_cause (list_causes which key on m)) (find-found (is_session session) members place here ∙ there) ∙ t.0,
+-- a list that is written as it was
+same_names : (which : WhichList) (m : Member) → with_names_on which (names_on which m) m ≡ m
+same_names Censor m = refl
+same_names Noplay m = refl
+
+-- else the list of that member changes, at its place
+taken : (members : List Member) (session : ℕ) (which : WhichList) (key : List ℕ) (on : Bool) (place : ℕ) (m : Member) (new : List (List ℕ))
+    (result : Result (Unit {0}) Fail) → position (is_session session) members ≡ Some place → slice_get members place ≡ Some m
+    → Takes (naming (names_on which m) key on) (names_on which m) new result
+    → Takes (change_among session which key on members) members (change_at place (with_names_on which new) members) result
+taken members session which key on place m new (Ok reply) here at t = (
+  ap (λ (m : Option Member). first_cause (list_causes which key on m)) (find-found (is_session session) members place here ∙ at) ∙ t.0,
   t.1,
-  ap (set members place) t.2 ∙ sym (change_first-found (is_session session) (λ m. (listing which key on m).after) members place member here there),
+  change_at-set (with_names_on which new) members place m at
+      ∙ ap (λ (names : List (List ℕ)). set members place (with_names_on which names m)) t.2
+      ∙ sym (change_first-found (is_session session) (λ m. (listing which key on m).after) members place m here at),
 )
-takes_at members session which key on place member new (Err (Refused cause)) here there same t = (
-  ap (λ (m : Option Member). first_cause (list_causes which key on m)) (find-found (is_session session) members place here ∙ there) ∙ t.0,
-  ap (set members place) t.1 ∙ same,
+taken members session which key on place m new (Err (Refused cause)) here at t = (
+  ap (λ (m : Option Member). first_cause (list_causes which key on m)) (find-found (is_session session) members place here ∙ at) ∙ t.0,
+  change_at-set (with_names_on which new) members place m at
+      ∙ ap (λ (names : List (List ℕ)). set members place (with_names_on which names m)) t.1
+      ∙ ap (set members place) (same_names which m) ∙ set-same members place m at,
 )
-takes_at members session which key on place member new (Err Memory) here there same t = (
-  sym (memory_is (names_on which member) key on) ∙ t.0,
-  ap (set members place) t.1 ∙ same,
+taken members session which key on place m new (Err Memory) here at t = (
+  sym (memory_is (names_on which m) key on) ∙ t.0,
+  change_at-set (with_names_on which new) members place m at
+      ∙ ap (λ (names : List (List ℕ)). set members place (with_names_on which names m)) t.1
+      ∙ ap (set members place) (same_names which m) ∙ set-same members place m at,
 )
+
+pub takes_there : (members : List Member) (session : ℕ) (which : WhichList) (key : List ℕ) (on : Bool) (place : ℕ) (old new : List (List ℕ))
+    (result : Result (Unit {0}) Fail) → Some place ≡ position (is_session session) members
+    → ((m : Member) → slice_get members place ≡ Some m → old ≡ names_on which m) → Takes (naming old key on) old new result
+    → Takes (change_among session which key on members) members (change_at place (with_names_on which new) members) result
+takes_there members session which key on place old new result here reads t =
+    let found = at_place members place (position-within (is_session session) members place (sym here)) in
+    taken members session which key on place found.0 new result (sym here) found.1
+    (subst (λ (names : List (List ℕ)). Takes (naming names key on) names new result) (reads found.0 found.1) t)

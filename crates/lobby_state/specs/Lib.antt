@@ -1,4 +1,5 @@
 pub mod Change
+pub mod Lent
 pub mod Desks
 pub mod Places
 pub mod Lobby
@@ -13,6 +14,7 @@ pub mod Post
 pub mod Unpost
 pub mod Sought
 pub mod Who
+pub mod Names
 pub mod Pending
 pub mod Games
 pub mod GamesFound

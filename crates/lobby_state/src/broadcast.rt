@@ -1,10 +1,13 @@
 //! A line that goes to all members whom a test names.
-ghost use Rattle.std.specs.Prelude.{◌≡◌, ◌+◌, ◌≤◌, ◌++◌, IfOk, OnErr, OnOk, drop, length, take};
-ghost use Rattle.channel_feed.specs.Waiting.{without_last};
+ghost use Rattle.std.specs.Prelude.{◌≡◌, ◌+◌, ◌<◌, ◌≤◌, ◌++◌, IfOk, OnErr, OnOk, Some, drop, length, slice_get, take};
 ghost use Rattle.lobby_state.specs.Broadcast.{broadcast, heard, hears, hearing};
+ghost use Rattle.lobby_state.specs.Lobby.{is_session};
 ghost use Rattle.lobby_state.specs.Said.{IsText, IsWording, said};
+ghost use Rattle.lobby_state.specs.declared.member.Member.{Member};
+ghost use Rattle.tables.specs.Rows.{change_at};
 
-use crate::member::{MOST_MEMBERS, Member, Members};
+use crate::member::Member;
+use crate::members::{MOST_MEMBERS, Members};
 use crate::register::Register;
 use crate::said::said_line;
 use collections::Predicate;
@@ -31,6 +34,41 @@ impl Register {
     {
         say(self.alloc, &mut self.members, test, name, wording, text)
     }
+
+    /// Says something to the member of this session, where it is one and fewer than 512 lines wait for it: who says it,
+    /// how it is said, and its text. Running out of memory changes nothing.
+    pub(crate) fn say_to(
+        &mut self,
+        to: u32,
+        name: Handle,
+        wording: &[u8],
+        text: &[u8],
+    ) -> Result<(), NoMemory>
+        requires wording { IsWording wording.now }
+        requires text { IsText text.now }
+        ensures ok { OnOk result (self.new ≡ record self.old {
+          members = broadcast (is_session to) (said name wording.now text.now) self.old.members;
+        }) }
+        ensures err { OnErr result (self.new ≡ self.old) }
+    {
+        let line = said_line(self.alloc, name, wording, text)?;
+        tell_session(&mut self.members, to, line)
+    }
+}
+
+/// Puts the line behind those that wait for the member of the session, where it is one and fewer than 512 do. Running out
+/// of memory changes nothing.
+pub(crate) fn tell_session(members: &mut Members, session: u32, line: Line) -> Result<(), NoMemory>
+    ensures ok { OnOk result (members.new ≡ broadcast (is_session session) line members.old) }
+    ensures err { OnErr result (members.new ≡ members.old) }
+{
+    // The slice is what says that no two sessions are equal.
+    let _rows = members.as_slice();
+    let Some(place) = members.place(session) else {
+        return Ok(());
+    };
+    members.waiting_mut(place).push(line)?;
+    Ok(())
 }
 
 /// Says something to each of these members whom the test names and for whom fewer than 512 lines wait, and answers how
@@ -87,33 +125,44 @@ fn tell_from<P: Predicate<Member>>(
     if place == members.len() {
         return Ok(0);
     }
-    let is_told = tell(members.item_mut(place), test, line)?;
+    let is_told = tell(members, place, test, line)?;
     match tell_from(members, place + 1, test, line) {
         Ok(others) => Ok(if is_told { others + 1 } else { others }),
         Err(NoMemory) => {
             if is_told {
-                take_back(members.item_mut(place));
+                members.waiting_mut(place).take_back();
             }
             Err(NoMemory)
         }
     }
 }
 
-/// Tells one member, where the test names it and fewer than 512 lines wait for it, and answers whether it did.
-fn tell<P: Predicate<Member>>(member: &mut Member, test: &P, line: &Line) -> Result<bool, NoMemory>
-    ensures told { IfOk result (λ is_told. is_told ≡ hears (P.passes test.now) member.old) }
-    ensures ok { OnOk result (member.new ≡ hearing (P.passes test.now) line.now member.old) }
-    ensures err { OnErr result (member.new ≡ member.old) }
+/// Tells the member at this place, where the test names it and fewer than 512 lines wait for it, and answers whether it
+/// did.
+fn tell<P: Predicate<Member>>(
+    members: &mut Members,
+    place: usize,
+    test: &P,
+    line: &Line,
+) -> Result<bool, NoMemory>
+    requires { place < length members.old }
+    ensures told { IfOk result (λ is_told.
+        (member : Member) → slice_get members.old place ≡ Some member → is_told ≡ hears (P.passes test.now) member) }
+    ensures many { length members.new ≡ length members.old }
+    ensures ok { OnOk result (members.new ≡ change_at place (hearing (P.passes test.now) line.now) members.old) }
+    ensures err { OnErr result (members.new ≡ members.old) }
 {
-    if !test.passes(member) || member.is_full() {
+    if !hears(members.at(place), test) {
         return Ok(false);
     }
-    member.waiting.push(line.duplicate()?)
+    let copy = line.duplicate()?;
+    members.waiting_mut(place).push(copy)?;
+    Ok(true)
 }
 
-/// Takes back the line that the member was told last.
-fn take_back(member: &mut Member)
-    ensures { member.new ≡ record member.old { waiting = without_last member.old.waiting } }
+/// Whether the test names the member, and fewer than 512 lines wait for it.
+fn hears<P: Predicate<Member>>(member: &Member, test: &P) -> bool
+    ensures { result ≡ hears (P.passes test.now) member.now }
 {
-    member.waiting.take_back();
+    test.passes(member) && !member.is_full()
 }

@@ -1,25 +1,10 @@
 //! Bye: a session is gone.
-ghost use Rattle.std.specs.Prelude.{Ok, not};
+ghost use Rattle.std.specs.Prelude.{Ok};
 ghost use Rattle.fics_words.specs.Effect.{Takes};
 ghost use Rattle.lobby_state.specs.Bye.{bye_effect};
-ghost use Rattle.lobby_state.specs.Lobby.{is_session};
 
 use crate::acts::LobbyReply;
-use crate::member::Member;
 use crate::register::Register;
-use collections::Predicate;
-
-/// A member of another session.
-#[derive(Clone, Copy)]
-struct OfAnother(u32);
-
-impl Predicate<Member> for OfAnother {
-    ghost passes = { λ test member. not (is_session test.0 member) };
-
-    fn passes(&self, member: &Member) -> bool {
-        member.session != self.0
-    }
-}
 
 impl Register {
     /// The session is gone, with every challenge, every seek, every request and the link that still names it, and is in
@@ -27,7 +12,7 @@ impl Register {
     pub(crate) fn bye(&mut self, session: u32) -> LobbyReply
         ensures { Takes (bye_effect self.old session) self.old self.new (Ok result) }
     {
-        self.members.retain(&OfAnother(session));
+        self.members.remove(session);
         self.challenges.forget(session);
         self.seeks.forget(session);
         self.channels.forget(session);

@@ -2,15 +2,15 @@
 ghost use Rattle.std.specs.Prelude.{◌≡◌, not};
 ghost use Rattle.lobby_state.specs.Start.{concerns_bound, is_between, is_bound, is_giver, is_settled};
 
-use crate::member::{Member, OfSession};
-use collections::{Predicate, find};
+use crate::members::Members;
+use collections::Predicate;
 use fics_words::Seats;
 use seek_match::Challenge;
 
 /// A challenge that stays as the game of these seats starts.
 #[derive(Clone, Copy)]
 pub(crate) struct Stays<'a> {
-    pub(crate) members: &'a [Member],
+    pub(crate) members: &'a Members,
     pub(crate) seats: Seats,
 }
 
@@ -31,24 +31,24 @@ fn is_between(seats: &Seats, challenge: &Challenge) -> bool
 }
 
 /// Whether the challenge is by or to a player of the game that gives no simul.
-fn concerns_bound(members: &[Member], seats: &Seats, challenge: &Challenge) -> bool
+fn concerns_bound(members: &Members, seats: &Seats, challenge: &Challenge) -> bool
     ensures { result ≡ concerns_bound members.now seats.now challenge.now }
 {
     is_bound(members, seats, challenge.from) || is_bound(members, seats, challenge.to)
 }
 
 /// Whether the session is a player of the game that gives no simul.
-fn is_bound(members: &[Member], seats: &Seats, session: u32) -> bool
+fn is_bound(members: &Members, seats: &Seats, session: u32) -> bool
     ensures { result ≡ is_bound members.now seats.now session }
 {
     seats.number(session).is_some() && !is_giver(members, session)
 }
 
 /// Whether the session is one of these members, and gives a simul.
-fn is_giver(members: &[Member], session: u32) -> bool
+fn is_giver(members: &Members, session: u32) -> bool
     ensures { result ≡ is_giver members.now session }
 {
-    match find(members, &OfSession(session)) {
+    match members.get(session) {
         None => false,
         Some(member) => member.gives(),
     }

@@ -3,7 +3,7 @@ ghost use Rattle.std.specs.Prelude.{◌≡◌};
 ghost use Rattle.lobby_state.specs.Clear.{cleared, freed, off_desk};
 ghost use Rattle.lobby_state.specs.Desks.{IsDesk};
 
-use crate::member::{Member, OfSession, change_first};
+use crate::member::Member;
 use crate::register::Register;
 use collections::Change;
 
@@ -24,7 +24,7 @@ impl Register {
     pub(crate) fn free(&mut self, session: u32, desk: u8)
         ensures { self.new ≡ freed self.old session desk }
     {
-        change_first(&mut self.members, &OfSession(session), &GetUp(desk));
+        self.members.change(session, &GetUp(desk));
     }
 
     /// The desk is free, and nobody has a place there any more.

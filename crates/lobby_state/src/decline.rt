@@ -3,7 +3,6 @@ ghost use Rattle.fics_words.specs.Effect.{Takes};
 ghost use Rattle.lobby_state.specs.Decline.{decline_effect};
 
 use crate::acts::LobbyReply;
-use crate::member::OfSession;
 use crate::register::Register;
 use fics_words::{Fail, HandleKey, Refusal};
 
@@ -25,12 +24,7 @@ impl Register {
             return Err(Fail::Refused(Refusal::NoChallenge));
         };
         let name = caller.name;
-        self.say(
-            &OfSession(offer.from),
-            name,
-            b" declines your challenge.",
-            b"",
-        )?;
+        self.say_to(offer.from, name, b" declines your challenge.", b"")?;
         self.challenges.remove(offer.from, offer.to);
         Ok(LobbyReply::Done)
     }

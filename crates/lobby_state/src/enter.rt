@@ -1,12 +1,13 @@
 //! Enter: a session comes in under a handle, or as a guest.
-ghost use Rattle.std.specs.Prelude.{◌≡◌, ◌<◌, ◌++◌, IfOk, OnOk, length, map};
+ghost use Rattle.std.specs.Prelude.{◌≡◌, ◌<◌, ◌++◌, IfOk, None, OnOk, length, map};
 ghost use Rattle.fics_words.specs.Effect.{Takes};
 ghost use Rattle.fics_words.specs.Handle.{key_of};
 ghost use Rattle.lobby_state.specs.Enter.{enter_effect, entering, entrant_of, guest_in};
-ghost use Rattle.lobby_state.specs.Lobby.{most_members};
+ghost use Rattle.lobby_state.specs.Lobby.{holder_of, member_of, most_members};
 
 use crate::acts::LobbyReply;
-use crate::member::{MOST_MEMBERS, Member};
+use crate::member::Member;
+use crate::members::MOST_MEMBERS;
 use crate::register::Register;
 use fics_words::{Account, Digest, Fail, Handle, HandleKey, NoMemory, Refusal};
 use login_handles::{Check, guest_name};
@@ -46,11 +47,13 @@ impl Register {
 
     /// The session stands behind the other members.
     fn come_in(&mut self, session: u32, name: Handle) -> Result<LobbyReply, Fail>
-        requires { length self.old.members < most_members }
+        requires room { length self.old.members < most_members }
+        requires new { member_of self.old session ≡ None }
+        requires handle { holder_of self.old (key_of name) ≡ None }
         ensures { Takes (entering self.old session name) self.old self.new result }
     {
         let newcomer = Member::newcomer(self.alloc, session, name);
-        self.members.push(newcomer);
+        self.members.push(newcomer)?;
         Ok(LobbyReply::Entered(name))
     }
 

@@ -4,7 +4,7 @@ ghost use Rattle.fics_words.specs.Effect.{Takes};
 ghost use Rattle.lobby_state.specs.Going.{going_effect, leaving};
 
 use crate::acts::LobbyReply;
-use crate::member::{Member, OfSession, change_first};
+use crate::member::Member;
 use crate::register::Register;
 use collections::Change;
 
@@ -27,7 +27,7 @@ impl Register {
         ensures { Takes (going_effect self.old session) self.old self.new (Ok result) }
     {
         let places = self.places(session);
-        change_first(&mut self.members, &OfSession(session), &Leave);
+        self.members.change(session, &Leave);
         self.challenges.forget(session);
         self.seeks.forget(session);
         self.partners.forget(session);

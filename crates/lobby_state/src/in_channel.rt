@@ -1,16 +1,16 @@
 //! InChannel: a member asks who is in a channel.
-ghost use Rattle.std.specs.Prelude.{◌≡◌, [], IfOk, filter};
+ghost use Rattle.std.specs.Prelude.{◌≡◌, IfOk, filter, map};
+ghost use Rattle.channel_feed.specs.Channels.{is_in};
 ghost use Rattle.fics_words.specs.Effect.{Takes};
-ghost use Rattle.lobby_state.specs.InChannel.{in_channel_effect, in_channel_lines, is_there};
-ghost use Rattle.lobby_state.specs.Who.{with_names};
+ghost use Rattle.lobby_state.specs.InChannel.{in_channel_effect, in_channel_lines};
 
 use crate::acts::LobbyReply;
-use crate::member::Member;
+use crate::name_row::NameRow;
 use crate::register::Register;
-use crate::who::{lines_of, put_name};
+use crate::who::line_of;
 use channel_feed::Channels;
 use collections::Listed;
-use fics_words::{Fail, Handle, Line, NoMemory, Refusal};
+use fics_words::{Fail, Line, NoMemory, Refusal};
 use std::alloc::Global;
 
 impl Register {
@@ -30,26 +30,25 @@ impl Register {
     pub(crate) fn in_channel_lines(&self, channel: u8) -> Result<Listed<Line>, NoMemory>
         ensures { IfOk result (λ lines. lines ≡ in_channel_lines self.now channel) }
     {
-        let names = names_in(self.alloc, self.members.as_slice(), &self.channels, channel)?;
-        lines_of(self.alloc, &names)
+        lines_in(self.alloc, self.members.names(), &self.channels, channel)
     }
 }
 
-/// The handles of those of these members that are in the channel, in the order of their keys.
-fn names_in(
+/// Those of these names whose members are in the channel, as lines.
+fn lines_in(
     alloc: Global,
-    members: &[Member],
+    names: &[NameRow],
     channels: &Channels,
     channel: u8,
-) -> Result<Vec<Handle>, NoMemory>
-    ensures { IfOk result (λ names.
-        names.items ≡ with_names [] (filter (is_there channels.now channel) members.now)) }
+) -> Result<Listed<Line>, NoMemory>
+    ensures { IfOk result (λ lines.
+        lines ≡ map (λ row. row.name) (filter (λ row. is_in channels.now row.session channel) names.now)) }
 {
-    let mut names = Vec::new(alloc);
-    for member in members {
-        if channels.has(member.session, channel) {
-            put_name(&mut names, member.name)?;
+    let mut lines = Listed::new(alloc);
+    for row in names {
+        if channels.has(row.session, channel) {
+            lines.push(line_of(alloc, row.name)?)?;
         }
     }
-    Ok(names)
+    Ok(lines)
 }

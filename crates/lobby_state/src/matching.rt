@@ -1,5 +1,6 @@
 //! Match: a member challenges another to a game.
 ghost use Rattle.std.specs.Prelude.{◌≡◌, IfOk, OnErr, OnOk};
+ghost use Rattle.channel_feed.specs.Waiting.{with_line as with_one_more};
 ghost use Rattle.fics_words.specs.Effect.{Takes, first_cause};
 ghost use Rattle.lobby_state.specs.Change.{change_first};
 ghost use Rattle.lobby_state.specs.Lobby.{is_named};
@@ -7,12 +8,13 @@ ghost use Rattle.lobby_state.specs.Match.{challenge_words, challenged_by, match_
 ghost use Rattle.seek_match.specs.Matches.{with_challenge};
 
 use crate::acts::LobbyReply;
-use crate::member::{Member, Members, Named};
+use crate::inbox::Inbox;
+use crate::member::Member;
+use crate::members::Members;
 use crate::pairing::is_simul_of_four;
 use crate::register::Register;
 use crate::terms::with_terms;
 use chess_model::Terms;
-use collections::position;
 use fics_words::{Fail, Handle, HandleKey, Line, NoMemory, Refusal};
 use seek_match::{Challenge, MatchBook};
 use std::alloc::Global;
@@ -108,31 +110,30 @@ fn put_and_tell_named(
     ensures err { OnErr result (challenges.new ≡ challenges.old) }
     ensures untold { OnErr result (members.new ≡ members.old) }
 {
-    let Some(place) = position(members, &Named(to)) else {
+    let Some(place) = members.place_named(to) else {
         challenges.put(challenge)?;
         return Ok(());
     };
-    put_and_tell(challenges, challenge, members.item_mut(place), line)?;
+    put_and_tell(challenges, challenge, members.waiting_mut(place), line)?;
     Ok(())
 }
 
-/// The challenge stands, and the line of it waits for the member. Where memory runs out behind the line, it is taken
-/// back.
+/// The challenge stands, and the line of it waits behind these. Where memory runs out behind the line, it is taken back.
 fn put_and_tell(
     challenges: &mut MatchBook,
     challenge: Challenge,
-    member: &mut Member,
+    waiting: &mut Inbox,
     line: Line,
 ) -> Result<(), NoMemory>
     ensures put { OnOk result (challenges.new ≡ with_challenge challenge challenges.old) }
-    ensures told { OnOk result (member.new ≡ with_line line member.old) }
+    ensures told { OnOk result (waiting.new ≡ with_one_more line waiting.old) }
     ensures err { OnErr result (challenges.new ≡ challenges.old) }
-    ensures untold { OnErr result (member.new ≡ member.old) }
+    ensures untold { OnErr result (waiting.new ≡ waiting.old) }
 {
-    let is_told = member.waiting.push(line)?;
+    let is_told = waiting.push(line)?;
     if let Err(NoMemory) = challenges.put(challenge) {
         if is_told {
-            member.waiting.take_back();
+            waiting.take_back();
         }
         return Err(NoMemory);
     }

@@ -1,26 +1,21 @@
-//! The members, and the changes of one of them.
+//! Somebody who is in the hall, and what waits for one.
 ghost use Rattle.std.specs.Prelude.{◌≡◌, OnOk, OnErr};
 ghost use Rattle.std.specs.List.{find};
 ghost use Rattle.lobby_state.specs.Change.{change_first};
 ghost use Rattle.lobby_state.specs.Enter.{newcomer};
 ghost use Rattle.lobby_state.specs.Fetch.{emptied};
-ghost use Rattle.lobby_state.specs.Lobby.{has_handle, is_session, is_named, gives, has_place, is_busy, lines_in};
+ghost use Rattle.lobby_state.specs.Lobby.{is_session, is_named, gives, has_place, is_busy, lines_in};
 ghost use Rattle.lobby_state.specs.Match.{is_full, with_line};
 ghost use Rattle.lobby_state.specs.Pairing.{is_crowded};
 
 use crate::inbox::Inbox;
+use crate::members::Members;
 use crate::wants::Wants;
 use channel_feed::NameList;
-use collections::{Change, Listed, Predicate, Roomy, position};
+use collections::Listed;
 use fics_words::{Handle, HandleKey, Line, NoMemory};
 use simul_control::Places;
 use std::alloc::Global;
-
-/// The most members that the hall holds.
-pub(crate) const MOST_MEMBERS: usize = 256;
-
-/// The members, in the order in which they entered.
-pub(crate) type Members = Roomy<Member, MOST_MEMBERS>;
 
 /// Somebody who is in the hall.
 #[derive(Drop)]
@@ -97,66 +92,15 @@ impl Member {
     }
 }
 
-/// The member of this session.
-#[derive(Clone, Copy)]
-pub(crate) struct OfSession(pub(crate) u32);
-
-impl Predicate<Member> for OfSession {
-    ghost passes = { λ test member. is_session test.0 member };
-
-    fn passes(&self, member: &Member) -> bool {
-        member.session == self.0
-    }
-}
-
-/// The member that has the handle with this key, going or not.
-#[derive(Clone, Copy)]
-pub(crate) struct WithHandle(pub(crate) HandleKey);
-
-impl Predicate<Member> for WithHandle {
-    ghost passes = { λ test member. has_handle test.0 member };
-
-    fn passes(&self, member: &Member) -> bool {
-        member.name.key() == self.0
-    }
-}
-
-/// The member that this key names.
-#[derive(Clone, Copy)]
-pub(crate) struct Named(pub(crate) HandleKey);
-
-impl Predicate<Member> for Named {
-    ghost passes = { λ test member. is_named test.0 member };
-
-    fn passes(&self, member: &Member) -> bool {
-        WithHandle(self.0).passes(member) && !member.going
-    }
-}
-
-/// Changes the first member that passes the test, if any does.
-#[tactic(auto, using(crate::proofs::First::the_first))]
-pub(crate) fn change_first<P: Predicate<Member>, C: Change<Member>>(
-    members: &mut Members,
-    test: &P,
-    change: &C,
-)
-    ensures { members.new ≡ change_first (P.passes test.now) (C.changed change.now) members.old }
-{
-    if let Some(place) = position(members, test) {
-        change.change(members.item_mut(place));
-    }
-}
-
 /// Puts a line behind those that wait for the member that the key names, where fewer than 512 do.
 pub(crate) fn add_line(members: &mut Members, to: HandleKey, line: Line) -> Result<(), NoMemory>
     ensures ok { OnOk result (members.new ≡ change_first (is_named to) (with_line line) members.old) }
     ensures err { OnErr result (members.new ≡ members.old) }
 {
-    let Some(place) = position(members, &Named(to)) else {
+    let Some(place) = members.place_named(to) else {
         return Ok(());
     };
-    let member = members.item_mut(place);
-    member.waiting.push(line)?;
+    members.waiting_mut(place).push(line)?;
     Ok(())
 }
 
@@ -165,9 +109,8 @@ pub(crate) fn take_lines(alloc: Global, members: &mut Members, session: u32) -> 
     ensures lines { result ≡ lines_in (find (is_session session) members.old) }
     ensures emptied { members.new ≡ change_first (is_session session) emptied members.old }
 {
-    let Some(place) = position(members, &OfSession(session)) else {
+    let Some(place) = members.place(session) else {
         return Listed::new(alloc);
     };
-    let member = members.item_mut(place);
-    member.waiting.take_all()
+    members.waiting_mut(place).take_all()
 }

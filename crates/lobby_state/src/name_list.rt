@@ -1,12 +1,13 @@
 //! List: a member puts a name on one of its two lists, or takes it off; and what the lists keep away.
-ghost use Rattle.std.specs.Prelude.{◌≡◌, Some, false, true};
-ghost use Rattle.fics_words.specs.Effect.{Takes, answer_of, state_of};
-ghost use Rattle.lobby_state.specs.NameList.{avoids, censors, change_among, list_effect, listing};
+ghost use Rattle.std.specs.Prelude.{◌≡◌, Some};
+ghost use Rattle.fics_words.specs.Effect.{Takes};
+ghost use Rattle.lobby_state.specs.NameList.{avoids, censors, change_among, list_effect, naming};
 
 use crate::acts::LobbyReply;
-use crate::member::{Member, Members, OfSession};
+use crate::member::Member;
+use crate::members::Members;
 use crate::register::Register;
-use collections::position;
+use channel_feed::NameList;
 use fics_words::{Fail, HandleKey, Refusal};
 
 /// A list of names of a member, by FICS's names.
@@ -32,38 +33,6 @@ impl Member {
     {
         let key = other.name.key();
         self.noplay.has(key) || self.censor.has(key)
-    }
-
-    /// Puts the name on that list. Refuses with `OnList` where it is on it, and else with `ListFull` where 100 are.
-    fn add_name(&mut self, which: WhichList, name: HandleKey) -> Result<(), Fail>
-        ensures { Takes (listing which name true self.old) self.old self.new result }
-    {
-        match which {
-            WhichList::Censor => self.censor.add(name),
-            WhichList::Noplay => self.noplay.add(name),
-        }
-    }
-
-    /// Takes the name off that list, which takes no memory. Refuses with `NotOnList` where it isn't on it.
-    fn remove_name(&mut self, which: WhichList, name: HandleKey) -> Result<(), Refusal>
-        ensures answer { result ≡ answer_of (listing which name false self.old) }
-        ensures after { self.new ≡ state_of self.old (listing which name false self.old) }
-    {
-        match which {
-            WhichList::Censor => self.censor.remove(name),
-            WhichList::Noplay => self.noplay.remove(name),
-        }
-    }
-
-    /// Puts the name on that list, or takes it off.
-    fn change_list(&mut self, which: WhichList, name: HandleKey, on: bool) -> Result<(), Fail>
-        ensures { Takes (listing which name on self.old) self.old self.new result }
-    {
-        if on {
-            return self.add_name(which, name);
-        }
-        self.remove_name(which, name)?;
-        Ok(())
     }
 }
 
@@ -98,9 +67,23 @@ fn change_list(
 ) -> Result<(), Fail>
     ensures { Takes (change_among session which name on members.old) members.old members.new result }
 {
-    let Some(place) = position(members, &OfSession(session)) else {
+    let Some(place) = members.place(session) else {
         return Ok(());
     };
-    let member = members.item_mut(place);
-    member.change_list(which, name, on)
+    match which {
+        WhichList::Censor => change_names(members.censor_mut(place), name, on),
+        WhichList::Noplay => change_names(members.noplay_mut(place), name, on),
+    }
+}
+
+/// Puts the name on the list, or takes it off. Refuses with `OnList` where it is on it, and else with `ListFull` where 100
+/// are; and where it is taken off, which takes no memory, with `NotOnList` where it isn't on it.
+fn change_names(names: &mut NameList, name: HandleKey, on: bool) -> Result<(), Fail>
+    ensures { Takes (naming names.old name on) names.old names.new result }
+{
+    if on {
+        return names.add(name);
+    }
+    names.remove(name)?;
+    Ok(())
 }

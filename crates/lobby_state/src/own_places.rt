@@ -2,7 +2,7 @@
 ghost use Rattle.std.specs.Prelude.{◌≡◌};
 ghost use Rattle.lobby_state.specs.OwnPlaces.{placed, with_places};
 
-use crate::member::{Member, OfSession, change_first};
+use crate::member::Member;
 use crate::register::Register;
 use collections::Change;
 use simul_control::Places;
@@ -24,6 +24,6 @@ impl Register {
     pub(crate) fn put_places(&mut self, session: u32, places: Places)
         ensures { self.new ≡ placed self.old session places }
     {
-        change_first(&mut self.members, &OfSession(session), &Moved(places));
+        self.members.change(session, &Moved(places));
     }
 }

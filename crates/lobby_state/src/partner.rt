@@ -7,8 +7,9 @@ ghost use Rattle.lobby_state.specs.Partner.{ask_causes, ask_effect, asked_reply,
 ghost use Rattle.lobby_state.specs.Partner.{partner_effect, partner_words};
 
 use crate::acts::LobbyReply;
-use crate::broadcast::broadcast;
-use crate::member::{Member, Members, OfSession};
+use crate::broadcast::tell_session;
+use crate::member::Member;
+use crate::members::Members;
 use crate::register::Register;
 use crate::said::{joined, said_line};
 use fics_words::{Fail, Handle, HandleKey, Line, NoMemory, Refusal};
@@ -90,12 +91,7 @@ impl Register {
             return Err(Fail::Refused(Refusal::NoPartner));
         };
         let name = caller.name;
-        self.say(
-            &OfSession(partner),
-            name,
-            b" is no longer your partner.",
-            b"",
-        )?;
+        self.say_to(partner, name, b" is no longer your partner.", b"")?;
         self.partners.part(session)?;
         Ok(LobbyReply::Done)
     }
@@ -108,13 +104,13 @@ fn tell_asked(
     other: u32,
     name: Handle,
     linked: bool,
-) -> Result<u16, NoMemory>
+) -> Result<(), NoMemory>
     ensures ok { OnOk result
         (members.new ≡ broadcast (is_session other) (partner_words linked name) members.old) }
     ensures err { OnErr result (members.new ≡ members.old) }
 {
     let line = partner_line(alloc, name, linked)?;
-    broadcast(members, &OfSession(other), &line)
+    tell_session(members, other, line)
 }
 
 /// What an ask is answered, where the two are partners from then on and where not.

@@ -6,7 +6,8 @@ ghost use Rattle.lobby_state.specs.Post.{hears_seeks, post_effect, seek_words, s
 
 use crate::acts::LobbyReply;
 use crate::broadcast::broadcast;
-use crate::member::{Member, Members};
+use crate::member::Member;
+use crate::members::Members;
 use crate::register::Register;
 use crate::said::{joined, put_numbered};
 use crate::terms::words_of_terms;

@@ -4,7 +4,6 @@ ghost use Rattle.fics_words.specs.Effect.{Takes};
 ghost use Rattle.lobby_state.specs.Ptell.{is_partner_full, ptell_effect};
 
 use crate::acts::LobbyReply;
-use crate::member::OfSession;
 use crate::register::Register;
 use fics_words::{Fail, Line, Refusal};
 
@@ -25,12 +24,7 @@ impl Register {
             return Err(Fail::Refused(Refusal::QueueFull));
         }
         let name = caller.name;
-        self.say(
-            &OfSession(partner),
-            name,
-            b" (your partner) tells you: ",
-            text.bytes(),
-        )?;
+        self.say_to(partner, name, b" (your partner) tells you: ", text.bytes())?;
         Ok(LobbyReply::Told(1))
     }
 

@@ -4,9 +4,10 @@ ghost use Rattle.lobby_state.specs.Desks.{IsDesk};
 ghost use Rattle.lobby_state.specs.Lobby.{holder_of, opening, member_of, named, places_of, waiting_of, free_slot, game_at, partner_in};
 
 use crate::game::{Game, no_games};
-use crate::member::{Member, Members, Named, OfSession, WithHandle};
+use crate::member::Member;
+use crate::members::Members;
 use channel_feed::Channels;
-use collections::{Listed, find};
+use collections::Listed;
 use fics_words::{HandleKey, Line, NoMemory};
 use game_shelf::GameShelf;
 use login_handles::Accounts;
@@ -124,21 +125,21 @@ impl Register {
     pub(crate) fn member(&self, session: u32) -> Option<&Member>
         ensures { option_copied result ≡ member_of self.now session }
     {
-        find(self.members.as_slice(), &OfSession(session))
+        self.members.get(session)
     }
 
     /// The member that the handle names, if there is one and it isn't going.
     pub(crate) fn named(&self, key: HandleKey) -> Option<&Member>
         ensures { option_copied result ≡ named self.now key }
     {
-        find(self.members.as_slice(), &Named(key))
+        self.members.named(key)
     }
 
     /// The member that has the handle with this key, going or not.
     pub(crate) fn with_handle(&self, key: HandleKey) -> Option<&Member>
         ensures { option_copied result ≡ holder_of self.now key }
     {
-        find(self.members.as_slice(), &WithHandle(key))
+        self.members.with_handle(key)
     }
 
     /// The session's partner, if it has one.

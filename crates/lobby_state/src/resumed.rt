@@ -13,10 +13,9 @@ ghost use Rattle.lobby_state.specs.Reserve.{HasRoomFor, asking_for, shelved_in, 
 ghost use Rattle.lobby_state.specs.Resumed.{asked_of, with_lines};
 
 use crate::inbox::Inbox;
-use crate::member::{Members, OfSession};
+use crate::members::Members;
 use crate::register::Register;
 use crate::reserve::Ready;
-use collections::position;
 
 impl Register {
     /// The desk is free, nobody has a place there any more, and its game is on the shelf where it was adjourned.
@@ -67,9 +66,9 @@ impl Register {
 fn put_lines(members: &mut Members, session: u32, lines: Inbox)
     ensures { members.new ≡ change_first (is_session session) (with_lines lines) members.old }
 {
-    let Some(place) = position(members, &OfSession(session)) else {
+    let Some(place) = members.place(session) else {
         return;
     };
-    let member = members.item_mut(place);
-    member.waiting = lines;
+    let waiting = members.waiting_mut(place);
+    *waiting = lines;
 }

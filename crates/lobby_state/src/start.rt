@@ -6,7 +6,8 @@ ghost use Rattle.lobby_state.specs.Start.{in_seat, is_by_seated, is_settled, sea
 
 use crate::challenges::Stays;
 use crate::game::Game;
-use crate::member::{Member, Members};
+use crate::member::Member;
+use crate::members::Members;
 use crate::register::Register;
 use crate::seeks::ByUnseated;
 use chess_model::Terms;
@@ -88,7 +89,7 @@ fn sit_down(members: &mut Members, desk: u8, serial: u64, seats: &Seats)
 }
 
 /// The challenges of the players go, but for a giver's with others.
-fn drop_challenges(challenges: &mut MatchBook, members: &[Member], seats: &Seats)
+fn drop_challenges(challenges: &mut MatchBook, members: &Members, seats: &Seats)
     ensures { challenges.new
         ≡ filter (λ challenge. not (is_settled members.now seats.now challenge)) challenges.old }
 {

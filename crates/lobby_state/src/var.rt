@@ -3,7 +3,7 @@ ghost use Rattle.fics_words.specs.Effect.{Takes};
 ghost use Rattle.lobby_state.specs.Var.{var_effect, with_var};
 
 use crate::acts::LobbyReply;
-use crate::member::{Member, OfSession, change_first};
+use crate::member::Member;
 use crate::register::Register;
 use collections::Change;
 use fics_words::{Fail, Refusal};
@@ -47,11 +47,7 @@ impl Register {
         if self.member(session).is_none() {
             return Err(Fail::Refused(Refusal::NotIn));
         }
-        change_first(
-            &mut self.members,
-            &OfSession(session),
-            &Setting { which, on },
-        );
+        self.members.change(session, &Setting { which, on });
         Ok(LobbyReply::Done)
     }
 }

@@ -1,17 +1,13 @@
 //! Who: a member asks who is in the hall.
-ghost use Rattle.std.specs.Prelude.{◌≡◌, ◌≤◌, [], IfOk, OnOk, length, not};
-ghost use Rattle.std.specs.Cmp.Lexicographic.{slice_cmp};
-ghost use Rattle.std.specs.List.{insert};
-ghost use Rattle.std.specs.Ordering.{is_lt, nat_cmp};
+ghost use Rattle.std.specs.Prelude.{◌≡◌, IfOk, map};
 ghost use Rattle.fics_words.specs.Effect.{Takes};
-ghost use Rattle.fics_words.specs.Handle.{key_of};
-ghost use Rattle.lobby_state.specs.Who.{AreInOrder, who_effect, who_lines, with_name, with_names};
+ghost use Rattle.lobby_state.specs.Who.{who_effect, who_lines};
 
 use crate::acts::LobbyReply;
-use crate::member::Member;
+use crate::name_row::NameRow;
 use crate::register::Register;
-use collections::Listed;
-use fics_words::{Fail, Handle, HandleKey, Line, NoMemory, Refusal};
+use collections::{Listed, Reserved};
+use fics_words::{Fail, Handle, Line, NoMemory, Refusal};
 use std::alloc::Global;
 
 impl Register {
@@ -30,67 +26,24 @@ impl Register {
     pub(crate) fn who_lines(&self) -> Result<Listed<Line>, NoMemory>
         ensures { IfOk result (λ lines. lines ≡ who_lines self.now) }
     {
-        let names = names_of(self.alloc, self.members.as_slice())?;
-        lines_of(self.alloc, &names)
+        lines_of(self.alloc, self.members.names())
     }
 }
 
-/// The handles of these members, in the order of their keys.
-fn names_of(alloc: Global, members: &[Member]) -> Result<Vec<Handle>, NoMemory>
-    ensures { IfOk result (λ names. names.items ≡ with_names [] members.now) }
+/// The names as lines, in a block that is taken once.
+fn lines_of(alloc: Global, names: &[NameRow]) -> Result<Listed<Line>, NoMemory>
+    ensures { IfOk result (λ lines. lines ≡ map (λ row. row.name) names.now) }
 {
-    let mut names = Vec::with_capacity(alloc, members.len())?;
-    for member in members {
-        put_name(&mut names, member.name)?;
+    let mut lines = Reserved::new(alloc);
+    lines.reserve(names.len())?;
+    for row in names {
+        lines.push(line_of(alloc, row.name)?);
     }
-    Ok(names)
-}
-
-/// Puts a handle among others that stand in the order of their keys.
-pub(crate) fn put_name(names: &mut Vec<Handle>, name: Handle) -> Result<(), NoMemory>
-    requires { AreInOrder names.old.items }
-    ensures { OnOk result (names.new.items ≡ with_name name names.old.items) }
-{
-    let place = place_of(name, names.as_slice());
-    names.insert(place, name)?;
-    Ok(())
-}
-
-/// Where the handle belongs among others that stand in the order of their keys. It is found by halves, since a Who of a
-/// full hall asks this 256 times.
-fn place_of(name: Handle, names: &[Handle]) -> usize
-    requires { AreInOrder names.now }
-    ensures within { result ≤ length names.now }
-    ensures place { insert names.now result name ≡ with_name name names.now }
-{
-    let key = name.key();
-    names.partition_point(
-        |other: &Handle| -> bool
-            ensures { result ≡ not (is_lt (slice_cmp nat_cmp key (key_of other.now))) }
-        { !is_before(key, other) },
-    )
-}
-
-/// Whether this key comes before that of the handle.
-fn is_before(key: HandleKey, other: &Handle) -> bool
-    ensures { result ≡ is_lt (slice_cmp nat_cmp key (key_of other.now)) }
-{
-    key.cmp(&other.key()).is_lt()
-}
-
-/// The handles as lines.
-pub(crate) fn lines_of(alloc: Global, names: &[Handle]) -> Result<Listed<Line>, NoMemory>
-    ensures { IfOk result (λ lines. lines ≡ names.now) }
-{
-    let mut lines = Listed::new(alloc);
-    for name in names {
-        lines.push(line_of(alloc, *name)?)?;
-    }
-    Ok(lines)
+    Ok(lines.take())
 }
 
 /// A handle as a line.
-fn line_of(alloc: Global, name: Handle) -> Result<Line, NoMemory>
+pub(crate) fn line_of(alloc: Global, name: Handle) -> Result<Line, NoMemory>
     ensures { IfOk result (λ line. line ≡ name) }
 {
     let letters = Vec::from_slice(alloc, name.letters())?;

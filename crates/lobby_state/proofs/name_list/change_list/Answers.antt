@@ -1,18 +1,26 @@
-use Rattle.std.proofs.Common.{◌≡◌, None, Some, sym, ap, ◌∙◌}
-use Rattle.std.specs.List.{position}
-use Rattle.lobby_state.specs.Lobby.{is_session}
-use Rattle.lobby_state.proofs.Listing.{takes_at, takes_nowhere}
+use Rattle.std.proofs.Common.{sym, subst}
+use Rattle.fics_words.specs.Effect.{Takes}
+use Rattle.lobby_state.specs.declared.member.Member.{Member}
+use Rattle.lobby_state.specs.declared.name_list.WhichList.{WhichList}
+use Rattle.lobby_state.specs.declared.name_list.WhichList.TheVariants.{Censor, Noplay}
+use Rattle.lobby_state.specs.NameList.{change_among}
+use Rattle.tables.specs.Rows.{change_at}
+use Rattle.lobby_state.proofs.Listing.{takes_nowhere, takes_there}
 use Rattle.lobby_state.proofs.name_list.change_list.Goals as goal
 
 pub returns-in_default : goal.returns-in_default
-returns-in_default c =
-    let p = is_session c.args.session in
-    let nowhere : position p c.args.members.now ≡ None = ap (position p) (sym c.deref.ensures.0) ∙ sym c.in_default.ensures in
-    takes_nowhere c.args.members.now c.args.session c.args.which c.args.name c.args.on nowhere
+returns-in_default c = takes_nowhere c.args.members.now c.args.session c.args.which c.args.name c.args.on (sym c.in_default.ensures)
 
-pub returns : goal.returns
-returns c =
-    let p = is_session c.args.session in
-    let here : position p c.args.members.now ≡ Some c.in-Some.place = ap (position p) (sym c.deref.ensures.0) ∙ sym c.in-Some.ensures in
-    takes_at c.args.members.now c.args.session c.args.which c.args.name c.args.on c.in-Some.place c.item_mut-member.result.now c.change_list.new.self c.change_list.result
-    here c.item_mut-member.ensures.value c.item_mut-member.ensures.rewritten c.change_list.ensures
+pub returns-in-Censor : goal.returns-in-Censor
+returns-in-Censor c =
+    subst (λ (which : WhichList). Takes (change_among c.args.session which c.args.name c.args.on c.args.members.now) c.args.members.now (change_at c.in-Some.place (λ (m : Member). record m { censor = c.change_names.new.names }) c.args.members.now) c.change_names.result)
+    (sym c.in-Censor.is)
+    (takes_there c.args.members.now c.args.session Censor c.args.name c.args.on c.in-Some.place c.censor_mut.result.now c.change_names.new.names c.change_names.result
+    c.in-Some.ensures c.censor_mut.ensures.value c.change_names.ensures)
+
+pub returns-in-Noplay : goal.returns-in-Noplay
+returns-in-Noplay c =
+    subst (λ (which : WhichList). Takes (change_among c.args.session which c.args.name c.args.on c.args.members.now) c.args.members.now (change_at c.in-Some.place (λ (m : Member). record m { noplay = c.change_names-in-Noplay.new.names }) c.args.members.now) c.change_names-in-Noplay.result)
+    (sym c.in-Noplay.is)
+    (takes_there c.args.members.now c.args.session Noplay c.args.name c.args.on c.in-Some.place c.noplay_mut.result.now c.change_names-in-Noplay.new.names c.change_names-in-Noplay.result
+    c.in-Some.ensures c.noplay_mut.ensures.value c.change_names-in-Noplay.ensures)

@@ -1,5 +1,5 @@
 use Rattle.lobby_state.proofs.Words.{IsWording-declines}
 use Rattle.lobby_state.proofs.register.Register.decline.Goals as goal
 
-pub say-requires-clause-wording : goal.say-requires-clause-wording
-say-requires-clause-wording c = IsWording-declines
+pub say_to-requires-clause-wording : goal.say_to-requires-clause-wording
+say_to-requires-clause-wording c = IsWording-declines

@@ -3,11 +3,11 @@ use Rattle.lobby_state.proofs.KeepsPtell.{confides}
 use Rattle.lobby_state.proofs.Words.{IsWording-confides}
 use Rattle.lobby_state.proofs.register.Register.ptell.Goals as goal
 
-pub say-requires-clause-wording : goal.say-requires-clause-wording
-say-requires-clause-wording c = IsWording-confides
+pub say_to-requires-clause-wording : goal.say_to-requires-clause-wording
+say_to-requires-clause-wording c = IsWording-confides
 
 pub returns : goal.returns
 returns c =
-    confides c.args.self.now c.say.new.self c.args.session c.in-Some-partner_of.partner c.args.text.now c.bytes.result.now c.in-Some.caller.now
+    confides c.args.self.now c.say_to.new.self c.args.session c.in-Some-partner_of.partner c.args.text.now c.bytes.result.now c.in-Some.caller.now
     (sym c.in-Some.ensures) (sym c.in-Some-partner_of.ensures) (sym c.is_partner_full.ensures ∙ c.if-is_partner_full.false)
-    c.bytes.ensures.bytes c.in_ok-say.ensures.ok
+    c.bytes.ensures.bytes c.in_ok-say_to.ensures.ok
