@@ -20,6 +20,11 @@ abbrev pub OnWriteFailed : Sent → Type 0 → Type 0
 OnWriteFailed Failed P = P
 OnWriteFailed answer P = Unit {0}
 
+-- the fact holds where the write didn't fail
+abbrev pub UnlessWriteFailed : Sent → Type 0 → Type 0
+UnlessWriteFailed Failed P = Unit {0}
+UnlessWriteFailed answer P = P
+
 -- whether a write failed
 abbrev pub write_failed : Sent → Bool
 write_failed Failed = true

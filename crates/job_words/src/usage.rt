@@ -1,6 +1,6 @@
 //! What is written where the words name no job that is done.
 
-ghost use Rattle.std.specs.Prelude.{◌≡◌};
+ghost use Rattle.std.specs.Prelude.{◌≡◌, ◌⊎◌};
 ghost use Rattle.edge_traits.specs.Faults.{Rose};
 ghost use Rattle.job_words.specs.Usage.{UsageEnds};
 
@@ -17,6 +17,7 @@ const USAGE_STATUS: u8 = 1;
 pub fn tell_usage<K: Sink>(sink: &mut K) -> u8
     ensures ends { UsageEnds (K.written sink.old) (K.written sink.new) result }
     ensures cause { result ≡ 3 → Rose (K.faults sink.old) (K.faults sink.new) }
+    ensures calm { (result ≡ 3) ⊎ (K.faults sink.new ≡ K.faults sink.old) }
 {
     match send(USAGE, sink) {
         Ok(()) => USAGE_STATUS,

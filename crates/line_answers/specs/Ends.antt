@@ -1,5 +1,5 @@
 -- The ways in which the reading of an input ends: what was read by then, and the number that tells of each.
-use Rattle.std.specs.Prelude.{◌≡◌, ℕ, Bool, true, List, Option}
+use Rattle.std.specs.Prelude.{◌≡◌, ℕ, Bool, true, List, Option, Err, Result}
 use Rattle.std.specs.Io.KnownBytes.{Consumes, IsAtEnd}
 use Rattle.line_answers.specs.declared.end.End.{End}
 use Rattle.line_answers.specs.declared.end.End.TheVariants.{Done, ReadFault, WriteFault, Memory, BadLine, Spent}
@@ -26,3 +26,8 @@ OnReadFault end P = Unit {0}
 abbrev pub OnWriteFault : End → Type 0 → Type 0
 OnWriteFault WriteFault P = P
 OnWriteFault end P = Unit {0}
+
+-- the fact holds unless a write failed
+abbrev pub UnlessWriteFault : {A : Type 0} → Result A End → Type 0 → Type 0
+UnlessWriteFault (Err WriteFault) P = Unit {0}
+UnlessWriteFault answer P = P

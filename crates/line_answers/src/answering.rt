@@ -1,10 +1,10 @@
 //! The reading of the input of a feeder: reads it to its end, feeds what comes, and writes what is due for it.
 
-ghost use Rattle.std.specs.Prelude.{◌≢◌, ◌≤◌, [], ◌++◌, ℕ, List, true, false, IfErr};
+ghost use Rattle.std.specs.Prelude.{◌≡◌, ◌≢◌, ◌≤◌, [], ◌++◌, ℕ, List, true, false, IfErr};
 ghost use Rattle.std.specs.declared.option.Option.{Option};
 ghost use Rattle.std.specs.Io.KnownBytes.{Appends};
 ghost use Rattle.edge_traits.specs.Faults.{Rose};
-ghost use Rattle.line_answers.specs.Ends.{OnReadFault, OnWriteFault};
+ghost use Rattle.line_answers.specs.Ends.{OnReadFault, OnWriteFault, UnlessWriteFault};
 ghost use Rattle.line_answers.specs.FeederEnds.{FeederEnds};
 ghost use Rattle.line_answers.specs.Feeding.{CanBeFed};
 ghost use Rattle.line_answers.specs.Reading.{AfterAnswer, AfterFinish, AfterSend, AfterSendLast};
@@ -138,6 +138,7 @@ pub fn send<K: Sink>(bytes: &[u8], sink: &mut K) -> Result<(), End>
     ensures sent { AfterSend (K.written sink.old) (K.written sink.new) bytes.now result }
     ensures cause { IfErr result (λ end. OnWriteFault end (Rose (K.faults sink.old) (K.faults sink.new))) }
     ensures counted { K.faults sink.old ≤ K.faults sink.new }
+    ensures calm { UnlessWriteFault result (K.faults sink.new ≡ K.faults sink.old) }
 {
     if bytes.is_empty() {
         return Ok(());

@@ -109,7 +109,7 @@ bytes_pause (Pause ∷ signs) = bytes_pause signs
 inputs_open : (signs : List Sign) → inputs_of signs false ≡ inputs_behind [] signs
 inputs_open signs = append-nil (inputs_behind [] signs)
 
-more_open : (signs more : List Sign) → inputs_of (signs ++ more) false ≡ inputs_of signs false ++ inputs_behind (bytes_of signs) more
+pub more_open : (signs more : List Sign) → inputs_of (signs ++ more) false ≡ inputs_of signs false ++ inputs_behind (bytes_of signs) more
 more_open signs more =
     inputs_open (signs ++ more) ∙ inputs_more [] signs more ∙ ap (λ (l : List Input). l ++ inputs_behind (bytes_of signs) more) (sym (inputs_open signs))
 

@@ -5,3 +5,4 @@ pub mod Stamps
 pub mod Stepping
 pub mod Ending
 pub mod Owning
+pub mod Answering

@@ -13,6 +13,6 @@ mod link_end;
 mod moment;
 mod serving;
 
-pub use laws::served_links_are_their_own;
+pub use laws::{each_line_is_answered, served_links_are_their_own};
 pub use link_end::LinkEnd;
 pub use serving::serve_link;

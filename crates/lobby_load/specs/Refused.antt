@@ -1,5 +1,5 @@
 -- Why a store wasn't loaded or opened.
-use Rattle.std.specs.Prelude.{ℕ, List, Err, Result}
+use Rattle.std.specs.Prelude.{ℕ, List, Ok, Err, Result}
 use Rattle.lobby_load.specs.declared.refusals.LoadRefusal.{LoadRefusal}
 use Rattle.lobby_load.specs.declared.refusals.LoadRefusal.TheVariants as load
 use Rattle.lobby_load.specs.declared.refusals.StoreFault.{StoreFault}
@@ -29,3 +29,20 @@ OnWriteFault answer P = Unit {0}
 abbrev pub IfWriteFault : StoreFault → Type 0 → Type 0
 IfWriteFault store.WriteFault P = P
 IfWriteFault fault P = Unit {0}
+
+-- the fact holds unless the fault is that the line couldn't be written
+abbrev pub UnlessUnwritten : StoreFault → Type 0 → Type 0
+UnlessUnwritten store.WriteFault P = Unit {0}
+UnlessUnwritten fault P = P
+
+-- the fact holds unless a store wasn't opened for that fault
+abbrev pub UnlessWriteFault : {A : Type 0} → Result A StoreFault → Type 0 → Type 0
+UnlessWriteFault (Ok value) P = P
+UnlessWriteFault (Err fault) P = UnlessUnwritten fault P
+
+-- the number with which the program ends that opened no store
+abbrev pub unopened_status : StoreFault → ℕ
+unopened_status store.WriteFault = 3
+unopened_status store.KeeperFault = 4
+unopened_status store.BadRecord = 5
+unopened_status store.Memory = 6

@@ -4,7 +4,7 @@ ghost use Rattle.edge_traits.specs.Faults.{Rose};
 ghost use Rattle.edge_traits.specs.Keeper.{Stays};
 ghost use Rattle.lobby_load.specs.BadRows.{IsGoodStore};
 ghost use Rattle.lobby_load.specs.Loaded.{AreSpelled, HasLoaded, HasSizes, IsAtOpening};
-ghost use Rattle.lobby_load.specs.Refused.{IfWriteFault, OnReadFault, OnWriteFault};
+ghost use Rattle.lobby_load.specs.Refused.{IfWriteFault, OnReadFault, OnWriteFault, UnlessUnwritten, UnlessWriteFault};
 ghost use Rattle.lobby_load.specs.Telling.{Tells, TellsKey, bad_record_line};
 
 use crate::loading::load;
@@ -16,7 +16,7 @@ use std::alloc::Global;
 
 /// Loads what a keeper holds, as `load` does, and tells the sink of a bad record by the line `bad record K` and a line
 /// feed, where K is the least bad key in lower-case hexadecimal digits; else it writes nothing. It answers `BadRecord`
-/// where the line was written, `KeeperFault` only where the keeper counted a fault, `WriteFault` only where the sink
+/// where the line was written, `KeeperFault` only where the keeper counted a fault, `WriteFault` exactly where the sink
 /// did, and `Memory` only when out of memory; then, as after `WriteFault`, a beginning of the line may have been
 /// written.
 pub fn open_store<P: Keeper, K: Sink>(
@@ -35,6 +35,7 @@ pub fn open_store<P: Keeper, K: Sink>(
     ensures keeper_counted { P.faults keeper.old ≤ P.faults keeper.new }
     ensures write_cause { OnWriteFault result (Rose (K.faults sink.old) (K.faults sink.new)) }
     ensures write_counted { K.faults sink.old ≤ K.faults sink.new }
+    ensures write_calm { UnlessWriteFault result (K.faults sink.new ≡ K.faults sink.old) }
 {
     match load(alloc, keeper) {
         Ok(lobby) => Ok(lobby),
@@ -49,6 +50,7 @@ fn tell<K: Sink>(alloc: Global, sink: &mut K, key: &[u8]) -> StoreFault
     ensures tells { TellsKey key.now (K.written sink.old) (K.written sink.new) result }
     ensures cause { IfWriteFault result (Rose (K.faults sink.old) (K.faults sink.new)) }
     ensures counted { K.faults sink.old ≤ K.faults sink.new }
+    ensures calm { UnlessUnwritten result (K.faults sink.new ≡ K.faults sink.old) }
 {
     let Ok(line) = bad_record_line(alloc, key) else {
         return StoreFault::Memory;

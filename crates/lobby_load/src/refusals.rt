@@ -36,3 +36,20 @@ pub enum StoreFault {
     /// Running out of memory.
     Memory,
 }
+
+impl StoreFault {
+    ghost use Rattle.std.specs.Prelude.{◌≡◌};
+    ghost use Rattle.lobby_load.specs.Refused.{unopened_status};
+
+    /// The number with which the program ends that opened no store.
+    pub fn status(self) -> u8
+        ensures { result ≡ unopened_status self }
+    {
+        match self {
+            StoreFault::WriteFault => 3,
+            StoreFault::KeeperFault => 4,
+            StoreFault::BadRecord => 5,
+            StoreFault::Memory => 6,
+        }
+    }
+}

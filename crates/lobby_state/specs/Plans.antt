@@ -19,7 +19,7 @@ use Rattle.lobby_state.specs.Resume.{resume_effect}
 use Rattle.lobby_state.specs.Resumed.{asked_of, resumed}
 use Rattle.lobby_state.specs.Start.{seated}
 
--- what a pair act does in the lobby: nothing stands otherwise yet, and the reply is a plan
+-- what a pair act does by the lobby alone: it changes nothing, and its reply is a plan, which is then carried out
 abbrev pub plan_effect : LobbyState → ℕ → PairAct → Effect LobbyState Plan
 plan_effect lobby session (Accept name) = accept_effect lobby session name
 plan_effect lobby session (Play number) = play_effect lobby session number

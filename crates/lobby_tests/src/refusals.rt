@@ -1,6 +1,6 @@
 //! Each refusal that the acts of the lobby have, in the order in which their causes are tested; those of bughouse and
-//! of simuls stand in files of their own. One can't come by any acts: 35 by the count of games. 47 isn't tried, since
-//! 4,096 accounts are made by eight million comparisons of handles.
+//! of simuls stand in files of their own. One can't come by any acts: 35 by the count of games. 47 is tried in
+//! `word_tests`, over the accounts alone.
 
 use crate::login_steps::{Login, Met, first_failing_login};
 use crate::seek_steps::{playing, posts};

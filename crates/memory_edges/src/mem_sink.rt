@@ -47,7 +47,7 @@ impl Sink for MemSink {
     ghost use Rattle.std.specs.Prelude.{◌≡◌, ◌↔◌, ◌≤◌, Some};
     ghost use Rattle.edge_traits.specs.Faults.{Rose};
     ghost use Rattle.memory_edges.specs.Plan.{IsToFail, after_call};
-    ghost use Rattle.edge_traits.specs.Sink.{Wrote, OnWriteFailed, write_failed};
+    ghost use Rattle.edge_traits.specs.Sink.{Wrote, OnWriteFailed, UnlessWriteFailed, write_failed};
 
     ghost written = { λ sink. Some sink.written };
 
@@ -56,6 +56,7 @@ impl Sink for MemSink {
     fn write(&mut self, bytes: &[u8]) -> Sent
         ensures wrote { Wrote (Some self.old.written) (Some self.new.written) bytes.now result }
         ensures cause { OnWriteFailed result (Rose self.old.plan.faults self.new.plan.faults) }
+        ensures calm { UnlessWriteFailed result (self.new.plan.faults ≡ self.old.plan.faults) }
         ensures counted { self.old.plan.faults ≤ self.new.plan.faults }
         ensures failed { (result ≡ Sent.Failed) ↔ IsToFail self.old.plan }
         ensures plan { self.new.plan ≡ after_call self.old.plan (write_failed result) }

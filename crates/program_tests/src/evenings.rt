@@ -10,7 +10,7 @@ use crate::replay_offers::OFFERED;
 use crate::replay_pairs::PAIRS;
 use crate::replay_refusals::ALONE;
 use crate::replay_resuming::ADJOURNED;
-use crate::replay_seeks::SOUGHT;
+use crate::replay_seeks::{EVENING, SOUGHT};
 use crate::replay_simuls::SIMULS;
 use crate::replay_stamps::STAMPED;
 use crate::replay_talk::TALK;
@@ -26,6 +26,7 @@ const LONE: &[(&str, &str)] = &[
     ("lists", LISTS),
     ("a guest alone", ALONE),
     ("seeks", SOUGHT),
+    ("a seek, a game and a farewell", EVENING),
     ("talk", TALK),
 ];
 

@@ -29,12 +29,12 @@ use Rattle.serve_core.specs.declared.settle.Supply.{Supply}
 use Rattle.serve_core.specs.declared.settle.Supply.TheVariants.{Enough, Short}
 use Rattle.serve_core.specs.Keeping.{Underway}
 use Rattle.serve_core.specs.Sessions.{CameAs, CameBack, HasServed}
-use Rattle.serve_core.specs.Serving.{AgreesIn, HasServedAll, IsClean, IsUnused, LastEnds, MayBeShort, SaysClosed, Sheet, StopsUnready, TellsAgreed}
+use Rattle.serve_core.specs.Serving.{AgreesIn, HasServedAll, IsClean, IsUnused, MayBeShort, Sheet, TellsAgreed}
 use Rattle.serve_core.specs.Stewarding.{AreTurns, IsDone, MayEnd, StewardTurn, asked}
 use Rattle.serve_core.specs.Tending.{GivesQuiets, Store, Tended, stand}
 use Rattle.serve_core.specs.Turns.{TurnsLast}
 use Rattle.serve_core.proofs.Among.{in_map_from}
-use Rattle.serve_core.proofs.Ending.{Closes, last_short, never_short}
+use Rattle.serve_core.proofs.Ending.{Closes, LastEnds, last_short, never_short}
 use Rattle.serve_core.proofs.Keeping.{served_then}
 use Rattle.serve_core.proofs.LastTurn.{last_home, last_is, last_joined, last_leaves, last_made, last_number, last_opening, last_splits, own_last}
 use Rattle.serve_core.proofs.Telling.{goes_same, told_and, told_as, told_then}
@@ -165,7 +165,7 @@ module _ {C : Type 0} (shows : C → ℕ → Bool) (hall : TableId) (clock : C) 
     are_done : IsClean end → (Rose old.faults after.faults → ⊥) → AreTurns IsDone (suc ready.count) (calls_of 0 new.seen)
     are_done clean calm = turns_as Ends IsDone (all_done (MayBeShort end) (Rose old.faults after.faults) (never_short end clean) calm) (suc ready.count) (calls_of 0 new.seen) turns_then
 
-    pub served_all : (before later : Sheet) → Closes end door before later pass.splits → HasServedAll (shows clock) opening end door before later old after new
+    pub served_all : (before later : Sheet) → Closes end last door before later pass.splits → HasServedAll (shows clock) opening end door before later old after new
     served_all before later leaves = record {
       first = is_first;
       opens = opening_is;
@@ -178,10 +178,11 @@ module _ {C : Type 0} (shows : C → ℕ → Bool) (hall : TableId) (clock : C) 
       back = told_and door (λ tale. length tale.came ≡ pass.splits) (λ tale. length tale.back + 0 ≡ length tale.came) (λ tale. length tale.back ≡ new.splits) (λ tale n m. omega (arith, n, m, splits_are)) k.came k.out;
       stewards = turns_stewards Ends (suc ready.count) (calls_of 0 new.seen) turns_then;
       all_turns = (suc ready.count, turns_then, quiets_then);
+      last = last;
       last_turn = record {
         before = ready.entries;
         last = last_is last mid.table after.table pass new t;
-        ends = ends;
+        ends = refl;
         made_is = made_is;
         orders = last_leaves last mid.table after.table pass new t k.first everyone (subst IsWhole (sym opening_was) whole);
       };
@@ -190,10 +191,7 @@ module _ {C : Type 0} (shows : C → ℕ → Bool) (hall : TableId) (clock : C) 
           told_as door (λ tale. suc ready.count ≡ tale.quiets + 1) (λ tale. asked (calls_of 0 new.seen) ≡ tale.quiets + 1) (λ tale n. count ∙ n) quiets_then;
       whole_turns = λ clean calm. (suc ready.count, are_done clean calm, quiets_then);
       agrees = told_agreed (state house new.opening new.seen) new.opening old.table after.table start (runs_of new) stays whole (known_seen (others_never_save new.splits new.seen others)) (sym opening_is) refl;
-      text = subst (λ n. StopsUnready end n before later ⊎ SaysClosed end door n before later) (sym splits_are) leaves.text;
-      done_left = leaves.done_left;
-      spent = λ e. splits_are ∙ leaves.spent e;
-      not_done = λ n. leaves.not_done (sym splits_are ∙ n);
+      text = subst (λ n. Closes end last door before later n) (sym splits_are) leaves;
     }
 
   pub still_here : new.home ≡ hall
@@ -202,7 +200,7 @@ module _ {C : Type 0} (shows : C → ℕ → Bool) (hall : TableId) (clock : C) 
 pub all_served : {C : Type 0} (shows : C → ℕ → Bool) (hall : TableId) (clock : C) (supply : Supply) (opens door : Option DoorTale) (opening : List Part) (first pass new : PassState) (old mid after : Store) (last : StewardEnd)
     → Underway shows hall clock supply door pass [] → first ≡ first_pass hall opening → Tended (stand first Enough opens old) (stand pass supply door mid) → IfTold opens IsUnused → IsWhole first.opening
     → TurnsLast last mid.table after.table pass new → (last ≡ steward.KeeperFault → Rose mid.faults after.faults) → mid.faults ≤ after.faults
-    → (end : ServeEnd) → (supply ≡ Short → MayBeShort end) → LastEnds end last → (before later : Sheet) → Closes end door before later pass.splits
+    → (end : ServeEnd) → (supply ≡ Short → MayBeShort end) → LastEnds end last → (before later : Sheet) → Closes end last door before later pass.splits
     → HasServedAll (shows clock) first.opening end door before later old after new
 all_served shows hall clock supply opens door opening first pass new old mid after last k is tended unused whole t fault counted end short ends before later leaves =
     let at : first.opening ≡ opening = ap (λ (p : PassState). p.opening) is in

@@ -1,11 +1,9 @@
--- The end of serving: its status, the text, and the links that are left.
-use Rattle.std.proofs.Common.{◌≡◌, ◌≢◌, ℕ, ◌^◌, ◌<◌, ◌⊎◌, inl, inr, List, [], refl, sym, subst, ◌∙◌, arith}
+-- The end of serving: its status, the text, and why no further link was taken.
+use Rattle.std.proofs.Common.{◌≡◌, ◌≢◌, ℕ, ◌⊎◌, inl, inr, refl, sym, subst, ◌∙◌}
 use Rattle.std.specs.declared.option.Option.{Option}
-use Rattle.std.specs.declared.option.Option.TheVariants.{None, Some}
 use Rattle.edge_traits.specs.Faults.{Rose}
-use Rattle.edge_traits.specs.Door.{DoorTale, IfTold}
-use Rattle.edge_traits.specs.Sink.{AppendsFront, OnWriteFailed, Wrote}
-use Rattle.std.specs.Io.KnownBytes.{Appends}
+use Rattle.edge_traits.specs.Door.{DoorTale}
+use Rattle.edge_traits.specs.Sink.{UnlessWriteFailed}
 use Rattle.steward_core.specs.declared.turn.StewardEnd.{StewardEnd}
 use Rattle.steward_core.specs.declared.turn.StewardEnd.TheVariants as steward
 use Rattle.edge_traits.specs.declared.sink.Sent.{Sent}
@@ -17,11 +15,20 @@ use Rattle.serve_core.specs.declared.end.ServeEnd.TheVariants.{Done, DoorFault, 
 use Rattle.serve_core.specs.declared.settle.Supply.{Supply}
 use Rattle.serve_core.specs.declared.settle.Supply.TheVariants.{Enough, Short}
 use Rattle.serve_core.specs.Stewarding.{IsDone}
-use Rattle.serve_core.specs.Serving.{IsClean, LastEnds, MayBeShort, SaysClosed, Sheet, StopsUnready, closed_text, ready_text}
-use Rattle.serve_core.specs.Stopping.{Stopped, end_of}
-use Rattle.serve_core.proofs.Telling.{told_as}
+use Rattle.serve_core.specs.Serving.{IsClean, MayBeShort, Says, SaysClosed, Sheet, StopsUnready, closed_text, ready_text}
+use Rattle.serve_core.specs.Stopping.{IsStopped, Stopped, end_of}
 
 -- ---- how serving ends
+
+-- how the last turn of the steward ended: well, where serving did; with a keeper fault exactly where serving ended so,
+-- but for faults of the door and the sink, which stand above one of the keeper and below which it may have ended anyhow
+abbrev pub LastEnds : ServeEnd → StewardEnd → Type 0
+LastEnds Done last = IsDone last
+LastEnds Spent last = IsDone last
+LastEnds Memory last = last ≢ steward.KeeperFault
+LastEnds KeeperFault last = last ≡ steward.KeeperFault
+LastEnds WriteFault last = Unit {0}
+LastEnds DoorFault last = Unit {0}
 
 -- what such an end says of what it came from
 pub record Comes (door : DoorEnd) (s : Sent) (last : StewardEnd) (supply : Supply) (end : ServeEnd) : Type 0 where
@@ -29,27 +36,24 @@ pub record Comes (door : DoorEnd) (s : Sent) (last : StewardEnd) (supply : Suppl
   pub enough : IsClean end → supply ≡ Enough
   pub ends : LastEnds end last
   pub failed : end ≡ DoorFault → door ≡ door_end.Failed
-  pub write : end ≡ WriteFault → s ≡ sent.Failed
-  pub closed : end ≡ Done → door ≡ door_end.Closed
-  pub spent : end ≡ Spent → door ≡ door_end.Spent
 
 by_door : (s : Sent) (last : StewardEnd) (supply : Supply) → Comes door_end.Failed s last supply DoorFault
-by_door s last supply = record { whole = λ w. absurd w; enough = λ w. absurd w; ends = tt; failed = λ e. refl; write = λ e. absurd cc; closed = λ e. absurd cc; spent = λ e. absurd cc }
+by_door s last supply = record { whole = λ w. absurd w; enough = λ w. absurd w; ends = tt; failed = λ e. refl }
 
 by_sink : (door : DoorEnd) (last : StewardEnd) (supply : Supply) → Comes door sent.Failed last supply WriteFault
-by_sink door last supply = record { whole = λ w. absurd w; enough = λ w. absurd w; ends = tt; failed = λ e. absurd cc; write = λ e. refl; closed = λ e. absurd cc; spent = λ e. absurd cc }
+by_sink door last supply = record { whole = λ w. absurd w; enough = λ w. absurd w; ends = tt; failed = λ e. absurd cc }
 
 by_keeper : (door : DoorEnd) (s : Sent) (supply : Supply) → Comes door s steward.KeeperFault supply KeeperFault
-by_keeper door s supply = record { whole = λ w. absurd w; enough = λ w. absurd w; ends = refl; failed = λ e. absurd cc; write = λ e. absurd cc; closed = λ e. absurd cc; spent = λ e. absurd cc }
+by_keeper door s supply = record { whole = λ w. absurd w; enough = λ w. absurd w; ends = refl; failed = λ e. absurd cc }
 
 by_memory : (door : DoorEnd) (s : Sent) (last : StewardEnd) (supply : Supply) → last ≢ steward.KeeperFault → Comes door s last supply Memory
-by_memory door s last supply other = record { whole = λ w. absurd w; enough = λ w. absurd w; ends = other; failed = λ e. absurd cc; write = λ e. absurd cc; closed = λ e. absurd cc; spent = λ e. absurd cc }
+by_memory door s last supply other = record { whole = λ w. absurd w; enough = λ w. absurd w; ends = other; failed = λ e. absurd cc }
 
 by_close : (count : ℕ) → Comes door_end.Closed sent.All (steward.Done count) Enough Done
-by_close count = record { whole = λ w. refl; enough = λ w. refl; ends = tt; failed = λ e. absurd cc; write = λ e. absurd cc; closed = λ e. refl; spent = λ e. absurd cc }
+by_close count = record { whole = λ w. refl; enough = λ w. refl; ends = tt; failed = λ e. absurd cc }
 
 by_number : (count : ℕ) → Comes door_end.Spent sent.All (steward.Done count) Enough Spent
-by_number count = record { whole = λ w. refl; enough = λ w. refl; ends = tt; failed = λ e. absurd cc; write = λ e. absurd cc; closed = λ e. absurd cc; spent = λ e. refl }
+by_number count = record { whole = λ w. refl; enough = λ w. refl; ends = tt; failed = λ e. absurd cc }
 
 pub comes : (door : DoorEnd) (s : Sent) (last : StewardEnd) (supply : Supply) → Comes door s last supply (end_of door s last supply)
 comes door_end.Failed s last supply = by_door s last supply
@@ -96,76 +100,49 @@ never_short KeeperFault clean short = clean
 never_short Memory clean short = clean
 never_short DoorFault clean short = clean
 
--- ---- the links that are left
+pub last_failed : (end : ServeEnd) (last : StewardEnd) → LastEnds end last → end ≡ KeeperFault → last ≡ steward.KeeperFault
+last_failed end last ends e = subst (λ (x : ServeEnd). LastEnds x last) e ends
 
-abbrev pub NoneLeft : ServeEnd → ℕ → DoorTale → Type 0
-NoneLeft end splits tale = (tale.left ≡ []) ⊎ ((end ≡ DoorFault) ⊎ (splits ≡ 2 ^ 31))
+-- ---- the text, and why no further link was taken
 
--- what is said of the text, of the links that are left, and of how many came
-pub record Closes (end : ServeEnd) (door : Option DoorTale) (before after : Sheet) (splits : ℕ) : Type 0 where
-  pub text : StopsUnready end splits before after ⊎ SaysClosed end door splits before after
-  pub done_left : end ≡ Done → IfTold door (λ tale. tale.left ≡ [])
-  pub spent : end ≡ Spent → splits ≡ 2 ^ 31
-  pub not_done : splits ≡ 2 ^ 31 → end ≢ Done
+abbrev pub Closes : ServeEnd → StewardEnd → Option DoorTale → Sheet → Sheet → ℕ → Type 0
+Closes end last door before after splits = StopsUnready end last splits before after ⊎ SaysClosed end last door splits before after
 
-pub told_always : (door : Option DoorTale) (P : DoorTale → Type 0) → ((tale : DoorTale) → P tale) → IfTold door P
-told_always None P h = tt
-told_always (Some tale) P h = h tale
-
-none_left_by : (why : DoorEnd) (s : Sent) (last : StewardEnd) (supply : Supply) (door : Option DoorTale) (splits before now : ℕ) → Stopped why splits door before now → IfTold door (NoneLeft (end_of why s last supply) splits)
-none_left_by door_end.Closed s last supply door splits before now p = told_as door (λ tale. tale.left ≡ []) (NoneLeft (end_of door_end.Closed s last supply) splits) (λ tale e. inl e) p.0
-none_left_by door_end.Failed s last supply door splits before now p = told_always door (NoneLeft DoorFault splits) (λ tale. inr (inl refl))
-none_left_by door_end.Spent s last supply door splits before now p = told_always door (NoneLeft (end_of door_end.Spent s last supply) splits) (λ tale. inr (inr p))
-
-left_by : (why : DoorEnd) (door : Option DoorTale) (splits before now : ℕ) → Stopped why splits door before now → why ≡ door_end.Closed → IfTold door (λ tale. tale.left ≡ []) × (splits < 2 ^ 31)
-left_by why door splits before now p e = subst (λ w. Stopped w splits door before now) e p
-
-count_by : (why : DoorEnd) (door : Option DoorTale) (splits before now : ℕ) → Stopped why splits door before now → why ≡ door_end.Spent → splits ≡ 2 ^ 31
-count_by why door splits before now p e = subst (λ w. Stopped w splits door before now) e p
+is_stopped : (why : DoorEnd) (door : Option DoorTale) (splits before now : ℕ) → Stopped why splits door before now → IsStopped why splits door
+is_stopped door_end.Closed door splits before now p = p
+is_stopped door_end.Failed door splits before now p = p.1
+is_stopped door_end.Spent door splits before now p = p
 
 -- `ready` was written, links were taken, and then `closed` was to be written
-pub closes_by : (why : DoorEnd) (s : Sent) (last : StewardEnd) (supply : Supply) (door : Option DoorTale) (splits before now : ℕ) (first after : Sheet) (mid : Option (List ℕ)) → Stopped why splits door before now
-    → Appends first.written mid ready_text → Wrote mid after.written closed_text s → OnWriteFailed s (Rose first.faults after.faults) → Closes (end_of why s last supply) door first after splits
-closes_by why s last supply door splits before now first after mid p ready closed cause = record {
-  text = inr (record {
-    none_left = none_left_by why s last supply door splits before now p;
-    mid = mid;
-    ready = ready;
-    said = s;
-    closed = closed;
-    cause = cause;
-    fault = (comes why s last supply).write;
-    all = (comes why s last supply).whole;
-  });
-  done_left = λ e. (left_by why door splits before now p ((comes why s last supply).closed e)).0;
-  spent = λ e. count_by why door splits before now p ((comes why s last supply).spent e);
-  not_done = λ n e. omega (arith, n, (left_by why door splits before now p ((comes why s last supply).closed e)).1);
-}
+pub closes_by : (why : DoorEnd) (s : Sent) (last : StewardEnd) (supply : Supply) (door : Option DoorTale) (splits before now : ℕ) (first mid after : Sheet) → Stopped why splits door before now
+    → Says ready_text sent.All first mid → Says closed_text s mid after → Closes (end_of why s last supply) last door first after splits
+closes_by why s last supply door splits before now first mid after p ready closed = inr (record {
+  why = why;
+  stopped = is_stopped why door splits before now p;
+  mid = mid;
+  ready = ready;
+  said = s;
+  closed = closed;
+  supply = supply;
+  ends = refl;
+})
+
+pub rose_by : (why : DoorEnd) (s : Sent) (last : StewardEnd) (supply : Supply) (door : Option DoorTale) (splits before now : ℕ) → Stopped why splits door before now → end_of why s last supply ≡ DoorFault → Rose before now
+rose_by why s last supply door splits before now p e = (subst (λ w. Stopped w splits door before now) ((comes why s last supply).failed e) p).0
 
 -- `ready` couldn't be written
-pub closes_failed : (door : Option DoorTale) (splits : ℕ) (first after : Sheet) → splits ≡ 0 → AppendsFront first.written after.written ready_text → Rose first.faults after.faults → Closes WriteFault door first after splits
-closes_failed door splits first after zero front rose = record {
-  text = inl (record { none_taken = zero; front = front; why = inl (refl, rose) });
-  done_left = λ d. absurd cc;
-  spent = λ s. absurd cc;
-  not_done = λ n d. omega (arith, n, zero);
-}
+pub closes_failed : (last : StewardEnd) (door : Option DoorTale) (splits : ℕ) (first after : Sheet) → splits ≡ 0 → Says ready_text sent.Failed first after → Closes WriteFault last door first after splits
+closes_failed last door splits first after zero ready = inl (record { none_taken = zero; said = sent.Failed; unwritten = λ e. cc; ready = ready; ends = refl })
 
-never_all : sent.Memory ≡ sent.All → ⊥
-never_all e = cc
+pub closes_short : (last : StewardEnd) (door : Option DoorTale) (splits : ℕ) (first after : Sheet) → splits ≡ 0 → Says ready_text sent.Memory first after → Closes (end_of door_end.Closed sent.Memory last Enough) last door first after splits
+closes_short last door splits first after zero ready = inl (record { none_taken = zero; said = sent.Memory; unwritten = λ e. cc; ready = ready; ends = refl })
 
-short_why : (last : StewardEnd) (supply : Supply) → (end_of door_end.Closed sent.Memory last supply ≡ Memory) ⊎ (end_of door_end.Closed sent.Memory last supply ≡ KeeperFault)
-short_why (steward.Done count) supply = inl refl
-short_why steward.KeeperFault supply = inr refl
-short_why steward.Memory supply = inl refl
+-- ---- the count of the sink
 
-pub closes_short : (last : StewardEnd) (supply : Supply) (door : Option DoorTale) (splits : ℕ) (first after : Sheet) → splits ≡ 0 → AppendsFront first.written after.written ready_text
-    → Closes (end_of door_end.Closed sent.Memory last supply) door first after splits
-closes_short last supply door splits first after zero front =
-    let by = comes door_end.Closed sent.Memory last supply in
-    record {
-      text = inl (record { none_taken = zero; front = front; why = inr (short_why last supply) });
-      done_left = λ d. absurd (never_all (by.whole (subst IsClean (sym d) tt)));
-      spent = λ s. absurd (never_all (by.whole (subst IsClean (sym s) tt)));
-      not_done = λ n d. omega (arith, n, zero);
-    }
+-- the sink counted no fault, unless one of the last write is told, or one of the door
+pub told_by : (why : DoorEnd) (s : Sent) (last : StewardEnd) (supply : Supply) (before mid after : ℕ) → mid ≡ before → UnlessWriteFailed s (after ≡ mid) → (after ≡ before) ⊎ ((end_of why s last supply ≡ WriteFault) ⊎ (end_of why s last supply ≡ DoorFault))
+told_by why sent.All last supply before mid after same calm = inl (calm ∙ same)
+told_by why sent.Memory last supply before mid after same calm = inl (calm ∙ same)
+told_by door_end.Failed sent.Failed last supply before mid after same calm = inr (inr refl)
+told_by door_end.Closed sent.Failed last supply before mid after same calm = inr (inl refl)
+told_by door_end.Spent sent.Failed last supply before mid after same calm = inr (inl refl)

@@ -1,5 +1,5 @@
 -- A hall that opened with what was loaded, and what was promised of it from the load on.
-use Rattle.std.proofs.Common.{◌≡◌, ℕ, ◌≤◌, ◌⊎◌, inl, inr, Bool, List, [], take, refl, sym, ap, subst, ◌∙◌}
+use Rattle.std.proofs.Common.{◌≡◌, ℕ, ◌≤◌, inl, inr, Bool, List, [], take, refl, sym, ap, subst, ◌∙◌}
 use Rattle.std.specs.Prelude.{IfSome, slice_get}
 use Rattle.std.specs.declared.option.Option.{Option}
 use Rattle.std.specs.declared.option.Option.TheVariants.{None, Some}
@@ -9,7 +9,7 @@ use Rattle.edge_traits.specs.Door.{DoorTale, IfTold}
 use Rattle.edge_traits.specs.Faults.{Rose}
 use Rattle.edge_traits.specs.Keeper.{Stays}
 use Rattle.edge_traits.specs.Pairs.{Table}
-use Rattle.edge_traits.specs.Sink.{AppendsFront, OnWriteFailed}
+use Rattle.edge_traits.specs.Sink.{AppendsFront, OnWriteFailed, UnlessWriteFailed, Wrote}
 use Rattle.edge_traits.specs.declared.sink.Sent.{Sent}
 use Rattle.edge_traits.specs.declared.sink.Sent.TheVariants as sent
 use Rattle.game_shelf.specs.declared.order.Order.{Order}
@@ -26,11 +26,12 @@ use Rattle.one_server.specs.Whole.{opened}
 use Rattle.hall_core.specs.Passes.{PassState}
 use Rattle.steward_core.proofs.StatesLead.{one_lobby}
 use Rattle.serve_core.specs.declared.end.ServeEnd.{ServeEnd}
-use Rattle.serve_core.specs.declared.end.ServeEnd.TheVariants.{WriteFault, KeeperFault, Memory}
+use Rattle.steward_core.specs.declared.turn.StewardEnd.{StewardEnd}
 use Rattle.serve_core.specs.Opening.{IsLoaded}
-use Rattle.serve_core.specs.Serving.{AgreesIn, HasServedAll, MayBeShort, SaysClosed, Sheet, StopsUnready, TellsAgreed, ready_text}
+use Rattle.serve_core.specs.Serving.{AgreesIn, HasServedAll, MayBeShort, Says, Sheet, TellsAgreed, ready_text}
 use Rattle.serve_core.specs.Stewarding.{MayEnd}
 use Rattle.serve_core.specs.Tending.{Store}
+use Rattle.serve_core.proofs.Ending.{Closes}
 use Rattle.serve_core.proofs.Tending.{rose_before}
 use Rattle.serve_core.proofs.Turning.{may_end, turns_as}
 
@@ -43,27 +44,30 @@ module _ (old mid new : Option (List ℕ)) (none : Appends old mid []) where
   pub front_from : (bytes : List ℕ) → AppendsFront mid new bytes → AppendsFront old new bytes
   front_from bytes p = (p.0, appends_from (take p.0 bytes) p.1)
 
-rose_from : (said : Sent) (old mid new : ℕ) → old ≤ mid → OnWriteFailed said (Rose mid new) → OnWriteFailed said (Rose old new)
-rose_from sent.All old mid new s r = tt
-rose_from sent.Failed old mid new s r = rose_before old mid new s r
-rose_from sent.Memory old mid new s r = tt
+wrote_from : (said : Sent) (old mid new : Option (List ℕ)) (bytes : List ℕ) → Appends old mid [] → Wrote mid new bytes said → Wrote old new bytes said
+wrote_from sent.All old mid new bytes none p = appends_from old mid new none bytes p
+wrote_from sent.Failed old mid new bytes none p = front_from old mid new none bytes p
+wrote_from sent.Memory old mid new bytes none p = front_from old mid new none bytes p
 
-module _ (end : ServeEnd) (before mid later : Sheet) (none : Appends before.written mid.written []) (rises : before.faults ≤ mid.faults) where
-  why_from : ((end ≡ WriteFault) × Rose mid.faults later.faults) ⊎ ((end ≡ Memory) ⊎ (end ≡ KeeperFault)) → ((end ≡ WriteFault) × Rose before.faults later.faults) ⊎ ((end ≡ Memory) ⊎ (end ≡ KeeperFault))
-  why_from (inl p) = inl (p.0, rose_before before.faults mid.faults later.faults rises p.1)
-  why_from (inr p) = inr p
+module _ (end : ServeEnd) (last : StewardEnd) (before mid later : Sheet) (none : Appends before.written mid.written []) (same : mid.faults ≡ before.faults) where
+  says_from : (text : List ℕ) (said : Sent) (now : Sheet) → Says text said mid now → Says text said before now
+  says_from text said now p = record {
+    wrote = wrote_from said before.written mid.written now.written text none p.wrote;
+    cause = subst (λ (n : ℕ). OnWriteFailed said (Rose n now.faults)) same p.cause;
+    calm = subst (λ (n : ℕ). UnlessWriteFailed said (now.faults ≡ n)) same p.calm;
+  }
 
-  text_from : (count : ℕ) (door : Option DoorTale) → StopsUnready end count mid later ⊎ SaysClosed end door count mid later → StopsUnready end count before later ⊎ SaysClosed end door count before later
-  text_from count door (inl p) = inl (record { none_taken = p.none_taken; front = front_from before.written mid.written later.written none ready_text p.front; why = why_from p.why })
+  text_from : (count : ℕ) (door : Option DoorTale) → Closes end last door mid later count → Closes end last door before later count
+  text_from count door (inl p) = inl (record { none_taken = p.none_taken; said = p.said; unwritten = p.unwritten; ready = says_from ready_text p.said later p.ready; ends = p.ends })
   text_from count door (inr p) = inr (record {
-    none_left = p.none_left;
+    why = p.why;
+    stopped = p.stopped;
     mid = p.mid;
-    ready = Appends-trans before.written mid.written p.mid [] ready_text none p.ready;
+    ready = says_from ready_text sent.All p.mid p.ready;
     said = p.said;
     closed = p.closed;
-    cause = rose_from p.said before.faults mid.faults later.faults rises p.cause;
-    fault = p.fault;
-    all = p.all;
+    supply = p.supply;
+    ends = p.ends;
   })
 
 -- ---- the table stayed at the load
@@ -74,9 +78,9 @@ agrees_from (Some table) None now opening parts stays p = absurd stays
 agrees_from (Some table) (Some table') now opening parts stays p = subst (λ (t : Table). AgreesIn t opening → TellsAgreed now parts) stays p
 
 -- what was promised once the hall was open is promised from before the load on
-pub served_from : (shows : ℕ → Bool) (opening : List Part) (end : ServeEnd) (door : Option DoorTale) (before mid later : Sheet) (old loaded new : Store) (pass : PassState) → Appends before.written mid.written [] → before.faults ≤ mid.faults
+pub served_from : (shows : ℕ → Bool) (opening : List Part) (end : ServeEnd) (door : Option DoorTale) (before mid later : Sheet) (old loaded new : Store) (pass : PassState) → Appends before.written mid.written [] → mid.faults ≡ before.faults
     → Stays old.table loaded.table → old.faults ≤ loaded.faults → HasServedAll shows opening end door mid later loaded new pass → HasServedAll shows opening end door before later old new pass
-served_from shows opening end door before mid later old loaded new pass none rises stays counted p =
+served_from shows opening end door before mid later old loaded new pass none same stays counted p =
     let later_rose : Rose loaded.faults new.faults → Rose old.faults new.faults = rose_before old.faults loaded.faults new.faults counted in
     let turns = p.all_turns in
     record {
@@ -96,14 +100,12 @@ served_from shows opening end door before mid later old loaded new pass none ris
             (may_end (MayBeShort end) (MayBeShort end) (Rose loaded.faults new.faults) (Rose old.faults new.faults) (λ e. e) later_rose) turns.0 (calls_of 0 pass.seen) turns.1,
         turns.2,
       );
+      last = p.last;
       last_turn = p.last_turn;
       turns = λ clean calm. p.turns clean (λ r. calm (later_rose r));
       whole_turns = λ clean calm. p.whole_turns clean (λ r. calm (later_rose r));
       agrees = agrees_from old.table loaded.table new.table pass.opening (state house pass.opening pass.seen) stays p.agrees;
-      text = text_from end before mid later none rises pass.splits door p.text;
-      done_left = p.done_left;
-      spent = p.spent;
-      not_done = p.not_done;
+      text = text_from end p.last before mid later none same pass.splits door p.text;
     }
 
 -- ---- what was loaded agrees

@@ -10,6 +10,7 @@ use Rattle.link_core.specs.declared.link_end.LinkEnd.{LinkEnd}
 use Rattle.link_core.specs.declared.link_end.LinkEnd.TheVariants as end
 use Rattle.link_core.specs.Laws.{WasGreeted, telling}
 use Rattle.link_core.specs.Served.{WasServed}
+use Rattle.link_core.proofs.Answering.{answers_each_line}
 use Rattle.link_core.proofs.Owning.{faults_are_counted, is_greeted, keeps_its_signs, tells_on}
 use Rattle.serve_core.specs.Laws.{ComesBack, EachComesBack}
 use Rattle.serve_core.specs.Serving.{MayBeShort}
@@ -29,13 +30,14 @@ module _ (shows : ℕ → Bool) (session : ℕ) (calls : Log) (came back : Tale)
   all_signs : (e : LinkEnd) → WasServed shows true session e calls (telling came 0) (telling back faults) → back.taken ++ back.left ≡ came.left
   all_signs e s = keeps_its_signs shows true session e calls came back 0 faults s ∙ ap (λ (l : List Sign). l ++ came.left) fresh.0
 
-  comes_back : (door : DoorTale) (number : ℕ) (e : LinkEnd) → (e ≡ end.Memory → ⊥) → WasServed shows true session e calls (telling came 0) (telling back faults) → CameBack number (telling back faults) door → ComesBack door number came
-  comes_back door number e never s there = record {
+  comes_back : (door : DoorTale) (e : LinkEnd) → (e ≡ end.Memory → ⊥) → WasServed shows true session e calls (telling came 0) (telling back faults) → CameBack session (telling back faults) door → ComesBack shows door session calls came
+  comes_back door e never s there = record {
     link = back;
     faults = faults;
     back = there;
     signs = all_signs e s;
     greeted = greeted_or_failed e never s;
+    answered = λ none few. answers_each_line shows true session e calls came back 0 faults s never (λ rose. omega (arith, rose, none)) few;
   }
 
 -- the link came as the door tells, and comes back as it was handed back
@@ -58,9 +60,9 @@ module _ (shows : ℕ → Bool) (lack : Type 0) (never : lack → ⊥) (door : D
   returned_is : h.returned ≡ telling tells_back.0 h.returned.faults
   returned_is = ap (λ (o : Option Tale). record { tale = o; faults = h.returned.faults }) tells_back.1
 
-  pub comes_back_here : ComesBack door number came
+  pub comes_back_here : ComesBack shows door number calls came
   comes_back_here =
-      comes_back shows number calls came tells_back.0 h.returned.faults was_fresh door number h.end (λ e. never (h.short e))
+      comes_back shows number calls came tells_back.0 h.returned.faults was_fresh door h.end (λ e. never (h.short e))
       (subst (λ (r : Handed). WasServed shows true number h.end calls (telling came 0) r) returned_is was_served)
       (subst (λ (r : Handed). CameBack number r door) returned_is h.back)
 

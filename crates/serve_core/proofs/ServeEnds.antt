@@ -1,5 +1,5 @@
 -- The statuses of serving.
-use Rattle.std.proofs.Common.{◌≡◌, ℕ, ◌⊎◌, inl, inr, List, [], ◌∷◌, length, refl, sym, subst, ◌∙◌, arith}
+use Rattle.std.proofs.Common.{◌≡◌, ℕ, ◌⊎◌, inl, inr, List, [], ◌∷◌, length, refl, sym, ap, subst, ◌∙◌, arith}
 use Rattle.std.specs.Prelude.{Contains, Err, None, Option, Some, String}
 use Rattle.std.specs.declared.alloc.Global.{Global}
 use Rattle.std.specs.Io.KnownBytes.{Appends}
@@ -20,7 +20,8 @@ use Rattle.lobby_load.specs.Telling.{IsFirstBad, Tells, bad_record_line}
 use Rattle.lobby_load.specs.declared.refusals.StoreFault.{StoreFault}
 use Rattle.lobby_load.specs.declared.refusals.StoreFault.TheVariants as unopened
 use Rattle.lobby_state.specs.Lobby.{LobbyState}
-use Rattle.serve_core.specs.Opening.{EndsCall, StaysUnopened, unopened_status}
+use Rattle.lobby_load.specs.Refused.{unopened_status}
+use Rattle.serve_core.specs.Opening.{EndsCall, StaysUnopened}
 use Rattle.serve_core.specs.ServeEnds.{Counts, OneRose}
 use Rattle.serve_core.specs.Tending.{Store}
 use Rattle.serve_core.specs.declared.end.ServeEnd.{ServeEnd}
@@ -117,6 +118,11 @@ usage_listed written written' status (inl p) = subst AllStatuses (sym p.0) (1, o
 usage_listed written written' status (inr (inl e, front)) = subst AllStatuses (sym e) (2, omega arith, refl)
 usage_listed written written' status (inr (inr e, front)) = subst AllStatuses (sym e) (5, omega arith, refl)
 
+-- the sink counted no fault, unless that is told
+pub usage_told : {told same other : Type 0} → told ⊎ same → same ⊎ (told ⊎ other)
+usage_told (inl p) = inr (inl p)
+usage_told (inr p) = inl p
+
 -- no other status is told with it
 pub usage_else : (written written' : Option (List ℕ)) (status : ℕ) → UsageEnds written written' status → (status ≡ 4) ⊎ ((status ≡ 5) ⊎ (status ≡ 8)) → ⊥
 usage_else written written' status (inl p) e = omega (arith, p.0, e)
@@ -127,6 +133,15 @@ usage_else written written' status (inr (inr is, front)) e = omega (arith, is, e
 pub usage_front : (written written' : Option (List ℕ)) (status : ℕ) → UsageEnds written written' status → AppendsFront written written' usage_line
 usage_front written written' status (inl p) = (length usage_line, subst (λ (bs : List ℕ). Appends written written' bs) (sym (take-length usage_line)) p.1)
 usage_front written written' status (inr p) = p.1
+
+-- the sink counted no fault, unless a fault of the last write is told, or one of the door, as from before the load on
+pub told_from : (before mid after : ℕ) (end : ServeEnd) → mid ≡ before → (after ≡ mid) ⊎ ((end ≡ WriteFault) ⊎ (end ≡ DoorFault)) → (after ≡ before) ⊎ ((end ≡ WriteFault) ⊎ (end ≡ DoorFault))
+told_from before mid after end same (inl e) = inl (e ∙ same)
+told_from before mid after end same (inr f) = inr f
+
+status_told : (end : ServeEnd) → (end ≡ WriteFault) ⊎ (end ≡ DoorFault) → (status_of end ≡ 3) ⊎ (status_of end ≡ 8)
+status_told end (inl e) = inl (ap status_of e)
+status_told end (inr e) = inr (ap status_of e)
 
 -- ---- a call that opened a hall, or none
 
@@ -211,6 +226,23 @@ module _ (old new : Store) (before after : Sheet) (door door' : ℕ) where
   pub call_calm : (status : ℕ) → EndsCall status old new before after counts counts' → (OneRose counts counts' → ⊥) → CalmStatuses status
   call_calm status (inl (fault, is, p)) calm = subst CalmStatuses (sym is) (unopened_calm fault p calm)
   call_calm status (inr (end, is, p)) calm = subst CalmStatuses (sym is) (is_complete end (p.complete calm))
+
+  unopened_told : (fault : StoreFault) → StaysUnopened fault old new before after → (after.faults ≡ before.faults) ⊎ ((unopened_status fault ≡ 3) ⊎ (unopened_status fault ≡ 8))
+  unopened_told unopened.WriteFault p = inr (inl refl)
+  unopened_told unopened.KeeperFault p = inl p.write_calm
+  unopened_told unopened.BadRecord p = inl p.write_calm
+  unopened_told unopened.Memory p = inl p.write_calm
+
+  served_told : (end : ServeEnd) → (after.faults ≡ before.faults) ⊎ ((end ≡ WriteFault) ⊎ (end ≡ DoorFault)) → (after.faults ≡ before.faults) ⊎ ((status_of end ≡ 3) ⊎ (status_of end ≡ 8))
+  served_told end (inl e) = inl e
+  served_told end (inr f) = inr (status_told end f)
+
+  abbrev pub IsWriteTold : ℕ → Type 0
+  IsWriteTold status = (after.faults ≡ before.faults) ⊎ ((status ≡ 3) ⊎ (status ≡ 8))
+
+  pub call_told : (status : ℕ) → EndsCall status old new before after counts counts' → IsWriteTold status
+  call_told status (inl (fault, is, p)) = subst IsWriteTold (sym is) (unopened_told fault p)
+  call_told status (inr (end, is, p)) = subst IsWriteTold (sym is) (served_told end p.write_told)
 
   pub call_good : (status : ℕ) → EndsCall status old new before after counts counts' → status ≡ 5 → IfTold old.table (λ table. IsGoodStore table → ⊥)
   call_good status ends e = let bad = call_bad status ends e in first_bad old.table bad.0 bad.1

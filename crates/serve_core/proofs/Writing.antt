@@ -5,7 +5,7 @@ use Rattle.std.proofs.KnownBytes.{Appends-trans}
 use Rattle.std.specs.Io.KnownBytes.{Appends}
 use Rattle.std.specs.declared.option.Option.{Option}
 use Rattle.edge_traits.specs.Faults.{Rose}
-use Rattle.edge_traits.specs.Sink.{AppendsFront, OnWriteFailed, Wrote}
+use Rattle.edge_traits.specs.Sink.{AppendsFront, Wrote}
 use Rattle.edge_traits.specs.Door.{DoorTale, Goes}
 use Rattle.edge_traits.specs.declared.sink.Sent.{Sent}
 use Rattle.edge_traits.specs.declared.sink.Sent.TheVariants as sent
@@ -42,8 +42,10 @@ wrote_whole old mid new s e p q = Appends-trans old mid new ready_text closed_te
 rose_then : (start before now after : ℕ) → start ≤ before → Rose before now → after ≡ now → Rose start after
 rose_then start before now after s p a = omega (arith, s, p, a)
 
--- a fault of the last write rose above the count at the beginning
-pub caused : (s : Sent) (start before now : ℕ) → start ≤ before → OnWriteFailed s (Rose before now) → OnWriteFailed s (Rose start now)
-caused sent.All start before now s c = tt
-caused sent.Failed start before now s c = rose_then start before now now s c refl
-caused sent.Memory start before now s c = tt
+-- why no more links are taken, once all workers were waited for
+pub stopped_then : (end : DoorEnd) (count splits : ℕ) (door door' : Option DoorTale) (start before now after : ℕ) → Stopped end count door before now → splits ≡ count → Goes door door' KeepsLeft → start ≤ before → after ≡ now → Stopped end splits door' start after
+stopped_then door_end.Closed count splits door door' start before now after p n goes s a =
+    (told_then door door' KeepsLeft (λ tale. tale.left ≡ []) (λ tale. tale.left ≡ []) (λ x y e f. e.0 ∙ f) goes p.0, omega (arith, n, p.1))
+stopped_then door_end.Failed count splits door door' start before now after p n goes s a =
+    (rose_then start before now after s p.0 a, omega (arith, n, p.1))
+stopped_then door_end.Spent count splits door door' start before now after p n goes s a = n ∙ p

@@ -1,25 +1,27 @@
 -- What follows for each link that came, where serving ended well.
-use Rattle.std.specs.Prelude.{◌≡◌, ◌⊎◌, ℕ, ◌≤◌, Bool, ◌++◌, Some}
+use Rattle.std.specs.Prelude.{◌≡◌, ◌⊎◌, ℕ, ◌^◌, ◌<◌, ◌≤◌, Bool, ◌++◌, length, Some}
 use Rattle.edge_traits.specs.Door.{DoorTale}
 use Rattle.edge_traits.specs.Link.{Tale}
 use Rattle.one_server.specs.Running.{Log}
-use Rattle.link_core.specs.Laws.{WasGreeted, telling}
+use Rattle.link_core.specs.Laws.{AnswersAll, WasGreeted, telling}
 use Rattle.serve_core.specs.Serving.{IsClean, MayBeShort}
 use Rattle.serve_core.specs.declared.end.ServeEnd.{ServeEnd}
 use Rattle.serve_core.specs.Sessions.{CameAs, CameBack, HasServed}
 
--- the link came back under its number with what it had to give, taken or left; and it was greeted, or counted a fault
-pub record ComesBack (door : DoorTale) (number : ℕ) (came : Tale) : Type 0 where
+-- the link came back under its number with what it had to give, taken or left; it was greeted, or counted a fault; and
+-- unless it counted one, or had 2^40 bytes and pauses to give, all that came over it was answered, by these entries
+pub record ComesBack (shows : ℕ → Bool) (door : DoorTale) (number : ℕ) (calls : Log) (came : Tale) : Type 0 where
   pub link : Tale
   pub faults : ℕ
   pub back : CameBack number (telling link faults) door
   pub signs : link.taken ++ link.left ≡ came.left
   pub greeted : WasGreeted came link ⊎ (1 ≤ faults)
+  pub answered : faults ≡ 0 → length came.left < 2 ^ 40 → AnswersAll shows number calls came link
 
--- where nothing failed and memory was enough, the link of each session came back so: none was hung up unserved, and
--- none was exchanged for another
+-- where nothing failed and memory was enough, the link of each session came back so: none was hung up unserved, none
+-- was exchanged for another, and no line was left without its answer
 abbrev pub EachComesBack : Type 0
 EachComesBack =
     (shows : ℕ → Bool) (end : ServeEnd) (door : DoorTale) (number : ℕ) (calls : Log) (came : Tale) → IsClean end
     → HasServed shows (MayBeShort end) (Some door) number calls → CameAs number (Some came) door
-    → ComesBack door number came
+    → ComesBack shows door number calls came

@@ -6,9 +6,10 @@ use Rattle.edge_traits.specs.Keeper.{Stays}
 use Rattle.edge_traits.specs.Pairs.{Table}
 use Rattle.lobby_load.specs.BadRows.{IsGoodStore}
 use Rattle.lobby_load.specs.Loaded.{AreSpelled, HasLoaded, IsAtOpening}
+use Rattle.lobby_load.specs.Refused.{UnlessUnwritten, unopened_status}
 use Rattle.lobby_load.specs.Telling.{Tells}
 use Rattle.lobby_load.specs.declared.refusals.StoreFault.{StoreFault}
-use Rattle.lobby_load.specs.declared.refusals.StoreFault.TheVariants.{BadRecord, KeeperFault, WriteFault, Memory}
+use Rattle.lobby_load.specs.declared.refusals.StoreFault.TheVariants.{KeeperFault, WriteFault}
 use Rattle.lobby_state.specs.Lobby.{LobbyState}
 use Rattle.serve_core.specs.ServeEnds.{Counts, EndsServing}
 use Rattle.serve_core.specs.Serving.{Sheet, status_of}
@@ -23,20 +24,14 @@ pub record IsLoaded (told : Option Table) (lobby : LobbyState) : Type 0 where
   pub holds : IfSome told (λ table. HasLoaded table lobby)
   pub good : IfSome told IsGoodStore
 
--- the number with which the program ends that opened no store
-abbrev pub unopened_status : StoreFault → ℕ
-unopened_status WriteFault = 3
-unopened_status KeeperFault = 4
-unopened_status BadRecord = 5
-unopened_status Memory = 6
-
 -- no hall was opened for this reason: the line of the least bad key was written, or a front of it at a fault of the
--- sink, which counted it; else nothing was written, or at want of memory perhaps a front of that line. A fault of the
--- keeper is told only where it counted one, and its table stays
+-- sink, which counted it there and nowhere else; else nothing was written, or at want of memory perhaps a front of that
+-- line. A fault of the keeper is told only where it counted one, and its table stays
 pub record StaysUnopened (fault : StoreFault) (old new : Store) (before after : Sheet) : Type 0 where
   pub tells : Tells {A = LobbyState} old.table before.written after.written (Err fault)
   pub keeper_fault : fault ≡ KeeperFault → Rose old.faults new.faults
   pub write_fault : fault ≡ WriteFault → Rose before.faults after.faults
+  pub write_calm : UnlessUnwritten fault (after.faults ≡ before.faults)
   pub table : Stays old.table new.table
 
 -- how a call ended that was to serve: it opened no store, or it served

@@ -18,8 +18,8 @@ abbrev pub OneRose : Counts → Counts → Type 0
 OneRose old new = Rose old.door new.door ⊎ (Rose old.sink new.sink ⊎ Rose old.keeper new.keeper)
 
 -- a fault of the door, of the sink or of the keeper is told only where that one counted it; a front of the text was
--- written, and all of it where nothing failed and memory was enough; and where no fault was counted, nothing failed or
--- memory ran out
+-- written, and all of it where nothing failed and memory was enough; where no fault was counted, nothing failed or
+-- memory ran out; and where the sink counted one, that is told, or a fault of the door
 pub record EndsServing (end : ServeEnd) (old new : Counts) (written written' : Option (List ℕ)) : Type 0 where
   pub door_fault : end ≡ DoorFault → Rose old.door new.door
   pub write_fault : end ≡ WriteFault → Rose old.sink new.sink
@@ -27,3 +27,4 @@ pub record EndsServing (end : ServeEnd) (old new : Counts) (written written' : O
   pub text : IsClean end → Appends written written' whole_text
   pub text_part : AppendsFront written written' whole_text
   pub complete : (OneRose old new → ⊥) → IsClean end ⊎ (end ≡ Memory)
+  pub write_told : (new.sink ≡ old.sink) ⊎ ((end ≡ WriteFault) ⊎ (end ≡ DoorFault))

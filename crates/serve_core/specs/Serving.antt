@@ -1,12 +1,11 @@
 -- What a server promises that has served: its hall, its links, its steward and its store, its text and its door, and
 -- how it ended. This server's own.
-use Rattle.std.specs.Prelude.{codes, ◌≡◌, ◌≢◌, ℕ, ◌+◌, ◌^◌, ◌<◌, ◌≤◌, ◌⊎◌, Bool, List, [], ◌++◌, length, Some, slice_get}
+use Rattle.std.specs.Prelude.{codes, ◌≡◌, ◌≢◌, ℕ, ◌+◌, ◌<◌, ◌≤◌, ◌⊎◌, Bool, List, [], ◌++◌, length, Some, slice_get}
 use Rattle.std.specs.declared.option.Option.{Option}
-use Rattle.std.specs.Io.KnownBytes.{Appends}
 use Rattle.edge_traits.specs.Faults.{Rose}
 use Rattle.edge_traits.specs.Door.{DoorTale, IfTold}
 use Rattle.edge_traits.specs.Pairs.{Table}
-use Rattle.edge_traits.specs.Sink.{AppendsFront, OnWriteFailed, Wrote}
+use Rattle.edge_traits.specs.Sink.{OnWriteFailed, UnlessWriteFailed, Wrote}
 use Rattle.edge_traits.specs.declared.sink.Sent.{Sent}
 use Rattle.edge_traits.specs.declared.sink.Sent.TheVariants as sent
 use Rattle.histories.specs.History.{calls_of, Legal, state}
@@ -20,10 +19,14 @@ use Rattle.one_server.specs.Whole.{IsWhole}
 use Rattle.hall_core.specs.Passes.{EveryoneJoined, PassState}
 use Rattle.serve_core.specs.declared.end.ServeEnd.{ServeEnd}
 use Rattle.steward_core.specs.declared.turn.StewardEnd.{StewardEnd}
-use Rattle.steward_core.specs.declared.turn.StewardEnd.TheVariants as steward
+use Rattle.serve_core.specs.declared.end.DoorEnd.{DoorEnd}
+use Rattle.serve_core.specs.declared.end.DoorEnd.TheVariants as door_end
+use Rattle.serve_core.specs.declared.settle.Supply.{Supply}
+use Rattle.serve_core.specs.declared.settle.Supply.TheVariants.{Enough}
 use Rattle.serve_core.specs.declared.end.ServeEnd.TheVariants.{Done, DoorFault, WriteFault, KeeperFault, Memory, Spent}
 use Rattle.serve_core.specs.Sessions.{HasServed}
 use Rattle.serve_core.specs.Stewarding.{AreStewards, EndsWithTurn, HasTurns, IsDone, MayEnd, asked}
+use Rattle.serve_core.specs.Stopping.{IsStopped, end_of}
 use Rattle.serve_core.specs.Tending.{Store}
 
 -- nothing came through the door yet
@@ -58,16 +61,6 @@ MayBeShort Memory = Unit {0}
 MayBeShort DoorFault = Unit {0}
 MayBeShort Spent = ⊥
 
--- how the last turn of the steward ended: well, where serving did; with a keeper fault exactly where serving ended so,
--- but for faults of the door and the sink, which stand above one of the keeper and below which it may have ended anyhow
-abbrev pub LastEnds : ServeEnd → StewardEnd → Type 0
-LastEnds Done last = IsDone last
-LastEnds Spent last = IsDone last
-LastEnds Memory last = last ≢ steward.KeeperFault
-LastEnds KeeperFault last = last ≡ steward.KeeperFault
-LastEnds WriteFault last = Unit {0}
-LastEnds DoorFault last = Unit {0}
-
 -- the table agrees with the lobby of this state
 abbrev pub AgreesIn : Table → List Part → Type 0
 AgreesIn table parts =
@@ -92,25 +85,35 @@ pub record Sheet : Type 0 where
   pub written : Option (List ℕ)
   pub faults : ℕ
 
--- `ready` wasn't written out: the sink failed, which it counted, or memory ran out, and then perhaps the last turn of
--- the steward met a keeper fault. Nothing else was written, and no link was taken
-pub record StopsUnready (end : ServeEnd) (count : ℕ) (before after : Sheet) : Type 0 where
+-- one write of the text, which the sink answered so: all of it was written, but for an end of it where the write failed
+-- or ran out of memory; and the sink counted a fault exactly where the write failed
+pub record Says (text : List ℕ) (said : Sent) (before after : Sheet) : Type 0 where
+  pub wrote : Wrote before.written after.written text said
+  pub cause : OnWriteFailed said (Rose before.faults after.faults)
+  pub calm : UnlessWriteFailed said (after.faults ≡ before.faults)
+
+-- `ready` wasn't written out: the sink failed or memory ran out. Nothing else was written, no link was taken, and serving
+-- ended by what became of that write and by the last turn of the steward, as at a door that is closed
+pub record StopsUnready (end : ServeEnd) (last : StewardEnd) (count : ℕ) (before after : Sheet) : Type 0 where
   pub none_taken : count ≡ 0
-  pub front : AppendsFront before.written after.written ready_text
-  pub why : ((end ≡ WriteFault) × Rose before.faults after.faults) ⊎ ((end ≡ Memory) ⊎ (end ≡ KeeperFault))
+  pub said : Sent
+  pub unwritten : said ≢ sent.All
+  pub ready : Says ready_text said before after
+  pub ends : end ≡ end_of door_end.Closed said last Enough
 
 -- `ready` was written; links were taken until the door had none left, or failed, or 2^31 had come; and then `closed`
--- was written: all of it, but for an end of it where the sink failed, which it counted, or where that write ran out of
--- memory
-pub record SaysClosed (end : ServeEnd) (door : Option DoorTale) (count : ℕ) (before after : Sheet) : Type 0 where
-  pub none_left : IfTold door (λ tale. (tale.left ≡ []) ⊎ ((end ≡ DoorFault) ⊎ (count ≡ 2 ^ 31)))
-  pub mid : Option (List ℕ)
-  pub ready : Appends before.written mid ready_text
+-- was to be written. Serving ended by why no further link was taken, by what became of that write, by the last turn of
+-- the steward, and by whether memory ran out somewhere before, of which nothing else tells
+pub record SaysClosed (end : ServeEnd) (last : StewardEnd) (door : Option DoorTale) (count : ℕ) (before after : Sheet)
+    : Type 0 where
+  pub why : DoorEnd
+  pub stopped : IsStopped why count door
+  pub mid : Sheet
+  pub ready : Says ready_text sent.All before mid
   pub said : Sent
-  pub closed : Wrote mid after.written closed_text said
-  pub cause : OnWriteFailed said (Rose before.faults after.faults)
-  pub fault : end ≡ WriteFault → said ≡ sent.Failed
-  pub all : IsClean end → said ≡ sent.All
+  pub closed : Says closed_text said mid after
+  pub supply : Supply
+  pub ends : end ≡ end_of why said last supply
 
 -- The pass is the hall's first one, and every other was joined into it. What it has seen is the history of that hall:
 -- legal from the opening state, which is whole, and with no entries but those of the sessions
@@ -131,7 +134,8 @@ pub record HasServedAll (shows : ℕ → Bool) (opening : List Part) (end : Serv
   -- those of the last turn. Unless something failed or memory ran out, all of them were done
   pub stewards : AreStewards (calls_of 0 pass.seen)
   pub all_turns : HasTurns (MayEnd (MayBeShort end) (Rose old.faults new.faults)) 1 door (calls_of 0 pass.seen)
-  pub last_turn : EndsWithTurn (LastEnds end) (calls_of 0 pass.seen) (state house pass.opening pass.seen)
+  pub last : StewardEnd
+  pub last_turn : EndsWithTurn (λ ended. ended ≡ last) (calls_of 0 pass.seen) (state house pass.opening pass.seen)
   pub turns : IsClean end → (Rose old.faults new.faults → ⊥)
       → IfTold door (λ tale. asked (calls_of 0 pass.seen) ≡ tale.quiets + 1)
   pub whole_turns : IsClean end → (Rose old.faults new.faults → ⊥) → HasTurns IsDone 1 door (calls_of 0 pass.seen)
@@ -139,8 +143,6 @@ pub record HasServedAll (shows : ℕ → Bool) (opening : List Part) (end : Serv
   -- state of the whole history
   pub agrees : IfTold old.table (λ table. AgreesIn table pass.opening
       → TellsAgreed new.table (state house pass.opening pass.seen))
-  -- the text was written and all links were taken, but for the reasons that are named
-  pub text : StopsUnready end pass.splits before after ⊎ SaysClosed end door pass.splits before after
-  pub done_left : end ≡ Done → IfTold door (λ tale. tale.left ≡ [])
-  pub spent : end ≡ Spent → pass.splits ≡ 2 ^ 31
-  pub not_done : pass.splits ≡ 2 ^ 31 → end ≢ Done
+  -- the text was written and all links were taken, but for the reasons that are named; and serving ended by the first
+  -- that holds of a fault of the door, of the sink and of the keeper in the last turn, want of memory, and 2^31 links
+  pub text : StopsUnready end last pass.splits before after ⊎ SaysClosed end last door pass.splits before after

@@ -21,6 +21,12 @@ Stopped door_end.Closed count door before now = IfTold door (λ tale. tale.left 
 Stopped door_end.Failed count door before now = Rose before now × (count < 2 ^ 31)
 Stopped door_end.Spent count door before now = count ≡ 2 ^ 31
 
+-- the same, but for the count of faults
+abbrev pub IsStopped : DoorEnd → ℕ → Option DoorTale → Type 0
+IsStopped door_end.Closed count door = IfTold door (λ tale. tale.left ≡ []) × (count < 2 ^ 31)
+IsStopped door_end.Failed count door = count < 2 ^ 31
+IsStopped door_end.Spent count door = count ≡ 2 ^ 31
+
 -- how serving ends: by why no further link is taken, what became of the last write, how the last turn of the steward
 -- ended, and whether memory ran out before it. A fault of the door comes first, then one of the sink, then one of the
 -- keeper, then running out of memory

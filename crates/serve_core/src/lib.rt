@@ -21,7 +21,8 @@ mod settle;
 mod turn;
 mod worker;
 
-pub use end::ServeEnd;
+pub use end::{DoorEnd, ServeEnd};
 pub use laws::each_link_comes_back_as_its_own;
 pub use serve_call::serve;
 pub use serving::serve_lobby;
+pub use settle::Supply;

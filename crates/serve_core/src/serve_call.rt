@@ -9,12 +9,13 @@ ghost use Rattle.histories.specs.History.{state};
 ghost use Rattle.job_words.specs.Jobs.{AsksToServe, OnUsage};
 ghost use Rattle.job_words.specs.Usage.{usage_line};
 ghost use Rattle.lobby_load.specs.BadRows.{IsGoodStore};
+ghost use Rattle.lobby_load.specs.Refused.{unopened_status};
 ghost use Rattle.lobby_load.specs.Telling.{IsFirstBad, bad_record_line};
 ghost use Rattle.lobby_load.specs.declared.refusals.StoreFault.{StoreFault};
 ghost use Rattle.lobby_state.specs.Lobby.{LobbyState};
 ghost use Rattle.one_server.specs.House.{house};
 ghost use Rattle.one_server.specs.Whole.{opened};
-ghost use Rattle.serve_core.specs.Opening.{EndsCall, IsLoaded, StaysUnopened, unopened_status};
+ghost use Rattle.serve_core.specs.Opening.{EndsCall, IsLoaded, StaysUnopened};
 ghost use Rattle.serve_core.specs.Serving.{HasServedAll, IsUnused, TellsAgreed, status_of, whole_text};
 ghost use Rattle.serve_core.specs.declared.end.ServeEnd.{ServeEnd};
 
@@ -23,7 +24,7 @@ use edge_traits::{Clock, Doorway, Gate, Keeper, Sink};
 use hall_core::{Hall, HallPass};
 use job_words::{Job, JobFail, read_job, tell_usage};
 use line_answers::{End, status};
-use lobby_load::{StoreFault, open_store};
+use lobby_load::open_store;
 use std::alloc::Global;
 use std::sync::Wait;
 use std::thread::Threads;
@@ -34,7 +35,8 @@ use std::thread::Threads;
 ///
 /// The status is 0 where the door was closed and all was served, 1 where the words don't ask for it, 3 at a fault of
 /// writing, 4 at a fault of the keeper at the load or in the last turn of the steward, 5 at a bad record, whose key is
-/// written, 6 for want of memory, 8 at a fault of the door, and 9 after 2^31 connections. Where the words ask for it, a
+/// written, 6 for want of memory, 8 at a fault of the door, and 9 after 2^31 connections. Of several that hold once a
+/// hall was opened the first of 8, 3, 4, 6 and 9 is told. Where the words ask for it, a
 /// hall is missing only where the store wasn't loaded or memory didn't suffice to open one. The door is one through
 /// which nothing came yet. Where the words don't ask for it the keeper isn't called.
 pub fn serve<T, D, C, P, K, G>(
@@ -77,6 +79,7 @@ where
         × Appends (K.written sink.old) (K.written sink.new) usage_line }
     ensures not_asked { ¬ (AsksToServe words.now) → (result.0 ≡ 1) ⊎ ((result.0 ≡ 3) ⊎ (result.0 ≡ 6)) }
     ensures write_fault { result.0 ≡ 3 → Rose (K.faults sink.old) (K.faults sink.new) }
+    ensures write_told { (K.faults sink.new ≡ K.faults sink.old) ⊎ ((result.0 ≡ 3) ⊎ (result.0 ≡ 8)) }
     ensures door_fault { result.0 ≡ 8 → Rose (D.faults door.old) (D.faults door.new) }
     ensures keeper_fault { result.0 ≡ 4 → Rose (P.faults keeper.old) (P.faults keeper.new) }
     ensures bad_record { result.0 ≡ 5 → AsksToServe words.now × (key : List ℕ) × IsFirstBad (P.table keeper.old) key
@@ -163,18 +166,6 @@ where
             let (end, hall) = serve_lobby(rt, alloc, lobby, door, clock, keeper, sink, gate);
             (end.status(), hall)
         }
-        Err(fault) => (unopened_status(fault), None),
-    }
-}
-
-/// The number with which the program ends that opened no store.
-fn unopened_status(fault: StoreFault) -> u8
-    ensures { result ≡ unopened_status fault }
-{
-    match fault {
-        StoreFault::WriteFault => 3,
-        StoreFault::KeeperFault => 4,
-        StoreFault::BadRecord => 5,
-        StoreFault::Memory => 6,
+        Err(fault) => (fault.status(), None),
     }
 }

@@ -4,7 +4,7 @@ ghost use Rattle.std.specs.Prelude.{◌≡◌, ◌≤◌, ◌⊎◌, ℕ, IfSome
 ghost use Rattle.std.specs.Io.KnownBytes.{Appends, Keeps};
 ghost use Rattle.edge_traits.specs.Door.{Goes, IfTold, KeepsLinks};
 ghost use Rattle.edge_traits.specs.Faults.{Rose};
-ghost use Rattle.edge_traits.specs.Sink.{OnWriteFailed, Wrote};
+ghost use Rattle.edge_traits.specs.Sink.{OnWriteFailed, UnlessWriteFailed, Wrote};
 ghost use Rattle.one_server.specs.declared.part.Part.{Part};
 ghost use Rattle.one_server.specs.Whole.{IsOpening, IsWhole, opened};
 ghost use Rattle.hall_core.specs.Passes.{first_pass};
@@ -70,6 +70,8 @@ where
     ensures keeper_stays { IfNone result.1 (keeper.new ≡ keeper.old) }
     ensures door_fault { result.0 ≡ ServeEnd.DoorFault → Rose (D.faults door.old) (D.faults door.new) }
     ensures write_fault { result.0 ≡ ServeEnd.WriteFault → Rose (K.faults sink.old) (K.faults sink.new) }
+    ensures write_told { (K.faults sink.new ≡ K.faults sink.old)
+        ⊎ ((result.0 ≡ ServeEnd.WriteFault) ⊎ (result.0 ≡ ServeEnd.DoorFault)) }
     ensures keeper_fault { result.0 ≡ ServeEnd.KeeperFault → Rose (P.faults keeper.old) (P.faults keeper.new) }
     ensures keeper_counted { P.faults keeper.old ≤ P.faults keeper.new }
     ensures text { IsClean result.0 → Appends (K.written sink.old) (K.written sink.new) whole_text }
@@ -121,6 +123,8 @@ where
     ensures links { Goes (D.tale door.old) (D.tale door.new) KeepsLinks }
     ensures door_fault { result.1 ≡ ServeEnd.DoorFault → Rose (D.faults door.old) (D.faults door.new) }
     ensures write_fault { result.1 ≡ ServeEnd.WriteFault → Rose (K.faults sink.old) (K.faults sink.new) }
+    ensures write_told { (K.faults sink.new ≡ K.faults sink.old)
+        ⊎ ((result.1 ≡ ServeEnd.WriteFault) ⊎ (result.1 ≡ ServeEnd.DoorFault)) }
     ensures keeper_fault { result.1 ≡ ServeEnd.KeeperFault → Rose (P.faults keeper.old) (P.faults keeper.new) }
     ensures keeper_counted { P.faults keeper.old ≤ P.faults keeper.new }
     ensures text { IsClean result.1 → Appends (K.written sink.old) (K.written sink.new) whole_text }
@@ -182,6 +186,7 @@ fn end_of(door: DoorEnd, sent: Sent, last: StewardEnd, supply: Supply) -> ServeE
 fn say_ready<K: Sink>(sink: &mut K) -> Sent
     ensures wrote { Wrote (K.written sink.old) (K.written sink.new) ready_text result }
     ensures cause { OnWriteFailed result (Rose (K.faults sink.old) (K.faults sink.new)) }
+    ensures calm { UnlessWriteFailed result (K.faults sink.new ≡ K.faults sink.old) }
     ensures counted { K.faults sink.old ≤ K.faults sink.new }
 {
     sink.write(READY)
@@ -191,6 +196,7 @@ fn say_ready<K: Sink>(sink: &mut K) -> Sent
 fn say_closed<K: Sink>(sink: &mut K) -> Sent
     ensures wrote { Wrote (K.written sink.old) (K.written sink.new) closed_text result }
     ensures cause { OnWriteFailed result (Rose (K.faults sink.old) (K.faults sink.new)) }
+    ensures calm { UnlessWriteFailed result (K.faults sink.new ≡ K.faults sink.old) }
     ensures counted { K.faults sink.old ≤ K.faults sink.new }
 {
     sink.write(CLOSED)

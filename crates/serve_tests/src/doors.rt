@@ -2,10 +2,11 @@
 
 ghost use Rattle.std.specs.Prelude.{None};
 
+use crate::held_stage::say;
+use crate::words::words_of;
 use edge_traits::{Came, Doorway, Heard, Link, OpenGate, Sent, StillClock};
-use lobby_state::Lobby;
 use memory_edges::{MemKeeper, MemSink};
-use serve_core::{ServeEnd, serve_lobby};
+use serve_core::serve;
 use std::alloc::Global;
 use std::sync::Arc;
 use std::sync::atomic::{AtomicBool, Ordering};
@@ -15,21 +16,29 @@ use std::thread;
 /// The most Quiets for which the door waits.
 const MOST_QUIETS: u64 = 1_000_000;
 
-/// A link that never says anything and ends at once after its greeting was written, which it tells by a flag.
+/// A link over which a guest comes in and quits, which tells by a flag that something was written to it.
 #[derive(Drop)]
-struct Mute {
+struct Guest {
     greeted: Arc<AtomicBool, Global>,
+    /// How many lines were said.
+    said: u8,
 }
 
-impl Link for Mute {
+impl Link for Guest {
     ghost use Rattle.std.specs.Prelude.{None};
 
     ghost tale = { λ _. None };
 
     ghost faults = { λ _. 0 };
 
-    fn read(&mut self, _buf: &mut [u8]) -> Heard {
-        Heard::End
+    fn read(&mut self, buf: &mut [u8]) -> Heard {
+        let said = self.said;
+        self.said = said.saturating_add(1);
+        match said {
+            0 => say(b"guest\n", buf),
+            1 => say(b"quit\n", buf),
+            _ => Heard::End,
+        }
     }
 
     fn write(&mut self, _bytes: &[u8]) -> Sent {
@@ -43,7 +52,7 @@ impl Link for Mute {
 /// A door that gives one link, and is closed once that link was greeted or so many Quiets were given.
 #[derive(Drop)]
 struct Waiting {
-    link: Option<Mute>,
+    link: Option<Guest>,
     greeted: Arc<AtomicBool, Global>,
     quiets: u64,
 }
@@ -51,13 +60,13 @@ struct Waiting {
 impl Doorway for Waiting {
     ghost use Rattle.std.specs.Prelude.{None};
 
-    type Link = Mute;
+    type Link = Guest;
 
     ghost tale = { λ _. None };
 
     ghost faults = { λ _. 0 };
 
-    fn next(&mut self) -> Came<Mute> {
+    fn next(&mut self) -> Came<Guest> {
         if let Some(link) = self.link.take() {
             return Came::Link(link);
         }
@@ -69,7 +78,7 @@ impl Doorway for Waiting {
         Came::Quiet
     }
 
-    fn back(&mut self, _number: u64, link: Mute) {
+    fn back(&mut self, _number: u64, link: Guest) {
         drop(link);
     }
 }
@@ -79,8 +88,9 @@ fn greeted_before_the_door_closes(rt: HostRuntime) -> Result<(), Fail> {
     let alloc = rt.alloc();
     let greeted = Arc::new(alloc, AtomicBool::new(false))?;
     let mut door = Waiting {
-        link: Some(Mute {
+        link: Some(Guest {
             greeted: Arc::try_clone(&greeted)?,
+            said: 0,
         }),
         greeted,
         quiets: 0,
@@ -89,18 +99,18 @@ fn greeted_before_the_door_closes(rt: HostRuntime) -> Result<(), Fail> {
     let mut sink = MemSink::new(alloc, Vec::new(alloc));
     let clock = StillClock::new(0);
     let gate = OpenGate::new();
-    let lobby = Lobby::new(alloc)?;
-    let (end, _hall) = serve_lobby(
+    let words = words_of(alloc, &["serve", "--port", "5000"])?;
+    let (status, _hall) = serve(
         &rt,
         alloc,
-        lobby,
+        words.as_slice(),
         &mut door,
         &clock,
         &mut keeper,
         &mut sink,
         &gate,
     );
-    assert!(rt; end == ServeEnd::Done);
+    assert!(rt; status == 0);
     assert!(rt; door.quiets < MOST_QUIETS);
     Ok(())
 }

@@ -38,9 +38,34 @@ impl Play {
 const FAYS_LAST: &[u8] =
     b" Dan 0 2 12 39 39 120 120 1 P/d2-d4 (0:00) d4 0\n\rEve seeking 5 0 chess (\"play 1\" to respond)\n\rfics% ";
 
-/// Two games begin, White moves in the first one and is held, Black gives that game up or leaves it, and White moves in
-/// the second one; then somebody seeks, and somebody looks on at the second game, which has the number 3.
+/// Two games begin, White moves in the first one and is held, Black has that board shown, or gives that game up or leaves
+/// it, and White moves in the second one; then somebody seeks, and somebody looks on at the second game, which has the
+/// number 3.
 pub const PLAYS: &[Play] = &[
+    // Black at desk 1 has the board shown behind White's move.
+    Play {
+        players: 4,
+        cues: &[
+            Cue(1, b"Ann\n", Then::Answered),
+            Cue(2, b"Ben\n", Then::Answered),
+            Cue(3, b"Cat\n", Then::Answered),
+            Cue(4, b"Dan\n", Then::Answered),
+            Cue(1, b"match Ben 2 12 white\n", Then::Answered),
+            Cue(2, b"accept\n", Then::Answered),
+            Cue(3, b"match Dan 2 12 white\n", Then::Answered),
+            Cue(4, b"accept\n", Then::Answered),
+            Cue(1, b"e2e4\n", Then::Held),
+            Cue(2, b"refresh\n", Then::Read),
+            Cue(3, b"d2d4\n", Then::Answered),
+        ],
+        held: 8,
+        last: &[
+            b" 1 P/e2-e4 (0:00) e4 0\n\rfics% ",
+            b" 1 P/e2-e4 (0:00) e4 1\n\rfics% ",
+            b" 1 P/d2-d4 (0:00) d4 0\n\rfics% ",
+            b" 1 none (0:00) none 1\n\rfics% ",
+        ],
+    },
     // Black at desk 1 sees White's move before the end. White there sees the end too, or leaves before it; the players
     // at desk 2 see the move and the start.
     Play {

@@ -200,7 +200,7 @@ impl Link for Player<'_> {
 }
 
 /// Puts a line into the buffer.
-fn say(line: &[u8], buf: &mut [u8]) -> Heard
+pub fn say(line: &[u8], buf: &mut [u8]) -> Heard
     ensures count { IfHeard result (λ n. (0 < n) × (n ≤ length buf.new)) }
     ensures cause { OnHearFailed result (Rose 0 0) }
 {

@@ -4,6 +4,7 @@ ghost use Rattle.std.specs.Prelude.{None};
 
 use crate::held_plays::{PLAYS, Play};
 use crate::held_stage::{Player, Seen, Stage};
+use crate::words::words_of;
 use edge_traits::{Came, Doorway, StillClock};
 use memory_edges::{MemKeeper, MemSink};
 use serve_core::serve;
@@ -66,10 +67,7 @@ fn held<'a, T: Threads + Wait + Sync>(
         seen: None,
         heard: [None, None, None, None, None, None],
     };
-    let mut words = Vec::new(alloc);
-    for word in ["serve", "--port", "5000"] {
-        words.push(String::from_str(alloc, word)?)?;
-    }
+    let words = words_of(alloc, &["serve", "--port", "5000"])?;
     let clock = StillClock::new(0);
     let mut keeper = MemKeeper::new(alloc, Vec::new(alloc));
     let mut sink = MemSink::new(alloc, Vec::new(alloc));
@@ -122,7 +120,8 @@ fn is_served<T: Threads + Wait + Sync>(
 }
 
 /// While a worker is held in White's move at desk 1, the move at desk 2, a seek and somebody who looks on there are
-/// answered, and neither White's move nor Black's giving up or leaving at desk 1 is; once the gate is open, both are.
+/// answered, and neither White's move nor what Black does at desk 1 is: to have the board shown, to give up or to leave;
+/// once the gate is open, both are.
 #[test]
 fn a_desk_is_waited_for_by_itself(rt: HostRuntime) -> Result<(), Fail> {
     for (place, play) in PLAYS.iter().enumerate() {

@@ -1,7 +1,7 @@
 //! Tests of the server and of its adapters: connections in memory and over TCP, each served to its end, faults of the
-//! door, the sink, the keeper and a link, a door that waits for a greeting, a client that connects on `ready`, a worker
-//! that is held with a desk in its hands, and what a keeper holds from one evening to the next. What the clients are
-//! sent is written out by hand.
+//! door, the sink, the keeper and a link, a door that waits for a greeting, a client that connects on `ready`, what isn't
+//! put off until the door closes, a worker that is held with a desk in its hands, and what a keeper holds from one
+//! evening to the next. What the clients are sent is written out by hand.
 #![tactic(auto)]
 
 #[cfg(test)]
@@ -17,8 +17,12 @@ mod held_stage;
 #[cfg(test)]
 mod held_worker;
 #[cfg(test)]
+mod put_off;
+#[cfg(test)]
 mod ready;
 #[cfg(test)]
 mod stores;
 #[cfg(test)]
 mod tcp;
+#[cfg(test)]
+mod words;

@@ -1,8 +1,7 @@
 //! `ready` means that one can connect: a client that does so while it is written is served.
 
-use crate::tcp::{HOME, serve, took_leave};
+use crate::tcp::{HOME, serve_at, took_leave};
 use edge_traits::{Sent, Sink};
-use serve_core::ServeEnd;
 use std::alloc::Global;
 use std::io::{Read, Write};
 use std::net::{Net, TcpListener, TcpStream};
@@ -58,8 +57,8 @@ fn who_connects_on_ready_is_served(rt: HostRuntime) -> Result<(), Fail> {
         rt: &rt,
         client: None,
     };
-    let end = serve(&rt, alloc, PORT, 1, &mut caller);
-    assert!(rt; end == Some(ServeEnd::Done));
+    let status = serve_at(&rt, alloc, PORT, 1, &mut caller);
+    assert!(rt; status == Some(0));
     let heard = heard_by(alloc, caller.client);
     assert!(rt; heard.is_some_and(|heard| took_leave(heard.as_slice())));
     Ok(())

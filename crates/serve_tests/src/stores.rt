@@ -1,9 +1,11 @@
-//! `serve` over a keeper: what is registered is saved and loaded again, a keeper that fails, and a bad record.
+//! `serve` over a keeper: what is registered is saved and loaded again, a keeper that fails, alone and with the sink, and
+//! a bad record.
 
 ghost use Rattle.std.specs.Prelude.{Some, IfOk};
 ghost use Rattle.edge_traits.specs.Door.{IsNew};
 ghost use Rattle.memory_edges.specs.MemDoor.{AreNew};
 
+use crate::words::words_of;
 use edge_traits::{Keeper, Kept, OpenGate, StillClock};
 use memory_edges::{LinkStep, MemDoor, MemKeeper, MemLink, MemSink};
 use serve_core::serve;
@@ -40,19 +42,17 @@ struct Served {
     sink: MemSink,
 }
 
-/// Serves a player who says this, over this keeper.
+/// Serves a player who says this, over this keeper and a sink that fails at these writes.
 fn serve_player<T: Threads + Wait + Sync>(
     rt: &T,
     alloc: Global,
     keeper: &mut MemKeeper,
+    writes: &[u64],
     says: &[u8],
 ) -> Result<Served, AllocError> {
-    let mut words = Vec::new(alloc);
-    for word in SERVE {
-        words.push(String::from_str(alloc, word)?)?;
-    }
+    let words = words_of(alloc, SERVE)?;
     let mut door = MemDoor::new(one_player(alloc, says)?, Vec::new(alloc));
-    let mut sink = MemSink::new(alloc, Vec::new(alloc));
+    let mut sink = MemSink::new(alloc, Vec::from_slice(alloc, writes)?);
     let clock = StillClock::new(1_000);
     let gate = OpenGate::new();
     let (status, _hall) = serve(
@@ -79,11 +79,12 @@ fn holds(keeper: &MemKeeper, keys: &[&[u8]]) -> bool {
 }
 
 /// A row: the record that the keeper holds under a key, if any, and at which of its calls it fails, where the put of
-/// that record is the first; what the player says; the status, what is written, what the player is sent last, where the
-/// link comes back, and the keys that the keeper holds in the end.
+/// that record is the first; at which writes the sink fails; what the player says; the status, what is written, what the
+/// player is sent last, where the link comes back, and the keys that the keeper holds in the end.
 struct Row {
     record: Option<(&'static [u8], &'static [u8])>,
     fails: &'static [u64],
+    writes: &'static [u64],
     says: &'static [u8],
     status: u8,
     text: &'static [u8],
@@ -95,6 +96,7 @@ const ROWS: &[Row] = &[
     Row {
         record: None,
         fails: &[],
+        writes: &[],
         says: b"guest\nquit\n",
         status: 0,
         text: b"ready\nclosed\n",
@@ -104,6 +106,7 @@ const ROWS: &[Row] = &[
     Row {
         record: None,
         fails: &[],
+        writes: &[],
         says: b"Ann\nregister abc\nquit\n",
         status: 0,
         text: b"ready\nclosed\n",
@@ -113,6 +116,7 @@ const ROWS: &[Row] = &[
     Row {
         record: None,
         fails: &[0],
+        writes: &[],
         says: b"guest\nquit\n",
         status: 4,
         text: b"",
@@ -122,6 +126,7 @@ const ROWS: &[Row] = &[
     Row {
         record: None,
         fails: &[1],
+        writes: &[],
         says: b"Ann\nregister abc\nquit\n",
         status: 4,
         text: b"ready\nclosed\n",
@@ -131,9 +136,42 @@ const ROWS: &[Row] = &[
     Row {
         record: Some((b"a", b"\0")),
         fails: &[],
+        writes: &[],
         says: b"guest\nquit\n",
         status: 5,
         text: b"bad record 61\n",
+        last: None,
+        keys: &[b"a"],
+    },
+    // The sink fails at `closed`, behind a last turn in which the keeper failed.
+    Row {
+        record: None,
+        fails: &[1],
+        writes: &[1],
+        says: b"Ann\nregister abc\nquit\n",
+        status: 3,
+        text: b"ready\n",
+        last: Some(b"Ok.\n\rfics% Goodbye.\n\r"),
+        keys: &[],
+    },
+    // The sink fails at `ready`, and at the line of a bad record.
+    Row {
+        record: None,
+        fails: &[1],
+        writes: &[0],
+        says: b"guest\nquit\n",
+        status: 3,
+        text: b"",
+        last: None,
+        keys: &[],
+    },
+    Row {
+        record: Some((b"a", b"\0")),
+        fails: &[],
+        writes: &[0],
+        says: b"guest\nquit\n",
+        status: 3,
+        text: b"",
         last: None,
         keys: &[b"a"],
     },
@@ -169,7 +207,7 @@ fn is_as_said(served: &Served, row: &Row) -> bool {
 /// Whether a row holds.
 fn row_holds<T: Threads + Wait + Sync>(rt: &T, alloc: Global, row: &Row) -> Result<bool, Fail> {
     let mut keeper = keeper_of(alloc, row)?;
-    let served = serve_player(rt, alloc, &mut keeper, row.says)?;
+    let served = serve_player(rt, alloc, &mut keeper, row.writes, row.says)?;
     Ok(is_as_said(&served, row) && holds(&keeper, row.keys))
 }
 
@@ -208,7 +246,7 @@ fn first_wrong<T: Threads + Wait + Sync>(
 ) -> Result<Option<usize>, Fail> {
     let mut keeper = MemKeeper::new(alloc, Vec::new(alloc));
     for (place, evening) in evenings.iter().enumerate() {
-        let served = serve_player(rt, alloc, &mut keeper, evening.0)?;
+        let served = serve_player(rt, alloc, &mut keeper, &[], evening.0)?;
         if served.status != 0 || !is_sent(&served.door, Some(evening.1)) {
             return Ok(Some(place));
         }

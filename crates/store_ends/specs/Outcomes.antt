@@ -4,6 +4,7 @@ use Rattle.line_answers.specs.Ends.{status_of}
 use Rattle.line_answers.specs.Ends as read
 use Rattle.line_answers.specs.declared.end.End.{End}
 use Rattle.line_answers.specs.declared.end.End.TheVariants.{Done, WriteFault, Memory}
+use Rattle.lobby_load.specs.Refused.{unopened_status}
 use Rattle.lobby_load.specs.declared.refusals.StoreFault.{StoreFault}
 use Rattle.lobby_load.specs.declared.refusals.StoreFault.TheVariants as store
 use Rattle.store_ends.specs.declared.outcome.Outcome.{Outcome}
@@ -12,8 +13,8 @@ use Rattle.store_ends.specs.declared.outcome.Outcome.TheVariants.{Read, BadRecor
 -- the number with which the program ends
 abbrev pub status_of_outcome : Outcome → ℕ
 status_of_outcome (Read end) = status_of end
-status_of_outcome KeeperFault = 4
-status_of_outcome BadRecord = 5
+status_of_outcome KeeperFault = unopened_status store.KeeperFault
+status_of_outcome BadRecord = unopened_status store.BadRecord
 status_of_outcome NoGame = 10
 
 -- how a command ends whose store couldn't be opened

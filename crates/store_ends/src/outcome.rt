@@ -26,8 +26,8 @@ pub fn status_of_outcome(outcome: Outcome) -> u8
 {
     match outcome {
         Outcome::Read(end) => status(end),
-        Outcome::KeeperFault => 4,
-        Outcome::BadRecord => 5,
+        Outcome::KeeperFault => StoreFault::KeeperFault.status(),
+        Outcome::BadRecord => StoreFault::BadRecord.status(),
         Outcome::NoGame => 10,
     }
 }

@@ -7,6 +7,8 @@ mod aliases;
 #[cfg(test)]
 mod commands;
 #[cfg(test)]
+mod full_accounts;
+#[cfg(test)]
 mod links;
 #[cfg(test)]
 mod lists;

@@ -2,7 +2,7 @@ use Rattle.std.proofs.Common.{[], ◌∷◌, arith, inl, inr, refl, subst, sym}
 use Rattle.std.specs.Prelude.{Contains}
 use Rattle.serve_core.specs.Serving.{Sheet}
 use Rattle.serve_core.specs.Tending.{Store}
-use Rattle.serve_core.proofs.ServeEnds.{call_bad, call_calm, call_door, call_good, call_keeper, call_listed, call_text, call_usage, call_write, one_rose, usage_else, usage_front, usage_listed}
+use Rattle.serve_core.proofs.ServeEnds.{call_bad, call_calm, call_door, call_good, call_keeper, call_listed, call_text, call_told, call_usage, call_write, one_rose, usage_else, usage_front, usage_listed, usage_told}
 use Rattle.serve_core.proofs.serve_call.serve.Goals as goal
 
 pub returns-in-Ok-clause-usage : goal.returns-in-Ok-clause-usage
@@ -104,6 +104,17 @@ returns-in-Ok-clause-statuses g c =
     let ends = c.serve_players.ensures.ends in
     call_listed old new before after door door' c.serve_players.result.0 ends
 
+pub returns-in-Ok-clause-write_told : goal.returns-in-Ok-clause-write_told
+returns-in-Ok-clause-write_told g c =
+    let old : Store = record { table = g.P.Keeper.table c.args.keeper.now; faults = g.P.Keeper.faults c.args.keeper.now } in
+    let new : Store = record { table = g.P.Keeper.table c.serve_players.new.keeper; faults = g.P.Keeper.faults c.serve_players.new.keeper } in
+    let before : Sheet = record { written = g.K.Sink.written c.args.sink.now; faults = g.K.Sink.faults c.args.sink.now } in
+    let after : Sheet = record { written = g.K.Sink.written c.serve_players.new.sink; faults = g.K.Sink.faults c.serve_players.new.sink } in
+    let door = g.D.Doorway.faults c.args.door.now in
+    let door' = g.D.Doorway.faults c.serve_players.new.door in
+    let ends = c.serve_players.ensures.ends in
+    call_told old new before after door door' c.serve_players.result.0 ends
+
 pub returns-in-Err-Usage-clause-statuses : goal.returns-in-Err-Usage-clause-statuses
 returns-in-Err-Usage-clause-statuses g c = usage_listed (g.K.Sink.written c.args.sink.now) (g.K.Sink.written c.tell_usage.new.sink) c.tell_usage.result c.tell_usage.ensures.ends
 
@@ -121,3 +132,6 @@ returns-in-Err-Usage-clause-good_store g c = λ e. absurd (usage_else (g.K.Sink.
 
 pub returns-in-Err-Memory-clause-complete : goal.returns-in-Err-Memory-clause-complete
 returns-in-Err-Memory-clause-complete g c = λ asks no_door no_sink no_keeper. subst (Contains (0 ∷ 5 ∷ 6 ∷ 9 ∷ [])) (sym c.status.ensures) (2, omega arith, refl)
+
+pub returns-in-Err-Usage-clause-write_told : goal.returns-in-Err-Usage-clause-write_told
+returns-in-Err-Usage-clause-write_told g c = usage_told c.tell_usage.ensures.calm

@@ -4,6 +4,7 @@ use Rattle.serve_core.specs.Opening.{IsLoaded}
 use Rattle.serve_core.specs.Serving.{Sheet, whole_text}
 use Rattle.serve_core.specs.Tending.{Store}
 use Rattle.serve_core.proofs.Opening.{appends_from, front_from, served_from, some_as, table_agrees}
+use Rattle.serve_core.proofs.ServeEnds.{told_from}
 use Rattle.serve_core.proofs.Tending.{rose_before}
 use Rattle.serve_core.proofs.serve_call.serve_players.Goals as goal
 
@@ -22,7 +23,7 @@ returns-in-Ok-clause-served g c =
     let store = c.open_store.ensures in
     let none = c.in-Ok.ensures.tells in
     let loads : IsLoaded old.table lobby = record { opening = c.in-Ok.ensures.opening; spelled = c.in-Ok.ensures.spelled; holds = c.in-Ok.ensures.loaded; good = c.in-Ok.ensures.good } in
-    some_as s.result.1 _ _ (λ h p. (lobby, loads, end, c.status.ensures, served_from (g.C.Clock.shows c.args.clock.now) (opened lobby) end door before mid later old loaded new h.1 none store.write_counted store.unchanged store.keeper_counted p)) s.ensures.served
+    some_as s.result.1 _ _ (λ h p. (lobby, loads, end, c.status.ensures, served_from (g.C.Clock.shows c.args.clock.now) (opened lobby) end door before mid later old loaded new h.1 none c.in-Ok.ensures.write_calm store.unchanged store.keeper_counted p)) s.ensures.served
 
 pub returns-in-Ok-clause-table : goal.returns-in-Ok-clause-table
 returns-in-Ok-clause-table g c =
@@ -39,7 +40,7 @@ returns-in-Ok-clause-table g c =
     let store = c.open_store.ensures in
     let none = c.in-Ok.ensures.tells in
     let loads : IsLoaded old.table lobby = record { opening = c.in-Ok.ensures.opening; spelled = c.in-Ok.ensures.spelled; holds = c.in-Ok.ensures.loaded; good = c.in-Ok.ensures.good } in
-    some_as s.result.1 _ _ (λ h p. table_agrees (g.C.Clock.shows c.args.clock.now) lobby end door before later old new h.1 loads (served_from (g.C.Clock.shows c.args.clock.now) (opened lobby) end door before mid later old loaded new h.1 none store.write_counted store.unchanged store.keeper_counted p)) s.ensures.served
+    some_as s.result.1 _ _ (λ h p. table_agrees (g.C.Clock.shows c.args.clock.now) lobby end door before later old new h.1 loads (served_from (g.C.Clock.shows c.args.clock.now) (opened lobby) end door before mid later old loaded new h.1 none c.in-Ok.ensures.write_calm store.unchanged store.keeper_counted p)) s.ensures.served
 
 pub returns-in-Ok-clause-ends : goal.returns-in-Ok-clause-ends
 returns-in-Ok-clause-ends g c =
@@ -66,5 +67,6 @@ returns-in-Ok-clause-ends g c =
         text_part = front_from before.written mid.written later.written none whole_text s.ensures.text_part;
         complete = λ calm. s.ensures.complete (λ r. calm (inl r)) (λ r. calm (inr (inl (rose_before before.faults mid.faults later.faults store.write_counted r))))
             (λ r. calm (inr (inr (rose_before old.faults loaded.faults new.faults store.keeper_counted r))));
+        write_told = told_from before.faults mid.faults later.faults end c.in-Ok.ensures.write_calm s.ensures.write_told;
       },
     )

@@ -1,18 +1,18 @@
-use Rattle.std.proofs.Common.{sym, ap, subst}
+use Rattle.std.proofs.Common.{◌≡◌, ◌⊎◌, sym, ap, subst}
 use Rattle.hall_core.specs.Passes.{PassState}
 use Rattle.edge_traits.specs.declared.sink.Sent.TheVariants as sent
 use Rattle.serve_core.specs.declared.end.DoorEnd.TheVariants as door_end
 use Rattle.serve_core.specs.declared.end.ServeEnd.{ServeEnd}
-use Rattle.serve_core.specs.declared.end.ServeEnd.TheVariants.{WriteFault}
+use Rattle.serve_core.specs.declared.end.ServeEnd.TheVariants.{DoorFault, WriteFault}
 use Rattle.serve_core.specs.declared.settle.Supply.TheVariants.{Enough}
 use Rattle.serve_core.specs.Serving.{HasServedAll, IsClean, Sheet, closed_text, ready_text}
 use Rattle.serve_core.specs.Stopping.{end_of}
 use Rattle.serve_core.specs.Tending.{Store, stand}
 use Rattle.serve_core.proofs.Closing.{all_served}
-use Rattle.serve_core.proofs.Ending.{closes_by, closes_failed, closes_short, comes, may_be}
+use Rattle.serve_core.proofs.Ending.{closes_by, closes_failed, closes_short, comes, may_be, told_by}
 use Rattle.serve_core.proofs.Keeping.{kept_first}
 use Rattle.serve_core.proofs.Tending.{tended_same}
-use Rattle.serve_core.proofs.Writing.{caused, front_of_half, wrote_front, wrote_whole}
+use Rattle.serve_core.proofs.Writing.{front_of_half, wrote_front, wrote_whole}
 use Rattle.serve_core.proofs.serving.serve_hall.Goals as goal
 
 pub returns-in-All-clause-served : goal.returns-in-All-clause-served
@@ -25,6 +25,7 @@ returns-in-All-clause-served g c =
     let door = g.D.Doorway.tale c.host_links-hosted.new.door in
     let sent = c.say_closed-sent.result in
     let first : Sheet = record { written = g.K.Sink.written c.args.sink.now; faults = g.K.Sink.faults c.args.sink.now } in
+    let ready : Sheet = record { written = g.K.Sink.written c.say_ready.new.sink; faults = g.K.Sink.faults c.say_ready.new.sink } in
     let last : Sheet = record { written = g.K.Sink.written c.say_closed-sent.new.sink; faults = g.K.Sink.faults c.say_closed-sent.new.sink } in
     let old : Store = record { table = g.P.Keeper.table c.args.keeper.now; faults = g.P.Keeper.faults c.args.keeper.now } in
     let mid : Store = record { table = g.P.Keeper.table c.host_links-hosted.new.keeper; faults = g.P.Keeper.faults c.host_links-hosted.new.keeper } in
@@ -32,8 +33,9 @@ returns-in-All-clause-served g c =
     let end = end_of h.end sent t.1 h.supply in
     let by = comes h.end sent t.1 h.supply in
     let closes =
-    closes_by h.end sent t.1 h.supply door h.pass.splits (g.D.Doorway.faults c.args.door.now) (g.D.Doorway.faults c.host_links-hosted.new.door) first last (g.K.Sink.written c.say_ready.new.sink) c.host_links-hosted.ensures.stopped c.in-All.ensures.wrote c.say_closed-sent.ensures.wrote
-    (caused sent (g.K.Sink.faults c.args.sink.now) (g.K.Sink.faults c.say_ready.new.sink) (g.K.Sink.faults c.say_closed-sent.new.sink) c.say_ready.ensures.counted c.say_closed-sent.ensures.cause) in
+    closes_by h.end sent t.1 h.supply door h.pass.splits (g.D.Doorway.faults c.args.door.now) (g.D.Doorway.faults c.host_links-hosted.new.door) first ready last c.host_links-hosted.ensures.stopped
+    (record { wrote = c.in-All.ensures.wrote; cause = tt; calm = c.in-All.ensures.calm })
+    (record { wrote = c.say_closed-sent.ensures.wrote; cause = c.say_closed-sent.ensures.cause; calm = c.say_closed-sent.ensures.calm }) in
     let all = all_served g.C.Clock.shows hall clock h.supply opens door c.requires.first.0 c.args.pass h.pass t.0 old mid after t.1 c.host_links-hosted.ensures.kept c.requires.first.1 c.host_links-hosted.ensures.tended c.requires.door c.requires.whole
     c.last_turn-pass.ensures.turn c.last_turn-pass.ensures.fault c.last_turn-pass.ensures.counted end (may_be end h.supply by.enough) by.ends first last closes in
     subst (λ (e : ServeEnd). HasServedAll (g.C.Clock.shows clock) c.args.pass.opening e door first last old after t.0) (sym c.end_of.ensures) all
@@ -64,7 +66,7 @@ returns-in-Failed-clause-served g c =
     let k = kept_first g.C.Clock.shows hall clock door first.0 c.args.pass first.1 c.requires.door in
     all_served g.C.Clock.shows hall clock Enough door door first.0 c.args.pass c.args.pass t.0 old old after t.1 k first.1 (tended_same (stand c.args.pass Enough door old)) c.requires.door c.requires.whole
     c.last_turn.ensures.turn c.last_turn.ensures.fault c.last_turn.ensures.counted WriteFault (λ e. tt) tt before later
-    (closes_failed door c.args.pass.splits before later (ap (λ (p : PassState). p.splits) first.1) c.in-Failed.ensures.wrote c.in-Failed.ensures.cause)
+    (closes_failed t.1 door c.args.pass.splits before later (ap (λ (p : PassState). p.splits) first.1) (record { wrote = c.in-Failed.ensures.wrote; cause = c.in-Failed.ensures.cause; calm = tt }))
 
 pub returns-in-Failed-clause-text_part : goal.returns-in-Failed-clause-text_part
 returns-in-Failed-clause-text_part g c = front_of_half (g.K.Sink.written c.args.sink.now) (g.K.Sink.written c.say_ready.new.sink) ready_text closed_text c.in-Failed.ensures.wrote
@@ -85,8 +87,16 @@ returns-in-Memory-clause-served g c =
     let k = kept_first g.C.Clock.shows hall clock door first.0 c.args.pass first.1 c.requires.door in
     let all = all_served g.C.Clock.shows hall clock Enough door door first.0 c.args.pass c.args.pass t.0 old old after t.1 k first.1 (tended_same (stand c.args.pass Enough door old)) c.requires.door c.requires.whole
     c.last_turn-pass-in-Memory.ensures.turn c.last_turn-pass-in-Memory.ensures.fault c.last_turn-pass-in-Memory.ensures.counted end (may_be end Enough by.enough) by.ends before later
-    (closes_short t.1 Enough door c.args.pass.splits before later (ap (λ (p : PassState). p.splits) first.1) c.in-Memory.ensures.wrote) in
+    (closes_short t.1 door c.args.pass.splits before later (ap (λ (p : PassState). p.splits) first.1) (record { wrote = c.in-Memory.ensures.wrote; cause = tt; calm = c.in-Memory.ensures.calm })) in
     subst (λ (e : ServeEnd). HasServedAll (g.C.Clock.shows clock) c.args.pass.opening e door before later old after t.0) (sym c.end_of-in-Memory.ensures) all
 
 pub returns-in-Memory-clause-text_part : goal.returns-in-Memory-clause-text_part
 returns-in-Memory-clause-text_part g c = front_of_half (g.K.Sink.written c.args.sink.now) (g.K.Sink.written c.say_ready.new.sink) ready_text closed_text c.in-Memory.ensures.wrote
+
+pub returns-in-All-clause-write_told : goal.returns-in-All-clause-write_told
+returns-in-All-clause-write_told g c =
+    let h = c.host_links-hosted.result in
+    let before = g.K.Sink.faults c.args.sink.now in
+    let after = g.K.Sink.faults c.say_closed-sent.new.sink in
+    subst (λ (e : ServeEnd). (after ≡ before) ⊎ ((e ≡ WriteFault) ⊎ (e ≡ DoorFault))) (sym c.end_of.ensures)
+    (told_by h.end c.say_closed-sent.result c.last_turn-pass.result.1 h.supply before (g.K.Sink.faults c.say_ready.new.sink) after c.in-All.ensures.calm c.say_closed-sent.ensures.calm)

@@ -1,0 +1,73 @@
+-- The boards of a game behind a half-move.
+use Rattle.std.proofs.Common.{◌≡◌, ◌≢◌, ℕ, ◌-◌, List, [], ◌∷◌, ◌++◌, map, Option, Some, None, Result, Ok, refl, ap, ◌∙◌, arith}
+use Rattle.std.specs.Prelude.{slice_get}
+use Rattle.std.specs.Option.{option_map}
+use Rattle.std.proofs.lemmas.List.{map-append}
+use Rattle.std.proofs.lemmas.Option.{slice_get_within}
+use Rattle.chess_model.specs.declared.man.Man.{Man}
+use Rattle.chess_model.specs.declared.moves.Move.{Move}
+use Rattle.fics_words.specs.declared.refusal.Refusal.{Refusal}
+use Rattle.game_board.specs.declared.played.Played.{Played}
+use Rattle.game_board.specs.Board.{Board}
+use Rattle.game_board.specs.Play.{next_charge, play_after, with_half_move}
+use Rattle.histories.proofs.Parts.{get_set_else, get_set_same}
+use Rattle.style12_writer.specs.declared.item.Item.{Item}
+use Rattle.style12_writer.specs.declared.view.BoardView.{BoardView}
+use Rattle.linked_boards.specs.Boards.{boards_after, changed_at, other_place, reply_at, set_board, told_answer}
+use Rattle.linked_desk.specs.declared.ended.Ended.{Ended}
+use Rattle.linked_desk.specs.Desk.{GameState, moment_at}
+use Rattle.linked_desk.specs.Finish.{end_at, with_end}
+use Rattle.linked_desk.specs.Hands.{hands_at, partner_hands_at}
+use Rattle.linked_desk.specs.Playing.{captured_by, held_moved, moved, shown_moved, with_hands}
+use Rattle.linked_desk.specs.Views.{views_of, with_item, with_view}
+
+-- ---- what is told changes no board
+
+same_with_view : (g : GameState) (view : Option BoardView) → (with_view g view).boards ≡ g.boards
+same_with_view g None = refl
+same_with_view g (Some view) = refl
+
+same_with_item : (g : GameState) (x : Option Item) → (with_item g x).boards ≡ g.boards
+same_with_item g None = refl
+same_with_item g (Some x) = refl
+
+same_with_end : (desk : ℕ) (g : GameState) (moment : ℕ) (end : Option Ended) → (with_end desk g moment end).boards ≡ g.boards
+same_with_end desk g moment None = refl
+same_with_end desk g moment (Some e) = refl
+
+pub boards_moved : (desk : ℕ) (g : GameState) (moment place : ℕ) (stamp : Option ℕ) (answer : Result Move Refusal) → (moved desk g moment place stamp answer).boards ≡ boards_after g.boards place (moment_at g moment) stamp answer
+boards_moved desk g moment place stamp answer =
+    let after : GameState = record g { boards = boards_after g.boards place (moment_at g moment) stamp answer; last = moment_at g moment } in
+    let shown : GameState = shown_moved desk g moment place stamp answer in
+    let held : GameState = held_moved desk g moment place stamp answer in
+    let man : Option Man = captured_by (reply_at (slice_get g.boards place) answer) in
+    let own : GameState = with_hands desk place man shown in
+    same_with_end desk held moment (end_at held place)
+    ∙ same_with_item own (partner_hands_at desk own place man)
+    ∙ same_with_item shown (hands_at desk shown place man)
+    ∙ same_with_view after (slice_get (views_of desk after) place)
+
+-- ---- one board is changed
+
+changed_here : (boards : List Board) (k : ℕ) (change : Board → Board) (b : Board) → slice_get boards k ≡ Some b → slice_get (changed_at boards k change) k ≡ Some (change b)
+changed_here boards k change b e =
+    ap (λ (o : Option Board). slice_get (set_board boards k (option_map change o)) k) e ∙ get_set_same boards k (change b) (slice_get_within boards k b e)
+
+set_else : (boards : List Board) (k j : ℕ) (o : Option Board) → j ≢ k → slice_get (set_board boards k o) j ≡ slice_get boards j
+set_else boards k j None other = refl
+set_else boards k j (Some b) other = get_set_else boards k j b other
+
+changed_else : (boards : List Board) (k j : ℕ) (change : Board → Board) → j ≢ k → slice_get (changed_at boards k change) j ≡ slice_get boards j
+changed_else boards k j change other = set_else boards k j (option_map change (slice_get boards k)) other
+
+other_differs : (place : ℕ) → place ≢ other_place place
+other_differs place e = omega (arith, e)
+
+-- the board has the half-move
+pub board_after : (boards : List Board) (place moment : ℕ) (stamp : Option ℕ) (b : Board) (m : Move) → slice_get boards place ≡ Some b → slice_get (boards_after boards place moment stamp (Ok m)) place ≡ Some (with_half_move b m moment stamp)
+board_after boards place moment stamp b m e =
+    changed_else (changed_at boards place (λ x. play_after x moment stamp (Ok m))) (other_place place) place (λ x. told_answer x (Ok m)) (other_differs place)
+    ∙ changed_here boards place (λ x. play_after x moment stamp (Ok m)) b e
+
+pub moves_after : (b : Board) (m : Move) (moment : ℕ) (stamp : Option ℕ) → map (λ (p : Played). p.what) (with_half_move b m moment stamp).list ≡ map (λ (p : Played). p.what) b.list ++ m ∷ []
+moves_after b m moment stamp = map-append (λ (p : Played). p.what) b.list (record { what = m; charge = next_charge b moment stamp } ∷ [])

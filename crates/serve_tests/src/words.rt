@@ -1,0 +1,12 @@
+//! Words that ask to serve.
+
+use std::alloc::{AllocError, Global};
+
+/// These words.
+pub fn words_of(alloc: Global, words: &[&str]) -> Result<Vec<String>, AllocError> {
+    let mut owned = Vec::new(alloc);
+    for word in words {
+        owned.push(String::from_str(alloc, word)?)?;
+    }
+    Ok(owned)
+}
