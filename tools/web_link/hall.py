@@ -6,13 +6,13 @@ import sys
 
 from aiohttp import WSCloseCode, web
 
+from .asking import Tables
 from .lines import LONGEST_MESSAGE
 from .link import Link
 from .pages import Pages, add_headers, is_foreign
-from .server_end import ServerEnd
+from .server_end import PIECE, ServerEnd
 from .talk import Talk
 
-PIECE = 65536
 TABS = 256
 BACKLOG = 256
 LAST_WORDS_SECONDS = 10
@@ -25,6 +25,7 @@ class Hall:
 
     def __init__(self, host, port, folder):
         self.host, self.port, self.pages = host, port, Pages(folder)
+        self.tables = Tables()
         self.links = {}  # of each tab's task its WebSocket
         self.over = None
 
@@ -97,7 +98,7 @@ class Hall:
         """Opens the server's end of a link, and runs it."""
         try:
             loop = asyncio.get_running_loop()
-            _, server = await loop.create_connection(lambda: ServerEnd(Talk()), self.host, self.port)
+            _, server = await loop.create_connection(lambda: ServerEnd(Talk(), self.tables), self.host, self.port)
         except OSError:
             raise web.HTTPBadGateway(text="the server can't be reached") from None
         try:

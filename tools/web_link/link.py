@@ -6,8 +6,6 @@ from aiohttp import WSCloseCode, WSMsgType
 
 from .lines import NoLine
 
-ASK_SECONDS = 0.025
-
 
 class Link:
     """Both directions of one link. Neither is read while the other one can't be written to."""
@@ -19,7 +17,6 @@ class Link:
         """Runs until one side has closed, and closes the other: the tab's once all that the server wrote went out,
         the server's at once."""
         up, down = asyncio.create_task(self.up()), asyncio.create_task(self.down())
-        asks = asyncio.create_task(self.asks())
         try:
             done, _ = await asyncio.wait({up, down}, return_when=asyncio.FIRST_COMPLETED)
             self.server.close()
@@ -28,9 +25,9 @@ class Link:
             await self.tab.close()
         finally:
             self.server.close()
-            for task in (up, down, asks):
+            for task in (up, down):
                 task.cancel()
-            await asyncio.gather(up, down, asks, return_exceptions=True)
+            await asyncio.gather(up, down, return_exceptions=True)
 
     async def up(self):
         """From the tab to the server, until the tab has closed, or has sent what is no line: why it is none."""
@@ -48,10 +45,3 @@ class Link:
         """From the server to the tab, until the server has closed."""
         while (text := await self.server.next()) is not None:
             await self.tab.send_str(text)
-
-    async def asks(self):
-        """Asks for news, as long as the player waits for a move."""
-        while True:
-            await self.talk.waiting.begins()
-            await asyncio.sleep(ASK_SECONDS)
-            self.server.ask()

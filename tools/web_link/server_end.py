@@ -3,15 +3,20 @@
 import asyncio
 from collections import deque
 
+from .asking import Asking
+
 MOST_UNTOLD = 512  # messages; with so many of them the server isn't read further
+PIECE = 65536
 
 
-class ServerEnd(asyncio.Protocol):
+class ServerEnd(asyncio.BufferedProtocol):
     """A socket to the server, read through a `Talk`. What came before the server closed is told in any case, also where
     it closed without reading all that was written."""
 
-    def __init__(self, talk):
-        self.talk = talk
+    room = memoryview(bytearray(PIECE))  # one for all links, since what is read is taken at once
+
+    def __init__(self, talk, tables):
+        self.talk, self.asking = talk, Asking(tables, self)
         self.transport = None
         self.untold = deque()
         self.is_over = False
@@ -19,14 +24,21 @@ class ServerEnd(asyncio.Protocol):
         self.can_write = asyncio.Event()
         self.can_write.set()
 
+    # ---- what the loop calls ----
+
     def connection_made(self, transport):
         self.transport = transport
 
-    def data_received(self, piece):
-        self.add(self.talk.from_server(piece))
+    def get_buffer(self, _hint):
+        return self.room
+
+    def buffer_updated(self, length):
+        self.add(self.talk.from_server(bytes(self.room[:length])))
+        self.asking.look(self.talk.waiting.games)
 
     def connection_lost(self, _why):
         self.is_over = True
+        self.asking.end()
         self.can_write.set()
         self.add(self.talk.left())
         self.has_told.set()
@@ -36,6 +48,8 @@ class ServerEnd(asyncio.Protocol):
 
     def resume_writing(self):
         self.can_write.set()
+
+    # ---- from the server ----
 
     def add(self, texts):
         if texts:
@@ -56,16 +70,23 @@ class ServerEnd(asyncio.Protocol):
             self.transport.resume_reading()
         return text
 
-    def ask(self):
-        """Asks for news, where that is due."""
-        if self.talk.may_ask() and not self.is_over and self.can_write.is_set():
-            self.transport.write(self.talk.ask())
+    # ---- to the server ----
 
     async def write(self, line):
         """Writes a line, and waits while the server takes no more. To a server that has closed nothing is written."""
         if not self.is_over:
             self.transport.write(line)
             await self.can_write.wait()
+
+    def ask(self):
+        """Asks for news, where no answer is due that would bring them."""
+        if not self.talk.owed:
+            self.ask_now()
+
+    def ask_now(self):
+        """Asks for news."""
+        if not self.is_over and self.can_write.is_set():
+            self.transport.write(self.talk.ask())
 
     def close(self):
         self.transport.close()

@@ -32,10 +32,6 @@ class Talk:
         self.has_sent = True
         return lines.spelled(line)
 
-    def may_ask(self):
-        """Whether to ask for news now: where a move is waited for, and no answer is due that would bring it."""
-        return bool(self.waiting) and not self.owed
-
     def ask(self):
         """The bytes of a line of our own."""
         self.owed.append(OUR_OWN)

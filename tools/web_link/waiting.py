@@ -1,6 +1,5 @@
 """In which games a player waits for the opponent's move, read off the lines that pass."""
 
-import asyncio
 import re
 
 BOARD = "<12> "
@@ -14,33 +13,22 @@ class Waiting:
     """The numbers of one's own games in which the other is to move."""
 
     def __init__(self):
-        self.games = set()
-        self.is_any = asyncio.Event()
+        self.games = frozenset()
 
     def hear(self, line):
         """Takes a line of the server. A board in text doesn't say who of the two is to move, so nobody waits then."""
         if line.startswith(BOARD):
             self.hear_board(line.split(" "))
         elif over := END.fullmatch(line) or TEXT_BOARD.fullmatch(line):
-            self.remove(over[1])
+            self.games -= {over[1]}
 
     def hear_board(self, fields):
         if len(fields) != BOARD_FIELDS:
             return
         if fields[RELATION] == OPPONENTS_MOVE:
-            self.games.add(fields[GAME])
-            self.is_any.set()
+            self.games |= {fields[GAME]}
         elif fields[RELATION] == OWN_MOVE:
-            self.remove(fields[GAME])
-
-    def remove(self, game):
-        self.games.discard(game)
-        if not self.games:
-            self.is_any.clear()
-
-    async def begins(self):
-        """Comes back once there is such a game."""
-        await self.is_any.wait()
+            self.games -= {fields[GAME]}
 
     def __bool__(self):
         return bool(self.games)

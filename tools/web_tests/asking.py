@@ -94,6 +94,18 @@ class Asking(Played):
         await tab.part()
         await self.asserts_silent(end)
 
+    async def test_the_opponents_half_move_by_another_tab_is_asked_for_at_once(self):
+        tab, end = await self.waiting()
+        await self.asserts_silent(end)  # a line of our own is unanswered, so no other one comes by the clock
+        other, others_end = await self.entered("Ben")
+        await others_end.say("\n\r" + boards.after_e4(-1, game=2) + "\n\rfics% ")
+        await self.asserts_silent(end)
+        await others_end.say("\n\r" + boards.after_e4(-1) + "\n\rfics% ")
+        await self.asserts_asks(end)
+        await self.asserts_silent(end)
+        await end.say("fics% " + boards.start(1) + "\n\rfics% ")
+        self.assertEqual(await tab.part(), ["", boards.start(1), "fics% "])
+
     async def test_the_tabs_lines_and_our_own_are_kept_apart(self):
         tab, end = await self.waiting()
         await tab.send("")

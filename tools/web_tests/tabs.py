@@ -14,15 +14,17 @@ class Closed(Exception):
 
 
 class Tab:
-    """One WebSocket, whose messages are told apart into answers and news."""
+    """One WebSocket, whose messages are told apart into answers and news. `heard` has all lines of both, in order,
+    and `unread` those that `told` hasn't found."""
 
     def __init__(self, socket):
         self.socket = socket
-        self.news = []  # parts that answered nothing
+        self.heard, self.unread = [], []
 
     async def message(self):
         """The next message."""
-        got = await self.socket.receive(timeout=places.PATIENCE)
+        async with asyncio.timeout(places.PATIENCE):
+            got = await self.socket.receive()
         if got.type == aiohttp.WSMsgType.TEXT:
             return got.data
         raise Closed(self.socket.close_code, got.extra)
@@ -32,6 +34,9 @@ class Tab:
         messages = [await self.message()]
         while messages[-1] not in PROMPTS:
             messages.append(await self.message())
+        lines = [it for it in messages[:-1] if it]
+        self.heard += lines
+        self.unread += lines
         return messages
 
     async def send(self, line):
@@ -39,11 +44,9 @@ class Tab:
 
     async def answer(self):
         """The next part that isn't news."""
-        while True:
-            part = await self.part()
-            if part[0] != "":
-                return part
-            self.news.append(part)
+        while (part := await self.part())[0] == "":
+            pass
+        return part
 
     async def ask(self, line):
         """Sends a line; its answer without the prompt."""
@@ -51,16 +54,11 @@ class Tab:
         return (await self.answer())[:-1]
 
     async def told(self, fits):
-        """The next line of news that fits."""
-        while True:
-            while self.news:
-                for line in self.news.pop(0):
-                    if fits(line):
-                        return line
-            part = await self.part()
-            if part[0] != "":
-                raise AssertionError(f"an answer to no line: {part}")
-            self.news.append(part)
+        """The first line that fits and wasn't found before."""
+        while not (found := next((it for it in self.unread if fits(it)), None)):
+            await self.part()
+        self.unread.remove(found)
+        return found
 
     async def enter(self, name):
         """Goes in under a name."""

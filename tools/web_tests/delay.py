@@ -1,0 +1,112 @@
+"""How long a half-move takes from its line to the opponent's board: by the go-between, and beside it by plain links in
+the same run; and what the asking costs."""
+
+import asyncio
+import random
+import statistics
+import time
+
+from . import places
+from .evenings import KNIGHTS, Evening, is_board, name, seat
+from .tabs import PROMPTS, Tab
+
+SAMPLES = {1: 80, 64: 20}  # half-moves of each pair, by the number of pairs of each kind
+THINKS = 0.2, 0.6  # seconds
+AT_MOST = 1 / 3  # of the plain links' delay
+WAITS_SECONDS = 10
+
+
+class PlainSocket:
+    """A plain link, with the parts of a WebSocket that `Tab` uses."""
+
+    def __init__(self, reader, writer):
+        self.reader, self.writer, self.rest = reader, writer, ""
+
+    async def send_str(self, line):
+        self.writer.write(line.encode() + b"\n")
+
+    async def message(self):
+        while True:
+            for prompt in PROMPTS:
+                if self.rest.startswith(prompt):
+                    self.rest = self.rest[len(prompt):]
+                    return prompt
+            line, end, rest = self.rest.partition("\n\r")
+            if end:
+                self.rest = rest
+                return line
+            self.rest += (await self.reader.read(65536)).decode()
+
+
+class PlainTab(Tab):
+    """A plain link, used as a tab is."""
+
+    async def message(self):
+        async with asyncio.timeout(places.PATIENCE):
+            return await self.socket.message()
+
+
+class Delay(Evening):
+    async def plain(self, names):
+        """Plain links that are in, under these names."""
+        links = [PlainTab(PlainSocket(*await asyncio.open_connection("127.0.0.1", self.server.port))) for _ in names]
+        await asyncio.gather(*(link.enter(it) for link, it in zip(links, names)))
+        return links
+
+    async def play(self, white, black, count):
+        """The delays of a game's half-moves, in seconds."""
+        await seat(white, black)
+        dice = random.Random(white[0])
+        delays = []
+        for n in range(count):
+            (_, mover), (_, other) = (white, black) if n % 2 == 0 else (black, white)
+            await asyncio.sleep(dice.uniform(*THINKS))
+            seen = asyncio.create_task(self.sees(other, KNIGHTS[n % 4]))
+            begin = time.perf_counter()
+            await mover.ask(KNIGHTS[n % 4])
+            delays.append(await seen - begin)
+        return delays
+
+    @staticmethod
+    async def sees(tab, word):
+        await tab.told(is_board(1, word))
+        return time.perf_counter()
+
+    async def pairs(self, kind, count, opener):
+        whites, blacks = ([name(colour + kind, n) for n in range(count)] for colour in ("White", "Black"))
+        links = await opener(whites + blacks)
+        return list(zip(zip(whites, links[:count]), zip(blacks, links[count:])))
+
+    async def both(self, count):
+        by_page = await self.pairs("W", count, self.tabs.open_all)
+        plainly = await self.pairs("P", count, self.plain)
+        delays = await asyncio.gather(*(self.play(*it, SAMPLES[count]) for it in by_page + plainly))
+        medians = []
+        for kind, part in (("by the go-between", delays[:count]), ("by plain links", delays[count:])):
+            values = sorted(1000 * it for one in part for it in one)
+            medians.append(statistics.median(values))
+            print(f"{count} pairs {kind}: median {medians[-1]:.0f} ms, nine of ten below "
+                  f"{values[len(values) * 9 // 10]:.0f} ms, {len(values)} half-moves")
+        self.assertLess(medians[0], AT_MOST * medians[1])
+
+    async def test_1_pair(self):
+        await self.both(1)
+
+    async def test_64_pairs(self):
+        await self.both(64)
+
+    async def test_what_asking_costs(self):
+        pairs = await self.pairs("W", 8, self.tabs.open_all)
+        print()
+        await self.cost("128 tabs in the lobby")
+        for white, black in pairs:
+            await seat(white, black)
+        await self.cost("64 of them wait for a move")
+
+    async def cost(self, what):
+        """The processor time of both programs while nobody sends a line."""
+        before = [it.seconds() for it in (self.go_between, self.server)]
+        await asyncio.sleep(WAITS_SECONDS)
+        after = [it.seconds() for it in (self.go_between, self.server)]
+        shares = [100 * (b - a) / WAITS_SECONDS for a, b in zip(before, after)]
+        print(f"{what}: {shares[0]:.1f} % of a processor in the go-between, {shares[1]:.1f} % in the server")
