@@ -61,7 +61,7 @@ export class BoardView {
     const pair = this.games.pairOf(game);
     byId("partner-table").hidden = !pair?.place;
     if (pair?.place) {
-      this.partner.show(pair);
+      this.partner.show(pair, pair.role === "partner's" ? !game.blackBelow : pair.blackBelow);
     }
     byId("status").textContent = statusOf(game, this.session.me);
     byId("status").classList.toggle("over", game.isOver);

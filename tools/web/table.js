@@ -52,17 +52,19 @@ export class Table {
     }
   }
 
-  /** Shows a game as it stands, or as it stood where one looks back. */
-  show(game) {
+  /** Shows a game as it stands, or as it stood where one looks back. Black is below where the server has it so, or at a
+   * partner's board where the partner has Black. */
+  show(game, hasBlackBelow = game.blackBelow) {
     if (game !== this.game || game.looking !== null) {
       this.chosen = null;
     }
     this.game = game;
+    this.hasBlackBelow = hasBlackBelow;
     const place = game.shown;
     if (!place) {
       return;
     }
-    const blackBelow = game.blackBelow !== this.isTurned;
+    const blackBelow = hasBlackBelow !== this.isTurned;
     this.board.turn(blackBelow);
     this.board.show(place.men, place.squares, this.chosen?.square);
     this.above.show(game, blackBelow ? "w" : "b", this.chosenOf(blackBelow ? "w" : "b"));
@@ -71,7 +73,7 @@ export class Table {
 
   turn() {
     this.isTurned = !this.isTurned;
-    this.show(this.game);
+    this.show(this.game, this.hasBlackBelow);
   }
 
   chosenOf(colour) {
@@ -99,7 +101,7 @@ export class Table {
 
   choose(at) {
     this.chosen = at;
-    this.show(this.game);
+    this.show(this.game, this.hasBlackBelow);
   }
 
   click(at) {
