@@ -20,7 +20,7 @@ const GAME = `\\{Game (?<game>${NUMBER}) \\((?<white>${HANDLE}) vs\\. (?<black>$
 const DRAWN = "drawn by (?:stalemate|agreement|the 50 move rule|repetition|time)";
 const LOST = `(?<loser>${HANDLE}) (?:checkmated|resigns|forfeits on time|forfeits by disconnection)`;
 
-/** What a command prints of its own; a list's lines mean nothing without their command. */
+/** What a command prints of its own. */
 const REPLIES = [
   ["refused", `refused ${N} (?<name>\\w+)`],
   ["ok", "Ok\\."],
@@ -31,6 +31,7 @@ const REPLIES = [
   ["opening", "Free Internet Chess Server profile"],
 ];
 
+/** What the commands print that ask for a list: its lines mean nothing without the command. */
 const LISTS = {
   who: [["player", WHO]],
   inchannel: [["empty", "none"], ["player", WHO]],
@@ -83,7 +84,7 @@ function compiled(rows) {
 
 const GENERAL = compiled([...REPLIES, ...NEWS]);
 const BY_COMMAND = Object.fromEntries(Object.entries(LISTS).map(([name, rows]) => [name, compiled(rows)]));
-const REST = compiled([...RANKS, ...Object.values(LISTS).flat()]);
+const REST = compiled(RANKS);
 
 /** The kinds that are no command's own print. */
 export const NEWS_KINDS = new Set(NEWS.map(([kind]) => kind));
