@@ -7,6 +7,7 @@ import { Table } from "./table.js";
 import { choiceOf, endInWords, statusOf } from "./words.js";
 
 const PLAYER_ACTS = ["draw", "takeback", "abort", "adjourn", "flag", "resign", "move", "move-send"];
+const FLAG_EVERY = 500; // milliseconds
 const TITLE = "Chess club";
 
 export class BoardView {
@@ -21,6 +22,7 @@ export class BoardView {
     byId("takeback-n").addEventListener("input", () => {
       byId("takeback").dataset.command = `takeback ${byId("takeback-n").value || 1}`;
     });
+    setInterval(() => this.showFlag(), FLAG_EVERY);
     byId("choices").addEventListener("click", (event) => {
       const button = event.target.closest("[data-game]");
       if (button) {
@@ -90,15 +92,29 @@ export class BoardView {
   showChoices(game, pair) {
     const others = [...this.games.byNumber.values()].filter((it) => it.place);
     byId("choices").hidden = others.length <= (pair ? 2 : 1);
-    const known = new Map([...byId("choices").children].map((it) => [Number(it.dataset.game), it]));
-    byId("choices").replaceChildren(...others.map((it) => {
-      const button = known.get(it.number) ?? document.createElement("button");
-      button.type = "button";
-      button.dataset.game = it.number;
+    const buttons = [...byId("choices").children];
+    if (buttons.map((it) => it.dataset.game).join() !== others.map((it) => it.number).join()) {
+      byId("choices").replaceChildren(...others.map((it) => this.choiceButton(it)));
+    }
+    others.forEach((it, n) => {
+      const button = byId("choices").children[n];
       button.textContent = choiceOf(it, this.session.me);
       button.setAttribute("aria-pressed", String(it === game));
-      return button;
-    }));
+    });
+  }
+
+  choiceButton(game) {
+    const button = document.createElement("button");
+    button.type = "button";
+    button.dataset.game = game.number;
+    return button;
+  }
+
+  /** The flag can be called at any time; its button says when the opponent's time is over. */
+  showFlag() {
+    const game = this.games.shown;
+    const colour = game?.role === "mine" && !game.isOver && game.place ? game.colourOf(game.otherThan(this.session.me)) : "";
+    byId("flag").classList.toggle("strong", Boolean(colour) && game.terms.isTimed && game.left(colour) <= 0);
   }
 
   close() {

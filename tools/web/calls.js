@@ -1,7 +1,7 @@
 /** What others ask of the member, above all else until it is answered: challenges, partners, adjourned games. */
 
 import { showRows } from "./list.js";
-import { byId } from "./page.js";
+import { byId, tellMember } from "./page.js";
 
 const KINDS = {
   "partner-asked": (who) => ({ text: `${who} offers to be your partner.`, label: "Be partners", command: `partner ${who}` }),
@@ -15,7 +15,7 @@ export class Calls {
     this.asked = new Map(); // by the command that agrees
     session.on(Object.keys(KINDS), (event) => this.ask(event));
     session.on(["partners", "continuing"], () => this.forget());
-    session.onAnswer((answer) => this.answered(answer.line));
+    session.onAnswer((answer) => this.take(answer));
     byId("calls").addEventListener("click", (event) => {
       const dismissed = event.target.closest("[data-dismiss]");
       if (dismissed) {
@@ -33,6 +33,13 @@ export class Calls {
   challenged(rows) {
     this.challenges = rows;
     this.show();
+  }
+
+  take(answer) {
+    this.answered(answer.line);
+    if (answer.command === "resume" && answer.all("asked").length) {
+      tellMember("Asked. The game goes on once the others want to go on too.");
+    }
   }
 
   answered(line) {

@@ -1,6 +1,6 @@
 /** A line to type any command in; what comes of it is shown as it came. */
 
-import { byId, onSubmit } from "./page.js";
+import { byId, onSubmit, tellMember } from "./page.js";
 
 const KEPT = 2000; // lines
 
@@ -21,6 +21,9 @@ export class CommandLine {
     this.at = this.typed.length;
     const answer = await this.session.act(line);
     this.show([`> ${line}`, ...answer.lines]);
+    if (answer.command === "style" && answer.isDone && /\b1$/.test(line.trim())) {
+      tellMember("Boards come as text now, and the page's board stands still until you type style 12.");
+    }
   }
 
   show(lines) {

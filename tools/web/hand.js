@@ -9,6 +9,7 @@ export class Hand {
     this.root = root;
     root.className = "hand";
     this.buttons = {};
+    this.key = "";
     for (const kind of ORDER) {
       const button = document.createElement("button");
       button.type = "button";
@@ -20,6 +21,11 @@ export class Hand {
 
   /** Shows the letters of a hand, or that it isn't known; `chosen` is the kind that is to be dropped. */
   show(colour, letters, chosen) {
+    const key = `${colour} ${letters} ${chosen}`;
+    if (key === this.key) {
+      return;
+    }
+    this.key = key;
     this.root.dataset.hand = colour === "w" ? "white" : "black";
     this.root.setAttribute("role", "group");
     this.root.setAttribute("aria-label", `${colour === "w" ? "White" : "Black"}'s hand${letters === null ? ", unknown" : ""}`);

@@ -59,7 +59,7 @@ export class Lobby {
     session.on("challenge", () => this.ask("pending"));
     session.on("seeking", () => this.ask("sought"));
     session.on(["creating", "continuing", "lost", "drawn", "stopped"], () => this.refresh());
-    session.on(["stopped", "entered"], () => this.ask("stored"));
+    session.on(["stopped", "entered", "continuing"], () => this.ask("stored"));
     document.addEventListener("visibilitychange", () => this.refresh());
     setInterval(() => this.refresh(), EVERY);
   }

@@ -1,6 +1,6 @@
 /** The page's elements by their ids, and what a member is told for a moment. */
 
-const STAYS = 12_000; // milliseconds
+const STAYS = 8_000; // milliseconds
 
 /** The element of that id. */
 export function byId(id) {

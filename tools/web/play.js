@@ -53,11 +53,12 @@ export class Play {
 
   /** Sends a line for a game. In a simul a move that is made leads on to the next board. */
   async act(game, line) {
+    const isSimul = this.simul.isOn;
     if (!game || !await this.simul.reach(game)) {
       return;
     }
     const answer = await this.session.act(line);
-    if (!answer.refusal && !commandOf(line) && this.simul.isOn) {
+    if (answer.isDone && !commandOf(line) && isSimul) {
       await this.simul.showPresent();
     }
   }

@@ -19,6 +19,11 @@ class Answer {
     return this.events[0]?.kind === "refused" ? this.events[0].n : 0;
   }
 
+  /** Whether it was done: it wasn't refused, and the link didn't end before the answer. */
+  get isDone() {
+    return !this.refusal && this.prompt !== "";
+  }
+
   /** The events of one kind. */
   all(kind) {
     return this.events.filter((it) => it.kind === kind);

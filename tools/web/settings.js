@@ -9,6 +9,7 @@ const VARIABLES = ["open", "shout", "seek"];
 export class Settings {
   constructor(session) {
     this.session = session;
+    session.on("entered", (event) => { byId("register-name").value = event.who; });
     this.kept = { censor: new Map(), noplay: new Map() }; // by the name in small letters
     session.onAnswer((answer) => this.take(answer));
     onSubmit("register-form", () => this.register());
@@ -27,7 +28,7 @@ export class Settings {
       return;
     }
     const answer = await this.session.act(`register ${field.value}`);
-    if (!answer.refusal) {
+    if (answer.isDone) {
       field.value = "";
       tellMember(`${this.session.me} has an account now. The next time the password is asked for.`);
     }

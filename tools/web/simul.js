@@ -41,12 +41,12 @@ export class Simul {
       return true;
     }
     const answer = await this.session.act(`goboard ${game.otherThan(this.session.me)}`);
-    return !answer.refusal && !game.isOver;
+    return answer.isDone && !game.isOver;
   }
 
   async go(line) {
     const answer = await this.session.act(line);
-    if (!answer.refusal) {
+    if (answer.isDone) {
       await this.showPresent();
     }
   }

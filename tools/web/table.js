@@ -66,6 +66,7 @@ export class Table {
     }
     const blackBelow = hasBlackBelow !== this.isTurned;
     this.board.turn(blackBelow);
+    this.board.root.classList.toggle("mine", this.colour !== "");
     this.board.show(place.men, place.squares, this.chosen?.square);
     this.above.show(game, blackBelow ? "w" : "b", this.chosenOf(blackBelow ? "w" : "b"));
     this.below.show(game, blackBelow ? "b" : "w", this.chosenOf(blackBelow ? "b" : "w"));

@@ -33,6 +33,7 @@ export class Talk {
       session.on(kind, (event) => this.add(words(event), kind));
     }
     session.on(HAPPENED, (event) => this.add(event.text.replace(/^\{(.*)\} /, "$1: "), "happened"));
+    session.on("unknown", (event, answer) => answer.line === null && this.add(event.text, "happened"));
     session.on("tell", (event) => { byId("talk-who").value ||= event.who; });
     session.onAnswer((answer) => this.take(answer));
     byId("talk-to").addEventListener("change", () => this.showWho());
@@ -67,7 +68,7 @@ export class Talk {
       return;
     }
     const answer = await this.session.act(LINES[to](who, text));
-    if (!answer.refusal) {
+    if (answer.isDone) {
       byId("talk-text").value = "";
     }
   }

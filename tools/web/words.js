@@ -9,15 +9,19 @@ export function endInWords(game) {
   return `${game.end.reason}: ${RESULTS[game.end.result]}, ${game.end.result}`;
 }
 
+function capital(words) {
+  return words[0].toUpperCase() + words.slice(1);
+}
+
 function turnInWords(game, me) {
   const name = game.nameOf(game.toMove);
-  return name === me ? "Your move" : `${name} to move`;
+  return name === me ? "your move" : `${name} to move`;
 }
 
 /** The line above the board. */
 export function statusOf(game, me) {
   const head = `Game ${game.number}: ${game.white} – ${game.black}, ${game.terms?.inWords() ?? ""}`;
-  const state = game.isOver ? endInWords(game) : turnInWords(game, me);
+  const state = game.isOver ? endInWords(game) : capital(turnInWords(game, me));
   const looking = game.looking === null ? "" : " You look at an earlier position.";
   return `${head}. ${state}.${looking}`;
 }
@@ -26,7 +30,7 @@ export function statusOf(game, me) {
 export function choiceOf(game, me) {
   const players = game.role === "mine" ? game.otherThan(me) : `${game.white} – ${game.black}`;
   const offer = game.offers.firstFor(me);
-  const state = game.isOver ? "over" : game.place ? turnInWords(game, me).toLowerCase() : "";
+  const state = game.isOver ? "over" : game.place ? turnInWords(game, me) : "";
   const offered = game.role === "mine" && offer ? `, offers ${offerInWords(offer)}` : "";
   return `${game.number} ${players}: ${state}${offered}`;
 }
