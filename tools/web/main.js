@@ -34,7 +34,7 @@ function showInside(session) {
 function start() {
   const isStamped = !new URLSearchParams(location.search).has("plain");
   const session = new Session(linkUrl(), isStamped);
-  session.complain = (number) => tellMember(inWords(number));
+  session.complain = (number) => tellMember(inWords(number), "refusal");
   let view = null;
   const games = new Games(session, (game, event) => view.changed(game, event));
   const simul = new Simul(session, games);

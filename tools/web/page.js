@@ -9,9 +9,10 @@ export function byId(id) {
 
 let hiding = 0;
 
-/** Tells the member something above all else, for some seconds. */
-export function tellMember(words) {
+/** Tells the member something above all else, for some seconds: news, or with that class a refusal. */
+export function tellMember(words, className = "") {
   const notice = byId("notice");
+  notice.className = className;
   notice.textContent = words;
   notice.hidden = false;
   clearTimeout(hiding);

@@ -1,6 +1,7 @@
 /** What a member does at a board, as lines: moves, drops, promotions, and acts. */
 
 import { commandOf } from "./commands.js";
+import { drawing } from "./men.js";
 import { asksPromotion, dropWord, moveWord } from "./moves.js";
 import { ask, byId, onClick, onSubmit } from "./page.js";
 
@@ -22,10 +23,18 @@ export class Play {
       this.act(game, dropWord(from.drop, to.square));
     } else if (asksPromotion(men, from.square, to.square)) {
       this.promoting = { game, from: from.square, to: to.square };
-      byId("promotion").showModal();
+      this.showPromotions(men[from.square][0]);
     } else {
       this.act(game, moveWord(men, from.square, to.square));
     }
+  }
+
+  showPromotions(colour) {
+    for (const button of byId("promotion").querySelectorAll("[data-promote]")) {
+      button.querySelector("svg")?.remove();
+      button.prepend(drawing(colour + button.dataset.promote.toUpperCase()));
+    }
+    byId("promotion").showModal();
   }
 
   promote(button) {

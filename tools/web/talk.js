@@ -56,7 +56,9 @@ export class Talk {
   }
 
   showWho() {
-    byId("talk-who").disabled = !["tell", "channel"].includes(byId("talk-to").value);
+    const isNamed = ["tell", "channel"].includes(byId("talk-to").value);
+    byId("talk-who").disabled = !isNamed;
+    byId("talk-who").parentElement.hidden = !isNamed;
   }
 
   async say() {

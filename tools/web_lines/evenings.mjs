@@ -139,7 +139,7 @@ function manyBoards() {
   const sessions = names.map((name) => it.come(name));
   sessions.forEach((session) => it.say(session, "simopen"));
   names.forEach((one, n) => names.slice(0, n).forEach((other, m) => {
-    for (let game = 0; game < (n === 1 ? 6 : 3); game += 1) {
+    for (let game = 0; game < (n === 1 ? 9 : 3); game += 1) {
       it.say(sessions[n], `match ${other} 0 0`).say(sessions[m], `accept ${one}`);
     }
   }));
