@@ -43,11 +43,12 @@ export class BoardView {
     this.show();
   }
 
+  /** The last half-move is spoken, and behind it the end of the game. */
   speak(game, event) {
-    if (event.isHalfMove) {
-      byId("spoken").textContent = `${game.nameOf(game.toMove === "w" ? "b" : "w")}: ${event.board.short}`;
-    } else if (event.result) {
-      byId("spoken").textContent = endInWords(game);
+    const isEnd = event.result !== undefined;
+    if (event.isHalfMove || (isEnd && game.place)) {
+      const move = game.last > 0 ? `${game.nameOf(game.toMove === "w" ? "b" : "w")}: ${game.place.board.short}` : "";
+      byId("spoken").textContent = isEnd ? `${move}. ${endInWords(game)}` : move;
     }
   }
 
