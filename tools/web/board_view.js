@@ -63,6 +63,7 @@ export class BoardView {
     this.main.show(game);
     const pair = this.games.pairOf(game);
     byId("partner-table").hidden = !pair?.place;
+    byId("partner-talk").hidden = pair?.role !== "partner's";
     if (pair?.place) {
       this.partner.show(pair, pair.role === "partner's" ? !game.blackBelow : pair.blackBelow);
     }

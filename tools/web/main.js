@@ -2,6 +2,7 @@
 
 import { listenForActs } from "./acts.js";
 import { BoardView } from "./board_view.js";
+import { PartnerTalk } from "./bughouse.js";
 import { Calls } from "./calls.js";
 import { CommandLine } from "./command_line.js";
 import { Games } from "./games.js";
@@ -42,7 +43,7 @@ function start() {
   view = new BoardView(session, games, play);
   const lobby = new Lobby(session, games);
   lobby.calls = new Calls(session);
-  const kept = [new Talk(session), new Settings(session), new CommandLine(session), simul];
+  const kept = [new Talk(session), new Settings(session), new CommandLine(session), new PartnerTalk(session), simul];
   const partner = new Partner(session);
   const login = new Login(session);
   listenForTerms(session);
@@ -59,7 +60,8 @@ function start() {
     games.forgetAll();
     login.asked = "";
     showInside(session);
-    tellMember(wasPlaying ? "The link has ended. Your game is adjourned where both players have accounts, and else lost."
+    tellMember(wasPlaying
+      ? "The link has ended. Your game is adjourned where both players have accounts, and else lost."
       : "The link has ended. You can come in again.");
   });
   onClick("leave", () => {

@@ -34,6 +34,7 @@ export class Talk {
     }
     session.on(HAPPENED, (event) => this.add(event.text.replace(/^\{(.*)\} /, "$1: "), "happened"));
     session.on("unknown", (event, answer) => answer.line === null && this.add(event.text, "happened"));
+    session.on(["tell", "partner-tell"], (event) => this.call(SAID[event.kind](event)));
     session.on("tell", (event) => { byId("talk-who").value ||= event.who; });
     session.onAnswer((answer) => this.take(answer));
     byId("talk-to").addEventListener("change", () => this.showWho());
@@ -53,6 +54,14 @@ export class Talk {
       list.firstChild.remove();
     }
     list.scrollTop = list.scrollHeight;
+  }
+
+  /** What is told to the member alone is shown above all else where the talk is out of sight. */
+  call(words) {
+    const { top, bottom } = byId("said").getBoundingClientRect();
+    if (bottom < 0 || top > window.innerHeight) {
+      tellMember(words);
+    }
   }
 
   showWho() {
