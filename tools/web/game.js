@@ -36,7 +36,6 @@ export class Game {
       this.forgetBehind(board.ply);
     }
     this.blackBelow = board.blackBelow;
-    this.relation = board.ply >= this.last ? board.relation : this.relation;
     if (isNew) {
       this.places.set(board.ply, { board, men: menOf(board), squares: lastSquares(board), hands: this.hands });
       this.last = Math.max(this.last, board.ply);

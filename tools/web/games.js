@@ -1,5 +1,6 @@
 /** All games that the page is told of: one's own, the partner's, and those at which one looks on. */
 
+import { boardOf } from "./board_line.js";
 import { Game } from "./game.js";
 
 const OFFERS = { "offer-draw": "draw", "offer-abort": "abort", "offer-adjourn": "adjourn", "offer-takeback": "takeback" };
@@ -140,6 +141,15 @@ export class Games {
       game.offers.clear();
       this.changed(game, event);
     }
+  }
+
+  /** Whether a board line is to be acknowledged: thinking begins with it. A board that is only shown again began before,
+   * and the server takes an acknowledgement for one of the present game, which in a simul may be another one. */
+  begins(line) {
+    const board = boardOf(line);
+    const game = board && this.byNumber.get(board.game);
+    const isKnown = game && !game.isOver && game.place?.board.position === board.position;
+    return this.running.length <= 1 && !isKnown;
   }
 
   /** The game in which somebody plays; the shown one before others, and one's own before those. */

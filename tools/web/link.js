@@ -17,10 +17,12 @@ function refusalOf(line) {
 }
 
 export class Link {
-  /** `take` gets each part, { line, lines, prompt }, of which `line` is null for news; `ended` is told of the end. */
-  constructor(url, isStamped, take, ended) {
+  /** `take` gets each part, { line, lines, prompt }, of which `line` is null for news; `acknowledges` says whether a board
+   * line is to be acknowledged where the server asks for it; `ended` is told of the end. */
+  constructor(url, isStamped, { take, acknowledges, ended }) {
     this.isStamped = isStamped;
     this.take = take;
+    this.acknowledges = acknowledges;
     this.owed = []; // the lines that were sent and aren't answered, the oldest first
     this.lines = []; // of the part that isn't whole
     this.prompt = "";
@@ -48,7 +50,9 @@ export class Link {
   hear(message) {
     let text = message;
     while (text.startsWith(ASKS_BACK)) {
-      this.socket.send(sealed(ACKNOWLEDGEMENT, stampNow()));
+      if (this.acknowledges(this.lines.at(-1) ?? "")) {
+        this.socket.send(sealed(ACKNOWLEDGEMENT, stampNow()));
+      }
       text = text.slice(ASKS_BACK.length);
       if (!text) {
         return;

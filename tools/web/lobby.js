@@ -6,6 +6,7 @@ import { byId } from "./page.js";
 
 const EVERY = 4000; // milliseconds
 const LISTS = ["who", "sought", "games", "pending"];
+const ROWS = new Set(["player", "sought", "game", "stored", "stored-pair", "pending-from", "pending-to"]);
 const CHANGING = new Set(["accept", "decline", "match", "observe", "play", "quit", "resign", "resume", "seek", "unobserve",
   "unseek", "withdraw"]);
 
@@ -52,9 +53,12 @@ function storedRow(event, me) {
 }
 
 export class Lobby {
-  constructor(session, games) {
+  /** `challenged` gets the rows of the challenges to the member. */
+  constructor(session, games, challenged) {
     this.session = session;
     this.games = games;
+    this.challenged = challenged;
+    this.asked = new Set(); // the lists that are being asked for
     session.onAnswer((answer) => this.take(answer));
     session.on("challenge", () => this.ask("pending"));
     session.on("seeking", () => this.ask("sought"));
@@ -66,7 +70,6 @@ export class Lobby {
 
   /** Asks for a list, unless it is being asked for. */
   async ask(line) {
-    this.asked ??= new Set();
     if (!this.session.isIn || this.asked.has(line)) {
       return;
     }
@@ -82,30 +85,31 @@ export class Lobby {
   }
 
   take(answer) {
-    const { me } = this.session;
-    if (CHANGING.has(answer.command) && !answer.refusal) {
-      this.refresh();
-    }
-    if (answer.refusal || !me) {
+    if (!answer.isDone || !this.session.me) {
       return;
     }
-    if (answer.command === "who") {
-      showRows(byId("players"), answer.all("player").map((it) => playerRow(it.who, me)));
-    } else if (answer.command === "sought") {
-      showRows(byId("seeks"), answer.all("sought").map((it) => seekRow(it, me)), "No seeks.");
-    } else if (answer.command === "games") {
-      showRows(byId("games"), answer.all("game").map((it) => gameRow(it, this.games.byNumber.get(it.game), me)), "No games.");
-    } else if (answer.command === "pending") {
-      this.takePending(answer);
-    } else if (answer.command === "stored") {
-      const rows = answer.events.filter((it) => it.kind.startsWith("stored")).map((it) => storedRow(it, me));
-      showRows(byId("stored"), rows, "None.");
+    if (CHANGING.has(answer.command)) {
+      this.refresh();
+    }
+    const show = this.shows[answer.command];
+    if (show) {
+      show(answer.events.filter((it) => ROWS.has(it.kind)));
     }
   }
 
-  takePending(answer) {
-    const pending = answer.events.filter((it) => it.kind.startsWith("pending"));
-    showRows(byId("challenges"), pending.map(pendingRow), "None.");
-    this.calls?.challenged(pending.filter((it) => it.kind === "pending-from").map(pendingRow));
+  /** Of each list the function that shows its rows. */
+  get shows() {
+    const { me } = this.session;
+    const seen = this.games.byNumber;
+    return {
+      who: (rows) => showRows(byId("players"), rows.map((it) => playerRow(it.who, me))),
+      sought: (rows) => showRows(byId("seeks"), rows.map((it) => seekRow(it, me)), "No seeks."),
+      games: (rows) => showRows(byId("games"), rows.map((it) => gameRow(it, seen.get(it.game), me)), "No games."),
+      stored: (rows) => showRows(byId("stored"), rows.map((it) => storedRow(it, me)), "None."),
+      pending: (rows) => {
+        showRows(byId("challenges"), rows.map(pendingRow), "None.");
+        this.challenged(rows.filter((it) => it.kind === "pending-from").map(pendingRow));
+      },
+    };
   }
 }

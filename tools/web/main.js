@@ -38,12 +38,13 @@ function start() {
   session.complain = (number) => tellMember(inWords(number), "refusal");
   let view = null;
   const games = new Games(session, (game, event) => view.changed(game, event));
+  session.acknowledges = (line) => games.begins(line);
   const simul = new Simul(session, games);
   const play = new Play(session, games, simul);
   view = new BoardView(session, games, play);
-  const lobby = new Lobby(session, games);
-  lobby.calls = new Calls(session);
-  const kept = [new Talk(session), new Settings(session), new CommandLine(session), new PartnerTalk(session), simul];
+  const calls = new Calls(session);
+  const lobby = new Lobby(session, games, (rows) => calls.challenged(rows));
+  const kept = [new Talk(session, (line) => play.act(games.shown, line)), new Settings(session), new CommandLine(session), new PartnerTalk(session), simul];
   const partner = new Partner(session);
   const login = new Login(session);
   listenForTerms(session);

@@ -60,15 +60,17 @@ export class Play {
     }
   }
 
-  /** Sends a line for a game. In a simul a move that is made leads on to the next board. */
+  /** Sends a line for a game, and gives the answer, or null where it wasn't sent. In a simul a move that is made leads
+   * on to the next board. */
   async act(game, line) {
     const isSimul = this.simul.isOn;
     if (!game || !await this.simul.reach(game)) {
-      return;
+      return null;
     }
     const answer = await this.session.act(line);
     if (answer.isDone && !commandOf(line) && isSimul) {
       await this.simul.showPresent();
     }
+    return answer;
   }
 }

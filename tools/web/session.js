@@ -38,6 +38,7 @@ export class Session {
     this.listeners = new Map();
     this.answered = []; // who wants each answer
     this.ended = [];
+    this.acknowledges = () => true;
     this.on("entered", (event) => { this.me = event.who; });
     this.connect();
   }
@@ -46,10 +47,10 @@ export class Session {
   connect() {
     const before = this.link;
     this.me = "";
-    const link = new Link(this.url, this.isStamped, (part) => (this.link === link ? this.take(part) : null), () => {
-      if (this.link === link) {
-        this.ended.forEach((it) => it());
-      }
+    const link = new Link(this.url, this.isStamped, {
+      take: (part) => (this.link === link ? this.take(part) : null),
+      acknowledges: (line) => this.acknowledges(line),
+      ended: () => this.link === link && this.ended.forEach((it) => it()),
     });
     this.link = link;
     before?.leave();

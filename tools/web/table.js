@@ -58,6 +58,7 @@ export class Table {
     if (game !== this.game || game.looking !== null) {
       this.chosen = null;
     }
+    this.isTurned &&= game === this.game;
     this.game = game;
     this.hasBlackBelow = hasBlackBelow;
     const place = game.shown;

@@ -26,8 +26,10 @@ const HEARD = {
 };
 
 export class Talk {
-  constructor(session) {
+  /** `atGame(line)` sends a line for the game that is shown. */
+  constructor(session, atGame) {
     this.session = session;
+    this.atGame = atGame;
     this.channels = new Set();
     for (const [kind, words] of Object.entries(SAID)) {
       session.on(kind, (event) => this.add(words(event), kind));
@@ -46,7 +48,7 @@ export class Talk {
 
   add(text, kind) {
     const list = byId("said");
-    const row = document.createElement("li");
+    const row = document.createElement("p");
     row.className = kind;
     row.textContent = text;
     list.append(row);
@@ -78,8 +80,9 @@ export class Talk {
       tellMember(text ? "To whom? Give a name or a channel." : "Give the words that you want to say.");
       return;
     }
-    const answer = await this.session.act(LINES[to](who, text));
-    if (answer.isDone) {
+    const line = LINES[to](who, text);
+    const answer = await (to === "kibitz" ? this.atGame(line) : this.session.act(line));
+    if (answer?.isDone) {
       byId("talk-text").value = "";
     }
   }
