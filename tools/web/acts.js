@@ -1,5 +1,5 @@
-/** Buttons that name what they send: `data-command` is a line of the server, `data-at` the game it is for, `data-fill` a
- * field and what is put into it. */
+/** Buttons that name what they send: `data-command` is a line of the server, `data-at` the game it is for,
+ * `data-fill` a field and what is put into it. */
 
 import { byId } from "./page.js";
 

@@ -5,7 +5,7 @@ const NUMBER = /^(?:0|[1-9]\d*)$/;
 const WHOLE = /^(?:0|-?[1-9]\d*)$/;
 const BIT = /^[01]$/;
 const SQUARE = "[a-h][1-8]";
-const LONG = new RegExp(`^(?:none|o-o|o-o-o|P/@@-${SQUARE}|[NBRQ]/@@-${SQUARE}|[PNBRQK]/${SQUARE}-${SQUARE}(?:=[QRBN])?)$`);
+const LONG = new RegExp(`^(?:none|o-o|o-o-o|[PNBRQ]/@@-${SQUARE}|[PNBRQK]/${SQUARE}-${SQUARE}(?:=[QRBN])?)$`);
 const SHORT = new RegExp(`^(?:none|(?:O-O|O-O-O|[PNBRQ]@${SQUARE}|[NBRQK][a-h]?[1-8]?x?${SQUARE}`
   + `|(?:[a-h]x)?${SQUARE}(?:=[QRBN])?)[+#]?)$`);
 const FORMS = [

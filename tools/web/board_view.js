@@ -115,8 +115,9 @@ export class BoardView {
   /** The flag can be called at any time; its button says when the opponent's time is over. */
   showFlag() {
     const game = this.games.shown;
-    const colour = game?.role === "mine" && !game.isOver && game.place ? game.colourOf(game.otherThan(this.session.me)) : "";
-    byId("flag").classList.toggle("strong", Boolean(colour) && game.terms.isTimed && game.left(colour) <= 0);
+    const isTimed = game?.role === "mine" && !game.isOver && game.place && game.terms.isTimed;
+    const hasFallen = isTimed && game.left(game.colourOf(game.otherThan(this.session.me))) <= 0;
+    byId("flag").classList.toggle("strong", Boolean(hasFallen));
   }
 
   close() {

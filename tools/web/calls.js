@@ -4,9 +4,12 @@ import { showRows } from "./list.js";
 import { byId, tellMember } from "./page.js";
 
 const KINDS = {
-  "partner-asked": (who) => ({ text: `${who} offers to be your partner.`, label: "Be partners", command: `partner ${who}` }),
-  "resume-asked": (who) => ({ text: `${who} asks to go on with your adjourned game.`, label: "Go on",
-    command: `resume ${who}` }),
+  "partner-asked": (who) => ({
+    text: `${who} offers to be your partner.`, label: "Be partners", command: `partner ${who}`,
+  }),
+  "resume-asked": (who) => ({
+    text: `${who} asks to go on with your adjourned game.`, label: "Go on", command: `resume ${who}`,
+  }),
 };
 
 export class Calls {

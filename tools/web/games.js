@@ -3,7 +3,9 @@
 import { boardOf } from "./board_line.js";
 import { Game } from "./game.js";
 
-const OFFERS = { "offer-draw": "draw", "offer-abort": "abort", "offer-adjourn": "adjourn", "offer-takeback": "takeback" };
+const OFFERS = {
+  "offer-draw": "draw", "offer-abort": "abort", "offer-adjourn": "adjourn", "offer-takeback": "takeback",
+};
 
 export class Games {
   /** `changed` is called with a game that was told of, and with the event. */
@@ -143,8 +145,9 @@ export class Games {
     }
   }
 
-  /** Whether a board line is to be acknowledged: thinking begins with it. A board that is only shown again began before,
-   * and the server takes an acknowledgement for one of the present game, which in a simul may be another one. */
+  /** Whether a board line is to be acknowledged: thinking begins with it. A board that is only shown again began
+   * before, and the server takes an acknowledgement for one of the present game, which in a simul may be another
+   * one. */
   begins(line) {
     const board = boardOf(line);
     const game = board && this.byNumber.get(board.game);

@@ -28,7 +28,8 @@ export class Hand {
     this.key = key;
     this.root.dataset.hand = colour === "w" ? "white" : "black";
     this.root.setAttribute("role", "group");
-    this.root.setAttribute("aria-label", `${colour === "w" ? "White" : "Black"}'s hand${letters === null ? ", unknown" : ""}`);
+    const name = colour === "w" ? "White's hand" : "Black's hand";
+    this.root.setAttribute("aria-label", letters === null ? `${name}, unknown` : name);
     for (const [kind, button] of Object.entries(this.buttons)) {
       const count = Array.from(letters ?? "").filter((it) => it === kind).length;
       const number = document.createElement("span");

@@ -1,5 +1,5 @@
-/** The server's texts to events, by the tables of docs/CLIENTS.md. Each row knows a text by its whole form; what fits no
- * row is `unknown`. An event has its `kind`, the line's `text`, and the fields that the row names. */
+/** The server's texts to events, by the tables of docs/CLIENTS.md. Each row knows a text by its whole form; what
+ * fits no row is `unknown`. An event has its `kind`, the line's `text`, and the fields that the row names. */
 
 import { boardOf } from "./board_line.js";
 import { REFUSALS } from "./refusals.js";
@@ -52,8 +52,8 @@ const NEWS = [
   ["board", "<12> .+"],
   ["hands", `<b1> game (?<game>${NUMBER}) white \\[(?<whiteHand>P*N*B*R*Q*)\\] black \\[(?<blackHand>P*N*B*R*Q*)\\]`
     + "(?: <- (?<came>[PNBRQ]))?"],
-  ["text-turn", `(?<side>[WB]) to move, game (?<game>${NUMBER}), White (?<whiteLeft>-?\\d+), Black (?<blackLeft>-?\\d+), `
-    + "last (?<last>\\S+)"],
+  ["text-turn", `(?<side>[WB]) to move, game (?<game>${NUMBER}), `
+    + "White (?<whiteLeft>-?\\d+), Black (?<blackLeft>-?\\d+), last (?<last>\\S+)"],
   ["offer-draw", `${WHO} offers a draw\\.`],
   ["offer-abort", `${WHO} offers to abort\\.`],
   ["offer-adjourn", `${WHO} offers to adjourn\\.`],
@@ -89,8 +89,8 @@ const REST = compiled(RANKS);
 /** The kinds that are no command's own print. */
 export const NEWS_KINDS = new Set(NEWS.map(([kind]) => kind));
 
-/** What holds besides the form: a refusal's name is that of its number, terms are within their bounds, a board line has
- * its fields, and who loses plays. */
+/** What holds besides the form: a refusal's name is that of its number, terms are within their bounds, a board line
+ * has its fields, and who loses plays. */
 const HOLDS = {
   refused: (event) => REFUSALS.get(event.n)?.name === event.name,
   board: (event) => event.board !== null,

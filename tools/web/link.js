@@ -17,8 +17,8 @@ function refusalOf(line) {
 }
 
 export class Link {
-  /** `take` gets each part, { line, lines, prompt }, of which `line` is null for news; `acknowledges` says whether a board
-   * line is to be acknowledged where the server asks for it; `ended` is told of the end. */
+  /** `take` gets each part, { line, lines, prompt }, of which `line` is null for news; `acknowledges` says whether
+   * a board line is to be acknowledged where the server asks for it; `ended` is told of the end. */
   constructor(url, isStamped, { take, acknowledges, ended }) {
     this.isStamped = isStamped;
     this.take = take;

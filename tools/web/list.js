@@ -24,7 +24,8 @@ function rowOf({ key, text, buttons = [], className = "" }) {
   return row;
 }
 
-/** Shows rows, { key, text, buttons }, in their order; rows of one key are the same. `none` stands where there are none. */
+/** Shows rows, { key, text, buttons }, in their order; rows of one key are the same. `none` stands where there are
+ * none. */
 export function showRows(list, rows, none = "") {
   const wanted = rows.length || !none ? rows : [{ key: "none", text: none, className: "none" }];
   const known = new Map([...list.children].map((row) => [row.dataset.key, row]));

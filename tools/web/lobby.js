@@ -7,8 +7,9 @@ import { byId } from "./page.js";
 const EVERY = 4000; // milliseconds
 const LISTS = ["who", "sought", "games", "pending"];
 const ROWS = new Set(["player", "sought", "game", "stored", "stored-pair", "pending-from", "pending-to"]);
-const CHANGING = new Set(["accept", "decline", "match", "observe", "play", "quit", "resign", "resume", "seek", "unobserve",
-  "unseek", "withdraw"]);
+const CHANGING = new Set([
+  "accept", "decline", "match", "observe", "play", "resign", "resume", "seek", "unobserve", "unseek", "withdraw",
+]);
 
 function playerRow(who, me) {
   const buttons = who === me ? [] : [

@@ -44,7 +44,8 @@ function start() {
   view = new BoardView(session, games, play);
   const calls = new Calls(session);
   const lobby = new Lobby(session, games, (rows) => calls.challenged(rows));
-  const kept = [new Talk(session, (line) => play.act(games.shown, line)), new Settings(session), new CommandLine(session), new PartnerTalk(session), simul];
+  const talk = new Talk(session, (line) => play.act(games.shown, line));
+  const forgetful = [talk, new Settings(session), new CommandLine(session), new PartnerTalk(session), simul];
   const partner = new Partner(session);
   const login = new Login(session);
   listenForTerms(session);
@@ -52,7 +53,7 @@ function start() {
 
   session.on("entered", () => {
     showInside(session);
-    kept.forEach((it) => it.forget());
+    forgetful.forEach((it) => it.forget());
     partner.set("");
     lobby.refresh();
   });

@@ -1,5 +1,5 @@
-/** The offers that stand at a desk: a draw, an abort, an adjournment, a takeback of so many half-moves. They are those of
- * all seats of the desk, so the two boards of bughouse share them. */
+/** The offers that stand at a desk: a draw, an abort, an adjournment, a takeback of so many half-moves. They are
+ * those of all seats of the desk, so the two boards of bughouse share them. */
 
 const WORDS = {
   draw: () => "a draw", abort: () => "to abort", adjourn: () => "to adjourn", takeback: (n) => `to take back ${n}`,

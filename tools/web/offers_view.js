@@ -6,7 +6,8 @@ import { acceptance, offerInWords } from "./offers.js";
 function buttonsFor(game, offer, me) {
   const what = offerInWords(offer);
   const accept = {
-    label: `Accept ${what}`, command: acceptance(offer), at: game.number, name: `Accept ${what}, offered by ${offer.who}`,
+    label: `Accept ${what}`, name: `Accept ${what}, offered by ${offer.who}`, command: acceptance(offer),
+    at: game.number,
   };
   const decline = { label: `Decline ${what}`, command: "decline", at: game.number };
   return game.offers.firstFor(me) === offer ? [accept, decline] : [accept];
@@ -19,7 +20,8 @@ export function showOffers(list, game, me) {
     const who = offer.who === me ? "You offer" : `${offer.who} offers`;
     const buttons = open.includes(offer) ? buttonsFor(game, offer, me) : [];
     return {
-      key: `${game.number} ${offer.who} ${offer.kind} ${offer.n} ${buttons.length}`, text: `${who} ${offerInWords(offer)}.`,
+      key: `${game.number} ${offer.who} ${offer.kind} ${offer.n} ${buttons.length}`,
+      text: `${who} ${offerInWords(offer)}.`,
       buttons,
     };
   }));

@@ -4,8 +4,8 @@
 const ROWS = [
   [1, "Ambiguous", "Two of your men can make that move. Say which one, as in Nbd2, or move it on the board."],
   [2, "LeavesKing", "Your king would be in check after that move. Choose another one."],
-  [3, "CastleForbidden", "You can't castle that way now: the king or the rook has moved, a square between them is taken, "
-    + "or the king would pass an attacked square."],
+  [3, "CastleForbidden", "You can't castle that way now: the king or the rook has moved, a square on their way is "
+    + "taken, or the king would pass an attacked one."],
   [4, "NoDrops", "Men are dropped in crazyhouse and bughouse only."],
   [5, "NotInHand", "You have no such man in hand. Choose one that stands beside the board with a number."],
   [6, "Occupied", "A man stands there already. Drop on an empty square."],
@@ -23,15 +23,15 @@ const ROWS = [
   [18, "NotWatching", "You aren't looking on at that game."],
   [19, "FeedFull", "There have been too many offers or remarks in this game. No more can be made in it."],
   [20, "NotPlaying", "There is no game for that: you play none here, or that player doesn't."],
-  [21, "NotInVariant", "That isn't to be had here: no takeback in bughouse, no seek of it, and no bughouse with who gives "
-    + "a simul."],
+  [21, "NotInVariant", "That isn't to be had here: no takeback in bughouse, no seek of it, and no bughouse with who "
+    + "gives a simul."],
   [22, "BadHandle", "A name has 3 to 17 letters from A to Z and nothing else. Choose such a name."],
   [23, "WrongPassword", "That isn't the password of this name. Try again, or come in under another name."],
   [24, "HandleTaken", "Somebody is here under that name. Choose another one, or leave by the other window first."],
   [25, "HallFull", "256 people are in, and no more can come. Try again in a while."],
   [26, "Unknown", "There is no such move or command. A move is typed as e4, Nf3 or e2e4."],
   [27, "AmbiguousWord", "Several commands begin like that. Type more letters of the one that you mean."],
-  [28, "BadArguments", "The command is known, but not what stands behind it. Look at its form in the list of commands."],
+  [28, "BadArguments", "The command is known, but not what stands behind it. Look up how it is typed."],
   [29, "TooLong", "That line is too long: it may have 1,023 letters, and what is said 800."],
   [30, "NoSuchSeek", "That seek is gone. Choose another one of the list."],
   [31, "SeekFull", "You have three seeks, the most there can be. Take one back first."],

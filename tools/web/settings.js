@@ -1,4 +1,5 @@
-/** The account, what reaches the member, and who is kept away. The server shows nothing of it, so the page remembers. */
+/** The account, what reaches the member, and who is kept away. The server shows nothing of it, so the page
+ * remembers. */
 
 import { showRows } from "./list.js";
 import { byId, onSubmit, tellMember } from "./page.js";

@@ -52,8 +52,8 @@ export class Table {
     }
   }
 
-  /** Shows a game as it stands, or as it stood where one looks back. Black is below where the server has it so, or at a
-   * partner's board where the partner has Black. */
+  /** Shows a game as it stands, or as it stood where one looks back. Black is below where the server has it so, or
+   * at a partner's board where the partner has Black. */
   show(game, hasBlackBelow = game.blackBelow) {
     if (game !== this.game || game.looking !== null) {
       this.chosen = null;

@@ -2,7 +2,7 @@
 
 import { BEYOND_SCRIPTS } from "./documented.mjs";
 
-/** The form of a line: the one that has just these letters, or one of the command to which it is the answer, or of any. */
+/** The form of a line: the one that has just these letters, or one of the command that it answers, or one of any. */
 function formOf(forms, { command, text }) {
   const fitting = forms.filter((it) => it.pattern.test(text));
   return fitting.find((it) => it.text === text) ?? fitting.find((it) => it.commands.includes(command))
@@ -53,7 +53,8 @@ export class Checks {
   }
 
   strictness(form, { command, text }) {
-    const others = form.hasText ? [`x ${text}`] : [`x ${text}`, `${text} x`, `${text}.`, text.slice(0, -1), ` ${text}`];
+    const longer = [`x ${text}`, ` ${text}`];
+    const others = form.hasText ? longer : [...longer, `${text} x`, `${text}.`, text.slice(0, -1)];
     for (const other of others) {
       const kind = this.eventOf(other, command).kind;
       if (kind !== "unknown" && !formOf(this.forms, { command, text: other })) {

@@ -100,8 +100,8 @@ export function documentedForms(path) {
   const [, turn] = /eight ranks, and `([^`]+)`, with S/.exec(page);
   return [
     ...forms, new Form(opening, opening, escaped(opening)),
-    new Form(turn, turn, turn.replace(/^S/, "[WB]").replace(" G,", ` (${NUMBER}),`).replace("White W", "White (-?\\d+)")
-      .replace("Black B", "Black (-?\\d+)").replace(/P$/, "(\\S+)")),
+    new Form(turn, turn, turn.replace(/^S/, "[WB]").replace(" G,", ` (${NUMBER}),`).replace("W,", "(-?\\d+),")
+      .replace("B,", "(-?\\d+),").replace(/P$/, "(\\S+)")),
     new Form("the eight ranks", "the eight ranks", "([pnbrqkPNBRQK-]{8})"),
   ];
 }

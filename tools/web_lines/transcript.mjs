@@ -38,7 +38,8 @@ export function told(program, evening) {
       continue;
     }
     const command = mark === ">" ? text.trim().split(" ")[0] : "";
-    lines.push(...(own.shift() ?? []).filter((it) => it && !PROMPTS.includes(it)).map((it) => ({ command, text: it })));
+    const answer = (own.shift() ?? []).filter((it) => it && !PROMPTS.includes(it));
+    lines.push(...answer.map((it) => ({ command, text: it })));
   }
   return lines;
 }
