@@ -1,8 +1,10 @@
-"""One link to a server or a go-between for the script beside this file: what comes, line by line."""
+"""One link to a server or a go-between for the scripts beside this file: what comes, line by line; and programs that
+are started for it."""
 
 import re
 import select
 import socket
+import subprocess
 import time
 
 PATIENCE = 60
@@ -47,3 +49,17 @@ class Link:
         deadline = time.monotonic() + seconds
         while not self.heard.endswith(prompt):
             self.hear(deadline)
+
+
+def free_port():
+    """A port that nobody listens at."""
+    with socket.create_server(("127.0.0.1", 0)) as it:
+        return it.getsockname()[1]
+
+
+def started(words):
+    """A program that has written `ready`."""
+    process = subprocess.Popen(words, stdout=subprocess.PIPE, text=True)
+    if process.stdout.readline().strip() != "ready":
+        raise SystemExit(f"{words[0]} doesn't run")
+    return process

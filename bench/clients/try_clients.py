@@ -1,9 +1,11 @@
 #!/usr/bin/env python3
-"""Tries the go-between before the built program with what graphical clients do, as far as no person is needed.
+"""Tries the go-between before the built program with what graphical clients do, as far as no person is needed, and the
+example of a client at the program itself.
 
 - Forms: what eboard and PyChess send behind their login; each answer has to have the form that the client waits for.
 - Crowd: pairs play random moves through the go-between and tell each other a numbered line behind each half-move.
   Each player has to be sent every board and every line, once and in order.
+- The example: `example.py` plays a game against itself over two links, and one between two programs.
 - A bot: xboard's zippy with fairymax, in a window that nobody sees, plays ten games against a player of random moves.
 - The end: the server is ended, and the go-between has to end by itself.
 
@@ -16,22 +18,23 @@ import os
 import random
 import re
 import shutil
-import socket
 import subprocess
 import sys
 import tempfile
 import threading
+import time
 
 HERE = os.path.dirname(os.path.abspath(__file__))
 sys.path[:0] = [HERE, os.path.join(HERE, "..", "serve"), os.path.join(HERE, "..")]
 sys.dont_write_bytecode = True
-from link import Link  # noqa: E402
+from link import Link, free_port, started  # noqa: E402
 from measure import program_of  # noqa: E402
 from pairs import tries  # noqa: E402
 
 FACE = os.path.join(HERE, "..", "..", "tools", "fics_face")
+EXAMPLE = os.path.join(HERE, "example.py")
 HALF_MOVES = 40
-GAME_SECONDS = 300
+GAME_SECONDS = 600
 END = r"^\{Game \d+ \(\w+ vs\. \w+\) .+\} (1-0|0-1|1/2-1/2|\*)"
 BOARD = r"^<12> "
 GAMES_PATH = os.environ.get("PATH", "") + ":/usr/games"
@@ -166,6 +169,26 @@ def try_crowd(port, pairs):
     return [wrong for it in crowd for wrong in it.wrong]
 
 
+def try_example(port):
+    """Lets the example play against itself, and two of it against each other; what didn't end as a game does."""
+    port, wrong = str(port), []
+    for games in ([[port]], [[port, "Exbert"], [port, "Exanna", "Exbert"]]):
+        playing = []
+        for words in games:
+            playing.append(subprocess.Popen([EXAMPLE, *words], stdout=subprocess.PIPE, text=True))
+            time.sleep(2)  # who is challenged has to be in
+        for it in playing:
+            try:
+                lines = it.communicate(timeout=GAME_SECONDS)[0].splitlines()
+            except subprocess.TimeoutExpired:
+                it.kill()
+                lines = it.communicate()[0].splitlines()
+            print(f"example: {len(lines)} lines, {lines[-1:]}")
+            if it.returncode or not re.search(r"checkmated|drawn by|resigns", lines[-1]):
+                wrong.append(f"example: ended with {it.returncode} behind {lines[-1:]}")
+    return wrong
+
+
 def start_bot(link, name):
     """Challenges that one until it has accepted: its program may still be starting."""
     for _ in range(12):
@@ -241,19 +264,6 @@ def try_bot(server_port, face_port, games, folder):
     return wrong
 
 
-def free_port():
-    with socket.create_server(("127.0.0.1", 0)) as it:
-        return it.getsockname()[1]
-
-
-def started(words):
-    """A program that has written `ready`."""
-    process = subprocess.Popen(words, stdout=subprocess.PIPE, text=True)
-    if process.stdout.readline().strip() != "ready":
-        raise SystemExit(f"{words[0]} doesn't run")
-    return process
-
-
 def main():
     words = argparse.ArgumentParser(description=__doc__.split("\n\n")[0])
     words.add_argument("--program", help="the built program; without it the one that ./ficsd has built")
@@ -273,6 +283,7 @@ def main():
         wrong = try_forms(face_port)
         print(f"forms: {len(EBOARD) + len(PYCHESS)} lines of clients")
         wrong += try_crowd(face_port, chosen.pairs)
+        wrong += try_example(server_port)
         if not chosen.without_windows:
             with tempfile.TemporaryDirectory() as folder:
                 wrong += try_bot(server_port, face_port, chosen.games, folder)

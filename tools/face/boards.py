@@ -1,6 +1,7 @@
 """Games as they are told: terms, board lines, and what is known of the half-moves of a game."""
 
 TICKS_FROM = 2  # the first half-move of each colour is free
+MINE, THEIRS = 1, -1  # the relation of a board of one's own: who is to move
 LETTERS = {"untimed": "u", "lightning": "l", "blitz": "b", "standard": "s", "crazyhouse": "z", "bughouse": "B",
            "wild/fr": "w"}
 VARIANTS = {"crazyhouse": "crazyhouse", "bughouse": "bughouse", "fischer": "wild/fr"}

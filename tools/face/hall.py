@@ -1,6 +1,7 @@
 """All links: one server, and a session for each client."""
 
 import asyncio
+import socket
 import sys
 
 from . import texts
@@ -74,7 +75,10 @@ class Hall:
     async def link(self, reader, writer, server_reader, server_writer):
         """Both directions of one link. It ends once the server has closed it and all that it wrote is passed on."""
         session = Session(self, lambda text: writer.write(text.encode("latin-1", "replace")),
-                          lambda text: server_writer.write(text.encode("latin-1", "replace")))
+                          lambda text: server_writer.write(text.encode("latin-1", "replace")),
+                          server_writer.write_eof, asyncio.get_running_loop().call_later)
+        # a telnet may send the last byte of a command of its own as urgent data (RFC 854, the SYNCH)
+        writer.get_extra_info("socket").setsockopt(socket.SOL_SOCKET, socket.SO_OOBINLINE, 1)
         up = asyncio.create_task(self.pump(reader, session.from_client, (server_writer, writer)))
         down = asyncio.create_task(self.pump(server_reader, session.from_server, (writer, server_writer)))
         polls = asyncio.create_task(self.polls(session))
@@ -82,7 +86,7 @@ class Hall:
             done, _ = await asyncio.wait({up, down}, return_when=asyncio.FIRST_COMPLETED)
             if down not in done:
                 # the client sends no more: what it sent is answered first, as the server does with a link half closed
-                server_writer.write_eof()
+                session.client_is_gone()
                 await asyncio.wait({down}, timeout=10)
             session.server_is_gone()
             await writer.drain()
@@ -108,7 +112,7 @@ class Hall:
     async def polls(self, session):
         while True:
             await asyncio.sleep(POLL_SECONDS)
-            session.poll()
+            session.ask_for_seeks()
 
 
 def run(server, address, port):

@@ -25,10 +25,6 @@ class Request:
         return len(lines)
 
 
-class Poll(Request):
-    """A question of the go-between's own, of whose answer the client is told only what is new."""
-
-
 class Observation(Request):
     """The list of games, and then an `observe`, whose own boards are those of games that weren't known before."""
 

@@ -4,8 +4,8 @@ import re
 from collections import deque
 
 from . import texts
-from .boards import TERMS, Game, Terms
-from .request import Poll
+from .boards import MINE, TERMS, THEIRS, Game, Terms
+from .request import Request
 from .told import Told
 from .typed import Typed
 from .wire import Lines, Parts, unsealed
@@ -14,6 +14,7 @@ ACKNOWLEDGED = b"\x029"
 SEAL_GREETINGS = (b"TIMESTAMP|", b"TIMESEAL2|")
 BLOCK_START, BLOCK_BREAK, BLOCK_END = "\x15", "\x16", "\x17"
 AT_BOARD = ("draw", "abort", "adjourn", "takeback")
+NEWS_SECONDS = 0.02  # the server looks at a link that sends nothing every 0.1 seconds
 
 
 class Offer:
@@ -89,14 +90,17 @@ class Seeks:
 
 
 class Session:
-    """One link, without its sockets: `to_client` and `to_server` take text."""
+    """One link, without its sockets: `to_client` and `to_server` take text, `end_to_server` says that no more comes,
+    and `later` takes seconds and a call that is to be made then."""
 
-    def __init__(self, hall, to_client, to_server):
+    def __init__(self, hall, to_client, to_server, end_to_server, later):
         self.hall, self.to_client, self.to_server = hall, to_client, to_server
+        self.end_to_server, self.later = end_to_server, later
         self.name, self.typed_name = "", ""
-        self.stage = "greeting"  # then name, asked, password, return, in
+        self.stage = "greeting"  # then name, asked, password, return, in, over
         self.with_password = False
         self.ahead, self.held = deque(), []
+        self.client_has_ended = self.asks_later = False
         self.is_sealed = None
         self.lines, self.parts = Lines(), Parts()
         self.told, self.typed = Told(self), Typed(self)
@@ -105,7 +109,9 @@ class Session:
         self.games, self.last_game = {}, None
         self.listed = {}  # the games of the server's last list: number to (white, black, terms)
         self.lists = {"channel": [], "censor": [], "noplay": []}
-        self.queue, self.owed = deque(), deque()
+        self.aliases = {}
+        # the client's lines whose answers aren't sent yet; what is answered next; the go-between's own question
+        self.queue, self.owed, self.question = deque(), deque(), None
 
     def is_set(self, name):
         return self.settings.get(name, "0") != "0"
@@ -124,11 +130,17 @@ class Session:
                 line = plain
             if not (self.is_sealed and line == ACKNOWLEDGED):
                 self.ahead.append(line.decode("latin-1"))
+        self.to_client(self.lines.telnet.answers().decode("latin-1"))
+        self.go_on()
+
+    def client_is_gone(self):
+        """The client sends no more: the server is told so behind the last line."""
+        self.client_has_ended = True
         self.go_on()
 
     def go_on(self):
         """Takes the lines that wait, as far as the login lets them."""
-        while self.ahead and self.stage not in ("greeting", "asked"):
+        while self.ahead and self.stage in ("name", "password", "return", "in"):
             line = self.ahead.popleft()
             if self.stage == "in":
                 self.typed.line(line)
@@ -142,6 +154,8 @@ class Session:
                 self.with_password = self.stage == "password"
                 self.stage = "asked"
                 self.to_server(line + "\n")
+        if self.client_has_ended and not self.ahead:
+            self.end_to_server()
 
     def from_server(self, piece):
         """Takes bytes of the server."""
@@ -153,6 +167,7 @@ class Session:
             else:
                 self.answered(lines)
         self.go_on()
+        self.ask_for_news_later()
 
     def server_is_gone(self):
         """Tells what came last of the server."""
@@ -161,6 +176,7 @@ class Session:
             self.put(lines)
         else:
             self.put([""] + self.told.all(self.held + lines))
+        self.stage = "over"
 
     # ---- the login ----
 
@@ -182,10 +198,18 @@ class Session:
             text = texts.BANNER
         elif refused:
             text = texts.LOGIN_REFUSALS.get(int(refused[1]), lines[0] + "\n").format(name=self.typed_name)
+            text += self.drop_ahead()
         else:
             text = "".join(it + "\n" for it in lines)
         self.stage = "name"
         self.put_text(text + "\n" + texts.LOGIN if text else texts.LOGIN)
+
+    def drop_ahead(self):
+        """Drops what was sent ahead behind a name or a password that was refused: the server, which asks for a name
+        now, would take a password for one, and everybody could read it. What the client is told of it."""
+        dropped = any(self.ahead)
+        self.ahead.clear()
+        return texts.NOT_TAKEN if dropped else ""
 
     def enter(self, title):
         """The client is in: tells it so, and what came meanwhile."""
@@ -208,27 +232,22 @@ class Session:
     def answered(self, lines):
         """Takes a part of the server: news, which begin with an empty line, or the answer that is due next."""
         if lines and lines[0] == "" or not self.owed:
-            told = self.told.all(lines[1:] if lines and lines[0] == "" else lines)
-            if told:
-                self.put([""] + told)
-                self.put_text(texts.PROMPT)
-            return
+            return self.tell(self.told.all(lines[1:] if lines and lines[0] == "" else lines))
         request = self.owed.popleft()
         own = request.own(lines)
         request.answers.append(lines[:own])
         request.news += self.told.all(lines[own:])
-        self.flush()
+        if request is self.question:
+            self.question = None
+            self.tell(request.render(request.answers) + request.news)
+        else:
+            self.flush()
 
     def flush(self):
         """Sends the answers that are whole, in their order."""
         while self.queue and self.queue[0].is_answered:
             request = self.queue.popleft()
             lines = request.render(request.answers)
-            if isinstance(request, Poll):
-                if lines or request.news:
-                    self.put([""] + lines + request.news)
-                    self.put_text(texts.PROMPT)
-                continue
             if request.tag is None:
                 self.put(lines)
             else:
@@ -238,6 +257,12 @@ class Session:
             self.put(request.news)
             self.put_text(texts.PROMPT)
 
+    def tell(self, news):
+        """Sends what came without a line of the client's; nothing where nothing did."""
+        if news:
+            self.put([""] + news)
+            self.put_text(texts.PROMPT)
+
     def put(self, lines):
         self.put_text("".join(it + "\n" for it in lines))
 
@@ -245,11 +270,40 @@ class Session:
         if text:
             self.to_client(text.replace("\n", "\n\r"))
 
-    def poll(self):
+    # ---- questions of its own ----
+
+    @property
+    def may_ask(self):
+        """Whether it may ask the server something of its own: no such question waits for its answer."""
+        return self.stage == "in" and not self.client_has_ended and not self.question
+
+    def ask_for_seeks(self):
         """Asks which seeks still stand, for a client that is told of those that are gone: the server doesn't tell."""
-        wants = self.stage == "in" and self.is_set("seekremove") and self.seeks.known
-        if wants and not any(isinstance(it, Poll) for it in self.queue):
-            self.ask(Poll(None, 0, ["sought"], lambda answers: self.seeks.learn(answers[0])))
+        if self.may_ask and self.is_set("seekremove") and self.seeks.known:
+            self.put_question("sought", self.seeks.learn)
+
+    @property
+    def waits_for_opponent(self):
+        """Whether another is to move in a game of one's own."""
+        return any(it.role == "mine" and it.boards and it.boards[-1].relation == THEIRS for it in self.games.values())
+
+    def ask_for_news_later(self):
+        """Asks for news a moment from now, if the other's half-move hasn't come by then."""
+        if self.waits_for_opponent and not self.asks_later:
+            self.asks_later = True
+            self.later(NEWS_SECONDS, self.ask_for_news)
+
+    def ask_for_news(self):
+        """Asks for news with an empty line, which has no other answer."""
+        self.asks_later = False
+        if self.may_ask and self.waits_for_opponent:
+            self.put_question("", lambda lines: lines)
+
+    def put_question(self, line, render):
+        """Sends a line of its own, of whose answer the client is told only what `render` and the news say."""
+        self.question = Request(None, 0, [line], lambda answers: render(answers[0]))
+        self.owed.append(self.question)
+        self.to_server(line + "\n")
 
     # ---- games ----
 
@@ -272,6 +326,15 @@ class Session:
         """The game that one plays, or else one at which one looks on."""
         mine = [it for it in self.games.values() if it.role == "mine"]
         return (mine or list(self.games.values()) or [None])[0]
+
+    def board_to_move(self):
+        """The board of a move that is typed now, as its player sees it: where one plays one game, is to move in it, and
+        nothing that was typed before waits for its answer; else none."""
+        mine = [it for it in self.games.values() if it.role == "mine" and it.boards]
+        if len(mine) != 1 or self.queue:
+            return None
+        board = mine[0].boards[-1]
+        return board if board.relation == MINE else None
 
     def game_with(self, name):
         """The game in which that one plays, one's own before others."""

@@ -18,7 +18,7 @@ PROMPT = "fics% "
 # ---- the login, by what the server answers ----
 IS_REGISTERED = """
 "{name}" is a registered name.  If it is yours, type the password.
-If not, just hit return to try another name.
+If not, type anything else: it is refused, and then you can try another name.
 """
 AS_GUEST = """
 Logging you in as "{name}"; you may use this name to play unrated games.
@@ -40,6 +40,7 @@ LOGIN_REFUSALS = {
     24: 'Press return to try another name.\n"{name}" is already logged in.\n',
     25: "Press return to try again.\nThe hall is full: 256 players are in.\n",
 }
+NOT_TAKEN = "What you sent behind it isn't taken for a name: it might be a password.\n"
 NO_SERVER = "The server isn't there.\n"
 
 # ---- commands: what is typed, its least beginning, its number in block mode, and how it is dealt with ----
@@ -83,10 +84,12 @@ COMMANDS = (
     ("logons", "lo", 66, "say"),
     ("logout", "logou", 97, "leave"),
     ("match", "m", 73, "match"),
-    ("messages", "mes", 74, "say"),
+    ("messages", "mes", 74, "messages"),
+    ("more", "more", 79, "say"),
     ("moretime", "mor", 76, "say"),
     ("moves", "mo", 77, "moves"),
     ("news", "ne", 78, "say"),
+    ("next", "nex", 79, "say"),
     ("observe", "o", 80, "observe"),
     ("oldmoves", "old", 81, "say"),
     ("partner", "par", 84, "partner"),
@@ -122,18 +125,21 @@ COMMANDS = (
     ("takeback", "ta", 131, "plain"),
     ("tell", "t", 132, "tell"),
     ("time", "ti", 133, "say"),
+    ("unalias", "una", 160, "unalias"),
     ("unexamine", "une", 137, "say"),
     ("unobserve", "uno", 138, "unobserve"),
     ("unpause", "unp", 139, "say"),
     ("unseek", "uns", 156, "unseek"),
     ("uptime", "up", 140, "say"),
     ("variables", "va", 143, "variables"),
+    ("vars", "vars", 143, "variables"),
     ("whisper", "whi", 145, "say"),
     ("who", "wh", 146, "who"),
     ("withdraw", "wi", 147, "withdraw"),
     ("xtell", "xt", 150, "tell"),
     ("znotify", "z", 152, "say"),
 )
+SAME_HELP = {"bye": "exit", "logout": "exit", "vars": "variables"}
 MOVE_CODE = 1
 UNKNOWN_CODE = 512
 PLUS_CODE, MINUS_CODE = 12, 151
@@ -156,9 +162,10 @@ SAYS = {
     "limits": "256 players, 3 seeks, 20 channels, 100 names on a list, 32 games at which one looks on.",
     "llogons": "There is no record of logons here.",
     "logons": "There is no record of logons here.",
-    "messages": "You have no messages.",
+    "more": "There is no more: nothing is cut into pages here.",
     "moretime": "No time can be given here.",
     "news": "There are no news items.",
+    "next": "There is no more: nothing is cut into pages here.",
     "oldmoves": "There are no finished games here.",
     "password": "A password can't be changed here.",
     "pause": "A clock can't be stopped here.",
@@ -175,12 +182,6 @@ SAYS = {
     "whisper": "There is no whisper here: \"kibitz\" is heard by the players too.",
     "znotify": "No one from your notify list is logged on.",
 }
-HELP = {
-    "channel_list": "All channels from 0 to 255 are free. Please use\n"
-                    "channels only for their designated topics.\n\nSPECIAL NOTE: none is designated here.",
-    "register": "Do \"register PASSWORD\" to keep your name; it is kept as long as the server runs.",
-}
-NO_HELP = "There is no help here for \"{0}\"; the server's pages say what can be typed."
 
 # ---- the server's refusals in FICS's words: {line} what was typed, {word} its first word, {name} its second ----
 REFUSALS = {
@@ -256,6 +257,7 @@ DONE = {
     "-": "[{0}] removed from your {list} list.",
     "register": "{me} is registered now.",
     "alias": "Alias set.",
+    "unalias": "Alias {0} removed.",
     "style": "Style 12 set.",
     "other style": "Boards come in style 12 only here.",
     "set": "{0} set to {1}.",
@@ -332,3 +334,10 @@ Unrated {kind} match, initial time: {minutes} minutes, increment: {increment} se
 MOVES_COLUMNS = "Move  {white:<23} {black}\n----  ---------------------   ---------------------"
 MOVES_END = "      {Still in progress} *"
 NOT_WATCHED = "You are neither playing nor observing game {0}."
+NO_GAME = "You are neither playing nor observing a game."
+NO_MESSAGES = "You have no messages."
+MESSAGE_LOST = ("There are no messages here, and {who} wasn't told: {text}\n"
+                "Do \"tell {who} {text}\" while {who} is here.")
+ALIAS = "{0} -> {1}"
+NO_ALIASES = "You have set no aliases."
+OTHERS_VARIABLES = "What {0} has set isn't told here."

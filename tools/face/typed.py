@@ -4,13 +4,12 @@ import random
 import re
 import time
 
-from . import texts
+from . import helps, texts
 from .boards import TERMS, Board, Terms, rows
+from .moves import spelled
 from .request import Observation, Request
 from .told import is_board, offer_text
 
-MOVE = re.compile(r"[a-h][1-8]-?[a-h][1-8](=?[QRBNqrbn])?|[KQRBN]?[a-h]?[1-8]?x?[a-h][1-8](=?[QRBNqrbn])?[+#]?"
-                  r"|[PNBRQpnbrq]@[a-h][1-8][+#]?|[oO0]-[oO0](-[oO0])?[+#]?")
 LISTS = {"channel": "channel", "censor": "censor", "noplay": "noplay"}
 FORWARDED_VARIABLES = ("open", "shout")
 ON = {"on": "1", "true": "1", "yes": "1", "off": "0", "false": "0", "no": "0"}
@@ -51,9 +50,13 @@ class Typed:
         text = text[1:] if text.startswith("$") else text  # "not by hand", as xboard marks its own lines
         self.typed = text
         word, _, rest = text.partition(" ")
-        if MOVE.fullmatch(text):
+        if word in self.session.aliases:
+            self.code = texts.UNKNOWN_CODE
+            return self.ask([text], self.answer("other"))
+        move = spelled(text, self.session.board_to_move())
+        if move:
             self.code = texts.MOVE_CODE
-            return self.ask([self.spelled(text)], self.answer("move"))
+            return self.ask([move], self.answer("move"))
         if word[:1] in ("+", "-", "=") and word:
             return self.change_list(word[0], (word[1:] + " " + rest).split())
         row = command_of(word) if word else None
@@ -103,16 +106,6 @@ class Typed:
             return texts.DONE[key].format(*words, n=told and told[1], me=self.session.name).split("\n")
         return render
 
-    def spelled(self, move):
-        """A move as the server spells it: castling with the letter O, a promotion by squares with a small letter, and
-        neither check nor mate behind it."""
-        move = move.rstrip("+#")
-        if move[0] in "oO0":
-            return move.replace("0", "O").replace("o", "O")
-        if re.fullmatch(r"[a-h][1-8]-?[a-h][1-8]=?[QRBNqrbn]", move):
-            return move[:-1].rstrip("=") + "=" + move[-1].lower()
-        return move[0].upper() + move[1:] if "@" in move else move
-
     # ---- ways of the table ----
 
     def do_plain(self, name, rest):
@@ -122,17 +115,47 @@ class Typed:
         self.ask(["quit"], self.answer("quit"))
 
     def do_alias(self, name, rest):
-        """An alias is the server's, but for the sign before the lines that a client sends by itself."""
-        if rest.startswith("$ "):
+        """An alias is the server's, but for the sign before the lines that a client sends by itself. A line that
+        begins with one goes on as it was typed."""
+        aliases = self.session.aliases
+        word, _, text = rest.partition(" ")
+        if word == "$":
             return self.local(texts.DONE["alias"])
-        return self.do_plain(name, rest)
+        if not text:
+            return self.local("\n".join(texts.ALIAS.format(*it) for it in aliases.items()) or texts.NO_ALIASES)
+        before, shown = aliases.get(word), self.answer("alias")
+        aliases[word] = text.strip()
+
+        def render(answers):
+            if self.refusal(answers[0], rest) is not None:
+                aliases.pop(word, None)
+                aliases.update({word: before} if before else {})
+            return shown(answers)
+        return self.ask([f"alias {rest}"], render)
+
+    def do_unalias(self, name, rest):
+        def done(lines):
+            self.session.aliases.pop(rest, None)
+            return [texts.DONE["unalias"].format(rest)]
+        self.ask([f"unalias {rest}".strip()], self.answer("unalias", done))
 
     def do_say(self, name, rest):
         self.local(texts.SAYS[name].format((rest.split() or [self.session.name])[0]))
 
+    def do_messages(self, name, rest):
+        """There are none; a text that was to be one is shown again, so that it isn't lost."""
+        who, _, text = rest.partition(" ")
+        self.local(texts.MESSAGE_LOST.format(who=who, text=text.strip()) if text else texts.NO_MESSAGES)
+
     def do_help(self, name, rest):
-        topic = (rest.split() or ["help"])[0]
-        self.local(texts.HELP.get(topic, texts.NO_HELP.format(topic)))
+        word = (rest.split() or [""])[0].lower()
+        row = command_of(word)
+        if not word:
+            return self.local("\n".join(helps.overview()))
+        if row and row[3] == "say":
+            return self.do_say(row[0], "")
+        name = row[0] if row else word
+        return self.local("\n".join(helps.of(word, texts.SAME_HELP.get(name, name))))
 
     def do_date(self, name, rest):
         self.local(texts.DATE.format(local=now()))
@@ -170,7 +193,9 @@ class Typed:
         return self.local("\n".join(done))
 
     def do_variables(self, name, rest):
-        self.local("\n".join(f"{it}={value}" for it, value in sorted(self.session.variables.items())))
+        if rest.lower() not in ("", self.session.name.lower()):
+            return self.local(texts.OTHERS_VARIABLES.format(rest))
+        return self.local("\n".join(f"{it}={value}" for it, value in sorted(self.session.variables.items())))
 
     def do_ivariables(self, name, rest):
         self.local("\n".join(f"{it}={value}" for it, value in sorted(self.session.settings.items())))
@@ -179,9 +204,10 @@ class Typed:
 
     def terms_of(self, words):
         """The server's words for FICS's of a match or a seek: who isn't rated, colours and variants have names of
-        their own, and ways of choosing an opponent have none."""
+        their own, and ways of choosing an opponent have none. Minutes alone have an increment of 0. What has no
+        place in the server's words stands at their end, and is refused there."""
         numbers = [it for it in words if it.isdigit()]
-        said, rated, colour = [], [], []
+        said, rated, colour, used = [], [], [], 2
         rest = [it.lower() for it in words if not it.isdigit()]
         if "wild" in rest and "fr" in rest:
             rest = [it for it in rest if it != "wild"]
@@ -193,12 +219,12 @@ class Typed:
             elif word in ("crazyhouse", "zh", "bughouse", "bug", "chess"):
                 said += [{"zh": "crazyhouse", "bug": "bughouse"}.get(word, word)]
             elif word in ("fr", "wild/fr", "fischer"):
-                number = numbers[2:3] or [str(random.randrange(960))]
-                said += ["fischer"] + number
+                said += ["fischer"] + (numbers[2:3] or [str(random.randrange(960))])
+                used = 3
             elif word not in WITHOUT_MEANING and not re.fullmatch(r"\d+-\d+", word):
                 said += [word]
         times = numbers[:2] + ["0"] if len(numbers) == 1 else numbers[:2]
-        return " ".join(times + rated + said + colour)
+        return " ".join(times + rated + said + colour + numbers[used:])
 
     def shown_terms(self, said, usual):
         """The terms that a line for the server names."""
@@ -331,7 +357,9 @@ class Typed:
             game = self.session.present()
             if rest:
                 game = self.session.games.get(int(rest)) if rest.isdigit() else self.session.game_with(rest)
-            return self.move_list(game) if game and game.boards else [texts.NOT_WATCHED.format(rest)]
+            if game and game.boards:
+                return self.move_list(game)
+            return [texts.NOT_WATCHED.format(rest) if rest else texts.NO_GAME]
         self.ask([], render)
 
     def move_list(self, game):

@@ -1,16 +1,23 @@
 """Bytes: telnet's own, lines from a client, sealed lines, and the parts that the server writes."""
 
-IAC, SB, SE, WILL, DONT = 255, 250, 240, 251, 254
+IAC, SB, SE, WILL, WONT, DO, DONT = 255, 250, 240, 251, 252, 253, 254
 LONGEST = 2048  # the server refuses a line of 1,024 bytes, so no more than that need be kept of a longer one
 KEY = b"Timestamp (FICS) v1.0 - programmed by Henrik Gram."
 SWAPPED = ((0, 11), (2, 9), (4, 7))
 
 
 class Telnet:
-    """Takes telnet's negotiation out of what a client sends, however that is cut into pieces."""
+    """Takes telnet's own bytes out of what a client sends, however that is cut into pieces, and refuses each option
+    that it asks for (RFC 854): a DO is answered WONT, and a WILL is answered DONT. So is DO TIMING-MARK (RFC 860),
+    which a telnet sends behind Ctrl-C, showing nothing more until it is answered. WONT and DONT say what is so already
+    and have no answer, so two programs never answer each other without end (RFC 1143). Other commands do nothing."""
+
+    REFUSED_BY = {DO: WONT, WILL: DONT}
 
     def __init__(self):
         self.state = "text"
+        self.verb = 0
+        self.due = bytearray()
 
     def text(self, piece):
         """What of the piece is text."""
@@ -21,23 +28,35 @@ class Telnet:
             self.state = self.after(byte, kept)
         return bytes(kept)
 
+    def answers(self):
+        """The answers that are due to the client since they were asked for last."""
+        due, self.due = bytes(self.due), bytearray()
+        return due
+
     def after(self, byte, kept):
         """The state behind a byte, which is kept where it is text."""
         if self.state == "text":
             if byte == IAC:
                 return "command"
             kept.append(byte)
-            return "text"
-        if self.state == "command":
-            if byte == IAC:
-                kept.append(byte)
-                return "text"
-            return "block" if byte == SB else "option" if WILL <= byte <= DONT else "text"
-        if self.state == "block":
+        elif self.state == "command":
+            return self.after_command(byte, kept)
+        elif self.state == "option" and self.verb in self.REFUSED_BY:
+            self.due += bytes((IAC, self.REFUSED_BY[self.verb], byte))
+        elif self.state == "block":
             return "block's command" if byte == IAC else "block"
-        if self.state == "block's command":
-            return "text" if byte == SE else "block"
+        elif self.state == "block's command" and byte != SE:
+            return "block"
         return "text"
+
+    def after_command(self, byte, kept):
+        """The state behind the byte that follows an IAC."""
+        if WILL <= byte <= DONT:
+            self.verb = byte
+            return "option"
+        if byte == IAC:
+            kept.append(byte)
+        return "block" if byte == SB else "text"
 
 
 class Lines:
