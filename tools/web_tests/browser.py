@@ -40,14 +40,15 @@ def driver():
 
 
 class Window:
-    """One window with the page, in which a member is."""
+    """One window with the page, in which a member is, or is about to be."""
 
-    def __init__(self, address, name, password=None):
+    def __init__(self, address, name, password=None, enters=True):
         self.driver, self.name = driver(), name
         self.driver.switch_to.new_window("window")
         self.handle = self.driver.current_window_handle
         self.driver.get(address)
-        self.enter(password)
+        if enters:
+            self.enter(password)
 
     def enter(self, password=None):
         """Comes in under the name."""
@@ -175,6 +176,12 @@ class Window:
         self.front()
         return [it["message"] for it in self.driver.get_log("browser") if it["level"] == "SEVERE"]
 
+    def resize(self, size):
+        """Makes the window as wide and high as a screen."""
+        self.front()
+        self.driver.execute_cdp_cmd("Emulation.setDeviceMetricsOverride", {
+            "width": size[0], "height": size[1], "deviceScaleFactor": 1, "mobile": size[0] < 500})
+
     def picture(self, path):
         self.front()
         self.driver.save_screenshot(str(path))
@@ -210,8 +217,8 @@ class Evening(unittest.TestCase):
             if it.handle in it.driver.window_handles:
                 it.close()
 
-    def window(self, name, password=None):
-        self.windows.append(Window(self.go_between.address(), name, password))
+    def window(self, name, password=None, enters=True):
+        self.windows.append(Window(self.go_between.address(), name, password, enters))
         return self.windows[-1]
 
     def game(self, variant="chess", **terms):

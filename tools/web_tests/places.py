@@ -11,6 +11,7 @@ PAGE = TOP / "tools" / "web"
 PATIENCE = 60  # seconds
 
 program = TOP / "crates" / "fics_server" / "out" / "fics_server"  # `--program` names another one
+pictures = None  # the folder for them, by `--pictures`
 
 
 def free_port():
