@@ -75,6 +75,10 @@ export class Board {
     button.setAttribute("aria-label", man ? `${name}, ${manInWords(man)}` : name);
   }
 
+  focus() {
+    this.squares[this.at].focus({ preventScroll: true });
+  }
+
   reach(name) {
     if (name && name !== this.at) {
       this.squares[this.at].tabIndex = -1;

@@ -14,6 +14,7 @@ export class BoardView {
   constructor(session, games, play) {
     this.session = session;
     this.games = games;
+    this.begun = null; // the game whose first board is awaited
     this.main = new Table(byId("main-table"), "main", (game, from, to) => play.move(game, from, to));
     this.partner = new Table(byId("partner-table"), "partner");
     this.moves = new MovesList(games, () => this.show());
@@ -33,14 +34,26 @@ export class BoardView {
 
   /** A game was told of: what changed is shown and, where it is a half-move at the board that is shown, spoken. */
   changed(game, event) {
+    const isFirst = byId("board").hidden || game === this.begun;
     if (event.kind === "creating" || event.kind === "continuing") {
-      byId("board").hidden = false;
-      byId("board").scrollIntoView({ block: "start" });
+      this.begun = game;
     }
     if (game && game === this.games.shown) {
       this.speak(game, event);
     }
     this.show();
+    if (event.kind === "board" && isFirst && game === this.games.shown) {
+      this.begun = null;
+      this.appear();
+    }
+  }
+
+  /** A game begins: it comes into sight, and the keyboard to its board unless something is being typed. */
+  appear() {
+    byId("board").scrollIntoView({ block: "start" });
+    if (!document.activeElement?.matches("input, select")) {
+      this.main.board.focus();
+    }
   }
 
   /** The last half-move is spoken, and behind it the end of the game. */
@@ -83,7 +96,10 @@ export class BoardView {
   showActs(game, pair) {
     for (const id of PLAYER_ACTS) {
       byId(id).disabled = game.role !== "mine" || game.isOver;
+      byId(id).hidden = game.role !== "mine";
     }
+    byId("move-form").hidden = game.role !== "mine";
+    byId("takeback-line").hidden = game.role !== "mine";
     byId("takeback").disabled ||= Boolean(pair);
     byId("flag").disabled ||= !game.terms.isTimed;
     byId("close-game").hidden = game.role === "mine" && !game.isOver;

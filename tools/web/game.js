@@ -40,6 +40,7 @@ export class Game {
       this.places.set(board.ply, { board, men: menOf(board), squares: lastSquares(board), hands: this.hands });
       this.last = Math.max(this.last, board.ply);
       this.since = performance.now();
+      this.looking = this.role === "mine" ? null : this.looking;
     }
     return isNew;
   }

@@ -70,7 +70,11 @@ function start() {
     const leave = () => session.act("quit");
     return games.running.length ? ask("leave-ask", leave) : leave();
   });
-  window.addEventListener("beforeunload", (event) => games.running.length && event.preventDefault());
+  window.addEventListener("beforeunload", (event) => {
+    if (games.running.length) {
+      event.preventDefault();
+    }
+  });
 }
 
 start();
