@@ -1,27 +1,33 @@
-"""When the server is asked for news with an empty line: while a player waits for the opponent's move, and never else."""
+"""When the server is asked for news with an empty line: while a player waits for the opponent's move, and never else.
+
+Where the opponent plays by another tab of this go-between, its half-move is seen there, and the news are asked for at
+once. Against any other opponent they are asked for every 25 ms."""
 
 import asyncio
 from collections import defaultdict
 
 EVERY_SECONDS = 0.025
+NONE = frozenset()
 
 
 class Asking:
-    """Asks for one link, every 25 ms."""
+    """Asks for one link."""
 
     def __init__(self, tables, link):
         self.tables, self.link = tables, link
-        self.games = frozenset()
+        self.playing = self.waiting = NONE
         self.timer = None
 
     def look(self, games):
-        """Takes the games in which the player waits now."""
-        if games == self.games:
-            return
-        before, self.games = self.games, games
-        self.tables.leave(self.link, before - games)
-        self.tables.join(self.link, games - before)
-        if games and not self.timer:
+        """Takes the games that the player plays and waits in now."""
+        if (games.playing, games.waiting) != (self.playing, self.waiting):
+            self.change(games.playing, games.waiting)
+
+    def change(self, playing, waiting):
+        left, joined, begun = self.playing - playing, playing - self.playing, waiting - self.waiting
+        self.playing, self.waiting = playing, waiting
+        self.tables.change(self, left, joined, begun)
+        if waiting and not self.timer:
             self.begin()
 
     def begin(self):
@@ -29,31 +35,40 @@ class Asking:
 
     def tick(self):
         self.timer = None
-        if self.games:
-            self.link.ask()
+        if self.waiting:
+            if any(self.tables.is_alone(game) for game in self.waiting):
+                self.link.ask()
             self.begin()
 
     def end(self):
-        self.look(frozenset())
+        self.change(NONE, NONE)
         if self.timer:
             self.timer.cancel()
 
 
 class Tables:
-    """Which links wait in which games. Two never wait in one game: where a second one begins to, its player has just
-    moved, and the first one has news, for which is asked at once."""
+    """Who plays which game, of the links of this go-between. Two players never wait in one game: where a second one
+    begins to, it has just moved, and the first one has news; and so it has where the other one's game is over."""
 
     def __init__(self):
-        self.waiting = defaultdict(set)
+        self.players = defaultdict(set)
 
-    def join(self, link, games):
-        for game in games:
-            for other in self.waiting[game]:
-                other.ask_now()
-            self.waiting[game].add(link)
+    def change(self, player, left, joined, begun):
+        for game in joined:
+            self.players[game].add(player)
+        for game in left:
+            self.players[game].discard(player)
+        for game in left | begun:
+            self.ask_others(player, game)
+        for game in left:
+            if not self.players[game]:
+                del self.players[game]
 
-    def leave(self, link, games):
-        for game in games:
-            self.waiting[game].discard(link)
-            if not self.waiting[game]:
-                del self.waiting[game]
+    def ask_others(self, player, game):
+        for other in self.players[game]:
+            if other is not player and game in other.waiting:
+                other.link.ask_now()
+
+    def is_alone(self, game):
+        """Whether one player of the game alone is here."""
+        return len(self.players[game]) < 2

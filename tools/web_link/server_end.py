@@ -34,7 +34,7 @@ class ServerEnd(asyncio.BufferedProtocol):
 
     def buffer_updated(self, length):
         self.add(self.talk.from_server(bytes(self.room[:length])))
-        self.asking.look(self.talk.waiting.games)
+        self.asking.look(self.talk.games)
 
     def connection_lost(self, _why):
         self.is_over = True

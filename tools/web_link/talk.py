@@ -5,7 +5,7 @@ from collections import deque
 
 from . import lines, stamps
 from .messages import Messages
-from .waiting import Waiting
+from .own_games import OwnGames
 
 THE_TABS, OUR_OWN = "the tab's", "our own"
 NEWS_BEGIN = ""
@@ -19,7 +19,7 @@ class Talk:
     """
 
     def __init__(self):
-        self.messages, self.waiting = Messages(), Waiting()
+        self.messages, self.games = Messages(), OwnGames()
         self.owed = deque([THE_TABS])  # the opening of the link, which answers no line, is told like an answer
         self.begins_part = True
         self.has_sent = False
@@ -56,6 +56,6 @@ class Talk:
                     texts.append(NEWS_BEGIN)
             self.begins_part = message.is_prompt
             if not message.is_prompt:
-                self.waiting.hear(message.text)
+                self.games.hear(message.text)
             texts.append(message.text)
         return texts

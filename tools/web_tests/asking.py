@@ -94,17 +94,43 @@ class Asking(Played):
         await tab.part()
         await self.asserts_silent(end)
 
-    async def test_the_opponents_half_move_by_another_tab_is_asked_for_at_once(self):
+    async def test_an_opponent_by_another_tab(self):
+        """Its half-move and its end are asked for at once, and nothing is by the clock."""
         tab, end = await self.waiting()
-        await self.asserts_silent(end)  # a line of our own is unanswered, so no other one comes by the clock
         other, others_end = await self.entered("Ben")
-        await others_end.say("\n\r" + boards.after_e4(-1, game=2) + "\n\rfics% ")
+        await others_end.say("\n\r" + boards.after_e4(1) + "\n\rfics% ")
+        self.assertEqual(await other.part(), ["", boards.after_e4(1), "fics% "])
+        await end.say("fics% ")
         await self.asserts_silent(end)
-        await others_end.say("\n\r" + boards.after_e4(-1) + "\n\rfics% ")
+        await other.send("e5")
+        await others_end.line()
+        await others_end.say(boards.start(-1, game=2) + "\n\rfics% ")
+        await self.asserts_asks(others_end)  # who plays game 2 with it isn't here
+        await self.asserts_silent(end)
+        await others_end.say(boards.start(-1) + "\n\rfics% ")
         await self.asserts_asks(end)
         await self.asserts_silent(end)
-        await end.say("fics% " + boards.start(1) + "\n\rfics% ")
+        await end.say(boards.start(1) + "\n\rfics% ")
         self.assertEqual(await tab.part(), ["", boards.start(1), "fics% "])
+        await end.say("\n\r" + END + "\n\rfics% ")
+        self.assertEqual(await tab.part(), ["", END, "fics% "])
+        await others_end.say("fics% ")
+        for _ in range(3):  # one at once, and from then on by the clock, in game 1 and in game 2
+            await self.asserts_asks(others_end)
+            await others_end.say("fics% ")
+
+    async def test_an_opponent_whose_tab_is_closed(self):
+        tab, end = await self.waiting()
+        other, others_end = await self.entered("Ben")
+        await others_end.say("\n\r" + boards.after_e4(1) + "\n\rfics% ")
+        await other.part()
+        await end.say("fics% ")
+        await self.asserts_silent(end)
+        await other.close()
+        for _ in range(3):
+            await self.asserts_asks(end)
+            await end.say("fics% ")
+        self.assertEqual(tab.unread[-1], boards.after_e4(-1))
 
     async def test_the_tabs_lines_and_our_own_are_kept_apart(self):
         tab, end = await self.waiting()

@@ -1,26 +1,9 @@
 """Four tabs play bughouse to an end: partners, hands of both boards, the partner's talk, a drop of what came over."""
 
-from .browser import Evening
+from .four_tabs import FourTabs
 
 
-class Bughouse(Evening):
-    def partners(self, asking, asked):
-        asking.write("partner-name", asked.name)
-        asking.click("#partner-ask")
-        asked.click(f'#calls [data-command="partner {asking.name}"]')
-        for it, other in ((asking, asked), (asked, asking)):
-            it.sees(f"Your partner is {other.name}", "#partner-state")
-
-    def four(self):
-        """Ann against Ben, and Dan against Cat; Ann and Dan have White."""
-        ann, ben, cat, dan = (self.window(it) for it in ("Ann", "Ben", "Cat", "Dan"))
-        self.partners(ann, cat)
-        self.partners(ben, dan)
-        self.begin(ann, ben, "bughouse")
-        for it in (cat, dan):
-            it.until(lambda it=it: len(it.men()) == len(it.men("partner")) == 32, "both boards")
-        return ann, ben, cat, dan
-
+class Bughouse(FourTabs):
     def test_to_an_end(self):
         ann, ben, cat, dan = self.four()
         self.play(ann, ben, ("e2e4", "e7e5", "f1c4", "b8c6", "d1h5"))

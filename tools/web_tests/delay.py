@@ -96,7 +96,7 @@ class Delay(Evening):
         await self.both(64)
 
     async def test_what_asking_costs(self):
-        pairs = await self.pairs("W", 8, self.tabs.open_all)
+        pairs = await self.pairs("W", 64, self.tabs.open_all)
         print()
         await self.cost("128 tabs in the lobby")
         for white, black in pairs:

@@ -5,14 +5,12 @@ from pathlib import Path
 
 from . import places
 from .browser import NARROW, WIDE
-from .bughouse import Bughouse as FourTabs
+from .four_tabs import FourTabs
 
 SPANISH = ("e2e4", "e7e5", "g1f3", "b8c6", "f1b5", "a7a6", "b5a4", "g8f6")
 
 
 class Pictures(FourTabs):
-    test_to_an_end = None
-
     def setUp(self):
         super().setUp()
         if places.pictures:
