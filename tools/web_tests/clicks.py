@@ -11,6 +11,7 @@ from .delay import AT_MOST, PlainTab, PlainSocket
 from .evenings import KNIGHTS, is_board, seat
 
 HALF_MOVES = 60
+REST_SECONDS = 0.5
 SQUARES = (("g1", "f3"), ("g8", "f6"), ("f3", "g1"), ("f6", "g8"))
 NOTES_CLICKS = """addEventListener("click", () => { window.clicked = performance.timeOrigin + performance.now(); }, true);
 window.seen = {};
@@ -25,6 +26,7 @@ class Clicks(Evening):
         man = mover.man(start)
         other.script("window.seen = {}")
         mover.move(start, end)
+        time.sleep(REST_SECONDS)  # nothing is asked of the windows meanwhile, which would hold them up
         other.sees_man(man, end)
         return other.script("return window.seen[arguments[0]]", f"{end} {man}") - mover.script("return window.clicked")
 

@@ -8,12 +8,13 @@ import time
 
 from . import places
 from .evenings import KNIGHTS, Evening, is_board, name, seat
-from .tabs import PROMPTS, Tab
+from .tabs import PROMPTS, Tab, Tabs
 
-SAMPLES = {1: 80, 64: 20}  # half-moves of each pair, by the number of pairs of each kind
-THINKS = 0.2, 0.6  # seconds
+HALF_MOVES = {1: 80, 64: 12}  # of each pair, by the number of pairs of each kind
+THINKS = {1: (0.2, 0.6), 64: (1, 3)}  # seconds
 AT_MOST = 1 / 3  # of the plain links' delay
-WAITS_SECONDS = 10
+PAIRS = 64
+COST_SECONDS = 10
 
 
 class PlainSocket:
@@ -53,14 +54,14 @@ class Delay(Evening):
         await asyncio.gather(*(link.enter(it) for link, it in zip(links, names)))
         return links
 
-    async def play(self, white, black, count):
+    async def play(self, white, black, pairs):
         """The delays of a game's half-moves, in seconds."""
         await seat(white, black)
         dice = random.Random(white[0])
         delays = []
-        for n in range(count):
+        for n in range(HALF_MOVES[pairs]):
             (_, mover), (_, other) = (white, black) if n % 2 == 0 else (black, white)
-            await asyncio.sleep(dice.uniform(*THINKS))
+            await asyncio.sleep(dice.uniform(*THINKS[pairs]))
             seen = asyncio.create_task(self.sees(other, KNIGHTS[n % 4]))
             begin = time.perf_counter()
             await mover.ask(KNIGHTS[n % 4])
@@ -80,7 +81,7 @@ class Delay(Evening):
     async def both(self, count):
         by_page = await self.pairs("W", count, self.tabs.open_all)
         plainly = await self.pairs("P", count, self.plain)
-        delays = await asyncio.gather(*(self.play(*it, SAMPLES[count]) for it in by_page + plainly))
+        delays = await asyncio.gather(*(self.play(*it, count) for it in by_page + plainly))
         medians = []
         for kind, part in (("by the go-between", delays[:count]), ("by plain links", delays[count:])):
             values = sorted(1000 * it for one in part for it in one)
@@ -93,20 +94,28 @@ class Delay(Evening):
         await self.both(1)
 
     async def test_64_pairs(self):
-        await self.both(64)
+        await self.both(PAIRS)
 
     async def test_what_asking_costs(self):
-        pairs = await self.pairs("W", 64, self.tabs.open_all)
         print()
-        await self.cost("128 tabs in the lobby")
+        pairs = await self.pairs("W", PAIRS, self.tabs.open_all)
+        await self.cost(f"{2 * PAIRS} tabs in the lobby")
         for white, black in pairs:
             await seat(white, black)
-        await self.cost("64 of them wait for a move")
+        await self.cost(f"{PAIRS} of them wait for the other {PAIRS}")
+        await self.tabs.close()
+        self.tabs = Tabs(self.go_between)
+        names = [[name(colour, n) for n in range(PAIRS)] for colour in ("Tab", "Plain")]
+        tabs, links = await self.tabs.open_all(names[0]), await self.plain(names[1])
+        await self.cost(f"{PAIRS} tabs and {PAIRS} plain links in the lobby")
+        for link, tab in zip(zip(names[1], links), zip(names[0], tabs)):
+            await seat(link, tab)
+        await self.cost(f"these {PAIRS} tabs wait for the {PAIRS} plain links")
 
     async def cost(self, what):
         """The processor time of both programs while nobody sends a line."""
         before = [it.seconds() for it in (self.go_between, self.server)]
-        await asyncio.sleep(WAITS_SECONDS)
+        await asyncio.sleep(COST_SECONDS)
         after = [it.seconds() for it in (self.go_between, self.server)]
-        shares = [100 * (b - a) / WAITS_SECONDS for a, b in zip(before, after)]
+        shares = [100 * (b - a) / COST_SECONDS for a, b in zip(before, after)]
         print(f"{what}: {shares[0]:.1f} % of a processor in the go-between, {shares[1]:.1f} % in the server")

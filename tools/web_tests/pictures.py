@@ -7,6 +7,7 @@ from . import places
 from .browser import NARROW, WIDE
 from .four_tabs import FourTabs
 
+DOCUMENTED = (1180, 690)  # of docs/web.png
 SPANISH = ("e2e4", "e7e5", "g1f3", "b8c6", "f1b5", "a7a6", "b5a4", "g8f6")
 
 
@@ -49,6 +50,7 @@ class Pictures(FourTabs):
         ann.sees("Ben offers a draw", "#offers")
         ann.script("document.getElementById('board').scrollIntoView()")
         self.take(ann, "board")
+        self.take(ann, "web", DOCUMENTED)
         self.take(ann, "board-narrow", NARROW)
 
     def test_bughouse(self):
