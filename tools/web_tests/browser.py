@@ -18,7 +18,7 @@ BROWSERS = ("/usr/lib/chromium/chromium-headless-shell", "/usr/bin/chromium")
 DRIVER = "/usr/bin/chromedriver"
 # a window behind another one goes on as it would in front
 SWITCHES = ("--headless", "--no-sandbox", "--disable-dev-shm-usage", "--disable-gpu", "--in-process-gpu",
-            "--renderer-process-limit=1", "--disable-background-timer-throttling",
+            "--disable-background-timer-throttling",
             "--disable-backgrounding-occluded-windows", "--disable-renderer-backgrounding",
             f"--window-size={WIDE[0]},{WIDE[1]}")
 

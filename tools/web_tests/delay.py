@@ -96,6 +96,16 @@ class Delay(Evening):
     async def test_64_pairs(self):
         await self.both(PAIRS)
 
+    async def test_a_tab_against_a_plain_link(self):
+        """Half-moves of the plain link, which the tab is told by the asking alone, beside those of a plain pair."""
+        names = ["Tab", "Plain", "Cat", "Dan"]
+        tab, = await self.tabs.open_all(names[:1])
+        people = list(zip(names, [tab, *await self.plain(names[1:])]))
+        mixed, plain = await asyncio.gather(self.play(*people[:2], 1), self.play(*people[2:], 1))
+        seen, plainly = (1000 * statistics.median(it[1::2]) for it in (mixed, plain))
+        print(f"a tab sees a plain link's half-move: median {seen:.0f} ms; a plain link: {plainly:.0f} ms")
+        self.assertLess(seen, plainly / 2)
+
     async def test_what_asking_costs(self):
         print()
         pairs = await self.pairs("W", PAIRS, self.tabs.open_all)
