@@ -27,7 +27,7 @@ function seekRow({ n, who, terms, text }, me) {
 }
 
 function gameRow({ game, white, black, terms, text }, known, me) {
-  const isSeen = known && known.white === white && known.black === black;
+  const isSeen = known && !known.isOver && known.white === white && known.black === black;
   const isMine = [white, black].includes(me) || known?.role === "partner's";
   const buttons = isMine ? [] : isSeen
     ? [{ label: "Leave", name: `Look on at game ${game} no longer`, command: `unobserve ${game}` }]
@@ -59,7 +59,7 @@ export class Lobby {
     this.session = session;
     this.games = games;
     this.challenged = challenged;
-    this.asked = new Set(); // the lists that are being asked for
+    this.asked = new Map(); // of the lists that are being asked for, whether to ask once more behind that
     session.onAnswer((answer) => this.take(answer));
     session.on("challenge", () => this.ask("pending"));
     session.on("seeking", () => this.ask("sought"));
@@ -69,18 +69,21 @@ export class Lobby {
     setInterval(() => this.refresh(), EVERY);
   }
 
-  /** Asks for a list, unless it is being asked for. */
+  /** Asks for a list; one that is being asked for is asked for once more behind that, since it may have changed. */
   async ask(line) {
-    if (!this.session.isIn || this.asked.has(line)) {
+    if (this.asked.has(line)) {
+      this.asked.set(line, true);
       return;
     }
-    this.asked.add(line);
-    await this.session.ask(line);
+    do {
+      this.asked.set(line, false);
+      await this.session.ask(line);
+    } while (this.session.isIn && this.asked.get(line));
     this.asked.delete(line);
   }
 
   refresh() {
-    if (document.visibilityState === "visible") {
+    if (document.visibilityState === "visible" && this.session.isIn) {
       LISTS.forEach((it) => this.ask(it));
     }
   }

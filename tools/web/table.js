@@ -65,6 +65,9 @@ export class Table {
     if (!place) {
       return;
     }
+    if (this.chosen?.square && !isOwn(place.men[this.chosen.square], this.colour)) {
+      this.chosen = null;
+    }
     const blackBelow = hasBlackBelow !== this.isTurned;
     this.board.turn(blackBelow);
     this.board.root.classList.toggle("mine", this.colour !== "");
