@@ -5,7 +5,7 @@ import { showRows } from "./list.js";
 import { byId } from "./page.js";
 
 const EVERY = 4000; // milliseconds
-const LISTS = ["who", "sought", "games", "pending"];
+const LISTS = ["who", "sought", "games", "pending", "stored"];
 const ROWS = new Set(["player", "sought", "game", "stored", "stored-pair", "pending-from", "pending-to"]);
 const CHANGING = new Set([
   "accept", "decline", "match", "observe", "play", "resign", "resume", "seek", "unobserve", "unseek", "withdraw",
@@ -64,7 +64,6 @@ export class Lobby {
     session.on("challenge", () => this.ask("pending"));
     session.on("seeking", () => this.ask("sought"));
     session.on(["creating", "continuing", "lost", "drawn", "stopped"], () => this.refresh());
-    session.on(["stopped", "entered", "continuing"], () => this.ask("stored"));
     document.addEventListener("visibilitychange", () => this.refresh());
     setInterval(() => this.refresh(), EVERY);
   }
