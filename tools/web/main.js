@@ -1,8 +1,8 @@
 /** The page: one link of the server, and the parts that show what comes by it.
  *
  * A reader begins with `lines.js` (the server's texts), `link.js` (a line and its answer) and `session.js` (who is
- * told what); then `game.js` and `games.js` keep the games, `table.js` and `board.js` show one, `play.js` sends what is
- * done there, and each other file is a part of the page. */
+ * told what); then `game.js` and `games.js` keep the games, `table.js` and `board.js` show one, `play.js` sends what
+ * is done there, and each other file is a part of the page. */
 
 import { listenForActs } from "./acts.js";
 import { BoardView } from "./board_view.js";
