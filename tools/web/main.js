@@ -48,7 +48,7 @@ function start() {
   view = new BoardView(session, games, play);
   const calls = new Calls(session);
   const lobby = new Lobby(session, games, (rows) => calls.challenged(rows));
-  const talk = new Talk(session, (line) => play.act(games.shown, line));
+  const talk = new Talk(session, (line) => (games.shown ? play.act(games.shown, line) : session.act(line)));
   const forgetful = [talk, new Settings(session), new CommandLine(session), new PartnerTalk(session), simul];
   const partner = new Partner(session);
   const login = new Login(session);
