@@ -18,7 +18,10 @@ export class BoardView {
     this.main = new Table(byId("main-table"), "main", (game, from, to) => play.move(game, from, to));
     this.partner = new Table(byId("partner-table"), "partner");
     this.moves = new MovesList(games, () => this.show());
-    onClick("turn", () => games.shown && this.main.turn());
+    onClick("turn", () => {
+      this.main.turn();
+      this.show();
+    });
     onClick("close-game", () => this.close());
     byId("takeback-n").addEventListener("input", () => {
       byId("takeback").dataset.command = `takeback ${byId("takeback-n").value || 1}`;
@@ -78,7 +81,7 @@ export class BoardView {
     byId("partner-table").hidden = !pair?.place;
     byId("partner-talk").hidden = pair?.role !== "partner's";
     if (pair?.place) {
-      this.partner.show(pair, pair.role === "partner's" ? !game.blackBelow : pair.blackBelow);
+      this.partner.show(pair, !this.main.blackBelow);
     }
     byId("status").textContent = statusOf(game, this.session.me);
     byId("status").classList.toggle("over", game.isOver);

@@ -29,7 +29,11 @@ export class Calls {
 
   ask(event) {
     const { text, label, command } = KINDS[event.kind](event.who);
-    this.asked.set(command, { key: command, text, buttons: [{ label, name: `${label}: ${event.who}`, command }] });
+    const buttons = [
+      { label, name: `${label}: ${event.who}`, command },
+      { label: "Not now", name: `Not now: ${event.who}`, dismiss: command },
+    ];
+    this.asked.set(command, { key: command, text, buttons });
     this.show();
   }
 
@@ -58,14 +62,5 @@ export class Calls {
 
   show() {
     showRows(byId("calls"), [...this.challenges, ...this.asked.values()]);
-    for (const row of byId("calls").children) {
-      if (this.asked.has(row.dataset.key) && !row.querySelector("[data-dismiss]")) {
-        const button = document.createElement("button");
-        button.type = "button";
-        button.textContent = "Not now";
-        button.dataset.dismiss = row.dataset.key;
-        row.append(button);
-      }
-    }
   }
 }

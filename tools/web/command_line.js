@@ -1,5 +1,6 @@
 /** A line to type any command in; what comes of it is shown as it came. */
 
+import { commandOf } from "./commands.js";
 import { byId, onSubmit, tellMember } from "./page.js";
 
 const KEPT = 2000; // lines
@@ -17,10 +18,13 @@ export class CommandLine {
     const field = byId("command");
     const line = field.value;
     field.value = "";
-    this.typed.push(line);
+    const isSecret = commandOf(line) === "register";
+    if (!isSecret) {
+      this.typed.push(line);
+    }
     this.at = this.typed.length;
     const answer = await this.session.act(line);
-    this.show([`> ${line}`, ...answer.lines]);
+    this.show([isSecret ? "> register ..." : `> ${line}`, ...answer.lines]);
     if (answer.command === "style" && answer.isDone && /\b1$/.test(line.trim())) {
       tellMember("Boards come as text now, and the page's board stands still until you type style 12.");
     }

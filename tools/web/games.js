@@ -24,7 +24,7 @@ export class Games {
     session.on(["lost", "drawn", "stopped", "pair-ended"], (event) => this.finish(event));
     session.on(Object.keys(OFFERS), (event) => this.offer(event));
     session.on("declines", (event) => this.decline(event));
-    session.onAnswer((answer) => this.unwatch(answer));
+    session.onAnswer((answer) => this.take(answer));
   }
 
   /** The game on the large board. */
@@ -79,7 +79,6 @@ export class Games {
 
   /** A row of the server's list tells the variant of a game that is looked at. */
   list(event) {
-    this.listed.set(event.game, event);
     const game = this.byNumber.get(event.game);
     if (game && !game.hasTerms && game.white === event.white && game.black === event.black) {
       this.learn(game, event.terms);
@@ -178,12 +177,16 @@ export class Games {
     }
   }
 
-  /** Who looks on no longer is told nothing more of the desk's boards. */
-  unwatch(answer) {
-    if (answer.command !== "unobserve" || answer.refusal) {
-      return;
+  take(answer) {
+    if (answer.command === "games" && answer.isDone) {
+      this.listed = new Map(answer.all("game").map((it) => [it.game, it]));
+    } else if (answer.command === "unobserve" && answer.isDone) {
+      this.unwatch(Number(answer.line.trim().split(/ +/)[1]));
     }
-    const number = Number(answer.line.trim().split(/ +/)[1]);
+  }
+
+  /** Who looks on no longer is told nothing more of the desk's boards. */
+  unwatch(number) {
     const odd = number % 2 ? number : number - 1;
     for (const it of [odd, odd + 1]) {
       const game = this.byNumber.get(it);

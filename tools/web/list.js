@@ -1,12 +1,12 @@
 /** Lists that keep themselves: rows are kept by their keys, so that a row that stays keeps its focus. */
 
-/** A button that sends a command, at a game where `at` names one, or fills a field. */
-export function commandButton({ label, name = label, command, at, fill }) {
+/** A button that sends a command, at a game where `at` names one, or fills a field, or dismisses what is asked. */
+function commandButton({ label, name = label, command, at, fill, dismiss }) {
   const button = document.createElement("button");
   button.type = "button";
   button.textContent = label;
   button.setAttribute("aria-label", name);
-  for (const [key, value] of Object.entries({ command, at, fill })) {
+  for (const [key, value] of Object.entries({ command, at, fill, dismiss })) {
     if (value !== undefined) {
       button.dataset[key] = value;
     }

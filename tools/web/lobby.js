@@ -5,7 +5,7 @@ import { showRows } from "./list.js";
 import { byId } from "./page.js";
 
 const EVERY = 4000; // milliseconds
-const LISTS = ["who", "sought", "games", "pending"];
+const LISTS = ["who", "sought", "games", "pending", "stored"];
 const ROWS = new Set(["player", "sought", "game", "stored", "stored-pair", "pending-from", "pending-to"]);
 const CHANGING = new Set([
   "accept", "decline", "match", "observe", "play", "resign", "resume", "seek", "unobserve", "unseek", "withdraw",
@@ -27,7 +27,7 @@ function seekRow({ n, who, terms, text }, me) {
 }
 
 function gameRow({ game, white, black, terms, text }, known, me) {
-  const isSeen = known && known.white === white && known.black === black;
+  const isSeen = known && !known.isOver && known.white === white && known.black === black;
   const isMine = [white, black].includes(me) || known?.role === "partner's";
   const buttons = isMine ? [] : isSeen
     ? [{ label: "Leave", name: `Look on at game ${game} no longer`, command: `unobserve ${game}` }]
@@ -59,28 +59,30 @@ export class Lobby {
     this.session = session;
     this.games = games;
     this.challenged = challenged;
-    this.asked = new Set(); // the lists that are being asked for
+    this.asked = new Map(); // of the lists that are being asked for, whether to ask once more behind that
     session.onAnswer((answer) => this.take(answer));
     session.on("challenge", () => this.ask("pending"));
     session.on("seeking", () => this.ask("sought"));
     session.on(["creating", "continuing", "lost", "drawn", "stopped"], () => this.refresh());
-    session.on(["stopped", "entered", "continuing"], () => this.ask("stored"));
     document.addEventListener("visibilitychange", () => this.refresh());
     setInterval(() => this.refresh(), EVERY);
   }
 
-  /** Asks for a list, unless it is being asked for. */
+  /** Asks for a list; one that is being asked for is asked for once more behind that, since it may have changed. */
   async ask(line) {
-    if (!this.session.isIn || this.asked.has(line)) {
+    if (this.asked.has(line)) {
+      this.asked.set(line, true);
       return;
     }
-    this.asked.add(line);
-    await this.session.ask(line);
+    do {
+      this.asked.set(line, false);
+      await this.session.ask(line);
+    } while (this.session.isIn && this.asked.get(line));
     this.asked.delete(line);
   }
 
   refresh() {
-    if (document.visibilityState === "visible") {
+    if (document.visibilityState === "visible" && this.session.isIn) {
       LISTS.forEach((it) => this.ask(it));
     }
   }

@@ -8,8 +8,17 @@ export class Login {
   constructor(session) {
     this.session = session;
     this.asked = ""; // the name whose password the server waits for
-    onSubmit("login-form", () => this.enter(byId("login-name").value.trim()));
-    onClick("guest", () => this.enter("guest"));
+    this.isBusy = false; // a name or a password is on its way
+    onSubmit("login-form", () => this.start(byId("login-name").value.trim()));
+    onClick("guest", () => this.start("guest"));
+  }
+
+  async start(name) {
+    if (!this.isBusy) {
+      this.isBusy = true;
+      await this.enter(name);
+      this.isBusy = false;
+    }
   }
 
   /** The server waits for the password of one name only; for another one a new link is needed. */

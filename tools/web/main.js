@@ -1,4 +1,8 @@
-/** The page: one link of the server, and the parts that show what comes by it. */
+/** The page: one link of the server, and the parts that show what comes by it.
+ *
+ * A reader begins with `lines.js` (the server's texts), `link.js` (a line and its answer) and `session.js` (who is
+ * told what); then `game.js` and `games.js` keep the games, `table.js` and `board.js` show one, `play.js` sends what
+ * is done there, and each other file is a part of the page. */
 
 import { listenForActs } from "./acts.js";
 import { BoardView } from "./board_view.js";
@@ -44,7 +48,7 @@ function start() {
   view = new BoardView(session, games, play);
   const calls = new Calls(session);
   const lobby = new Lobby(session, games, (rows) => calls.challenged(rows));
-  const talk = new Talk(session, (line) => play.act(games.shown, line));
+  const talk = new Talk(session, (line) => (games.shown ? play.act(games.shown, line) : session.act(line)));
   const forgetful = [talk, new Settings(session), new CommandLine(session), new PartnerTalk(session), simul];
   const partner = new Partner(session);
   const login = new Login(session);

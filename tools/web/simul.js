@@ -37,7 +37,7 @@ export class Simul {
 
   /** Makes a game the present one. Whether a line for it can be sent. */
   async reach(game) {
-    if (!this.isOn) {
+    if (!this.isOn || game.role !== "mine") {
       return true;
     }
     const answer = await this.session.act(`goboard ${game.otherThan(this.session.me)}`);

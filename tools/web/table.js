@@ -53,7 +53,7 @@ export class Table {
   }
 
   /** Shows a game as it stands, or as it stood where one looks back. Black is below where the server has it so, or
-   * at a partner's board where the partner has Black. */
+   * at the other board of a pair where White is below here: partners sit side by side. */
   show(game, hasBlackBelow = game.blackBelow) {
     if (game !== this.game || game.looking !== null) {
       this.chosen = null;
@@ -65,7 +65,10 @@ export class Table {
     if (!place) {
       return;
     }
-    const blackBelow = hasBlackBelow !== this.isTurned;
+    if (this.chosen?.square && !isOwn(place.men[this.chosen.square], this.colour)) {
+      this.chosen = null;
+    }
+    const { blackBelow } = this;
     this.board.turn(blackBelow);
     this.board.root.classList.toggle("mine", this.colour !== "");
     this.board.show(place.men, place.squares, this.chosen?.square);
@@ -75,7 +78,10 @@ export class Table {
 
   turn() {
     this.isTurned = !this.isTurned;
-    this.show(this.game, this.hasBlackBelow);
+  }
+
+  get blackBelow() {
+    return this.hasBlackBelow !== this.isTurned;
   }
 
   chosenOf(colour) {

@@ -21,12 +21,13 @@ const LINES = {
   ptell: (who, text) => `ptell ${text}`,
 };
 const HEARD = {
-  tell: (rest) => `You to ${rest.replace(" ", ": ")}`, shout: (rest) => `You to all: ${rest}`,
+  tell: (rest) => (/^\d/.test(rest) ? "You in channel " : "You to ") + rest.replace(" ", ": "),
+  shout: (rest) => `You to all: ${rest}`,
   ptell: (rest) => `You to your partner: ${rest}`,
 };
 
 export class Talk {
-  /** `atGame(line)` sends a line for the game that is shown. */
+  /** `atGame(line)` sends a line for the game that is shown, if there is one. */
   constructor(session, atGame) {
     this.session = session;
     this.atGame = atGame;
@@ -87,21 +88,22 @@ export class Talk {
     }
   }
 
+  /** Takes what was said and done, whoever typed it. */
   take(answer) {
     const { command, line } = answer;
-    if (answer.refusal || line === null) {
+    if (line === null || !answer.isDone) {
       return;
     }
-    const [, word = "", rest = ""] = /^ *(\S+) *(.*)$/.exec(line) ?? [];
-    if (answer.all("heard").length && HEARD[command]) {
+    const rest = line.trim().replace(/^\S+ */, "");
+    if (command in HEARD) {
       this.add(HEARD[command](rest), "own");
-    } else if (answer.all("ok").length && command === "+channel") {
+    } else if (command === "+channel") {
       this.channels.add(Number(rest));
       this.showChannels();
-    } else if (answer.all("ok").length && command === "-channel") {
+    } else if (command === "-channel") {
       this.channels.delete(Number(rest));
       this.showChannels();
-    } else if (command === "inchannel" && word) {
+    } else if (command === "inchannel") {
       const names = answer.all("player").map((it) => it.who);
       this.add(`In channel ${rest}: ${names.join(", ") || "nobody"}`, "happened");
     }
