@@ -1,7 +1,6 @@
 """The page's files, and the headers of all that is served."""
 
 from pathlib import Path
-from urllib.parse import urlsplit
 
 from aiohttp import web
 
@@ -40,7 +39,7 @@ async def add_headers(_request, response):
 def is_foreign(request):
     """Whether a page of another address asks. What is no browser names no origin."""
     origin = request.headers.get("Origin")
-    return origin is not None and urlsplit(origin).netloc.lower() != request.host.lower()
+    return origin is not None and origin.partition("://")[2].lower() != request.host.lower()
 
 
 class Pages:

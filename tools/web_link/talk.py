@@ -1,5 +1,5 @@
-"""What passes between a tab and the server, without their sockets: whose line each answer belongs to, and what of it the
-tab is told."""
+"""What passes between a tab and the server, without their sockets: whose line each answer belongs to, and what of it
+the tab is told."""
 
 from collections import deque
 

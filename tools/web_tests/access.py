@@ -42,7 +42,8 @@ function ground(element) {
   return under ? over(own, under) : own;
 }
 function light([r, g, b]) {
-  const [x, y, z] = [r, g, b].map((it) => it / 255).map((it) => it <= 0.04045 ? it / 12.92 : ((it + 0.055) / 1.055) ** 2.4);
+  const [x, y, z] = [r, g, b].map((it) => it / 255)
+      .map((it) => it <= 0.04045 ? it / 12.92 : ((it + 0.055) / 1.055) ** 2.4);
   return 0.2126 * x + 0.7152 * y + 0.0722 * z;
 }
 function contrast(one, other) {
@@ -54,7 +55,8 @@ function look(element, style, what) {
   const value = contrast(over(rgba(style.color), below), below);
   const size = parseFloat(style.fontSize);
   const isLarge = size >= 24 || (size >= 18.66 && Number(style.fontWeight) >= 700);
-  return value < (isLarge ? leastOfLarge : least) ? `${value.toFixed(2)} ${what} ${element.outerHTML.slice(0, 120)}` : null;
+  const isEnough = value >= (isLarge ? leastOfLarge : least);
+  return isEnough ? null : `${value.toFixed(2)} ${what} ${element.outerHTML.slice(0, 120)}`;
 }
 const bad = [];
 for (const element of document.body.querySelectorAll("*")) {

@@ -13,10 +13,11 @@ from .evenings import KNIGHTS, is_board, seat
 HALF_MOVES = 60
 REST_SECONDS = 0.5
 SQUARES = (("g1", "f3"), ("g8", "f6"), ("f3", "g1"), ("f6", "g8"))
-NOTES_CLICKS = """addEventListener("click", () => { window.clicked = performance.timeOrigin + performance.now(); }, true);
+NOTES_CLICKS = """const now = () => performance.timeOrigin + performance.now();
+addEventListener("click", () => { window.clicked = now(); }, true);
 window.seen = {};
 new MutationObserver((changes) => changes.forEach(({ target }) => {
-  window.seen[`${target.dataset.square} ${target.dataset.man ?? ""}`] = performance.timeOrigin + performance.now();
+  window.seen[`${target.dataset.square} ${target.dataset.man ?? ""}`] = now();
 })).observe(document.querySelector('[data-board="main"]'), { subtree: true, attributeFilter: ["data-man"] });"""
 
 

@@ -14,8 +14,8 @@ from .played import Played
 from .tabs import Closed
 
 TABS = 256
-PATHS_OF_NOTHING = ("/x.html", "/../secret.txt", "/%2e%2e/secret.txt", "/..%2fsecret.txt", "//etc/passwd", "/etc/passwd",
-                    "/%00", "/notes.py", "/out.txt", "/" + "a" * 5000)
+PATHS_OF_NOTHING = ("/x.html", "/../secret.txt", "/%2e%2e/secret.txt", "/..%2fsecret.txt", "//etc/passwd",
+                    "/etc/passwd", "/%00", "/notes.py", "/out.txt", "/" + "a" * 5000)
 
 
 class Doors(Played):
@@ -72,7 +72,7 @@ class Doors(Played):
         tab = await self.tabs.open(origin="https://Club.example", headers={"Host": "club.example"})
         await tab.close()
         for origin in ("http://evil.example", "http://127.0.0.1", f"http://{host}.evil.example", "null",
-                       f"http://127.0.0.1:{self.go_between.port + 1}", ""):
+                       f"http://127.0.0.1:{self.go_between.port + 1}", "http://[", host, ""):
             with self.assertRaises(aiohttp.WSServerHandshakeError) as why:
                 await self.tabs.open(origin=origin, headers={"Origin": origin})
             self.assertEqual(why.exception.status, 403, origin)

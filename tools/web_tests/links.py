@@ -8,6 +8,10 @@ from .played import Played
 from .stamped import stamped
 from .tabs import Closed
 
+HANDSHAKE = (b"GET /link HTTP/1.1\r\nHost: club\r\nConnection: Upgrade\r\nUpgrade: websocket\r\n"
+             b"Sec-WebSocket-Version: 13\r\nSec-WebSocket-Key: AAAAAAAAAAAAAAAAAAAAAA==\r\n\r\n")
+NO_SIGN_SECONDS = 20, 40  # nothing happens before the first, and it is cut off in the second
+
 
 class Links(Played):
     async def closed(self, tab):
@@ -44,7 +48,8 @@ class Links(Played):
 
     async def test_what_is_no_line_closes_both_sides(self):
         rows = (("a\nquit", "one line"), ("a\r", "one line"), ("a\0", "one line"), ("x" * 1024, "at most 1023 bytes"),
-                ("x" * 1033 + "\x80", "at most 1033 bytes"), ("x" * 60000, "at most 1023 bytes"), (b"e4", "text message"))
+                ("x" * 1033 + "\x80", "at most 1033 bytes"), ("x" * 60000, "at most 1023 bytes"),
+                (b"e4", "text message"))
         for sent, reason in rows:
             tab, end = await self.entered()
             send = tab.socket.send_bytes if isinstance(sent, bytes) else tab.socket.send_str
@@ -94,6 +99,16 @@ class Links(Played):
         tab, end = await self.entered()
         tab.cut()
         self.assertEqual(await asyncio.wait_for(end.line(), 2), b"")
+
+    async def test_a_tab_that_gives_no_sign_is_cut_off(self):
+        reader, writer = await asyncio.open_connection("127.0.0.1", self.go_between.port)
+        writer.write(HANDSHAKE)
+        await reader.readuntil(b"\r\n\r\n")
+        end = await self.ends.get()
+        await end.say("\n\rBen tells you: are you there\n\rfics% ")
+        self.assertTrue(await end.is_silent(NO_SIGN_SECONDS[0]))
+        self.assertEqual(await asyncio.wait_for(end.line(), NO_SIGN_SECONDS[1]), b"")
+        writer.close()
 
     async def test_what_a_link_was_cut_off_in_is_told(self):
         tab, end = await self.entered()

@@ -1,4 +1,5 @@
-"""A go-between before a server that the test plays: each line of it was written down by hand from the server's pages."""
+"""A go-between before a server that the test plays: each line of it was written down by hand from the server's
+pages."""
 
 import asyncio
 import tempfile
