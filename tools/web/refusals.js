@@ -44,7 +44,7 @@ const ROWS = [
   [37, "NoPartner", "That needs a partner. Ask somebody to be yours; for bughouse the others must have one too."],
   [38, "HasPartner", "One of you has a partner already. Part first."],
   [39, "NotInChannel", "You aren't in that channel. Join it first."],
-  [40, "ListFull", "That list is full: 20 channels, 100 names, 32 games to look on at. Take something off it first."],
+  [40, "ListFull", "That list is full: 20 channels, 100 names, 32 aliases, 32 games. Take something off it first."],
   [41, "BadChannel", "A channel is a number from 0 to 255."],
   [42, "NotGiving", "You give no simul, or have no game in it yet. Begin one, and accept challenges."],
   [43, "SimulFull", "One of you has 32 games, the most there can be. Wait until one is over."],
