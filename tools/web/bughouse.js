@@ -10,6 +10,7 @@ export class PartnerTalk {
     this.said = [];
     session.on("partner-tell", (event) => this.add(`${event.who}: ${event.said}`));
     session.on(["partners", "parted"], () => this.forget());
+    session.onAnswer((answer) => this.take(answer));
     onSubmit("partner-say-form", () => this.say());
   }
 
@@ -18,7 +19,13 @@ export class PartnerTalk {
     const words = field.value.trim();
     if (words && (await this.session.act(`ptell ${words}`)).isDone) {
       field.value = "";
-      this.add(`You: ${words}`);
+    }
+  }
+
+  /** Takes what was said to the partner, wherever it was typed. */
+  take(answer) {
+    if (answer.command === "ptell" && answer.isDone) {
+      this.add(`You: ${answer.line.trim().replace(/^\S+ */, "")}`);
     }
   }
 

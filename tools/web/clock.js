@@ -4,7 +4,7 @@
 const EVERY = 200; // milliseconds
 
 /** Seconds as a clock shows them; below 0 the time is over and nobody has called the flag. */
-export function clockText(seconds) {
+function clockText(seconds) {
   const whole = Math.ceil(seconds);
   const size = Math.abs(whole);
   return `${whole < 0 ? "−" : ""}${Math.floor(size / 60)}:${String(size % 60).padStart(2, "0")}`;

@@ -86,9 +86,6 @@ const GENERAL = compiled([...REPLIES, ...NEWS]);
 const BY_COMMAND = Object.fromEntries(Object.entries(LISTS).map(([name, rows]) => [name, compiled(rows)]));
 const REST = compiled(RANKS);
 
-/** The kinds that are no command's own print. */
-export const NEWS_KINDS = new Set(NEWS.map(([kind]) => kind));
-
 /** What holds besides the form: a refusal's name is that of its number, terms are within their bounds, a board line
  * has its fields, and who loses plays. */
 const HOLDS = {

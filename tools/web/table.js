@@ -41,6 +41,7 @@ export class Table {
     this.game = null;
     this.chosen = null; // the place of the man that goes next
     this.isTurned = false;
+    this.me = ""; // the member's name
     this.above = new Plate(root);
     this.board = new Board(element("div", root), name);
     this.below = new Plate(root);
@@ -91,11 +92,7 @@ export class Table {
   /** The colour that the member has here; nothing where it only looks. */
   get colour() {
     const { game } = this;
-    return game && game.role === "mine" && !game.isOver && game.looking === null ? this.own(game) : "";
-  }
-
-  own(game) {
-    return game.colourOf(this.me);
+    return game && game.role === "mine" && !game.isOver && game.looking === null ? game.colourOf(this.me) : "";
   }
 
   mayLift(at) {
