@@ -2,8 +2,8 @@
 """Runs in a Debian machine that try_install.py has booted: sets the server up as its operators do, and looks that it
 starts, stops, comes back and keeps what it has.
 
-usage: inside.py FOLDER, with the lines of docs/OPERATING.md, the packed program and link.py in that folder. Each line that
-it prints says what was tried; it ends with 1 where something came otherwise than it should.
+usage: inside.py FOLDER, with the lines of docs/OPERATING.md, the packed program and link.py in that folder. Each line
+that it prints says what was tried; it ends with 1 where something came otherwise than it should.
 """
 
 import os
@@ -20,6 +20,7 @@ from link import Link  # noqa: E402
 SERVER, FACE = 5000, 5001
 STORE = "/var/lib/ficsd/club.db"
 PROGRAM = "/usr/local/lib/ficsd/ficsd"
+WHOLE = "ok: 2 accounts, 1 games\n"  # what `check` says once two people have registered and their game is adjourned
 PATIENCE = 60
 A_MOMENT = 1  # seconds; what is new is kept about ten times in each
 wrong = []
@@ -77,6 +78,11 @@ def servers():
 
 def main_process():
     return shell("systemctl show -P MainPID ficsd")[0].strip()
+
+
+def check():
+    """What `check` says of the store."""
+    return shell(f"ficsd check --store {STORE}")[0]
 
 
 def enter(name, password=None):
@@ -138,7 +144,7 @@ def try_kills():
         os.kill(int(found()), 9)
         comes(f"kill -9 of {name}: another one serves", lambda: len(servers()) == 1 and servers() != before, True)
         both_up(f"kill -9 of {name}")
-        says(f"kill -9 of {name}: who has an account", shell(f"ficsd check --store {STORE}")[0], "ok: 2 accounts, 1 games\n")
+        says(f"kill -9 of {name}: the store is good", check(), WHOLE)
 
 
 def cuts_links():
@@ -159,10 +165,10 @@ def cuts_links():
 
 def try_stop_with_game():
     """A game that runs as the server is stopped is there afterwards."""
-    links = [enter("Ann", "swordfish"), enter("Ben", "knight")] if accounts() else come_in_anew()
+    links = come_in_anew()
     board = play(*links)
     shell("systemctl stop ficsd")
-    says("stop with a game: it is kept", shell(f"ficsd check --store {STORE}")[0], "ok: 2 accounts, 1 games\n")
+    says("stop with a game: it is kept", check(), WHOLE)
     shell("systemctl start ficsd")
     both_up("start again")
     ann, ben = enter("Ann", "swordfish"), enter("Ben", "knight")
@@ -176,11 +182,6 @@ def try_stop_with_game():
     time.sleep(A_MOMENT)
 
 
-def accounts():
-    text, status = shell(f"ficsd check --store {STORE}")
-    return int(text.split()[1]) if status == 0 else 0
-
-
 def try_backup():
     run_lines("backup")
     run_lines("hot")
@@ -188,7 +189,7 @@ def try_backup():
     shell(f"systemctl stop ficsd; rm {STORE} {STORE}-wal")
     run_lines("restore")
     both_up("behind the restoring")
-    says("restored", shell(f"ficsd check --store {STORE}")[0], "ok: 2 accounts, 1 games\n")
+    says("restored", check(), WHOLE)
     ann = enter("Ann", "swordfish")
     ann.say("stored")
     says("restored: stored", ann.until("^1 .*").group(0), "1 Ann Ben 2 12 chess")
@@ -196,7 +197,8 @@ def try_backup():
 
 def try_words():
     """What is said where a server can't run, by hand and in the journal."""
-    done = subprocess.run(["ficsd", "serve", "--port", str(SERVER)], stdin=subprocess.DEVNULL, capture_output=True, text=True)
+    done = subprocess.run(["ficsd", "serve", "--port", str(SERVER)], stdin=subprocess.DEVNULL, capture_output=True,
+                          text=True)
     says("a second server: its status and a word", (done.returncode, "port is in use" in done.stderr), (8, True))
     shell(f"systemctl stop ficsd; chown root:root {STORE}; chmod 600 {STORE}; systemctl start ficsd")
     comes("a store of somebody else: the journal names the status",

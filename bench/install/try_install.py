@@ -101,15 +101,16 @@ def fill(root, blocks, program):
 
 def boot(root):
     """Boots the machine, which ends by itself, and says what came of it."""
-    run([*machine(root), "-b", "--private-network"], stdin=subprocess.DEVNULL, stdout=subprocess.DEVNULL, stderr=subprocess.DEVNULL, timeout=900)
+    run([*machine(root), "-b", "--private-network"], stdin=subprocess.DEVNULL, stdout=subprocess.DEVNULL,
+        stderr=subprocess.DEVNULL, timeout=900)
     with open(os.path.join(root, "root", "try", "said"), encoding="utf-8") as file:
         return file.read()
 
 
 def in_mounts_of_its_own():
     """Starts this script again with a /run that is in memory, which systemd-nspawn wants, where it isn't so."""
-    if "FICSD_TRY_INSTALL" not in os.environ:
-        os.environ["FICSD_TRY_INSTALL"] = "1"
+    kind = subprocess.run(["stat", "-f", "-c", "%T", "/run"], capture_output=True, text=True, check=True)
+    if kind.stdout != "tmpfs\n":
         words = [sys.executable, os.path.abspath(__file__), *sys.argv[1:]]
         os.execvp("unshare", ["unshare", "-m", "sh", "-c", 'mount -t tmpfs tmpfs /run && exec "$@"', "sh", *words])
 

@@ -10,6 +10,8 @@ from .session import Session
 PIECE = 65536
 BACKLOG = 256
 POLL_SECONDS = 4
+NEWS_SECONDS = 0.02  # the server looks at a link that sends nothing every 0.1 seconds
+SECONDS_EACH = 0.001  # of each who waits: so many questions a second at most, whoever is in
 
 
 class Hall:
@@ -18,7 +20,7 @@ class Hall:
     def __init__(self, host, port):
         self.host, self.port = host, port
         self.games = {}  # of each game the longest telling that any client got
-        self.links = set()
+        self.links, self.waiting = set(), set()
         self.over = None
 
     def note(self, game):
@@ -31,6 +33,17 @@ class Hall:
     def forget(self, number):
         """Forgets a game that has ended."""
         self.games.pop(number, None)
+
+    def mark_waiting(self, session, waits):
+        """Keeps in mind whether that one waits for an opponent's half-move."""
+        if waits:
+            self.waiting.add(session)
+        else:
+            self.waiting.discard(session)
+
+    def pause(self):
+        """How many seconds lie before the next question for news of one who waits: the more wait, the more."""
+        return max(NEWS_SECONDS, SECONDS_EACH * len(self.waiting))
 
     async def serve(self, address, port):
         """Serves clients until the server has ended. An `OSError` comes where either isn't to be had."""

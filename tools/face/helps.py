@@ -67,6 +67,7 @@ HERE = (
     ("help", "[WORD]", "the words that there are, and what WORD does"),
     ("iset", "VARIABLE VALUE", "a setting of a program"),
     ("ivariables", "", "the settings of your program"),
+    ("messages", "[NAME TEXT]", "there are none: TEXT is told to nobody, and shown again"),
     ("moves", "[N or NAME]", "the list of moves of your game, or of one at which you look on"),
     ("rematch", "", "challenges your last opponent again"),
     ("say", "TEXT", "tells your opponent, or your last one"),

@@ -14,7 +14,6 @@ ACKNOWLEDGED = b"\x029"
 SEAL_GREETINGS = (b"TIMESTAMP|", b"TIMESEAL2|")
 BLOCK_START, BLOCK_BREAK, BLOCK_END = "\x15", "\x16", "\x17"
 AT_BOARD = ("draw", "abort", "adjourn", "takeback")
-NEWS_SECONDS = 0.02  # the server looks at a link that sends nothing every 0.1 seconds
 
 
 class Offer:
@@ -177,6 +176,7 @@ class Session:
         else:
             self.put([""] + self.told.all(self.held + lines))
         self.stage = "over"
+        self.hall.mark_waiting(self, False)
 
     # ---- the login ----
 
@@ -289,9 +289,10 @@ class Session:
 
     def ask_for_news_later(self):
         """Asks for news a moment from now, if the other's half-move hasn't come by then."""
+        self.hall.mark_waiting(self, self.waits_for_opponent)
         if self.waits_for_opponent and not self.asks_later:
             self.asks_later = True
-            self.later(NEWS_SECONDS, self.ask_for_news)
+            self.later(self.hall.pause(), self.ask_for_news)
 
     def ask_for_news(self):
         """Asks for news with an empty line, which has no other answer."""

@@ -10,7 +10,9 @@ hand_on() {
 # what they make of it. Where this script is killed, they are ended too.
 run() {
   local tied=()
-  command -v setpriv >/dev/null && tied=(setpriv --pdeathsig TERM --)
+  setpriv --pdeathsig TERM -- true 2>/dev/null && tied=(setpriv --pdeathsig TERM --)
+  # an input that is closed can't be handed on; one that can't be read is as good
+  { : <&0; } 2>/dev/null || exec 0>/dev/null
   (trap - INT QUIT; exec "${tied[@]}" "$@") <&0 &
   child=$!
   trap '' INT QUIT

@@ -1,8 +1,9 @@
 #!/usr/bin/env python3
 """The sources of a program: the crates that it stands on, their files, and whether its build is of these very files.
 
-A build leaves a stamp beside the program: a sum of the sources, and one of the program. It is current where both are as
-they were, whatever the times of the files say; so a copy of program and stamp is current in any clone of the same sources.
+A build leaves a stamp beside the program: a sum of the sources, and one of the program. It is current where both are
+as they were, whatever the times of the files say; so a copy of program and stamp is current in any clone of the same
+sources.
 
 usage: sources.py PROGRAM (a crate of crates.txt); ends with 0 where its build is current, and with 1 where it isn't
 """

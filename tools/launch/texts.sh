@@ -26,8 +26,8 @@ help() {
 @ pgn --store club.db#writes its games of chess as PGN
 echo forward | @ examine --store club.db --game 1#goes through an adjourned game step by step
 echo e2e4 | @ board#answers the moves of one game, a line each
-printf 'seat Ann Ben 2 12 chess\n3000 1 > e2e4\n' | @ replay#plays an evening that a script tells, and writes what each player is sent
-printf 'join Ann\njoin Ben\nstart\nround 1\n' | @ tourney#directs a round robin: the pairs of its rounds, its results and its table
+printf 'seat Ann Ben 2 12 chess\n3000 1 > e2e4\n' | @ replay#an evening that a script tells: what each player is sent
+printf 'join Ann\njoin Ben\nstart\nround 1\n' | @ tourney#directs a round robin: pairs, results and the table
 @ tidy < games.pgn#writes the games of PGN text in the export form, without comments and variations
 printf 'chess\nf3\ne5\ng4\n' | @ bot 1#answers a position with its best move and value, up to 4 half-moves ahead
 @ demo 7#plays an evening of 40 guests that the number makes, and counts what happened
