@@ -217,8 +217,8 @@ class Evening(unittest.TestCase):
             if it.handle in it.driver.window_handles:
                 it.close()
 
-    def window(self, name, password=None, enters=True):
-        self.windows.append(Window(self.go_between.address(), name, password, enters))
+    def window(self, name, password=None, enters=True, path="/"):
+        self.windows.append(Window(self.go_between.address(path), name, password, enters))
         return self.windows[-1]
 
     def game(self, variant="chess", **terms):
