@@ -34,7 +34,7 @@ export class MovesList {
     if (key !== this.key) {
       this.key = key;
       this.list.replaceChildren(...this.rows(halfMoves));
-      this.list.scrollTop = this.list.scrollHeight;
+      requestAnimationFrame(() => { this.list.scrollTop = this.list.scrollHeight; }); // with the layout of that frame
     }
     for (const button of this.list.querySelectorAll("[data-ply]")) {
       const isAt = Number(button.dataset.ply) === (game.looking ?? game.last);
