@@ -89,7 +89,7 @@ fn in_order(pairs: Vec<Pair>) -> Result<Vec<Pair>, KeeperFail>
     }
 }
 
-/// The pairs of the table's rows. These come one at a time, so that no record is in memory twice.
+/// The pairs of the table's rows, which are taken one at a time, and not all together before the first pair is made.
 fn read_pairs<S: Alter>(alloc: Global, conn: &mut Connection<S>) -> Result<Vec<Pair>, Error> {
     let mut pairs = Vec::new(alloc);
     let mut rows = conn.query(LOAD, &[])?;
