@@ -5,7 +5,7 @@ use chess_model::Colour;
 use chess_model::Variant::{Bughouse, Chess};
 use fics_words::NoMemory;
 use game_board::GameBoard;
-use game_records::Half;
+use game_records::PackedHalf;
 use linked_boards::Boards;
 use std::alloc::Global;
 use std::process::Abort;
@@ -64,16 +64,14 @@ fn have(boards: &Boards, first: Kept, second: Option<Kept>) -> bool {
 }
 
 /// Whether the half-moves are those of the words.
-fn are(halves: &[Half], words: Halves) -> bool {
+fn are(halves: &[PackedHalf], words: Halves) -> bool {
     if halves.len() != words.len() {
         return false;
     }
     for (half, word) in halves.iter().zip(words) {
+        let it = half.unpacked();
         let expected = half_of(word);
-        if half.board != expected.board
-            || half.what != expected.what
-            || half.charge != expected.charge
-        {
+        if it.board != expected.board || it.what != expected.what || it.charge != expected.charge {
             return false;
         }
     }

@@ -4,7 +4,7 @@ use chess_model::{Kind, Move, Square, Terms, Variant};
 use clock_ledger::Charge;
 use collections::Listed;
 use fics_words::{Handle, NoMemory};
-use game_records::{Half, StoredGame};
+use game_records::{Half, HalfList, StoredGame};
 use std::alloc::Global;
 
 /// Half-moves as rows write them: the number of the board and two squares, or a pawn that is dropped, as `1e2e4` and
@@ -72,8 +72,8 @@ pub fn half_of(word: &str) -> Half {
 }
 
 /// The half-moves of words, over and over.
-pub fn halves_of(alloc: Global, words: Halves, times: u16) -> Result<Listed<Half>, NoMemory> {
-    let mut halves = Listed::new(alloc);
+pub fn halves_of(alloc: Global, words: Halves, times: u16) -> Result<HalfList, NoMemory> {
+    let mut halves = HalfList::new(alloc);
     for _time in 0..times {
         push_each(&mut halves, words)?;
     }
@@ -81,7 +81,7 @@ pub fn halves_of(alloc: Global, words: Halves, times: u16) -> Result<Listed<Half
 }
 
 /// Puts the half-moves of words behind the others.
-pub fn push_each(halves: &mut Listed<Half>, words: Halves) -> Result<(), NoMemory> {
+pub fn push_each(halves: &mut HalfList, words: Halves) -> Result<(), NoMemory> {
     for word in words {
         push(halves, word)?;
     }
@@ -89,7 +89,7 @@ pub fn push_each(halves: &mut Listed<Half>, words: Halves) -> Result<(), NoMemor
 }
 
 /// Puts the half-move of a word behind the others.
-fn push(halves: &mut Listed<Half>, word: &str) -> Result<(), NoMemory> {
+fn push(halves: &mut HalfList, word: &str) -> Result<(), NoMemory> {
     let word = word.as_bytes();
     let board = board_of(word);
     let what = move_of(word);
@@ -126,7 +126,7 @@ pub fn stored(
     alloc: Global,
     game: Game,
     names: &[&[u8]],
-    halves: Listed<Half>,
+    halves: HalfList,
 ) -> Result<StoredGame, NoMemory> {
     let names = names_of(alloc, names)?;
     Ok(StoredGame {

@@ -7,7 +7,7 @@ use crate::table::{SERIAL, Sitting};
 use chess_model::Terms;
 use collections::Listed;
 use fics_words::{Handle, NoMemory, Opponents, Seats};
-use game_records::{Half, StoredGame};
+use game_records::{HalfList, StoredGame};
 use linked_desk::{Desk, Why};
 use std::alloc::Global;
 
@@ -73,7 +73,7 @@ fn resumes_from(
     alloc: Global,
     desk: &mut Desk,
     sitting: &Sitting,
-    halves: Listed<Half>,
+    halves: HalfList,
     moment: u32,
 ) -> Result<bool, NoMemory>
     requires pairs { HasPairsFor sitting.now.terms sitting.now.seats }

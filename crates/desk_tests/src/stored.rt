@@ -8,9 +8,8 @@ use crate::stages::{Stage, first_wrong_at};
 use crate::table::{ANN, BEN, Does, Given, Opening, Sitting, Step, who_sits, word_of};
 use chess_model::{Colour, Move, MoveWord};
 use clock_ledger::Charge;
-use collections::Listed;
 use fics_words::{NoMemory, Refusal};
-use game_records::{Half, StoredGame};
+use game_records::{Half, HalfList, StoredGame};
 use linked_desk::{Desk, Ended, Why};
 use std::alloc::Global;
 use std::process::Abort;
@@ -281,8 +280,8 @@ fn charge_of(moments: Option<(u64, u64)>) -> Option<Charge> {
 }
 
 /// The half-moves of the rows; those that are none are left out.
-fn halves_of(alloc: Global, made: &[Made]) -> Result<Listed<Half>, NoMemory> {
-    let mut halves = Listed::new(alloc);
+fn halves_of(alloc: Global, made: &[Made]) -> Result<HalfList, NoMemory> {
+    let mut halves = HalfList::new(alloc);
     for row in made {
         add_half(&mut halves, row)?;
     }
@@ -290,7 +289,7 @@ fn halves_of(alloc: Global, made: &[Made]) -> Result<Listed<Half>, NoMemory> {
 }
 
 /// Adds the half-move of a row, if it is one.
-fn add_half(halves: &mut Listed<Half>, made: &Made) -> Result<(), NoMemory> {
+fn add_half(halves: &mut HalfList, made: &Made) -> Result<(), NoMemory> {
     let Some(what) = move_of(made.1) else {
         return Ok(());
     };

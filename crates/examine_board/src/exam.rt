@@ -7,7 +7,7 @@ ghost use Rattle.examine_board.specs.Laid.{MayLie};
 use chess_model::Terms;
 use collections::{Listed, Roomy};
 use fics_words::{Handle, NoMemory};
-use game_records::{Half, StoredGame};
+use game_records::{Half, PackedHalf, StoredGame};
 use linked_boards::{Boards, replays};
 use std::alloc::Global;
 use std::marker::Model;
@@ -63,7 +63,7 @@ impl Exam {
         ensures { IfOk result (λ exam. exam ≡ opened game.now) }
     {
         let names = copied(alloc, game.names.as_slice())?;
-        let stored = copied(alloc, game.halves.as_slice())?;
+        let stored = unpacked(alloc, game.halves.as_slice())?;
         let branch = Roomy::new(alloc)?;
         let boards = Boards::start(alloc, game.terms, 0)?;
         let shared = stored.len();
@@ -110,4 +110,15 @@ fn copied<T: Copy + Drop>(alloc: Global, items: &[T]) -> Result<Listed<T>, NoMem
         copies.push(*item)?;
     }
     Ok(copies)
+}
+
+/// A list of these half-moves.
+fn unpacked(alloc: Global, halves: &[PackedHalf]) -> Result<Listed<Half>, NoMemory>
+    ensures { IfOk result (λ list. list ≡ halves.now) }
+{
+    let mut list = Listed::new(alloc);
+    for half in halves {
+        list.push(half.unpacked())?;
+    }
+    Ok(list)
 }

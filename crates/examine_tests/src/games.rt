@@ -4,7 +4,7 @@ use chess_model::{Kind, Move, Square, Terms, Variant};
 use clock_ledger::Charge;
 use collections::Listed;
 use fics_words::{Handle, NoMemory};
-use game_records::{Half, StoredGame};
+use game_records::{Half, HalfList, StoredGame};
 use std::alloc::Global;
 
 /// Half-moves as rows write them: the number of the board and two squares, or a pawn that is dropped, as `1e2e4` and
@@ -66,7 +66,7 @@ fn names_of(alloc: Global, names: &[&[u8]]) -> Result<Listed<Handle>, NoMemory> 
 }
 
 /// Adds the half-move of a word behind the others.
-fn add_half(halves: &mut Listed<Half>, word: &str) -> Result<(), NoMemory> {
+fn add_half(halves: &mut HalfList, word: &str) -> Result<(), NoMemory> {
     let word = word.as_bytes();
     let what = move_of(word);
     let charge = charge_of(word);
@@ -79,15 +79,15 @@ fn add_half(halves: &mut Listed<Half>, word: &str) -> Result<(), NoMemory> {
 }
 
 /// Adds the half-moves of a row behind the others.
-fn add_halves(halves: &mut Listed<Half>, words: Halves) -> Result<(), NoMemory> {
+fn add_halves(halves: &mut HalfList, words: Halves) -> Result<(), NoMemory> {
     for word in words {
         add_half(halves, word)?;
     }
     Ok(())
 }
 
-fn halves_of(alloc: Global, words: Halves, times: u16) -> Result<Listed<Half>, NoMemory> {
-    let mut halves = Listed::new(alloc);
+fn halves_of(alloc: Global, words: Halves, times: u16) -> Result<HalfList, NoMemory> {
+    let mut halves = HalfList::new(alloc);
     for _time in 0..times {
         add_halves(&mut halves, words)?;
     }

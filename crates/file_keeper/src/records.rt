@@ -6,7 +6,7 @@ ghost use Rattle.edge_traits.specs.Keeper.{OnKeepFailed, OnLoadFailed};
 ghost use Rattle.edge_traits.specs.Pairs.{IsAscending, keys_order};
 
 use edge_traits::{KeeperFail, Kept, Pair};
-use sqlite::{Alter, Connection, Error, ErrorCode, Row, params};
+use sqlite::{Alter, Connection, Error, ErrorCode, Row, Rows, params};
 use sqlite_resolve::CompileError;
 use std::alloc::{AllocError, Global};
 use std::cmp::Ordering;
@@ -72,26 +72,16 @@ pub fn remove_record<S: Alter>(conn: &mut Connection<S>, key: &[u8]) -> Result<(
 pub fn all_pairs<S: Alter>(alloc: Global, conn: &mut Connection<S>) -> Result<Vec<Pair>, KeeperFail>
     ensures ascending { IfOk result (λ pairs. IsAscending pairs.items) }
 {
-    match all_rows(conn) {
-        Ok(rows) => pairs_of(alloc, rows.as_slice()),
-        Err(fail) => Err(fail),
-    }
-}
-
-fn all_rows<S: Alter>(conn: &mut Connection<S>) -> Result<Vec<Row>, KeeperFail> {
-    match conn.query_all(LOAD, &[]) {
-        Ok(rows) => Ok(rows),
+    match read_pairs(alloc, conn) {
+        Ok(pairs) => in_order(pairs),
         Err(error) => Err(fail_of(error)),
     }
 }
 
-fn pairs_of(alloc: Global, rows: &[Row]) -> Result<Vec<Pair>, KeeperFail>
+/// The pairs, where their keys strictly rise; else a fault.
+fn in_order(pairs: Vec<Pair>) -> Result<Vec<Pair>, KeeperFail>
     ensures ascending { IfOk result (λ pairs. IsAscending pairs.items) }
 {
-    let pairs = match read_rows(alloc, rows) {
-        Ok(pairs) => pairs,
-        Err(error) => return Err(fail_of(error)),
-    };
     if is_ascending(pairs.as_slice()) {
         Ok(pairs)
     } else {
@@ -99,12 +89,26 @@ fn pairs_of(alloc: Global, rows: &[Row]) -> Result<Vec<Pair>, KeeperFail>
     }
 }
 
-fn read_rows(alloc: Global, rows: &[Row]) -> Result<Vec<Pair>, Error> {
+/// The pairs of the table's rows, which are taken one at a time, and not all together before the first pair is made.
+fn read_pairs<S: Alter>(alloc: Global, conn: &mut Connection<S>) -> Result<Vec<Pair>, Error> {
     let mut pairs = Vec::new(alloc);
-    for row in rows {
-        pairs.push(read_row(row)?)?;
+    let mut rows = conn.query(LOAD, &[])?;
+    for _ in 0..u64::MAX {
+        match next_pair(&mut rows)? {
+            Some(pair) => pairs.push(pair)?,
+            None => return Ok(pairs),
+        }
     }
     Ok(pairs)
+}
+
+/// The pair of the next row, if there is one.
+fn next_pair<S: Alter>(rows: &mut Rows<'_, S>) -> Result<Option<Pair>, Error> {
+    rows.advance()?;
+    match rows.get() {
+        Some(row) => Ok(Some(read_row(row)?)),
+        None => Ok(None),
+    }
 }
 
 fn read_row(row: &Row) -> Result<Pair, Error> {

@@ -1,5 +1,6 @@
 -- What the contracts of this crate cite.
 pub mod Numbers
+pub mod Packed
 pub mod Codes
 pub mod Bounds
 pub mod Spelling

@@ -6,6 +6,7 @@ ghost use Rattle.game_records.specs.Bounds.{AreHalves, AreStoredTerms, IsGame, I
 
 use crate::charges::is_charge;
 use crate::codes::has_code;
+use crate::packed::PackedHalf;
 use crate::stored_game::{Half, StoredGame};
 use chess_model::{Terms, Variant};
 
@@ -71,7 +72,7 @@ fn is_numbered(variant: Variant) -> bool
 }
 
 /// Whether a stored game can have these half-moves.
-fn are_halves(variant: Variant, halves: &[Half]) -> bool
+fn are_halves(variant: Variant, halves: &[PackedHalf]) -> bool
     ensures { IsTrue result ↔ AreHalves variant halves.now }
 {
     halves.len() <= MOST_HALVES * usize::from(boards(variant))
@@ -81,25 +82,27 @@ fn are_halves(variant: Variant, halves: &[Half]) -> bool
 }
 
 /// How many of the half-moves are of the board.
-fn count_on(board: u8, halves: &[Half]) -> usize
+fn count_on(board: u8, halves: &[PackedHalf]) -> usize
     ensures { result ≡ count_on board halves.now }
 {
-    halves.iter().filter(|half| half.board == board).count()
+    halves.iter().filter(|half| half.board() == board).count()
 }
 
 /// Whether each is a half-move that a game of the variant can have.
-fn each_is_half(variant: Variant, halves: &[Half]) -> bool
+fn each_is_half(variant: Variant, halves: &[PackedHalf]) -> bool
     ensures { IsTrue result ↔ AllByRecursion (IsHalf variant) halves.now }
 {
     halves.iter().all(|half| is_half(variant, half))
 }
 
 /// Whether a game of the variant can have the half-move.
-fn is_half(variant: Variant, half: &Half) -> bool
+fn is_half(variant: Variant, half: &PackedHalf) -> bool
     ensures { IsTrue result ↔ IsHalf variant half.now }
 {
-    1 <= half.board
-        && half.board <= boards(variant)
-        && has_code(half.what)
-        && is_charge(&half.charge)
+    let Half {
+        board,
+        what,
+        charge,
+    } = half.unpacked();
+    1 <= board && board <= boards(variant) && has_code(what) && is_charge(&charge)
 }

@@ -7,10 +7,11 @@ ghost use Rattle.game_records.specs.Spelling.{board_text, half_text, halves_text
 
 use crate::charges::{behind_charge, charge_in, write_charge};
 use crate::codes::{move_code, move_of};
+use crate::half_list::HalfList;
 use crate::numbers::{behind, byte_at, two_in, write_two};
+use crate::packed::PackedHalf;
 use crate::stored_game::Half;
 use chess_model::Variant;
-use collections::Listed;
 use fics_words::NoMemory;
 use std::alloc::Global;
 
@@ -21,12 +22,12 @@ const MOST: usize = 2_400;
 pub(crate) fn write_halves(
     out: &mut Vec<u8>,
     variant: Variant,
-    halves: &[Half],
+    halves: &[PackedHalf],
 ) -> Result<(), NoMemory>
     ensures { OnOk result (out.new.items ≡ out.old.items ++ halves_text variant halves.now) }
 {
     for half in halves {
-        write_half(out, variant, half)?;
+        write_half(out, variant, &half.unpacked())?;
     }
     Ok(())
 }
@@ -57,7 +58,7 @@ pub(crate) fn counted_halves(
     alloc: Global,
     variant: Variant,
     bytes: &[u8],
-) -> Result<Listed<Half>, NoMemory>
+) -> Result<HalfList, NoMemory>
     ensures value { IfOk result (λ halves. halves ≡ counted_halves variant bytes.now) }
     ensures squares { IfOk result (λ halves. AllByRecursion (λ h. AreSquares h.what) halves) }
 {
@@ -72,11 +73,11 @@ fn halves_in(
     variant: Variant,
     count: usize,
     bytes: &[u8],
-) -> Result<Listed<Half>, NoMemory>
+) -> Result<HalfList, NoMemory>
     ensures value { IfOk result (λ halves. halves ≡ halves_in variant count bytes.now) }
     ensures squares { IfOk result (λ halves. AllByRecursion (λ h. AreSquares h.what) halves) }
 {
-    let mut halves = Listed::new(alloc);
+    let mut halves = HalfList::with_room(alloc, count)?;
     let mut rest = bytes;
     for _place in 0..count {
         push_half(&mut halves, variant, rest)?;
@@ -86,7 +87,7 @@ fn halves_in(
 }
 
 /// Puts the half-move that the bytes begin with behind the others.
-fn push_half(halves: &mut Listed<Half>, variant: Variant, bytes: &[u8]) -> Result<(), NoMemory>
+fn push_half(halves: &mut HalfList, variant: Variant, bytes: &[u8]) -> Result<(), NoMemory>
     ensures { OnOk result (halves.new ≡ halves.old ++ half_in variant bytes.now ∷ []) }
 {
     let board = board_in(variant, bytes);

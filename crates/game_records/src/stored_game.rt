@@ -1,5 +1,6 @@
 //! A game that waits to be resumed.
 
+use crate::half_list::HalfList;
 use chess_model::{Move, Terms};
 use clock_ledger::Charge;
 use collections::Listed;
@@ -23,5 +24,5 @@ pub struct StoredGame {
     /// White and Black, or for a pair those of the first board and those of the second.
     pub names: Listed<Handle>,
     /// The half-moves of all boards, in the order in which they were made.
-    pub halves: Listed<Half>,
+    pub halves: HalfList,
 }

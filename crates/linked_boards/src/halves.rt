@@ -5,15 +5,14 @@ ghost use Rattle.linked_boards.specs.Halves.{first_charge, half_of, halves_from,
 
 use crate::boards::Boards;
 use clock_ledger::Charge;
-use collections::Listed;
 use fics_words::NoMemory;
 use game_board::{Made, Played};
-use game_records::Half;
+use game_records::{Half, HalfList};
 use std::alloc::Global;
 
 impl Boards {
     /// The half-moves of all boards in the order in which they were made, each with its charge.
-    pub fn halves(&self, alloc: Global) -> Result<Listed<Half>, NoMemory>
+    pub fn halves(&self, alloc: Global) -> Result<HalfList, NoMemory>
         ensures { IfOk result (λ halves. halves ≡ halves_of self.now) }
     {
         let (first, second) = self.both();
@@ -30,10 +29,10 @@ fn halves_from(
     one: &[Played],
     two: &[Played],
     all: &[Made],
-) -> Result<Listed<Half>, NoMemory>
+) -> Result<HalfList, NoMemory>
     ensures { IfOk result (λ halves. halves ≡ halves_from one.now two.now (made all.now)) }
 {
-    let mut halves = Listed::new(alloc);
+    let mut halves = HalfList::with_room(alloc, all.len())?;
     let mut one = one;
     let mut two = two;
     for half in all {

@@ -10,7 +10,7 @@ use crate::boards::Boards;
 use chess_model::Terms;
 use fics_words::NoMemory;
 use game_board::{GameBoard, Played};
-use game_records::Half;
+use game_records::{Half, PackedHalf};
 use std::alloc::Global;
 
 impl Boards {
@@ -21,7 +21,7 @@ impl Boards {
     pub fn replay(
         alloc: Global,
         terms: Terms,
-        halves: &[Half],
+        halves: &[PackedHalf],
         moment: u64,
     ) -> Result<Option<Boards>, NoMemory>
         requires moment { moment ≤ 2 ^ 48 }
@@ -30,10 +30,11 @@ impl Boards {
     {
         let mut boards = Boards::start(alloc, terms, moment)?;
         for half in halves {
-            if !boards.takes(half) {
+            let it = half.unpacked();
+            if !boards.takes(&it) {
                 return Ok(None);
             }
-            boards.put(half.board - 1, &played_of(half));
+            boards.put(it.board - 1, &played_of(&it));
         }
         Ok(Some(boards))
     }

@@ -10,7 +10,7 @@ use crate::game::Game;
 use crate::occasion::Occasion;
 use crate::seating::{announced, game_at, show_each};
 use fics_words::{NoMemory, Seats};
-use game_records::{Half, StoredGame};
+use game_records::{Half, PackedHalf, StoredGame};
 use linked_boards::Boards;
 use std::alloc::Global;
 
@@ -59,11 +59,11 @@ impl Game {
 }
 
 /// The place of the board on which the last of these half-moves was made, if there is one.
-fn last_place(halves: &[Half]) -> Option<u8>
+fn last_place(halves: &[PackedHalf]) -> Option<u8>
     ensures { result ≡ last_place halves.now }
 {
     let half = halves.last()?;
-    Some(place_on(half))
+    Some(place_on(&half.unpacked()))
 }
 
 /// The place of the board on which a half-move was made.

@@ -1,9 +1,8 @@
 -- What an answer says of a table, where that is told.
-use Rattle.std.proofs.Common.{◌≡◌, ℕ, List, ◌∷◌, ◌++◌, ◌+◌, ◌<◌, take, drop, length, get_or, take-append-drop, IfOk, IfSome, Ok, Err, Result, sym, ap, subst, ◌∙◌}
+use Rattle.std.proofs.Common.{◌≡◌, ℕ, List, IfOk, IfSome, Ok, Err, Result, sym, subst}
 use Rattle.std.specs.declared.option.Option.{Option}
 use Rattle.std.specs.declared.option.Option.TheVariants.{None, Some}
 use Rattle.std.specs.FinMap as map
-use Rattle.std.proofs.lemmas.List.{drop_more}
 use Rattle.edge_traits.specs.Keeper.{AreAllOf}
 use Rattle.edge_traits.specs.Pairs.{IsAscending, Pairs, Table}
 use Rattle.lobby_state.specs.Lobby.{LobbyState}
@@ -59,9 +58,3 @@ pub named_no_fault : (A : Type 0) (key : List ℕ) (refusal : LoadRefusal) → N
 named_no_fault A key (BadRecord named) is = tt
 named_no_fault A key KeeperFault is = is
 named_no_fault A key Memory is = tt
-
--- a row in its place among the others
-pub parted : (rows : Pairs) (i : ℕ) (row : Row) → i < length rows → row ≡ get_or rows i row → rows ≡ take i rows ++ row ∷ drop (i + 1) rows
-parted rows i row within is =
-    sym (take-append-drop i rows)
-    ∙ ap (λ x. take i rows ++ x) (drop_more rows i row within ∙ ap (λ x. x ∷ drop (i + 1) rows) (sym is))

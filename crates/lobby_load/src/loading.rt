@@ -34,17 +34,17 @@ pub fn load<P: Keeper>(alloc: Global, keeper: &mut P) -> Result<Lobby, LoadRefus
     ensures counted { P.faults keeper.old ≤ P.faults keeper.new }
 {
     match keeper.load() {
-        Ok(pairs) => lobby_of(alloc, pairs.as_slice()),
+        Ok(pairs) => lobby_of(alloc, pairs),
         Err(KeeperFail::Failed) => Err(LoadRefusal::KeeperFault),
         Err(KeeperFail::Memory) => Err(LoadRefusal::Memory),
     }
 }
 
 /// The lobby that is made of these pairs.
-fn lobby_of(alloc: Global, pairs: &[Pair]) -> Result<Lobby, LoadRefusal>
-    requires { IsAscending pairs.now }
-    ensures made { IfOk result (HasRows pairs.now) }
-    ensures bad { OnBadRecord result (IsLeastBadOf pairs.now) }
+fn lobby_of(alloc: Global, pairs: Vec<Pair>) -> Result<Lobby, LoadRefusal>
+    requires { IsAscending pairs.items }
+    ensures made { IfOk result (HasRows pairs.items) }
+    ensures bad { OnBadRecord result (IsLeastBadOf pairs.items) }
     ensures no_fault { OnKeeperFault result ⊥ }
 {
     let mut lobby = Lobby::new(alloc)?;
@@ -52,18 +52,19 @@ fn lobby_of(alloc: Global, pairs: &[Pair]) -> Result<Lobby, LoadRefusal>
     Ok(lobby)
 }
 
-/// Adds these pairs to a lobby at its opening, in their order.
-fn fill(alloc: Global, lobby: &mut Lobby, pairs: &[Pair]) -> Result<(), LoadRefusal>
-    requires ascending { IsAscending pairs.now }
+/// Adds these pairs to a lobby at its opening, in their order. Each is let go once it was read, so that the records aren't
+/// in memory beside the games that were made of them.
+fn fill(alloc: Global, lobby: &mut Lobby, pairs: Vec<Pair>) -> Result<(), LoadRefusal>
+    requires ascending { IsAscending pairs.items }
     requires empty { lobby.old ≡ opening }
-    ensures made { OnOk result (HasRows pairs.now lobby.new) }
-    ensures bad { OnBadRecord result (IsLeastBadOf pairs.now) }
+    ensures made { OnOk result (HasRows pairs.items lobby.new) }
+    ensures bad { OnBadRecord result (IsLeastBadOf pairs.items) }
     ensures no_fault { OnKeeperFault result ⊥ }
 {
     for pair in pairs {
-        match add_row(alloc, lobby, pair)? {
+        match add_row(alloc, lobby, &pair)? {
             Taken::Added => {}
-            Taken::Refused => return Err(bad_record(alloc, pair)),
+            Taken::Refused => return Err(bad_record(alloc, &pair)),
         }
     }
     Ok(())

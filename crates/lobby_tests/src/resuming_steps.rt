@@ -12,7 +12,7 @@ use crate::steps::{
 };
 use collections::Listed;
 use fics_words::{Fail, Handle, NoMemory};
-use game_records::{StoredGame, played_by_steps};
+use game_records::{HalfList, StoredGame, played_by_steps};
 use game_shelf::Order;
 use lobby_state::{Lobby, LobbyAct, LobbyReply, PairAct, Plan};
 use std::alloc::Global;
@@ -139,7 +139,7 @@ fn two_of(alloc: Global, white: Handle, black: Handle) -> Result<StoredGame, NoM
     Ok(StoredGame {
         terms: CHESS,
         names,
-        halves: Listed::new(alloc),
+        halves: HalfList::new(alloc),
     })
 }
 
@@ -185,7 +185,7 @@ fn four_of(
     Ok(StoredGame {
         terms: PAIRS,
         names,
-        halves: Listed::new(alloc),
+        halves: HalfList::new(alloc),
     })
 }
 

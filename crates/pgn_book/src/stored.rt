@@ -10,7 +10,7 @@ use crate::row::copied;
 use chess_model::{Move, Variant};
 use collections::Listed;
 use fics_words::Handle;
-use game_records::{Half, StoredGame};
+use game_records::{PackedHalf, StoredGame};
 use linked_boards::replays;
 use memory::NoMemory;
 use std::alloc::Global;
@@ -73,12 +73,12 @@ fn names_row(alloc: Global, white: &Handle, black: &Handle) -> Result<TagRow, No
 }
 
 /// The half-moves without their charges.
-fn moves_of(alloc: Global, halves: &[Half]) -> Result<Listed<Move>, NoMemory>
+fn moves_of(alloc: Global, halves: &[PackedHalf]) -> Result<Listed<Move>, NoMemory>
     ensures { IfOk result (λ moves. moves ≡ map (λ h. h.what) halves.now) }
 {
     let mut moves = Listed::new(alloc);
     for half in halves {
-        moves.push(half.what)?;
+        moves.push(half.what())?;
     }
     Ok(moves)
 }

@@ -4,7 +4,7 @@ use crate::texts::{ANN, CHESS, CRAZYHOUSE, FISCHER, PAIR};
 use chess_model::{Kind, Move, Square, Terms, Variant};
 use clock_ledger::Charge;
 use fics_words::{Account, Handle, NoMemory};
-use game_records::{Half, Record, StoredGame, read_record};
+use game_records::{Half, PackedHalf, Record, StoredGame, read_record};
 use std::alloc::Global;
 use std::test::Fail;
 
@@ -110,12 +110,12 @@ fn is_half(half: &Half, step: &Step) -> bool {
     half.board == step.0 && half.what == move_of(step.1) && half.charge == step.2
 }
 
-fn are_halves(halves: &[Half], steps: &[Step]) -> bool {
+fn are_halves(halves: &[PackedHalf], steps: &[Step]) -> bool {
     if halves.len() != steps.len() {
         return false;
     }
     for (half, step) in halves.iter().zip(steps) {
-        if !is_half(half, step) {
+        if !is_half(&half.unpacked(), step) {
             return false;
         }
     }
