@@ -6,7 +6,7 @@ use Rattle.std.specs.FinMap as map
 use Rattle.edge_traits.specs.Keeper.{AreAllOf}
 use Rattle.edge_traits.specs.Pairs.{IsAscending, Pairs, Table}
 use Rattle.lobby_state.specs.Lobby.{LobbyState}
-use Rattle.lobby_load.specs.BadRows.{IsGoodStore, IsLeastBad, Row}
+use Rattle.lobby_load.specs.BadRows.{IsGoodStore, IsLeastBad}
 use Rattle.lobby_load.specs.Filling.{HasRows, IsLeastBadOf, NamesKey}
 use Rattle.lobby_load.specs.Loaded.{HasLoaded, HasSizes}
 use Rattle.lobby_load.specs.Refused.{OnBadRecord, OnKeeperFault}
