@@ -43,12 +43,6 @@ changed_there p f h xs i here is =
     let found = at_place xs i (position-within p xs i (sym here)) in
     change_at-set h xs i found.0 found.1 ∙ ap (set xs i) (is found.0 found.1) ∙ sym (change_first-found p f xs i found.0 (sym here) found.1)
 
--- two changes that agree there
-pub agree_there : {X : Type 0} (f h : X → X) (xs : List X) (i : ℕ) → i < length xs → ((x : X) → slice_get xs i ≡ Some x → h x ≡ f x) → change_at i h xs ≡ change_at i f xs
-agree_there f h xs i inside is =
-    let found = at_place xs i inside in
-    change_at-set h xs i found.0 found.1 ∙ ap (set xs i) (is found.0 found.1) ∙ sym (change_at-set f xs i found.0 found.1)
-
 -- and one that changes nothing there leaves all as it was
 pub kept_there : {X : Type 0} (h : X → X) (xs : List X) (i : ℕ) → i < length xs → ((x : X) → slice_get xs i ≡ Some x → h x ≡ x) → change_at i h xs ≡ xs
 kept_there h xs i inside is =

@@ -64,12 +64,6 @@ one_command words command other n m =
 pub is_command : (words : List (String Global)) (command : Command) → Names words command → IsCommand words
 is_command words command n = (command, n)
 
--- words of a job that no command does name none
-pub not_done : (words : List (String Global)) (job : Job) → jobs.Names words job → command_of job ≡ None → IsCommand words → ⊥
-not_done words job n none h =
-    let wrong : None ≡ Some h.0 = sym none ∙ one_job words job h.1.0 n h.1.1 ∙ h.1.2 in
-    absurd cc
-
 -- words that name no job name no command
 pub on_fail : (fail : JobFail) (words : List (String Global)) → OnUsage fail ((job : Job) → jobs.Names words job → ⊥) → OnUsage fail (IsCommand words → ⊥)
 on_fail fails.Usage words none = λ h. none h.1.0 h.1.1

@@ -100,9 +100,6 @@ never_short KeeperFault clean short = clean
 never_short Memory clean short = clean
 never_short DoorFault clean short = clean
 
-pub last_failed : (end : ServeEnd) (last : StewardEnd) → LastEnds end last → end ≡ KeeperFault → last ≡ steward.KeeperFault
-last_failed end last ends e = subst (λ (x : ServeEnd). LastEnds x last) e ends
-
 -- ---- the text, and why no further link was taken
 
 abbrev pub Closes : ServeEnd → StewardEnd → Option DoorTale → Sheet → Sheet → ℕ → Type 0
@@ -126,9 +123,6 @@ closes_by why s last supply door splits before now first mid after p ready close
   supply = supply;
   ends = refl;
 })
-
-pub rose_by : (why : DoorEnd) (s : Sent) (last : StewardEnd) (supply : Supply) (door : Option DoorTale) (splits before now : ℕ) → Stopped why splits door before now → end_of why s last supply ≡ DoorFault → Rose before now
-rose_by why s last supply door splits before now p e = (subst (λ w. Stopped w splits door before now) ((comes why s last supply).failed e) p).0
 
 -- `ready` couldn't be written
 pub closes_failed : (last : StewardEnd) (door : Option DoorTale) (splits : ℕ) (first after : Sheet) → splits ≡ 0 → Says ready_text sent.Failed first after → Closes WriteFault last door first after splits

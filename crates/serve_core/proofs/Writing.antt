@@ -38,14 +38,3 @@ wrote_front old mid new sent.Memory p q = front_of_rest old mid new ready_text c
 
 pub wrote_whole : (old mid new : Option (List ℕ)) (s : Sent) → s ≡ sent.All → Appends old mid ready_text → Wrote mid new closed_text s → Appends old new whole_text
 wrote_whole old mid new s e p q = Appends-trans old mid new ready_text closed_text p (subst (λ (x : Sent). Wrote mid new closed_text x) e q)
-
-rose_then : (start before now after : ℕ) → start ≤ before → Rose before now → after ≡ now → Rose start after
-rose_then start before now after s p a = omega (arith, s, p, a)
-
--- why no more links are taken, once all workers were waited for
-pub stopped_then : (end : DoorEnd) (count splits : ℕ) (door door' : Option DoorTale) (start before now after : ℕ) → Stopped end count door before now → splits ≡ count → Goes door door' KeepsLeft → start ≤ before → after ≡ now → Stopped end splits door' start after
-stopped_then door_end.Closed count splits door door' start before now after p n goes s a =
-    (told_then door door' KeepsLeft (λ tale. tale.left ≡ []) (λ tale. tale.left ≡ []) (λ x y e f. e.0 ∙ f) goes p.0, omega (arith, n, p.1))
-stopped_then door_end.Failed count splits door door' start before now after p n goes s a =
-    (rose_then start before now after s p.0 a, omega (arith, n, p.1))
-stopped_then door_end.Spent count splits door door' start before now after p n goes s a = n ∙ p
