@@ -1,6 +1,6 @@
--- Which moves a desk accepts, in every state: exactly the legal ones of those who are to move there. What is legal are the
--- Laws of Chess (FIDE 3), by the definitions of `chess_model`; that a word has to stand for one move alone, and that 1,200
--- half-moves are the most on a board, is this server's own.
+-- Which moves a desk accepts, in every state: exactly the legal ones of those who are to move there. What is legal are
+-- the Laws of Chess (FIDE 3), by the definitions of `chess_model`; that a word has to stand for one move alone, and
+-- that 1,200 half-moves are the most on a board, is this server's own.
 use Rattle.std.specs.Prelude.{◌≡◌, ℕ, ◌<◌, List, [], ◌∷◌, ◌++◌, map, None, Some, slice_get}
 use Rattle.std.specs.declared.option.Option.{Option}
 use Rattle.chess_model.specs.declared.moves.Move.{Move}
@@ -23,8 +23,8 @@ use Rattle.one_server.specs.declared.reply.Reply.TheVariants as reply
 use Rattle.one_server.specs.House.{house}
 use Rattle.pretty_reading.specs.ReadsBack.{pretty_in}
 
--- the session is to move at this board: it has a seat there of the colour that is to move, the game runs, and fewer than
--- 1,200 half-moves were played on the board
+-- the session is to move at this board: it has a seat there of the colour that is to move, the game runs, and fewer
+-- than 1,200 half-moves were played on the board
 pub record IsToMove (game : GameState) (session : ℕ) (b : Board) : Type 0 where
   pub seat : ℕ
   pub sits : seat_of game session ≡ Some seat
@@ -47,8 +47,8 @@ pub record IsPlayed (later : List Part) (number seat : ℕ) (b : Board) (m : Mov
   pub there : slice_get game.boards (place_of seat) ≡ Some board
   pub half_moves : map (λ (p : Played). p.what) board.list ≡ map (λ (p : Played). p.what) b.list ++ m ∷ []
 
--- a word that a desk accepted: it was said by who is to move, it stands for exactly one legal half-move in the position on
--- that board, and this one was played
+-- a word that a desk accepted: it was said by who is to move, it stands for exactly one legal half-move in the
+-- position on that board, and this one was played
 pub record IsLegalMove (parts later : List Part) (number session : ℕ) (game : GameState) (word : MoveWord) : Type 0 where
   pub board : Board
   pub mover : IsToMove game session board

@@ -23,7 +23,8 @@ pub trait Sink {
 
     ghost faults: { Self → ℕ };
 
-    /// Writes the bytes; fails exactly where the count of faults rose, but that a count at the end of its 64 bits stays.
+    /// Writes the bytes; fails exactly where the count of faults rose, but that a count at the end of its 64 bits
+    /// stays.
     fn write(&mut self, bytes: &[u8]) -> Sent
         ensures wrote { Wrote (written self.old) (written self.new) bytes.now result }
         ensures cause { OnWriteFailed result (Rose (faults self.old) (faults self.new)) }

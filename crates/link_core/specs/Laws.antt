@@ -42,9 +42,9 @@ IsGreeted =
     (before now : ℕ) → WasServed shows mark session end entries (telling old before) (telling new now)
     → end ≢ WriteFault → end ≢ Memory → WasGreeted old new
 
--- Everything that comes over a link is answered: each line and each pause that it had to give, up to its end or up to an
--- answered quit. For these the session made the acts of its course, in their order and each once, and behind them those
--- of leaving; and behind what the link had been written stands the opening, and then the whole answer to each
+-- Everything that comes over a link is answered: each line and each pause that it had to give, up to its end or up to
+-- an answered quit. For these the session made the acts of its course, in their order and each once, and behind them
+-- those of leaving; and behind what the link had been written stands the opening, and then the whole answer to each
 pub record AnswersAll (shows : ℕ → Bool) (session : ℕ) (entries : Log) (old new : Tale) : Type 0 where
   pub inputs : List Input
   pub made : Log

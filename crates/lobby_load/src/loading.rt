@@ -52,8 +52,8 @@ fn lobby_of(alloc: Global, pairs: Vec<Pair>) -> Result<Lobby, LoadRefusal>
     Ok(lobby)
 }
 
-/// Adds these pairs to a lobby at its opening, in their order. Each is let go once it was read, so that the records aren't
-/// in memory beside the games that were made of them.
+/// Adds these pairs to a lobby at its opening, in their order. Each is let go once it was read, so that the records
+/// aren't in memory beside the games that were made of them.
 fn fill(alloc: Global, lobby: &mut Lobby, pairs: Vec<Pair>) -> Result<(), LoadRefusal>
     requires ascending { IsAscending pairs.items }
     requires empty { lobby.old ≡ opening }

@@ -56,8 +56,8 @@ impl Register {
     }
 }
 
-/// Puts the line behind those that wait for the member of the session, where it is one and fewer than 512 do. Running out
-/// of memory changes nothing.
+/// Puts the line behind those that wait for the member of the session, where it is one and fewer than 512 do. Running
+/// out of memory changes nothing.
 pub(crate) fn tell_session(members: &mut Members, session: u32, line: Line) -> Result<(), NoMemory>
     ensures ok { OnOk result (members.new ≡ broadcast (is_session session) line members.old) }
     ensures err { OnErr result (members.new ≡ members.old) }

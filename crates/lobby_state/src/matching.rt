@@ -118,7 +118,8 @@ fn put_and_tell_named(
     Ok(())
 }
 
-/// The challenge stands, and the line of it waits behind these. Where memory runs out behind the line, it is taken back.
+/// The challenge stands, and the line of it waits behind these. Where memory runs out behind the line, it is taken
+/// back.
 fn put_and_tell(
     challenges: &mut MatchBook,
     challenge: Challenge,

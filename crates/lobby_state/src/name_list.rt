@@ -76,8 +76,8 @@ fn change_list(
     }
 }
 
-/// Puts the name on the list, or takes it off. Refuses with `OnList` where it is on it, and else with `ListFull` where 100
-/// are; and where it is taken off, which takes no memory, with `NotOnList` where it isn't on it.
+/// Puts the name on the list, or takes it off. Refuses with `OnList` where it is on it, and else with `ListFull` where
+/// 100 are; and where it is taken off, which takes no memory, with `NotOnList` where it isn't on it.
 fn change_names(names: &mut NameList, name: HandleKey, on: bool) -> Result<(), Fail>
     ensures { Takes (naming names.old name on) names.old names.new result }
 {

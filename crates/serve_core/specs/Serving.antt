@@ -92,8 +92,8 @@ pub record Says (text : List ℕ) (said : Sent) (before after : Sheet) : Type 0 
   pub cause : OnWriteFailed said (Rose before.faults after.faults)
   pub calm : UnlessWriteFailed said (after.faults ≡ before.faults)
 
--- `ready` wasn't written out: the sink failed or memory ran out. Nothing else was written, no link was taken, and serving
--- ended by what became of that write and by the last turn of the steward, as at a door that is closed
+-- `ready` wasn't written out: the sink failed or memory ran out. Nothing else was written, no link was taken, and
+-- serving ended by what became of that write and by the last turn of the steward, as at a door that is closed
 pub record StopsUnready (end : ServeEnd) (last : StewardEnd) (count : ℕ) (before after : Sheet) : Type 0 where
   pub none_taken : count ≡ 0
   pub said : Sent
