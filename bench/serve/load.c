@@ -4,8 +4,11 @@
  *   END is the text that ends an answer ('fics% ' of ficsd, a line feed of the echo server)
  *   KIND is 'echo' (no login), 'empty' (login, then empty lines), 'who' (login, and then the first link asks who is in
  *   the hall, and the others say nothing), 'moves' (login, and then each two links play games: only accepted moves are
- *   counted, and one line of each game is under way), or 'idle' (login, and then nothing for those seconds) */
+ *   counted, and one line of each game is under way), 'counted' (the same until so many moves were answered as SECONDS
+ *   says), or 'idle' (login, and then nothing for those seconds) */
 #include <arpa/inet.h>
+#include <limits.h>
+#include <math.h>
 #include <netinet/in.h>
 #include <poll.h>
 #include <stdio.h>
@@ -110,8 +113,8 @@ static struct peer *step_of(struct peer *pair, int step, char *line, size_t room
     return &pair[half == HALF_MOVES ? 0 : 1];
 }
 
-/* plays by pairs until the time is over, and gives the moves that were answered */
-static long play(struct pollfd *polls, int links, double last)
+/* plays by pairs until the time is over or so many moves were answered, and gives those that were */
+static long play(struct pollfd *polls, int links, double last, long most)
 {
     static int steps[MOST / 2];
     static const char *signs[MOST / 2];
@@ -122,7 +125,7 @@ static long play(struct pollfd *polls, int links, double last)
         says[i] = step_of(&peers[2 * i], 0, line, sizeof line, &signs[i]);
         say(says[i], line);
     }
-    while (now() < last) {
+    while (trips < most && now() < last) {
         if (poll(polls, links, 100) < 0) fail("poll");
         for (int i = 0; i < links; i++) {
             int at = i / 2;
@@ -154,7 +157,7 @@ int main(int count, char **words)
     int links = atoi(words[2]), rest = atoi(words[3]);
     const char *end = words[4], *kind = words[5];
     int echo = !strcmp(kind, "echo"), idle = !strcmp(kind, "idle"), moves = !strcmp(kind, "moves");
-    int who = !strcmp(kind, "who");
+    int who = !strcmp(kind, "who"), counted = !strcmp(kind, "counted");
     const char *line = who ? "who\n" : "\n";
     static struct pollfd polls[MOST];
     struct sockaddr_in at = {.sin_family = AF_INET};
@@ -175,8 +178,8 @@ int main(int count, char **words)
     }
     double start = now(), last = start + rest;
     long trips = 0;
-    if (moves) {
-        trips = play(polls, links, last);
+    if (moves || counted) {
+        trips = counted ? play(polls, links, HUGE_VAL, rest) : play(polls, links, last, LONG_MAX);
         printf("%ld %.3f\n", trips, now() - start);
         return 0;
     }

@@ -1,5 +1,5 @@
 -- Sets of a placement after one square has changed.
-use Rattle.std.proofs.Common.{arith, ◌≡◌, ◌≢◌, ◌↔◌, ℕ, ◌-◌, ◌*◌, ◌%◌, ◌^◌, ◌<◌, ◌≤◌, ◌⊎◌, Bool, true, false, nat_eq, is_some, length, refl, sym, ap, subst, ◌∙◌, inl, inr, Option, Some, None, List, w64, replicate}
+use Rattle.std.proofs.Common.{arith, ◌≡◌, ◌≢◌, ◌↔◌, ℕ, ◌-◌, ◌*◌, ◌%◌, ◌^◌, ◌<◌, ◌⊎◌, Bool, true, false, nat_eq, is_some, length, refl, sym, ap, subst, ◌∙◌, inl, inr, Option, Some, None, List, w64, replicate}
 use Rattle.std.specs.Prelude.{slice_set, slice_index}
 use Rattle.std.specs.Int.{bit_at, bit_not}
 use Rattle.std.specs.Int.RustNames.{bit_or}
@@ -9,15 +9,12 @@ use Rattle.std.proofs.lemmas.Bool.Decides.{eqb_tells}
 use Rattle.std.proofs.lemmas.List.{length-set, get_or-set_other, get_or-set_same, get_or-replicate}
 use Rattle.std.proofs.lemmas.Nat.Bits.{bit_at_set_same, bit_at_set_other, bit_at_clear_same, bit_at_clear_other, bit_at-zero, bit_at_not, bit_at-lt}
 use Rattle.chess_model.specs.declared.man.Colour.{Colour}
-use Rattle.chess_model.specs.declared.man.Colour.TheVariants.{White, Black}
 use Rattle.chess_model.specs.declared.man.Kind.{Kind}
 use Rattle.chess_model.specs.declared.man.Kind.TheVariants.{Pawn, Knight, Bishop, Rook, Queen, King}
 use Rattle.chess_model.specs.declared.man.Man.{Man}
 use Rattle.chess_model.specs.Men.{same_colour, is_held_by}
 use Rattle.chess_model.specs.Placement.{Placement, man_at, opposite, IsHeldBy}
-use Rattle.chess_model.specs.Squares.{files_apart, distance}
-use Rattle.bitboard_core.proofs.StrikesBack.{Clear-near}
-use Rattle.chess_model.specs.Reach.{IsForward, IsStep, Clear, Goes}
+use Rattle.chess_model.specs.Reach.{IsStep, Clear, Goes}
 use Rattle.bitboard_core.specs.declared.bits.Bits.TheInside.{Inside}
 use Rattle.bitboard_core.specs.declared.sides.Side.{Side}
 use Rattle.bitboard_core.specs.BitsFields.{AreKept}
@@ -25,6 +22,10 @@ use Rattle.bitboard_core.specs.Sets.{Has, IsSetOf, bit_if}
 use Rattle.bitboard_core.specs.Strikers.{man_place, is_placed, is_promoted, AreMenOf, IsStruckSet, IsPushSet, IsReachSet}
 use Rattle.bitboard_core.proofs.SetLemmas.{bit_if-true, bit_if-of_true, Has-or, Has-or_left, Has-or_right, Has-and, Has-and_both}
 use Rattle.bitboard_core.proofs.StrikerLemmas.{same_place}
+use Rattle.chess_model.proofs.TestsDecide.{same_colour-self}
+use Rattle.chess_model.proofs.StandsAfter.{same_colour-eq}
+use Rattle.chess_model.proofs.Captures.{forward-near}
+use Rattle.chess_model.proofs.ChessLaws.{Clear-near}
 
 -- the square that was written, and the others
 written : (P : Placement) (s t : ℕ) (man : Option Man) → s < length P → (t ≡ s → man_at (slice_set P s man) t ≡ man) × (t ≢ s → man_at (slice_set P s man) t ≡ man_at P t)
@@ -171,21 +172,11 @@ six a b c d e f t h = elim (Has-or (bit_or (bit_or (bit_or (bit_or a b) c) d) e)
   ]
 ]
 
-same_own : (c : Colour) → same_colour c c ≡ true
-same_own White = refl
-same_own Black = refl
-
-colour_of_same : (c d : Colour) → same_colour c d ≡ true → c ≡ d
-colour_of_same White White e = refl
-colour_of_same White Black e = absurd (true≢false (sym e))
-colour_of_same Black White e = absurd (true≢false (sym e))
-colour_of_same Black Black e = refl
-
 held-of-placed : (c : Colour) (k : Kind) (man : Option Man) → is_placed (man_place c k) man ≡ true → is_held_by c man ≡ true
 held-of-placed c k None e = absurd (true≢false (sym e))
 held-of-placed c k (Some m) e =
     let same = same_place m.colour c m.kind k (eqb-true (man_place m.colour m.kind) (man_place c k) e) in
-    ap (λ x. same_colour x c) same.0 ∙ same_own c
+    ap (λ x. same_colour x c) same.0 ∙ same_colour-self c
 
 held_at : (P : Placement) (c : Colour) (k : Kind) (set t : ℕ) → IsSetOf (is_placed (man_place c k)) P set → t < 64 → Has set t →
     is_held_by c (man_at P t) ≡ true
@@ -240,7 +231,7 @@ module _ (P : Placement) (c : Colour) (side : Side) (men : AreMenOf P c side) wh
   of_man : (t : ℕ) (man : Option Man) → t < 64 → man_at P t ≡ man → is_held_by c man ≡ true → Has all_of t
   of_man t None lt e h = absurd (true≢false (sym h))
   of_man t (Some m) lt e h =
-      let same : m.colour ≡ c = colour_of_same m.colour c h in
+      let same : m.colour ≡ c = same_colour-eq m.colour c h in
       let place : man_place m.colour m.kind ≡ man_place c m.kind = ap (λ x. man_place x m.kind) same in
       by_kind t m.kind lt (ap (is_placed (man_place c m.kind)) e ∙ eq-eqb (man_place m.colour m.kind) (man_place c m.kind) place)
 
@@ -258,13 +249,13 @@ men_of_colour P c side men = held_set P c side men
 
 held-IsHeldBy : (c : Colour) (man : Option Man) → is_held_by c man ≡ true → IsHeldBy c man
 held-IsHeldBy c None e = absurd (true≢false (sym e))
-held-IsHeldBy c (Some m) e = colour_of_same m.colour c e
+held-IsHeldBy c (Some m) e = same_colour-eq m.colour c e
 
 IsHeldBy-held : (c : Colour) (man : Option Man) → IsHeldBy c man → is_held_by c man ≡ true
 IsHeldBy-held c None h = absurd h
-IsHeldBy-held c (Some m) h = ap (λ x. same_colour x c) h ∙ same_own c
+IsHeldBy-held c (Some m) h = ap (λ x. same_colour x c) h ∙ same_colour-self c
 
-Has-held : (P : Placement) (c : Colour) (set t : ℕ) → IsSetOf (is_held_by c) P set → t < 64 → Has set t ↔ IsHeldBy c (man_at P t)
+pub Has-held : (P : Placement) (c : Colour) (set t : ℕ) → IsSetOf (is_held_by c) P set → t < 64 → Has set t ↔ IsHeldBy c (man_at P t)
 Has-held P c set t all lt = (
   λ h. held-IsHeldBy c (man_at P t) (bit_if-true (is_held_by c (man_at P t)) (sym (all.each t lt) ∙ h)),
   λ h. all.each t lt ∙ bit_if-of_true (is_held_by c (man_at P t)) (IsHeldBy-held c (man_at P t) h),
@@ -304,10 +295,6 @@ reach_of_struck P c King s struck own other fits all hit = record { each = goes-
 
 none_is_not_some : (t : ℕ) (o : Option ℕ) → o ≡ None → o ≡ Some t → ⊥
 none_is_not_some t o e h = cc
-
-forward-near : (c : Colour) (a b : ℕ) → files_apart a b ≡ 1 → IsForward c 1 a b → distance a b ≤ 1
-forward-near White a b files h = omega (arith, files, h)
-forward-near Black a b files h = omega (arith, files, h)
 
 near : (P : Placement) (c : Colour) (a b : ℕ) → IsStep c Pawn a b → Clear P a b
 unfolding IsStep

@@ -7,5 +7,4 @@ pub mod SquareLemmas
 pub mod StepLemmas
 pub mod StopLemmas
 pub mod StrikerLemmas
-pub mod StrikesBack
 pub mod TableFacts

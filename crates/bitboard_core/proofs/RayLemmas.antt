@@ -1,5 +1,5 @@
 -- The squares of a way in order, and the squares between two of them.
-use Rattle.std.proofs.Common.{arith, ◌≡◌, ℕ, ◌+◌, ◌*◌, ◌<◌, ◌≤◌, ◌⊎◌, Bool, ◌&&◌, nat_lt, sym, ap, subst, ◌∙◌, inl, inr, max, get_or, List}
+use Rattle.std.proofs.Common.{arith, ◌≡◌, ℕ, ◌+◌, ◌*◌, ◌<◌, ◌≤◌, Bool, ◌&&◌, nat_lt, sym, ap, subst, ◌∙◌, inl, inr, max, get_or, List}
 use Rattle.std.specs.Prelude.{⊤}
 use Rattle.std.specs.Bool.{Decides}
 use Rattle.std.proofs.lemmas.Bool.Decides.{Decides-eqb, Decides-ltb, Decides-and}
@@ -12,6 +12,7 @@ use Rattle.bitboard_core.specs.Stops.{IsUpStop, IsDownStop}
 use Rattle.bitboard_core.specs.declared.tables.TheConstants.{NORTH, EAST, SOUTH, WEST, NORTH_EAST, NORTH_WEST, SOUTH_EAST, SOUTH_WEST}
 use Rattle.bitboard_core.proofs.TableFacts.{north_is, east_is, south_is, west_is, north_east_is, north_west_is, south_east_is, south_west_is}
 use Rattle.bitboard_core.proofs.SetLemmas.{table_of-at, bit_at-set_of, bit_if-true, bit_if-of_true}
+use Rattle.chess_model.proofs.Weights.{square_at-parts}
 
 -- the coordinate after k of d steps
 toward-leads : (s : Sense) (x y k d : ℕ) → Leads s x y d → k ≤ d → Leads s x (toward x y k) k
@@ -87,10 +88,10 @@ sinks-number Falls Falls x y z w d p q k way h = omega (arith, h.file, h.rank, h
 
 -- squares by their coordinates
 
-file_of-square_at : (f r : ℕ) → f < 8 → file_of (square_at f r) ≡ f
+pub file_of-square_at : (f r : ℕ) → f < 8 → file_of (square_at f r) ≡ f
 file_of-square_at f r l = omega arith
 
-rank_of-square_at : (f r : ℕ) → f < 8 → rank_of (square_at f r) ≡ r
+pub rank_of-square_at : (f r : ℕ) → f < 8 → rank_of (square_at f r) ≡ r
 rank_of-square_at f r l = omega arith
 
 pub file-lt : (s : ℕ) → file_of s < 8
@@ -98,9 +99,6 @@ file-lt s = omega arith
 
 pub rank-lt : (s : ℕ) → s < 64 → rank_of s < 8
 rank-lt s l = omega arith
-
-pub square_at-parts : (s : ℕ) → square_at (file_of s) (rank_of s) ≡ s
-square_at-parts s = omega arith
 
 -- a way that goes somewhere: after k steps the distance is k
 abbrev Goes : Sense → Sense → Type 0

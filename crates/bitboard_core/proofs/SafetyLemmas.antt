@@ -13,11 +13,12 @@ use Rattle.bitboard_core.specs.declared.sides.Side.{Side}
 use Rattle.bitboard_core.specs.Sets.{Has}
 use Rattle.bitboard_core.specs.Strikers.{man_place, is_placed, IsOccupied, AreMenOf, AreKingsOf, IsStrikerSet}
 use Rattle.bitboard_core.proofs.SetLemmas.{bit_if-true, bit_if-of_true}
-use Rattle.bitboard_core.proofs.StrikerLemmas.{same_place, opposite-opposite}
+use Rattle.bitboard_core.proofs.StrikerLemmas.{same_place}
 use Rattle.std.proofs.lemmas.Nat.Bits.{bit_at-trailing_zeros}
 use Rattle.std.proofs.Common.{◌^◌, not, nat_eq, w64}
 use Rattle.std.specs.Int.{trailing_zeros}
 use Rattle.std.proofs.lemmas.Bool.Decides.{eqb_tells}
+use Rattle.chess_model.proofs.ChessLaws.{opposite-opposite}
 
 -- no king below n is attacked
 abbrev pub AreCheckedBelow : Side → Colour → ℕ → ℕ → ℕ → Type 0
@@ -36,7 +37,7 @@ place-held c k (Some m) e = same_place m.colour c m.kind k (eqb-true (man_place 
 king-Has : (P : Placement) (c : Colour) (kings k : ℕ) → AreKingsOf P c kings → k < 64 → IsInCheckOn P c k → Has kings k
 king-Has P c kings k all lk h = all.each k lk ∙ bit_if-of_true (is_placed (man_place c King) (man_at P k)) (held-place c King (man_at P k) h.0)
 
-Has-king : (P : Placement) (c : Colour) (kings k : ℕ) → AreKingsOf P c kings → k < 64 → Has kings k → IsHeldAs c King (man_at P k)
+pub Has-king : (P : Placement) (c : Colour) (kings k : ℕ) → AreKingsOf P c kings → k < 64 → Has kings k → IsHeldAs c King (man_at P k)
 Has-king P c kings k all lk h =
     place-held c King (man_at P k) (bit_if-true (is_placed (man_place c King) (man_at P k)) (sym (all.each k lk) ∙ h))
 

@@ -1,5 +1,5 @@
 -- What each man strikes, as a set.
-use Rattle.std.proofs.Common.{arith, ◌≡◌, ◌≢◌, ◌↔◌, ℕ, ◌+◌, ◌^◌, ◌<◌, ◌≤◌, ◌⊎◌, Bool, ◌&&◌, ◌||◌, nat_eq, is_some, get_or, refl, sym, ap, ◌∙◌, inl, inr, max, Option, Some, None, w64}
+use Rattle.std.proofs.Common.{arith, ◌≡◌, ◌≢◌, ◌↔◌, ℕ, ◌^◌, ◌<◌, ◌≤◌, ◌⊎◌, Bool, ◌&&◌, ◌||◌, nat_eq, is_some, get_or, refl, sym, ap, ◌∙◌, inl, inr, Option, Some, None, w64}
 use Rattle.std.specs.Bool.{Decides}
 use Rattle.std.specs.Int.{bit_at, abs_diff, bit_not}
 use Rattle.std.specs.Int.RustNames.{bit_or}
@@ -21,7 +21,7 @@ use Rattle.bitboard_core.specs.Strikers.{IsOccupied, IsStruckSet, IsPushSet}
 use Rattle.bitboard_core.proofs.SetLemmas.{bit_at-set_of, bit_if-true, bit_if-of_true, Has-or, Has-or_left, Has-or_right, Has-and, Has-and_both}
 use Rattle.bitboard_core.proofs.TableFacts.{knight_is, king_is, white_strikes_is, black_strikes_is, white_ahead_is, black_ahead_is}
 use Rattle.bitboard_core.proofs.RayLemmas.{toward-lt, file-lt, rank-lt, Decides-leads, at_table}
-use Rattle.bitboard_core.proofs.StrikesBack.{Clear-near}
+use Rattle.chess_model.proofs.ChessLaws.{Clear-near}
 
 -- empty squares of a placement, and bits that aren't set
 
@@ -33,7 +33,7 @@ bit_of_none : (man : Option Man) → man ≡ None → bit_if (is_some man) ≡ 0
 bit_of_none None e = refl
 bit_of_none (Some m) e = cc
 
-along-lt : (a t k : ℕ) → a < 64 → t < 64 → along a t k < 64
+pub along-lt : (a t k : ℕ) → a < 64 → t < 64 → along a t k < 64
 along-lt a t k la lt =
     let p = toward-lt (file_of a) (file_of t) k (file-lt a) (file-lt t) in
     let q = toward-lt (rank_of a) (rank_of t) k (rank-lt a la) (rank-lt t lt) in

@@ -6,7 +6,7 @@ use lib.Bits.{bit_and}
 use Rattle.std.proofs.lemmas.Bool.{cases_lt}
 use Rattle.std.proofs.lemmas.Nat.Bits.{bit_at_and, bit_at_or, bit_at-lt, bit_at-pow_other, bit_at_ones, bit_at_ones_above, bit_at_mask_inside, bit_at_mask_below}
 use lib.Count.{count_trailing_zeros}
-use Rattle.std.proofs.lemmas.Nat.{or_lt, and_le_l}
+use Rattle.std.proofs.lemmas.Nat.{or_lt, and_le_l, le_or_r}
 use Rattle.std.proofs.lemmas.Nat.Bits.{bit_at-trailing_zeros, ones_shr, ones_shl}
 use Rattle.std.proofs.Math.Nat.{two-pow-succ, div-eq_of_lt}
 use lib.Bits.{or_add_and}
@@ -72,14 +72,11 @@ down_stop ray occupied stop mask within here above e = record { each = λ t lt. 
             let parts = Has-and ray occupied stop both in
             absurd (omega (arith, parts.1, h.1 stop within l parts.0))
 
-or_ge_right : (a b : ℕ) → b ≤ bit_or a b
-or_ge_right a b = omega (arith, or_add_and a b, and_le_l a b)
-
 either-lt : (ray occupied : ℕ) → ray < 2 ^ 64 → bit_or (bit_and ray occupied) (2 ^ 63) < 2 ^ 64
 either-lt ray occupied h = or_lt 64 (bit_and ray occupied) (2 ^ 63) (omega (arith, h, and_le_l ray occupied)) (omega arith)
 
 either-pos : (ray occupied b : ℕ) → 0 < b → 0 < bit_or (bit_and ray occupied) b
-either-pos ray occupied b h = omega (arith, h, or_ge_right (bit_and ray occupied) b)
+either-pos ray occupied b h = omega (arith, h, le_or_r (bit_and ray occupied) b)
 
 pub up_stop-lt : (ray occupied : ℕ) → ray < 2 ^ 64 → count_trailing_zeros 64 (bit_or (bit_and ray occupied) (2 ^ 63)) < 64
 up_stop-lt ray occupied h =

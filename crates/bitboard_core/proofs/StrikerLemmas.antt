@@ -15,11 +15,7 @@ use Rattle.bitboard_core.specs.declared.sides.Side.{Side}
 use Rattle.bitboard_core.specs.Sets.{Has, IsSetOf}
 use Rattle.bitboard_core.specs.Strikers.{man_place, is_placed, AreMenOf, IsStruckSet, IsStrikerSet}
 use Rattle.bitboard_core.proofs.SetLemmas.{bit_if-true, bit_if-of_true, Has-or, Has-or_left, Has-or_right, Has-and, Has-and_both}
-use Rattle.bitboard_core.proofs.StrikesBack.{Strikes-back}
-
-pub opposite-opposite : (c : Colour) → opposite (opposite c) ≡ c
-opposite-opposite White = refl
-opposite-opposite Black = refl
+use Rattle.chess_model.proofs.ChessLaws.{opposite-opposite, Strikes-back}
 
 -- each place has one colour and one kind
 

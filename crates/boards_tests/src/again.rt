@@ -1,15 +1,17 @@
 //! What boards have on which a game was played again.
 
-use crate::games::{Game, Halves, game_of, half_of};
+use crate::games::{Game, game_of};
 use chess_model::Colour;
 use chess_model::Variant::{Bughouse, Chess};
 use fics_words::NoMemory;
 use game_board::GameBoard;
 use game_records::PackedHalf;
+use game_steps::{Halves, half_of};
 use linked_boards::Boards;
 use std::alloc::Global;
 use std::process::Abort;
 use std::test::Fail;
+use test_steps::assert_rows;
 
 /// When the games are resumed, in milliseconds.
 const RESUMED: u64 = 500_000;
@@ -103,11 +105,6 @@ fn is_resumed(
 
 #[test]
 fn boards_are_as_they_were(rt: HostRuntime) -> Result<(), Fail> {
-    for (place, (game, first, second)) in ROWS.iter().enumerate() {
-        assert!(rt;
-            is_resumed(rt.alloc(), *game, *first, *second)?,
-            "row {place}"
-        );
-    }
+    assert_rows!(rt; ROWS, |(game, first, second)| is_resumed(rt.alloc(), *game, *first, *second)?);
     Ok(())
 }

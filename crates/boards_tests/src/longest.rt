@@ -1,12 +1,14 @@
 //! The 1,200 half-moves of a board, and the one that isn't taken.
 
-use crate::games::{Game, Halves, halves_of, players, push_each, stored};
+use crate::games::Game;
 use chess_model::Variant::{Bughouse, Chess};
 use fics_words::NoMemory;
+use game_steps::{Halves, halves_of, players, push_each, stored};
 use linked_boards::replays;
 use std::alloc::Global;
 use std::process::Abort;
 use std::test::Fail;
+use test_steps::assert_rows;
 
 /// Four half-moves that lead back to where they began.
 const AROUND: Halves = &["1g1f3", "1g8f6", "1f3g1", "1f6g8"];
@@ -35,17 +37,12 @@ const ROWS: &[(Game, u16, Halves, bool)] = &[
 fn is_replayed(alloc: Global, game: Game, times: u16, behind: Halves) -> Result<bool, NoMemory> {
     let mut halves = halves_of(alloc, game.2, times)?;
     push_each(&mut halves, behind)?;
-    let game = stored(alloc, game, players(game.1), halves)?;
+    let game = stored(alloc, (game.0, 0), game.1, players(game.1), halves)?;
     replays(alloc, &game)
 }
 
 #[test]
 fn a_board_has_1_200_half_moves(rt: HostRuntime) -> Result<(), Fail> {
-    for (place, (game, times, behind, expected)) in ROWS.iter().enumerate() {
-        assert!(rt;
-            is_replayed(rt.alloc(), *game, *times, behind)? == *expected,
-            "row {place}"
-        );
-    }
+    assert_rows!(rt; ROWS, |row| is_replayed(rt.alloc(), row.0, row.1, row.2)? == row.3);
     Ok(())
 }

@@ -1,17 +1,19 @@
 //! Who may have played a game that is played again.
 
-use crate::games::{Game, halves_of, stored};
 use chess_model::Variant::{self, Bughouse, Chess, Fischer};
 use fics_words::NoMemory;
+use game_steps::{halves_of, stored};
 use linked_boards::replays;
 use std::alloc::Global;
 use std::process::Abort;
 use std::test::Fail;
+use test_steps::assert_rows;
+use test_steps::limits::MINUTES;
 
 /// Minutes, the variant, the names, and whether a game of them that hasn't begun is played again.
 const ROWS: &[(u16, Variant, &[&[u8]], bool)] = &[
-    (600, Chess, &[b"Ann", b"Ben"], true),
-    (601, Chess, &[b"Ann", b"Ben"], false),
+    (MINUTES, Chess, &[b"Ann", b"Ben"], true),
+    (MINUTES + 1, Chess, &[b"Ann", b"Ben"], false),
     (0, Fischer(959), &[b"Ann", b"Ben"], true),
     (0, Fischer(960), &[b"Ann", b"Ben"], false),
     (0, Chess, &[b"Ann"], false),
@@ -32,17 +34,12 @@ fn is_replayed(
     names: &[&[u8]],
 ) -> Result<bool, NoMemory> {
     let halves = halves_of(alloc, &[], 1)?;
-    let game = stored(alloc, Game(minutes, variant, &[]), names, halves)?;
+    let game = stored(alloc, (minutes, 0), variant, names, halves)?;
     replays(alloc, &game)
 }
 
 #[test]
 fn a_pair_is_played_by_four(rt: HostRuntime) -> Result<(), Fail> {
-    for (place, (minutes, variant, names, expected)) in ROWS.iter().enumerate() {
-        assert!(rt;
-            is_replayed(rt.alloc(), *minutes, *variant, names)? == *expected,
-            "row {place}"
-        );
-    }
+    assert_rows!(rt; ROWS, |row| is_replayed(rt.alloc(), row.0, row.1, row.2)? == row.3);
     Ok(())
 }

@@ -7,6 +7,7 @@ use linked_boards::replays;
 use std::alloc::Global;
 use std::process::Abort;
 use std::test::Fail;
+use test_steps::assert_rows;
 
 /// A game, and whether it is played again.
 const ROWS: &[(Game, bool)] = &[
@@ -98,8 +99,6 @@ fn is_replayed(alloc: Global, game: Game) -> Result<bool, NoMemory> {
 
 #[test]
 fn games_replay(rt: HostRuntime) -> Result<(), Fail> {
-    for (place, (game, expected)) in ROWS.iter().enumerate() {
-        assert!(rt; is_replayed(rt.alloc(), *game)? == *expected, "row {place}");
-    }
+    assert_rows!(rt; ROWS, |(game, expected)| is_replayed(rt.alloc(), *game)? == *expected);
     Ok(())
 }

@@ -3,6 +3,7 @@
 use channel_feed::{Channels, NameList};
 use fics_words::{Fail, Handle, Refusal};
 use std::test::Fail as TestFail;
+use test_steps::assert_rows;
 
 /// What a call has to answer: nothing where it is done, and else the refusal; `TooLong` stands for want of memory.
 type Answer = Option<Refusal>;
@@ -66,20 +67,10 @@ fn is_as_expected(channels: &mut Channels, step: &Step) -> bool {
     }
 }
 
-/// The place of the first step that answers otherwise, if one does.
-fn first_failing(channels: &mut Channels) -> Option<usize> {
-    for (place, step) in STEPS.iter().enumerate() {
-        if !is_as_expected(channels, step) {
-            return Some(place);
-        }
-    }
-    None
-}
-
 #[test]
 fn players_come_and_go(rt: HostRuntime) -> Result<(), TestFail> {
     let mut channels = Channels::new(rt.alloc());
-    assert_eq!(rt; first_failing(&mut channels), None);
+    assert_rows!(rt; STEPS, |step| is_as_expected(&mut channels, step));
     Ok(())
 }
 

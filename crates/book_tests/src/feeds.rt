@@ -4,6 +4,7 @@ use fics_words::{Fail, Refusal};
 use memory::{Duplicate, NoMemory};
 use observer_feed::{Feed, Told};
 use std::test::Fail as TestFail;
+use test_steps::assert_rows;
 
 /// What is told, by its number.
 #[derive(Drop)]
@@ -152,19 +153,9 @@ fn is_as_expected(feed: &mut Feed<Said>, step: &Step) -> bool {
     }
 }
 
-/// The place of the first step that answers otherwise, if one does.
-fn first_failing(feed: &mut Feed<Said>) -> Option<usize> {
-    for (place, step) in STEPS.iter().enumerate() {
-        if !is_as_expected(feed, step) {
-            return Some(place);
-        }
-    }
-    None
-}
-
 #[test]
 fn viewers_are_given_each_item_once(rt: HostRuntime) -> Result<(), TestFail> {
     let mut feed = Feed::new(rt.alloc());
-    assert_eq!(rt; first_failing(&mut feed), None);
+    assert_rows!(rt; STEPS, |step| is_as_expected(&mut feed, step));
     Ok(())
 }

@@ -3,6 +3,7 @@
 use chess_model::{Terms, Variant};
 use seek_match::{Challenge, MatchBook};
 use std::test::Fail;
+use test_steps::assert_rows;
 
 /// A call, and what it has to answer.
 #[derive(Clone, Copy)]
@@ -92,19 +93,9 @@ fn is_as_expected(book: &mut MatchBook, step: &Step) -> bool {
     }
 }
 
-/// The place of the first step that answers otherwise, if one does.
-fn first_failing(book: &mut MatchBook) -> Option<usize> {
-    for (place, step) in STEPS.iter().enumerate() {
-        if !is_as_expected(book, step) {
-            return Some(place);
-        }
-    }
-    None
-}
-
 #[test]
 fn challenges_come_and_go(rt: HostRuntime) -> Result<(), Fail> {
     let mut book = MatchBook::new(rt.alloc());
-    assert_eq!(rt; first_failing(&mut book), None);
+    assert_rows!(rt; STEPS, |step| is_as_expected(&mut book, step));
     Ok(())
 }

@@ -3,6 +3,7 @@
 use fics_words::Refusal;
 use offer_book::{Offer, Offers};
 use std::test::Fail;
+use test_steps::first_wrong;
 
 /// What a call has to answer: that the offer stands, that it takes effect, that it is declined, or the refusal.
 #[derive(Clone, Copy, PartialEq, Eq)]
@@ -129,12 +130,7 @@ fn is_as_expected(offers: &mut Offers, step: &Step) -> bool {
 
 /// The place of the first step that answers otherwise, if one does.
 fn first_failing(offers: &mut Offers, steps: &[Step]) -> Option<usize> {
-    for (place, step) in steps.iter().enumerate() {
-        if !is_as_expected(offers, step) {
-            return Some(place);
-        }
-    }
-    None
+    first_wrong!(steps, |step| is_as_expected(offers, step))
 }
 
 #[test]

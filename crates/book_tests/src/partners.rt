@@ -3,6 +3,7 @@
 use fics_words::{Fail, Refusal};
 use partner_link::Partners;
 use std::test::Fail as TestFail;
+use test_steps::assert_rows;
 
 /// What a call has to answer: that it was done, that the two are partners now, or the refusal.
 #[derive(Clone, Copy, PartialEq, Eq)]
@@ -85,19 +86,9 @@ fn is_as_expected(partners: &mut Partners, step: &Step) -> bool {
     }
 }
 
-/// The place of the first step that answers otherwise, if one does.
-fn first_failing(partners: &mut Partners) -> Option<usize> {
-    for (place, step) in STEPS.iter().enumerate() {
-        if !is_as_expected(partners, step) {
-            return Some(place);
-        }
-    }
-    None
-}
-
 #[test]
 fn partners_are_asked_and_linked(rt: HostRuntime) -> Result<(), TestFail> {
     let mut partners = Partners::new(rt.alloc());
-    assert_eq!(rt; first_failing(&mut partners), None);
+    assert_rows!(rt; STEPS, |step| is_as_expected(&mut partners, step));
     Ok(())
 }

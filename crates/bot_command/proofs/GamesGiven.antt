@@ -4,7 +4,7 @@ use Rattle.std.specs.Prelude.{◌||◌, nat_le, nat_lt, Option, Result, All, Mat
 use Rattle.std.specs.List.{find, range_with_len}
 use Rattle.std.specs.Option.{option_and_then, option_map_or}
 use Rattle.std.specs.Result.{result_ok}
-use Rattle.std.proofs.lemmas.Bool.{le-leb, le-ltb, leb-false, leb-true, lt-leb}
+use Rattle.std.proofs.lemmas.Bool.{le-leb, le-ltb, leb-false, leb-true, lt-leb, or_parts}
 use Rattle.std.proofs.lemmas.Slice.Eq.{bytes_eq-Decides}
 use Rattle.chess_model.specs.declared.moves.Move.{Move}
 use Rattle.chess_model.specs.declared.moves.MoveWord.{MoveWord}
@@ -22,6 +22,7 @@ use Rattle.bot_command.specs.BotLines.{BotState, answer_line, bot_lines, silent}
 use Rattle.bot_command.specs.Game.{BotGame, array_named, is_over, move_named, new_game, position_of, variant_named, with_drops, with_move, word_played}
 use Rattle.bot_command.specs.Inputs.{Follow, Give, IsNextMove, Names, is_written}
 use Rattle.bot_command.proofs.Variants.{named_array}
+use Rattle.std.proofs.lemmas.Option.{same_Some}
 
 -- ---- the first line
 
@@ -39,9 +40,6 @@ array_named-sound line n e =
     let h = find-sound (λ k. bytes_eq (codes "fischer " ++ decimal k) line) 0 960 n e in
     (omega (arith, h.1), sym ((bytes_eq-Decides (codes "fischer " ++ decimal n) line).0 h.0))
 
-some_is : {A : Type 0} (x y : A) → Some x ≡ Some y → x ≡ y
-some_is x y e = cc
-
 names_chess : (depth : ℕ) (line : List ℕ) → line ≡ codes "chess" → Names depth line Chess
 names_chess depth line is = record {
   named = is;
@@ -53,7 +51,7 @@ names_chess depth line is = record {
 names_drops : (depth : ℕ) (line : List ℕ) (v : Variant) → line ≡ codes "crazyhouse" → with_drops depth ≡ Some v → Names depth line v
 names_drops depth line v is e =
     elim (nat_le depth 3) as (λ t. nat_le depth 3 ≡ t → cond t (Some Crazyhouse) None ≡ Some v → Names depth line v) [
-      | true ↦ λ few got. subst (Names depth line) (some_is Crazyhouse v got) (record {
+      | true ↦ λ few got. subst (Names depth line) (same_Some Crazyhouse v got) (record {
         named = is;
         numbered = tt;
         one_board = λ e. absurd (let bad : Crazyhouse ≡ Bughouse = e in cc);
@@ -69,7 +67,7 @@ names_array depth line v e =
       | Some n ↦ λ is got.
           let h = array_named-sound line n is in
           let same : n ≡ n % 960 = omega (arith, h.0) in
-          subst (Names depth line) (some_is (Fischer n) v got) (record {
+          subst (Names depth line) (same_Some (Fischer n) v got) (record {
             named = h.1 ∙ ap (λ k. codes "fischer " ++ decimal k) same;
             numbered = h.0;
             one_board = λ e. absurd (let bad : Fischer n ≡ Bughouse = e in cc);
@@ -81,7 +79,7 @@ variant_named-sound : (depth : ℕ) (line : List ℕ) (v : Variant) → variant_
 variant_named-sound depth line v e =
     elim (bytes_eq line (codes "chess")) as (λ t. bytes_eq line (codes "chess") ≡ t
     → cond t (Some Chess) (cond (bytes_eq line (codes "crazyhouse")) (with_drops depth) (option_map Fischer (array_named line))) ≡ Some v → Names depth line v) [
-      | true ↦ λ is got. subst (Names depth line) (some_is Chess v got) (names_chess depth line ((bytes_eq-Decides line (codes "chess")).0 is))
+      | true ↦ λ is got. subst (Names depth line) (same_Some Chess v got) (names_chess depth line ((bytes_eq-Decides line (codes "chess")).0 is))
       | false ↦ λ other got.
           elim (bytes_eq line (codes "crazyhouse")) as (λ t. bytes_eq line (codes "crazyhouse") ≡ t
           → cond t (with_drops depth) (option_map Fischer (array_named line)) ≡ Some v → Names depth line v) [
@@ -98,12 +96,8 @@ variant_named-again depth line (Fischer n) h = sym (named_array depth line n h.n
 
 -- ---- the other lines
 
-both_false : (a b : Bool) → a || b ≡ false → (a ≡ false) × (b ≡ false)
-both_false true b e = absurd (let bad : true ≡ false = e in cc)
-both_false false b e = (refl, e)
-
 ok_is : (r : Result Move Rejection) (m : Move) → result_ok r ≡ Some m → r ≡ Ok m
-ok_is (Ok x) m e = ap Ok (some_is x m e)
+ok_is (Ok x) m e = ap Ok (same_Some x m e)
 ok_is (Err x) m e = absurd (let bad : None ≡ Some m = e in cc)
 
 word_played-sound : (game : BotGame) (line : List ℕ) (w : MoveWord) (m : Move) → reading line ≡ Some w → word_played game w ≡ Some m → IsNextMove game line m
@@ -112,7 +106,7 @@ word_played-sound game line w m read e =
     elim (is_over game) as (λ t. is_over game ≡ t → cond t None (result_ok (word_answer p w)) ≡ Some m → IsNextMove game line m) [
       | true ↦ λ over got. absurd (let bad : None ≡ Some m = got in cc)
       | false ↦ λ goes got.
-          let both = both_false (is_end (result p)) (nat_le 1200 (length game.moves)) goes in
+          let both = or_parts (is_end (result p)) (nat_le 1200 (length game.moves)) goes in
           record {
             word = w;
             reads = reading-sound line w read;

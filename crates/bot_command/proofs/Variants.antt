@@ -1,29 +1,12 @@
 -- The variant that a line names.
-use Rattle.std.proofs.Common.{◌≡◌, ◌≢◌, ℕ, zero, suc, ◌+◌, ◌%◌, ◌<◌, ◌≤◌, Bool, true, false, cond, List, ◌++◌, get_or, Some, None, decimal, bytes_eq, refl, sym, ap, ◌∙◌, inl, inr, arith}
+use Rattle.std.proofs.Common.{◌≡◌, ◌≢◌, ℕ, zero, suc, ◌+◌, ◌%◌, ◌<◌, Bool, true, false, cond, List, ◌++◌, get_or, Some, None, decimal, bytes_eq, refl, sym, ap, ◌∙◌, arith}
 use Rattle.std.specs.Prelude.{codes, option_map}
-use Rattle.std.specs.List.{find, range_with_len}
-use Rattle.std.proofs.lemmas.Bool.{cases_eq, false_from_ne_true}
+use Rattle.std.proofs.lemmas.Bool.{false_from_ne_true}
 use Rattle.std.proofs.lemmas.Fmt.{decimal_injective}
 use Rattle.std.proofs.lemmas.Slice.Eq.{bytes_eq-Decides}
 use Rattle.chess_model.specs.declared.variant.Variant.TheVariants.{Chess, Fischer}
 use Rattle.bot_command.specs.Game.{array_named, variant_named, with_drops}
-
-find-none : (p : ℕ → Bool) (a k : ℕ) → ((j : ℕ) → j < a + k → p j ≡ false) → find p (range_with_len a k) ≡ None
-find-none p a zero h = refl
-find-none p a (suc k) h =
-    ap (λ t. cond t (Some a) (find p (range_with_len (a + 1) k))) (h a (omega arith))
-    ∙ find-none p (a + 1) k (λ j q. h j (omega (arith, q)))
-
-find-one : (p : ℕ → Bool) (a k o : ℕ) → a ≤ o → o < a + k → p o ≡ true → ((j : ℕ) → (j ≡ o → ⊥) → j < a + k → p j ≡ false) → find p (range_with_len a k) ≡ Some o
-find-one p a zero o low high hit h = absurd (omega arith)
-find-one p a (suc k) o low high hit h =
-    let rest = find p (range_with_len (a + 1) k) in
-    elim (cases_eq a o) as (λ _. cond (p a) (Some a) rest ≡ Some o) [
-      | inl same ↦ ap (λ t. cond t (Some a) rest) (ap p same ∙ hit) ∙ ap (λ k. Some k) same
-      | inr other ↦
-          ap (λ t. cond t (Some a) rest) (h a other (omega arith))
-          ∙ find-one p (a + 1) k o (let q : a + 1 ≤ o = omega (arith, other, low) in q) (omega arith) hit (λ j apart q. h j apart (omega (arith, q)))
-    ]
+use Rattle.line_answers.proofs.InRange.{find-none, find-one}
 
 same_array : (n k : ℕ) → codes "fischer " ++ decimal n ≡ codes "fischer " ++ decimal k → decimal n ≡ decimal k
 same_array n k e = cc
@@ -39,7 +22,7 @@ array_found line n few is =
 array_missing : (line : List ℕ) → ((n : ℕ) → n < 960 → line ≢ codes "fischer " ++ decimal n) → array_named line ≡ None
 unfolding array_named
 array_missing line none =
-    find-none (λ k. bytes_eq (codes "fischer " ++ decimal k) line) 0 960 (λ j q. false_from_ne_true (bytes_eq (codes "fischer " ++ decimal j) line) (λ e.
+    find-none (λ k. bytes_eq (codes "fischer " ++ decimal k) line) 0 960 (λ j low q. false_from_ne_true (bytes_eq (codes "fischer " ++ decimal j) line) (λ e.
     none j q (sym ((bytes_eq-Decides (codes "fischer " ++ decimal j) line).0 e))))
 
 differs : (line text : List ℕ) → line ≢ text → bytes_eq line text ≡ false

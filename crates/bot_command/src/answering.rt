@@ -1,9 +1,8 @@
 //! The command `bot`: the lines of the input make a game, and the bot answers at its end.
 
-ghost use Rattle.std.specs.Prelude.{◌≡◌, ◌≤◌, ◌++◌, IfOk, OnOk};
+ghost use Rattle.std.specs.Prelude.{◌≡◌, ◌≤◌};
 ghost use Rattle.edge_traits.specs.Faults.{Rose};
 ghost use Rattle.line_answers.specs.Ends.{OnReadFault, OnWriteFault};
-ghost use Rattle.line_answers.specs.LineCommand.{IsAnswer};
 ghost use Rattle.bot_command.specs.BotEnds.{BotEnds};
 ghost use Rattle.bot_command.specs.BotLines.{answer_line, bot_answer};
 

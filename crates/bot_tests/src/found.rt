@@ -7,6 +7,7 @@ use memory::NoMemory;
 use move_reader::read_word;
 use std::alloc::Global;
 use std::test::Fail;
+use test_steps::assert_rows;
 use variant_rules::Position;
 
 /// A position, as the words that lead to it, and what is to be found there.
@@ -239,18 +240,8 @@ fn holds(alloc: Global, row: &Row) -> Result<bool, NoMemory> {
     }
 }
 
-/// The place of the first row that doesn't hold, if one doesn't.
-fn first_wrong(alloc: Global, rows: &[Row]) -> Result<Option<usize>, NoMemory> {
-    for place in 0..rows.len() {
-        if !holds(alloc, &rows[place])? {
-            return Ok(Some(place));
-        }
-    }
-    Ok(None)
-}
-
 #[test]
 fn moves_and_values(rt: HostRuntime) -> Result<(), Fail> {
-    assert_eq!(rt; first_wrong(rt.alloc(), ROWS)?, None);
+    assert_rows!(rt; ROWS, |row| holds(rt.alloc(), row)?);
     Ok(())
 }

@@ -10,19 +10,12 @@ use Rattle.channel_feed.specs.declared.channels.Membership.{Membership}
 use Rattle.channel_feed.specs.Channels.{is_in, is_row}
 use Rattle.channel_feed.specs.NameLists.{is_on}
 use Rattle.channel_feed.specs.Laws.{Joins, Leaves, LeavesAll, NamesComeAndGo}
+use Rattle.std.specs.Cmp.{first_so, second_so}
 
 or_none : (a b : Bool) → b ≡ false → (a || (b || false)) ≡ a
 or_none true b e = refl
 or_none false true e = e
 or_none false false e = refl
-
-left_true : (a b : Bool) → (a && b) ≡ true → a ≡ true
-left_true true b h = refl
-left_true false b h = h
-
-right_true : (a b : Bool) → (a && b) ≡ true → b ≡ true
-right_true true b h = h
-right_true false b h = absurd (let bad : false ≡ true = h in cc)
 
 pub joins : (rows : List Membership) (who channel : ℕ) → Joins rows who channel
 joins rows who channel =
@@ -39,8 +32,8 @@ joins rows who channel =
 differs_from : (who channel other number : ℕ) (row : Membership) → ((other == who) && (number == channel)) ≡ false → is_row other number row ≡ true
     → is_row who channel row ≡ false
 differs_from who channel other number row differs h =
-    ap (λ w. (w == who) && (row.channel == channel)) (eqb-true row.who other (left_true (row.who == other) (row.channel == number) h))
-    ∙ ap (λ c. (other == who) && (c == channel)) (eqb-true row.channel number (right_true (row.who == other) (row.channel == number) h))
+    ap (λ w. (w == who) && (row.channel == channel)) (eqb-true row.who other (first_so (row.who == other) (row.channel == number) h))
+    ∙ ap (λ c. (other == who) && (c == channel)) (eqb-true row.channel number (second_so (row.who == other) (row.channel == number) h))
     ∙ differs
 
 pub leaves : (rows : List Membership) (who channel : ℕ) → Leaves rows who channel
@@ -53,10 +46,10 @@ leaves rows who channel = record {
 pub leaves_all : (rows : List Membership) (who : ℕ) → LeavesAll rows who
 leaves_all rows who = record {
   left = λ channel. any-filter_same (is_row who channel) (λ row. not (row.who == who)) false
-      (λ row h. not_from_true (row.who == who) (left_true (row.who == who) (row.channel == channel) h)) rows;
+      (λ row h. not_from_true (row.who == who) (first_so (row.who == who) (row.channel == channel) h)) rows;
   others = λ other channel differs. any-filter_same (is_row other channel) (λ row. not (row.who == who)) true
       (λ row h. not_from_false (row.who == who)
-      (ap (λ w. w == who) (eqb-true row.who other (left_true (row.who == other) (row.channel == channel) h)) ∙ ne_eqb other who differs)) rows;
+      (ap (λ w. w == who) (eqb-true row.who other (first_so (row.who == other) (row.channel == channel) h)) ∙ ne_eqb other who differs)) rows;
 }
 
 pub names_come_and_go : (names : List (List ℕ)) (key : List ℕ) → NamesComeAndGo names key

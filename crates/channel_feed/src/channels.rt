@@ -1,20 +1,30 @@
 //! Who is in which channel.
 ghost use Rattle.std.specs.Prelude.{◌≡◌, ◌==◌, not};
-ghost use Rattle.channel_feed.specs.Channels.{channels_of, is_in, is_row};
+ghost use Rattle.channel_feed.specs.Channels.{channels_of, is_in};
 
-use collections::{Listed, Predicate};
+use collections::Predicate;
 use fics_words::{Duplicate, Fail, NoMemory, Refusal};
 use std::alloc::Global;
 use std::marker::Model;
+use tables::{Keyed, Table};
 
 /// The most channels that a player is in.
 const MOST: usize = 20;
 
 /// A player, by its session, in a channel.
-#[derive(Clone, Copy)]
+#[derive(Clone, Copy, PartialEq, Eq, Hash)]
 pub struct Membership {
     pub who: u32,
     pub channel: u8,
+}
+
+/// A membership is found by itself.
+impl Keyed<Membership> for Membership {
+    ghost key_of = { λ row. row };
+
+    fn key(&self) -> Membership {
+        *self
+    }
 }
 
 impl Duplicate for Membership {
@@ -23,18 +33,6 @@ impl Duplicate for Membership {
         ensures { result ≡ Ok self.now }
     {
         Ok(*self)
-    }
-}
-
-/// Every row but that of this player in this channel.
-#[derive(Clone, Copy)]
-struct WithoutOne(Membership);
-
-impl Predicate<Membership> for WithoutOne {
-    ghost passes = { λ test row. not (is_row test.0.who test.0.channel row) };
-
-    fn passes(&self, row: &Membership) -> bool {
-        !(row.who == self.0.who && row.channel == self.0.channel)
     }
 }
 
@@ -54,7 +52,7 @@ impl Predicate<Membership> for WithoutPlayer {
 /// joining.
 #[derive(Drop)]
 pub struct Channels {
-    rows: Listed<Membership>,
+    rows: Table<Membership, Membership>,
 }
 
 impl Model for Channels {
@@ -76,7 +74,7 @@ impl Channels {
         ensures { result ≡ [] }
     {
         Channels {
-            rows: Listed::new(alloc),
+            rows: Table::new(alloc),
         }
     }
 
@@ -84,10 +82,7 @@ impl Channels {
     pub fn has(&self, who: u32, channel: u8) -> bool
         ensures { result ≡ is_in self.now who channel }
     {
-        self.rows
-            .as_slice()
-            .iter()
-            .any(|row| row.who == who && row.channel == channel)
+        self.rows.has(Membership { who, channel })
     }
 
     /// The player joins the channel. Refuses with `OnList` where it is in it, and else with `ListFull` where it is in
@@ -113,7 +108,7 @@ impl Channels {
         if !self.has(who, channel) {
             return Err(Refusal::NotInChannel);
         }
-        self.rows.retain(&WithoutOne(Membership { who, channel }));
+        self.rows.remove(Membership { who, channel });
         Ok(())
     }
 

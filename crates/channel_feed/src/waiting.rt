@@ -18,7 +18,6 @@ pub struct Waiting {
 }
 
 impl Model for Waiting {
-    ghost use Rattle.std.specs.Prelude.{List, ℕ};
     ghost use Rattle.channel_feed.specs.Waiting.{WaitingLines};
 
     ghost Value = { WaitingLines };

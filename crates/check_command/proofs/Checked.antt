@@ -16,7 +16,7 @@ use Rattle.lobby_load.specs.Telling.{Tells, bad_record_line}
 use Rattle.lobby_load.specs.declared.refusals.StoreFault.{StoreFault}
 use Rattle.lobby_load.specs.declared.refusals.StoreFault.TheVariants as store
 use Rattle.lobby_state.specs.Lobby.{LobbyState}
-use Rattle.store_ends.specs.Outcomes.{OnKeeperFault, OnWriteFault, outcome_of}
+use Rattle.store_ends.specs.Outcomes.{OnWriteFault, outcome_of}
 use Rattle.store_ends.specs.declared.outcome.Outcome.TheVariants.{Read}
 use Rattle.check_command.specs.CheckEnds.{CheckEnds, WritesLine}
 use Rattle.check_command.specs.Counts.{AreCounts, check_line}

@@ -1,9 +1,9 @@
 -- What is among the elements of a list, and what tests over lists decide.
-use Rattle.std.proofs.Common.{arith, ◌≡◌, ℕ, ◌+◌, ◌<◌, ◌≤◌, ◌⊎◌, inl, inr, suc, zero, List, [], ◌∷◌, map, Bool, true, false, ◌||◌, cond, length, nat_lt, ◌++◌, slice_index_or, refl, sym, ap, subst, ◌∙◌}
+use Rattle.std.proofs.Common.{arith, ◌≡◌, ℕ, ◌+◌, ◌<◌, ◌≤◌, ◌⊎◌, inl, inr, suc, zero, List, [], ◌∷◌, map, Bool, true, false, cond, length, nat_lt, ◌++◌, slice_index_or, refl, sym, ap, subst, ◌∙◌}
 use Rattle.std.specs.Bool.{Decides}
 use Rattle.std.specs.List.{list_all, list_any, filter, flat_map, range_with_len, Contains}
 use Rattle.std.proofs.lemmas.Bool.Decides.{Decides-ltb}
-use Rattle.std.proofs.lemmas.Bool.{cases_eq, and_parts, and_from, or_left, or_right}
+use Rattle.std.proofs.lemmas.Bool.{cases_eq, and_parts, and_from, or_left, or_right, or_cases}
 
 -- x is an element
 abbrev pub Among : {A : Type 0} → A → List A → Type 0
@@ -20,13 +20,9 @@ list_all-from f [] h = refl
 list_all-from f (y ∷ ys) h =
     and_from (f y) (list_all f ys) (h y (inl refl)) (list_all-from f ys (λ x a. h x (inr a)))
 
-either_true : (x y : Bool) → (x || y) ≡ true → (x ≡ true) ⊎ (y ≡ true)
-either_true true y h = inl refl
-either_true false y h = inr h
-
 pub list_any-some : {A : Type 0} (f : A → Bool) (xs : List A) → list_any f xs ≡ true → (x : A) × Among x xs × (f x ≡ true)
 list_any-some f [] h = absurd (let no : false ≡ true = h in cc)
-list_any-some f (y ∷ ys) h = elim (either_true (f y) (list_any f ys) h) [
+list_any-some f (y ∷ ys) h = elim (or_cases (f y) (list_any f ys) h) [
   | inl here ↦ (y, inl refl, here)
   | inr later ↦ let t = list_any-some f ys later in (t.0, inr t.1, t.2)
 ]

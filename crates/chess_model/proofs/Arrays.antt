@@ -36,7 +36,7 @@ eight P all (a ∷ b ∷ c ∷ d ∷ e ∷ f ∷ g ∷ h ∷ []) n = all a b c d
 eight P all (a ∷ b ∷ c ∷ d ∷ e ∷ f ∷ g ∷ h ∷ i ∷ more) n = absurd (omega (arith, n))
 
 -- what holds of 0 to 7 holds of each file
-each_file : (P : ℕ → Type 0) → P 0 → P 1 → P 2 → P 3 → P 4 → P 5 → P 6 → P 7 → (file : ℕ) → file < 8 → P file
+pub each_file : (P : ℕ → Type 0) → P 0 → P 1 → P 2 → P 3 → P 4 → P 5 → P 6 → P 7 → (file : ℕ) → file < 8 → P file
 each_file P a b c d e f g h zero n = a
 each_file P a b c d e f g h (suc zero) n = b
 each_file P a b c d e f g h (suc (suc zero)) n = c
@@ -141,13 +141,13 @@ king_test P s = nat_le 56 s || not (is_held_as Black King (man_at P s))
 abbrev white_test : Placement → ℕ → Bool
 white_test P s = nat_lt s 16 || not (is_held_by White (man_at P s))
 
-at_square : (f : ℕ → Bool) → list_all f squares ≡ true → (s : ℕ) → s < 64 → f s ≡ true
+pub at_square : (f : ℕ → Bool) → list_all f squares ≡ true → (s : ℕ) → s < 64 → f s ≡ true
 at_square f all s less = list_all-each f squares all s (Among-range 0 64 s (omega arith) (omega (arith, less)))
 
-from_or : (x y : Bool) → (x || not y) ≡ true → y ≡ true → x ≡ true
-from_or true y h e = refl
-from_or false true h e = h
-from_or false false h e = e
+pub or_not-true : (x y : Bool) → (x || not y) ≡ true → y ≡ true → x ≡ true
+or_not-true true y h e = refl
+or_not-true false true h e = h
+or_not-true false false h e = e
 
 abbrev squares_tested : List Kind → Type 0
 squares_tested rank =
@@ -170,18 +170,18 @@ are_placed rank size =
     let t = tested rank size in
     record {
       black_king = λ s less held.
-          leb-true 56 s (from_or (nat_le 56 s) (is_held_as Black King (man_at P s)) (at_square (king_test P) t.0 s less)
+          leb-true 56 s (or_not-true (nat_le 56 s) (is_held_as Black King (man_at P s)) (at_square (king_test P) t.0 s less)
           ((Decides-held_as Black King (man_at P s)).1 held));
       white = λ s less held.
-          ltb-true s 16 (from_or (nat_lt s 16) (is_held_by White (man_at P s)) (at_square (white_test P) t.1 s less)
+          ltb-true s 16 (or_not-true (nat_lt s 16) (is_held_by White (man_at P s)) (at_square (white_test P) t.1 s less)
           ((Decides-held_by White (man_at P s)).1 held));
       pawns = t.2;
     }
 
-first_rank : (a : ℕ) → a < 8 → rank_of a ≡ 0
+pub first_rank : (a : ℕ) → a < 8 → rank_of a ≡ 0
 first_rank a h = omega arith
 
-last_rank : (s : ℕ) → 56 ≤ s → s < 64 → rank_of s ≡ 7
+pub last_rank : (s : ℕ) → 56 ≤ s → s < 64 → rank_of s ≡ 7
 last_rank s h l = omega arith
 
 seven_apart : (a s : ℕ) → a < 8 → 56 ≤ s → s < 64 → ranks_apart a s ≡ 7

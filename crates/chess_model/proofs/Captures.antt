@@ -1,7 +1,7 @@
 -- What a plain move takes in a sound position: nothing, an enemy man that isn't a king, or the pawn that has just
 -- passed.
 use Rattle.std.proofs.Common.{arith, ◌≡◌, ◌≢◌, ℕ, ◌<◌, ◌≤◌, inl, inr, Bool, true, false, ◌&&◌, not, cond, is_none, nat_eq, Option, Some, None, refl, sym, ap, subst, ◌∙◌}
-use Rattle.std.proofs.lemmas.Bool.{ne_eqb, eq-eqb}
+use Rattle.std.proofs.lemmas.Bool.{ne_eqb, eq-eqb, and_left}
 use Rattle.chess_model.specs.declared.man.Colour.{Colour}
 use Rattle.chess_model.specs.declared.man.Colour.TheVariants.{White, Black}
 use Rattle.chess_model.specs.declared.man.Kind.{Kind}
@@ -49,10 +49,6 @@ take_on false s b e = refl
 take_beside : (q : Bool) (s b : ℕ) → q ≡ true → cond q s b ≡ s
 take_beside true s b e = refl
 take_beside false s b e = cc
-
-no_pawn : (x y : Bool) → x ≡ false → (x && y) ≡ false
-no_pawn true y e = cc
-no_pawn false y e = refl
 
 not_both : (x y z : Bool) → y ≡ false → (x && (y && z)) ≡ false
 not_both true true z e = cc
@@ -110,12 +106,12 @@ piece_takes : (p : Position) (a b : ℕ) (m : Man) → IsKingSafe p.men (opposit
     m.colour ≡ p.to_move → is_pawn (Some m) ≡ false → Goes p.men p.to_move m.kind a b → Take p a b
 piece_takes p a b m safe ha hb from own piece goes =
     let q : is_en_passant p.men a b ≡ false =
-    no_pawn (is_pawn (man_at p.men a)) (is_none (man_at p.men b) && not (nat_eq (file_of a) (file_of b))) (ap is_pawn from ∙ piece) in
+    and_left (is_pawn (man_at p.men a)) (is_none (man_at p.men b) && not (nat_eq (file_of a) (file_of b))) (ap is_pawn from ∙ piece) in
     meets p a b m safe ha hb from own goes.strikes goes.not_own
     (take_on (is_en_passant p.men a b) (square_at (file_of b) (rank_of a)) b q) (man_at p.men b) refl
 
 -- the own side isn't the other
-not_opposite : (c : Colour) → c ≡ opposite c → ⊥
+pub not_opposite : (c : Colour) → c ≡ opposite c → ⊥
 not_opposite White e = cc
 not_opposite Black e = cc
 
@@ -123,16 +119,16 @@ enemy_not_own : (c : Colour) (o : Option Man) → IsHeldBy (opposite c) o → (I
 enemy_not_own c None h = absurd h
 enemy_not_own c (Some x) h = (λ e. not_opposite c (sym e ∙ h), refl)
 
-near : (c : Colour) (a b : ℕ) → files_apart a b ≡ 1 → IsForward c 1 a b → distance a b ≤ 1
-near White a b f r = omega (arith, f, r)
-near Black a b f r = omega (arith, f, r)
+pub forward-near : (c : Colour) (a b : ℕ) → files_apart a b ≡ 1 → IsForward c 1 a b → distance a b ≤ 1
+forward-near White a b f r = omega (arith, f, r)
+forward-near Black a b f r = omega (arith, f, r)
 
 -- the square beside a on the file of b
 beside : (c : Colour) (a b : ℕ) → IsForward c 1 a b → square_at (file_of b) (rank_of a) ≡ behind (opposite c) b
 beside White a b r = omega (arith, r)
 beside Black a b r = omega (arith, r)
 
-files_differ : (a b : ℕ) → files_apart a b ≡ 1 → file_of a ≢ file_of b
+pub files_differ : (a b : ℕ) → files_apart a b ≡ 1 → file_of a ≢ file_of b
 files_differ a b f e = omega (arith, f, e)
 
 behind_differs : (c : Colour) (a b : ℕ) → IsForward c 1 a b → behind (opposite c) b ≢ b
@@ -154,7 +150,7 @@ pawn_takes p a b m sound ha hb from own pawn (inr takes) = elim (takes.enemy) [
       not_both (is_pawn (man_at p.men a)) (is_none (man_at p.men b)) (not (nat_eq (file_of a) (file_of b))) other.1 in
       let strikes : Strikes p.men p.to_move m.kind a b =
       subst (λ k. Strikes p.men p.to_move k a b) (sym pawn)
-      (record { step = takes.step; open_way = Clear-near p.men a b (near p.to_move a b takes.step.0 takes.step.1) }) in
+      (record { step = takes.step; open_way = Clear-near p.men a b (forward-near p.to_move a b takes.step.0 takes.step.1) }) in
       meets p a b m sound.other_safe ha hb from own strikes other.0
       (take_on (is_en_passant p.men a b) (square_at (file_of b) (rank_of a)) b q) (man_at p.men b) refl
   | inr square ↦

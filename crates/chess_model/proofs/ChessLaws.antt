@@ -26,6 +26,7 @@ use Rattle.chess_model.proofs.MoreMoves.{last_ply, history-same, history-other, 
 use Rattle.chess_model.proofs.StandsAfter.{Stands-next}
 use Rattle.chess_model.proofs.Arrays.{length-array}
 use Rattle.chess_model.proofs.NoMoreMen.{all_men-next, length-place_after, taking_square-lt, taking_square-differs, origin, homes}
+use Rattle.std.specs.Cmp.{first_so}
 
 -- lines
 
@@ -83,7 +84,7 @@ max-zero_right x y e = omega arith
 max-same : (x y : ℕ) → x ≡ y → (max x y ≡ x) × (max x y ≡ y)
 max-same x y e = (omega arith, omega arith)
 
-no_diff : (x y : ℕ) → abs_diff x y ≡ 0 → x ≡ y
+pub no_diff : (x y : ℕ) → abs_diff x y ≡ 0 → x ≡ y
 no_diff x y e = omega arith
 
 OnLine-straight : (a b : ℕ) → IsStraight a b → OnLine a b
@@ -152,7 +153,7 @@ way-back P c Queen a b step way =
     elim step [ inl h ↦ Clear-back P a b (OnLine-straight a b h) way | inr h ↦ Clear-back P a b (OnLine-diagonal a b h) way ]
 way-back P c King a b step way = let e : distance b a ≡ 1 = distance-sym b a ∙ step in Clear-near P b a (omega (arith, e))
 
-Strikes-back : (P : Placement) (c : Colour) (k : Kind) (a b : ℕ) → Strikes P c k a b → Strikes P (opposite c) k b a
+pub Strikes-back : (P : Placement) (c : Colour) (k : Kind) (a b : ℕ) → Strikes P c k a b → Strikes P (opposite c) k b a
 Strikes-back P c k a b h = record {
   step = IsStep-back c k a b h.step;
   open_way = way-back P c k a b h.step h.open_way;
@@ -255,10 +256,6 @@ known_squares p (Drop k to) size h =
 
 -- rights
 
-first_true : (x y : Bool) → (x && y) ≡ true → x ≡ true
-first_true true y h = refl
-first_true false y h = h
-
 right_before : (v : Variant) (T : List HalfMove) (h : HalfMove) (b : ℕ) (c : Colour) (long : Bool) →
     right_stands v (history v (T ++ h ∷ []) b) c long ≡ true → right_stands v (history v T b) c long ≡ true
 right_before v T h b c long stands =
@@ -266,7 +263,7 @@ right_before v T h b c long stands =
     (λ now.
     let grown = ap (λ (H : List Ply). right_stands v H c long) (history-same v T h.board h.what) ∙
     right_stands-append v (history v T h.board) (last_ply v T h.board h.what) c long in
-    first_true (right_stands v (history v T h.board) c long)
+    first_so (right_stands v (history v T h.board) c long)
     (keeps_right v c long (last_ply v T h.board h.what).by h.what) (sym grown ∙ now)) in
     let other : h.board ≢ b → right_stands v (history v T b) c long ≡ true =
     (λ differ. sym (ap (λ (H : List Ply). right_stands v H c long) (history-other v T h.board b h.what differ)) ∙ stands) in

@@ -27,9 +27,9 @@ place (v ∷ xs) x (w ∷ ys) y zs e =
       | inr before ↦ inr (before.0, λ i. first i ∷ before.1 i)
     ]
 
-more : (v : Variant) (T : List HalfMove) (x : HalfMove) → IsLegal v T → Allowed (position_after v T x.board) x.what →
+pub IsLegal-append : (v : Variant) (T : List HalfMove) (x : HalfMove) → IsLegal v T → Allowed (position_after v T x.board) x.what →
     IsLegal v (T ++ x ∷ [])
-more v T x legal allowed = record {
+IsLegal-append v T x legal allowed = record {
   each = λ before after h e.
       elim (place T x before h after e) [
         | inl at_end ↦
@@ -43,7 +43,7 @@ more v T x legal allowed = record {
 pub legal_lists : LegalListsGrow
 legal_lists = record {
   none = λ v. record { each = λ before after h e. absurd (no_item before after h e) };
-  grows = more;
+  grows = IsLegal-append;
   shrinks = λ v T x legal. record {
     each = λ before after h e.
         legal.each before (after ++ x ∷ []) h (ap (λ (xs : List HalfMove). xs ++ x ∷ []) e ∙ append_assoc before (h ∷ after) (x ∷ []));

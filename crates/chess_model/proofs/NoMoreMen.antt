@@ -1,6 +1,6 @@
 -- No half-move makes men: what stands on the board and in the hands grows by none.
 use Rattle.std.proofs.Common.{arith, ◌≡◌, ◌≢◌, ℕ, ◌+◌, ◌-◌, ◌<◌, ◌≤◌, Bool, true, false, ◌&&◌, not, cond, is_some, is_none, length, refl, sym, ap, subst, inl, inr, Option, Some, None, slice_set, nat_eq, get_or-set_other}
-use Rattle.std.proofs.lemmas.Bool.{eqb-false}
+use Rattle.std.proofs.lemmas.Bool.{eqb-false, not-true}
 use Rattle.std.proofs.lemmas.List.{length-set}
 use Rattle.std.proofs.lemmas.List.Sums.{sum_by-set}
 use Rattle.chess_model.specs.declared.man.Colour.{Colour}
@@ -108,14 +108,10 @@ third : (x y z : Bool) → (x && (y && z)) ≡ true → z ≡ true
 third true true true h = refl
 third _ _ _ h = cc
 
-not_true : (x : Bool) → not x ≡ true → x ≡ false
-not_true true h = cc
-not_true false h = refl
-
 pub taking_square-differs : (P : Placement) (a b : ℕ) → a ≢ b → taking_square P a b ≢ a
 taking_square-differs P a b differ =
     choice-differs (is_en_passant P a b) a b differ (λ e.
-    eqb-false (file_of a) (file_of b) (not_true (nat_eq (file_of a) (file_of b))
+    eqb-false (file_of a) (file_of b) (not-true (nat_eq (file_of a) (file_of b))
     (third (is_pawn (man_at P a)) (is_none (man_at P b)) (not (nat_eq (file_of a) (file_of b))) e)))
 
 pub taking_square-lt : (P : Placement) (a b : ℕ) → a < 64 → b < 64 → taking_square P a b < 64

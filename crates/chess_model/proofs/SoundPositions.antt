@@ -1,7 +1,7 @@
 -- A legal list of half-moves leads to a sound position.
 use Rattle.std.proofs.Common.{arith, ◌≡◌, ◌≢◌, ℕ, ◌+◌, ◌<◌, ◌/◌, inl, inr, List, [], ◌∷◌, ◌++◌, Bool, true, false, ◌&&◌, not, cond, is_none, nat_eq, IsTrue, Option, Some, None, refl, sym, ap, subst, ◌∙◌, append_assoc}
 use Rattle.std.specs.List.{sum_by, count_by}
-use Rattle.std.proofs.lemmas.Bool.{cases_eq, eqb-true, eqb-false, eq-eqb, and_parts, or_parts, false_from_ne_true}
+use Rattle.std.proofs.lemmas.Bool.{cases_eq, eqb-true, eqb-false, eq-eqb, and_parts, or_parts, false_from_ne_true, not-true}
 use Rattle.std.proofs.lemmas.List.{append-nil}
 use Rattle.chess_model.specs.declared.man.Colour.{Colour}
 use Rattle.chess_model.specs.declared.man.Colour.TheVariants.{White, Black}
@@ -157,10 +157,6 @@ stays p (Castle long) c s sound h rank piece untouched king =
 stays p (Drop k to) c s sound h rank piece untouched king =
     (known_squares p (Drop k to) sound.squares h).others s (λ e. eqb-false to s untouched (sym e))
 
-not_false : (x : Bool) → not x ≡ true → x ≡ false
-not_false true h = cc
-not_false false h = refl
-
 right-next : (v : Variant) (r : Rights) (by : Colour) (m : Move) (c : Colour) (long : Bool) → right_of (next_rights v r by m) c long ≡ true →
     (right_of r c long ≡ true) × (keeps_right v c long by m ≡ true)
 right-next v r by m White false h = and_parts r.white_short (keeps_right v White false by m) h
@@ -175,8 +171,8 @@ rights-next p m sound h c long stands =
     let was = right-next p.variant p.rights p.to_move m c long stands in
     let home = sound.rights c long was.0 in
     let kept = and_parts (not (touches p.variant p.to_move m (king_home p.variant c))) (not (touches p.variant p.to_move m (rook_home p.variant c long))) was.1 in
-    let no_king : touches p.variant p.to_move m (king_home p.variant c) ≡ false = not_false _ kept.0 in
-    let no_rook : touches p.variant p.to_move m (rook_home p.variant c long) ≡ false = not_false _ kept.1 in
+    let no_king : touches p.variant p.to_move m (king_home p.variant c) ≡ false = not-true _ kept.0 in
+    let no_rook : touches p.variant p.to_move m (rook_home p.variant c long) ≡ false = not-true _ kept.1 in
     let at = on_home_rank p.variant c long in
     let king : man_at (place_after p.variant p.men p.to_move m) (king_home p.variant c) ≡ man_at p.men (king_home p.variant c) =
     stays p m c (king_home p.variant c) sound h at.king
@@ -363,7 +359,7 @@ sound_start v = record {
 }
 
 -- the first half-moves of a legal list are legal
-legal_front : (v : Variant) (done rest : List HalfMove) → IsLegal v (done ++ rest) → IsLegal v done
+pub legal_front : (v : Variant) (done rest : List HalfMove) → IsLegal v (done ++ rest) → IsLegal v done
 legal_front v done rest legal = record {
   each = λ before after x e.
       legal.each before (after ++ rest) x (ap (λ (hs : List HalfMove). hs ++ rest) e ∙ append_assoc before (x ∷ after) rest);

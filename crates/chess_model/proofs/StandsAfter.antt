@@ -16,6 +16,7 @@ use Rattle.chess_model.specs.Position.{Position, position_after, Stands, hand_of
 use Rattle.chess_model.specs.Allowed.{Allowed}
 use Rattle.chess_model.specs.Next.{gain, next}
 use Rattle.chess_model.proofs.MoreMoves.{one, last_ply, moves_of-same, place_from-append, side_from-append, history-same, rights_after-append, en_passant_after-append, quiet_count-append, spent-append, gained-append, hand_after-append}
+use Rattle.std.proofs.lemmas.Bool.{and_parts}
 
 pub position_after-append : (v : Variant) (T : List HalfMove) (b : ℕ) (m : Move) →
     ((c : Colour) (k : Kind) → spent v T b c k ≤ gained v T b c k) →
@@ -73,12 +74,6 @@ never : (x : Bool) → (x && false) ≡ true → ⊥
 never true h = cc
 never false h = cc
 
-both : (x y : Bool) → (x && y) ≡ true → (x ≡ true) × (y ≡ true)
-both true true h = (refl, refl)
-both true false h = cc
-both false true h = cc
-both false false h = cc
-
 -- what an allowed half-move drops was in hand
 drop_is_paid : (v : Variant) (T : List HalfMove) (b : ℕ) (m : Move) → Allowed (position_after v T b) m →
     (c : Colour) (k : Kind) → drops c k (last_ply v T b m) ≡ true → spent v T b c k < gained v T b c k
@@ -86,7 +81,7 @@ drop_is_paid v T b (Plain from to promo) h c k d = absurd (never (same_colour (s
 drop_is_paid v T b (Castle long) h c k d = absurd (never (same_colour (side_from White (moves_of b T)) c) d)
 drop_is_paid v T b (Drop j to) h c k d =
     let by : Colour = side_from White (moves_of b T) in
-    let same = both (same_colour by c) (same_kind j k) d in
+    let same = and_parts (same_colour by c) (same_kind j k) d in
     let held : 0 < count_in (hand_of_side (position_after v T b) by) j = h.move.held in
     let in_hand : 0 < count_in (hand_after v T b by) j =
     (let P : Hand → Type 0 = λ x. 0 < count_in x j in subst P (hand_of_side-after v T b by) held) in

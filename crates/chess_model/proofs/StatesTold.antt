@@ -88,18 +88,18 @@ Decides-answer Bughouse p =
     Decides-or (can_move p) (list_any (shields p) test.squares) (Decides-can_move p) (any_shield p)
 
 -- the state by the variant, for the facts that the two tests decide
-told : (v : Variant) (p : Position) → p.variant ≡ v → (safe answered : Bool) → Decides safe (IsKingSafe p.men p.to_move) →
+pub state_is_told : (v : Variant) (p : Position) → p.variant ≡ v → (safe answered : Bool) → Decides safe (IsKingSafe p.men p.to_move) →
     Decides answered (HasAnswer p.variant p) → IsState p (state_of v (not safe) answered)
-told v p e true true s a = (s.0 refl, inl (a.0 refl))
-told v p e false true s a = (not_from_Decides false s refl, a.0 refl)
-told v p e false false s a = (not_from_Decides false s refl, not_from_Decides false a refl)
-told Chess p e true false s a = (s.0 refl, not_from_Decides false a refl, λ f. let g = sym e ∙ f in cc)
-told (Fischer number) p e true false s a = (s.0 refl, not_from_Decides false a refl, λ f. let g = sym e ∙ f in cc)
-told Crazyhouse p e true false s a = (s.0 refl, not_from_Decides false a refl, λ f. let g = sym e ∙ f in cc)
-told Bughouse p e true false s a = (s.0 refl, inr e)
+state_is_told v p e true true s a = (s.0 refl, inl (a.0 refl))
+state_is_told v p e false true s a = (not_from_Decides false s refl, a.0 refl)
+state_is_told v p e false false s a = (not_from_Decides false s refl, not_from_Decides false a refl)
+state_is_told Chess p e true false s a = (s.0 refl, not_from_Decides false a refl, λ f. let g = sym e ∙ f in cc)
+state_is_told (Fischer number) p e true false s a = (s.0 refl, not_from_Decides false a refl, λ f. let g = sym e ∙ f in cc)
+state_is_told Crazyhouse p e true false s a = (s.0 refl, not_from_Decides false a refl, λ f. let g = sym e ∙ f in cc)
+state_is_told Bughouse p e true false s a = (s.0 refl, inr e)
 
 pub state_told : StatesAreTold
 unfolding result
 state_told p =
-    told p.variant p refl (test.is_king_safe p.men p.to_move) (has_answer p.variant p)
+    state_is_told p.variant p refl (test.is_king_safe p.men p.to_move) (has_answer p.variant p)
     (Decides-king_safe p.men p.to_move) (Decides-answer p.variant p)

@@ -93,7 +93,7 @@ same_man-self : (o : Option Man) → same_man o o ≡ true
 same_man-self None = refl
 same_man-self (Some m) = and_from (same_colour m.colour m.colour) (same_kind m.kind m.kind) (same_colour-self m.colour) (same_kind-self m.kind)
 
-beq-self : (x : Bool) → beq x x ≡ true
+pub beq-self : (x : Bool) → beq x x ≡ true
 beq-self true = refl
 beq-self false = refl
 

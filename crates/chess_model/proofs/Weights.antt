@@ -78,8 +78,8 @@ files_within a b = (omega arith, omega arith)
 ranks_within : (a b : ℕ) → (rank_of a ≤ rank_of b + distance a b) × (rank_of b ≤ rank_of a + distance a b)
 ranks_within a b = (omega arith, omega arith)
 
-square_is : (b : ℕ) → square_at (file_of b) (rank_of b) ≡ b
-square_is b = omega arith
+pub square_at-parts : (b : ℕ) → square_at (file_of b) (rank_of b) ≡ b
+square_at-parts b = omega arith
 
 -- a way comes to its end
 pub along-end : (a b : ℕ) → along a b (distance a b) ≡ b
@@ -89,7 +89,7 @@ along-end a b =
     let r = ranks_within a b in
     let file : toward (file_of a) (file_of b) d ≡ file_of b = toward-end (file_of a) (file_of b) d f.0 f.1 in
     let rank : toward (rank_of a) (rank_of b) d ≡ rank_of b = toward-end (rank_of a) (rank_of b) d r.0 r.1 in
-    (λ i. square_at (file i) (rank i)) ∙ square_is b
+    (λ i. square_at (file i) (rank i)) ∙ square_at-parts b
 
 end_free : (P : Placement) (king rook a b : ℕ) → king < length P → rook < length P → IsFreeWay P king rook a b →
     man_at (slice_set (slice_set P king None) rook None) b ≡ None

@@ -3,7 +3,7 @@ use Rattle.std.proofs.Common.{arith, ◌≡◌, ◌≢◌, ℕ, ◌<◌, ◌⊎�
 use Rattle.std.specs.Prelude.{MatchResult, IfOk, IfErr}
 use Rattle.std.specs.Bool.{Decides}
 use Rattle.std.specs.List.{list_all, list_any, filter}
-use Rattle.std.proofs.lemmas.Bool.{and_parts, false_from_ne_true}
+use Rattle.std.proofs.lemmas.Bool.{and_parts, false_from_ne_true, cond-true, cond-false}
 use Rattle.std.proofs.lemmas.Bool.Decides.{Decides-eqb, Decides-ltb, Decides-and, Decides-not, Decides-like, not_from_Decides}
 use Rattle.chess_model.specs.declared.man.Kind.{Kind}
 use Rattle.chess_model.specs.declared.moves.Move.{Move}
@@ -218,14 +218,6 @@ rest_in_order x xs h = (and_parts (list_all (λ z. nat_lt (place_of x) (place_of
 pub record IsFirst (f : Rejection → Bool) (r : Rejection) : Type 0 where
   pub holds : f r ≡ true
   pub first : (q : Rejection) → place_of q < place_of r → f q ≡ false
-
-cond-true : {A : Type 0} (b : Bool) (x y : A) → b ≡ true → cond b x y ≡ x
-cond-true true x y h = refl
-cond-true false x y h = cc
-
-cond-false : {A : Type 0} (b : Bool) (x y : A) → b ≡ false → cond b x y ≡ y
-cond-false true x y h = cc
-cond-false false x y h = refl
 
 first_found : (f : Rejection → Bool) (r : Rejection) (xs : List Rejection) → is_in_order xs ≡ true → Among r xs → IsFirst f r →
     first_refusal (filter f xs) ≡ r

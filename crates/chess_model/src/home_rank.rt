@@ -1,7 +1,7 @@
 //! The home ranks of Fischer random, by their numbers.
 
-ghost use Rattle.std.specs.Prelude.{◌≡◌, ◌<◌, map, unwrap_or};
-ghost use Rattle.chess_model.specs.FischerArrays.{knight_pair, on_free, with_bishops, with_king, with_knights, with_queen};
+ghost use Rattle.std.specs.Prelude.{◌≡◌, ◌<◌};
+ghost use Rattle.chess_model.specs.FischerArrays.{on_free, with_bishops, with_king, with_knights, with_queen};
 
 use crate::man::Kind;
 

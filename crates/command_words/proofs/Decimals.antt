@@ -8,7 +8,8 @@ use Rattle.std.proofs.lemmas.Fmt.{decimal_digit, decimal_is_IsNumeral, first_dec
 use Rattle.std.proofs.lemmas.Str.Parse.{IsNumeralModel, numerals_by_value, tells_all_ascii_digits}
 use Rattle.fics_words.specs.Number.{IsDecimal}
 use Rattle.command_words.specs.Numbers.{is_decimal, number_of}
-use Rattle.command_words.proofs.Forms.{both_true, true_both, at_least, is_at_least}
+use Rattle.fics_words.proofs.HandleTests.{at_least, is_at_least}
+use Rattle.std.proofs.lemmas.Bool.{and_parts, and_from}
 
 own : IsNumeralModel (λ ds. all_ascii_digits ds ≡ true) (digits_value 10)
 own = numerals_by_value (λ ds. all_ascii_digits ds ≡ true) tells_all_ascii_digits
@@ -23,14 +24,14 @@ decimal_spelled : (word : List ℕ) → is_decimal word ≡ true → digits_valu
 decimal_spelled [] e small = absurd (let bad : false ≡ true = e in cc)
 decimal_spelled (b ∷ []) e small = decimal-digits_value own (b ∷ []) e (omega arith) (λ nought. refl) small
 decimal_spelled (b ∷ c ∷ word) e small =
-    let both = both_true (not (b == 48)) (all_ascii_digits (b ∷ c ∷ word)) e in
+    let both = and_parts (not (b == 48)) (all_ascii_digits (b ∷ c ∷ word)) e in
     decimal-digits_value own (b ∷ c ∷ word) both.1 (omega arith) (λ nought. absurd (no_nought b both.0 nought)) small
 
 is_decimal_of : (word : List ℕ) → 0 < length word → all_ascii_digits word ≡ true → (get_or word 0 0 ≡ 48 → length word ≡ 1) → is_decimal word ≡ true
 is_decimal_of [] some digits first = absurd (omega arith)
 is_decimal_of (b ∷ []) some digits first = digits
 is_decimal_of (b ∷ c ∷ word) some digits first =
-    true_both (not (b == 48)) (all_ascii_digits (b ∷ c ∷ word)) (is_no_nought b (λ nought. let one = first nought in omega arith)) digits
+    and_from (not (b == 48)) (all_ascii_digits (b ∷ c ∷ word)) (is_no_nought b (λ nought. let one = first nought in omega arith)) digits
 
 first_digit : (n : ℕ) → n < 2 ^ 64 → get_or (decimal n) 0 0 ≡ 48 → length (decimal n) ≡ 1
 first_digit zero small e = ap length (decimal_digit 0 (omega arith))
@@ -47,7 +48,7 @@ unfolding number_of
 number_of-decimal most n within small =
     let value : digits_value 10 (decimal n) ≡ n = (decimal_is_IsNumeral n (omega arith)).1 in
     let yes : (is_decimal (decimal n) && nat_le (digits_value 10 (decimal n)) most) ≡ true =
-    true_both _ _ (decimal_is_decimal n (omega arith)) (is_at_least _ most (omega (arith, value))) in
+    and_from _ _ (decimal_is_decimal n (omega arith)) (is_at_least _ most (omega (arith, value))) in
     ap (λ (t : Bool). cond t (Some (digits_value 10 (decimal n))) None) yes ∙ ap (λ (m : ℕ). Some m) value
 
 -- what is read as a number is its decimal, within the limit
@@ -56,7 +57,7 @@ unfolding number_of
 number_of-spelled most word n small e =
     elim (is_decimal word && nat_le (digits_value 10 word) most) as (λ t. (is_decimal word && nat_le (digits_value 10 word) most) ≡ t → cond t (Some (digits_value 10 word)) None ≡ Some n → IsDecimal most word n) [
       | true ↦ λ is e.
-          let both = both_true (is_decimal word) (nat_le (digits_value 10 word) most) is in
+          let both = and_parts (is_decimal word) (nat_le (digits_value 10 word) most) is in
           let within : digits_value 10 word ≤ most = at_least _ most both.1 in
           let same : digits_value 10 word ≡ n = cc in
           subst (λ (m : ℕ). (word ≡ decimal m) × (m ≤ most)) same (sym (decimal_spelled word both.0 (omega arith)), within)

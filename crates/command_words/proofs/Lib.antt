@@ -1,6 +1,5 @@
 pub mod CommandOfLine
 pub mod Decimals
 pub mod Digits
-pub mod Forms
 pub mod Parts
 pub mod TermParts

@@ -6,6 +6,7 @@ use Rattle.std.proofs.lemmas.Bool.{eqb-true}
 use Rattle.std.proofs.lemmas.Bool.Decides.{nat_tests}
 use Rattle.std.proofs.lemmas.List.Sums.{prefix_len-le-length}
 use Rattle.command_words.specs.Blanks.{is_blank, behind_blanks, word_length, first_word, rest_of, is_word, Words, words_of}
+use Rattle.std.proofs.Math.Bool.{not-not}
 
 -- how far a first place is, or the whole length
 place_or_length : (p : ℕ → Bool) (text : List ℕ) → unwrap_or (position p text) (length text) ≡ position_or_len p text
@@ -29,10 +30,6 @@ prefix_no p b text e = ap (λ (t : Bool). cond t (1 + prefix_len p text) 0) e
 abbrev Blank : ℕ → Bool
 Blank b = not (not (is_blank b))
 
-twice_not : (t : Bool) → not (not t) ≡ t
-twice_not true = refl
-twice_not false = refl
-
 -- no blank stands first
 abbrev pub StartsWord : List ℕ → Type 0
 StartsWord [] = Unit {0}
@@ -48,11 +45,11 @@ skipped (b ∷ text) =
     elim (is_blank b) as (λ t. is_blank b ≡ t → (words_of (drop (prefix_len Blank (b ∷ text)) (b ∷ text)) ≡ words_of (b ∷ text)) × StartsWord (drop (prefix_len Blank (b ∷ text)) (b ∷ text))) [
       | true ↦ λ is.
           let further = skipped text in
-          let one = prefix_yes Blank b text (twice_not (is_blank b) ∙ is) in
+          let one = prefix_yes Blank b text (not-not (is_blank b) ∙ is) in
           subst (λ (n : ℕ). (words_of (drop n (b ∷ text)) ≡ words_of (b ∷ text)) × StartsWord (drop n (b ∷ text))) (sym one)
           (further.0 ∙ sym (words_of-blank b text is), further.1)
       | false ↦ λ is.
-          let none = prefix_no Blank b text (twice_not (is_blank b) ∙ is) in
+          let none = prefix_no Blank b text (not-not (is_blank b) ∙ is) in
           subst (λ (n : ℕ). (words_of (drop n (b ∷ text)) ≡ words_of (b ∷ text)) × StartsWord (drop n (b ∷ text))) (sym none) (refl, is)
     ] refl
 

@@ -11,7 +11,7 @@ use Rattle.command_words.specs.declared.terms.Time.{Time}
 use Rattle.command_words.specs.Blanks.{Words, words_of}
 use Rattle.command_words.specs.Numbers.{number_of}
 use Rattle.command_words.specs.TermReading.{terms_of}
-use Rattle.command_words.specs.Texts.{handle_of}
+use Rattle.fics_words.specs.HandleTest.{handle_of}
 
 -- a challenge without numbers is to a game of 2 minutes and 12 seconds a move
 abbrev pub two_twelve : Time

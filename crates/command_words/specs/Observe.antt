@@ -5,7 +5,7 @@ use Rattle.fics_words.specs.declared.refusal.Refusal.TheVariants.{BadArguments}
 use Rattle.command_words.specs.declared.command.Command.{Command}
 use Rattle.command_words.specs.declared.command.Command.TheVariants.{ObserveGame, ObservePlayer}
 use Rattle.command_words.specs.Numbers.{number_of}
-use Rattle.command_words.specs.Texts.{handle_of}
+use Rattle.fics_words.specs.HandleTest.{handle_of}
 
 abbrev pub observe_player : Option (List ℕ) → Result Command Refusal
 observe_player None = Err BadArguments

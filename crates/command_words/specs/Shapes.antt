@@ -17,7 +17,8 @@ use Rattle.command_words.specs.declared.rows.ByNumber.TheVariants.{Play, Unobser
 use Rattle.command_words.specs.declared.rows.OnChannel.{OnChannel}
 use Rattle.command_words.specs.declared.rows.OnChannel.TheVariants.{Ask, Join, Leave}
 use Rattle.command_words.specs.Numbers.{channel_number, number_of}
-use Rattle.command_words.specs.Texts.{handle_of, is_text}
+use Rattle.fics_words.specs.HandleTest.{handle_of}
+use Rattle.command_words.specs.Texts.{is_text}
 
 -- nothing
 abbrev pub bare : Bare → Command

@@ -6,7 +6,8 @@ use Rattle.command_words.specs.declared.command.Command.{Command}
 use Rattle.command_words.specs.declared.command.Command.TheVariants.{Tell, TellChannel}
 use Rattle.command_words.specs.Blanks.{first_word, rest_of}
 use Rattle.command_words.specs.Numbers.{is_no_channel, number_of}
-use Rattle.command_words.specs.Texts.{handle_of, is_text}
+use Rattle.fics_words.specs.HandleTest.{handle_of}
+use Rattle.command_words.specs.Texts.{is_text}
 
 abbrev pub telling : Option (List ℕ) → List ℕ → Result Command Refusal
 telling None text = Err BadArguments

@@ -2,7 +2,8 @@
 
 ghost use Rattle.std.specs.Prelude.{◌≡◌, ◌&&◌, nat_le, IfOk, Some, None, if◌then◌else◌};
 ghost use Rattle.std.specs.List.{list_all};
-ghost use Rattle.command_words.specs.Texts.{handle_of, is_text};
+ghost use Rattle.fics_words.specs.HandleTest.{handle_of};
+ghost use Rattle.command_words.specs.Texts.{is_text};
 
 use fics_words::{Handle, Line, NoMemory};
 use std::alloc::Global;

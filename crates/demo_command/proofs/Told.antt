@@ -3,7 +3,7 @@ use Rattle.std.specs.Prelude.{◌⊎◌}
 use Rattle.std.proofs.Common.{inl, inr, refl, ◌≡◌, ℕ, List, ◌++◌, length, count_by, codes, append_assoc, ap, subst, ◌∙◌, Option, Err}
 use Rattle.std.proofs.KnownBytes.{Appends-nil}
 use Rattle.edge_traits.specs.Sink.{AppendsFront}
-use Rattle.line_answers.specs.Ends.{OnReadFault, OnWriteFault, status_of}
+use Rattle.line_answers.specs.Ends.{OnWriteFault, status_of}
 use Rattle.line_answers.specs.Reading.{AfterSend}
 use Rattle.line_answers.specs.declared.end.End.{End}
 use Rattle.line_answers.specs.declared.end.End.TheVariants.{Done, ReadFault, WriteFault, Memory, BadLine, Spent}

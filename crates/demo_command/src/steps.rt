@@ -57,7 +57,7 @@ impl Model for Demo {
 }
 
 impl Demo {
-    ghost use Rattle.std.specs.Prelude.{◌≡◌, ◌+◌, ◌*◌, ◌≤◌, ◌^◌, ◌∷◌, [], IfOk, OnOk};
+    ghost use Rattle.std.specs.Prelude.{◌≡◌, ◌+◌, ◌≤◌, ◌^◌, ◌∷◌, [], IfOk, OnOk};
     ghost use Rattle.replay_core.specs.Script.{IsScriptEvent};
     ghost use Rattle.replay_core.specs.declared.script.ScriptEvent.TheVariants.{Plain};
     ghost use Rattle.demo_command.specs.Demo.{Comes, Connects, Enters, Go, Goes, Turns};

@@ -39,7 +39,9 @@ use Rattle.pretty_reading.specs.ReadsBack.{IsReadAs, pretty_in}
 use Rattle.pretty_reading.proofs.ReadBack.{reads_back}
 use Rattle.desk_laws.specs.LegalMoves.{AcceptsLegalMoves, IsLegalMove, IsPlayed, IsToMove, TakesLegalMoves, playing}
 use Rattle.desk_laws.proofs.Boards.{board_after, boards_moved, moves_after}
-use Rattle.desk_laws.proofs.Words.{accepted_by, answer_is, at_board, desk_said, desk_then, is_answer, nothing_refuses, refusing, said, takes_word, word_taken}
+use Rattle.desk_laws.proofs.Words.{accepted_by, answer_is, desk_said, desk_then, nothing_refuses, refusing, said, takes_word, word_taken}
+use Rattle.linked_boards.proofs.StaySound.{played_there}
+use Rattle.pretty_reading.proofs.Answered.{answer_is as is_answer}
 
 reply_done : (r : Result DeskReply Refusal) → Some (desk_reply r) ≡ Some (reply.Desk Done) → r ≡ Ok Done
 reply_done (Ok answer) e = cc
@@ -120,7 +122,7 @@ module _ (parts : List Part) (whole : IsWhole parts) (number : ℕ) (desk : Desk
     accepted_at : (seat : ℕ) (sits : seat_of game session ≡ Some seat) (runs : game.ended ≡ None) (m : Move) → word_by game (seat_of game session) word ≡ Ok m → IsLegalMove parts (after house parts session timed) number session game word
     accepted_at seat sits runs m e =
         let is : seat_word game seat word ≡ Ok m = sym (ap (λ (o : Option ℕ). word_by game o word) sits) ∙ e in
-        let at = at_board (slice_get game.boards (place_of seat)) (colour_at seat) word m is in
+        let at = played_there (slice_get game.boards (place_of seat)) (colour_at seat) word m is in
         let by = word_taken at.0 (colour_at seat) word m (few (place_of seat) at.0 at.1) at.2 in
         record {
           board = at.0;

@@ -1,5 +1,5 @@
 -- What a desk answers to a word, and why.
-use Rattle.std.proofs.Common.{◌≡◌, ℕ, ◌==◌, ◌<◌, ◌≤◌, Bool, true, false, not, [], ◌∷◌, Option, Some, None, Result, Ok, Err, refl, ap, sym, subst, ◌∙◌, arith, eq-eqb}
+use Rattle.std.proofs.Common.{◌≡◌, ℕ, ◌==◌, ◌<◌, ◌≤◌, Bool, true, false, not, [], ◌∷◌, Option, Some, None, Result, Ok, Err, refl, ap, subst, ◌∙◌, arith, eq-eqb}
 use Rattle.std.specs.Prelude.{if◌then◌else◌, is_none, is_some}
 use Rattle.std.specs.Option.{option_map_or}
 use Rattle.std.proofs.lemmas.Bool.Decides.{nat_tests}
@@ -12,7 +12,7 @@ use Rattle.chess_model.specs.Answer.{IsAnswer}
 use Rattle.chess_model.specs.Holdings.{same_colour}
 use Rattle.chess_model.specs.Position.{Position}
 use Rattle.chess_model.specs.WordAnswer.{IsWordAnswer, word_answer}
-use Rattle.chess_model.proofs.WordsDecide.{word_answer-holds, word_answer-is}
+use Rattle.chess_model.proofs.WordsDecide.{word_answer-holds}
 use Rattle.fics_words.specs.Effect.{answer_of, answered, first_cause, refused_by, state_of, unless}
 use Rattle.fics_words.specs.declared.refusal.Refusal.{Refusal}
 use Rattle.fics_words.specs.declared.refusal.Refusal.TheVariants.{GameOver, NotPlaying, NotYourTurn, TooManyMoves}
@@ -20,7 +20,6 @@ use Rattle.game_board.specs.Board.{Board, position_of, to_move}
 use Rattle.game_board.specs.Causes.{in_words}
 use Rattle.game_board.specs.Play.{move_answer, move_refused}
 use Rattle.game_board.proofs.Sides.{in_words-ok, move_refused-none}
-use Rattle.linked_boards.specs.Boards.{word_at}
 use Rattle.linked_desk.specs.declared.acts.DeskAct.TheVariants as act
 use Rattle.linked_desk.specs.declared.acts.DeskReply.{DeskReply}
 use Rattle.linked_desk.specs.declared.acts.DeskReply.TheVariants.{Done}
@@ -61,10 +60,6 @@ nothing_refuses s m seat end answer sits runs is = λ i. refusing (sits i) (runs
 
 -- ---- the board
 
-pub at_board : (o : Option Board) (c : Colour) (word : MoveWord) (m : Move) → word_at o c word ≡ Ok m → (b : Board) × (o ≡ Some b) × (move_answer b c word ≡ Ok m)
-at_board None c word m e = absurd cc
-at_board (Some b) c word m e = (b, refl, e)
-
 unrefused : (o : Option Refusal) (r : Result Move Rejection) (m : Move) → option_map_or Err o (in_words r) ≡ Ok m → (o ≡ None) × (r ≡ Ok m)
 unrefused None r m e = (refl, in_words-ok r m e)
 unrefused (Some cause) r m e = absurd cc
@@ -97,6 +92,3 @@ takes_word b c word m turn room is =
 
 pub answer_is : (p : Position) (word : MoveWord) (m : Move) → word_answer p word ≡ Ok m → IsAnswer p word m
 answer_is p word m e = subst (λ (r : Result Move Rejection). IsWordAnswer p word r) e (word_answer-holds p word)
-
-pub is_answer : (p : Position) (word : MoveWord) (m : Move) → IsAnswer p word m → word_answer p word ≡ Ok m
-is_answer p word m a = sym (word_answer-is p word (Ok m) a)

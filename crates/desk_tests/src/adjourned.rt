@@ -1,26 +1,25 @@
 //! Games that their players adjourn: all of them have to agree, and all of them need accounts.
 
 use crate::four::{CAT, DAN};
-use crate::stages::{Case, Stage, first_wrong};
+use crate::stages::{Case, Stage, each_case};
+use crate::table::Given::Refused;
 use crate::table::{ANN, BEN, Does, Given, Opening, Step};
 use fics_words::Refusal;
 use linked_desk::{Ended, Offer, Why};
-use std::alloc::Global;
-use std::process::Abort;
 use std::test::Fail;
 
 const ADJOURN: Does = Does::Make(Offer::Adjourn);
 
 const BOTH_OFFER: &[Step] = &[
     Step(0, ANN, ADJOURN, Given::Done),
-    Step(0, ANN, ADJOURN, Given::Refused(Refusal::AlreadyOffered)),
+    Step(0, ANN, ADJOURN, Refused(Refusal::AlreadyOffered)),
     Step(0, BEN, ADJOURN, Given::Done),
-    Step(0, BEN, ADJOURN, Given::Refused(Refusal::GameOver)),
+    Step(0, BEN, ADJOURN, Refused(Refusal::GameOver)),
 ];
 
 const BEN_ACCEPTS: &[Step] = &[
     Step(0, ANN, ADJOURN, Given::Done),
-    Step(0, ANN, Does::Accept, Given::Refused(Refusal::NoSuchOffer)),
+    Step(0, ANN, Does::Accept, Refused(Refusal::NoSuchOffer)),
     Step(0, BEN, Does::Accept, Given::Done),
 ];
 
@@ -29,13 +28,13 @@ const BEN_MOVES: &[Step] = &[
     Step(0, ANN, Does::Move("e2e4"), Given::Done),
     Step(0, ANN, ADJOURN, Given::Done),
     Step(0, BEN, Does::Move("e7e5"), Given::Done),
-    Step(0, BEN, Does::Accept, Given::Refused(Refusal::NoSuchOffer)),
+    Step(0, BEN, Does::Accept, Refused(Refusal::NoSuchOffer)),
     Step(0, BEN, ADJOURN, Given::Done),
 ];
 
 const NOBODY_MAY: &[Step] = &[
-    Step(0, ANN, ADJOURN, Given::Refused(Refusal::NotRegistered)),
-    Step(0, BEN, ADJOURN, Given::Refused(Refusal::NotRegistered)),
+    Step(0, ANN, ADJOURN, Refused(Refusal::NotRegistered)),
+    Step(0, BEN, ADJOURN, Refused(Refusal::NotRegistered)),
 ];
 
 /// The offers of one board are those of the other: three of the four agree.
@@ -47,12 +46,7 @@ const THREE: &[Step] = &[
 
 const THE_FOURTH: &[Step] = &[
     Step(0, DAN, Does::Accept, Given::Done),
-    Step(
-        0,
-        ANN,
-        Does::Move("e2e4"),
-        Given::Refused(Refusal::GameOver),
-    ),
+    Step(0, ANN, Does::Move("e2e4"), Refused(Refusal::GameOver)),
 ];
 
 /// The end of a game that nobody wins, by an act of a seat of that board.
@@ -120,15 +114,7 @@ const CASES: &[Case] = &[
     },
 ];
 
-/// Looks at each case, whether it goes as it has to.
-fn each_case(rt: &impl Abort, alloc: Global) -> Result<(), Fail> {
-    for case in CASES {
-        assert_eq!(rt; first_wrong(rt, alloc, case)?, None, "{}", case.name);
-    }
-    Ok(())
-}
-
 #[test]
 fn games_that_are_adjourned(rt: HostRuntime) -> Result<(), Fail> {
-    each_case(&rt, rt.alloc())
+    each_case(&rt, rt.alloc(), CASES)
 }

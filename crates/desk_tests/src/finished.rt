@@ -1,12 +1,11 @@
 //! Games that the position on the board ends.
 
-use crate::stages::{Case, Stage, first_wrong};
-use crate::table::{ANN, BEN, Does, Given, Opening, Step};
+use crate::stages::{Case, Stage, each_case};
+use crate::table::Given::Refused;
+use crate::table::{ANN, BEN, Does, Opening, Step};
 use chess_model::Colour;
 use fics_words::Refusal;
 use linked_desk::{Ended, Why};
-use std::alloc::Global;
-use std::process::Abort;
 use std::test::Fail;
 
 /// The shortest mate, known as the fool's.
@@ -34,18 +33,8 @@ const DRAWN: Option<Ended> = Some(Ended {
 
 /// No half-move is played any more.
 const OVER: &[Step] = &[
-    Step(
-        0,
-        ANN,
-        Does::Move("a2a3"),
-        Given::Refused(Refusal::GameOver),
-    ),
-    Step(
-        0,
-        BEN,
-        Does::Move("a7a6"),
-        Given::Refused(Refusal::GameOver),
-    ),
+    Step(0, ANN, Does::Move("a2a3"), Refused(Refusal::GameOver)),
+    Step(0, BEN, Does::Move("a7a6"), Refused(Refusal::GameOver)),
 ];
 
 const CASES: &[Case] = &[
@@ -71,15 +60,7 @@ const CASES: &[Case] = &[
     },
 ];
 
-/// Looks at each case, whether it goes as it has to.
-fn each_case(rt: &impl Abort, alloc: Global) -> Result<(), Fail> {
-    for case in CASES {
-        assert_eq!(rt; first_wrong(rt, alloc, case)?, None, "{}", case.name);
-    }
-    Ok(())
-}
-
 #[test]
 fn the_board_ends_games(rt: HostRuntime) -> Result<(), Fail> {
-    each_case(&rt, rt.alloc())
+    each_case(&rt, rt.alloc(), CASES)
 }

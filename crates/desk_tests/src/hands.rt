@@ -1,6 +1,7 @@
 //! What viewers are told of the men in hand.
 
 use crate::shown::{Told, are_told};
+use crate::table::Given::Refused;
 use crate::table::{ANN, BEN, Does, Given, Opening, Step};
 use fics_words::Refusal;
 use std::test::Fail;
@@ -13,18 +14,13 @@ const STEPS: &[Step] = &[
     Step(0, ANN, Does::Move("a4b5"), Given::Done),
     Step(0, BEN, Does::Move("a7a6"), Given::Done),
     Step(0, ANN, Does::Move("b5a6"), Given::Done),
-    Step(
-        0,
-        BEN,
-        Does::Move("P@b5"),
-        Given::Refused(Refusal::NotInHand),
-    ),
+    Step(0, BEN, Does::Move("P@b5"), Refused(Refusal::NotInHand)),
     Step(0, BEN, Does::Move("h7h6"), Given::Done),
     Step(0, ANN, Does::Move("a6a7"), Given::Done),
     Step(0, BEN, Does::Move("h6h5"), Given::Done),
     Step(0, ANN, Does::Move("a7b8Q"), Given::Done),
     Step(0, BEN, Does::Move("a8b8"), Given::Done),
-    Step(0, ANN, Does::Move("P@a8"), Given::Refused(Refusal::EndRank)),
+    Step(0, ANN, Does::Move("P@a8"), Refused(Refusal::EndRank)),
     Step(0, ANN, Does::Move("P@a7"), Given::Done),
     Step(0, BEN, Does::Move("P@a5"), Given::Done),
     Step(0, ANN, Does::Move("a7b8R"), Given::Done),

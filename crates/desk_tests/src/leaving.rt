@@ -1,13 +1,11 @@
 //! Games that a player leaves: adjourned where it has one board and its players have accounts, and else lost.
 
 use crate::four::{CAT, DAN};
-use crate::stages::{Case, Stage, first_wrong};
+use crate::stages::{Case, Stage, each_case};
 use crate::table::{ANN, BEN, Does, Given, Opening, STRANGER, Step};
 use chess_model::Colour;
 use fics_words::Refusal;
 use linked_desk::{Ended, Offer, Why};
-use std::alloc::Global;
-use std::process::Abort;
 use std::test::Fail;
 
 const ANN_LEAVES: &[Step] = &[Step(0, ANN, Does::Leave, Given::Done)];
@@ -155,15 +153,7 @@ const CASES: &[Case] = &[
     },
 ];
 
-/// Looks at each case, whether it goes as it has to.
-fn each_case(rt: &impl Abort, alloc: Global) -> Result<(), Fail> {
-    for case in CASES {
-        assert_eq!(rt; first_wrong(rt, alloc, case)?, None, "{}", case.name);
-    }
-    Ok(())
-}
-
 #[test]
 fn games_that_a_player_leaves(rt: HostRuntime) -> Result<(), Fail> {
-    each_case(&rt, rt.alloc())
+    each_case(&rt, rt.alloc(), CASES)
 }

@@ -9,6 +9,7 @@ use fics_words::{Fail, Refusal};
 use linked_desk::{Desk, DeskAct, DeskReply, Offer, Why};
 use std::alloc::Global;
 use std::process::Abort;
+use test_steps::first_wrong;
 
 /// What a session does about offers.
 #[derive(Clone, Copy)]
@@ -204,13 +205,8 @@ fn holds(desk: &mut Desk, stage: &Stage) -> bool {
 }
 
 /// The place of the first stage that isn't as it has to be, if one isn't.
-fn first_wrong(desk: &mut Desk, stages: &[Stage]) -> Option<usize> {
-    for (place, stage) in stages.iter().enumerate() {
-        if !holds(desk, stage) {
-            return Some(place);
-        }
-    }
-    None
+fn first_wrong_stage(desk: &mut Desk, stages: &[Stage]) -> Option<usize> {
+    first_wrong!(stages, |stage| holds(desk, stage))
 }
 
 /// The same at a desk with that opening.
@@ -221,7 +217,7 @@ fn first_wrong_anew(
     stages: &[Stage],
 ) -> Option<usize> {
     let mut desk = desk_of(rt, alloc, opening);
-    first_wrong(&mut desk, stages)
+    first_wrong_stage(&mut desk, stages)
 }
 
 const DRAW: Says = Says::Make(Offer::Draw);

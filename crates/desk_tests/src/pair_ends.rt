@@ -2,6 +2,7 @@
 
 use crate::four::{CAT, DAN, desk_with_pair};
 use crate::shown::last_told_otherwise;
+use crate::table::Given::Refused;
 use crate::table::{ANN, BEN, Does, Given, SERIAL, Step, first_failing, outcome};
 use chess_model::Colour;
 use fics_words::{NoMemory, Refusal};
@@ -9,6 +10,7 @@ use linked_desk::{Desk, Ended, Why};
 use std::alloc::Global;
 use std::process::Abort;
 use std::test::Fail;
+use test_steps::assert_rows;
 
 /// A game: what is done, how it ended, how many viewers are left, and what Ann is told last.
 #[derive(Clone, Copy)]
@@ -29,12 +31,7 @@ const BESIDE: Game = Game(
         Step(0, ANN, Does::Move("f1c4"), Given::Done),
         Step(0, BEN, Does::Move("g8f6"), Given::Done),
         Step(0, ANN, Does::Move("h5f7"), Given::Done),
-        Step(
-            0,
-            CAT,
-            Does::Move("e2e4"),
-            Given::Refused(Refusal::GameOver),
-        ),
+        Step(0, CAT, Does::Move("e2e4"), Refused(Refusal::GameOver)),
     ],
     Some(Ended {
         why: Why::Mate,
@@ -84,12 +81,7 @@ const FOOLED: Game = Game(
         Step(0, DAN, Does::Move("e7e5"), Given::Done),
         Step(0, CAT, Does::Move("g2g4"), Given::Done),
         Step(0, DAN, Does::Move("d8h4"), Given::Done),
-        Step(
-            0,
-            CAT,
-            Does::Move("a2a3"),
-            Given::Refused(Refusal::LeavesKing),
-        ),
+        Step(0, CAT, Does::Move("a2a3"), Refused(Refusal::LeavesKing)),
         Step(0, ANN, Does::Move("e2e4"), Given::Done),
     ],
     None,
@@ -119,12 +111,7 @@ const WAITED: Game = Game(
         Step(0, ANN, Does::Move("b8c8"), Given::Done),
         Step(0, BEN, Does::Move("f7g6"), Given::Done),
         Step(0, ANN, Does::Move("c8e6"), Given::Done),
-        Step(
-            0,
-            BEN,
-            Does::Move("P@a5"),
-            Given::Refused(Refusal::NotInHand),
-        ),
+        Step(0, BEN, Does::Move("P@a5"), Refused(Refusal::NotInHand)),
         Step(0, CAT, Does::Move("e2e4"), Given::Done),
         Step(0, DAN, Does::Move("d7d5"), Given::Done),
         Step(0, CAT, Does::Move("e4d5"), Given::Done),
@@ -139,12 +126,7 @@ const WAITED: Game = Game(
 const LEFT: Game = Game(
     &[
         Step(0, CAT, Does::Leave, Given::Done),
-        Step(
-            0,
-            ANN,
-            Does::Move("e2e4"),
-            Given::Refused(Refusal::GameOver),
-        ),
+        Step(0, ANN, Does::Move("e2e4"), Refused(Refusal::GameOver)),
     ],
     Some(Ended {
         why: Why::Left,
@@ -191,22 +173,8 @@ fn has_ended_so(alloc: Global, desk: &Desk, game: &Game) -> Result<bool, NoMemor
     Ok(last_told_otherwise(alloc, desk, ANN, game.3)?.is_none())
 }
 
-/// The place of the first game that goes otherwise, if one does.
-fn first_otherwise(
-    rt: &impl Abort,
-    alloc: Global,
-    games: &[Game],
-) -> Result<Option<usize>, NoMemory> {
-    for (place, game) in games.iter().enumerate() {
-        if !goes_so(rt, alloc, game)? {
-            return Ok(Some(place));
-        }
-    }
-    Ok(None)
-}
-
 #[test]
 fn one_board_ends_both(rt: HostRuntime) -> Result<(), Fail> {
-    assert_eq!(rt; first_otherwise(&rt, rt.alloc(), GAMES)?, None);
+    assert_rows!(rt; GAMES, |game| goes_so(&rt, rt.alloc(), game)?);
     Ok(())
 }

@@ -2,6 +2,7 @@
 
 use crate::four::{CAT, DAN, FOUR};
 use crate::shown::{Told, are_told};
+use crate::table::Given::Refused;
 use crate::table::{ANN, BEN, Does, Given, Opening, Step};
 use fics_words::Refusal;
 use std::alloc::Global;
@@ -58,28 +59,13 @@ const DROPPED: &[Step] = &[
     Step(0, ANN, Does::Move("e2e4"), Given::Done),
     Step(0, BEN, Does::Move("d7d5"), Given::Done),
     Step(0, ANN, Does::Move("e4d5"), Given::Done),
-    Step(
-        0,
-        BEN,
-        Does::Move("P@e5"),
-        Given::Refused(Refusal::NotInHand),
-    ),
+    Step(0, BEN, Does::Move("P@e5"), Refused(Refusal::NotInHand)),
     Step(0, BEN, Does::Move("a7a6"), Given::Done),
-    Step(
-        0,
-        ANN,
-        Does::Move("P@e1"),
-        Given::Refused(Refusal::Occupied),
-    ),
+    Step(0, ANN, Does::Move("P@e1"), Refused(Refusal::Occupied)),
     Step(0, ANN, Does::Move("P@e2"), Given::Done),
     Step(0, BEN, Does::Move("a6a5"), Given::Done),
     Step(0, ANN, Does::Move("e2e4"), Given::Done),
-    Step(
-        0,
-        CAT,
-        Does::Move("P@e5"),
-        Given::Refused(Refusal::NotInHand),
-    ),
+    Step(0, CAT, Does::Move("P@e5"), Refused(Refusal::NotInHand)),
     Step(0, CAT, Does::Move("a3a4"), Given::Done),
     Step(0, DAN, Does::Move("P@a3"), Given::Done),
 ];

@@ -1,21 +1,17 @@
 //! Games that are played by acts alone.
 
-use crate::stages::{Case, Stage, first_wrong};
+use crate::stages::{Case, Stage, each_case};
+use crate::table::Given::Refused;
 use crate::table::{ANN, BEN, Does, Given, Opening, STRANGER, Step};
 use chess_model::Colour;
 use fics_words::Refusal;
 use linked_desk::{Ended, Why};
-use std::alloc::Global;
-use std::process::Abort;
 use std::test::Fail;
 use style12_writer::Viewer;
+use test_steps::boards::KNIGHT_FOR_BEN;
 
 /// What a game of 2 minutes and 12 seconds is announced by.
 const CREATED: &str = "{Game 1 (Ann vs. Ben) Creating 2 12 chess match.}";
-
-/// What Black is told of the third half-move, which took 4 of White's 120 seconds and gave 12.
-const THIRD: &str =
-    "<12> rnbqkbnr pppp-ppp -------- ----p--- ----P--- -----N-- PPPP-PPP RNBQKB-R B -1 1 1 1 1 1 1 Ann Ben 1 2 12 39 39 128 120 2 N/g1-f3 (0:04) Nf3 1";
 
 const RESIGNED: &str = "{Game 1 (Ann vs. Ben) Ben resigns} 1-0";
 
@@ -39,12 +35,7 @@ const RESIGNATION: &[Step] = &[
 
 const FAREWELLS: &[Step] = &[
     Step(9_500, BEN, Does::Fetch, Given::Items(2, true)),
-    Step(
-        9_500,
-        BEN,
-        Does::Fetch,
-        Given::Refused(Refusal::NotWatching),
-    ),
+    Step(9_500, BEN, Does::Fetch, Refused(Refusal::NotWatching)),
     Step(9_500, ANN, Does::Fetch, Given::Items(1, true)),
 ];
 
@@ -65,7 +56,7 @@ const FLAGGED: Option<Ended> = Some(Ended {
 const A_GAME_THAT_IS_FLAGGED_STEPS: &[Step] = &[
     Step(0, ANN, Does::Move("e2e4"), Given::Done),
     Step(0, BEN, Does::Move("e7e5"), Given::Done),
-    Step(59_999, BEN, Does::Flag, Given::Refused(Refusal::NotFallen)),
+    Step(59_999, BEN, Does::Flag, Refused(Refusal::NotFallen)),
     Step(60_000, ANN, Does::Fetch, Given::Items(4, false)),
     Step(1, BEN, Does::Flag, Given::Done),
 ];
@@ -79,7 +70,7 @@ const CASES: &[Case] = &[
             Stage::Clocks([120_000, 120_000]),
             Stage::Begins(CREATED),
             Stage::Makes(THREE_MOVES),
-            Stage::ShowsBoard(BLACK_TO_MOVE, THIRD),
+            Stage::ShowsBoard(BLACK_TO_MOVE, KNIGHT_FOR_BEN),
             Stage::Makes(RESIGNATION),
             Stage::ShowsEnd(ANN, RESIGNED),
             Stage::Makes(FAREWELLS),
@@ -113,15 +104,7 @@ const CASES: &[Case] = &[
     },
 ];
 
-/// Looks at each case, whether it goes as it has to.
-fn each_case(rt: &impl Abort, alloc: Global) -> Result<(), Fail> {
-    for case in CASES {
-        assert_eq!(rt; first_wrong(rt, alloc, case)?, None, "{}", case.name);
-    }
-    Ok(())
-}
-
 #[test]
 fn games_are_played(rt: HostRuntime) -> Result<(), Fail> {
-    each_case(&rt, rt.alloc())
+    each_case(&rt, rt.alloc(), CASES)
 }

@@ -1,131 +1,61 @@
 //! A refusal of each kind, by a table.
 
-use crate::table::{
-    ANN, BEN, Does, Given, Opening, SERIAL, STRANGER, Step, desk_of, first_failing,
-};
+use crate::table::Does::{Acked, Fetch, Flag, Leave, Move, Resign};
+use crate::table::Given::{Done, Refused};
+use crate::table::{ANN, BEN, Opening, SERIAL, STRANGER, Step, desk_of, first_failing};
 use fics_words::Refusal;
 use linked_desk::Desk;
 use std::alloc::Global;
 use std::process::Abort;
 
 const AT_ANOTHER_GAME: &[Step] = &[
-    Step(
-        0,
-        ANN,
-        Does::Move("e2e4"),
-        Given::Refused(Refusal::NotPlaying),
-    ),
-    Step(
-        0,
-        ANN,
-        Does::Acked(1_000),
-        Given::Refused(Refusal::NotPlaying),
-    ),
-    Step(0, ANN, Does::Resign, Given::Refused(Refusal::NotPlaying)),
-    Step(0, ANN, Does::Fetch, Given::Refused(Refusal::NotWatching)),
+    Step(0, ANN, Move("e2e4"), Refused(Refusal::NotPlaying)),
+    Step(0, ANN, Acked(1_000), Refused(Refusal::NotPlaying)),
+    Step(0, ANN, Resign, Refused(Refusal::NotPlaying)),
+    Step(0, ANN, Fetch, Refused(Refusal::NotWatching)),
 ];
 
 const AT_THE_GAME: &[Step] = &[
-    Step(
-        0,
-        STRANGER,
-        Does::Move("e2e4"),
-        Given::Refused(Refusal::NotPlaying),
-    ),
-    Step(
-        0,
-        STRANGER,
-        Does::Acked(1_000),
-        Given::Refused(Refusal::NotPlaying),
-    ),
-    Step(
-        0,
-        BEN,
-        Does::Move("e7e5"),
-        Given::Refused(Refusal::NotYourTurn),
-    ),
-    Step(
-        0,
-        ANN,
-        Does::Move("e2e5"),
-        Given::Refused(Refusal::CannotReach),
-    ),
-    Step(0, ANN, Does::Move("e3e4"), Given::Refused(Refusal::NoPiece)),
-    Step(
-        0,
-        ANN,
-        Does::Move("e1g1"),
-        Given::Refused(Refusal::CastleForbidden),
-    ),
-    Step(
-        0,
-        STRANGER,
-        Does::Resign,
-        Given::Refused(Refusal::NotPlaying),
-    ),
-    Step(0, STRANGER, Does::Flag, Given::Refused(Refusal::NotPlaying)),
-    Step(0, ANN, Does::Flag, Given::Refused(Refusal::NotFallen)),
-    Step(
-        0,
-        STRANGER,
-        Does::Fetch,
-        Given::Refused(Refusal::NotWatching),
-    ),
+    Step(0, STRANGER, Move("e2e4"), Refused(Refusal::NotPlaying)),
+    Step(0, STRANGER, Acked(1_000), Refused(Refusal::NotPlaying)),
+    Step(0, BEN, Move("e7e5"), Refused(Refusal::NotYourTurn)),
+    Step(0, ANN, Move("e2e5"), Refused(Refusal::CannotReach)),
+    Step(0, ANN, Move("e3e4"), Refused(Refusal::NoPiece)),
+    Step(0, ANN, Move("e1g1"), Refused(Refusal::CastleForbidden)),
+    Step(0, STRANGER, Resign, Refused(Refusal::NotPlaying)),
+    Step(0, STRANGER, Flag, Refused(Refusal::NotPlaying)),
+    Step(0, ANN, Flag, Refused(Refusal::NotFallen)),
+    Step(0, STRANGER, Fetch, Refused(Refusal::NotWatching)),
     // nothing of it has changed the game
-    Step(0, ANN, Does::Move("e2e4"), Given::Done),
+    Step(0, ANN, Move("e2e4"), Done),
 ];
 
 const A_PINNED_KNIGHT_STEPS: &[Step] = &[
-    Step(0, ANN, Does::Move("e2e4"), Given::Done),
-    Step(0, BEN, Does::Move("e7e5"), Given::Done),
-    Step(0, ANN, Does::Move("b1c3"), Given::Done),
-    Step(0, BEN, Does::Move("f8b4"), Given::Done),
-    Step(0, ANN, Does::Move("d2d3"), Given::Done),
-    Step(0, BEN, Does::Move("a7a6"), Given::Done),
-    Step(
-        0,
-        ANN,
-        Does::Move("c3d5"),
-        Given::Refused(Refusal::LeavesKing),
-    ),
+    Step(0, ANN, Move("e2e4"), Done),
+    Step(0, BEN, Move("e7e5"), Done),
+    Step(0, ANN, Move("b1c3"), Done),
+    Step(0, BEN, Move("f8b4"), Done),
+    Step(0, ANN, Move("d2d3"), Done),
+    Step(0, BEN, Move("a7a6"), Done),
+    Step(0, ANN, Move("c3d5"), Refused(Refusal::LeavesKing)),
 ];
 
 const REFUSALS_AFTER_THE_END_STEPS: &[Step] = &[
-    Step(0, BEN, Does::Resign, Given::Done),
-    Step(
-        0,
-        ANN,
-        Does::Move("e2e4"),
-        Given::Refused(Refusal::GameOver),
-    ),
-    Step(0, ANN, Does::Resign, Given::Refused(Refusal::GameOver)),
-    Step(0, ANN, Does::Flag, Given::Refused(Refusal::GameOver)),
-    Step(0, ANN, Does::Acked(1_000), Given::Done),
-    Step(
-        0,
-        STRANGER,
-        Does::Acked(1_000),
-        Given::Refused(Refusal::NotPlaying),
-    ),
+    Step(0, BEN, Resign, Done),
+    Step(0, ANN, Move("e2e4"), Refused(Refusal::GameOver)),
+    Step(0, ANN, Resign, Refused(Refusal::GameOver)),
+    Step(0, ANN, Flag, Refused(Refusal::GameOver)),
+    Step(0, ANN, Acked(1_000), Done),
+    Step(0, STRANGER, Acked(1_000), Refused(Refusal::NotPlaying)),
 ];
 
 const REFUSALS_OF_A_VACANT_DESK_STEPS: &[Step] = &[
-    Step(
-        0,
-        ANN,
-        Does::Move("e2e4"),
-        Given::Refused(Refusal::NotPlaying),
-    ),
-    Step(
-        0,
-        ANN,
-        Does::Acked(1_000),
-        Given::Refused(Refusal::NotPlaying),
-    ),
-    Step(0, ANN, Does::Resign, Given::Refused(Refusal::NotPlaying)),
-    Step(0, ANN, Does::Flag, Given::Refused(Refusal::NotPlaying)),
-    Step(0, ANN, Does::Fetch, Given::Refused(Refusal::NotWatching)),
-    Step(0, ANN, Does::Leave, Given::Done),
+    Step(0, ANN, Move("e2e4"), Refused(Refusal::NotPlaying)),
+    Step(0, ANN, Acked(1_000), Refused(Refusal::NotPlaying)),
+    Step(0, ANN, Resign, Refused(Refusal::NotPlaying)),
+    Step(0, ANN, Flag, Refused(Refusal::NotPlaying)),
+    Step(0, ANN, Fetch, Refused(Refusal::NotWatching)),
+    Step(0, ANN, Leave, Done),
 ];
 
 /// A name, what stands at the desk, the steps under another serial that come first, and those at the game.
@@ -160,7 +90,7 @@ const CASES: &[Case] = &[
 ];
 
 /// The serial and the place of the first step of a case that is given something else, if one is.
-fn first_wrong(rt: &impl Abort, alloc: Global, case: &Case) -> Option<(u64, usize)> {
+fn first_wrong_of(rt: &impl Abort, alloc: Global, case: &Case) -> Option<(u64, usize)> {
     let mut desk = desk_of(rt, alloc, case.1);
     first_wrong_at(&mut desk, case)
 }
@@ -176,7 +106,7 @@ fn first_wrong_at(desk: &mut Desk, case: &Case) -> Option<(u64, usize)> {
 /// Looks at each case, whether it goes as it has to.
 fn each_case(rt: &impl Abort, alloc: Global) {
     for case in CASES {
-        assert_eq!(rt; first_wrong(rt, alloc, case), None, "{}", case.0);
+        assert_eq!(rt; first_wrong_of(rt, alloc, case), None, "{}", case.0);
     }
 }
 

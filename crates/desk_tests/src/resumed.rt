@@ -5,6 +5,7 @@ ghost use Rattle.linked_desk.specs.Seating.{AllDiffer, HasPairsFor, names_of, se
 use crate::four::{CAT, DAN};
 use crate::kept::resumes;
 use crate::stages::{Stage, first_wrong_at};
+use crate::table::Given::Refused;
 use crate::table::{ANN, BEN, Does, Given, Opening, Sitting, Step, desk_with, who_sits};
 use chess_model::Colour;
 use fics_words::{NoMemory, Refusal};
@@ -13,6 +14,7 @@ use std::alloc::Global;
 use std::process::Abort;
 use std::test::Fail;
 use style12_writer::Viewer;
+use test_steps::first_wrong;
 
 /// What comes until a game is adjourned, or to its end, and when it is resumed before that, if it is.
 struct Round(Option<u32>, &'static [Stage]);
@@ -64,12 +66,7 @@ const NEARLY_FALLEN: &[Step] = &[
 ];
 
 const FALLS: &[Step] = &[
-    Step(
-        1_000_009,
-        BEN,
-        Does::Flag,
-        Given::Refused(Refusal::NotFallen),
-    ),
+    Step(1_000_009, BEN, Does::Flag, Refused(Refusal::NotFallen)),
     Step(1_000_010, BEN, Does::Flag, Given::Done),
 ];
 
@@ -106,7 +103,7 @@ const PAIR_DROPS: &[Step] = &[
         0,
         ANN,
         Does::Make(Offer::Takeback(1)),
-        Given::Refused(Refusal::NotInVariant),
+        Refused(Refusal::NotInVariant),
     ),
     Step(0, BEN, Does::Move("d8d5"), Given::Done),
 ];
@@ -282,15 +279,11 @@ fn first_wrong_round(
     requires sessions { AllDiffer (sessions_of sitting.now.seats) }
     requires names { AllDiffer (names_of sitting.now.seats) }
 {
-    for (place, round) in rounds.iter().enumerate() {
-        if !begins(alloc, desk, sitting, round.0)? {
-            return Ok(Some(place));
-        }
-        if first_wrong_at(alloc, desk, round.1)?.is_some() {
-            return Ok(Some(place));
-        }
-    }
-    Ok(None)
+    Ok(first_wrong!(
+        rounds,
+        |round| begins(alloc, desk, sitting, round.0)?
+            && first_wrong_at(alloc, desk, round.1)?.is_none()
+    ))
 }
 
 /// Whether the game is resumed at that moment, where there is one.
@@ -311,7 +304,7 @@ fn begins(
 }
 
 /// The same of a case at a desk of its own.
-fn first_wrong(rt: &impl Abort, alloc: Global, case: &Case) -> Result<Option<usize>, NoMemory> {
+fn first_wrong_of(rt: &impl Abort, alloc: Global, case: &Case) -> Result<Option<usize>, NoMemory> {
     let sitting = who_sits(rt, case.opening);
     let mut desk = desk_with(rt, alloc, &sitting);
     first_wrong_round(alloc, &mut desk, &sitting, case.rounds)
@@ -320,7 +313,7 @@ fn first_wrong(rt: &impl Abort, alloc: Global, case: &Case) -> Result<Option<usi
 /// Looks at each case, whether it goes as it has to.
 fn each_case(rt: &impl Abort, alloc: Global) -> Result<(), Fail> {
     for case in CASES {
-        assert_eq!(rt; first_wrong(rt, alloc, case)?, None, "{}", case.name);
+        assert_eq!(rt; first_wrong_of(rt, alloc, case)?, None, "{}", case.name);
     }
     Ok(())
 }

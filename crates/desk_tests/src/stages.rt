@@ -11,7 +11,9 @@ use fics_words::NoMemory;
 use linked_desk::{Desk, Ended};
 use std::alloc::Global;
 use std::process::Abort;
+use std::test::Fail;
 use style12_writer::Viewer;
+use test_steps::first_wrong;
 
 /// A stage of a game.
 #[derive(Clone, Copy)]
@@ -91,16 +93,19 @@ pub fn first_wrong_at(
     desk: &mut Desk,
     stages: &[Stage],
 ) -> Result<Option<usize>, NoMemory> {
-    for (place, stage) in stages.iter().enumerate() {
-        if !holds(alloc, desk, *stage)? {
-            return Ok(Some(place));
-        }
-    }
-    Ok(None)
+    Ok(first_wrong!(stages, |stage| holds(alloc, desk, *stage)?))
 }
 
 /// The same of a case at a desk of its own. A test that has no desk of its own is proved in a fraction of the time.
-pub fn first_wrong(rt: &impl Abort, alloc: Global, case: &Case) -> Result<Option<usize>, NoMemory> {
+fn first_wrong_of(rt: &impl Abort, alloc: Global, case: &Case) -> Result<Option<usize>, NoMemory> {
     let mut desk = desk_of(rt, alloc, case.opening);
     first_wrong_at(alloc, &mut desk, case.stages)
+}
+
+/// Looks at each case, whether it goes as it has to.
+pub fn each_case(rt: &impl Abort, alloc: Global, cases: &[Case]) -> Result<(), Fail> {
+    for case in cases {
+        assert_eq!(rt; first_wrong_of(rt, alloc, case)?, None, "{}", case.name);
+    }
+    Ok(())
 }

@@ -5,6 +5,7 @@ use crate::table::{ANN, BEN, Does, Given, SERIAL, Step, desk_with_game, first_fa
 use linked_desk::Desk;
 use std::alloc::Global;
 use std::process::Abort;
+use test_steps::assert_rows;
 
 /// The first half-move of each player, which is free, at 3,000 and at 5,000 milliseconds.
 const OPENING: &[Step] = &[
@@ -90,7 +91,5 @@ fn is_left(rt: &impl Abort, alloc: Global, steps: &[Step], left: i64) -> bool {
 /// White has two minutes and thinks from 5,000 to 9,000, which is 4,000.
 #[test]
 fn clients_are_charged_their_own_time(rt: HostRuntime) {
-    for (place, (steps, left)) in ROWS.iter().enumerate() {
-        assert!(rt; is_left(&rt, rt.alloc(), steps, *left), "row {place}");
-    }
+    assert_rows!(rt; ROWS, |(steps, left)| is_left(&rt, rt.alloc(), steps, *left));
 }

@@ -5,19 +5,17 @@ ghost use Rattle.linked_desk.specs.Seating.{AllDiffer, HasPairsFor, names_of, se
 
 use crate::kept::{names_in, restores};
 use crate::stages::{Stage, first_wrong_at};
-use crate::table::{ANN, BEN, Does, Given, Opening, Sitting, Step, who_sits, word_of};
-use chess_model::{Colour, Move, MoveWord};
-use clock_ledger::Charge;
+use crate::table::Given::Refused;
+use crate::table::{ANN, BEN, Does, Opening, Sitting, Step, who_sits};
+use chess_model::Colour;
 use fics_words::{NoMemory, Refusal};
-use game_records::{Half, HalfList, StoredGame};
+use game_records::StoredGame;
+use game_steps::{Halves, halves_of};
 use linked_desk::{Desk, Ended, Why};
 use std::alloc::Global;
 use std::process::Abort;
 use std::test::Fail;
-
-/// A half-move: its board, its squares, and the moments of its charge, if it has one.
-#[derive(Clone, Copy)]
-struct Made(u8, &'static str, Option<(u64, u64)>);
+use test_steps::limits::MINUTES;
 
 /// What comes of a stored game.
 #[derive(Clone, Copy)]
@@ -32,102 +30,46 @@ enum Comes {
 struct Case {
     name: &'static str,
     opening: Opening,
-    made: &'static [Made],
+    made: Halves,
     comes: Comes,
 }
 
 /// The shortest mate, known as the fool's.
-const FOOLS_MATE: &[Made] = &[
-    Made(1, "f2f3", None),
-    Made(1, "e7e5", None),
-    Made(1, "g2g4", None),
-    Made(1, "d8h4", None),
-];
+const FOOLS_MATE: Halves = &["1f2f3", "1e7e5", "1g2g4", "1d8h4"];
 
 /// And a half-move behind it.
-const AFTER_MATE: &[Made] = &[
-    Made(1, "f2f3", None),
-    Made(1, "e7e5", None),
-    Made(1, "g2g4", None),
-    Made(1, "d8h4", None),
-    Made(1, "a2a3", None),
-];
+const AFTER_MATE: Halves = &["1f2f3", "1e7e5", "1g2g4", "1d8h4", "1a2a3"];
 
 /// A mate at the first board of a pair by a queen beside the king.
-const MATE_OF_A_PAIR: &[Made] = &[
-    Made(1, "e2e4", None),
-    Made(1, "e7e5", None),
-    Made(2, "e2e4", None),
-    Made(1, "d1h5", None),
-    Made(1, "b8c6", None),
-    Made(1, "f1c4", None),
-    Made(1, "g8f6", None),
-    Made(1, "h5f7", None),
+const MATE_OF_A_PAIR: Halves = &[
+    "1e2e4", "1e7e5", "2e2e4", "1d1h5", "1b8c6", "1f1c4", "1g8f6", "1h5f7",
 ];
 
 /// And a half-move at the second one behind it.
-const AFTER_MATE_OF_A_PAIR: &[Made] = &[
-    Made(1, "e2e4", None),
-    Made(1, "e7e5", None),
-    Made(2, "e2e4", None),
-    Made(1, "d1h5", None),
-    Made(1, "b8c6", None),
-    Made(1, "f1c4", None),
-    Made(1, "g8f6", None),
-    Made(1, "h5f7", None),
-    Made(2, "e7e5", None),
+const AFTER_MATE_OF_A_PAIR: Halves = &[
+    "1e2e4", "1e7e5", "2e2e4", "1d1h5", "1b8c6", "1f1c4", "1g8f6", "1h5f7", "2e7e5",
 ];
 
 /// Sam Loyd's stalemate of ten moves.
-const STALEMATE: &[Made] = &[
-    Made(1, "e2e3", None),
-    Made(1, "a7a5", None),
-    Made(1, "d1h5", None),
-    Made(1, "a8a6", None),
-    Made(1, "h5a5", None),
-    Made(1, "h7h5", None),
-    Made(1, "h2h4", None),
-    Made(1, "a6h6", None),
-    Made(1, "a5c7", None),
-    Made(1, "f7f6", None),
-    Made(1, "c7d7", None),
-    Made(1, "e8f7", None),
-    Made(1, "d7b7", None),
-    Made(1, "d8d3", None),
-    Made(1, "b7b8", None),
-    Made(1, "d3h7", None),
-    Made(1, "b8c8", None),
-    Made(1, "f7g6", None),
-    Made(1, "c8e6", None),
+const STALEMATE: Halves = &[
+    "1e2e3", "1a7a5", "1d1h5", "1a8a6", "1h5a5", "1h7h5", "1h2h4", "1a6h6", "1a5c7", "1f7f6",
+    "1c7d7", "1e8f7", "1d7b7", "1d8d3", "1b7b8", "1d3h7", "1b8c8", "1f7g6", "1c8e6",
 ];
 
-const NOT_ALLOWED: &[Made] = &[Made(1, "e2e4", None), Made(1, "e7e4", None)];
+const NOT_ALLOWED: Halves = &["1e2e4", "1e7e4"];
 
-const CHARGED: &[Made] = &[
-    Made(1, "e2e4", None),
-    Made(1, "e7e5", None),
-    Made(1, "g1f3", Some((0, 1_000))),
-];
+const CHARGED: Halves = &["1e2e4", "1e7e5", "1g1f3+"];
 
-const UNCHARGED: &[Made] = &[
-    Made(1, "e2e4", None),
-    Made(1, "e7e5", None),
-    Made(1, "g1f3", None),
-];
+const UNCHARGED: Halves = &["1e2e4", "1e7e5", "1g1f3"];
 
 /// The first half-move of Black is never charged.
-const CHARGED_TOO_EARLY: &[Made] = &[Made(1, "e2e4", None), Made(1, "e7e5", Some((0, 1_000)))];
+const CHARGED_TOO_EARLY: Halves = &["1e2e4", "1e7e5+"];
 
-const SECOND_BOARD: &[Made] = &[Made(2, "e2e4", None)];
+const SECOND_BOARD: Halves = &["2e2e4"];
 
 const OVER: &[Step] = &[
-    Step(
-        9,
-        ANN,
-        Does::Move("a2a3"),
-        Given::Refused(Refusal::GameOver),
-    ),
-    Step(9, BEN, Does::Resign, Given::Refused(Refusal::GameOver)),
+    Step(9, ANN, Does::Move("a2a3"), Refused(Refusal::GameOver)),
+    Step(9, BEN, Does::Resign, Refused(Refusal::GameOver)),
 ];
 
 const LOST: Option<Ended> = Some(Ended {
@@ -248,53 +190,11 @@ const CASES: &[Case] = &[
     },
     Case {
         name: "terms_that_no_game_has",
-        opening: Opening::Members(601, 0),
+        opening: Opening::Members(MINUTES + 1, 0),
         made: &[],
         comes: Comes::Nothing,
     },
 ];
-
-/// The half-move by two squares, if the text is one.
-fn move_of(text: &str) -> Option<Move> {
-    match word_of(text.as_bytes())? {
-        MoveWord::Coordinate { from, to, promo } => Some(Move::Plain { from, to, promo }),
-        _ => None,
-    }
-}
-
-fn half_of(made: &Made, what: Move) -> Half {
-    Half {
-        board: made.0,
-        what,
-        charge: charge_of(made.2),
-    }
-}
-
-fn charge_of(moments: Option<(u64, u64)>) -> Option<Charge> {
-    let (begin, end) = moments?;
-    Some(Charge {
-        begin,
-        end,
-        client: None,
-    })
-}
-
-/// The half-moves of the rows; those that are none are left out.
-fn halves_of(alloc: Global, made: &[Made]) -> Result<HalfList, NoMemory> {
-    let mut halves = HalfList::new(alloc);
-    for row in made {
-        add_half(&mut halves, row)?;
-    }
-    Ok(halves)
-}
-
-/// Adds the half-move of a row, if it is one.
-fn add_half(halves: &mut HalfList, made: &Made) -> Result<(), NoMemory> {
-    let Some(what) = move_of(made.1) else {
-        return Ok(());
-    };
-    halves.push(half_of(made, what))
-}
 
 /// Whether that comes of a stored game at a desk.
 fn comes_so(
@@ -311,7 +211,7 @@ fn comes_so(
     let game = StoredGame {
         terms: sitting.terms,
         names: names_in(alloc, &sitting.seats)?,
-        halves: halves_of(alloc, case.made)?,
+        halves: halves_of(alloc, case.made, 1)?,
     };
     let replays = restores(alloc, desk, &game, &sitting.seats, 9)?;
     is_so(alloc, desk, case.comes, replays)

@@ -12,6 +12,7 @@ use fics_words::{Fail, Handle, Opponents, Player, Refusal, Seats};
 use linked_desk::{Desk, DeskAct, DeskReply, Ended, Offer};
 use std::alloc::Global;
 use std::process::Abort;
+use test_steps::first_wrong;
 
 /// The serial of the game in the tests.
 pub const SERIAL: u64 = 7;
@@ -192,12 +193,7 @@ pub fn who_sits(rt: &impl Abort, opening: Opening) -> Sitting
 
 /// The place of the first step at the game of that serial that is given something else, if one is.
 pub fn first_failing(desk: &mut Desk, serial: u64, steps: &[Step]) -> Option<usize> {
-    for (place, step) in steps.iter().enumerate() {
-        if !is_given(desk, serial, step) {
-            return Some(place);
-        }
-    }
-    None
+    first_wrong!(steps, |step| is_given(desk, serial, step))
 }
 
 /// Whether a step at the game of that serial is given what it has to be.
@@ -284,7 +280,7 @@ fn move_of(text: &[u8], stamp: Option<u32>) -> Option<DeskAct>
     Some(DeskAct::Move { word, stamp })
 }
 
-pub fn word_of(text: &[u8]) -> Option<MoveWord> {
+fn word_of(text: &[u8]) -> Option<MoveWord> {
     match text {
         [kind, b'@', file, rank] => Some(MoveWord::Drop {
             kind: kind_of(*kind)?,

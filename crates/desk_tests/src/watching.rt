@@ -2,11 +2,13 @@
 ghost use Rattle.std.specs.Prelude.{IfSome};
 ghost use Rattle.linked_desk.specs.Acts.{FitsDeskAct};
 
+use crate::table::Given::Refused;
 use crate::table::{ANN, Given, Opening, SERIAL, STRANGER, answered, desk_of};
 use fics_words::{Line, Refusal};
 use linked_desk::{Desk, DeskAct};
 use std::alloc::Global;
 use std::process::Abort;
+use test_steps::first_wrong;
 
 /// What a session does at the desk.
 #[derive(Clone, Copy)]
@@ -27,29 +29,21 @@ struct Step(u32, Does, Given);
 
 /// There is no such game.
 const NOWHERE: &[Step] = &[
-    Step(ANN, Does::Watch, Given::Refused(Refusal::NoSuchGame)),
-    Step(ANN, Does::Unwatch, Given::Refused(Refusal::NotWatching)),
-    Step(ANN, Does::Show, Given::Refused(Refusal::NoSuchGame)),
-    Step(ANN, Does::Remark, Given::Refused(Refusal::NoSuchGame)),
+    Step(ANN, Does::Watch, Refused(Refusal::NoSuchGame)),
+    Step(ANN, Does::Unwatch, Refused(Refusal::NotWatching)),
+    Step(ANN, Does::Show, Refused(Refusal::NoSuchGame)),
+    Step(ANN, Does::Remark, Refused(Refusal::NoSuchGame)),
 ];
 
 /// A stranger looks on, says something, goes, comes again and is told the end; and comes once more after that.
 const LOOKING_ON: &[Step] = &[
-    Step(STRANGER, Does::Remark, Given::Refused(Refusal::NotWatching)),
-    Step(
-        STRANGER,
-        Does::Unwatch,
-        Given::Refused(Refusal::NotWatching),
-    ),
+    Step(STRANGER, Does::Remark, Refused(Refusal::NotWatching)),
+    Step(STRANGER, Does::Unwatch, Refused(Refusal::NotWatching)),
     Step(STRANGER, Does::Show, Given::Items(1, false)),
-    Step(ANN, Does::Watch, Given::Refused(Refusal::AlreadyWatching)),
-    Step(ANN, Does::Unwatch, Given::Refused(Refusal::NotWatching)),
+    Step(ANN, Does::Watch, Refused(Refusal::AlreadyWatching)),
+    Step(ANN, Does::Unwatch, Refused(Refusal::NotWatching)),
     Step(STRANGER, Does::Watch, Given::Items(1, false)),
-    Step(
-        STRANGER,
-        Does::Watch,
-        Given::Refused(Refusal::AlreadyWatching),
-    ),
+    Step(STRANGER, Does::Watch, Refused(Refusal::AlreadyWatching)),
     Step(STRANGER, Does::Fetch, Given::Items(0, false)),
     Step(STRANGER, Does::Remark, Given::Done),
     Step(ANN, Does::Remark, Given::Done),
@@ -57,15 +51,11 @@ const LOOKING_ON: &[Step] = &[
     // the game's line and its board come first
     Step(ANN, Does::Fetch, Given::Items(4, false)),
     Step(STRANGER, Does::Unwatch, Given::Done),
-    Step(STRANGER, Does::Fetch, Given::Refused(Refusal::NotWatching)),
+    Step(STRANGER, Does::Fetch, Refused(Refusal::NotWatching)),
     Step(STRANGER, Does::Watch, Given::Items(1, false)),
     Step(ANN, Does::Resign, Given::Done),
     Step(STRANGER, Does::Fetch, Given::Items(1, true)),
-    Step(
-        STRANGER,
-        Does::Unwatch,
-        Given::Refused(Refusal::NotWatching),
-    ),
+    Step(STRANGER, Does::Unwatch, Refused(Refusal::NotWatching)),
     Step(STRANGER, Does::Watch, Given::Items(1, false)),
     Step(STRANGER, Does::Remark, Given::Done),
     Step(STRANGER, Does::Fetch, Given::Items(1, true)),
@@ -81,7 +71,7 @@ const HOUSE: &[Step] = &[
 /// So many remarks are told, and then no more.
 const REMARKS: &[Step] = &[
     Step(ANN, Does::RemarkTimes(1_024), Given::Done),
-    Step(ANN, Does::Remark, Given::Refused(Refusal::FeedFull)),
+    Step(ANN, Does::Remark, Refused(Refusal::FeedFull)),
 ];
 
 /// A name, what stands at the desk, the serial that is named, and the steps.
@@ -110,12 +100,10 @@ const CASES: &[(&str, Opening, u64, &[Step])] = &[
 
 /// The place of the first step at the game of that serial that is given something else, if one is.
 fn first_failing(alloc: Global, desk: &mut Desk, serial: u64, steps: &[Step]) -> Option<usize> {
-    for (place, step) in steps.iter().enumerate() {
-        if what_comes(alloc, desk, serial, step.0, step.1) != step.2 {
-            return Some(place);
-        }
-    }
-    None
+    first_wrong!(
+        steps,
+        |step| what_comes(alloc, desk, serial, step.0, step.1) == step.2
+    )
 }
 
 /// The same at a desk with that opening.

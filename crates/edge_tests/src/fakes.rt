@@ -1,11 +1,13 @@
 //! The fakes, in short sessions: tables of calls, each with what it has to come to.
 ghost use Rattle.std.specs.Prelude.{◌<◌, length};
 
-use edge_traits::{Got, Keeper, KeeperFail, Kept, Pair, Sent, Sink, Source};
+use edge_traits::{Got, Kept, Sent, Sink, Source};
 use fics_words::NoMemory;
+use keeper_steps::{Call, Records, are_kept, first_failing};
 use memory_edges::{MemKeeper, MemSink, MemSource};
 use std::alloc::Global;
 use std::test::Fail;
+use test_steps::first_wrong;
 
 /// What a source gives.
 enum Given {
@@ -60,12 +62,7 @@ fn first_wrong_read(alloc: Global) -> Result<Option<usize>, NoMemory> {
 }
 
 fn first_wrong_of(source: &mut MemSource) -> Option<usize> {
-    for (place, (room, wanted)) in READS.iter().enumerate() {
-        if !gives(source, *room, wanted) {
-            return Some(place);
-        }
-    }
-    None
+    first_wrong!(READS, |(room, wanted)| gives(source, *room, wanted))
 }
 
 #[test]
@@ -90,16 +87,11 @@ fn first_wrong_write(alloc: Global) -> Result<Option<usize>, NoMemory> {
 }
 
 fn first_wrong_in(sink: &mut MemSink) -> Option<usize> {
-    for (place, (bytes, wanted)) in WRITES.iter().enumerate() {
-        if write(sink, bytes) != *wanted {
-            return Some(place);
-        }
+    let wrong = first_wrong!(WRITES, |(bytes, wanted)| write(sink, bytes) == *wanted);
+    if wrong.is_none() && sink.written() != b"one three".as_slice() {
+        return Some(WRITES.len());
     }
-    if sink.written() == b"one three".as_slice() {
-        None
-    } else {
-        Some(WRITES.len())
-    }
+    wrong
 }
 
 #[test]
@@ -108,68 +100,22 @@ fn keeps_what_is_written(rt: HostRuntime) -> Result<(), Fail> {
     Ok(())
 }
 
-/// A call of a keeper, and what it comes to.
-enum Keeps {
-    Puts(&'static [u8], &'static [u8], Kept),
-    Removes(&'static [u8], Kept),
-    /// The records can't be loaded.
-    Refuses,
-    /// The records are these, in order, each a key and its bytes.
-    Loads(&'static [(&'static [u8], &'static [u8])]),
-}
-
 /// The third call and the eighth fail.
-const KEPT: &[Keeps] = &[
-    Keeps::Puts(b"b", b"1", Kept::Done),
-    Keeps::Puts(b"a", b"2", Kept::Done),
-    Keeps::Puts(b"c", b"3", Kept::Failed),
-    Keeps::Puts(b"ab", b"4", Kept::Done),
-    Keeps::Puts(b"b", b"5", Kept::Done),
-    Keeps::Removes(b"none", Kept::Done),
-    Keeps::Removes(b"a", Kept::Done),
-    Keeps::Refuses,
-    Keeps::Loads(&[(b"ab", b"4"), (b"b", b"5")]),
+const KEPT: &[Call] = &[
+    Call::Puts(b"b", b"1", Kept::Done),
+    Call::Puts(b"a", b"2", Kept::Done),
+    Call::Puts(b"c", b"3", Kept::Failed),
+    Call::Puts(b"ab", b"4", Kept::Done),
+    Call::Puts(b"b", b"5", Kept::Done),
+    Call::Removes(b"none", Kept::Done),
+    Call::Removes(b"a", Kept::Done),
+    Call::Refuses,
+    Call::Loads(LEFT),
 ];
 
-fn put(keeper: &mut MemKeeper, key: &[u8], bytes: &[u8]) -> Kept {
-    keeper.put(key, bytes)
-}
+const LEFT: Records = &[(b"ab", b"4"), (b"b", b"5")];
 
-fn remove(keeper: &mut MemKeeper, key: &[u8]) -> Kept {
-    keeper.remove(key)
-}
-
-fn is_refused(keeper: &mut MemKeeper) -> bool {
-    matches!(keeper.load(), Err(KeeperFail::Failed))
-}
-
-fn loads(keeper: &mut MemKeeper, records: &[(&[u8], &[u8])]) -> bool {
-    match keeper.load() {
-        Ok(pairs) => are_kept(&pairs, records),
-        Err(_) => false,
-    }
-}
-
-fn are_kept(pairs: &[Pair], records: &[(&[u8], &[u8])]) -> bool {
-    for (place, (key, bytes)) in records.iter().enumerate() {
-        match pairs.get(place) {
-            Some(pair) if pair.key.as_slice() == *key && pair.bytes.as_slice() == *bytes => {}
-            _ => return false,
-        }
-    }
-    pairs.len() == records.len()
-}
-
-fn is_as_said(keeper: &mut MemKeeper, call: &Keeps) -> bool {
-    match call {
-        Keeps::Puts(key, bytes, wanted) => put(keeper, key, bytes) == *wanted,
-        Keeps::Removes(key, wanted) => remove(keeper, key) == *wanted,
-        Keeps::Refuses => is_refused(keeper),
-        Keeps::Loads(records) => loads(keeper, records) && are_kept(keeper.pairs(), records),
-    }
-}
-
-/// The place of the first call that comes to something else, if one does.
+/// The place of the first call that comes to something else, if one does, or their number where others are kept.
 fn first_wrong_call(alloc: Global) -> Result<Option<usize>, NoMemory> {
     let fails = Vec::from_slice(alloc, &[2, 7])?;
     let mut keeper = MemKeeper::new(alloc, fails);
@@ -177,12 +123,11 @@ fn first_wrong_call(alloc: Global) -> Result<Option<usize>, NoMemory> {
 }
 
 fn first_wrong_by(keeper: &mut MemKeeper) -> Option<usize> {
-    for (place, call) in KEPT.iter().enumerate() {
-        if !is_as_said(keeper, call) {
-            return Some(place);
-        }
+    let wrong = first_failing(keeper, KEPT);
+    if wrong.is_none() && !are_kept(keeper.pairs(), LEFT) {
+        return Some(KEPT.len());
     }
-    None
+    wrong
 }
 
 #[test]

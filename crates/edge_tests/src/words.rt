@@ -1,10 +1,13 @@
 //! Handles, lines, decimals and refusals, at values chosen by hand.
 
 use fics_words::{
-    Account, Duplicate, Fail, Handle, Line, NoMemory, Player, Refusal, read_number, write_number,
+    Account, Duplicate, Fail, Handle, Line, Lines, NoMemory, Player, Refusal, read_number,
+    write_number,
 };
 use std::alloc::Global;
 use std::test::Fail as TestFail;
+use test_steps::assert_rows;
+use test_steps::limits::LINE_BYTES;
 
 const HANDLES: &[&str] = &["Ann", "abc", "GuestABCD", "abcdefghijklmnopq", "ZZZ"];
 
@@ -75,8 +78,8 @@ fn is_no_line(alloc: Global, bytes: &[u8]) -> Result<bool, TestFail> {
 
 #[test]
 fn reads_lines(rt: HostRuntime) -> Result<(), TestFail> {
-    let long = [b'x'; 1_024];
-    assert!(rt; is_line(rt.alloc(), &long[..1_023])?);
+    let long = [b'x'; LINE_BYTES + 1];
+    assert!(rt; is_line(rt.alloc(), &long[..LINE_BYTES])?);
     assert!(rt; is_no_line(rt.alloc(), &long)?);
     for good in LINES {
         assert!(rt; is_line(rt.alloc(), good)?);
@@ -86,6 +89,67 @@ fn reads_lines(rt: HostRuntime) -> Result<(), TestFail> {
     }
     let made = Line::from_bytes(Vec::new(rt.alloc()));
     assert!(rt; made.bytes().is_empty());
+    Ok(())
+}
+
+/// Puts a line behind others, and says whether it stands there, and where memory was wanted nothing more than before.
+fn is_put(lines: &mut Lines, line: &Line) -> bool {
+    let count = lines.len();
+    let bytes = lines.count_bytes();
+    match lines.push(line.bytes()) {
+        Ok(()) => {
+            lines.len() == count + 1
+                && lines.count_bytes() == bytes + line.bytes().len()
+                && lines.get(count) == Some(line.bytes())
+        }
+        Err(NoMemory) => lines.len() == count && lines.count_bytes() == bytes,
+    }
+}
+
+/// The lines of these bytes in one block, which are put one after the other where memory lasts.
+fn lines_of(alloc: Global, rows: &[&[u8]]) -> Result<Option<Lines>, TestFail> {
+    let mut lines = Lines::new(alloc);
+    for row in rows {
+        let Some(line) = Line::read(alloc, row)? else {
+            return Ok(None);
+        };
+        if !is_put(&mut lines, &line) {
+            return Ok(None);
+        }
+    }
+    Ok(Some(lines))
+}
+
+/// Whether these are lines of a block, in their order, and none behind them.
+fn are_in_block(alloc: Global, rows: &[&[u8]]) -> Result<bool, TestFail> {
+    let Some(lines) = lines_of(alloc, rows)? else {
+        return Ok(false);
+    };
+    for place in 0..rows.len() {
+        if lines.get(place) != Some(rows[place]) {
+            return Ok(false);
+        }
+    }
+    Ok(lines.len() == rows.len() && lines.get(rows.len()).is_none())
+}
+
+/// Whether two blocks of lines are equal.
+fn are_equal(alloc: Global, rows: &[&[u8]], others: &[&[u8]]) -> Result<bool, TestFail> {
+    let (Some(lines), Some(more)) = (lines_of(alloc, rows)?, lines_of(alloc, others)?) else {
+        return Ok(false);
+    };
+    Ok(lines == more)
+}
+
+#[test]
+fn keeps_lines_in_one_block(rt: HostRuntime) -> Result<(), TestFail> {
+    let long = [b'x'; 1_023];
+    assert!(rt; are_in_block(rt.alloc(), &[])?);
+    assert!(rt; are_in_block(rt.alloc(), LINES)?);
+    assert!(rt; are_in_block(rt.alloc(), &[b"", &long, b"", &long, b"x"])?);
+    assert!(rt; are_equal(rt.alloc(), &[b"ab", b"c"], &[b"ab", b"c"])?);
+    assert!(rt; !are_equal(rt.alloc(), &[b"ab", b"c"], &[b"a", b"bc"])?);
+    assert!(rt; !are_equal(rt.alloc(), &[b"ab"], &[b"ab", b""])?);
     Ok(())
 }
 
@@ -115,9 +179,7 @@ fn number(text: &[u8], most: u64) -> Option<u64> {
 
 #[test]
 fn reads_numbers(rt: HostRuntime) {
-    for (place, (text, most, value)) in NUMBERS.iter().enumerate() {
-        assert!(rt; number(text, *most) == *value, "row {place}");
-    }
+    assert_rows!(rt; NUMBERS, |(text, most, value)| number(text, *most) == *value);
 }
 
 #[test]

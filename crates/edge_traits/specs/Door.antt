@@ -1,5 +1,5 @@
 -- What the calls of a door do to what it tells.
-use Rattle.std.specs.Prelude.{◌≡◌, ◌≢◌, ℕ, ◌+◌, ◌<◌, ◌≤◌, ⊤, Bool, true, false, List, [], ◌∷◌, ◌++◌, length, Some, None}
+use Rattle.std.specs.Prelude.{◌≡◌, ◌≢◌, ℕ, ◌+◌, ◌<◌, ◌≤◌, ⊤, List, [], ◌∷◌, ◌++◌, length, Some, None, IfSome}
 use Rattle.std.specs.declared.option.Option.{Option}
 use Rattle.edge_traits.specs.Link.{Handed, Tale, IsFresh}
 use Rattle.edge_traits.specs.declared.doorway.Came.{Came}
@@ -21,11 +21,6 @@ Goes None (Some new) R = ⊥
 Goes (Some old) None R = ⊥
 Goes (Some old) (Some new) R = R old new
 
--- the fact holds of what is told
-abbrev pub IfTold : {T : Type 0} → Option T → (T → Type 0) → Type 0
-IfTold None P = ⊤
-IfTold (Some tale) P = P tale
-
 -- what an answer of a door, whose links tell this, does to what it tells
 abbrev pub Gives : {L : Type 0} → (L → Option Tale) → Came L → DoorTale → DoorTale → Type 0
 Gives tells (Link link) old new =
@@ -37,11 +32,11 @@ Gives tells Failed old new = new ≡ old
 -- the fact holds of a link that came
 abbrev pub IfCame : {L : Type 0} → Came L → (L → Type 0) → Type 0
 IfCame (Link link) P = P link
-IfCame answer P = Unit {0}
+IfCame answer P = ⊤
 
 -- a link is new: no fault was counted, and where it tells, nothing was read or written and it isn't closed
 abbrev pub IsNew : ℕ → Option Tale → Type 0
-IsNew faults tale = (faults ≡ 0) × IfTold tale IsFresh
+IsNew faults tale = (faults ≡ 0) × IfSome tale IsFresh
 
 -- the number is that of a link which came, and some link didn't come back yet
 abbrev pub IsOut : ℕ → DoorTale → Type 0
@@ -58,14 +53,4 @@ KeepsLinks old new = old.came ++ old.left ≡ new.came ++ new.left
 -- the fact holds where the door failed
 abbrev pub OnDoorFailed : {L : Type 0} → Came L → Type 0 → Type 0
 OnDoorFailed Failed P = P
-OnDoorFailed answer P = Unit {0}
-
--- whether a door failed
-abbrev pub door_failed : {L : Type 0} → Came L → Bool
-door_failed Failed = true
-door_failed answer = false
-
--- the answer is a Quiet
-abbrev pub IsQuiet : {L : Type 0} → Came L → Type 0
-IsQuiet Quiet = Unit {0}
-IsQuiet answer = ⊥
+OnDoorFailed answer P = ⊤

@@ -1,5 +1,5 @@
 -- What the calls of a keeper do to its table.
-use Rattle.std.specs.Prelude.{◌≡◌, ℕ, ⊤, Bool, true, false, List, Some, None, Err, Result}
+use Rattle.std.specs.Prelude.{◌≡◌, ℕ, ⊤, List, Some, None, Err, Result}
 use Rattle.std.specs.declared.option.Option.{Option}
 use Rattle.std.specs.FinMap as map
 use Rattle.edge_traits.specs.Pairs.{Table, Pairs}
@@ -38,19 +38,9 @@ AreAllOf (Some table) pairs = pairs ≡ map.entries table
 -- the fact holds where the call failed
 abbrev pub OnKeepFailed : Kept → Type 0 → Type 0
 OnKeepFailed Failed P = P
-OnKeepFailed answer P = Unit {0}
+OnKeepFailed answer P = ⊤
 
 -- the fact holds where the load failed
 abbrev pub OnLoadFailed : {A : Type 0} → Result A KeeperFail → Type 0 → Type 0
 OnLoadFailed (Err fail.Failed) P = P
-OnLoadFailed answer P = Unit {0}
-
--- whether a call failed
-abbrev pub keep_failed : Kept → Bool
-keep_failed Failed = true
-keep_failed answer = false
-
--- whether a load failed
-abbrev pub load_failed : {A : Type 0} → Result A KeeperFail → Bool
-load_failed (Err fail.Failed) = true
-load_failed answer = false
+OnLoadFailed answer P = ⊤

@@ -59,7 +59,7 @@ is_ended heard before = before
 -- the end comes only where nothing is left
 abbrev pub OnEnd : Heard → Type 0 → Type 0
 OnEnd End P = P
-OnEnd heard P = Unit {0}
+OnEnd heard P = ⊤
 
 -- how far a link has come
 abbrev pub extent_of : Tale → Extent
@@ -91,14 +91,9 @@ Closes old new = new ≡ record old { closed = true }
 -- the fact holds of the number of bytes that were given
 abbrev pub IfHeard : Heard → (ℕ → Type 0) → Type 0
 IfHeard (Bytes n) P = P n
-IfHeard heard P = Unit {0}
+IfHeard heard P = ⊤
 
 -- the fact holds where the read failed
 abbrev pub OnHearFailed : Heard → Type 0 → Type 0
 OnHearFailed Failed P = P
-OnHearFailed heard P = Unit {0}
-
--- whether a read failed
-abbrev pub hear_failed : Heard → Bool
-hear_failed Failed = true
-hear_failed heard = false
+OnHearFailed heard P = ⊤

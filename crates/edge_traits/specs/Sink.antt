@@ -1,5 +1,5 @@
 -- What a write does to the bytes that a sink was written.
-use Rattle.std.specs.Prelude.{ℕ, Bool, true, false, List, take}
+use Rattle.std.specs.Prelude.{ℕ, ⊤, List, take}
 use Rattle.std.specs.declared.option.Option.{Option}
 use Rattle.std.specs.Io.KnownBytes.{Appends}
 use Rattle.edge_traits.specs.declared.sink.Sent.{Sent}
@@ -18,14 +18,9 @@ Wrote old new bytes Memory = AppendsFront old new bytes
 -- the fact holds where the write failed
 abbrev pub OnWriteFailed : Sent → Type 0 → Type 0
 OnWriteFailed Failed P = P
-OnWriteFailed answer P = Unit {0}
+OnWriteFailed answer P = ⊤
 
 -- the fact holds where the write didn't fail
 abbrev pub UnlessWriteFailed : Sent → Type 0 → Type 0
-UnlessWriteFailed Failed P = Unit {0}
+UnlessWriteFailed Failed P = ⊤
 UnlessWriteFailed answer P = P
-
--- whether a write failed
-abbrev pub write_failed : Sent → Bool
-write_failed Failed = true
-write_failed answer = false

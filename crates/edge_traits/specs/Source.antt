@@ -1,5 +1,5 @@
 -- What a read does to the bytes that a source has left.
-use Rattle.std.specs.Prelude.{ℕ, ◌<◌, ◌≤◌, Bool, true, false, List, length, take}
+use Rattle.std.specs.Prelude.{ℕ, ◌<◌, ◌≤◌, ⊤, List, length, take}
 use Rattle.std.specs.declared.option.Option.{Option}
 use Rattle.std.specs.Io.KnownBytes.{Consumes, Keeps, IsAtEnd}
 use Rattle.edge_traits.specs.declared.source.Got.{Got}
@@ -14,14 +14,9 @@ Took old new Failed buf = Keeps old new
 -- the fact holds where the read failed
 abbrev pub OnReadFailed : Got → Type 0 → Type 0
 OnReadFailed Failed P = P
-OnReadFailed answer P = Unit {0}
-
--- whether a read failed
-abbrev pub read_failed : Got → Bool
-read_failed Failed = true
-read_failed answer = false
+OnReadFailed answer P = ⊤
 
 -- the fact holds of the number of bytes that were given
 abbrev pub IfBytes : Got → (ℕ → Type 0) → Type 0
 IfBytes (Bytes n) P = P n
-IfBytes answer P = Unit {0}
+IfBytes answer P = ⊤

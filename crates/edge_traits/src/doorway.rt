@@ -19,10 +19,10 @@ pub enum Came<L> {
 /// left to give, which came, which came back under which numbers and with how many faults, and how many Quiets it gave;
 /// a real one tells nothing. Its count of `faults` never falls.
 pub trait Doorway {
-    ghost use Rattle.std.specs.Prelude.{◌≡◌, ℕ, ◌≤◌};
+    ghost use Rattle.std.specs.Prelude.{◌≡◌, ℕ, ◌≤◌, IfSome};
     ghost use Rattle.std.specs.declared.option.Option.{Option};
     ghost use Rattle.edge_traits.specs.Faults.{Rose};
-    ghost use Rattle.edge_traits.specs.Door.{DoorTale, Gives, Goes, IfCame, IsNew, IsOut, IfTold, TakesBack, OnDoorFailed};
+    ghost use Rattle.edge_traits.specs.Door.{DoorTale, Gives, Goes, IfCame, IsNew, IsOut, TakesBack, OnDoorFailed};
 
     /// A connection that this door gives.
     type Link: Link + Send + Drop;
@@ -41,7 +41,7 @@ pub trait Doorway {
 
     /// Hands back the connection that `next` gave as the number-th, counted from 1. Takes no memory and can't fail.
     fn back(&mut self, number: u64, link: Self::Link)
-        requires { IfTold (tale self.old) (IsOut number) }
+        requires { IfSome (tale self.old) (IsOut number) }
         ensures back { Goes (tale self.old) (tale self.new) (TakesBack number (record {
           tale = Self.Link.tale link;
           faults = Self.Link.faults link;

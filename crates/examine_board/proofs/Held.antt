@@ -17,7 +17,8 @@ use Rattle.examine_board.specs.Holds.{HoldsExam}
 use Rattle.examine_board.specs.Laid.{CanBeLaid}
 use Rattle.examine_board.proofs.Laying.{CanBeLaid-played, CanBeLaid-take}
 use Rattle.std.proofs.lemmas.Option.{slice_get_read}
-use Rattle.examine_board.proofs.Lists.{slice_get-first, slice_get-left, slice_get-right}
+use Rattle.examine_board.proofs.Lists.{slice_get-first, slice_get-right}
+use Rattle.game_board.proofs.Steps.{slice_get-append_left}
 
 -- the list that is looked at, whole
 pub whole : (stored : List Half) → take (length stored) stored ++ [] ≡ stored
@@ -52,7 +53,7 @@ holds_opened g e replays terms names stored shared branch place boards =
 pub looked_stored : (shared : ℕ) (stored branch : List Half) (i : ℕ) → shared ≤ length stored → i < shared → slice_get (take shared stored ++ branch) i ≡ slice_get (take shared stored) i
 looked_stored shared stored branch i within low =
     let many : length (take shared stored) ≡ shared = length-take-le shared stored within in
-    slice_get-left (take shared stored) branch i (omega (arith, many, low))
+    slice_get-append_left (take shared stored) branch i (omega (arith, many, low))
 
 pub looked_branch : (shared : ℕ) (stored branch : List Half) (i : ℕ) → shared ≤ length stored → shared ≤ i → slice_get (take shared stored ++ branch) i ≡ slice_get branch (i - shared)
 looked_branch shared stored branch i within high =

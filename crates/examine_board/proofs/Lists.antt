@@ -29,12 +29,6 @@ around k [] x e = absurd cc
 around zero (y ∷ ys) x e = let same : y ≡ x = cc in ap (λ z. z ∷ ys) same
 around (suc k) (y ∷ ys) x e = ap (λ zs. y ∷ zs) (around k ys x e)
 
--- an item of one list behind the other
-pub slice_get-left : {X : Type 0} (xs ys : List X) (i : ℕ) → i < length xs → slice_get (xs ++ ys) i ≡ slice_get xs i
-slice_get-left [] ys i low = absurd (omega (arith, low))
-slice_get-left (x ∷ xs) ys zero low = refl
-slice_get-left (x ∷ xs) ys (suc i) low = slice_get-left xs ys i (omega (arith, low))
-
 pub slice_get-right : {X : Type 0} (xs ys : List X) (i j : ℕ) → j ≡ length xs + i → slice_get (xs ++ ys) j ≡ slice_get ys i
 slice_get-right [] ys i j e = let same : j ≡ i = omega (arith, e) in ap (slice_get ys) same
 slice_get-right (x ∷ xs) ys i zero e = absurd (omega (arith, e))

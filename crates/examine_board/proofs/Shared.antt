@@ -2,11 +2,10 @@
 use Rattle.std.proofs.Common.{◌≡◌, ℕ, ◌+◌, ◌<◌, ◌≤◌, ◌&&◌, zero, suc, min, Bool, true, false, if◌then◌else◌, List, [], ◌∷◌, length, take, Option, Some, None, refl, sym, ap, subst, ◌∙◌, arith}
 use Rattle.std.specs.Prelude.{◌==◌, slice_get, slice_index_or}
 use Rattle.std.specs.Bool.{beq}
-use Rattle.std.proofs.lemmas.Bool.{eqb-true, eq-eqb}
+use Rattle.std.proofs.lemmas.Bool.{eqb-true, eq-eqb, and_parts, and_from}
 use Rattle.std.proofs.lemmas.List.{length-take-le, take-take}
 use Rattle.std.proofs.lemmas.Option.{slice_get_read}
 use Rattle.chess_model.specs.declared.man.Kind.{Kind}
-use Rattle.chess_model.specs.declared.man.Kind.TheVariants.{Pawn, Knight, Bishop, Rook, Queen, King}
 use Rattle.chess_model.specs.declared.moves.Move.{Move}
 use Rattle.chess_model.specs.declared.moves.Move.TheVariants.{Plain, Castle, Drop}
 use Rattle.chess_model.specs.Men.{same_kind}
@@ -15,74 +14,21 @@ use Rattle.game_records.specs.declared.stored_game.Half.{Half}
 use Rattle.examine_board.specs.Exam.{ExamState, present}
 use Rattle.examine_board.specs.Same.{Share, same_charge, same_half, same_move, same_promotion, same_stamps, shared_length}
 use Rattle.examine_board.proofs.Lists.{slice_get-first}
-
-both : (a b : Bool) → (a && b) ≡ true → (a ≡ true) × (b ≡ true)
-both true true e = (refl, refl)
-both true false e = cc
-both false b e = cc
-
-and_true : (a b : Bool) → a ≡ true → b ≡ true → (a && b) ≡ true
-and_true true true e f = refl
-and_true true false e f = cc
-and_true false b e f = cc
+use Rattle.chess_model.proofs.StandsAfter.{same_kind-eq}
+use Rattle.chess_model.proofs.TestsDecide.{same_kind-self}
+use Rattle.chess_model.proofs.Threefold.{beq-self}
 
 -- ---- the tests find what is the same
 
-kind_is : (k l : Kind) → same_kind k l ≡ true → k ≡ l
-kind_is Pawn Pawn e = refl
-kind_is Knight Knight e = refl
-kind_is Bishop Bishop e = refl
-kind_is Rook Rook e = refl
-kind_is Queen Queen e = refl
-kind_is King King e = refl
-kind_is Pawn Knight e = absurd cc
-kind_is Pawn Bishop e = absurd cc
-kind_is Pawn Rook e = absurd cc
-kind_is Pawn Queen e = absurd cc
-kind_is Pawn King e = absurd cc
-kind_is Knight Pawn e = absurd cc
-kind_is Knight Bishop e = absurd cc
-kind_is Knight Rook e = absurd cc
-kind_is Knight Queen e = absurd cc
-kind_is Knight King e = absurd cc
-kind_is Bishop Pawn e = absurd cc
-kind_is Bishop Knight e = absurd cc
-kind_is Bishop Rook e = absurd cc
-kind_is Bishop Queen e = absurd cc
-kind_is Bishop King e = absurd cc
-kind_is Rook Pawn e = absurd cc
-kind_is Rook Knight e = absurd cc
-kind_is Rook Bishop e = absurd cc
-kind_is Rook Queen e = absurd cc
-kind_is Rook King e = absurd cc
-kind_is Queen Pawn e = absurd cc
-kind_is Queen Knight e = absurd cc
-kind_is Queen Bishop e = absurd cc
-kind_is Queen Rook e = absurd cc
-kind_is Queen King e = absurd cc
-kind_is King Pawn e = absurd cc
-kind_is King Knight e = absurd cc
-kind_is King Bishop e = absurd cc
-kind_is King Rook e = absurd cc
-kind_is King Queen e = absurd cc
-
-kind_again : (k : Kind) → same_kind k k ≡ true
-kind_again Pawn = refl
-kind_again Knight = refl
-kind_again Bishop = refl
-kind_again Rook = refl
-kind_again Queen = refl
-kind_again King = refl
-
 promotion_is : (o p : Option Kind) → same_promotion o p ≡ true → o ≡ p
 promotion_is None None e = refl
-promotion_is (Some k) (Some l) e = ap (λ x. Some x) (kind_is k l e)
+promotion_is (Some k) (Some l) e = ap (λ x. Some x) (same_kind-eq k l e)
 promotion_is None (Some l) e = absurd cc
 promotion_is (Some k) None e = absurd cc
 
 promotion_again : (o : Option Kind) → same_promotion o o ≡ true
 promotion_again None = refl
-promotion_again (Some k) = kind_again k
+promotion_again (Some k) = same_kind-self k
 
 castle_is : (a b : Bool) → beq a b ≡ true → a ≡ b
 castle_is true true e = refl
@@ -90,19 +36,15 @@ castle_is false false e = refl
 castle_is true false e = absurd cc
 castle_is false true e = absurd cc
 
-castle_again : (a : Bool) → beq a a ≡ true
-castle_again true = refl
-castle_again false = refl
-
 move_is : (m n : Move) → same_move m n ≡ true → m ≡ n
 move_is (Plain a b promo) (Plain c d becomes) e =
-    let first = both (a == c && b == d) (same_promotion promo becomes) e in
-    let squares = both (a == c) (b == d) first.0 in
+    let first = and_parts (a == c && b == d) (same_promotion promo becomes) e in
+    let squares = and_parts (a == c) (b == d) first.0 in
     λ i. Plain (eqb-true a c squares.0 i) (eqb-true b d squares.1 i) (promotion_is promo becomes first.1 i)
 move_is (Castle long) (Castle other) e = ap (λ x. Castle x) (castle_is long other e)
 move_is (Drop k a) (Drop l b) e =
-    let parts = both (same_kind k l) (a == b) e in
-    λ i. Drop (kind_is k l parts.0 i) (eqb-true a b parts.1 i)
+    let parts = and_parts (same_kind k l) (a == b) e in
+    λ i. Drop (same_kind-eq k l parts.0 i) (eqb-true a b parts.1 i)
 move_is (Plain a b promo) (Castle other) e = absurd cc
 move_is (Plain a b promo) (Drop l c) e = absurd cc
 move_is (Castle long) (Plain c d becomes) e = absurd cc
@@ -115,27 +57,27 @@ number_again n = eq-eqb n n refl
 
 move_again : (m : Move) → same_move m m ≡ true
 move_again (Plain a b promo) =
-    and_true (a == a && b == b) (same_promotion promo promo) (and_true (a == a) (b == b) (number_again a) (number_again b)) (promotion_again promo)
-move_again (Castle long) = castle_again long
-move_again (Drop k a) = and_true (same_kind k k) (a == a) (kind_again k) (number_again a)
+    and_from (a == a && b == b) (same_promotion promo promo) (and_from (a == a) (b == b) (number_again a) (number_again b)) (promotion_again promo)
+move_again (Castle long) = beq-self long
+move_again (Drop k a) = and_from (same_kind k k) (a == a) (same_kind-self k) (number_again a)
 
 stamps_are : (o p : Option (ℕ × ℕ)) → same_stamps o p ≡ true → o ≡ p
 stamps_are None None e = refl
 stamps_are (Some s) (Some t) e =
-    let parts = both (s.0 == t.0) (s.1 == t.1) e in
+    let parts = and_parts (s.0 == t.0) (s.1 == t.1) e in
     λ i. Some (eqb-true s.0 t.0 parts.0 i, eqb-true s.1 t.1 parts.1 i)
 stamps_are None (Some t) e = absurd cc
 stamps_are (Some s) None e = absurd cc
 
 stamps_again : (o : Option (ℕ × ℕ)) → same_stamps o o ≡ true
 stamps_again None = refl
-stamps_again (Some s) = and_true (s.0 == s.0) (s.1 == s.1) (number_again s.0) (number_again s.1)
+stamps_again (Some s) = and_from (s.0 == s.0) (s.1 == s.1) (number_again s.0) (number_again s.1)
 
 charge_is : (o p : Option Charge) → same_charge o p ≡ true → o ≡ p
 charge_is None None e = refl
 charge_is (Some c) (Some d) e =
-    let first = both (c.begin == d.begin && c.end == d.end) (same_stamps c.client d.client) e in
-    let moments = both (c.begin == d.begin) (c.end == d.end) first.0 in
+    let first = and_parts (c.begin == d.begin && c.end == d.end) (same_stamps c.client d.client) e in
+    let moments = and_parts (c.begin == d.begin) (c.end == d.end) first.0 in
     λ i. Some (record { begin = eqb-true c.begin d.begin moments.0 i; end = eqb-true c.end d.end moments.1 i; client = stamps_are c.client d.client first.1 i })
 charge_is None (Some d) e = absurd cc
 charge_is (Some c) None e = absurd cc
@@ -143,19 +85,19 @@ charge_is (Some c) None e = absurd cc
 charge_again : (o : Option Charge) → same_charge o o ≡ true
 charge_again None = refl
 charge_again (Some c) =
-    and_true (c.begin == c.begin && c.end == c.end) (same_stamps c.client c.client)
-    (and_true (c.begin == c.begin) (c.end == c.end) (number_again c.begin) (number_again c.end)) (stamps_again c.client)
+    and_from (c.begin == c.begin && c.end == c.end) (same_stamps c.client c.client)
+    (and_from (c.begin == c.begin) (c.end == c.end) (number_again c.begin) (number_again c.end)) (stamps_again c.client)
 
 half_is : (g h : Half) → same_half g h ≡ true → g ≡ h
 half_is g h e =
-    let first = both (g.board == h.board && same_move g.what h.what) (same_charge g.charge h.charge) e in
-    let parts = both (g.board == h.board) (same_move g.what h.what) first.0 in
+    let first = and_parts (g.board == h.board && same_move g.what h.what) (same_charge g.charge h.charge) e in
+    let parts = and_parts (g.board == h.board) (same_move g.what h.what) first.0 in
     λ i. record { board = eqb-true g.board h.board parts.0 i; what = move_is g.what h.what parts.1 i; charge = charge_is g.charge h.charge first.1 i }
 
 half_again : (g : Half) → same_half g g ≡ true
 half_again g =
-    and_true (g.board == g.board && same_move g.what g.what) (same_charge g.charge g.charge)
-    (and_true (g.board == g.board) (same_move g.what g.what) (number_again g.board) (move_again g.what)) (charge_again g.charge)
+    and_from (g.board == g.board && same_move g.what g.what) (same_charge g.charge g.charge)
+    (and_from (g.board == g.board) (same_move g.what g.what) (number_again g.board) (move_again g.what)) (charge_again g.charge)
 
 -- ---- what two lists share
 

@@ -3,21 +3,14 @@ use Rattle.std.proofs.Common.{◌≡◌, ℕ, ◌+◌, ◌-◌, ◌<◌, List, [
 use Rattle.std.specs.Prelude.{IfSome, IsSome, slice_get}
 use Rattle.chess_model.specs.declared.variant.Terms.{Terms}
 use Rattle.chess_model.specs.Allowed.{Allowed}
-use Rattle.clock_ledger.specs.declared.charges.Charge.{Charge}
-use Rattle.clock_ledger.specs.Charges.{IsChargeable}
 use Rattle.game_board.specs.Board.{Board, position_of}
 use Rattle.game_records.specs.declared.stored_game.Half.{Half}
-use Rattle.game_records.specs.Bounds.{IsCharge}
 use Rattle.linked_boards.specs.Halves.{played_of}
 use Rattle.linked_boards.specs.Replaying.{boards_put}
 use Rattle.examine_board.specs.Exam.{board_after, boards_after}
 use Rattle.examine_board.specs.Laid.{MayLie}
 use Rattle.examine_board.proofs.Boards.{board_there, boards_laid}
 use Rattle.examine_board.proofs.Lists.{take-next}
-
-pub chargeable : (o : Option Charge) → IsCharge o → IfSome o IsChargeable
-chargeable None h = tt
-chargeable (Some c) h = h
 
 there_some : (o : Option Board) (b : Board) → o ≡ Some b → IsSome o
 there_some None b e = cc

@@ -3,15 +3,12 @@ use Rattle.std.proofs.Common.{◌≡◌, ◌<◌, ◌≤◌, true, false, not, c
 use Rattle.std.specs.Prelude.{◌==◌, IfOk, OnOk, Result}
 use Rattle.std.specs.Option.{option_map_or}
 use Rattle.std.proofs.lemmas.List.{length-take-le}
-use Rattle.chess_model.specs.declared.man.Colour.{Colour}
-use Rattle.chess_model.specs.declared.man.Colour.TheVariants.{White, Black}
 use Rattle.chess_model.specs.declared.moves.Move.{Move}
 use Rattle.chess_model.specs.declared.moves.MoveWord.{MoveWord}
 use Rattle.chess_model.specs.declared.variant.Terms.{Terms}
 use Rattle.chess_model.specs.declared.variant.Variant.{Variant}
 use Rattle.chess_model.specs.declared.variant.Variant.TheVariants.{Chess, Crazyhouse, Bughouse, Fischer}
 use Rattle.chess_model.specs.Allowed.{Allowed}
-use Rattle.chess_model.specs.Men.{same_colour}
 use Rattle.chess_model.specs.Position.{Position}
 use Rattle.chess_model.specs.Result.{result, is_end}
 use Rattle.chess_model.specs.WordAnswer.{word_answer}
@@ -29,6 +26,7 @@ use Rattle.examine_board.specs.Laid.{CanBeLaid, MayLie}
 use Rattle.examine_board.specs.Play.{is_pair, play_answer, position, uncharged}
 use Rattle.examine_board.proofs.Boards.{all_on}
 use Rattle.examine_board.proofs.Laying.{CanBeLaid-take}
+use Rattle.chess_model.proofs.TestsDecide.{same_colour-self}
 
 -- ---- the one board of a game
 
@@ -74,15 +72,11 @@ unfolding play_answer
 answer_over e w single over =
     sym (λ i. option_map_or Err (cond (single i) (Some NotInVariant) (cond (over i) (Some GameOver) (cond (e.place == 1200) (Some TooManyMoves) None))) (in_words (word_answer (position e) w)))
 
-own_colour : (c : Colour) → same_colour c c ≡ true
-own_colour White = refl
-own_colour Black = refl
-
 board_answers : (e : ExamState) (w : MoveWord) → length (list_on 1 (present e)) ≡ e.place →
     move_answer (board_on e 1) (to_move (board_on e 1)) w ≡ option_map_or Err (cond (e.place == 1200) (Some TooManyMoves) None) (in_words (word_answer (position e) w))
 unfolding move_answer position_of
 board_answers e w count =
-    λ i. option_map_or Err (cond (not (own_colour (to_move (board_on e 1)) i)) (Some NotYourTurn) (cond (count i == 1200) (Some TooManyMoves) None)) (in_words (word_answer (position e) w))
+    λ i. option_map_or Err (cond (not (same_colour-self (to_move (board_on e 1)) i)) (Some NotYourTurn) (cond (count i == 1200) (Some TooManyMoves) None)) (in_words (word_answer (position e) w))
 
 pub answer_word : (e : ExamState) (w : MoveWord) (b : Board) → is_pair e.terms.variant ≡ false → is_end (result (position e)) ≡ false → b ≡ board_on e 1 →
     length (list_on 1 (present e)) ≡ e.place → move_answer b (to_move b) w ≡ play_answer e w

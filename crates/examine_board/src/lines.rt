@@ -1,8 +1,6 @@
 //! The lines that show where the exam is.
 ghost use Rattle.std.specs.Prelude.{◌≡◌, ◌*◌, ◌<◌, ◌≤◌, ◌++◌, IfOk, OnOk};
 ghost use Rattle.chess_model.specs.Tests.{has_drops};
-ghost use Rattle.game_board.specs.Board.{Board};
-ghost use Rattle.linked_boards.specs.Boards.{board_numbers};
 ghost use Rattle.game_records.specs.Bounds as bounds;
 ghost use Rattle.examine_board.specs.Exam.{board_on};
 ghost use Rattle.examine_board.specs.Lines.{exam_lines, hands_line, hands_lines, name_at, shown_board, view_of};

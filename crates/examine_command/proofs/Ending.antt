@@ -1,6 +1,6 @@
 -- How `examine` ends, by what became of the store, of its game and of the lines.
-use Rattle.std.proofs.Common.{◌≡◌, ℕ, ◌<◌, ◌^◌, List, [], Option, Some, None, Err, refl, inl, inr}
-use Rattle.std.specs.Prelude.{IfSome}
+use Rattle.std.proofs.Common.{◌≡◌, ℕ, ◌<◌, ◌^◌, List, [], Option, Some, None, Result, Ok, Err, refl, sym, subst, inl, inr}
+use Rattle.std.specs.Prelude.{IfOk, IfSome, option_map}
 use Rattle.std.specs.Io.KnownBytes.{Appends}
 use Rattle.std.proofs.KnownBytes.{Appends-nil, Appends-trans}
 use Rattle.edge_traits.specs.Pairs.{Table}
@@ -22,7 +22,7 @@ use Rattle.store_ends.specs.declared.outcome.Outcome.{Outcome}
 use Rattle.store_ends.specs.declared.outcome.Outcome.TheVariants as outcome
 use Rattle.store_ends.specs.Outcomes.{outcome_of}
 use Rattle.examine_board.specs.Exam.{ExamState, opened}
-use Rattle.examine_command.specs.ExamineEnds.{AnswersFrom, AreAnswered, ExamineEnds, ExaminesFound, ExaminesGame, ExaminesIn, HasNone, IsCutOff, IsCutOffFirst, IsGameOf, TellsNone, no_such_game}
+use Rattle.examine_command.specs.ExamineEnds.{AnswersFrom, AreAnswered, ExamineEnds, ExaminesExam, ExaminesOpened, HasNone, IsCutOff, IsCutOffFirst, IsGameOf, TellsNone, no_such_game}
 use Rattle.examine_command.specs.Texts.{examine_lines, shown_text}
 use Rattle.examine_command.proofs.Stored.{found_is, none_is}
 
@@ -73,7 +73,7 @@ module _ (table : Option Table) (number : ℕ) (left left' written mid written' 
   game_ends game BadLine stored h = record { game = game; stored = stored; answers = answered (opened game) BadLine h }
   game_ends game Spent stored h = record { game = game; stored = stored; answers = answered (opened game) Spent h }
 
-  examined : (game : StoredGame) (end : Outcome) → IsGameOf table number game → ExaminesGame game left left' mid written' end → ExamineEnds table number left left' written written' end
+  examined : (game : StoredGame) (end : Outcome) → IsGameOf table number game → ExaminesExam (opened game) left left' mid written' end → ExamineEnds table number left left' written written' end
   examined game (outcome.Read end) stored h = game_ends game end stored h
   examined game outcome.BadRecord stored h = absurd h
   examined game outcome.KeeperFault stored h = absurd h
@@ -92,14 +92,27 @@ module _ (table : Option Table) (number : ℕ) (left left' written mid written' 
   none_told outcome.BadRecord is unread h = absurd h
   none_told outcome.KeeperFault is unread h = absurd h
 
+  no_room : (end : Outcome) → left' ≡ left → written' ≡ mid → end ≡ outcome.Read Memory → ExamineEnds table number left left' written written' end
+  no_room end unread same is =
+      subst (λ (o : Outcome). ExamineEnds table number left left' written written' o) (sym is)
+      (inr (record { due = []; is_due = inl refl; cut = record { unread = unread; text = (0, subst (λ w. Appends written w []) (sym same) none) } }))
+
   -- the store was opened, and the game of that number examined, if there is one
-  pub store_examined : (lobby : LobbyState) (end : Outcome) → number < 2 ^ 64 → IsWellFormed lobby → AreSpelled lobby → IfSome table (λ told. HasLoaded told lobby) → IfSome table IsGoodStore
-      → ExaminesIn lobby number left left' mid written' end → ExamineEnds table number left left' written written' end
-  store_examined lobby end small formed spelled loaded good h =
-      elim (stored_game lobby.shelf.games number) as (λ found. stored_game lobby.shelf.games number ≡ found → ExaminesFound found left left' mid written' end → ExamineEnds table number left left' written written' end) [
-        | Some game ↦ λ is g. examined game end (found_is table lobby number small formed spelled loaded good game is) g
-        | None ↦ λ is g. none_told end (none_is table lobby number small formed spelled loaded good is) g.0 g.1
-      ] refl h
+  pub store_examined : {E : Type 0} (lobby : LobbyState) (found : Result (Option ExamState) E) (end : Outcome) → number < 2 ^ 64 → IsWellFormed lobby → AreSpelled lobby
+      → IfSome table (λ told. HasLoaded told lobby) → IfSome table IsGoodStore → IfOk found (λ f. f ≡ option_map opened (stored_game lobby.shelf.games number))
+      → ExaminesOpened found left left' mid written' end → ExamineEnds table number left left' written written' end
+  store_examined {E} lobby found end small formed spelled loaded good is h = by found (stored_game lobby.shelf.games number) refl is h
+    where
+      by : (f : Result (Option ExamState) E) (at : Option StoredGame) → stored_game lobby.shelf.games number ≡ at → IfOk f (λ it. it ≡ option_map opened at)
+          → ExaminesOpened f left left' mid written' end → ExamineEnds table number left left' written written' end
+      by (Ok (Some e)) (Some game) stands same g =
+          let own : e ≡ opened game = cc in
+          examined game end (found_is table lobby number small formed spelled loaded good game stands)
+          (subst (λ (x : ExamState). ExaminesExam x left left' mid written' end) own g)
+      by (Ok (Some e)) None stands same g = absurd cc
+      by (Ok None) (Some game) stands same g = absurd cc
+      by (Ok None) None stands same g = none_told end (none_is table lobby number small formed spelled loaded good stands) g.0 g.1
+      by (Err want) at stands same g = no_room end g.0 g.1 g.2
 
 -- ---- the store wasn't opened
 

@@ -1,5 +1,4 @@
 pub mod Counts
-pub mod Cuts
 pub mod Ending
 pub mod LineAnswers
 pub mod OneGame

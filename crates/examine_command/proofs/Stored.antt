@@ -1,14 +1,13 @@
 -- The stored game of a number in a lobby that was loaded is the one that stands in the table under the number's key.
 use Rattle.std.proofs.Common.{◌≡◌, ℕ, ◌<◌, ◌^◌, true, false, cond, List, [], ◌∷◌, Option, Some, None, refl, sym, ap, subst, ◌∙◌, arith}
-use Rattle.std.specs.Prelude.{◌==◌, All, IfSome, bytes_eq}
+use Rattle.std.specs.Prelude.{◌==◌, All, IfSome}
 use Rattle.std.specs.List.{find}
-use Rattle.std.proofs.lemmas.Bool.{eqb-true, eq-eqb, false_from_ne_true}
+use Rattle.std.proofs.lemmas.Bool.{eqb-true, eq-eqb}
 use Rattle.std.proofs.lemmas.List.Elements.{All-head, All-tail}
 use Rattle.std.proofs.lemmas.Slice.Eq.{bytes_eq-Decides}
 use Rattle.edge_traits.specs.Pairs.{Table}
-use Rattle.fics_words.specs.Handle.{key_of}
 use Rattle.fics_words.specs.declared.account.Account.{Account}
-use Rattle.game_records.specs.Keys.{account_key, game_key}
+use Rattle.game_records.specs.Keys.{game_key}
 use Rattle.game_records.specs.Replays.{Replays}
 use Rattle.game_records.specs.Spelling.{IsSpelled, spelling}
 use Rattle.game_records.specs.declared.records.Record.TheVariants as a
@@ -16,34 +15,14 @@ use Rattle.game_records.specs.declared.stored_game.StoredGame.{StoredGame}
 use Rattle.game_records.proofs.KeysBack.{one_game}
 use Rattle.game_shelf.specs.declared.shelved.Shelved.{Shelved}
 use Rattle.game_shelf.specs.Numbers.{RiseAbove, game_in, has_number, stored_game}
-use Rattle.game_shelf.specs.Wanted.{account_record, either_record, game_record, is_account_at, is_game_at, wanted}
+use Rattle.game_shelf.specs.Wanted.{account_record, either_record, game_record, is_game_at, wanted}
 use Rattle.lobby_load.specs.BadRows.{IsGoodStore}
 use Rattle.lobby_load.specs.Loaded.{AreSpelled, HasLoaded}
 use Rattle.lobby_state.specs.Lobby.{LobbyState}
 use Rattle.lobby_state.specs.WellFormed.{IsWellFormed}
 use Rattle.lobby_store.specs.Carrying.{held}
 use Rattle.examine_command.specs.ExamineEnds.{HasNone, IsGameOf, StandsUnder}
-
-same_key : (one other : List ℕ) → bytes_eq one other ≡ true → one ≡ other
-same_key one other h = (bytes_eq-Decides one other).0 h
-
-other_key : (one other : List ℕ) → (one ≡ other → ⊥) → bytes_eq one other ≡ false
-other_key one other differs = false_from_ne_true (bytes_eq one other) (λ h. differs (same_key one other h))
-
--- under the key of a game stands no account
-account_not_game : (letters : List ℕ) (number : ℕ) → account_key letters ≡ game_key number → ⊥
-account_not_game letters number e = let heads = ap first_byte e in omega (arith, heads)
-  where
-    first_byte : List ℕ → ℕ
-    first_byte [] = 0
-    first_byte (byte ∷ bytes) = byte
-
-no_account : (accounts : List Account) (number : ℕ) → find (is_account_at (game_key number)) accounts ≡ None
-no_account [] number = refl
-no_account (account ∷ accounts) number =
-    ap (λ t. cond t (Some account) (find (is_account_at (game_key number)) accounts))
-    (other_key (account_key (key_of account.name)) (game_key number) (account_not_game (key_of account.name) number))
-    ∙ no_account accounts number
+use Rattle.game_shelf.proofs.Leading.{other_key, no_account}
 
 -- a game is found by its key where it is found by its number
 by_number : (low : ℕ) (games : List Shelved) (number : ℕ) → RiseAbove low games → number < 2 ^ 64 → find (is_game_at (game_key number)) games ≡ find (has_number number) games

@@ -1,6 +1,6 @@
 -- How `examine` ends: what was read and what was written by then, by the table of the keeper, where the keeper tells
 -- it.
-use Rattle.std.specs.Prelude.{◌≡◌, ◌⊎◌, ℕ, List, [], codes, IfSome, None, Some, ⊤}
+use Rattle.std.specs.Prelude.{◌≡◌, ◌⊎◌, ℕ, List, [], codes, IfSome, None, Some, Result, Ok, Err, ⊤}
 use Rattle.std.specs.declared.option.Option.{Option}
 use Rattle.std.specs.Io.KnownBytes.{Appends}
 use Rattle.edge_traits.specs.Pairs.{Table}
@@ -10,13 +10,11 @@ use Rattle.game_records.specs.Replays.{Replays}
 use Rattle.game_records.specs.Spelling.{IsSpelled}
 use Rattle.game_records.specs.declared.records.Record.TheVariants.{Game}
 use Rattle.game_records.specs.declared.stored_game.StoredGame.{StoredGame}
-use Rattle.game_shelf.specs.Numbers.{stored_game}
 use Rattle.line_answers.specs.LineCommandEnds.{LineCommandEnds}
 use Rattle.line_answers.specs.declared.end.End.{End}
 use Rattle.line_answers.specs.declared.end.End.TheVariants.{Done, ReadFault, WriteFault, Memory, BadLine, Spent}
 use Rattle.lobby_load.specs.BadRows.{IsGoodStore}
 use Rattle.lobby_load.specs.Telling.{IsFirstBad, bad_record_line}
-use Rattle.lobby_state.specs.Lobby.{LobbyState}
 use Rattle.lobby_store.specs.Carrying.{held}
 use Rattle.store_ends.specs.declared.outcome.Outcome.{Outcome}
 use Rattle.store_ends.specs.declared.outcome.Outcome.TheVariants.{Read, BadRecord, KeeperFault, NoGame}
@@ -67,11 +65,11 @@ AnswersFrom e left left' written written' Memory =
 AnswersFrom e left left' written written' BadLine = AreAnswered e left left' written written' BadLine
 AnswersFrom e left left' written written' Spent = AreAnswered e left left' written written' Spent
 
--- how the exam of a game ends
-abbrev pub ExaminesGame : StoredGame → Option (List ℕ) → Option (List ℕ) → Option (List ℕ) → Option (List ℕ) → Outcome
+-- how an exam ends that was opened
+abbrev pub ExaminesExam : ExamState → Option (List ℕ) → Option (List ℕ) → Option (List ℕ) → Option (List ℕ) → Outcome
     → Type 0
-ExaminesGame game left left' written written' (Read end) = AnswersFrom (opened game) left left' written written' end
-ExaminesGame game left left' written written' _ = ⊥
+ExaminesExam e left left' written written' (Read end) = AnswersFrom e left left' written written' end
+ExaminesExam e left left' written written' _ = ⊥
 
 -- that there is no such game was told, or a beginning of that where the write failed or memory ran out at it
 abbrev pub TellsNone : Option (List ℕ) → Option (List ℕ) → Outcome → Type 0
@@ -80,16 +78,14 @@ TellsNone written written' (Read WriteFault) = AppendsFront written written' no_
 TellsNone written written' (Read Memory) = AppendsFront written written' no_such_game
 TellsNone written written' _ = ⊥
 
--- what examining the game of that number comes to, if there is one
-abbrev pub ExaminesFound : Option StoredGame → Option (List ℕ) → Option (List ℕ) → Option (List ℕ) → Option (List ℕ)
-    → Outcome → Type 0
-ExaminesFound (Some game) left left' written written' end = ExaminesGame game left left' written written' end
-ExaminesFound None left left' written written' end = (left' ≡ left) × TellsNone written written' end
-
-abbrev pub ExaminesIn : LobbyState → ℕ → Option (List ℕ) → Option (List ℕ) → Option (List ℕ) → Option (List ℕ) → Outcome
-    → Type 0
-ExaminesIn lobby number left left' written written' end =
-    ExaminesFound (stored_game lobby.shelf.games number) left left' written written' end
+-- what examining comes to, by what opening the game of that number gave: its exam, none, or want of memory, with which
+-- it ends at once
+abbrev pub ExaminesOpened : {E : Type 0} → Result (Option ExamState) E → Option (List ℕ) → Option (List ℕ)
+    → Option (List ℕ) → Option (List ℕ) → Outcome → Type 0
+ExaminesOpened (Ok (Some e)) left left' written written' end = ExaminesExam e left left' written written' end
+ExaminesOpened (Ok None) left left' written written' end = (left' ≡ left) × TellsNone written written' end
+ExaminesOpened (Err want) left left' written written' end =
+    (left' ≡ left) × (written' ≡ written) × (end ≡ Read Memory)
 
 -- the store's game of that number was examined, with this end
 pub record IsExamined (table : Option Table) (number : ℕ) (left left' written written' : Option (List ℕ)) (end : End)

@@ -5,8 +5,6 @@ ghost use Rattle.edge_traits.specs.Faults.{Rose};
 ghost use Rattle.line_answers.specs.Ends.{OnReadFault, OnWriteFault};
 ghost use Rattle.line_answers.specs.LineCommand.{IsAnswer};
 ghost use Rattle.line_answers.specs.Reading.{AfterSend};
-ghost use Rattle.examine_board.specs.Play.{played};
-ghost use Rattle.examine_board.specs.Steps.{backed, forwarded, reverted};
 ghost use Rattle.examine_command.specs.ExamineEnds.{AnswersFrom};
 ghost use Rattle.examine_command.specs.Texts.{answer_line, done, shown_text, told};
 

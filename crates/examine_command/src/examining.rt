@@ -1,16 +1,19 @@
 //! The command `examine`: a store is opened, and one of its games examined.
 
-ghost use Rattle.std.specs.Prelude.{◌≡◌, ◌≤◌};
+ghost use Rattle.std.specs.Prelude.{◌≡◌, ◌≤◌, IfOk, option_map};
 ghost use Rattle.edge_traits.specs.Faults.{Rose};
 ghost use Rattle.edge_traits.specs.Keeper.{Stays};
 ghost use Rattle.game_records.specs.Replays.{Replays};
+ghost use Rattle.game_shelf.specs.Numbers.{stored_game};
 ghost use Rattle.lobby_state.specs.WellFormed.{IsWellFormed};
 ghost use Rattle.store_ends.specs.Outcomes.{OnKeeperFault, OnReadFault, OnWriteFault};
-ghost use Rattle.examine_command.specs.ExamineEnds.{EndsBeforeInput, ExamineEnds, ExaminesGame, ExaminesIn, TellsNone};
+ghost use Rattle.examine_board.specs.Exam.{opened};
+ghost use Rattle.examine_command.specs.ExamineEnds.{EndsBeforeInput, ExamineEnds, ExaminesOpened, TellsNone};
 
 use crate::answering::answer_exam;
 use edge_traits::{Keeper, Sink, Source};
 use examine_board::Exam;
+use fics_words::NoMemory;
 use game_records::StoredGame;
 use line_answers::{End, send};
 use lobby_load::open_store;
@@ -40,52 +43,57 @@ pub fn examine<S: Source, K: Sink, P: Keeper>(
     ensures keeper_counted { P.faults keeper.old ≤ P.faults keeper.new }
 {
     match open_store(alloc, keeper, sink) {
-        Ok(lobby) => examine_in(alloc, &lobby, game, source, sink),
+        Ok(lobby) => {
+            let opened = open_game(alloc, &lobby, game);
+            // All the other games needn't be in memory while the source is read.
+            drop(lobby);
+            examine_opened(alloc, opened, source, sink)
+        }
         Err(fault) => outcome_of(fault),
     }
 }
 
-/// Examines the game of that number of a lobby that was loaded.
-fn examine_in<S: Source, K: Sink>(
-    alloc: Global,
-    lobby: &Lobby,
-    number: u64,
-    source: &mut S,
-    sink: &mut K,
-) -> Outcome
+/// Opens the game of that number of a lobby that was loaded, if there is one.
+fn open_game(alloc: Global, lobby: &Lobby, number: u64) -> Result<Option<Exam>, NoMemory>
     ensures formed { IsWellFormed lobby.now }
-    ensures ends { ExaminesIn lobby.now number (S.left source.old) (S.left source.new) (K.written sink.old)
-        (K.written sink.new) result }
-    ensures unread { EndsBeforeInput result → source.new ≡ source.old }
-    ensures read_cause { OnReadFault result (Rose (S.faults source.old) (S.faults source.new)) }
-    ensures write_cause { OnWriteFault result (Rose (K.faults sink.old) (K.faults sink.new)) }
+    ensures opened { IfOk result (λ found. found ≡ option_map opened (stored_game lobby.now.shelf.games number)) }
 {
     lobbies_are_well_formed(lobby);
     match lobby.stored(number) {
-        Some(game) => examine_game(alloc, game, source, sink),
-        None => tell_none(sink),
+        Some(game) => Ok(Some(open_exam(alloc, game)?)),
+        None => Ok(None),
     }
 }
 
-/// Examines a stored game, which replays.
-fn examine_game<S: Source, K: Sink>(
+/// The exam of a stored game, which replays.
+fn open_exam(alloc: Global, game: &StoredGame) -> Result<Exam, NoMemory>
+    requires { Replays game.now }
+    ensures { IfOk result (λ exam. exam ≡ opened game.now) }
+{
+    let Some(exam) = Exam::open(alloc, game)? else {
+        unreachable!()
+    };
+    Ok(exam)
+}
+
+/// Examines the game that was opened, or tells that there is none. Where memory ran out nothing is read or written.
+fn examine_opened<S: Source, K: Sink>(
     alloc: Global,
-    game: &StoredGame,
+    opened: Result<Option<Exam>, NoMemory>,
     source: &mut S,
     sink: &mut K,
 ) -> Outcome
-    requires { Replays game.now }
-    ensures ends { ExaminesGame game.now (S.left source.old) (S.left source.new) (K.written sink.old)
+    ensures ends { ExaminesOpened opened (S.left source.old) (S.left source.new) (K.written sink.old)
         (K.written sink.new) result }
     ensures unread { EndsBeforeInput result → source.new ≡ source.old }
     ensures read_cause { OnReadFault result (Rose (S.faults source.old) (S.faults source.new)) }
     ensures write_cause { OnWriteFault result (Rose (K.faults sink.old) (K.faults sink.new)) }
 {
-    let Ok(found) = Exam::open(alloc, game) else {
-        return Outcome::Read(End::Memory);
-    };
-    let Some(exam) = found else { unreachable!() };
-    Outcome::Read(answer_exam(alloc, exam, source, sink))
+    match opened {
+        Ok(Some(exam)) => Outcome::Read(answer_exam(alloc, exam, source, sink)),
+        Ok(None) => tell_none(sink),
+        Err(NoMemory) => Outcome::Read(End::Memory),
+    }
 }
 
 /// Tells that there is no such game.

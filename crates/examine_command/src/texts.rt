@@ -1,7 +1,6 @@
 //! The texts of answers, each line ended by a line feed.
 
-ghost use Rattle.std.specs.Prelude.{◌≡◌, ◌++◌, ◌∷◌, [], OnOk, codes};
-ghost use Rattle.examine_board.specs.Lines.{exam_lines};
+ghost use Rattle.std.specs.Prelude.{◌≡◌, ◌++◌, OnOk, codes};
 ghost use Rattle.examine_command.specs.Texts.{lines_text, refusal_text, shown_text};
 
 use examine_board::Exam;

@@ -3,10 +3,9 @@
 use crate::games::Game;
 use crate::running::{Evening, Stored, goes_so};
 use chess_model::Variant::{Bughouse, Chess, Crazyhouse, Fischer};
-use fics_words::NoMemory;
-use std::alloc::Global;
 use std::process::Abort;
 use std::test::Fail;
+use test_steps::assert_rows;
 
 /// The record of an untimed game of Ann against Ben, after e2e4.
 const ANN_AND_BEN: Stored = Stored::Bytes(&[
@@ -15,7 +14,7 @@ const ANN_AND_BEN: Stored = Stored::Bytes(&[
 ]);
 
 /// Two minutes and twelve seconds; White took four seconds for the knight, and Black half a second.
-const KNIGHTS: Stored = Stored::Of(Game(2, 12, Chess, &["1e2e4", "1e7e5", "1g1f3+", "1b8c6-"], 1));
+const KNIGHTS: Stored = Stored::Of(Game(2, 12, Chess, &["1e2e4", "1e7e5", "1g1f3*", "1b8c6-"], 1));
 
 /// The shortest game that ends by mate.
 const MATED: Stored = Stored::Of(Game(0, 0, Chess, &["1f2f3", "1e7e5", "1g2g4", "1d8h4"], 1));
@@ -44,7 +43,8 @@ const KNIGHT_GAME: Stored = Stored::Of(Game(
     300,
 ));
 
-const START: &str =
+/// The start of an untimed game, as one who examines it is shown it.
+pub const START: &str =
     "<12> rnbqkbnr pppppppp -------- -------- -------- -------- PPPPPPPP RNBQKBNR W -1 1 1 1 1 0 1 Ann Ben 2 0 0 39 39 0 0 1 none (0:00) none 0";
 
 const PAWN: &str =
@@ -259,18 +259,8 @@ const EVENINGS: &[(&str, Evening)] = &[
     ),
 ];
 
-/// The place of the first evening that goes otherwise, if one does.
-fn first_wrong(alloc: Global, evenings: &[(&str, Evening)]) -> Result<Option<usize>, NoMemory> {
-    for (place, row) in evenings.iter().enumerate() {
-        if !goes_so(alloc, &row.1)? {
-            return Ok(Some(place));
-        }
-    }
-    Ok(None)
-}
-
 #[test]
 fn stored_games_are_examined(rt: HostRuntime) -> Result<(), Fail> {
-    assert_eq!(rt; first_wrong(rt.alloc(), EVENINGS)?, None);
+    assert_rows!(rt; EVENINGS, |row| goes_so(rt.alloc(), &row.1)?);
     Ok(())
 }

@@ -1,12 +1,15 @@
 //! To and fro over as many half-moves as a pair can have.
 
-use crate::games::{Game, Halves, game_of};
+use crate::evenings::START;
+use crate::games::{Game, game_of};
 use chess_model::Variant::Bughouse;
 use examine_board::Exam;
 use fics_words::{NoMemory, Refusal};
+use game_steps::Halves;
 use std::alloc::Global;
 use std::process::Abort;
 use std::test::Fail;
+use test_steps::first_wrong;
 
 /// Eight half-moves that lead both boards back to where they began.
 const BOTH: Halves = &[
@@ -56,10 +59,9 @@ fn is_shown(alloc: Global, exam: &Exam, count: usize, first: &str) -> Result<boo
 /// Makes the steps; the place of the first that is answered otherwise, if one is, or else their number where the exam
 /// isn't at the start then.
 fn first_otherwise(alloc: Global, mut exam: Exam) -> Result<Option<usize>, NoMemory> {
-    for (place, step) in STEPS.iter().enumerate() {
-        if stepped(&mut exam, step.0) != step.1 {
-            return Ok(Some(place));
-        }
+    let wrong = first_wrong!(STEPS, |step| stepped(&mut exam, step.0) == step.1);
+    if wrong.is_some() {
+        return Ok(wrong);
     }
     if is_shown(alloc, &exam, 3, START)? {
         return Ok(None);
@@ -67,11 +69,8 @@ fn first_otherwise(alloc: Global, mut exam: Exam) -> Result<Option<usize>, NoMem
     Ok(Some(STEPS.len()))
 }
 
-const START: &str =
-    "<12> rnbqkbnr pppppppp -------- -------- -------- -------- PPPPPPPP RNBQKBNR W -1 1 1 1 1 0 1 Ann Ben 2 0 0 39 39 0 0 1 none (0:00) none 0";
-
 /// Opens the longest game, and makes the steps.
-fn first_wrong(alloc: Global) -> Result<Option<usize>, NoMemory> {
+fn first_wrong_step(alloc: Global) -> Result<Option<usize>, NoMemory> {
     let game = game_of(alloc, LONGEST)?;
     match Exam::open(alloc, &game)? {
         Some(exam) => first_otherwise(alloc, exam),
@@ -81,6 +80,6 @@ fn first_wrong(alloc: Global) -> Result<Option<usize>, NoMemory> {
 
 #[test]
 fn a_pair_goes_to_and_fro(rt: HostRuntime) -> Result<(), Fail> {
-    assert_eq!(rt; first_wrong(rt.alloc())?, None);
+    assert_eq!(rt; first_wrong_step(rt.alloc())?, None);
     Ok(())
 }

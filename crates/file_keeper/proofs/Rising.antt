@@ -1,5 +1,5 @@
 -- Pairs whose keys rise from each to the next one.
-use Rattle.std.proofs.Common.{◌≡◌, ℕ, suc, ◌+◌, ◌-◌, ◌<◌, ◌≤◌, Bool, true, false, ◌&&◌, List, [], ◌∷◌, length, drop, get_or, refl, sym, ap, subst, ◌∙◌, arith}
+use Rattle.std.proofs.Common.{◌≡◌, ℕ, suc, ◌+◌, ◌-◌, ◌<◌, ◌≤◌, Bool, true, false, List, [], ◌∷◌, length, drop, get_or, refl, sym, ap, subst, ◌∙◌, arith}
 use Rattle.std.specs.Ordering.{is_lt}
 use Rattle.std.specs.declared.cmp.Ordering.{Ordering}
 use Rattle.std.specs.declared.cmp.Ordering.TheVariants.{Less, Equal, Greater}
@@ -8,18 +8,8 @@ use Rattle.std.specs.FinMap.Entries.{below_all}
 use Rattle.std.proofs.Math.Seq.{drop-cons}
 use Rattle.std.proofs.lemmas.List.{length-drop}
 use Rattle.edge_traits.specs.Pairs.{Pairs, IsAscending, keys_order}
-
-both_true : (a b : Bool) → a ≡ true → b ≡ true → a && b ≡ true
-both_true true b p q = q
-both_true false b p q = p
-
-first_true : (a b : Bool) → a && b ≡ true → a ≡ true
-first_true true b p = refl
-first_true false b p = p
-
-second_true : (a b : Bool) → a && b ≡ true → b ≡ true
-second_true true b p = p
-second_true false b p = absurd (let bad : false ≡ true = p in cc)
+use Rattle.std.proofs.lemmas.Bool.{and_from}
+use Rattle.std.specs.Cmp.{first_so, second_so}
 
 -- the key stands below all of these
 IsBelow : List ℕ → Pairs → Type 0
@@ -34,13 +24,13 @@ IsBelow-less : (key other : List ℕ) (pairs : Pairs) → keys_order key other �
 unfolding IsBelow
 IsBelow-less key other [] p h = refl
 IsBelow-less key other (e ∷ es) p h =
-    let less = nat_list_cmp_total.trans key other e.0 p (is_less _ (first_true _ _ h)) in
-    both_true _ _ (ap is_lt less) (IsBelow-less key other es p (second_true _ _ h))
+    let less = nat_list_cmp_total.trans key other e.0 p (is_less _ (first_so _ _ h)) in
+    and_from _ _ (ap is_lt less) (IsBelow-less key other es p (second_so _ _ h))
 
 IsAscending-cons : (x y : List ℕ × List ℕ) (es : Pairs) → keys_order x.0 y.0 ≡ Less → IsAscending (y ∷ es) → IsAscending (x ∷ y ∷ es)
 unfolding IsBelow
 IsAscending-cons x y es less h =
-    both_true _ _ (both_true _ _ (ap is_lt less) (IsBelow-less x.0 y.0 es less (first_true _ _ h))) h
+    and_from _ _ (and_from _ _ (ap is_lt less) (IsBelow-less x.0 y.0 es less (first_so _ _ h))) h
 
 -- all pairs ascend if those from the one before this place on do
 pub record IsRisen (pairs : Pairs) (i : ℕ) : Type 0 where

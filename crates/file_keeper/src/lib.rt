@@ -6,6 +6,7 @@
 //! no keeper holds the file.
 #![tactic(auto)]
 
+mod copied;
 mod records;
 mod sqlite_keeper;
 mod store_reader;

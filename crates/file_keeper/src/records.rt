@@ -6,7 +6,7 @@ ghost use Rattle.edge_traits.specs.Keeper.{OnKeepFailed, OnLoadFailed};
 ghost use Rattle.edge_traits.specs.Pairs.{IsAscending, keys_order};
 
 use edge_traits::{KeeperFail, Kept, Pair};
-use sqlite::{Alter, Connection, Error, ErrorCode, Row, Rows, params};
+use sqlite::{Alter, Connection, Error, ErrorCode, Rows, params};
 use sqlite_resolve::CompileError;
 use std::alloc::{AllocError, Global};
 use std::cmp::Ordering;
@@ -21,7 +21,10 @@ const PUT: &str =
 
 const REMOVE: &str = "DELETE FROM records WHERE key = ?1";
 
-const LOAD: &str = "SELECT key, record FROM records ORDER BY key";
+/// Reads no record: the keys of the table stand in an index by themselves.
+const KEYS: &str = "SELECT key FROM records ORDER BY key";
+
+const RECORD: &str = "SELECT record FROM records WHERE key = ?1";
 
 /// What an error of SQLite is to a keeper: want of memory, or a fault.
 pub fn fail_of(error: Error) -> KeeperFail {
@@ -89,32 +92,44 @@ fn in_order(pairs: Vec<Pair>) -> Result<Vec<Pair>, KeeperFail>
     }
 }
 
-/// The pairs of the table's rows, which are taken one at a time, and not all together before the first pair is made.
+/// The pairs of the table's rows. The keys are read first, and then one record after another: a query for both in the
+/// order of the keys sorts all records in memory before it gives the first, so that each would be there twice.
 fn read_pairs<S: Alter>(alloc: Global, conn: &mut Connection<S>) -> Result<Vec<Pair>, Error> {
-    let mut pairs = Vec::new(alloc);
-    let mut rows = conn.query(LOAD, &[])?;
-    for _ in 0..u64::MAX {
-        match next_pair(&mut rows)? {
-            Some(pair) => pairs.push(pair)?,
-            None => return Ok(pairs),
-        }
+    let keys = read_keys(alloc, conn)?;
+    let mut pairs = Vec::with_capacity(alloc, keys.len())?;
+    for key in keys {
+        let bytes = read_record(conn, &key)?;
+        pairs.push(Pair { key, bytes })?;
     }
     Ok(pairs)
 }
 
-/// The pair of the next row, if there is one.
-fn next_pair<S: Alter>(rows: &mut Rows<'_, S>) -> Result<Option<Pair>, Error> {
+/// The keys of the table in ascending order.
+fn read_keys<S: Alter>(alloc: Global, conn: &mut Connection<S>) -> Result<Vec<Vec<u8>>, Error> {
+    let mut keys = Vec::new(alloc);
+    let mut rows = conn.query(KEYS, &[])?;
+    for _ in 0..u64::MAX {
+        match next_key(&mut rows)? {
+            Some(key) => keys.push(key)?,
+            None => return Ok(keys),
+        }
+    }
+    Ok(keys)
+}
+
+/// The key of the next row, if there is one.
+fn next_key<S: Alter>(rows: &mut Rows<'_, S>) -> Result<Option<Vec<u8>>, Error> {
     rows.advance()?;
     match rows.get() {
-        Some(row) => Ok(Some(read_row(row)?)),
+        Some(row) => Ok(Some(row.get(0)?)),
         None => Ok(None),
     }
 }
 
-fn read_row(row: &Row) -> Result<Pair, Error> {
-    let key = row.get(0)?;
-    let bytes = row.get(1)?;
-    Ok(Pair { key, bytes })
+/// The record under the key.
+fn read_record<S: Alter>(conn: &mut Connection<S>, key: &[u8]) -> Result<Vec<u8>, Error> {
+    let row = conn.query_row(RECORD, params![key])?;
+    row.get(0)
 }
 
 /// Whether the keys strictly rise.

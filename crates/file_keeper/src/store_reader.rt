@@ -4,15 +4,15 @@ ghost use Rattle.std.specs.Prelude.{◌≡◌, ◌≤◌, IfOk};
 ghost use Rattle.edge_traits.specs.Faults.{Rose};
 ghost use Rattle.edge_traits.specs.Pairs.{IsAscending};
 
+use crate::copied::Copied;
 use crate::records::{all_pairs, fail_of, loaded, with_table};
 use edge_traits::{Keeper, KeeperFail, Kept, Pair};
 use sqlite::{Connection, FileStore, Files, Options};
-use sqlite_disk::{Disk, Memory};
 use std::alloc::Global;
 use std::fs;
 use std::io::{self, ErrorKind};
 
-type Copied = Connection<FileStore<Memory>>;
+type CopiedStore = Connection<FileStore<Copied>>;
 
 /// How often the file and its log are read, while another writes them, before the load fails.
 const MOST_READS: u32 = 100;
@@ -96,7 +96,7 @@ fn load_copy(rt: &HostRuntime, path: &str) -> Result<Vec<Pair>, KeeperFail>
 }
 
 /// Opens the copies; the table is made in them where it is missing.
-fn open_copy(alloc: Global, files: Files<Memory>) -> Result<Copied, KeeperFail> {
+fn open_copy(alloc: Global, files: Files<Copied>) -> Result<CopiedStore, KeeperFail> {
     if !files.may_be_used() {
         return Err(KeeperFail::Failed);
     }
@@ -109,7 +109,7 @@ fn open_copy(alloc: Global, files: Files<Memory>) -> Result<Copied, KeeperFail> 
 /// The file and its log as they stood at one moment. The log is read before the file and after it: where both readings
 /// are the same, nothing was written to the log in between, and what was copied from it into the file stands in it
 /// still.
-fn copied_files(rt: &HostRuntime, path: &str) -> Result<Files<Memory>, KeeperFail> {
+fn copied_files(rt: &HostRuntime, path: &str) -> Result<Files<Copied>, KeeperFail> {
     let place = Place::of(rt, path)?;
     if has_journal(rt, &place.journal)? {
         return Err(KeeperFail::Failed);
@@ -119,7 +119,10 @@ fn copied_files(rt: &HostRuntime, path: &str) -> Result<Files<Memory>, KeeperFai
         let db = read_file(rt, &place.db)?;
         let after = read_beside(rt, &place.log)?;
         if before == after {
-            return in_memory(rt.alloc(), &after, &db);
+            return Ok(Files {
+                log: Copied::of(after),
+                db: Copied::of(db),
+            });
         }
     }
     Err(KeeperFail::Failed)
@@ -178,20 +181,5 @@ fn io_fail(error: &io::Error) -> KeeperFail {
         KeeperFail::Memory
     } else {
         KeeperFail::Failed
-    }
-}
-
-fn in_memory(alloc: Global, log: &[u8], db: &[u8]) -> Result<Files<Memory>, KeeperFail> {
-    let log = file_of(alloc, log)?;
-    let db = file_of(alloc, db)?;
-    Ok(Files { log, db })
-}
-
-/// A file in memory with these bytes.
-fn file_of(alloc: Global, bytes: &[u8]) -> Result<Memory, KeeperFail> {
-    let mut file = Memory::new(alloc);
-    match file.write_at(0, bytes) {
-        Ok(()) => Ok(file),
-        Err(error) => Err(io_fail(&error)),
     }
 }

@@ -11,6 +11,7 @@ use Rattle.clock_ledger.specs.declared.charges.Charge.{Charge}
 use Rattle.game_board.specs.declared.played.Played.{Played}
 use Rattle.game_board.specs.Board.{mover_after}
 use Rattle.game_board.specs.Charges.{charge_to, charges_from, charges_of}
+use Rattle.chess_model.proofs.ChessLaws.{opposite-opposite}
 
 pub charges_from-append : (c by : Colour) (ps : List Played) (p : Played) →
     charges_from c by (ps ++ p ∷ []) ≡ charges_from c by ps ++ charge_to c (side_from by (map (λ q. q.what) ps)) p.charge
@@ -22,11 +23,6 @@ charges_from-append c by (q ∷ qs) p =
 length-charge : (o : Option Charge) → length (option_to_list o) ≤ 1
 length-charge None = omega arith
 length-charge (Some x) = omega arith
-
--- White or Black
-opposite-opposite : (c : Colour) → opposite (opposite c) ≡ c
-opposite-opposite White = refl
-opposite-opposite Black = refl
 
 length-own_charge : (c : Colour) (o : Option Charge) → length (charge_to c c o) ≤ 1
 length-own_charge White o = length-charge o

@@ -3,7 +3,6 @@ use Rattle.std.proofs.Common.{◌≡◌, ◌≢◌, ℕ, ◌-◌, ◌≤◌, ℤ
 use Rattle.std.specs.Prelude.{int_lt}
 use Rattle.std.proofs.lemmas.Int.{ints}
 use Rattle.chess_model.specs.declared.man.Colour.{Colour}
-use Rattle.chess_model.specs.declared.man.Colour.TheVariants.{White, Black}
 use Rattle.chess_model.specs.Holdings.{same_colour}
 use Rattle.chess_model.specs.Placement.{opposite}
 use Rattle.fics_words.specs.declared.refusal.Refusal.TheVariants.{NotFallen}
@@ -42,10 +41,6 @@ refused_by_clock false won h = absurd (h refl)
 called_by_clock : {X : Type 0} (fallen : Bool) (won : X) → fallen ≡ true → (if fallen then Ok won else Err NotFallen) ≢ Err NotFallen
 called_by_clock true won e bad = cc
 called_by_clock false won e bad = cc
-
-twice : (c : Colour) → opposite (opposite c) ≡ c
-twice White = refl
-twice Black = refl
 
 called_later : (b : Board) (c : Colour) (moment later : ℕ) → moment ≤ later → flag_answer b (opposite c) moment ≢ Err NotFallen
     → flag_answer b (opposite c) later ≢ Err NotFallen

@@ -2,10 +2,7 @@
 use Rattle.std.specs.Prelude.{nat_eq}
 use Rattle.std.proofs.lemmas.Bool.{eq-eqb}
 use Rattle.std.proofs.Common.{◌≡◌, ℕ, true, List, [], ◌∷◌, ◌++◌, map, refl, ap, ◌∙◌}
-use Rattle.chess_model.specs.declared.man.Colour.{Colour}
 use Rattle.chess_model.specs.declared.man.Colour.TheVariants.{White}
-use Rattle.chess_model.specs.declared.moves.Move.{Move}
-use Rattle.chess_model.specs.Placement.{opposite}
 use Rattle.chess_model.specs.MoveList.{moves_of, side_from}
 use Rattle.chess_model.specs.Position.{Position, position_after, Stands}
 use Rattle.game_board.specs.declared.played.Played.{Played}
@@ -29,8 +26,3 @@ to_move-position_of b own = ap (side_from White) own
 
 pub to_move-stands : (q : Position) (b : Board) → Stands q b.all b.number → q.variant ≡ b.terms.variant → moves_of b.number b.all ≡ map (λ p. p.what) b.list → q.to_move ≡ to_move b
 to_move-stands q b s e own = ap (λ (p : Position). p.to_move) (position_of-stands q b s e) ∙ to_move-position_of b own
-
--- one half-move more leaves the other colour to move
-pub side_from-append : (c : Colour) (ms : List Move) (m : Move) → side_from c (ms ++ m ∷ []) ≡ opposite (side_from c ms)
-side_from-append c [] m = refl
-side_from-append c (n ∷ ns) m = side_from-append (opposite c) ns m

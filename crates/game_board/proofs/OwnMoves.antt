@@ -1,6 +1,6 @@
 -- The half-moves before the last one of a board, in a list of those of both boards of a pair.
 use Rattle.std.specs.Prelude.{nat_eq}
-use Rattle.std.proofs.lemmas.Bool.{eq-eqb, ne_eqb}
+use Rattle.std.proofs.lemmas.Bool.{eq-eqb, ne_eqb, or_right}
 use Rattle.std.proofs.Common.{◌≡◌, ◌≢◌, ℕ, ◌-◌, ◌||◌, suc, Bool, true, false, if◌then◌else◌, List, [], ◌∷◌, ◌++◌, length, take, refl, ap, ◌∙◌, arith}
 use Rattle.chess_model.specs.declared.moves.Move.{Move}
 use Rattle.chess_model.specs.MoveList.{HalfMove}
@@ -12,22 +12,18 @@ use Rattle.game_board.specs.BoardFace.{has_own, before_own}
 abbrev on : ℕ → Move → HalfMove
 on number m = record { board = number; what = m }
 
-yes : {X : Type 0} (b : Bool) (x y : X) → b ≡ true → (if b then x else y) ≡ x
-yes true x y e = refl
-yes false x y e = cc
-
-either : (a b : Bool) → b ≡ true → (a || b) ≡ true
-either true b e = refl
-either false b e = e
+pub chosen : {X : Type 0} (b : Bool) (x y : X) → b ≡ true → (if b then x else y) ≡ x
+chosen true x y e = refl
+chosen false x y e = cc
 
 has_own-own : (number : ℕ) (T : List HalfMove) (m : Move) → has_own number (T ++ on number m ∷ []) ≡ true
 has_own-own number [] m = ap (λ b. b || false) (eq-eqb number number refl)
-has_own-own number (h ∷ T) m = either (nat_eq h.board number) (has_own number (T ++ on number m ∷ [])) (has_own-own number T m)
+has_own-own number (h ∷ T) m = or_right (nat_eq h.board number) (has_own number (T ++ on number m ∷ [])) (has_own-own number T m)
 
 pub before_own-own : (number : ℕ) (T : List HalfMove) (m : Move) → before_own number (T ++ on number m ∷ []) ≡ T
 before_own-own number [] m = refl
 before_own-own number (h ∷ T) m =
-    yes (has_own number (T ++ on number m ∷ [])) (h ∷ before_own number (T ++ on number m ∷ [])) [] (has_own-own number T m)
+    chosen (has_own number (T ++ on number m ∷ [])) (h ∷ before_own number (T ++ on number m ∷ [])) [] (has_own-own number T m)
     ∙ ap (λ l. h ∷ l) (before_own-own number T m)
 
 has_own-other : (number other : ℕ) (T : List HalfMove) (m : Move) → other ≢ number → has_own number (T ++ on other m ∷ []) ≡ has_own number T
@@ -51,6 +47,6 @@ pub before_own-all : (number : ℕ) (list : List Played) → before_own number (
 before_own-all number [] = refl
 before_own-all number (p ∷ []) = refl
 before_own-all number (p ∷ q ∷ list) =
-    yes (has_own number (half_moves number (q ∷ list))) (half_move number p ∷ before_own number (half_moves number (q ∷ list))) [] (has_own-all number q list)
+    chosen (has_own number (half_moves number (q ∷ list))) (half_move number p ∷ before_own number (half_moves number (q ∷ list))) [] (has_own-all number q list)
     ∙ ap (λ l. half_move number p ∷ l) (before_own-all number (q ∷ list))
     ∙ ap (λ n. half_moves number (take n (p ∷ q ∷ list))) (more (length list))

@@ -18,10 +18,11 @@ use Rattle.chess_model.specs.Position.{Position, position_after, hand_of_side}
 use Rattle.chess_model.proofs.Censuses.{census_kept, legal_paid}
 use Rattle.chess_model.proofs.MoreMoves.{one}
 use Rattle.chess_model.proofs.SoundPositions.{legal_sound}
-use Rattle.game_board.proofs.Legal.{IsLegal-append}
 use Rattle.game_board.proofs.Received.{came, more, hand_after-other}
+use Rattle.chess_model.proofs.TestsDecide.{same_kind-self}
+use Rattle.chess_model.proofs.LegalLists.{IsLegal-append}
 
-most_in_two_sets : (k : Kind) → 2 * one_set k ≤ 16
+pub most_in_two_sets : (k : Kind) → 2 * one_set k ≤ 16
 most_in_two_sets Pawn = omega arith
 most_in_two_sets Knight = omega arith
 most_in_two_sets Bishop = omega arith
@@ -29,17 +30,9 @@ most_in_two_sets Rook = omega arith
 most_in_two_sets Queen = omega arith
 most_in_two_sets King = omega arith
 
-own_kind : (k : Kind) → same_kind k k ≡ true
-own_kind Pawn = refl
-own_kind Knight = refl
-own_kind Bishop = refl
-own_kind Rook = refl
-own_kind Queen = refl
-own_kind King = refl
-
 came-own : (c : Colour) (k : Kind) → cond {A = ℕ} (same_colour c c && same_kind k k) 1 0 ≡ 1
-came-own White k = ap (λ b. cond {A = ℕ} b 1 0) (own_kind k)
-came-own Black k = ap (λ b. cond {A = ℕ} b 1 0) (own_kind k)
+came-own White k = ap (λ b. cond {A = ℕ} b 1 0) (same_kind-self k)
+came-own Black k = ap (λ b. cond {A = ℕ} b 1 0) (same_kind-self k)
 
 count-more : (hand : Hand) (c : Colour) (man : Option Man) (k : Kind) → k ≢ King → count_in (more hand c man) k ≡ count_in hand k + came c k man
 count-more hand c man Pawn h = refl

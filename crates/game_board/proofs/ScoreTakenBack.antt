@@ -1,9 +1,9 @@
 -- The score of a board stays true where half-moves are taken back.
-use Rattle.std.proofs.Common.{◌≡◌, ◌≢◌, ℕ, ◌+◌, ◌-◌, ◌≤◌, ◌<◌, ◌||◌, inl, inr, zero, suc, Bool, true, false, if◌then◌else◌, List, [], ◌∷◌, ◌++◌, length, min, take, drop, Some, refl, sym, ap, subst, ◌∙◌, length-append, append_assoc, arith}
+use Rattle.std.proofs.Common.{◌≡◌, ◌≢◌, ℕ, ◌+◌, ◌-◌, ◌≤◌, ◌<◌, ◌||◌, inl, inr, zero, suc, Bool, true, false, if◌then◌else◌, List, [], ◌∷◌, ◌++◌, length, min, take, drop, Some, refl, sym, ap, subst, ◌∙◌, length-append, arith}
 use Rattle.std.specs.Prelude.{nat_eq, nat_lt, slice_get}
 use Rattle.std.proofs.lemmas.Bool.Decides.{nat_tests}
 use Rattle.std.proofs.lemmas.List.{length-take}
-use Rattle.std.proofs.lemmas.Option.{slice_get_within}
+use Rattle.std.proofs.lemmas.Option.{slice_get_within, same_Some}
 use Rattle.chess_model.specs.declared.variant.Variant.{Variant}
 use Rattle.chess_model.specs.declared.variant.Variant.TheVariants.{Bughouse}
 use Rattle.chess_model.specs.Allowed.{IsLegal}
@@ -15,9 +15,10 @@ use Rattle.game_board.specs.TakeBack.{has_too_few, taken_back, take_back_after}
 use Rattle.game_board.proofs.Movers.{moves_of-half_moves}
 use Rattle.game_board.proofs.TakenBack.{half_moves_shorter}
 use Rattle.game_board.proofs.LastPlayed.{slice_get-append_end, at_or_last}
-use Rattle.game_board.proofs.Scoresheet.{same_item, stays_at, last_moment, IsCharged-changed, clocks-sum}
+use Rattle.game_board.proofs.Scoresheet.{stays_at, last_moment, IsCharged-changed, clocks-sum}
+use Rattle.chess_model.proofs.SoundPositions.{legal_front}
 
-take_and_drop : {X : Type 0} (n : ℕ) (xs : List X) → take n xs ++ drop n xs ≡ xs
+pub take_and_drop : {X : Type 0} (n : ℕ) (xs : List X) → take n xs ++ drop n xs ≡ xs
 take_and_drop zero xs = refl
 take_and_drop (suc n) [] = refl
 take_and_drop (suc n) (x ∷ xs) = ap (λ l. x ∷ l) (take_and_drop n xs)
@@ -43,27 +44,20 @@ DontFall-rest x xs rising = λ k i j e f.
 -- moments that don't fall are none later than the last
 none_later : (moments : List ℕ) (n last k i : ℕ) → DontFall moments → length moments ≡ n + 1 → slice_get moments n ≡ Some last → slice_get moments k ≡ Some i → i ≤ last
 none_later [] n last k i rising many at e = absurd cc
-none_later (x ∷ []) zero last zero i rising many at e = let same : i ≡ last = same_item i last (sym e ∙ at) in omega (arith, same)
+none_later (x ∷ []) zero last zero i rising many at e = let same : i ≡ last = same_Some i last (sym e ∙ at) in omega (arith, same)
 none_later (x ∷ []) zero last (suc k) i rising many at e = absurd cc
 none_later (x ∷ []) (suc n) last k i rising many at e = absurd (omega (arith, many))
 none_later (x ∷ y ∷ ys) zero last k i rising many at e = absurd (omega (arith, many))
 none_later (x ∷ y ∷ ys) (suc n) last zero i rising many at e =
     let rest : y ≤ last = none_later (y ∷ ys) n last 0 y (DontFall-rest x (y ∷ ys) rising) (omega (arith, many)) at refl in
     let first : x ≤ y = rising 0 x y refl refl in
-    let same : x ≡ i = same_item x i e in
+    let same : x ≡ i = same_Some x i e in
     omega (arith, rest, first, same)
 none_later (x ∷ y ∷ ys) (suc n) last (suc k) i rising many at e =
     none_later (y ∷ ys) n last k i (DontFall-rest x (y ∷ ys) rising) (omega (arith, many)) at e
 
--- a legal list began legally
-IsLegal-front : (v : Variant) (front end : List HalfMove) → IsLegal v (front ++ end) → IsLegal v front
-IsLegal-front v front end legal = record {
-  each = λ before after h e.
-      legal.each before (after ++ end) h (ap (λ (xs : List HalfMove). xs ++ end) e ∙ append_assoc before (h ∷ after) end);
-}
-
 IsLegal-take : (v : Variant) (n : ℕ) (T : List HalfMove) → IsLegal v T → IsLegal v (take n T)
-IsLegal-take v n T legal = IsLegal-front v (take n T) (drop n T) (subst (IsLegal v) (sym (take_and_drop n T)) legal)
+IsLegal-take v n T legal = legal_front v (take n T) (drop n T) (subst (IsLegal v) (sym (take_and_drop n T)) legal)
 
 pub IsTrueScore-taken_back : (b : Board) (n moment : ℕ) → b.terms.variant ≢ Bughouse → 1 ≤ n → n ≤ length b.list → b.begin ≤ moment → IsTrueScore b → IsTrueScore (taken_back b n moment)
 IsTrueScore-taken_back b n moment single some few order s =
@@ -117,10 +111,10 @@ IsTrueScore-taken_back b n moment single some few order s =
       clocks = λ c timed. clocks-sum (taken_back b n moment) c timed;
     }
 
-enough_some : (n m : ℕ) → (nat_eq n 0 || nat_lt m n) ≡ false → 1 ≤ n
+pub enough_some : (n m : ℕ) → (nat_eq n 0 || nat_lt m n) ≡ false → 1 ≤ n
 enough_some n m e = grind (arith, nat_tests)
 
-enough_within : (n m : ℕ) → (nat_eq n 0 || nat_lt m n) ≡ false → n ≤ m
+pub enough_within : (n m : ℕ) → (nat_eq n 0 || nat_lt m n) ≡ false → n ≤ m
 enough_within n m e = grind (arith, nat_tests)
 
 true_either : (few : Bool) (b new : Board) → IsTrueScore b → (few ≡ false → IsTrueScore new) → IsTrueScore (if few then b else new)

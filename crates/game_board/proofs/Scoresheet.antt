@@ -3,7 +3,7 @@ use Rattle.std.proofs.Common.{◌≡◌, ℕ, ◌+◌, ◌*◌, ◌≤◌, ◌<�
 use Rattle.std.specs.Prelude.{ℤ, pos, ◌-ℤ◌, ◌↔◌, IsTrue, IfSome, slice_get, nat_lt}
 use Rattle.std.specs.List.{sum_by}
 use Rattle.std.proofs.lemmas.Bool.Decides.{nat_tests}
-use Rattle.std.proofs.lemmas.Option.{slice_get_cases, slice_get_within}
+use Rattle.std.proofs.lemmas.Option.{slice_get_cases, slice_get_within, same_Some}
 use Rattle.chess_model.specs.declared.man.Colour.{Colour}
 use Rattle.chess_model.specs.declared.man.Colour.TheVariants.{White, Black}
 use Rattle.chess_model.specs.declared.moves.Move.{Move}
@@ -38,16 +38,14 @@ use Rattle.game_board.proofs.Received.{boards_differ}
 use Rattle.game_board.specs.Scoresheet.{DontFall, IsCharged, IsTrueScore}
 use Rattle.game_board.proofs.Grown.{half_moves-append}
 use Rattle.game_board.proofs.LastPlayed.{slice_get-append_end, at_or_last, AreStamps-zip}
-use Rattle.game_board.proofs.Legal.{IsLegal-append, IsLegal-empty}
+use Rattle.game_board.proofs.Legal.{IsLegal-empty}
+use Rattle.chess_model.proofs.LegalLists.{IsLegal-append}
 
 -- each item of the list stands where it stood, in a list with one item more
 pub stays_at : {X : Type 0} (xs : List X) (x y : X) (k : ℕ) → slice_get xs k ≡ Some y → slice_get (xs ++ x ∷ []) k ≡ Some y
 stays_at [] x y k e = absurd cc
 stays_at (z ∷ zs) x y zero e = e
 stays_at (z ∷ zs) x y (suc k) e = stays_at zs x y k e
-
-pub same_item : {X : Type 0} (x y : X) → Some x ≡ Some y → x ≡ y
-same_item x y e = cc
 
 -- a moment that isn't before the last one may follow
 DontFall-append : (moments : List ℕ) (last next n : ℕ) → length moments ≡ n + 1 → slice_get moments n ≡ Some last → last ≤ next → DontFall moments →
@@ -60,7 +58,7 @@ DontFall-append moments last next n each at le rising = λ k i j e f. elim (at_o
   | inr new ↦ elim (at_or_last moments next i k e) [
     | inl earlier ↦
         let place : k ≡ n = omega (arith, new.0, each) in
-        let is : last ≡ i = same_item last i (sym at ∙ (ap (slice_get moments) (sym place) ∙ earlier)) in
+        let is : last ≡ i = same_Some last i (sym at ∙ (ap (slice_get moments) (sym place) ∙ earlier)) in
         omega (arith, is, new.1, le)
     | inr past ↦ absurd (omega (arith, past.0, new.0))
   ]
@@ -151,7 +149,7 @@ clocks-sum b c timed = chosen (is_timed b.terms) _ _ timed
 
 -- items at the same place are in order
 same_order : (moments : List ℕ) (k i j : ℕ) → slice_get moments k ≡ Some i → slice_get moments k ≡ Some j → i ≤ j
-same_order moments k i j e f = let same : i ≡ j = same_item i j (sym e ∙ f) in omega (arith, same)
+same_order moments k i j e f = let same : i ≡ j = same_Some i j (sym e ∙ f) in omega (arith, same)
 
 -- the moment of the last half-move, or of the start: the player to move isn't thinking since before it
 pub last_moment : (b : Board) (s : IsTrueScore b) → (last : ℕ) × (slice_get s.moments (length b.list) ≡ Some last) × (last ≤ b.begin)
@@ -219,7 +217,7 @@ IsTrueScore-one_more b p moment resumed s order allowed more_resumed most_resume
         | inr here ↦ elim (at_or_last s.since moment i k e) [
           | inl before ↦
               let place : k ≡ length b.list = omega (arith, here.0, s.each) in
-              let is : b.begin ≡ i = same_item b.begin i (sym s.thinking ∙ (ap (slice_get s.since) (sym place) ∙ before)) in
+              let is : b.begin ≡ i = same_Some b.begin i (sym s.thinking ∙ (ap (slice_get s.since) (sym place) ∙ before)) in
               omega (arith, is, here.1, order)
           | inr past ↦ omega (arith, here.1, past.1)
         ]

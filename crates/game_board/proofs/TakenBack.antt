@@ -1,10 +1,10 @@
 -- What a board keeps is kept without the last half-move.
-use Rattle.std.proofs.Common.{◌≡◌, ℕ, ◌+◌, ◌-◌, ◌<◌, ◌≤◌, zero, suc, List, [], ◌∷◌, ◌++◌, length, length-append, min, take, map, refl, sym, ap, subst, ◌∙◌, append_assoc, arith}
+use Rattle.std.proofs.Common.{◌≡◌, ℕ, ◌+◌, ◌-◌, ◌<◌, ◌≤◌, zero, suc, List, [], ◌∷◌, ◌++◌, length, length-append, take, map, refl, sym, ap, subst, ◌∙◌, append_assoc, arith}
 use Rattle.std.proofs.Math.Seq.{take-append_seam}
-use Rattle.std.proofs.lemmas.List.{append-nil, map-append, length-take, length-map}
+use Rattle.std.proofs.lemmas.List.{append-nil, map-append, length-map, take-map}
 use Rattle.std.proofs.lemmas.Option.{slice_get_within}
 use Rattle.chess_model.specs.declared.man.Colour.{Colour}
-use Rattle.chess_model.specs.declared.man.Colour.TheVariants.{White, Black}
+use Rattle.chess_model.specs.declared.man.Colour.TheVariants.{White}
 use Rattle.chess_model.specs.declared.variant.Terms.{Terms}
 use Rattle.chess_model.specs.declared.variant.Variant.{Variant}
 use Rattle.chess_model.specs.Placement.{opposite}
@@ -20,15 +20,16 @@ use Rattle.variant_rules.specs.Undos.{IsUndoOf}
 use Rattle.game_board.specs.declared.played.Made.{Made}
 use Rattle.game_board.specs.declared.played.Played.{Played}
 use Rattle.game_board.specs.declared.played.Step.{Step}
-use Rattle.game_board.specs.Board.{Board, half_move, half_moves, made, mover_after}
+use Rattle.game_board.specs.Board.{half_move, half_moves, made, mover_after}
 use Rattle.game_board.specs.Charges.{charge_to, charges_of, clock_of}
 use Rattle.game_board.specs.Steps.{position_at, IsStep, AreSteps}
-use Rattle.game_board.specs.TakeBack.{without_end, without_last}
+use Rattle.game_board.specs.TakeBack.{without_end}
 use Rattle.game_board.proofs.Charged.{charges_from-append}
 use Rattle.game_board.proofs.Grown.{half_moves-append}
 use Rattle.game_board.proofs.LastPlayed.{slice_get-append_end}
-use Rattle.game_board.proofs.Movers.{side_from-append}
 use Rattle.game_board.proofs.Steps.{before_end, at_end, position_at-append, shown_at-append, slice_get-append_left}
+use Rattle.chess_model.proofs.ChessLaws.{opposite-opposite}
+use Rattle.chess_model.proofs.MoreMoves.{side_from-append}
 
 -- each legal list has a position that stands for it
 stands_on : (v : Variant) (number : ℕ) (done todo : List Played) → Stands (position_after v (half_moves number done) number) (half_moves number done) number →
@@ -85,10 +86,6 @@ last_undo v number list p steps step all =
     subst (λ (q : Position). IsUndoOf step.undo q (position_after v (half_moves number (list ++ p ∷ [])) number)) (before_end v number list p)
     (subst (λ (q : Position). IsUndoOf step.undo (position_at v number (list ++ p ∷ []) (length list)) q) (at_end v number list p) is.undo)
 
-opposite-opposite : (c : Colour) → opposite (opposite c) ≡ c
-opposite-opposite White = refl
-opposite-opposite Black = refl
-
 -- the last half-move was made by the colour that isn't to move
 pub last_mover : (list : List Played) (p : Played) (to_move mover : Colour) → to_move ≡ mover_after (list ++ p ∷ []) → mover ≡ opposite to_move → mover_after list ≡ mover
 last_mover list p to_move mover e o =
@@ -119,20 +116,15 @@ clock_of-shorter t c mover list p k same is_mover =
     ∙ ap (λ (cs : List Charge). record { minutes = t.minutes; increment = t.increment; charges = without_end x cs }) (charges_of-last c mover list p is_mover)
     ∙ ap (λ (cs : List Charge). record { minutes = t.minutes; increment = t.increment; charges = cs }) (without_end-append (charges_of c list) x)
 
-take_map : {X Y : Type 0} (f : X → Y) (n : ℕ) (xs : List X) → take n (map f xs) ≡ map f (take n xs)
-take_map f zero xs = refl
-take_map f (suc n) [] = refl
-take_map f (suc n) (x ∷ xs) = ap (λ l. f x ∷ l) (take_map f n xs)
-
 -- the half-moves without the last
 pub made_shorter : (all : List Made) → made (take (length all - 1) all) ≡ take (length (made all) - 1) (made all)
 made_shorter all =
     let f : Made → HalfMove = λ h. record { board = h.board; what = h.what } in
-    sym (take_map f (length all - 1) all) ∙ ap (λ n. take (n - 1) (made all)) (sym (length-map all f))
+    sym (take-map f (length all - 1) all) ∙ ap (λ n. take (n - 1) (made all)) (sym (length-map all f))
 
 pub half_moves_shorter : (number n : ℕ) (list : List Played) → take (length (half_moves number list) - n) (half_moves number list) ≡ half_moves number (take (length list - n) list)
 half_moves_shorter number n list =
-    ap (λ k. take (k - n) (half_moves number list)) (length-map list (half_move number)) ∙ take_map (half_move number) (length list - n) list
+    ap (λ k. take (k - n) (half_moves number list)) (length-map list (half_move number)) ∙ take-map (half_move number) (length list - n) list
 
 -- where the board is the only one, what is left are its own
 pub made_left : (number : ℕ) (all : List Made) (rest : List Played) (p : Played) → made all ≡ half_moves number (rest ++ p ∷ []) →

@@ -1,7 +1,7 @@
 -- The position on a board stands for the third time where two earlier ones of its list are the same.
 use Rattle.std.proofs.Common.{◌≡◌, ℕ, ◌<◌, zero, suc, inl, inr, true, false, List, [], ◌∷◌, map, take, length, Option, Some, None, refl, sym, ap, subst, ◌∙◌, arith}
 use Rattle.std.specs.Prelude.{IsTrue, IfSome, IfNone, is_some}
-use Rattle.std.proofs.lemmas.Bool.{cases_order}
+use Rattle.std.proofs.lemmas.Bool.{cases_order, false_from_ne_true}
 use Rattle.std.proofs.lemmas.List.{length-map}
 use Rattle.chess_model.specs.declared.moves.Move.{Move}
 use Rattle.chess_model.specs.declared.variant.Variant.{Variant}
@@ -13,7 +13,6 @@ use Rattle.game_board.specs.declared.played.Played.{Played}
 use Rattle.game_board.specs.Board.{half_moves}
 use Rattle.game_board.specs.Steps.{position_at}
 use Rattle.game_board.proofs.Movers.{moves_of-half_moves}
-use Rattle.game_board.proofs.SquareTests.{false_unless}
 
 alone_on-first : (b n : ℕ) (list : List Played) → alone_on b (take n (map (λ p. p.what) list)) ≡ half_moves b (take n list)
 alone_on-first b zero [] = refl
@@ -51,7 +50,7 @@ pub is_not_third : (v : Variant) (number : ℕ) (list : List Played) →
     is_threefold v (half_moves number list) number ≡ false
 is_not_third v number list never =
     let now : Position = position_after v (half_moves number list) number in
-    false_unless (is_threefold v (half_moves number list) number) (λ third.
+    false_from_ne_true (is_threefold v (half_moves number list) number) (λ third.
     let h : HasStoodTwice v (half_moves number list) number = (third_times v (half_moves number list) number).0 third in
     never h.first h.second h.order (subst (λ (n : ℕ). h.second < n) (many-is number list) h.before)
     (subst (λ (q : Position). IsTrue (same_position now q)) (after_first-is v number list h.first) h.first_same)

@@ -1,5 +1,5 @@
 //! The codes of half-moves.
-ghost use Rattle.std.specs.Prelude.{◌≡◌, ◌≤◌, ◌<◌, ◌↔◌, ◌%◌, IsTrue};
+ghost use Rattle.std.specs.Prelude.{◌≡◌, ◌<◌, ◌↔◌, ◌%◌, IsTrue};
 ghost use Rattle.game_records.specs.Codes.{HasCode, MayBecome, MayBeDropped, promotion_code, kind_code, move_code};
 ghost use Rattle.game_records.specs.Reading.{move_of, promotion_of, kind_of};
 

@@ -1,5 +1,5 @@
 //! What holds of the format as a whole.
-ghost use Rattle.std.specs.Prelude.{◌≡◌, ◌≢◌, ◌≤◌, ◌<◌, ◌^◌, ℕ, List};
+ghost use Rattle.std.specs.Prelude.{◌≡◌, ◌≢◌, ◌<◌, ◌^◌, ℕ, List};
 ghost use Rattle.game_records.specs.Keys.{account_key, game_key};
 ghost use Rattle.game_records.specs.Laws.{ArePlayedBySteps};
 ghost use Rattle.game_records.specs.Spelling.{IsSpelled};

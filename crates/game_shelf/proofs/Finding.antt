@@ -1,12 +1,13 @@
 -- What a search finds among games of which one comes or goes.
-use Rattle.std.proofs.Common.{◌≡◌, ℕ, Bool, true, false, not, cond, List, [], ◌∷◌, Option, None, Some, refl, sym, ap, ◌∙◌, inl, inr}
+use Rattle.std.proofs.Common.{◌≡◌, ◌<◌, ℕ, Bool, true, false, not, cond, List, [], ◌∷◌, Option, None, Some, Bor, length, refl, sym, ap, subst, ◌∙◌, inl, inr}
 use Rattle.std.specs.Prelude.{◌==◌, All}
-use Rattle.std.specs.List.{find}
-use Rattle.std.proofs.lemmas.Bool.{eqb-true, eqb-false}
+use Rattle.std.specs.List.{filter, find, remove}
+use Rattle.std.specs.Option.{is_none, option_copied}
+use Rattle.std.proofs.lemmas.Bool.{eqb-true, eqb-false, or_parts}
 use Rattle.std.proofs.lemmas.List.Elements.{All-nil, All-cons, All-head, All-tail}
 use Rattle.game_shelf.specs.declared.shelved.Shelved.{Shelved}
-use Rattle.game_shelf.specs.Numbers.{RiseAbove, is_used, with_game, without_game}
-use Rattle.game_shelf.proofs.Rising.{before_or_behind, neither, unused_on, with_game-behind, with_game-before}
+use Rattle.game_shelf.specs.Numbers.{AreInOrder, RiseAbove, has_number, is_below, is_used, with_game, without_game}
+use Rattle.game_shelf.proofs.Rising.{before_or_behind, remove-place, unused_on, with_game-behind, with_game-before}
 
 skip : {X : Type 0} (b : Bool) (x : X) (r : Option X) → b ≡ false → cond b (Some x) r ≡ r
 skip b x r e = ap (λ (t : Bool). cond t (Some x) r) e
@@ -65,5 +66,17 @@ find-without_this q number (row ∷ games) only =
 pub unused-all : (number : ℕ) (games : List Shelved) → is_used games number ≡ false → All (λ row. row.number ≡ number → ⊥) games
 unused-all number [] unused = All-nil (λ row. row.number ≡ number → ⊥)
 unused-all number (row ∷ games) unused =
-    let both = neither (row.number == number) (is_used games number) unused in
+    let both = or_parts (row.number == number) (is_used games number) unused in
     All-cons (λ z. z.number ≡ number → ⊥) row games (eqb-false row.number number both.0) (unused-all number games both.1)
+
+-- a search that lent nothing found nothing
+pub none_lent : (lent : Option (Bor Shelved)) (found : Option Shelved) → option_copied lent ≡ found → is_none lent ≡ true → found ≡ None
+none_lent None found e none = sym e
+none_lent (Some row) found e none = absurd (let bad : false ≡ true = none in cc)
+
+-- and where one lent a game, the one at the place of its number goes
+pub removed_at : (games : List Shelved) (n place : ℕ) (lent : Option (Bor Shelved)) → AreInOrder games → option_copied lent ≡ find (has_number n) games
+    → is_none lent ≡ false → place ≡ length (filter (is_below n) games) → (place < length games) × (remove games place ≡ without_game n games)
+removed_at games n place None rise found some at = absurd (let bad : true ≡ false = some in cc)
+removed_at games n place (Some row) rise found some at =
+    subst (λ (k : ℕ). (k < length games) × (remove games k ≡ without_game n games)) (sym at) (remove-place n 0 games row.now rise (sym found))

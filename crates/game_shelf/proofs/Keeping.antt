@@ -36,7 +36,7 @@ OrdersRise-filter p low made (order ∷ orders) rise =
     kept (p order) low made order (filter p orders) rise.0 (OrdersRise-filter p order.number made orders rise.1)
 
 -- what passes the test has more than each item has
-filter_step : {X : Type 0} (Q : X → Type 0) (b : Bool) (x : X) (xs : List X) → (b ≡ true → Q x) → All Q xs → All Q (cond b (x ∷ xs) xs)
+pub filter_step : {X : Type 0} (Q : X → Type 0) (b : Bool) (x : X) (xs : List X) → (b ≡ true → Q x) → All Q xs → All Q (cond b (x ∷ xs) xs)
 filter_step Q true x xs head tail = All-cons Q x xs (head refl) tail
 filter_step Q false x xs head tail = tail
 

@@ -44,24 +44,24 @@ push_agrees table orders new key before after agreed own others =
       | false ↦ λ differs. sym (others differs)
     ] refl
 
-same_key : (one other : List ℕ) → bytes_eq one other ≡ true → one ≡ other
+pub same_key : (one other : List ℕ) → bytes_eq one other ≡ true → one ≡ other
 same_key one other h = (bytes_eq-Decides one other).0 h
 
-other_key : (one other : List ℕ) → (one ≡ other → ⊥) → bytes_eq one other ≡ false
+pub other_key : (one other : List ℕ) → (one ≡ other → ⊥) → bytes_eq one other ≡ false
 other_key one other differs = false_from_ne_true (bytes_eq one other) (λ h. differs (same_key one other h))
 
 own_key : (key : List ℕ) → bytes_eq key key ≡ true
 own_key key = (bytes_eq-Decides key key).1 refl
 
 -- the key of an account isn't that of a game
-account_not_game : (letters : List ℕ) (number : ℕ) → account_key letters ≡ game_key number → ⊥
+pub account_not_game : (letters : List ℕ) (number : ℕ) → account_key letters ≡ game_key number → ⊥
 account_not_game letters number e = let heads = ap first_byte e in omega (arith, heads)
   where
     first_byte : List ℕ → ℕ
     first_byte [] = 0
     first_byte (byte ∷ bytes) = byte
 
-no_account : (accounts : List Account) (number : ℕ) → find (is_account_at (game_key number)) accounts ≡ None
+pub no_account : (accounts : List Account) (number : ℕ) → find (is_account_at (game_key number)) accounts ≡ None
 no_account [] number = refl
 no_account (account ∷ accounts) number =
     ap (λ t. cond t (Some account) (find (is_account_at (game_key number)) accounts))
@@ -103,11 +103,11 @@ account_leads table accounts shelf account new agreed key =
     (find-push_other (is_account_at key) accounts account differs))
 
 -- the keys of games with other numbers differ
-no_such_game : (number : ℕ) (row : Shelved) → number < 2 ^ 64 → row.number < 2 ^ 64 → (row.number ≡ number → ⊥) → is_game_at (game_key number) row ≡ false
+pub no_such_game : (number : ℕ) (row : Shelved) → number < 2 ^ 64 → row.number < 2 ^ 64 → (row.number ≡ number → ⊥) → is_game_at (game_key number) row ≡ false
 no_such_game number row fits small differs =
     other_key (game_key row.number) (game_key number) (λ e. differs (one_game row.number number small fits e))
 
-small_numbers : (low : ℕ) (games : List Shelved) → RiseAbove low games → All (λ row. row.number < 2 ^ 64) games
+pub small_numbers : (low : ℕ) (games : List Shelved) → RiseAbove low games → All (λ row. row.number < 2 ^ 64) games
 small_numbers low [] rise = All-nil (λ row. row.number < 2 ^ 64)
 small_numbers low (row ∷ games) rise = All-cons (λ z. z.number < 2 ^ 64) row games rise.1 (small_numbers row.number games rise.2)
 

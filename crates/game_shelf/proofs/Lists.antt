@@ -1,5 +1,5 @@
 -- One step on in a list.
-use Rattle.std.proofs.Common.{◌≡◌, ℕ, ◌+◌, ◌<◌, ◌≤◌, zero, suc, List, [], ◌∷◌, ◌++◌, None, Some, length, take, drop, get_or, slice_get, refl, sym, ap, ◌∙◌, add-one, arith}
+use Rattle.std.proofs.Common.{◌≡◌, ℕ, ◌+◌, ◌<◌, zero, suc, List, [], ◌∷◌, ◌++◌, None, Some, length, take, drop, get_or, slice_get, refl, sym, ap, ◌∙◌, add-one, arith}
 
 take_suc : {X : Type 0} (i : ℕ) (xs : List X) (x : X) (rest : List X) → drop i xs ≡ x ∷ rest → take (suc i) xs ≡ take i xs ++ x ∷ []
 take_suc zero [] x rest h = cc
@@ -24,8 +24,3 @@ pub get_inside : {X : Type 0} (xs : List X) (k : ℕ) (x : X) → k < length xs 
 get_inside [] k x h e = absurd (omega arith)
 get_inside (y ∷ ys) zero x h e = ap (λ z. Some z) (sym e)
 get_inside (y ∷ ys) (suc k) x h e = get_inside ys k x (omega arith) e
-
-pub get_past : {X : Type 0} (xs : List X) (k : ℕ) → length xs ≤ k → slice_get xs k ≡ None
-get_past [] k h = refl
-get_past (y ∷ ys) zero h = absurd (omega arith)
-get_past (y ∷ ys) (suc k) h = get_past ys k (omega arith)

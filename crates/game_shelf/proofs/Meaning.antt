@@ -2,7 +2,7 @@
 use Rattle.std.proofs.Common.{◌≡◌, ℕ, zero, suc, ◌<◌, ◌≤◌, Bool, true, false, not, cond, List, [], ◌∷◌, ◌++◌, Option, None, Some, length, get_or, refl, sym, ap, subst, ◌∙◌, inl, inr, arith}
 use Rattle.std.specs.Prelude.{◌==◌, ◌&&◌, ◌||◌, nat_le, nat_lt, All, Contains, IfNone, IfSome}
 use Rattle.std.specs.List.{filter, find, list_any}
-use Rattle.std.proofs.lemmas.Bool.{cases_lt, eqb-true, eq-eqb, ne_eqb, leb-true, ltb-true, le-leb, lt-leb, lt-ltb, le-ltb, not-true, not-false}
+use Rattle.std.proofs.lemmas.Bool.{cases_lt, eqb-true, eq-eqb, ne_eqb, leb-true, ltb-true, le-leb, lt-leb, lt-ltb, le-ltb, not-true, not-false, and_left, and_right, or_right}
 use Rattle.std.proofs.lemmas.List.Elements.{All-nil, All-cons, All-weaker, filter_passes}
 use Rattle.std.proofs.lemmas.List.Folds.{list_any-append}
 use Rattle.game_shelf.specs.declared.order.Order.{Order}
@@ -156,17 +156,6 @@ any-filter_same q p apart (x ∷ xs) =
       | false ↦ λ fails. any-filter_same q p apart xs ∙ sym (ap (λ t. t || list_any q xs) (apart x fails))
     ] refl
 
-first_false : (a b : Bool) → a ≡ false → a && b ≡ false
-first_false a b h = ap (λ t. t && b) h
-
-second_false : (a b : Bool) → b ≡ false → a && b ≡ false
-second_false true b h = h
-second_false false b h = refl
-
-or_last : (a b : Bool) → b ≡ true → a || b ≡ true
-or_last true b h = refl
-or_last false b h = h
-
 or_none : (a b : Bool) → b ≡ false → a || b ≡ a
 or_none true b h = refl
 or_none false b h = h
@@ -188,7 +177,7 @@ requests-stand shelf = record {
       elim (asks shelf by game) as (λ t. asks shelf by game ≡ t → list_any (is_request by game) (with_request t shelf.requests new) ≡ true) [
         | true ↦ λ there. there
         | false ↦ λ _. list_any-append (is_request by game) shelf.requests (new ∷ [])
-            ∙ or_last (list_any (is_request by game) shelf.requests) (list_any (is_request by game) (new ∷ []))
+            ∙ or_right (list_any (is_request by game) shelf.requests) (list_any (is_request by game) (new ∷ []))
             (ap (λ t. t || false) (is_request-itself by game))
       ] refl;
   others_put = λ by game other number differs.
@@ -200,13 +189,13 @@ requests-stand shelf = record {
             (ap (λ t. t || false) (is_request-other by game other number differs))
       ];
   off = λ by number. any-filter_none (is_request by number) (λ request. not (request.game == number))
-      (λ request h. second_false (request.by == by) (request.game == number) (not-true (request.game == number) h)) shelf.requests;
+      (λ request h. and_right (request.by == by) (request.game == number) (not-true (request.game == number) h)) shelf.requests;
   others_off = λ by number other differs. any-filter_same (is_request by other) (λ request. not (request.game == number))
-      (λ request h. second_false (request.by == by) (request.game == other)
+      (λ request h. and_right (request.by == by) (request.game == other)
       (ne_eqb request.game other (λ e. differs (sym e ∙ eqb-true request.game number (not-false (request.game == number) h))))) shelf.requests;
   gone = λ by game. any-filter_none (is_request by game) (λ request. not (request.by == by))
-      (λ request h. first_false (request.by == by) (request.game == game) (not-true (request.by == by) h)) shelf.requests;
+      (λ request h. and_left (request.by == by) (request.game == game) (not-true (request.by == by) h)) shelf.requests;
   others_gone = λ by other game differs. any-filter_same (is_request other game) (λ request. not (request.by == by))
-      (λ request h. first_false (request.by == other) (request.game == game)
+      (λ request h. and_left (request.by == other) (request.game == game)
       (ne_eqb request.by other (λ e. differs (sym e ∙ eqb-true request.by by (not-false (request.by == by) h))))) shelf.requests;
 }

@@ -2,20 +2,17 @@
 use Rattle.std.proofs.Common.{◌≡◌, ℕ, Bool, true, false, not, cond, List, [], ◌∷◌, ◌++◌, refl, sym, ap, subst, ◌∙◌, inl, inr}
 use Rattle.std.specs.Prelude.{◌==◌, ◌&&◌, ◌||◌}
 use Rattle.std.specs.List.{filter, list_any}
-use Rattle.std.proofs.lemmas.Bool.{eqb-true, eqb-false, eq-eqb, ne_eqb}
+use Rattle.std.proofs.lemmas.Bool.{eqb-true, eqb-false, eq-eqb, ne_eqb, or_from, or_parts}
 use Rattle.std.proofs.lemmas.List.Folds.{list_any-append}
 use Rattle.game_shelf.specs.declared.request.Request.{Request}
 use Rattle.game_shelf.specs.declared.shelved.Shelved.{Shelved}
 use Rattle.game_shelf.specs.Facts.{AreOnce}
 use Rattle.game_shelf.specs.Numbers.{RiseAbove, has_number, is_used, with_game, without_game}
 use Rattle.game_shelf.specs.Shelf.{is_request}
-use Rattle.game_shelf.proofs.Rising.{neither, with_game-behind, with_game-before, unused_on, before_or_behind}
-
-or_false : (a b : Bool) → a ≡ false → b ≡ false → a || b ≡ false
-or_false a b h k = ap (λ (t : Bool). t || b) h ∙ k
+use Rattle.game_shelf.proofs.Rising.{with_game-behind, with_game-before, unused_on, before_or_behind}
 
 -- equality of numbers, seen from the other one
-turned : (a b : ℕ) → (a == b) ≡ (b == a)
+pub turned : (a b : ℕ) → (a == b) ≡ (b == a)
 turned a b =
     elim (b == a) as (λ t. (b == a) ≡ t → (a == b) ≡ t) [
       | true ↦ λ same. eq-eqb a b (sym (eqb-true b a same))
@@ -29,13 +26,13 @@ is_request-turned one other =
 
 kept_none : (q : Request → Bool) (t : Bool) (x : Request) (rest : List Request) → q x ≡ false → list_any q rest ≡ false
     → list_any q (cond t (x ∷ rest) rest) ≡ false
-kept_none q true x rest fails none = or_false (q x) (list_any q rest) fails none
+kept_none q true x rest fails none = or_from (q x) (list_any q rest) fails none
 kept_none q false x rest fails none = none
 
 list_any-filter : (q p : Request → Bool) (xs : List Request) → list_any q xs ≡ false → list_any q (filter p xs) ≡ false
 list_any-filter q p [] none = refl
 list_any-filter q p (x ∷ xs) none =
-    let both = neither (q x) (list_any q xs) none in
+    let both = or_parts (q x) (list_any q xs) none in
     kept_none q (p x) x (filter p xs) both.0 (list_any-filter q p xs both.1)
 
 kept : (t : Bool) (x : Request) (rest : List Request) → list_any (is_request x.by x.game) rest ≡ false → AreOnce rest → AreOnce (cond t (x ∷ rest) rest)
@@ -50,11 +47,11 @@ AreOnce-filter p (x ∷ xs) once =
 pub AreOnce-push : (xs : List Request) (new : Request) → list_any (is_request new.by new.game) xs ≡ false → AreOnce xs → AreOnce (xs ++ new ∷ [])
 AreOnce-push [] new none once = (refl, tt)
 AreOnce-push (x ∷ xs) new none once =
-    let both = neither (is_request new.by new.game x) (list_any (is_request new.by new.game) xs) none in
+    let both = or_parts (is_request new.by new.game x) (list_any (is_request new.by new.game) xs) none in
     let apart : is_request x.by x.game new ≡ false = is_request-turned x new ∙ both.0 in (
       list_any-append (is_request x.by x.game) xs (new ∷ [])
-          ∙ or_false (list_any (is_request x.by x.game) xs) (list_any (is_request x.by x.game) (new ∷ [])) once.0
-          (or_false (is_request x.by x.game new) false apart refl),
+          ∙ or_from (list_any (is_request x.by x.game) xs) (list_any (is_request x.by x.game) (new ∷ [])) once.0
+          (or_from (is_request x.by x.game new) false apart refl),
       AreOnce-push xs new both.1 once.1,
     )
 

@@ -1,18 +1,12 @@
 -- Rows of games whose numbers rise: one comes, some go, where a number stands, and which is the first that is left out.
-use Rattle.std.proofs.Common.{◌≡◌, ◌⊎◌, ℕ, zero, suc, ◌+◌, ◌^◌, ◌<◌, ◌≤◌, Bool, true, false, cond, List, [], ◌∷◌, ◌++◌, Option, None, Some, length, take, drop, get_or, slice_get, refl, sym, ap, subst, ◌∙◌, inl, inr, arith}
+use Rattle.std.proofs.Common.{◌≡◌, ◌⊎◌, ℕ, zero, suc, ◌+◌, ◌^◌, ◌<◌, ◌≤◌, Bool, true, false, not, cond, List, [], ◌∷◌, ◌++◌, Option, None, Some, length, take, drop, get_or, slice_get, refl, sym, ap, subst, ◌∙◌, inl, inr, arith}
 use Rattle.std.specs.Prelude.{◌==◌, ◌||◌}
-use Rattle.std.specs.List.{AllWithin, filter, find}
+use Rattle.std.specs.List.{AllWithin, filter, find, remove}
 use Rattle.std.specs.List.Sorted.{IsNonDecreasingBy}
-use Rattle.std.proofs.lemmas.Bool.{eqb-true, eqb-false, eq-eqb, ne_eqb, lt-ltb, le-ltb, cases_lt}
+use Rattle.std.proofs.lemmas.Option.{none-some}
+use Rattle.std.proofs.lemmas.Bool.{eqb-true, eqb-false, eq-eqb, ne_eqb, lt-ltb, le-ltb, cases_lt, or_from, or_parts}
 use Rattle.game_shelf.specs.declared.shelved.Shelved.{Shelved}
-use Rattle.game_shelf.specs.Numbers.{AreInOrder, IsLeastUnused, RiseAbove, first_gap, has_number, is_above, is_below, is_used, next_number, with_game}
-
-or_false : (a b : Bool) → a ≡ false → b ≡ false → a || b ≡ false
-or_false a b h k = ap (λ (t : Bool). t || b) h ∙ k
-
-pub neither : (a b : Bool) → a || b ≡ false → (a ≡ false) × (b ≡ false)
-neither true b h = absurd (let bad : true ≡ false = h in cc)
-neither false b h = (refl, h)
+use Rattle.game_shelf.specs.Numbers.{AreInOrder, IsLeastUnused, RiseAbove, first_gap, has_number, is_above, is_below, is_used, next_number, with_game, without_game}
 
 -- a number above another one that isn't the next
 past : (a b : ℕ) → a < b → (b ≡ a + 1 → ⊥) → a + 1 < b
@@ -64,14 +58,14 @@ pub unused_above : (games : List Shelved) (low n : ℕ) → n ≤ low → RiseAb
 unused_above [] low n h rise = refl
 unused_above (row ∷ games) low n h rise =
     let above = rise.0 in
-    or_false (row.number == n) (is_used games n)
+    or_from (row.number == n) (is_used games n)
     (ne_eqb row.number n (not_same n row.number (omega (arith, above, h))))
     (unused_above games row.number n (omega (arith, above, h)) rise.2)
 
 pub find-unused : (n : ℕ) (games : List Shelved) → is_used games n ≡ false → find (has_number n) games ≡ None
 find-unused n [] h = refl
 find-unused n (row ∷ games) h =
-    let both = neither (row.number == n) (is_used games n) h in
+    let both = or_parts (row.number == n) (is_used games n) h in
     ap (λ (t : Bool). cond t (Some row) (find (has_number n) games)) both.0 ∙ find-unused n games both.1
 
 -- where a game comes: behind one of a lesser number, and before one of a greater number
@@ -99,14 +93,14 @@ with_game-before new row games rise =
 -- a row that has no such number has the row of that number before one of its games, or behind it
 pub before_or_behind : (row : Shelved) (games : List Shelved) (n : ℕ) → is_used (row ∷ games) n ≡ false → (row.number < n) ⊎ (n < row.number)
 before_or_behind row games n unused =
-    let differ = eqb-false row.number n (neither (row.number == n) (is_used games n) unused).0 in
+    let differ = eqb-false row.number n (or_parts (row.number == n) (is_used games n) unused).0 in
     elim (cases_lt row.number n) [ inl h ↦ inl h | inr h ↦ inr (strict row.number n h differ) ]
   where
     strict : (a b : ℕ) → b ≤ a → (a ≡ b → ⊥) → b < a
     strict a b h differ = grind arith
 
 pub unused_on : (row : Shelved) (games : List Shelved) (n : ℕ) → is_used (row ∷ games) n ≡ false → is_used games n ≡ false
-unused_on row games n unused = (neither (row.number == n) (is_used games n) unused).1
+unused_on row games n unused = (or_parts (row.number == n) (is_used games n) unused).1
 
 -- a game with a number that none has keeps the numbers rising
 pub RiseAbove-with : (new : Shelved) (low : ℕ) (games : List Shelved) → low < new.number → new.number < 2 ^ 64 → is_used games new.number ≡ false
@@ -239,11 +233,11 @@ first_gap-unused (row ∷ games) low rise =
     elim (row.number == low + 1) as (λ t. (row.number == low + 1) ≡ t → is_used (row ∷ games) (cond t (first_gap (low + 1 + 1) games) (low + 1)) ≡ false) [
       | true ↦ λ same.
           let next = eqb-true row.number (low + 1) same in
-          or_false (row.number == gap) (is_used games gap)
+          or_from (row.number == gap) (is_used games gap)
           (ne_eqb row.number gap (not_same_above row.number gap (omega (arith, next, far))))
           (subst (λ (n : ℕ). is_used games (first_gap (n + 1) games) ≡ false) next (first_gap-unused games row.number rise.2))
       | false ↦ λ differ.
-          or_false (row.number == low + 1) (is_used games (low + 1)) differ
+          or_from (row.number == low + 1) (is_used games (low + 1)) differ
           (unused_above games row.number (low + 1) (omega (arith, above)) rise.2)
     ] refl
 
@@ -275,3 +269,35 @@ next_number-least games rise =
       unused = first_gap-unused games 0 rise;
       least = λ k positive below. first_gap-least games 0 k rise positive below;
     }
+
+-- where no game has the number, none goes
+pub without_game-absent : (n : ℕ) (games : List Shelved) → find (has_number n) games ≡ None → without_game n games ≡ games
+without_game-absent n [] none = refl
+without_game-absent n (row ∷ games) none =
+    elim (row.number == n) as (λ t. cond t (Some row) (find (has_number n) games) ≡ None → cond (not t) (row ∷ without_game n games) (without_game n games) ≡ row ∷ games) [
+      | true ↦ λ there. absurd (none-some row (sym there))
+      | false ↦ λ later. ap (λ zs. row ∷ zs) (without_game-absent n games later)
+    ] none
+
+-- and where one has it, it stands behind those of lesser numbers
+pub remove-place : (n low : ℕ) (games : List Shelved) (there : Shelved) → RiseAbove low games → find (has_number n) games ≡ Some there
+    → (length (filter (is_below n) games) < length games) × (remove games (length (filter (is_below n) games)) ≡ without_game n games)
+remove-place n low [] there rise found = absurd (none-some there found)
+remove-place n low (row ∷ games) there rise found =
+    elim (cases_lt row.number n) [
+      | inl h ↦
+          let differ = ne_eqb row.number n (not_same_above row.number n h) in
+          let rest = remove-place n row.number games there rise.2 (sym (ap (λ (t : Bool). cond t (Some row) (find (has_number n) games)) differ) ∙ found) in
+          let within = rest.0 in
+          let stays = ap (λ (t : Bool). cond (not t) (row ∷ without_game n games) (without_game n games)) differ in
+          subst (λ (zs : List Shelved). (length zs < length (row ∷ games)) × (remove (row ∷ games) (length zs) ≡ without_game n (row ∷ games))) (sym (below_cons n row games h))
+          (omega (arith, within), ap (λ zs. row ∷ zs) rest.1 ∙ sym stays)
+      | inr h ↦
+          let none = find-unused n games (unused_above games row.number n h rise.2) in
+          let goes = elim (row.number == n) as (λ t. cond t (Some row) (find (has_number n) games) ≡ Some there → games ≡ cond (not t) (row ∷ without_game n games) (without_game n games)) [
+            | true ↦ λ _. sym (without_game-absent n games none)
+            | false ↦ λ later. absurd (none-some there (sym none ∙ later))
+          ] found in
+          subst (λ (zs : List Shelved). (length zs < length (row ∷ games)) × (remove (row ∷ games) (length zs) ≡ without_game n (row ∷ games))) (sym (none_at n row games h rise.2))
+          (omega arith, goes)
+    ]

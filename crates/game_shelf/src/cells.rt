@@ -1,6 +1,6 @@
 //! A list whose items lie in cells of their own, so that one that was made beside it is put behind the others without
 //! memory.
-ghost use Rattle.std.specs.Prelude.{◌≡◌, ◌<◌, ◌^◌, [], ◌∷◌, ◌++◌, IfOk, length, take, option_copied};
+ghost use Rattle.std.specs.Prelude.{◌≡◌, ◌<◌, ◌^◌, [], ◌∷◌, ◌++◌, IfOk, length, take};
 ghost use Rattle.std.specs.List.{filter, list_any};
 
 use collections::{Listed, Predicate};

@@ -1,6 +1,5 @@
 //! Games that go on the shelf and off it, and the save orders.
-ghost use Rattle.std.specs.Prelude.{◌≡◌, ◌+◌, ◌<◌, ◌≤◌, ◌^◌, false, nat_lt, IfOk, length};
-ghost use Rattle.std.specs.List.{filter};
+ghost use Rattle.std.specs.Prelude.{◌≡◌, ◌+◌, ◌<◌, ◌≤◌, ◌^◌, false, IfOk, length};
 ghost use Rattle.game_records.specs.Replays.{Replays};
 ghost use Rattle.game_shelf.specs.Numbers.{is_used};
 ghost use Rattle.game_shelf.specs.Shelf.{game_order, most_stored, ordered, orders_told, removal_order, saved, shelved, taken_off, with_stored};

@@ -1,9 +1,9 @@
 //! The shelf, and the look-ups in it.
-ghost use Rattle.std.specs.Prelude.{◌≡◌, ◌≤◌, ◌&&◌, length, option_copied};
+ghost use Rattle.std.specs.Prelude.{◌≡◌, ◌&&◌, bytes_eq, option_copied};
+ghost use Rattle.fics_words.specs.Handle.{key_of};
 ghost use Rattle.game_records.specs.Replays.{Replays};
 ghost use Rattle.game_shelf.specs.Numbers.{stored_game};
 ghost use Rattle.game_shelf.specs.Players.{has_player, is_of_both, least_of};
-ghost use Rattle.game_shelf.specs.Shelf.{most_stored};
 
 use crate::cells::Cells;
 use crate::order::Order;
@@ -11,7 +11,7 @@ use crate::rack::Rack;
 use crate::request::Request;
 use crate::shelved::Shelved;
 use collections::{Predicate, find};
-use fics_words::{HandleKey, NoMemory};
+use fics_words::{Handle, HandleKey, NoMemory};
 use game_records::StoredGame;
 use std::alloc::Global;
 use std::marker::Model;
@@ -79,9 +79,9 @@ impl Predicate<Shelved> for OfBoth {
 }
 
 impl GameShelf {
-    ghost use Rattle.std.specs.Prelude.{◌≡◌, ◌≤◌, IfOk, IfSome, length, option_copied};
+    ghost use Rattle.std.specs.Prelude.{◌≡◌, IfOk, IfSome, option_copied};
     ghost use Rattle.game_records.specs.Replays.{Replays};
-    ghost use Rattle.game_shelf.specs.Shelf.{empty, most_stored};
+    ghost use Rattle.game_shelf.specs.Shelf.{empty};
     ghost use Rattle.game_shelf.specs.Facts.{IsShelf};
     ghost use Rattle.game_shelf.specs.Numbers.{stored_game};
     ghost use Rattle.game_shelf.specs.Players.{least_of};
@@ -135,5 +135,12 @@ impl GameShelf {
 pub fn has_player(game: &StoredGame, key: HandleKey) -> bool
     ensures { result ≡ has_player key game.now }
 {
-    game.names.iter().any(|name| name.key() == key)
+    game.names.iter().any(|name| has_key(name, &key))
+}
+
+/// Whether the handle has this key. The letters are compared as they stand: a walk over many games makes no keys.
+fn has_key(name: &Handle, key: &HandleKey) -> bool
+    ensures { result ≡ bytes_eq (key_of name.now) key.now }
+{
+    name.letters().eq_ignore_ascii_case(key.letters())
 }

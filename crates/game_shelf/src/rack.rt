@@ -1,7 +1,6 @@
 //! The places of the shelf.
-ghost use Rattle.std.specs.Prelude.{◌≡◌, ◌+◌, ◌≤◌, ◌<◌, ◌^◌, false, filter, length, option_copied, vec_capacity};
+ghost use Rattle.std.specs.Prelude.{◌≡◌, ◌+◌, ◌≤◌, ◌<◌, false, filter, length, option_copied, vec_capacity};
 ghost use Rattle.std.specs.List.{find};
-ghost use Rattle.std.specs.Vec.{vec_len};
 ghost use Rattle.game_shelf.specs.Numbers.{AreInOrder, has_number, is_below, is_used, next_number, with_game, without_game};
 
 use crate::shelved::Shelved;
@@ -93,7 +92,11 @@ impl Rack {
     pub(crate) fn remove(&mut self, number: u64)
         ensures { self.new ≡ without_game number self.old }
     {
-        keep_others(&mut self.games, number);
+        if self.get(number).is_none() {
+            return;
+        }
+        let place = self.place(number);
+        drop(self.games.remove(place));
     }
 
     /// The least positive number that no game has.
@@ -111,13 +114,4 @@ impl Rack {
         }
         number
     }
-}
-
-/// Takes the game of that number out, if there is one, and keeps the block that the games lie in.
-fn keep_others(games: &mut Vec<Shelved>, number: u64)
-    ensures kept { games.new.items ≡ without_game number games.old.items }
-    ensures bound { vec_len games.new ≤ vec_len games.old }
-    ensures capacity { vec_capacity games.new ≡ vec_capacity games.old }
-{
-    games.retain(|row| row.number != number);
 }

@@ -1,5 +1,5 @@
 //! What a change of the shelf needs of memory, prepared beside it.
-ghost use Rattle.std.specs.Prelude.{◌≡◌, ◌+◌, ◌<◌, ◌≤◌, ◌^◌, IfOk, Option, List, ℕ};
+ghost use Rattle.std.specs.Prelude.{◌≡◌, ◌+◌, ◌<◌, ◌≤◌, ◌^◌, IfOk, Option};
 ghost use Rattle.game_records.specs.Replays.{Replays};
 ghost use Rattle.game_shelf.specs.Shelf.{account_order, game_order, next_order, removal_order};
 ghost use Rattle.game_shelf.specs.Facts.{HasRoom};

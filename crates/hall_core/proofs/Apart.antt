@@ -1,6 +1,5 @@
 -- The parts of a whole state are a lobby and desks.
-use Rattle.std.proofs.Common.{◌≡◌, ℕ, suc, List, [], ◌∷◌, ◌++◌, map, length, refl, ap, sym, ◌∙◌, arith}
-use Rattle.std.proofs.lemmas.List.{append_assoc, map-append}
+use Rattle.std.proofs.Common.{◌≡◌, ℕ, suc, List, [], ◌∷◌, ◌++◌, map, length, refl, ◌∙◌, arith}
 use Rattle.std.specs.List.{slice_get}
 use Rattle.std.specs.declared.option.Option.TheVariants.{Some}
 use Rattle.linked_desk.specs.Desk.{DeskState}
@@ -8,7 +7,7 @@ use Rattle.lobby_state.specs.Desks.{desks as desk_count}
 use Rattle.lobby_state.specs.Lobby.{LobbyState}
 use Rattle.one_server.specs.declared.part.Part.{Part}
 use Rattle.one_server.specs.declared.part.Part.TheVariants.{Lobby as TheLobby, Desk as ADesk}
-use Rattle.one_server.specs.Whole.{IsInPlace, IsWhole, parts_of}
+use Rattle.one_server.specs.Whole.{IsInPlace, IsWhole}
 
 behind_first : (lobby : LobbyState) (i : ℕ) (part : Part) → IsInPlace lobby (suc i) part → (desk : DeskState) × (part ≡ ADesk desk)
 behind_first lobby i (TheLobby other) e = absurd (omega (arith, e))

@@ -1,3 +1,4 @@
+pub mod Pass
 pub mod Passes
 pub mod Acts
 pub mod Apart

@@ -1,29 +1,17 @@
--- What contracts see of a pass of the hall.
-use Rattle.std.specs.Prelude.{◌≡◌, ℕ, ◌+◌, ◌<◌, ◌≤◌, true, false, List, [], ◌∷◌, ◌++◌, map}
+-- What is known of every pass of the hall, and what splitting, joining and looking make of one.
+use Rattle.std.specs.Prelude.{◌≡◌, ℕ, ◌+◌, ◌<◌, true, false, List, [], ◌∷◌, ◌++◌}
 use Rattle.atomic_table.specs.Seated.{TableId}
 use Rattle.histories.specs.History.{IsPrefix, calls_of}
 use Rattle.lobby_state.specs.Lobby.{LobbyState}
 use Rattle.one_server.specs.declared.act.Timed.{Timed}
 use Rattle.one_server.specs.declared.part.Part.{Part}
 use Rattle.one_server.specs.declared.reply.Reply.{Reply}
-use Rattle.one_server.specs.Running.{IsKnown, Log, RunnerState}
+use Rattle.one_server.specs.Running.{IsKnown, RunnerState}
 use Rattle.one_server.specs.Whole.{IsOpening, IsWhole, opened}
 use Rattle.turn_table.specs.declared.view.Joined.{Joined}
 use Rattle.turn_table.specs.Passes.{Standing}
-use Rattle.turn_table.specs.Views.{In, joined_number}
-
--- which hall the pass is of, and its number, which is its session; how many passes were split from it, and those that
--- were joined into it, with their calls; the opening state of the hall, what the pass has seen of the history and what
--- it made; and the parts that it tried while another pass had them, the latest last
-pub record PassState : Type 0 where
-  pub home : TableId
-  pub number : ℕ
-  pub splits : ℕ
-  pub joined : List (Joined Timed Reply)
-  pub opening : List Part
-  pub seen : Log
-  pub made : Log
-  pub busy : List ℕ
+use Rattle.turn_table.specs.Views.{In}
+pub use Rattle.hall_core.specs.Pass.{EveryoneJoined, PassState}
 
 abbrev pub pass_state : Standing Part Timed Reply → PassState
 pass_state p = record {
@@ -109,10 +97,6 @@ pub record HasLooked (old new : PassState) : Type 0 where
   pub known : IsKnown (runs_of new)
   pub calls : (j : Joined Timed Reply) → In j new.joined → calls_of j.number new.seen ≡ j.calls
   pub no_others : new.number ≡ 0 → (m : ℕ) → new.splits < m → calls_of m new.seen ≡ []
-
--- every pass that was split from this one was joined into it
-abbrev pub EveryoneJoined : PassState → Type 0
-EveryoneJoined pass = (m : ℕ) → 0 < m → m ≤ pass.splits → In m (map joined_number pass.joined)
 
 -- what no act changes of a pass beside its number and its opening state: its hall, and the passes that were split from
 -- it and joined into it

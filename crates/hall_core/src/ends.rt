@@ -7,6 +7,7 @@ ghost use Rattle.lobby_state.specs.Lobby.{LobbyState};
 ghost use Rattle.one_server.specs.declared.part.Part.TheVariants.{Lobby as TheLobby, Desk as ADesk};
 ghost use Rattle.one_server.specs.Whole.{IsWhole, opened, parts_of};
 
+use crate::housed::Housed;
 use linked_desk::Desk;
 use lobby_state::{DESKS, Lobby};
 use memory::NoMemory;
@@ -21,20 +22,22 @@ pub struct HallParts {
 }
 
 /// The parts with which a hall opens: this lobby, and the desks 1 to 128, all of them vacant.
-pub fn opening_parts(alloc: Global, lobby: Lobby) -> Result<Vec<Part>, NoMemory>
+pub fn opening_parts(alloc: Global, lobby: Lobby) -> Result<Vec<Housed>, NoMemory>
     ensures items { IfOk result (λ parts. parts.items ≡ opened lobby) }
     ensures count { IfOk result (λ parts. vec_len parts ≡ desk_count + 1) }
 {
     let mut parts = Vec::new(alloc);
-    parts.push(Part::Lobby(lobby))?;
+    let first = Housed::new(alloc, Part::Lobby(lobby))?;
+    parts.push(first)?;
     for slot in 0..DESKS {
-        parts.push(Part::Desk(Desk::vacant(slot as u8 + 1)))?;
+        let desk = Housed::new(alloc, Part::Desk(Desk::vacant(slot as u8 + 1)))?;
+        parts.push(desk)?;
     }
     Ok(parts)
 }
 
 /// The lobby and the desks of a whole state, in the room that was kept for the desks.
-pub fn told_apart(parts: Vec<Part>, room: Vec<Desk>) -> HallParts
+pub fn told_apart(parts: Vec<Housed>, room: Vec<Desk>) -> HallParts
     requires whole { IsWhole parts.items }
     requires empty { room.items ≡ [] }
     requires room { desk_count ≤ vec_capacity room }
@@ -56,22 +59,22 @@ pub fn told_apart(parts: Vec<Part>, room: Vec<Desk>) -> HallParts
 }
 
 /// The lobby that a part is.
-fn lobby_of(part: Part) -> Lobby
+fn lobby_of(part: Housed) -> Lobby
     requires { (lobby : LobbyState) × (part ≡ TheLobby lobby) }
     ensures { part ≡ TheLobby result }
 {
-    match part {
+    match part.into_part() {
         Part::Lobby(lobby) => lobby,
         Part::Desk(_) => unreachable!(),
     }
 }
 
 /// The desk that a part is.
-fn desk_of(part: Part) -> Desk
+fn desk_of(part: Housed) -> Desk
     requires { (desk : DeskState) × (part ≡ ADesk desk) }
     ensures { part ≡ ADesk result }
 {
-    match part {
+    match part.into_part() {
         Part::Desk(desk) => desk,
         Part::Lobby(_) => unreachable!(),
     }

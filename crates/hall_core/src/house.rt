@@ -1,5 +1,6 @@
 //! The server of one lobby and 128 desks makes its acts on the parts that it is lent. No act is known here by its name.
 
+use crate::housed::Housed;
 use histories::Served;
 use memory::NoMemory;
 use one_server::{self, Part, Reply, Timed};
@@ -13,7 +14,7 @@ impl Served for Rooms {
     ghost use Rattle.one_server.specs.House.{house};
     ghost use Rattle.one_server.specs.LawfulProof.{house_lawful};
 
-    type Part = Part;
+    type Part = Housed;
 
     type Act = Timed;
 
@@ -33,24 +34,29 @@ impl Steps for Rooms {
         one_server::first_part(&act.act)
     }
 
-    fn second_part(one: &Part, session: u32, act: &Timed) -> Option<u8> {
-        match one {
+    fn second_part(one: &Housed, session: u32, act: &Timed) -> Option<u8> {
+        match &*one.part {
             Part::Lobby(lobby) => one_server::second_part(lobby, session, &act.act),
             Part::Desk(_) => None,
         }
     }
 
-    fn alone(_alloc: Global, one: &mut Part, session: u32, act: &Timed) -> Result<Reply, NoMemory> {
-        one_server::alone(one, session, act)
+    fn alone(
+        _alloc: Global,
+        one: &mut Housed,
+        session: u32,
+        act: &Timed,
+    ) -> Result<Reply, NoMemory> {
+        one_server::alone(&mut *one.part, session, act)
     }
 
     fn together(
         alloc: Global,
-        one: &mut Part,
-        two: &mut Part,
+        one: &mut Housed,
+        two: &mut Housed,
         session: u32,
         act: &Timed,
     ) -> Result<Reply, NoMemory> {
-        one_server::together(alloc, one, two, session, act)
+        one_server::together(alloc, &mut *one.part, &mut *two.part, session, act)
     }
 }

@@ -13,6 +13,7 @@
 mod ends;
 mod hall;
 mod house;
+mod housed;
 mod laws;
 mod pass;
 mod ran;

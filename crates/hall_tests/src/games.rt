@@ -1,14 +1,14 @@
 //! Games by two sessions, over the server of one thread and at the seats of a hall.
 
 use crate::halls::{hall, two_seats};
-use crate::steps::{Does, Game, Said, Step, replied};
+use crate::steps::{Does, Game, Step, replied};
 use fics_words::Fail as Failure;
-use lobby_state::Lobby;
-use memory::NoMemory;
 use one_server::{OneServer, Runner};
+use server_steps::{Said, server};
 use std::alloc::Global;
 use std::sync::Wait;
 use std::test::Fail;
+use test_steps::first_wrong;
 use turn_chain::OpenGate;
 
 /// A game that is resigned. Both players then clear the desk: the first gives up its place and the second one frees the
@@ -54,12 +54,6 @@ const CLEARED_TWICE: &[Step] = &[
     Step(4500, 2, Does::Where, Said::Places(0)),
 ];
 
-/// A server with an empty lobby.
-#[tactic(auto, using(one_server::proofs::Opens::opening_is))]
-pub fn server(alloc: Global) -> Result<OneServer, NoMemory> {
-    OneServer::new(alloc, Lobby::new(alloc)?)
-}
-
 /// The place of the first step that is replied otherwise at a hall with an empty lobby, if one is.
 fn over_hall<R: Wait>(rt: &R, alloc: Global, steps: &[Step]) -> Result<Option<usize>, Failure> {
     let (hall, first) = hall(alloc)?;
@@ -75,14 +69,10 @@ pub fn at_two_seats<R: Runner>(
     ben: &mut R,
     steps: &[Step],
 ) -> Result<Option<usize>, Failure> {
-    for (place, step) in steps.iter().enumerate() {
-        let Step(moment, session, does, expected) = *step;
-        let seat = if session == 1 { &mut *ann } else { &mut *ben };
-        if replied(seat, alloc, moment, Game::First, does)? != expected {
-            return Ok(Some(place));
-        }
-    }
-    Ok(None)
+    Ok(first_wrong!(steps, |step| {
+        let seat = if step.1 == 1 { &mut *ann } else { &mut *ben };
+        replied(seat, alloc, step.0, Game::First, step.2)? == step.3
+    }))
 }
 
 /// The place of the first step that is replied otherwise by the server of one thread, if one is.
@@ -96,13 +86,10 @@ fn at_the_server(
     server: &mut OneServer,
     steps: &[Step],
 ) -> Result<Option<usize>, Failure> {
-    for (place, step) in steps.iter().enumerate() {
+    Ok(first_wrong!(steps, |step| {
         let mut seat = server.seat(step.1);
-        if replied(&mut seat, alloc, step.0, Game::First, step.2)? != step.3 {
-            return Ok(Some(place));
-        }
-    }
-    Ok(None)
+        replied(&mut seat, alloc, step.0, Game::First, step.2)? == step.3
+    }))
 }
 
 #[test]

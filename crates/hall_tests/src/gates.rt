@@ -1,14 +1,16 @@
 //! A gate at which another session makes acts at the same hall.
 
 use crate::halls::{four_passes, hall};
-use crate::steps::{Does, Game, Said, Step, act_of, in_short, replied};
+use crate::steps::{Does, Game, Step, act_of, replied};
 use fics_words::Fail as Failure;
 use hall_core::{HallSeat, Ran};
 use one_server::Runner;
+use server_steps::{Said, in_short};
 use std::alloc::Global;
 use std::cell::{Cell, RefCell};
 use std::sync::Wait;
 use std::test::Fail;
+use test_steps::first_wrong;
 use turn_chain::{Gate, OpenGate};
 
 /// What a try came to.
@@ -125,19 +127,15 @@ fn with_cat<A: Runner, B: Runner, R: Wait>(
     dan: &mut B,
     steps: &[Step],
 ) -> Result<Option<usize>, Failure> {
-    for (place, step) in steps.iter().enumerate() {
-        let Step(moment, session, does, expected) = *step;
-        let said = match session {
-            1 => replied(ann, alloc, moment, Game::First, does),
-            2 => replied(ben, alloc, moment, Game::First, does),
-            3 => by_cat(gate, moment, does),
-            _ => replied(dan, alloc, moment, Game::Second, does),
+    Ok(first_wrong!(steps, |Step(moment, session, does, expected)| {
+        let said = match *session {
+            1 => replied(ann, alloc, *moment, Game::First, *does),
+            2 => replied(ben, alloc, *moment, Game::First, *does),
+            3 => by_cat(gate, *moment, *does),
+            _ => replied(dan, alloc, *moment, Game::Second, *does),
         };
-        if said? != expected {
-            return Ok(Some(place));
-        }
-    }
-    Ok(None)
+        said? == *expected
+    }))
 }
 
 /// What Cat is replied outside of Ann's acts.

@@ -7,9 +7,10 @@ ghost use Rattle.one_server.specs.Whole.{opened};
 
 use crate::others::{Others, everyone_joined};
 use crate::passes::{Guest, Here};
-use crate::steps::{Does, Game, Said, Step, act_of, in_short};
+use crate::steps::{Does, Game, Step, act_of};
 use fics_words::Fail as Failure;
 use hall_core::{Hall, HallParts, HallPass, Ran};
+use server_steps::{Said, in_short};
 use std::alloc::Global;
 use std::cell::{Cell, RefCell};
 use std::sync::Wait;

@@ -32,6 +32,4 @@ mod stamps;
 #[cfg(test)]
 mod steps;
 #[cfg(test)]
-mod talks;
-#[cfg(test)]
 mod threads;

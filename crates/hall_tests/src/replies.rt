@@ -1,8 +1,8 @@
 //! Whether two replies are the same, item by item.
 
-use crate::steps::of_pair;
 use linked_desk::DeskReply;
 use one_server::Reply;
+use server_steps::of_pair;
 use style12_writer::Item;
 
 /// Whether two replies are the same.

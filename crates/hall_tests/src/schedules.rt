@@ -1,13 +1,13 @@
 //! Schedules of acts: who waits for a part that is out, who doesn't, and what the hall gives back at its close.
 
-use crate::games::server;
 use crate::halls::hall;
 use crate::held::{Came, Course, Schedule, Try, Went, given_back};
 use crate::parts::{Difference, QUESTIONS, first_difference};
-use crate::steps::{Does, Game, Said, Step, replied};
+use crate::steps::{Does, Game, Step, replied};
 use fics_words::Fail as Failure;
 use hall_core::HallParts;
 use one_server::OneServer;
+use server_steps::{Said, server};
 use std::alloc::Global;
 use std::marker::Brand;
 use std::sync::Wait;

@@ -1,15 +1,15 @@
 //! An evening of two players by lines, from their logins to their goodbyes, at a hall and over the server of one
 //! thread: the sessions write the same bytes.
 
-use crate::games::server;
 use crate::halls::{hall, two_seats};
-use crate::talks::{Comes, answered};
 use fics_words::Fail as Failure;
 use one_server::{OneServer, Runner};
+use server_steps::server;
 use session_core::Session;
 use std::alloc::Global;
 use std::sync::Wait;
 use std::test::Fail;
+use talk_steps::{Comes, answered};
 use turn_chain::OpenGate;
 
 /// The moment in milliseconds, the session, and what comes from its player.

@@ -5,44 +5,13 @@ ghost use Rattle.linked_desk.specs.Acts.{FitsDeskAct};
 ghost use Rattle.lobby_state.specs.Desks.{IsDesk};
 ghost use Rattle.one_server.specs.Acts.{FitsAct};
 
-use chess_model::{Colour, MoveWord, Square, Terms, Variant};
-use fics_words::{Fail, Handle, Refusal};
-use linked_desk::{DeskAct, DeskReply};
-use lobby_state::{LobbyAct, LobbyReply, PairAct};
-use one_server::{Act, PairReply, Reply, Runner};
+use chess_model::{Colour, MoveWord, Terms, Variant};
+use fics_words::Fail;
+use linked_desk::DeskAct;
+use lobby_state::{LobbyAct, PairAct};
+use one_server::{Act, Reply, Runner};
+use server_steps::{Said, handle, in_short, square};
 use std::alloc::Global;
-
-/// What a reply says, in short.
-#[derive(Clone, Copy, PartialEq, Eq)]
-pub enum Said {
-    Refused(u8),
-    Done,
-    Entered,
-    NeedPassword,
-    /// The number of a seek.
-    Number(u16),
-    /// So many lines of a list.
-    Lines(usize),
-    /// So many were told.
-    Told(u16),
-    /// Another is asked.
-    Asked,
-    Found,
-    /// So many desks.
-    Desks(usize),
-    /// So many save orders.
-    Orders(usize),
-    /// So many places.
-    Places(usize),
-    /// So many lines and so many places.
-    Waiting(usize, usize),
-    /// So many items, and whether nothing more will come.
-    Items(usize, bool),
-    Started,
-    Kept,
-    Freed,
-    Cleared,
-}
 
 /// What a session does. Desk acts and Clears are for a game.
 #[derive(Clone, Copy)]
@@ -234,64 +203,5 @@ fn at_desk(game: Game, act: DeskAct) -> Act
         desk,
         serial: u64::from(desk),
         act,
-    }
-}
-
-/// What a reply says, in short.
-pub fn in_short(reply: &Reply) -> Said {
-    match reply {
-        Reply::Refused(cause) => Said::Refused(cause.number()),
-        Reply::Lobby(answer) => of_lobby(answer),
-        Reply::Desk(answer) => of_desk(answer),
-        Reply::Pair(answer) => of_pair(*answer),
-    }
-}
-
-fn of_lobby(answer: &LobbyReply) -> Said {
-    match answer {
-        LobbyReply::Done => Said::Done,
-        LobbyReply::Entered(_) => Said::Entered,
-        LobbyReply::NeedPassword => Said::NeedPassword,
-        LobbyReply::Number(number) => Said::Number(*number),
-        LobbyReply::Lines(lines) => Said::Lines(lines.len()),
-        LobbyReply::Told(count) => Said::Told(*count),
-        LobbyReply::Asked => Said::Asked,
-        LobbyReply::Found(_) => Said::Found,
-        LobbyReply::Places(places) => Said::Places(places.rows().len()),
-        LobbyReply::Waiting { lines, places } => Said::Waiting(lines.len(), places.rows().len()),
-        LobbyReply::Desks(desks) => Said::Desks(desks.len()),
-        LobbyReply::Orders(orders) => Said::Orders(orders.len()),
-    }
-}
-
-fn of_desk(answer: &DeskReply) -> Said {
-    match answer {
-        DeskReply::Done => Said::Done,
-        DeskReply::Items { items, over } => Said::Items(items.len(), *over),
-    }
-}
-
-/// What lobby and desk answer together, in short.
-pub fn of_pair(answer: PairReply) -> Said {
-    match answer {
-        PairReply::Started => Said::Started,
-        PairReply::Asked => Said::Asked,
-        PairReply::Kept => Said::Kept,
-        PairReply::Freed => Said::Freed,
-        PairReply::Cleared => Said::Cleared,
-    }
-}
-
-fn handle(name: &[u8; 3]) -> Result<Handle, Fail> {
-    match Handle::read(name) {
-        Some(handle) => Ok(handle),
-        None => Err(Fail::Refused(Refusal::BadHandle)),
-    }
-}
-
-fn square(number: u8) -> Result<Square, Fail> {
-    match Square::of(number) {
-        Some(square) => Ok(square),
-        None => Err(Fail::Refused(Refusal::BadArguments)),
     }
 }

@@ -2,13 +2,13 @@
 
 ghost use Rattle.std.specs.Prelude.{◌<◌};
 
-use crate::games::server;
 use crate::halls::{four_passes, hall};
 use crate::replies::is_same;
-use crate::steps::{Does, Game, Said, Step, replied, reply_to};
+use crate::steps::{Does, Game, Step, replied, reply_to};
 use fics_words::Fail as Failure;
 use hall_core::HallSeat;
 use one_server::{OneServer, Reply};
+use server_steps::{Said, server};
 use std::alloc::Global;
 use std::sync::Wait;
 use std::sync::atomic::{AtomicU64, Ordering};

@@ -1,6 +1,6 @@
 //! The value of a position between two bounds: what lies outside them isn't looked for.
-ghost use Rattle.std.specs.Prelude.{◌≡◌, ℕ, suc, ◌<◌, ◌≤◌, IfOk, is_some};
-ghost use Rattle.std.specs.Int.{int_max, int_min};
+ghost use Rattle.std.specs.Prelude.{◌≡◌, ◌<◌, IfOk, is_some};
+ghost use Rattle.std.specs.Int.{int_min};
 ghost use Rattle.chess_model.specs.Allowed.{Allowed};
 ghost use Rattle.chess_model.specs.AllMoves.{allowed_moves};
 ghost use Rattle.house_bot.specs.Value.{value, move_value};

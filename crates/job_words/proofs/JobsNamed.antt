@@ -3,7 +3,7 @@ use Rattle.std.proofs.Common.{◌≡◌, ◌≢◌, ℕ, List, [], ◌∷◌, Op
 use Rattle.std.specs.Prelude.{◌==◌, if◌then◌else◌, Result, Ok, Err, IfErr, String, codes, option_copied, unwrap_or}
 use Rattle.std.specs.Borrow.{Bor}
 use Rattle.std.specs.declared.alloc.Global.{Global}
-use Rattle.job_words.specs.Jobs.{AsksToServe, IsBehind, IsBind, IsCount, IsExamine, IsGame, IsOverStore, IsPort, IsServe, Names, OnUsage, TextsName, text_of}
+use Rattle.job_words.specs.Jobs.{IsBehind, IsBind, IsCount, IsExamine, IsGame, IsOverStore, IsPort, IsServe, OnUsage, TextsName, text_of}
 use Rattle.job_words.specs.Options.{Chosen, Says}
 use Rattle.job_words.specs.declared.command_name.CommandName.{CommandName}
 use Rattle.job_words.specs.declared.command_name.CommandName.TheVariants as name

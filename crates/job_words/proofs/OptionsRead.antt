@@ -1,13 +1,13 @@
 -- Options with their values have one reading, and it is found word by word.
 use Rattle.std.proofs.Common.{◌≡◌, ◌≢◌, ℕ, ◌<◌, ◌≤◌, Bool, true, false, cond, List, [], ◌∷◌, ◌++◌, length, Option, None, Some, refl, sym, ap, subst, ◌∙◌, arith, inl, inr, append_assoc, append-nil, length-append, get_or}
-use Rattle.std.specs.Prelude.{◌==◌, if◌then◌else◌, IsTrue, map, String, string_bytes}
+use Rattle.std.specs.Prelude.{◌==◌, if◌then◌else◌, map, String, string_bytes}
 use Rattle.std.specs.declared.alloc.Global.{Global}
 use Rattle.std.specs.List.{position_or_len, before_first, after_first}
 use Rattle.std.proofs.lemmas.Bool.{eqb-true}
 use Rattle.std.proofs.lemmas.List.{length-map}
 use Rattle.std.proofs.lemmas.Slice.Eq.{bytes_eq-Decides}
 use Rattle.std.proofs.lemmas.List.Sums.{split_at_first, passes_at_first}
-use Rattle.job_words.specs.Options.{AreOptions, BeginsWith, Chosen, GivenValue, Says, Tells, chosen_of, is_equals, listed, name_of, nothing_chosen, same_option, takes, values_of, with_chosen}
+use Rattle.job_words.specs.Options.{AreOptions, BeginsWith, Chosen, GivenValue, Says, Tells, chosen_of, is_equals, listed, name_of, nothing_chosen, same_option, values_of, with_chosen}
 use Rattle.job_words.specs.declared.command_name.CommandName.{CommandName}
 use Rattle.job_words.specs.declared.options.JobOption.{JobOption}
 use Rattle.job_words.specs.declared.options.JobOption.TheVariants.{Port, Bind, Count, Store, Game}

@@ -1,23 +1,12 @@
 //! A store that one keeper writes, and what others make of it meanwhile and afterwards.
 
-use edge_traits::{Keeper, KeeperFail, Kept, Pair};
+use edge_traits::{Keeper, Kept};
 use file_keeper::{SqliteKeeper, StoreReader};
+use keeper_steps::{Call, Records, first_failing};
 use std::alloc::AllocError;
 use std::hash::{BuildHasher, RandomState};
 use std::test::Fail;
 use std::{env, fs, io};
-
-/// A call of a keeper, and what it comes to.
-enum Call {
-    Puts(&'static [u8], &'static [u8], Kept),
-    Removes(&'static [u8], Kept),
-    /// The records can't be loaded.
-    Refuses,
-    /// The records are these, in order, each a key and its bytes.
-    Loads(Records),
-}
-
-type Records = &'static [(&'static [u8], &'static [u8])];
 
 /// Of the keeper that has the file. Keys and records may be empty.
 const WRITTEN: &[Call] = &[
@@ -60,54 +49,6 @@ const READ: &[Call] = &[
 /// Of a reader, where there is no file.
 const NOTHING_THERE: &[Call] = &[Call::Refuses, Call::Refuses];
 
-fn put<K: Keeper>(keeper: &mut K, key: &[u8], bytes: &[u8]) -> Kept {
-    keeper.put(key, bytes)
-}
-
-fn remove<K: Keeper>(keeper: &mut K, key: &[u8]) -> Kept {
-    keeper.remove(key)
-}
-
-fn is_refused<K: Keeper>(keeper: &mut K) -> bool {
-    matches!(keeper.load(), Err(KeeperFail::Failed))
-}
-
-fn loads<K: Keeper>(keeper: &mut K, records: Records) -> bool {
-    match keeper.load() {
-        Ok(pairs) => are_kept(&pairs, records),
-        Err(_) => false,
-    }
-}
-
-fn are_kept(pairs: &[Pair], records: Records) -> bool {
-    for (place, (key, bytes)) in records.iter().enumerate() {
-        match pairs.get(place) {
-            Some(pair) if pair.key.as_slice() == *key && pair.bytes.as_slice() == *bytes => {}
-            _ => return false,
-        }
-    }
-    pairs.len() == records.len()
-}
-
-fn is_as_said<K: Keeper>(keeper: &mut K, call: &Call) -> bool {
-    match call {
-        Call::Puts(key, bytes, wanted) => put(keeper, key, bytes) == *wanted,
-        Call::Removes(key, wanted) => remove(keeper, key) == *wanted,
-        Call::Refuses => is_refused(keeper),
-        Call::Loads(records) => loads(keeper, records),
-    }
-}
-
-/// The place of the first call that comes to something else, if one does.
-fn first_wrong<K: Keeper>(keeper: &mut K, calls: &[Call]) -> Option<usize> {
-    for (place, call) in calls.iter().enumerate() {
-        if !is_as_said(keeper, call) {
-            return Some(place);
-        }
-    }
-    None
-}
-
 /// A path where there is no file.
 fn fresh_path(rt: &HostRuntime) -> io::Result<String> {
     let number = RandomState::new(rt)?.hash_one(&0u8);
@@ -134,7 +75,7 @@ fn first_wrong_anew(
 }
 
 fn first_wrong_to_the_end(keeper: &mut SqliteKeeper, calls: &[Call]) -> Option<usize> {
-    let wrong = first_wrong(keeper, calls);
+    let wrong = first_failing(keeper, calls);
     match keeper.close() {
         Kept::Done => wrong,
         _ => Some(calls.len()),
@@ -147,7 +88,7 @@ fn first_wrong_read(
     calls: &[Call],
 ) -> Result<Option<usize>, AllocError> {
     let mut reader = reader_at(rt, path)?;
-    Ok(first_wrong(&mut reader, calls))
+    Ok(first_failing(&mut reader, calls))
 }
 
 fn remove_store(rt: &HostRuntime, path: &str) -> io::Result<()> {
@@ -166,7 +107,7 @@ fn first_wrong_of_two(
     path: &str,
     first: &mut SqliteKeeper,
 ) -> Result<Option<usize>, AllocError> {
-    if let Some(place) = first_wrong(first, WRITTEN) {
+    if let Some(place) = first_failing(first, WRITTEN) {
         return Ok(Some(place));
     }
     first_wrong_anew(rt, path, KEPT_OUT)
@@ -192,7 +133,7 @@ fn first_wrong_read_of_two(
     path: &str,
     keeper: &mut SqliteKeeper,
 ) -> Result<Option<usize>, AllocError> {
-    if let Some(place) = first_wrong(keeper, WRITTEN) {
+    if let Some(place) = first_failing(keeper, WRITTEN) {
         return Ok(Some(place));
     }
     first_wrong_read(rt, path, READ)

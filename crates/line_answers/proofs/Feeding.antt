@@ -1,10 +1,10 @@
 -- The steps of the machine, over plain texts: what a byte, a line feed and the end of the input do.
-use Rattle.std.proofs.Common.{◌≡◌, ℕ, ◌+◌, ◌<◌, ◌≤◌, zero, suc, true, false, List, [], ◌∷◌, ◌++◌, length, take, drop, get_or, refl, sym, ap, subst, ◌∙◌, append_assoc, append-nil, arith, Ok, Err, inl, inr, length-append, take-append-drop}
+use Rattle.std.proofs.Common.{◌≡◌, ℕ, ◌+◌, ◌<◌, ◌≤◌, zero, suc, true, false, List, [], ◌∷◌, ◌++◌, length, take, drop, get_or, refl, sym, ap, subst, ◌∙◌, append_assoc, arith, Ok, Err, inl, inr, length-append, take-append-drop}
 use Rattle.std.specs.Prelude.{◌⊎◌, ◌==◌, nat_le, Result}
 use Rattle.std.proofs.lemmas.Bool.{leb-true, leb-false}
 use Rattle.std.proofs.lemmas.List.{take_all, length-take-le}
 use Rattle.std.proofs.Math.Seq.{take-suc}
-use Rattle.line_answers.specs.Handling.{Reaching, IsOutsideAt, HasBadLine, AreLines, AfterAnswering, Takes, bad_line}
+use Rattle.line_answers.specs.Handling.{Reaching, IsOutsideAt, HasBadLine, AreLines, AfterAnswering, bad_line}
 use Rattle.line_answers.specs.Feeding.{AfterFeeding}
 use Rattle.line_answers.specs.Lines.{is_kept, but_last, last_of, last_line, lines_of, whole_lines}
 use Rattle.line_answers.specs.MachineFeeding.{line_feeding}

@@ -1,7 +1,9 @@
 pub mod ClosingEnds
 pub mod Completeness
+pub mod Cuts
 pub mod Feeding
 pub mod HandlerLines
+pub mod InRange
 pub mod LineCommandEnds
 pub mod MachineEnds
 pub mod Parts

@@ -1,9 +1,6 @@
 -- A line that has begun, in its field of bytes.
-use Rattle.std.proofs.Common.{◌≡◌, ℕ, ◌+◌, ◌<◌, ◌≤◌, false, List, [], ◌∷◌, ◌++◌, length, take, set, sym, subst, ◌∙◌, arith, length-append, length-take}
-use Rattle.std.specs.Prelude.{◌==◌}
-use Rattle.std.specs.List.{AllByRecursion}
+use Rattle.std.proofs.Common.{◌≡◌, ℕ, ◌+◌, ◌<◌, ◌≤◌, false, List, [], ◌∷◌, ◌++◌, length, take, set, sym, ◌∙◌, arith, length-append, length-take}
 use Rattle.std.proofs.lemmas.List.{take_more_set, take-append-le, take_all}
-use Rattle.line_reader.specs.Reader.{IsKept}
 
 pub take_short : (line : List ℕ) (n : ℕ) → length line ≤ n → take n line ≡ line
 take_short line n h = take_all n line h

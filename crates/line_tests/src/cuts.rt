@@ -5,6 +5,8 @@ use crate::telling::{told, told_by_bytes};
 use fics_words::NoMemory;
 use std::alloc::Global;
 use std::test::Fail;
+use test_steps::assert_rows;
+use test_steps::limits::LINE_BYTES;
 
 /// So many letters, and the bytes behind them.
 struct Part(usize, &'static [u8]);
@@ -19,9 +21,12 @@ struct Row {
 const ROWS: &[Row] = &[
     // a line of 1,023 bytes, one of 1,024, and the line behind it, with a telnet unit inside
     Row {
-        input: &[Part(1_023, b"\n"), Part(1_024, b"\nfl\xFF\xFD\x01ag\n")],
+        input: &[
+            Part(LINE_BYTES, b"\n"),
+            Part(LINE_BYTES + 1, b"\nfl\xFF\xFD\x01ag\n"),
+        ],
         from: 0,
-        lines: &[Part(0, b"P"), Part(1_023, b"\nL\nPflag\n")],
+        lines: &[Part(0, b"P"), Part(LINE_BYTES, b"\nL\nPflag\n")],
     },
     // the end inside a telnet unit, behind its first and its second byte
     Row {
@@ -58,12 +63,12 @@ const ROWS: &[Row] = &[
     },
     // the end behind the last byte that a line may have, and inside a line that is too long
     Row {
-        input: &[Part(1_023, b"")],
+        input: &[Part(LINE_BYTES, b"")],
         from: 1_000,
-        lines: &[Part(0, b">P"), Part(1_023, b"\n")],
+        lines: &[Part(0, b">P"), Part(LINE_BYTES, b"\n")],
     },
     Row {
-        input: &[Part(1_024, b"")],
+        input: &[Part(LINE_BYTES + 1, b"")],
         from: 1_000,
         lines: &[Part(0, b">L\n")],
     },
@@ -104,18 +109,8 @@ fn is_told(alloc: Global, input: &[u8], cut: usize, lines: &[u8]) -> Result<bool
     Ok(given.as_slice() == lines)
 }
 
-/// The place of the first row with other lines, and where it was cut, if there is one.
-fn first_wrong(alloc: Global) -> Result<Option<(usize, usize)>, NoMemory> {
-    for (place, row) in ROWS.iter().enumerate() {
-        if let Some(cut) = first_wrong_cut(alloc, row)? {
-            return Ok(Some((place, cut)));
-        }
-    }
-    Ok(None)
-}
-
 #[test]
 fn inputs_cut_after_every_byte(rt: HostRuntime) -> Result<(), Fail> {
-    assert_eq!(rt; first_wrong(rt.alloc())?, None);
+    assert_rows!(rt; ROWS, |row| first_wrong_cut(rt.alloc(), row)?.is_none());
     Ok(())
 }

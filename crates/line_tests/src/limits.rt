@@ -5,11 +5,15 @@ use fics_words::NoMemory;
 use line_reader::LineReader;
 use std::alloc::Global;
 use std::test::Fail;
+use test_steps::assert_rows;
+use test_steps::limits::LINE_BYTES;
 
 /// So many letters, what stands behind them, where the text is cut, and its lines. A line of 1,023 bytes is read and a
 /// longer one is too long; one that ends in 0x80 and is no stamped line is read up to 1,033 bytes.
-const ROWS: &[(usize, &[u8], usize, &[u8])] = &[
-    (1_024, b"\nb\n", 1_024, b"L\nPb\n"),
+type Row = (usize, &'static [u8], usize, &'static [u8]);
+
+const ROWS: &[Row] = &[
+    (LINE_BYTES + 1, b"\nb\n", 1_024, b"L\nPb\n"),
     (1_033, b"\nb\n", 1_024, b"L\nPb\n"),
     (1_034, b"\nb\n", 1_024, b"L\nPb\n"),
     (1_035, b"\nb\n", 1_024, b"L\nPb\n"),
@@ -25,26 +29,21 @@ fn lines_of(alloc: Global, count: usize, behind: &[u8], cut: usize) -> Result<Ve
     told(alloc, &text, cut)
 }
 
-/// The place of the first row with other lines, if there is one.
-fn first_wrong(alloc: Global) -> Result<Option<usize>, NoMemory> {
-    for (place, (count, behind, cut, lines)) in ROWS.iter().enumerate() {
-        let given = lines_of(alloc, *count, behind, *cut)?;
-        if given.as_slice() != *lines {
-            return Ok(Some(place));
-        }
-    }
-    Ok(None)
+/// Whether so many letters with a text behind them have these lines.
+fn is_told(alloc: Global, row: &Row) -> Result<bool, NoMemory> {
+    let given = lines_of(alloc, row.0, row.1, row.2)?;
+    Ok(given.as_slice() == row.3)
 }
 
 #[test]
 fn long_lines(rt: HostRuntime) -> Result<(), Fail> {
-    assert_eq!(rt; first_wrong(rt.alloc())?, None);
+    assert_rows!(rt; ROWS, |row| is_told(rt.alloc(), row)?);
     Ok(())
 }
 
 /// Whether the longest line is read: a letter, its text, and the line behind it.
 fn is_longest_read(alloc: Global) -> Result<bool, NoMemory> {
-    let lines = lines_of(alloc, 1_023, b"\nb\n", 500)?;
+    let lines = lines_of(alloc, LINE_BYTES, b"\nb\n", 500)?;
     Ok(lines.len() == 1_028 && lines.as_slice().starts_with(b"Pa"))
 }
 

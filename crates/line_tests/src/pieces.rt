@@ -4,6 +4,7 @@ use crate::telling::{lines_by_bytes, told, whole_lines};
 use fics_words::NoMemory;
 use std::alloc::Global;
 use std::test::Fail;
+use test_steps::{assert_rows, least_wrong};
 
 /// A link's bytes: telnet units, a stamped line, an acknowledgement, a spoiled stamped line, and an open end.
 const LINK: &[u8] = b"\xFF\xFD\x01gu\xFF\xFB\x0Aest\r\n\
@@ -37,16 +38,9 @@ const ROWS: &[Row] = &[
     (b"fl\xFF\xFD\x01ag\n", b"Pflag\n"),
 ];
 
-/// The place of the first row with other lines, and where it was cut, if there is one.
-fn first_wrong(alloc: Global) -> Result<Option<(usize, usize)>, NoMemory> {
-    for (place, (bytes, lines)) in ROWS.iter().enumerate() {
-        for cut in 0..=bytes.len() {
-            if !is_told(alloc, bytes, cut, lines)? {
-                return Ok(Some((place, cut)));
-            }
-        }
-    }
-    Ok(None)
+/// Where the row, cut in two, has other lines, if there is such a place.
+fn first_wrong_cut(alloc: Global, row: &(&[u8], &[u8])) -> Result<Option<usize>, NoMemory> {
+    Ok(least_wrong!(0..=row.0.len(), |cut| is_told(alloc, row.0, cut, row.1)?))
 }
 
 fn is_told(alloc: Global, bytes: &[u8], cut: usize, lines: &[u8]) -> Result<bool, NoMemory> {
@@ -56,7 +50,7 @@ fn is_told(alloc: Global, bytes: &[u8], cut: usize, lines: &[u8]) -> Result<bool
 
 #[test]
 fn each_cut(rt: HostRuntime) -> Result<(), Fail> {
-    assert_eq!(rt; first_wrong(rt.alloc())?, None);
+    assert_rows!(rt; ROWS, |row| first_wrong_cut(rt.alloc(), row)?.is_none());
     Ok(())
 }
 
@@ -116,12 +110,7 @@ fn is_prefix_told(alloc: Global, text: &[u8], end: usize) -> Result<bool, NoMemo
 
 /// The length of the first prefix of a text with other lines, if there is one.
 fn first_wrong_prefix(alloc: Global, text: &[u8]) -> Result<Option<usize>, NoMemory> {
-    for end in 0..=text.len() {
-        if !is_prefix_told(alloc, text, end)? {
-            return Ok(Some(end));
-        }
-    }
-    Ok(None)
+    Ok(least_wrong!(0..=text.len(), |end| is_prefix_told(alloc, text, end)?))
 }
 
 fn first_wrong_end(alloc: Global) -> Result<Option<usize>, NoMemory> {

@@ -52,7 +52,7 @@ fn is_end(left: &[u8], letters: &[u8]) -> bool {
 }
 
 /// The first place and byte with other lines, if there are such.
-fn first_wrong(alloc: Global) -> Result<Option<(usize, u8)>, NoMemory> {
+fn first_wrong_byte(alloc: Global) -> Result<Option<(usize, u8)>, NoMemory> {
     for place in 0..LETTERS.len() {
         for byte in 0..=255 {
             if !is_read(alloc, place, byte)? {
@@ -74,6 +74,6 @@ fn is_read(alloc: Global, place: usize, byte: u8) -> Result<bool, NoMemory> {
 
 #[test]
 fn each_byte(rt: HostRuntime) -> Result<(), Fail> {
-    assert_eq!(rt; first_wrong(rt.alloc())?, None);
+    assert_eq!(rt; first_wrong_byte(rt.alloc())?, None);
     Ok(())
 }

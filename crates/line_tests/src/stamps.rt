@@ -4,6 +4,7 @@ use fics_words::NoMemory;
 use stamp_codec::{Sealed, seal, span, unseal};
 use std::alloc::Global;
 use std::test::Fail;
+use test_steps::assert_rows;
 
 /// The letter `a` with stamp 0.
 const LETTER: &[u8] = b"\xC5\xD1\xBC\xDC\xA2\xA5\xB0\xBC\xA1\x70\x79\x87\x80\n";
@@ -53,19 +54,9 @@ fn is_read(alloc: Global, line: &[u8], wanted: &Read) -> Result<bool, NoMemory> 
     Ok(is_found(unseal(&mut raw), wanted))
 }
 
-/// The place of the first line that is read as something else, if there is one.
-fn first_wrong(alloc: Global) -> Result<Option<usize>, NoMemory> {
-    for (place, (line, wanted)) in ROWS.iter().enumerate() {
-        if !is_read(alloc, line, wanted)? {
-            return Ok(Some(place));
-        }
-    }
-    Ok(None)
-}
-
 #[test]
 fn lines_are_unsealed(rt: HostRuntime) -> Result<(), Fail> {
-    assert_eq!(rt; first_wrong(rt.alloc())?, None);
+    assert_rows!(rt; ROWS, |(line, wanted)| is_read(rt.alloc(), line, wanted)?);
     Ok(())
 }
 

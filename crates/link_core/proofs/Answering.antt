@@ -9,9 +9,8 @@ use Rattle.session_core.specs.declared.input.Input.{Input}
 use Rattle.session_core.specs.declared.input.Input.TheVariants.{Line}
 use Rattle.link_core.specs.declared.link_end.LinkEnd.TheVariants as end
 use Rattle.link_core.specs.Arrivals.{bytes_of, inputs_behind, inputs_of}
-use Rattle.link_core.specs.Laws.{AnswersAll, AnswersEachLine}
-use Rattle.link_core.specs.Served.{ServedWhole, TakesFrom}
-use Rattle.link_core.specs.Laws.{telling}
+use Rattle.link_core.specs.Laws.{AnswersAll, AnswersEachLine, handed_over}
+use Rattle.link_core.specs.ServedWhole.{ServedWhole, TakesFrom}
 use Rattle.link_core.proofs.Arriving.{come_end, more_open}
 
 -- the inputs of what was taken begin those of all that the link had
@@ -44,32 +43,32 @@ too_many : (taken : List Sign) (is_ended : Bool) (old new : Tale) → TakesFrom 
 too_many taken is_ended old new t many few = omega (arith, many, few, ap length t.left_is, length-append taken new.left)
 
 module _ (shows : ℕ → Bool) (session : ℕ) (entries : Log) (old new : Tale) (before now : ℕ) where
-  at_end : ServedWhole shows session end.End entries (telling old before) (telling new now) → AnswersAll shows session entries old new
+  at_end : ServedWhole shows session end.End entries (handed_over old before) (handed_over new now) → AnswersAll shows session entries old new
   at_end s = record {
-    inputs = s.told.inputs;
-    made = s.told.made;
-    pieces = s.told.pieces;
-    memory = s.told.memory;
-    later = s.told.later;
+    inputs = s.talk.inputs;
+    made = s.talk.made;
+    pieces = s.talk.pieces;
+    memory = s.talk.memory;
+    later = s.talk.later;
     talked = s.acts.talked;
     leaves = s.acts.leaves;
     all = s.acts.all;
     written = s.wrote.on_link ∙ ap (λ (l : List ℕ). old.written ++ l) s.wrote.text;
-    whole = inl (all_inputs s.told.inputs s.told.taken s.told.is_ended old new s.took s.ended s.acts.answered);
+    whole = inl (all_inputs s.talk.inputs s.talk.taken s.talk.is_ended old new s.took s.ended s.acts.answered);
   }
 
-  at_quit : ServedWhole shows session end.Quit entries (telling old before) (telling new now) → AnswersAll shows session entries old new
+  at_quit : ServedWhole shows session end.Quit entries (handed_over old before) (handed_over new now) → AnswersAll shows session entries old new
   at_quit s = record {
-    inputs = s.told.inputs;
-    made = s.told.made;
-    pieces = s.told.pieces;
-    memory = s.told.memory;
-    later = s.told.later;
+    inputs = s.talk.inputs;
+    made = s.talk.made;
+    pieces = s.talk.pieces;
+    memory = s.talk.memory;
+    later = s.talk.later;
     talked = s.acts.talked;
     leaves = s.acts.leaves;
     all = s.acts.all;
     written = s.wrote.on_link ∙ ap (λ (l : List ℕ). old.written ++ l) s.wrote.text;
-    whole = inr (first_of_all s.told.inputs s.told.taken s.told.is_ended old new s.took s.acts.answered, s.ended);
+    whole = inr (first_of_all s.talk.inputs s.talk.taken s.talk.is_ended old new s.took s.acts.answered, s.ended);
   }
 
 pub answers_each_line : AnswersEachLine
@@ -77,5 +76,5 @@ answers_each_line shows mark session end.Quit entries old new before now s short
 answers_each_line shows mark session end.End entries old new before now s short calm few = at_end shows session entries old new before now s
 answers_each_line shows mark session end.ReadFault entries old new before now s short calm few = absurd (calm s.ended)
 answers_each_line shows mark session end.WriteFault entries old new before now s short calm few = absurd (calm s.ended)
-answers_each_line shows mark session end.Spent entries old new before now s short calm few = absurd (too_many s.told.taken s.told.is_ended old new s.took s.ended few)
+answers_each_line shows mark session end.Spent entries old new before now s short calm few = absurd (too_many s.talk.taken s.talk.is_ended old new s.took s.ended few)
 answers_each_line shows mark session end.Memory entries old new before now s short calm few = absurd (short refl)

@@ -17,7 +17,9 @@ use Rattle.session_core.proofs.Going.{made_then, same_mark, same_number}
 use Rattle.link_core.specs.declared.link_end.LinkEnd.{LinkEnd}
 use Rattle.link_core.specs.declared.link_end.LinkEnd.TheVariants as end
 use Rattle.link_core.specs.Arrivals.{inputs_of}
-use Rattle.link_core.specs.Served.{Dialogue, AnswersFirst, HasEnded, HasClosed, LastRead, LeavesWhole, LeavesInPart, LeavesShort, NotRead, QuitsShort, ServedInPart, ServedWhole, Serves, TakesFrom, WasServed, WroteAnswers}
+use Rattle.link_core.specs.ServedWhole.{Dialogue, AnswersFirst, HasEnded, HasClosed, LastRead, LeavesWhole, NotRead, ServedWhole, TakesFrom, WroteAnswers}
+use Rattle.link_core.specs.ServedInPart.{LeavesInPart, LeavesShort, QuitsShort, ServedInPart, WasServed}
+use Rattle.link_core.specs.Serving.{ServesLink}
 use Rattle.link_core.specs.Steps.{Behind, EndsReading, OnFault, Stand, Stops}
 use Rattle.link_core.specs.Talk.{IsShown}
 use Rattle.link_core.proofs.Tales.{both_then}
@@ -47,13 +49,13 @@ none_left mark memory session moment es gone p =
     none_left_in (has_entered memory) mark (leaving memory) memory session moment es (out_not_in memory.standing gone) p
 
 -- the link's count says why the reading ended, where that was a fault
-ended : (end : LinkEnd) (told : Dialogue) (before after : ℕ) → EndsReading end told.taken told.is_ended told.memory → OnFault (Err end) (Rose before after) → HasEnded end told before after
-ended end.Quit told before after e c = e
-ended end.End told before after e c = e
-ended end.ReadFault told before after e c = c
-ended end.WriteFault told before after e c = c
-ended end.Spent told before after e c = e
-ended end.Memory told before after e c = tt
+ended : (end : LinkEnd) (talk : Dialogue) (before after : ℕ) → EndsReading end talk.taken talk.is_ended talk.memory → OnFault (Err end) (Rose before after) → HasEnded end talk before after
+ended end.Quit talk before after e c = e
+ended end.End talk before after e c = e
+ended end.ReadFault talk before after e c = c
+ended end.WriteFault talk before after e c = c
+ended end.Spent talk before after e c = e
+ended end.Memory talk before after e c = tt
 
 module _ (shows : ℕ → Bool) (start now : Stand) (new : RunnerState) (link : Option Tale) (closes : Both now.link link Closes) (faults faults' : ℕ) where
   read_closed : (session : ℕ) (taken : List Sign) (e : Bool) (made left : Log) (written : List ℕ) → NotRead taken e start.link now.link ⊎ LastRead shows session taken made written start.link now.link
@@ -82,8 +84,8 @@ module _ (shows : ℕ → Bool) (start now : Stand) (new : RunnerState) (link : 
   last = record { tale = link; faults = faults' }
 
   -- what there is to tell of it, and what the session made
-  abbrev all_told : (end : LinkEnd) → Stops shows end start now → Log → Dialogue
-  all_told end s left = record {
+  abbrev all_said : (end : LinkEnd) → Stops shows end start now → Log → Dialogue
+  all_said end s left = record {
     taken = s.taken;
     is_ended = s.is_ended;
     inputs = s.inputs;
@@ -102,7 +104,7 @@ module _ (shows : ℕ → Bool) (start now : Stand) (new : RunnerState) (link : 
     none_left = λ e. ap (λ (t : Tale). t.left) q ∙ p.none_left e;
   })
 
-  has_written : (end : LinkEnd) (s : Stops shows end start now) (left : Log) → WroteAnswers end (all_told end s left) start.link link
+  has_written : (end : LinkEnd) (s : Stops shows end start now) (left : Log) → WroteAnswers end (all_said end s left) start.link link
   has_written end s left = record {
     text = s.writes;
     on_link = both_then start.link now.link link s.tells closes (λ x y z p q. ap (λ (t : Tale). t.written) q ∙ p.written_is);
@@ -114,7 +116,7 @@ module _ (shows : ℕ → Bool) (start now : Stand) (new : RunnerState) (link : 
   made_all : (end : LinkEnd) (s : Stops shows end start now) (left : Log) → (s.made ++ s.begun) ++ left ≡ s.made ++ (s.begun ++ left)
   made_all end s left = append_assoc s.made s.begun left
 
-  has_read : (end : LinkEnd) (s : Stops shows end start now) (left : Log) → AnswersFirst shows start.state.number (all_told end s left) (s.made ++ (s.begun ++ left)) start.link link
+  has_read : (end : LinkEnd) (s : Stops shows end start now) (left : Log) → AnswersFirst shows start.state.number (all_said end s left) (s.made ++ (s.begun ++ left)) start.link link
   has_read end s left =
       subst (λ (l : Log). NotRead s.taken s.is_ended start.link link ⊎ LastRead shows start.state.number s.taken l s.written start.link link) (made_all end s left)
       (read_closed start.state.number s.taken s.is_ended (s.made ++ s.begun) left s.written s.read)
@@ -126,27 +128,27 @@ module _ (shows : ℕ → Bool) (start now : Stand) (new : RunnerState) (link : 
   whole : (end : LinkEnd) (s : Stops shows end start now) (left : Log) → OnFault (Err end) (Rose faults faults') → LeavesWhole shows start.state.number s.memory (s.begun ++ left)
       → ServedWhole shows start.state.number end (s.made ++ (s.begun ++ left)) first last
   whole end s left cause leaves = record {
-    told = all_told end s left;
+    talk = all_said end s left;
     took = has_taken end s;
     acts = record { answered = s.come; talked = s.talked; all = refl; leaves = leaves };
     wrote = has_written end s left;
     read = has_read end s left;
     closed = is_closed end s;
-    ended = ended end (all_told end s left) faults faults' s.ends cause;
+    ended = ended end (all_said end s left) faults faults' s.ends cause;
   }
 
   -- and one that was served in part
-  part : (end : LinkEnd) (s : Stops shows end start now) (left : Log) → OnFault (Err end) (Rose faults faults') → LeavesInPart end shows start.state.mark start.state.number (all_told end s left)
+  part : (end : LinkEnd) (s : Stops shows end start now) (left : Log) → OnFault (Err end) (Rose faults faults') → LeavesInPart end shows start.state.mark start.state.number (all_said end s left)
       → ServedInPart shows start.state.mark start.state.number (s.made ++ (s.begun ++ left)) first last
   part end s left cause leaves = record {
-    told = all_told end s left;
+    talk = all_said end s left;
     stopped = end;
     took = has_taken end s;
     acts = record { answered = s.come; talked = s.talked; all = refl; leaves = leaves };
     wrote = has_written end s left;
     read = has_read end s left;
     closed = is_closed end s;
-    ended = ended end (all_told end s left) faults faults' s.ends cause;
+    ended = ended end (all_said end s left) faults faults' s.ends cause;
   }
 
   -- the session left in full behind what it answered
@@ -165,7 +167,7 @@ module _ (shows : ℕ → Bool) (start now : Stand) (new : RunnerState) (link : 
   -- the session left, but for what ran out of memory, where memory had run out before
   left_broke : (s : Stops shows end.Memory start now) (left : Log) (moment : ℕ) → IsShown shows moment → Passes start.state.mark (departing now.memory) start.state.number moment left
       → Behind end.Memory shows start.state.mark start.state.number s.inputs (inputs_of s.taken s.is_ended) s.memory now.memory s.begun
-      → LeavesInPart end.Memory shows start.state.mark start.state.number (all_told end.Memory s left)
+      → LeavesInPart end.Memory shows start.state.mark start.state.number (all_said end.Memory s left)
   left_broke s left moment shown passes (inl b) = inl (record {
     begun = s.begun;
     left = left;
@@ -203,7 +205,7 @@ module _ (shows : ℕ → Bool) (start now : Stand) (new : RunnerState) (link : 
       (subst (λ (m : Bool). Passes m (departing now.memory) now.state.number moment left) (mark_here end s) p)
 
   parts_short : (e : LinkEnd) (s : Stops shows e start now) (left : Log) (moment : ℕ) → IsShown shows moment → Passes start.state.mark (departing now.memory) start.state.number moment left
-      → LeavesInPart e shows start.state.mark start.state.number (all_told e s left)
+      → LeavesInPart e shows start.state.mark start.state.number (all_said e s left)
   parts_short end.Memory s left moment shown p = left_broke s left moment shown p s.behind
   parts_short end.Quit s left moment shown p = left_short s.begun left s.memory moment shown p s.behind
   parts_short end.End s left moment shown p = left_short s.begun left s.memory moment shown p s.behind
@@ -229,7 +231,7 @@ module _ (shows : ℕ → Bool) (start now : Stand) (new : RunnerState) (link : 
       whole end.Spent s l.entries cause (left_whole s.begun l.entries s.memory after moment shown s.behind (number_here end.Spent s) l.follows)
 
   pub serves_left : (e : LinkEnd) (moment : ℕ) (after : MemoryState) → Stops shows e start now → IsShown shows moment → OnFault (Err e) (Rose faults faults') → Left (departing now.memory) moment now.state new after
-      → Serves shows e start.state (record { tale = start.link; faults = faults }) new (record { tale = link; faults = faults' })
+      → ServesLink shows e start.state (record { tale = start.link; faults = faults }) new (record { tale = link; faults = faults' })
   serves_left e moment after s shown cause l = record {
     entries = s.made ++ (s.begun ++ l.entries);
     grew = has_grown e s l.entries l.grew;
@@ -238,7 +240,7 @@ module _ (shows : ℕ → Bool) (start now : Stand) (new : RunnerState) (link : 
 
   -- an act of leaving ran out of memory
   pub serves_short : (e : LinkEnd) (moment : ℕ) → Stops shows e start now → IsShown shows moment → OnFault (Err e) (Rose faults faults') → LeftInPart (departing now.memory) moment now.state new
-      → Serves shows end.Memory start.state (record { tale = start.link; faults = faults }) new (record { tale = link; faults = faults' })
+      → ServesLink shows end.Memory start.state (record { tale = start.link; faults = faults }) new (record { tale = link; faults = faults' })
   serves_short e moment s shown cause l = record {
     entries = s.made ++ (s.begun ++ l.entries);
     grew = has_grown e s l.entries l.grew;

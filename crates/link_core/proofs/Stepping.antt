@@ -22,7 +22,7 @@ use Rattle.session_core.proofs.Going.{made_none, made_then, same_mark, same_numb
 use Rattle.link_core.specs.declared.link_end.LinkEnd.{LinkEnd}
 use Rattle.link_core.specs.declared.link_end.LinkEnd.TheVariants as end
 use Rattle.link_core.specs.Arrivals.{bytes_of, inputs_of, lines_behind}
-use Rattle.link_core.specs.Served.{Covers, HasWritten, LastRead, NotRead, WritesPart}
+use Rattle.link_core.specs.ServedWhole.{Covers, HasWritten, LastRead, NotRead, WritesPart}
 use Rattle.link_core.specs.Steps.{AfterAnswer, AfterStep, AfterWrite, AnsweredPart, AnsweredWhole, Behind, Halfway, IsDrained, Progress, Stand, EndsReading, Stops, TellsOpen, Written, WrittenPart}
 use Rattle.link_core.specs.Talk.{Answers, IsShown, Talks, joined}
 use Rattle.link_core.proofs.Arriving.{behind_reader, bytes_more, bytes_pause, come_bytes, come_end, come_pause, fed_lines, fed_rest}

@@ -3,7 +3,7 @@ use Rattle.std.proofs.Common.{◌≡◌, ℕ, Bool, List, [], ◌++◌, take, dr
 use Rattle.std.specs.declared.option.Option.{Option}
 use Rattle.std.specs.declared.option.Option.TheVariants.{None, Some}
 use Rattle.edge_traits.specs.Link.{Both, Sign, Tale, Writes}
-use Rattle.edge_traits.specs.declared.sink.Sent.TheVariants.{All, Failed, Memory}
+use Rattle.edge_traits.specs.declared.sink.Sent.TheVariants.{Failed, Memory}
 use Rattle.histories.specs.History.{IsPrefix}
 use Rattle.link_core.specs.Steps.{TellsOpen, Written, WrittenPart}
 

@@ -10,12 +10,13 @@ use Rattle.session_core.specs.Texts.{opening_text}
 use Rattle.link_core.specs.declared.link_end.LinkEnd.{LinkEnd}
 use Rattle.link_core.specs.declared.link_end.LinkEnd.TheVariants.{ReadFault, WriteFault, Memory}
 use Rattle.link_core.specs.Arrivals.{inputs_of}
-use Rattle.link_core.specs.Served.{LeavesWhole, WasServed}
+use Rattle.link_core.specs.ServedWhole.{LeavesWhole}
+use Rattle.link_core.specs.ServedInPart.{WasServed}
 use Rattle.link_core.specs.Talk.{Talks, joined}
 
 -- a link that tells, and has counted so many faults
-abbrev pub telling : Tale → ℕ → Handed
-telling tale faults = record { tale = Some tale; faults = faults }
+abbrev pub handed_over : Tale → ℕ → Handed
+handed_over tale faults = record { tale = Some tale; faults = faults }
 
 -- a link is said to have failed only where its count rose: none is hung up at once under that name
 abbrev pub FaultsAreCounted : Type 0
@@ -28,7 +29,7 @@ FaultsAreCounted =
 abbrev pub KeepsItsSigns : Type 0
 KeepsItsSigns =
     (shows : ℕ → Bool) (mark : Bool) (session : ℕ) (end : LinkEnd) (entries : Log) (old new : Tale)
-    (before now : ℕ) → WasServed shows mark session end entries (telling old before) (telling new now)
+    (before now : ℕ) → WasServed shows mark session end entries (handed_over old before) (handed_over new now)
     → new.taken ++ new.left ≡ old.taken ++ old.left
 
 -- a link was written the whole opening, behind what it had been written
@@ -39,18 +40,20 @@ WasGreeted old new = IsPrefix (old.written ++ opening_text) new.written
 abbrev pub IsGreeted : Type 0
 IsGreeted =
     (shows : ℕ → Bool) (mark : Bool) (session : ℕ) (end : LinkEnd) (entries : Log) (old new : Tale)
-    (before now : ℕ) → WasServed shows mark session end entries (telling old before) (telling new now)
+    (before now : ℕ) → WasServed shows mark session end entries (handed_over old before) (handed_over new now)
     → end ≢ WriteFault → end ≢ Memory → WasGreeted old new
 
 -- Everything that comes over a link is answered: each line and each pause that it had to give, up to its end or up to
 -- an answered quit. For these the session made the acts of its course, in their order and each once, and behind them
 -- those of leaving; and behind what the link had been written stands the opening, and then the whole answer to each
 pub record AnswersAll (shows : ℕ → Bool) (session : ℕ) (entries : Log) (old new : Tale) : Type 0 where
+  -- there is
   pub inputs : List Input
   pub made : Log
   pub pieces : List (List ℕ)
   pub memory : MemoryState
   pub later : Log
+  -- such that
   pub talked : Talks shows session inputs newcomer made pieces memory
   pub leaves : LeavesWhole shows session memory later
   pub all : entries ≡ made ++ later
@@ -63,5 +66,5 @@ pub record AnswersAll (shows : ℕ → Bool) (session : ℕ) (entries : Log) (ol
 abbrev pub AnswersEachLine : Type 0
 AnswersEachLine =
     (shows : ℕ → Bool) (mark : Bool) (session : ℕ) (end : LinkEnd) (entries : Log) (old new : Tale)
-    (before now : ℕ) → WasServed shows mark session end entries (telling old before) (telling new now)
+    (before now : ℕ) → WasServed shows mark session end entries (handed_over old before) (handed_over new now)
     → end ≢ Memory → ¬ Rose before now → length old.left < 2 ^ 40 → AnswersAll shows session entries old new

@@ -1,5 +1,7 @@
 pub mod Arrivals
 pub mod Laws
 pub mod Talk
-pub mod Served
+pub mod ServedWhole
+pub mod ServedInPart
+pub mod Serving
 pub mod Steps

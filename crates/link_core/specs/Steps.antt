@@ -15,7 +15,8 @@ use Rattle.session_core.specs.Texts.{opening_text}
 use Rattle.link_core.specs.declared.link_end.LinkEnd.{LinkEnd}
 use Rattle.link_core.specs.declared.link_end.LinkEnd.TheVariants.{Quit, End, ReadFault, WriteFault, Spent, Memory}
 use Rattle.link_core.specs.Arrivals.{bytes_of, inputs_of}
-use Rattle.link_core.specs.Served.{Covers, HasWritten, IsMidway, LastRead, NotRead, QuitsShort}
+use Rattle.link_core.specs.ServedWhole.{Covers, HasWritten, LastRead, NotRead}
+use Rattle.link_core.specs.ServedInPart.{IsMidway, QuitsShort}
 use Rattle.link_core.specs.Talk.{Answers, IsShown, Talks, joined}
 
 -- these bytes were written, and nothing else happened to the link

@@ -10,14 +10,16 @@ use Rattle.session_core.specs.Memory.{MemoryState, is_gone}
 abbrev pub IsShown : (ℕ → Bool) → ℕ → Type 0
 IsShown shows moment = (m : ℕ) × IsTrue (shows m) × (moment ≡ min m (2 ^ 48))
 
--- the session, which hadn't left, answered an input: it followed its course at a moment that the clock shows, with these
--- entries, and this is what it wrote and remembers
+-- the session, which hadn't left, answered an input: it followed its course at a moment that the clock shows, with
+-- these entries, and this is what it wrote and remembers
 pub record Answers (shows : ℕ → Bool) (session : ℕ) (input : Input) (before : MemoryState) (made : Log)
     (piece : List ℕ) (after : MemoryState) : Type 0 where
-  pub here : is_gone before ≡ false
+  -- there is
   pub moment : ℕ
-  pub shown : IsShown shows moment
   pub text : List ℕ
+  -- such that
+  pub here : is_gone before ≡ false
+  pub shown : IsShown shows moment
   pub follows : Follows (input_course input before) session moment made text after
   pub wrote : piece ≡ answer_text input before after text
 

@@ -1,7 +1,7 @@
 //! A link from its opening to its end.
 ghost use Rattle.std.specs.Prelude.{◌≡◌, ◌≤◌};
 ghost use Rattle.edge_traits.specs.Faults.{Rose};
-ghost use Rattle.link_core.specs.Served.{Serves};
+ghost use Rattle.link_core.specs.Serving.{ServesLink};
 
 use crate::converse::converse;
 use crate::link_end::LinkEnd;
@@ -24,7 +24,7 @@ pub fn serve_link<R: Runner, L: Link, C: Clock>(
     clock: &C,
 ) -> LinkEnd
     ensures home { R.home r.new ≡ R.home r.old }
-    ensures served { Serves (C.shows clock.now) result
+    ensures served { ServesLink (C.shows clock.now) result
         (R.state r.old) (record { tale = L.tale link.old; faults = L.faults link.old })
         (R.state r.new) (record { tale = L.tale link.new; faults = L.faults link.new }) }
     ensures read_fault { result ≡ LinkEnd.ReadFault → Rose (L.faults link.old) (L.faults link.new) }

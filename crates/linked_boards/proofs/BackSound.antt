@@ -1,7 +1,6 @@
 -- Boards from which half-moves were taken back are sound, and none of them is at an end.
-use Rattle.std.proofs.Common.{◌≡◌, ◌≢◌, ℕ, ◌-◌, ◌≤◌, ◌<◌, zero, suc, Bool, true, false, ◌||◌, nat_eq, nat_lt, if◌then◌else◌, List, [], ◌∷◌, ◌++◌, map, length, drop, take, refl, sym, ap, subst, ◌∙◌, append_assoc, arith}
+use Rattle.std.proofs.Common.{◌≡◌, ◌≢◌, ℕ, ◌-◌, ◌≤◌, ◌<◌, zero, suc, Bool, true, false, if◌then◌else◌, List, [], ◌∷◌, ◌++◌, map, length, drop, take, refl, sym, ap, subst, ◌∙◌, append_assoc, arith}
 use Rattle.std.specs.List.{AllByRecursion}
-use Rattle.std.proofs.lemmas.Bool.Decides.{nat_tests}
 use Rattle.std.proofs.lemmas.List.{length-map, map-append}
 use Rattle.std.proofs.lemmas.List.Elements.{All-nil, All-cons, All-head}
 use Rattle.chess_model.specs.declared.variant.Terms.{Terms}
@@ -12,7 +11,7 @@ use Rattle.game_board.specs.declared.played.Played.{Played}
 use Rattle.game_board.specs.Board.{Board, half_moves, position_of}
 use Rattle.game_board.specs.Scoresheet.{IsTrueScore}
 use Rattle.game_board.specs.TakeBack.{has_too_few, take_back_after, taken_back}
-use Rattle.game_board.proofs.ScoreTakenBack.{IsTrueScore-take_back_after}
+use Rattle.game_board.proofs.ScoreTakenBack.{IsTrueScore-take_back_after, take_and_drop, enough_some, enough_within}
 use Rattle.game_records.specs.declared.stored_game.Half.{Half}
 use Rattle.game_records.specs.Bounds.{IsHalf}
 use Rattle.game_records.specs.Replays as replays
@@ -48,11 +47,6 @@ each-take P zero xs h = tt
 each-take P (suc n) [] h = tt
 each-take P (suc n) (x ∷ xs) h = (h.0, each-take P n xs h.1)
 
-take-drop : {X : Type 0} (n : ℕ) (xs : List X) → take n xs ++ drop n xs ≡ xs
-take-drop zero xs = refl
-take-drop (suc n) [] = refl
-take-drop (suc n) (x ∷ xs) = ap (λ ys. x ∷ ys) (take-drop n xs)
-
 -- the half-move behind the first so many
 next_of : {X : Type 0} (n : ℕ) (xs : List X) → n < length xs → (x : X) × (more : List X) × (xs ≡ take n xs ++ x ∷ more)
 next_of n [] less = absurd (omega (arith, less))
@@ -66,7 +60,7 @@ pub played_before : (t : Terms) (n : ℕ) (halves : List Half) → CanBePlayed t
 played_before t n halves played = record {
   each = λ before after h e.
       played.each before (after ++ drop n halves) h
-      (sym (take-drop n halves) ∙ ap (λ (hs : List Half). hs ++ drop n halves) e ∙ append_assoc before (h ∷ after) (drop n halves));
+      (sym (take_and_drop n halves) ∙ ap (λ (hs : List Half). hs ++ drop n halves) e ∙ append_assoc before (h ∷ after) (drop n halves));
 }
 
 -- ---- what a board and the board with half-moves taken back have alike
@@ -140,12 +134,6 @@ goes_cut t b c s cut less =
     subst GoesOn (here ∙ there) comes.follows.going
 
 -- ---- taking back
-
-enough_some : (n m : ℕ) → (nat_eq n 0 || nat_lt m n) ≡ false → 1 ≤ n
-enough_some n m e = grind (arith, nat_tests)
-
-enough_within : (n m : ℕ) → (nat_eq n 0 || nat_lt m n) ≡ false → n ≤ m
-enough_within n m e = grind (arith, nat_tests)
 
 record IsBack (t : Terms) (b c : Board) : Type 0 where
   sound : AreSoundBoards t (c ∷ [])

@@ -1,25 +1,18 @@
 -- Names that differ: the first one from each of the others, and these from one another.
-use Rattle.std.proofs.Common.{◌≡◌, ℕ, ◌||◌, Bool, true, false, List, [], ◌∷◌, map, length, bytes_eq, refl}
+use Rattle.std.proofs.Common.{◌≡◌, ℕ, Bool, true, false, List, [], ◌∷◌, map, length, bytes_eq, refl}
 use Rattle.std.specs.Prelude.{◌↔◌}
 use Rattle.std.specs.List.{AllByRecursion, IsDistinct, list_any}
 use Rattle.fics_words.specs.Handle.{key_of}
-
-neither : (a b : Bool) → (a || b) ≡ false → (a ≡ false) × (b ≡ false)
-neither true b e = cc
-neither false b e = (refl, e)
-
-none_of : (a b : Bool) → a ≡ false → b ≡ false → (a || b) ≡ false
-none_of true b h k = cc
-none_of false b h k = k
+use Rattle.std.proofs.lemmas.Bool.{or_parts, or_from}
 
 differs : (key : List ℕ) (names : List (List ℕ)) → (list_any (λ other. bytes_eq key (key_of other)) names ≡ false) ↔ AllByRecursion (λ other. bytes_eq key other ≡ false) (map key_of names)
 differs key [] = (λ e. tt, λ h. refl)
 differs key (name ∷ names) =
     let rest = differs key names in (
       λ e.
-          let parts = neither (bytes_eq key (key_of name)) (list_any (λ other. bytes_eq key (key_of other)) names) e in
+          let parts = or_parts (bytes_eq key (key_of name)) (list_any (λ other. bytes_eq key (key_of other)) names) e in
           (parts.0, rest.0 parts.1),
-      λ h. none_of (bytes_eq key (key_of name)) (list_any (λ other. bytes_eq key (key_of other)) names) h.0 (rest.1 h.1),
+      λ h. or_from (bytes_eq key (key_of name)) (list_any (λ other. bytes_eq key (key_of other)) names) h.0 (rest.1 h.1),
     )
 
 pub distinct_first : (name : List ℕ) (names : List (List ℕ)) → IsDistinct bytes_eq (map key_of (name ∷ names)) → list_any (λ other. bytes_eq (key_of name) (key_of other)) names ≡ false

@@ -1,5 +1,5 @@
 -- A board ends only by a half-move of its own: what comes into a hand ends nothing in bughouse.
-use Rattle.std.proofs.Common.{◌≡◌, ◌≢◌, ℕ, zero, suc, inl, inr, false, List, [], ◌∷◌, ◌++◌, Option, Some, None, Result, Ok, Err, IfSome, refl, sym, ap, subst, ◌∙◌, arith}
+use Rattle.std.proofs.Common.{◌≡◌, ℕ, zero, suc, inl, inr, false, List, [], ◌∷◌, ◌++◌, Option, Some, None, Result, Ok, Err, IfSome, refl, sym, ap, subst, ◌∙◌, arith}
 use Rattle.std.specs.Prelude.{slice_get}
 use Rattle.std.proofs.lemmas.List.Elements.{All-nil, All-cons}
 use Rattle.chess_model.specs.declared.hand.Hand.{Hand}
@@ -33,6 +33,7 @@ use Rattle.linked_boards.proofs.Pairs.{never_three, numbers_of_two}
 use Rattle.linked_boards.proofs.StartGoesOn.{start_goes}
 use Rattle.linked_boards.proofs.StaySound.{All-from, played_there, same_acknowledged}
 use Rattle.linked_boards.proofs.Stepped.{stepped}
+use Rattle.game_board.proofs.Received.{boards_differ}
 
 -- ---- hands
 
@@ -82,15 +83,12 @@ goes_still p white black pair goes =
 
 -- ---- what is learnt
 
-differ : (b : ℕ) → other_board b ≢ b
-differ b = λ e. omega arith
-
 pub learnt_goes : (b : Board) (m : Move) → b.terms.variant ≡ Bughouse → GoesOn (position_of b) → GoesOn (position_of (learnt b m))
 unfolding position_of
 learnt_goes b m pair goes =
     let p : Position = position_after b.terms.variant b.all b.number in
     let q : Position = position_after b.terms.variant (b.all ++ record { board = other_board b.number; what = m } ∷ []) b.number in
-    let same = other_board_stays b.terms.variant b.all (record { board = other_board b.number; what = m }) b.number (differ b.number) in
+    let same = other_board_stays b.terms.variant b.all (record { board = other_board b.number; what = m }) b.number (boards_differ b.number) in
     let is : q ≡ with_hands p q.white q.black = (λ i. record {
       variant = b.terms.variant;
       men = same.men i;

@@ -8,15 +8,12 @@ use Rattle.game_board.specs.declared.played.Played.{Played}
 use Rattle.game_records.specs.declared.stored_game.Half.{Half}
 use Rattle.game_records.specs.Replays.{half_moves}
 use Rattle.linked_boards.specs.Halves.{first_charge, half_of, halves_from, list_on, played_of}
+use Rattle.game_board.proofs.OwnMoves.{chosen}
 
 -- what holds of both sides of a choice, each where it is taken, holds of the choice
 pub by_choice : {X : Type 0} (P : X → Type 0) (b : Bool) (x y : X) → (b ≡ true → P x) → (b ≡ false → P y) → P (if b then x else y)
 by_choice P true x y left right = left refl
 by_choice P false x y left right = right refl
-
-chosen : {X : Type 0} (b : Bool) (x y : X) → b ≡ true → (if b then x else y) ≡ x
-chosen true x y e = refl
-chosen false x y e = cc
 
 unchosen : {X : Type 0} (b : Bool) (x y : X) → b ≡ false → (if b then x else y) ≡ y
 unchosen true x y e = cc

@@ -10,7 +10,6 @@ use Rattle.game_board.specs.Learn.{partner_position, captured_there, learnt}
 use Rattle.game_board.specs.Play.{captured, with_half_move}
 use Rattle.game_board.specs.declared.played.Played.{Played}
 use Rattle.game_board.specs.Put.{with_put}
-use Rattle.game_board.specs.Rewind.{rewound}
 use Rattle.linked_boards.specs.Linked.{AreLinked}
 
 -- the position on a board is that which the other one takes it to be

@@ -1,6 +1,6 @@
 -- The boards of a game after a word at one of them: what the other one learns of it was allowed, and they have one list.
 use Rattle.std.proofs.Common.{◌≡◌, ℕ, zero, suc, true, false, List, [], ◌∷◌, ◌++◌, map, Option, Some, None, Result, Ok, Err, refl, sym, ap, subst, ◌∙◌, arith}
-use Rattle.std.specs.Prelude.{IsSome, slice_get}
+use Rattle.std.specs.Prelude.{slice_get}
 use Rattle.std.specs.Option.{option_map}
 use Rattle.std.proofs.lemmas.List.Elements.{All-nil, All-cons, All-head}
 use Rattle.std.proofs.lemmas.Option.{slice_get-map}
@@ -18,9 +18,8 @@ use Rattle.game_board.specs.Board.{Board, position_of}
 use Rattle.game_board.specs.Learn.{partner_position}
 use Rattle.game_board.specs.Scoresheet.{IsTrueScore}
 use Rattle.game_board.proofs.Scoresheet.{IsTrueScore-learnt, allowed_by_answer}
-use Rattle.linked_boards.specs.Boards.{board_numbers, boards_after, changed_at, other_place, told_answer, word_at}
+use Rattle.linked_boards.specs.Boards.{board_numbers, told_answer, word_at}
 use Rattle.linked_boards.specs.Sound.{AreSame}
-use Rattle.linked_boards.proofs.BoardLists.{nothing-changed_at}
 
 -- the numbers of two boards, which are those of a pair
 pub numbers_of_two : (v : Variant) (b c : Board) → map (λ (x : Board). x.number) (b ∷ c ∷ []) ≡ board_numbers v → (v ≡ Bughouse) × (b.number ≡ 1) × (c.number ≡ 2)

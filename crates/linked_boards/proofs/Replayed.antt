@@ -41,6 +41,7 @@ use Rattle.linked_boards.proofs.Pairs.{never_three, number_at, numbers_of_two}
 use Rattle.linked_boards.proofs.SoundHalves.{all_of, never_none, number_of_one}
 use Rattle.linked_boards.proofs.StaySound.{All-from, halves_of-from, sound_start}
 use Rattle.linked_boards.proofs.Stepped.{AreSoundWith, sound_step, stepped}
+use Rattle.std.proofs.lemmas.Bool.{and_parts}
 
 -- ---- tests and what they say
 
@@ -54,11 +55,6 @@ going_is p e = negated (is_end (result p)) e
 going_says : (p : Position) → GoesOn p → not (is_end (result p)) ≡ true
 going_says p e = ap not e
 
-both_parts : (a b : Bool) → (a && b) ≡ true → (a ≡ true) × (b ≡ true)
-both_parts true true e = (refl, refl)
-both_parts true false e = cc
-both_parts false b e = cc
-
 four_true : (a b c d : Bool) → a ≡ true → b ≡ true → c ≡ true → d ≡ true → (a && b && c && d) ≡ true
 four_true true true true true h i j k = refl
 four_true true true true false h i j k = cc
@@ -69,7 +65,7 @@ four_true false b c d h i j k = cc
 not_so : false ≡ true → ⊥
 not_so e = cc
 
-chargeable : (o : Option Charge) → IsCharge o → IfSome o IsChargeable
+pub chargeable : (o : Option Charge) → IsCharge o → IfSome o IsChargeable
 chargeable None h = tt
 chargeable (Some c) h = h
 
@@ -161,7 +157,7 @@ step_taken t moment boards before zero p at charge e = absurd (no e)
   where
     no : (false && other_goes_on (numbered (other_board 0) boards)) ≡ true → ⊥
     no h = cc
-step_taken t moment boards before (suc k) p at charge e = on_board (slice_get boards k) refl (both_parts (own_takes (slice_get boards k) p) (other_goes_on (numbered (other_board (suc k)) boards)) e)
+step_taken t moment boards before (suc k) p at charge e = on_board (slice_get boards k) refl (and_parts (own_takes (slice_get boards k) p) (other_goes_on (numbered (other_board (suc k)) boards)) e)
   where
     on_board : (o : Option Board) → slice_get boards k ≡ o → (own_takes (slice_get boards k) p ≡ true) × (other_goes_on (numbered (other_board (suc k)) boards) ≡ true) →
         AreAt t moment (before ++ half_on (suc k) p ∷ []) (boards_put boards (suc k - 1) p)

@@ -15,6 +15,7 @@ use Rattle.linked_boards.proofs.BoardLists.{All-at}
 use Rattle.linked_boards.proofs.Pairs.{number_at}
 use Rattle.linked_boards.proofs.Replayed.{replayed_at, replayed_exactly, replayed_fresh, some_is}
 use Rattle.linked_boards.proofs.SoundHalves.{all_of, each_of}
+use Rattle.std.proofs.lemmas.Option.{same_Some}
 
 pub replayed_boards : (t : Terms) (halves : List Half) (moment : ℕ) → AllByRecursion (IsHalf t.variant) halves → IfSome (replayed t halves moment) (AreOf t halves moment)
 replayed_boards t halves moment each = found (replayed t halves moment) refl
@@ -36,13 +37,10 @@ pointwise change (c ∷ new) (b ∷ old) e h =
     let rest : new ≡ map change old = pointwise change new old (cc) (λ k x y f g. h (suc k) x y f g) in
     λ i. first i ∷ rest i
 
-same_number : (m n : ℕ) → Some m ≡ Some n → m ≡ n
-same_number m n e = cc
-
 same_at : (t : Terms) (moment : ℕ) (new old : List Board) → AreOf t (halves_of old) moment new → AreSoundBoards t old → (k : ℕ) (c b : Board) →
     slice_get new k ≡ Some c → slice_get old k ≡ Some b → c ≡ resumed_at moment b
 same_at t moment new old of s k c b here there =
-    let numbers : c.number ≡ b.number = same_number c.number b.number (sym (number_at t.variant new k c of.sound.numbers here) ∙ number_at t.variant old k b s.numbers there) in
+    let numbers : c.number ≡ b.number = same_Some c.number b.number (sym (number_at t.variant new k c of.sound.numbers here) ∙ number_at t.variant old k b s.numbers there) in
     let terms : c.terms ≡ b.terms = All-at (λ (x : Board). x.terms ≡ t) new k c of.sound.terms here ∙ sym (All-at (λ (x : Board). x.terms ≡ t) old k b s.terms there) in
     let list : c.list ≡ b.list =
     sym (All-at (λ (x : Board). list_on x.number (halves_of new) ≡ x.list) new k c (each_of t new of.sound) here)

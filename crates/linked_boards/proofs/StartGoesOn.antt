@@ -20,10 +20,9 @@ use Rattle.chess_model.specs.Placement.{Placement, man_at, IsHeldBy, IsHeldAs, u
 use Rattle.chess_model.specs.Position.{Position, position_after}
 use Rattle.chess_model.specs.Reach.{IsStep, Clear, Strikes}
 use Rattle.chess_model.specs.Result.{HasAnswer, IsState, is_end, result}
-use Rattle.chess_model.specs.Squares.{file_of, rank_of, square_at, ranks_apart, distance, toward, along}
+use Rattle.chess_model.specs.Squares.{file_of, square_at, ranks_apart, distance, toward, along}
 use Rattle.chess_model.specs.Tests.{squares}
-use Rattle.chess_model.proofs.Among.{list_all-each, Among-range}
-use Rattle.chess_model.proofs.Arrays.{eight}
+use Rattle.chess_model.proofs.Arrays.{eight, at_square, or_not-true, each_file, last_rank, first_rank}
 use Rattle.chess_model.proofs.HomeRanks.{home_rank_of}
 use Rattle.chess_model.proofs.StatesTold.{state_told}
 use Rattle.chess_model.proofs.TestsDecide.{Decides-held_by, Decides-held_as}
@@ -58,26 +57,6 @@ king_test P s = nat_lt s 8 || not (is_held_as White King (man_at P s))
 abbrev black_test : Placement → ℕ → Bool
 black_test P s = nat_le 48 s || not (is_held_by Black (man_at P s))
 
-at_square : (f : ℕ → Bool) → list_all f squares ≡ true → (s : ℕ) → s < 64 → f s ≡ true
-at_square f all s less = list_all-each f squares all s (Among-range 0 64 s (omega arith) (omega (arith, less)))
-
-from_or : (x y : Bool) → (x || not y) ≡ true → y ≡ true → x ≡ true
-from_or true y h e = refl
-from_or false true h e = h
-from_or false false h e = e
-
--- what holds of 0 to 7 holds of each file
-each_file : (P : ℕ → Type 0) → P 0 → P 1 → P 2 → P 3 → P 4 → P 5 → P 6 → P 7 → (file : ℕ) → file < 8 → P file
-each_file P a b c d e f g h zero n = a
-each_file P a b c d e f g h (suc zero) n = b
-each_file P a b c d e f g h (suc (suc zero)) n = c
-each_file P a b c d e f g h (suc (suc (suc zero))) n = d
-each_file P a b c d e f g h (suc (suc (suc (suc zero)))) n = e
-each_file P a b c d e f g h (suc (suc (suc (suc (suc zero))))) n = f
-each_file P a b c d e f g h (suc (suc (suc (suc (suc (suc zero)))))) n = g
-each_file P a b c d e f g h (suc (suc (suc (suc (suc (suc (suc zero))))))) n = h
-each_file P a b c d e f g h (suc (suc (suc (suc (suc (suc (suc (suc more)))))))) n = absurd (omega (arith, n))
-
 abbrev squares_tested : List Kind → Type 0
 squares_tested rank =
     (list_all (king_test (pushed rank)) squares ≡ true) × (list_all (black_test (pushed rank)) squares ≡ true)
@@ -99,19 +78,13 @@ are_placed rank size =
     let t = tested rank size in
     record {
       white_king = λ s less held.
-          ltb-true s 8 (from_or (nat_lt s 8) (is_held_as White King (man_at P s)) (at_square (king_test P) t.0 s less)
+          ltb-true s 8 (or_not-true (nat_lt s 8) (is_held_as White King (man_at P s)) (at_square (king_test P) t.0 s less)
           ((Decides-held_as White King (man_at P s)).1 held));
       black = λ s less held.
-          leb-true 48 s (from_or (nat_le 48 s) (is_held_by Black (man_at P s)) (at_square (black_test P) t.1 s less)
+          leb-true 48 s (or_not-true (nat_le 48 s) (is_held_by Black (man_at P s)) (at_square (black_test P) t.1 s less)
           ((Decides-held_by Black (man_at P s)).1 held));
       pawns = t.2;
     }
-
-last_rank : (a : ℕ) → 56 ≤ a → a < 64 → rank_of a ≡ 7
-last_rank a h l = omega arith
-
-first_rank : (s : ℕ) → s < 8 → rank_of s ≡ 0
-first_rank s h = omega arith
 
 seven_apart : (a s : ℕ) → 56 ≤ a → a < 64 → s < 8 → ranks_apart a s ≡ 7
 seven_apart a s h l m = (λ i. abs_diff (last_rank a h l i) (first_rank s m i))

@@ -142,7 +142,7 @@ sound_play t boards place moment c word stamp s goes order timely stamped =
 
 -- ---- an acknowledgement
 
-alike : {X : Type 0} (of : Board → X) (own : Bool) (b new : Board) → of new ≡ of b → of (if own then new else b) ≡ of b
+pub alike : {X : Type 0} (of : Board → X) (own : Bool) (b new : Board) → of new ≡ of b → of (if own then new else b) ≡ of b
 alike of true b new e = e
 alike of false b new e = refl
 

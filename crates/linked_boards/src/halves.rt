@@ -1,5 +1,5 @@
 //! The half-moves of a game as its record has them.
-ghost use Rattle.std.specs.Prelude.{◌≡◌, ◌++◌, ◌∷◌, [], IfOk, OnOk, drop};
+ghost use Rattle.std.specs.Prelude.{◌≡◌, [], IfOk, drop};
 ghost use Rattle.game_board.specs.Board.{made};
 ghost use Rattle.linked_boards.specs.Halves.{first_charge, half_of, halves_from, halves_of};
 

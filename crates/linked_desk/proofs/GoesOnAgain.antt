@@ -1,5 +1,5 @@
 -- Boards that were played again go on, if that does on which the last half-move was made.
-use Rattle.std.proofs.Common.{◌≡◌, ◌≤◌, ◌⊎◌, inl, inr, ℕ, zero, suc, ◌-◌, List, [], ◌∷◌, ◌++◌, length, length-append, All, Option, Some, None, IfSome, refl, sym, ap, subst, ◌∙◌, arith}
+use Rattle.std.proofs.Common.{◌≡◌, ◌≤◌, ◌⊎◌, inl, inr, ℕ, zero, suc, ◌-◌, List, [], ◌∷◌, ◌++◌, All, Option, Some, None, IfSome, refl, sym, ap, subst, ◌∙◌, arith}
 use Rattle.std.proofs.lemmas.List.{map-append}
 use Rattle.std.proofs.lemmas.List.Elements.{All-nil, All-cons}
 use Rattle.std.proofs.lemmas.Option.{slice_get-map}
@@ -18,7 +18,6 @@ use Rattle.game_records.specs.declared.stored_game.Half.{Half}
 use Rattle.game_records.specs.Bounds as bounds
 use Rattle.game_records.specs.Bounds.{IsHalf}
 use Rattle.game_records.specs.Replays.{CanBePlayed, GoesOn, MayCome, OtherGoesOn, half_moves, position_on}
-use Rattle.game_board.proofs.LastPlayed.{slice_get-append_end}
 use Rattle.game_records.proofs.Played.{by_steps}
 use Rattle.linked_boards.specs.Boards.{board_numbers, new_boards}
 use Rattle.linked_boards.specs.Halves.{halves_of}
@@ -28,6 +27,7 @@ use Rattle.linked_boards.proofs.Pairs.{number_at}
 use Rattle.linked_boards.proofs.SoundHalves.{all_of}
 use Rattle.linked_desk.specs.Restore.{last_place, place_on}
 use Rattle.linked_boards.proofs.GoingOn.{go_start, learnt_goes}
+use Rattle.game_board.proofs.Steps.{last_at}
 
 -- a list is empty, or there is a last item
 from_end : {X : Type 0} (xs : List X) → (xs ≡ []) ⊎ ((front : List X) × ((x : X) × (xs ≡ front ++ x ∷ [])))
@@ -37,11 +37,6 @@ from_end (x ∷ xs) =
       | inl none ↦ inr ([], (x, ap (λ ys. x ∷ ys) none))
       | inr some ↦ inr (x ∷ some.0, (some.1.0, ap (λ ys. x ∷ ys) some.1.1))
     ]
-
-last_is : {X : Type 0} (front : List X) (x : X) → slice_get (front ++ x ∷ []) (length (front ++ x ∷ []) - 1) ≡ Some x
-last_is front x =
-    let long : length (front ++ x ∷ []) - 1 ≡ length front = omega (arith, length-append front (x ∷ [])) in
-    ap (slice_get (front ++ x ∷ [])) long ∙ slice_get-append_end front x
 
 -- the position of a board of a sound game, by its record
 position_by : (t : Terms) (boards : List Board) (k : ℕ) (b : Board) → AreSoundBoards t boards → slice_get boards k ≡ Some b →
@@ -143,7 +138,7 @@ replayed_go_on t halves boards each played s made here =
           let front : List Half = some.0 in
           let h : Half = some.1.0 in
           let last : last_place halves ≡ Some (place_on h) =
-          ap last_place some.1.1 ∙ ap (option_map place_on) (last_is front h) in
+          ap last_place some.1.1 ∙ ap (option_map place_on) (last_at front h) in
           after_last t boards front h s (made ∙ some.1.1) (by_steps.last t front h (subst (CanBePlayed t) some.1.1 played))
           (last_half t.variant front h (subst (AllByRecursion (IsHalf t.variant)) some.1.1 each))
           (subst (GoesOnAt boards) last here)

@@ -13,13 +13,8 @@ use Rattle.linked_desk.specs.Seats.{place_of, colour_at}
 use Rattle.linked_desk.specs.Sound.{IsSound}
 use Rattle.linked_boards.proofs.BoardLists.{latest-changed_at}
 use Rattle.linked_desk.proofs.Keeps.{Keeps, IsSound-later, timely_at}
-use Rattle.linked_boards.proofs.StaySound.{sound_acked}
+use Rattle.linked_boards.proofs.StaySound.{sound_acked, alike}
 use Rattle.linked_boards.proofs.GoingOn.{go_acked}
-
--- what a board and the board with a stamp kept have alike, the acknowledged board has
-alike : {X : Type 0} (of : Board → X) (own : Bool) (b new : Board) → of new ≡ of b → of (if own then new else b) ≡ of b
-alike of true b new e = e
-alike of false b new e = refl
 
 same_acknowledged : {X : Type 0} (of : Board → X) (b : Board) (c : Colour) (stamp : ℕ) → of (record b { kept = Some stamp }) ≡ of b →
     of (acknowledged b c stamp) ≡ of b

@@ -10,10 +10,7 @@ use Rattle.linked_desk.specs.Leave.{forfeit, leave_effect, leaving_end, left_by,
 use Rattle.linked_desk.specs.Offering.{end_without_winner}
 use Rattle.linked_desk.specs.Sound.{IsSound, Names}
 use Rattle.linked_desk.proofs.Keeps.{Keeps, IsSound-ended_by, IsSound-later, timely_at}
-
-either_sound : (over : Bool) (g new : GameState) → IsSound g → IsSound new → IsSound (if over then g else new)
-either_sound true g new s t = s
-either_sound false g new s t = t
+use Rattle.linked_desk.proofs.KeepsOffers.{either_sound}
 
 either_occupant : (over : Bool) (g new : GameState) → occupant new ≡ occupant g → occupant (if over then g else new) ≡ occupant g
 either_occupant true g new e = refl

@@ -32,6 +32,7 @@ use Rattle.linked_desk.specs.Shelve.{names_in, shelved}
 use Rattle.linked_desk.specs.Sound.{IsSound}
 use Rattle.linked_desk.proofs.Shelved.{shelved_replays}
 use Rattle.linked_boards.proofs.Replayed.{replayed_at, replayed_exactly, replayed_fresh}
+use Rattle.std.proofs.lemmas.Option.{same_Some}
 
 -- an end changes neither the boards nor who plays
 same-with_end : {X : Type 0} (of : GameState → X) (desk : ℕ) (g : GameState) (moment : ℕ) (end : Option Ended) → ((e : Ended) → of (with_end desk g moment (Some e)) ≡ of g) →
@@ -88,9 +89,6 @@ stored d serial g seats moment r names =
     let boards = found g moment r in
     gets d serial g seats moment boards.0 boards.1 (IsOnAgain g moment) (on_again d serial g seats moment boards.0 boards.1 r names)
 
-some_same : (x y : ℕ) → Some x ≡ Some y → x ≡ y
-some_same x y e = cc
-
 -- two boards in the same place, of games with the same half-moves, on the same terms but for the colour
 position_same : (b c : Board) → c.terms ≡ uncoloured b.terms → c.all ≡ b.all → c.number ≡ b.number → position_of c ≡ position_of b
 unfolding position_of
@@ -105,7 +103,7 @@ as_before t before now place b c s n halves here there =
     let of_b : b.terms ≡ t = All-at (λ (x : Board). x.terms ≡ t) before place b s.terms here in
     let of_c : c.terms ≡ uncoloured t = All-at (λ (x : Board). x.terms ≡ uncoloured t) now place c n.terms there in
     let terms : c.terms ≡ uncoloured b.terms = of_c ∙ sym (ap uncoloured of_b) in
-    let number : c.number ≡ b.number = some_same c.number b.number (sym (number_at t.variant now place c n.numbers there) ∙ number_at t.variant before place b s.numbers here) in
+    let number : c.number ≡ b.number = same_Some c.number b.number (sym (number_at t.variant now place c n.numbers there) ∙ number_at t.variant before place b s.numbers here) in
     let all : c.all ≡ b.all =
     sym (All-at (λ (x : Board). half_moves (halves_of now) ≡ x.all) now place c (all_of (uncoloured t) now n) there)
     ∙ ap half_moves halves

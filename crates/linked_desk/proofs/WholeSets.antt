@@ -16,7 +16,7 @@ use Rattle.chess_model.specs.Position.{Position, position_after, hand_of_side}
 use Rattle.chess_model.proofs.Censuses.{census_kept}
 use Rattle.game_board.specs.Board.{Board, position_of}
 use Rattle.game_board.specs.Scoresheet.{IsTrueScore}
-use Rattle.game_board.proofs.PairHands.{few_in_hand}
+use Rattle.game_board.proofs.PairHands.{few_in_hand, most_in_two_sets}
 use Rattle.linked_boards.specs.Boards.{board_numbers}
 use Rattle.linked_desk.specs.Desk.{GameState, DeskState}
 use Rattle.linked_boards.specs.Sound.{AreSame}
@@ -70,15 +70,6 @@ whole_boards Bughouse (b ∷ c ∷ []) numbers terms scores same =
     two_sets_of b c (All-head P b (c ∷ []) terms) (All-head P c [] (All-tail P b (c ∷ []) terms)) two.1 two.2
     (All-head (λ (T : List HalfMove). T ≡ b.all) c.all [] same) (All-head IsTrueScore b (c ∷ []) scores)
 whole_boards Bughouse (b ∷ c ∷ d ∷ more) numbers terms scores same = absurd (never_three Bughouse b c d more numbers)
-
--- no hand has more men of a kind than two sets
-most_in_two_sets : (k : Kind) → 2 * one_set k ≤ 16
-most_in_two_sets Pawn = omega arith
-most_in_two_sets Knight = omega arith
-most_in_two_sets Bishop = omega arith
-most_in_two_sets Rook = omega arith
-most_in_two_sets Queen = omega arith
-most_in_two_sets King = omega arith
 
 empty_in_chess : (T : List HalfMove) (b : ℕ) (c : Colour) (k : Kind) → count_in (hand_of_side (position_after Chess T b) c) k ≤ 16
 empty_in_chess T b White Pawn = omega arith

@@ -1,6 +1,5 @@
 //! A game as it is kept until its players resume it.
 ghost use Rattle.std.specs.Prelude.{◌≡◌, ◌++◌, ◌∷◌, [], IfOk, OnOk};
-ghost use Rattle.fics_words.specs.Seats.{players_of};
 ghost use Rattle.linked_desk.specs.Seating.{uncoloured};
 ghost use Rattle.linked_desk.specs.Shelve.{names_in, shelved};
 

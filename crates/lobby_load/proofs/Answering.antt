@@ -6,39 +6,36 @@ use Rattle.std.specs.FinMap as map
 use Rattle.edge_traits.specs.Keeper.{AreAllOf}
 use Rattle.edge_traits.specs.Pairs.{IsAscending, Pairs, Table}
 use Rattle.lobby_state.specs.Lobby.{LobbyState}
-use Rattle.lobby_load.specs.BadRows.{IsGoodStore, IsLeastBad}
-use Rattle.lobby_load.specs.Filling.{HasRows, IsLeastBadOf, NamesKey}
+use Rattle.lobby_load.specs.BadRows.{IsGoodStore}
+use Rattle.lobby_load.specs.Filling.{HasRows, NamesKey}
 use Rattle.lobby_load.specs.Loaded.{HasLoaded, HasSizes}
 use Rattle.lobby_load.specs.Refused.{OnBadRecord, OnKeeperFault}
 use Rattle.lobby_load.specs.declared.refusals.LoadRefusal.{LoadRefusal}
 use Rattle.lobby_load.specs.declared.refusals.LoadRefusal.TheVariants.{BadRecord, KeeperFault, Memory}
 use Rattle.lobby_load.proofs.Least.{made_good, made_loaded, made_sized}
+use Rattle.std.proofs.lemmas.Result.{IfOk-weaker}
 
 -- the pairs are all of the table, where it is told
 of_told : (told : Option Table) (rows : Pairs) (P : Table → Type 0) → AreAllOf told rows → ((table : Table) → rows ≡ map.entries table → P table) → IfSome told P
 of_told None rows P all f = tt
 of_told (Some table) rows P all f = f table all
 
-pub ok_then : {A E : Type 0} (r : Result A E) (P Q : A → Type 0) → ((x : A) → P x → Q x) → IfOk r P → IfOk r Q
-ok_then (Ok x) P Q f h = f x h
-ok_then (Err e) P Q f h = tt
-
 pub loaded_told : (told : Option Table) (rows : Pairs) (r : Result LobbyState LoadRefusal) → AreAllOf told rows → IfOk r (HasRows rows)
     → IfOk r (λ lobby. IfSome told (λ table. HasLoaded table lobby))
 loaded_told told rows r all made =
-    ok_then r (HasRows rows) (λ lobby. IfSome told (λ table. HasLoaded table lobby))
+    IfOk-weaker r (HasRows rows) (λ lobby. IfSome told (λ table. HasLoaded table lobby))
     (λ lobby h. of_told told rows (λ table. HasLoaded table lobby) all (λ table e. made_loaded table lobby rows e h)) made
 
 pub sized_told : (told : Option Table) (rows : Pairs) (r : Result LobbyState LoadRefusal) → AreAllOf told rows → IfOk r (HasRows rows)
     → IfOk r (λ lobby. IfSome told (λ table. HasSizes table lobby))
 sized_told told rows r all made =
-    ok_then r (HasRows rows) (λ lobby. IfSome told (λ table. HasSizes table lobby))
+    IfOk-weaker r (HasRows rows) (λ lobby. IfSome told (λ table. HasSizes table lobby))
     (λ lobby h. of_told told rows (λ table. HasSizes table lobby) all (λ table e. made_sized table lobby rows e h)) made
 
 pub good_told : (told : Option Table) (rows : Pairs) (r : Result LobbyState LoadRefusal) → IsAscending rows → AreAllOf told rows → IfOk r (HasRows rows)
     → IfOk r (λ lobby. IfSome told IsGoodStore)
 good_told told rows r rise all made =
-    ok_then r (HasRows rows) (λ lobby. IfSome told IsGoodStore)
+    IfOk-weaker r (HasRows rows) (λ lobby. IfSome told IsGoodStore)
     (λ lobby h. of_told told rows IsGoodStore all (λ table e. made_good table lobby rows rise e h)) made
 
 pub no_fault : {A : Type 0} (r : Result A LoadRefusal) (P : Type 0) → OnKeeperFault r ⊥ → OnKeeperFault r P

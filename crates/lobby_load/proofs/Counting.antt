@@ -1,18 +1,18 @@
 -- How many rows come before a key.
 use Rattle.std.proofs.Common.{◌≡◌, ℕ, ◌+◌, ◌≤◌, Bool, true, false, cond, ◌&&◌, List, [], ◌∷◌, ◌++◌, Some, All, count_by, get_or, is_lt, Ordering, Less, Greater, refl, sym, ap, subst, ◌∙◌, arith}
 use Rattle.std.specs.Ordering.{eq_by_cmp}
-use Rattle.std.specs.Cmp.{tied_itself}
+use Rattle.std.specs.Cmp.{tied_itself, first_so, second_so}
 use Rattle.std.specs.Cmp.Lexicographic.{nat_list_cmp_total}
 use Rattle.std.specs.FinMap.{find, is_sorted}
 use Rattle.std.specs.FinMap.Entries.{below_all}
-use Rattle.std.proofs.lemmas.Bool.{false_from_ne_true}
+use Rattle.std.proofs.lemmas.Bool.{false_from_ne_true, and_from}
 use Rattle.std.proofs.lemmas.List.Elements.{All-append, All-cons, All-head, All-tail}
 use Rattle.std.proofs.lemmas.List.Sums.{sum_by-append, sum_by-cons, sum_by_push}
 use Rattle.edge_traits.specs.Pairs.{IsAscending, Pairs, keys_order}
 use Rattle.lobby_store.proofs.OrdersOut.{tied_same}
 use Rattle.lobby_load.specs.BadRows.{ComesBefore, HasBefore, Row}
 use Rattle.lobby_load.specs.Filling.{count_of}
-use Rattle.lobby_load.proofs.RowsSorted.{IsBelow-all, all_before, all_behind, both_true, first_true, is_less, second_true, turned}
+use Rattle.lobby_load.proofs.RowsSorted.{IsBelow-all, all_before, all_behind, is_less, turned}
 
 -- one row more
 pub count_cons : (p : Row → Bool) (row : Row) (rows : Pairs) → count_by p (row ∷ rows) ≡ cond (p row) 1 0 + count_by p rows
@@ -68,7 +68,7 @@ fewer pick kind key bytes (e ∷ done) rest rise found is of before =
     → count_by pick (e ∷ all) + 1 ≤ count_of kind (e ∷ done)) [
       | true ↦ λ same here.
           let own : key ≡ e.0 = tied_same key e.0 same in
-          let behind = IsBelow-all e.0 all (first_true (below_all keys_order e.0 all) (is_sorted keys_order all) rise) in
+          let behind = IsBelow-all e.0 all (first_so (below_all keys_order e.0 all) (is_sorted keys_order all) rise) in
           let none = count_none pick all (λ k d lt. not_picked_behind pick key (get_or all k d)
           (subst (λ l. ComesBefore l (get_or all k d).0) (sym own) (behind k d lt)) (All-tail Q e all before k d lt)) in
           let not_here : pick e ≡ false = false_from_ne_true (pick e)
@@ -77,7 +77,7 @@ fewer pick kind key bytes (e ∷ done) rest rise found is of before =
           let with_it = as_number (subst (λ l. kind l ≡ true) own is) in
           omega (arith, picked, of_kind, none, without, with_it)
       | false ↦ λ _ there.
-          let rest_of : count_by pick all + 1 ≤ count_of kind done = fewer pick kind key bytes done rest (second_true (below_all keys_order e.0 all) (is_sorted keys_order all) rise) there is (All-tail P e all of) (All-tail Q e all before) in
+          let rest_of : count_by pick all + 1 ≤ count_of kind done = fewer pick kind key bytes done rest (second_so (below_all keys_order e.0 all) (is_sorted keys_order all) rise) there is (All-tail P e all of) (All-tail Q e all before) in
           let one = one_or_none (pick e) (kind e.0) (All-head P e all of) in
           omega (arith, picked, of_kind, rest_of, one)
     ] refl found
@@ -92,14 +92,14 @@ counted kind row [] h = omega arith
 counted kind row (e ∷ done) h =
     let P : Row → Type 0 = λ x. ComesBefore x.0 row.0 in
     let less = All-head P e done h in
-    let one = one_or_none (kind e.0) (picks kind row e) (λ so. both_true _ _ so (ap is_lt less)) in
+    let one = one_or_none (kind e.0) (picks kind row e) (λ so. and_from _ _ so (ap is_lt less)) in
     let rest = counted kind row done (All-tail P e done h) in
     let picked = count_cons (picks kind row) e done in
     let of_kind = count_cons (λ x. kind x.0) e done in
     omega (arith, one, rest, picked, of_kind)
 
 not_picked : (kind : List ℕ → Bool) (row x : Row) (P : Type 0) → (ComesBefore x.0 row.0 → ⊥) → picks kind row x ≡ true → P
-not_picked kind row x P not so = absurd (not (is_less _ (second_true _ _ so)))
+not_picked kind row x P not so = absurd (not (is_less _ (second_so _ _ so)))
 
 -- all that are of a kind in front of a row come before it
 pub enough : (IsOfKind : Row → Type 0) (kind : List ℕ → Bool) (n : ℕ) (done rest : Pairs) (row : Row) → IsAscending (done ++ row ∷ rest)
@@ -107,7 +107,7 @@ pub enough : (IsOfKind : Row → Type 0) (kind : List ℕ → Bool) (n : ℕ) (d
 enough IsOfKind kind n done rest row rise of many =
     let P : Row → Type 0 = λ x. picks kind row x ≡ true → IsOfKind x in
     let behind = all_behind done rest row rise in
-    let in_front : All P done = λ k d lt so. of k d lt (first_true _ _ so) in
+    let in_front : All P done = λ k d lt so. of k d lt (first_so _ _ so) in
     let here : P row = not_picked kind row row (IsOfKind row) (not_Less_itself row.0) in
     let later : All P rest = λ k d lt. not_picked kind row (get_or rest k d) (IsOfKind (get_or rest k d)) (not_before row.0 (get_or rest k d).0 (behind k d lt)) in
     let front = counted kind row done (all_before done rest row rise) in
@@ -115,6 +115,6 @@ enough IsOfKind kind n done rest row rise of many =
     record {
       pick = picks kind row;
       kind = All-append P done (row ∷ rest) in_front (All-cons P row rest here later);
-      before = λ k d lt so. is_less _ (second_true _ _ so);
+      before = λ k d lt so. is_less _ (second_so _ _ so);
       many = omega (arith, front, split, many);
     }

@@ -2,31 +2,19 @@
 use Rattle.std.proofs.Common.{◌≡◌, ℕ, ◌^◌, ◌<◌, true, false, cond, List, [], ◌∷◌, ◌++◌, None, Some, All, get_or, refl, sym, ap, subst, ◌∙◌, arith}
 use Rattle.std.specs.Prelude.{bytes_eq}
 use Rattle.std.specs.List.{find}
-use Rattle.std.proofs.lemmas.Bool.{false_from_ne_true}
-use Rattle.std.proofs.lemmas.List.Elements.{All-nil, All-cons}
-use Rattle.std.proofs.lemmas.Slice.Eq.{bytes_eq-Decides}
 use Rattle.fics_words.specs.Handle.{key_of}
 use Rattle.fics_words.specs.declared.account.Account.{Account}
 use Rattle.game_records.specs.Keys.{account_key, game_key}
 use Rattle.game_records.specs.Spelling.{spelling}
 use Rattle.game_records.specs.declared.records.Record.TheVariants as a
 use Rattle.game_records.specs.declared.stored_game.StoredGame.{StoredGame}
-use Rattle.game_records.proofs.KeysBack.{one_game}
 use Rattle.game_shelf.specs.declared.shelved.Shelved.{Shelved}
-use Rattle.game_shelf.specs.Numbers.{AreInOrder, RiseAbove, is_used, with_game}
+use Rattle.game_shelf.specs.Numbers.{AreInOrder, is_used, with_game}
 use Rattle.game_shelf.specs.Shelf.{ShelfState, empty}
 use Rattle.game_shelf.specs.Wanted.{account_record, either_record, game_record, is_account_at, is_game_at, wanted}
 use Rattle.game_shelf.proofs.Finding.{find-with_new, find-with_other, unused-all}
-use Rattle.game_shelf.proofs.Leading.{orders-lead}
-
-same_key : (one other : List ℕ) → bytes_eq one other ≡ true → one ≡ other
-same_key one other h = (bytes_eq-Decides one other).0 h
-
-other_key : (one other : List ℕ) → (one ≡ other → ⊥) → bytes_eq one other ≡ false
-other_key one other differs = false_from_ne_true (bytes_eq one other) (λ h. differs (same_key one other h))
-
-own_key : (key : List ℕ) → bytes_eq key key ≡ true
-own_key key = (bytes_eq-Decides key key).1 refl
+use Rattle.game_shelf.proofs.Leading.{orders-lead, same_key, no_account, no_such_game, small_numbers}
+use Rattle.login_handles.proofs.GuestNames.{bytes_eq-self}
 
 -- an account that comes is wanted under its own key, and nothing else changes
 pub wanted_account : (accounts : List Account) (games : List Shelved) (account : Account) (key : List ℕ)
@@ -36,30 +24,6 @@ pub wanted_account : (accounts : List Account) (games : List Shelved) (account :
 wanted_account accounts games account key new =
     let shelf : ShelfState = record empty { games = games } in
     sym (orders-lead.account (wanted accounts games) accounts shelf account new (λ k. refl) key)
-
--- the key of an account isn't that of a game
-account_not_game : (letters : List ℕ) (number : ℕ) → account_key letters ≡ game_key number → ⊥
-account_not_game letters number e = let heads = ap first_byte e in omega (arith, heads)
-  where
-    first_byte : List ℕ → ℕ
-    first_byte [] = 0
-    first_byte (byte ∷ bytes) = byte
-
-no_account : (accounts : List Account) (number : ℕ) → find (is_account_at (game_key number)) accounts ≡ None
-no_account [] number = refl
-no_account (account ∷ accounts) number =
-    ap (λ t. cond t (Some account) (find (is_account_at (game_key number)) accounts))
-    (other_key (account_key (key_of account.name)) (game_key number) (account_not_game (key_of account.name) number))
-    ∙ no_account accounts number
-
--- the keys of games with other numbers differ
-no_such_game : (number : ℕ) (row : Shelved) → number < 2 ^ 64 → row.number < 2 ^ 64 → (row.number ≡ number → ⊥) → is_game_at (game_key number) row ≡ false
-no_such_game number row fits small differs =
-    other_key (game_key row.number) (game_key number) (λ e. differs (one_game row.number number small fits e))
-
-small_numbers : (low : ℕ) (games : List Shelved) → RiseAbove low games → All (λ row. row.number < 2 ^ 64) games
-small_numbers low [] rise = All-nil (λ row. row.number < 2 ^ 64)
-small_numbers low (row ∷ games) rise = All-cons (λ z. z.number < 2 ^ 64) row games rise.1 (small_numbers row.number games rise.2)
 
 by_key : {X : Type 0} (own key : List ℕ) (this that : X) (of : X) → (own ≡ key → of ≡ this) → (bytes_eq own key ≡ false → of ≡ that)
     → of ≡ cond (bytes_eq own key) this that
@@ -84,6 +48,6 @@ wanted_game accounts games number game key fits unused rise =
     by_key own key (Some (spelling (a.Game game))) (wanted accounts games key) (wanted accounts (with_game new games) key)
     (λ same. subst (λ k. wanted accounts (with_game new games) k ≡ Some (spelling (a.Game game))) same
     (ap (λ r. either_record (account_record r) (game_record (find (is_game_at own) (with_game new games)))) (no_account accounts number)
-    ∙ ap game_record (find-with_new (is_game_at own) new 0 games unused rise (own_key own) others)))
+    ∙ ap game_record (find-with_new (is_game_at own) new 0 games unused rise (bytes_eq-self own) others)))
     (λ other. ap (λ r. either_record (account_record (find (is_account_at key) accounts)) (game_record r))
     (find-with_other (is_game_at key) new 0 games unused rise other))

@@ -1,7 +1,7 @@
 -- Rows whose keys rise: what is found among them, and which come before which.
-use Rattle.std.proofs.Common.{◌≡◌, ℕ, Bool, true, false, cond, ◌&&◌, List, [], ◌∷◌, ◌++◌, None, Some, All, is_eq, is_lt, Ordering, Less, Equal, Greater, unwrap_or, refl, sym, ap, subst, ◌∙◌}
+use Rattle.std.proofs.Common.{◌≡◌, ℕ, Bool, true, false, cond, List, [], ◌∷◌, ◌++◌, None, Some, All, is_eq, is_lt, Ordering, Less, Equal, Greater, refl, sym, ap, subst, ◌∙◌}
 use Rattle.std.specs.Ordering.{eq_by_cmp, ordering_reverse}
-use Rattle.std.specs.Cmp.{tied_itself}
+use Rattle.std.specs.Cmp.{tied_itself, first_so, second_so}
 use Rattle.std.specs.Cmp.Lexicographic.{nat_list_cmp_total}
 use Rattle.std.specs.FinMap.{find}
 use Rattle.std.specs.FinMap.Entries.{below_all}
@@ -9,18 +9,7 @@ use Rattle.std.proofs.lemmas.List.Elements.{All-nil, All-cons, All-head, All-tai
 use Rattle.edge_traits.specs.Pairs.{IsAscending, Pairs, keys_order}
 use Rattle.lobby_store.proofs.OrdersOut.{tied_same}
 use Rattle.lobby_load.specs.BadRows.{ComesBefore, Row}
-
-pub both_true : (a b : Bool) → a ≡ true → b ≡ true → a && b ≡ true
-both_true true b p q = q
-both_true false b p q = p
-
-pub first_true : (a b : Bool) → a && b ≡ true → a ≡ true
-first_true true b p = refl
-first_true false b p = p
-
-pub second_true : (a b : Bool) → a && b ≡ true → b ≡ true
-second_true true b p = p
-second_true false b p = absurd (let bad : false ≡ true = p in cc)
+use Rattle.std.proofs.lemmas.Option.{same_Some}
 
 pub is_less : (o : Ordering) → is_lt o ≡ true → o ≡ Less
 is_less Less p = refl
@@ -41,7 +30,7 @@ turned one other less = nat_list_cmp_total.antisymm other one ∙ ap ordering_re
 pub IsBelow-all : (key : List ℕ) (rows : Pairs) → IsBelow key rows → All (λ row. ComesBefore key row.0) rows
 IsBelow-all key [] h = All-nil (λ row. ComesBefore key row.0)
 IsBelow-all key (e ∷ rows) h =
-    All-cons (λ row. ComesBefore key row.0) e rows (is_less _ (first_true _ _ h)) (IsBelow-all key rows (second_true _ _ h))
+    All-cons (λ row. ComesBefore key row.0) e rows (is_less _ (first_so _ _ h)) (IsBelow-all key rows (second_so _ _ h))
 
 -- a key that comes before all of these isn't found among them
 pub find-all_behind : (key : List ℕ) (rows : Pairs) → All (λ row. ComesBefore key row.0) rows → find keys_order key rows ≡ None
@@ -58,18 +47,18 @@ find-all_before key (e ∷ rows) h =
     ∙ find-all_before key rows (All-tail (λ row. ComesBefore row.0 key) e rows h)
 
 below_middle : (key : List ℕ) (done rest : Pairs) (row : Row) → IsBelow key (done ++ row ∷ rest) → ComesBefore key row.0
-below_middle key [] rest row h = is_less _ (first_true _ _ h)
-below_middle key (e ∷ done) rest row h = below_middle key done rest row (second_true _ _ h)
+below_middle key [] rest row h = is_less _ (first_so _ _ h)
+below_middle key (e ∷ done) rest row h = below_middle key done rest row (second_so _ _ h)
 
 -- of rising rows those in front of one come before it, and those behind it behind
 pub all_before : (done rest : Pairs) (row : Row) → IsAscending (done ++ row ∷ rest) → All (λ x. ComesBefore x.0 row.0) done
 all_before [] rest row h = All-nil (λ x. ComesBefore x.0 row.0)
 all_before (e ∷ done) rest row h =
-    All-cons (λ x. ComesBefore x.0 row.0) e done (below_middle e.0 done rest row (first_true _ _ h)) (all_before done rest row (second_true _ _ h))
+    All-cons (λ x. ComesBefore x.0 row.0) e done (below_middle e.0 done rest row (first_so _ _ h)) (all_before done rest row (second_so _ _ h))
 
 pub all_behind : (done rest : Pairs) (row : Row) → IsAscending (done ++ row ∷ rest) → All (λ x. ComesBefore row.0 x.0) rest
-all_behind [] rest row h = IsBelow-all row.0 rest (first_true _ _ h)
-all_behind (e ∷ done) rest row h = all_behind done rest row (second_true _ _ h)
+all_behind [] rest row h = IsBelow-all row.0 rest (first_so _ _ h)
+all_behind (e ∷ done) rest row h = all_behind done rest row (second_so _ _ h)
 
 -- so its key isn't found in front of it
 pub find-new : (done rest : Pairs) (row : Row) → IsAscending (done ++ row ∷ rest) → find keys_order row.0 done ≡ None
@@ -80,8 +69,8 @@ pub find-itself : (done rest : Pairs) (row : Row) → IsAscending (done ++ row �
     → find keys_order row.0 (done ++ row ∷ rest) ≡ Some row.1
 find-itself [] rest row h = ap (λ o. cond (is_eq o) (Some row.1) (find keys_order row.0 rest)) (tied_itself nat_list_cmp_total row.0)
 find-itself (e ∷ done) rest row h =
-    ap (λ o. cond (is_eq o) (Some e.1) (find keys_order row.0 (done ++ row ∷ rest))) (turned e.0 row.0 (below_middle e.0 done rest row (first_true _ _ h)))
-    ∙ find-itself done rest row (second_true _ _ h)
+    ap (λ o. cond (is_eq o) (Some e.1) (find keys_order row.0 (done ++ row ∷ rest))) (turned e.0 row.0 (below_middle e.0 done rest row (first_so _ _ h)))
+    ∙ find-itself done rest row (second_so _ _ h)
 
 behind_too : (key : List ℕ) (rest : Pairs) (row : Row) → ComesBefore key row.0 → All (λ x. ComesBefore row.0 x.0) rest
     → All (λ x. ComesBefore key x.0) (row ∷ rest)
@@ -93,10 +82,7 @@ pub find-before : (key : List ℕ) (done rest : Pairs) (row : Row) → ComesBefo
     → find keys_order key (done ++ row ∷ rest) ≡ find keys_order key done
 find-before key [] rest row less h = find-all_behind key (row ∷ rest) (behind_too key rest row less (all_behind [] rest row h))
 find-before key (e ∷ done) rest row less h =
-    ap (λ r. cond (eq_by_cmp keys_order key e.0) (Some e.1) r) (find-before key done rest row less (second_true _ _ h))
-
-same_Some : {X : Type 0} (x y : X) → Some x ≡ Some y → x ≡ y
-same_Some x y e = ap (λ o. unwrap_or o x) e
+    ap (λ r. cond (eq_by_cmp keys_order key e.0) (Some e.1) r) (find-before key done rest row less (second_so _ _ h))
 
 -- what holds of all rows holds of the one that is found
 pub found_is : (P : Row → Type 0) (key bytes : List ℕ) (rows : Pairs) → All P rows → find keys_order key rows ≡ Some bytes → P (key, bytes)

@@ -1,17 +1,15 @@
 -- A key under which a lobby wants nothing is that of no account and of no stored game.
 use Rattle.std.proofs.Common.{◌≡◌, ℕ, true, false, cond, List, [], ◌∷◌, Option, None, Some, refl, sym, ap, ◌∙◌}
-use Rattle.std.specs.Prelude.{bytes_eq, is_some}
+use Rattle.std.specs.Prelude.{bytes_eq}
 use Rattle.std.specs.List.{find}
 use Rattle.std.proofs.lemmas.Bool.{eqb-true}
 use Rattle.std.proofs.lemmas.Slice.Eq.{bytes_eq-Decides}
-use Rattle.fics_words.specs.Handle.{key_of}
 use Rattle.fics_words.specs.declared.account.Account.{Account}
-use Rattle.game_records.specs.Keys.{account_key, game_key}
+use Rattle.game_records.specs.Keys.{game_key}
 use Rattle.game_shelf.specs.declared.shelved.Shelved.{Shelved}
 use Rattle.game_shelf.specs.Numbers.{game_in, has_number, stored_game}
 use Rattle.game_shelf.specs.Wanted.{account_record, either_record, game_record, is_account_at, is_game_at}
-use Rattle.login_handles.specs.Accounts.{account_of}
-use Rattle.lobby_state.specs.Lobby.{LobbyState, has_account}
+use Rattle.lobby_state.specs.Lobby.{LobbyState}
 use Rattle.lobby_store.specs.Agreeing.{wanted_by}
 
 no_account_record : (account : Option Account) (other : Option (List ℕ)) → either_record (account_record account) other ≡ None → account ≡ None

@@ -16,6 +16,7 @@ use Rattle.fics_words.specs.Handle.{key_of}
 use Rattle.lobby_state.specs.declared.member.Member.{Member}
 use Rattle.lobby_state.specs.Who.{AreInOrder, ListsEach, is_before, with_name, with_names}
 use Rattle.lobby_state.proofs.InOrder.{All-with_name, none_in_order, one_more, pairs_head, pairs_tail, stays_in_order}
+use Rattle.std.proofs.lemmas.Bool.{false_from_ne_true}
 
 abbrev Differ : List ℕ → List ℕ → Type 0
 Differ one another = key_of one ≢ key_of another
@@ -29,15 +30,11 @@ before_by Less another turned late differ = refl
 before_by Equal another turned late differ = cc
 before_by Greater another turned late differ = absurd (let bad : true ≡ false = sym (ap is_lt turned) ∙ late in cc)
 
-not_true : (b : Bool) → (b ≡ true → ⊥) → b ≡ false
-not_true true h = absurd (h refl)
-not_true false h = refl
-
 none_differ : AllPairs Differ []
 none_differ i j d before inside = absurd (omega (arith, inside))
 
 differ_by : (one another : List ℕ) → one ≢ another → is_eq (slice_cmp nat_cmp one another) ≡ false
-differ_by one another differ = not_true (is_eq (slice_cmp nat_cmp one another))
+differ_by one another differ = false_from_ne_true (is_eq (slice_cmp nat_cmp one another))
     (λ e. differ ((bytes_eq-Decides one another).0 (sym (is_eq-slice_cmp one another) ∙ e)))
 
 rises : (one another : List ℕ) → is_before another one ≡ false → Differ one another → is_before one another ≡ true

@@ -1,42 +1,12 @@
 -- The first item that passes a test: where it stands, what it is, and the list with it changed.
-use Rattle.std.proofs.Common.{◌≡◌, ℕ, ◌<◌, ◌≤◌, zero, suc, Bool, true, false, cond, ltb, List, [], ◌∷◌, None, Some, length, get_or, slice_get, refl, sym, ap, subst, ◌∙◌, arith, rules, tests}
-use Rattle.std.specs.List.{position, position_or_len, find}
+use Rattle.std.proofs.Common.{◌≡◌, ℕ, ◌<◌, ◌≤◌, zero, suc, Bool, true, false, cond, List, [], ◌∷◌, None, Some, length, get_or, slice_get, refl, sym, ap, subst, ◌∙◌, arith, rules}
+use Rattle.std.specs.List.{position, position_or_len}
 use Rattle.std.proofs.Math.ListN.{set}
-use Rattle.std.proofs.lemmas.Bool.{ltb-true}
-use Rattle.std.proofs.lemmas.List.Folds.{find_at}
+use Rattle.std.proofs.lemmas.Bool.{ltb-true, ltb-false}
 use Rattle.std.proofs.lemmas.Option.{get_or_from_slice_get}
 use Rattle.std.proofs.lemmas.List.Sums.{fails_before_first, passes_at_first}
 use Rattle.lobby_state.specs.Change.{change_first}
-
-some_by_test : (b : Bool) (n i : ℕ) → cond b (Some n) None ≡ Some i → (b ≡ true) × (n ≡ i)
-some_by_test true n i e = (refl, cc)
-some_by_test false n i e = cc
-
-none_by_test : (b : Bool) (n : ℕ) → cond b (Some n) None ≡ None → b ≡ false
-none_by_test true n e = cc
-none_by_test false n e = refl
-
-past_end : (n m : ℕ) → ltb n m ≡ false → m ≤ n
-past_end n m e = search (rules, tests)
-
--- an item that was found stands within the list
-pub position-within : {X : Type 0} (p : X → Bool) (xs : List X) (i : ℕ) → position p xs ≡ Some i → i < length xs
-position-within p xs i e =
-    let found = some_by_test _ (position_or_len p xs) i e in
-    let within : position_or_len p xs < length xs = ltb-true _ _ found.0 in
-    subst (λ (n : ℕ). n < length xs) found.1 within
-
-past_get : {X : Type 0} (xs : List X) (i : ℕ) → length xs ≤ i → slice_get xs i ≡ None
-past_get [] i h = refl
-past_get (x ∷ xs) zero h = absurd (omega arith)
-past_get (x ∷ xs) (suc i) h = past_get xs i (omega arith)
-
--- the first item that passes is the one at its place
-pub find-found : {X : Type 0} (p : X → Bool) (xs : List X) (i : ℕ) → position p xs ≡ Some i → find p xs ≡ slice_get xs i
-find-found p xs i e = find_at p xs ∙ ap (slice_get xs) (some_by_test _ (position_or_len p xs) i e).1
-
-pub find-missing : {X : Type 0} (p : X → Bool) (xs : List X) → position p xs ≡ None → find p xs ≡ None
-find-missing p xs e = find_at p xs ∙ past_get xs _ (past_end _ _ (none_by_test _ (position_or_len p xs) e))
+use Rattle.tables.proofs.Placed.{some_by_test, none_by_test}
 
 change_first-at : {X : Type 0} (p : X → Bool) (f : X → X) (xs : List X) (i : ℕ) (x : X)
     → slice_get xs i ≡ Some x → p x ≡ true → ((k : ℕ) → k < i → p (get_or xs k x) ≡ false)
@@ -71,5 +41,5 @@ change_first-found p f xs i x e at =
 pub change_first-missing : {X : Type 0} (p : X → Bool) (f : X → X) (xs : List X)
     → position p xs ≡ None → change_first p f xs ≡ xs
 change_first-missing p f xs e =
-    let past : length xs ≤ position_or_len p xs = past_end _ _ (none_by_test _ (position_or_len p xs) e) in
+    let past : length xs ≤ position_or_len p xs = ltb-false _ _ (none_by_test _ (position_or_len p xs) e) in
     change_first-nowhere p f xs (λ k d h. fails_before_first p xs k d (omega arith))

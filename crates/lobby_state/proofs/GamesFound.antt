@@ -214,7 +214,7 @@ among_at number (Some game) h low boards =
     let place : Place = record { desk = desk_of_game number; serial = game.serial; seat = 0 } in
     among_by (number % 2 == 1) number game refl low boards (found_by (has_board number game.terms.variant) place h)
 
-last_or_before : (desk count : ℕ) → desk ≤ suc count → (desk ≤ count) ⊎ (desk ≡ count + 1)
+pub last_or_before : (desk count : ℕ) → desk ≤ suc count → (desk ≤ count) ⊎ (desk ≡ count + 1)
 last_or_before desk count h = grind arith
 
 among_all : (lobby : LobbyState) (number desk count : ℕ) → 1 ≤ desk → desk ≤ count → Contains (numbers_at desk (game_at lobby desk)) number

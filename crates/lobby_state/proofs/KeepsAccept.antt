@@ -1,7 +1,7 @@
 -- What an Accept keeps: its plan can be carried out.
-use Rattle.std.proofs.Common.{◌≡◌, ℕ, Bool, true, false, ◌&&◌, List, Option, None, Some, is_none, refl, sym, ◌∙◌}
+use Rattle.std.proofs.Common.{◌≡◌, ℕ, Bool, true, false, List, Option, None, Some, is_none, refl, sym, ◌∙◌}
 use Rattle.std.specs.Prelude.{nat_le}
-use Rattle.std.proofs.lemmas.Bool.{eqb-true, or_parts}
+use Rattle.std.proofs.lemmas.Bool.{eqb-true, or_parts, and_parts}
 use Rattle.seek_match.specs.declared.challenge.Challenge.{Challenge}
 use Rattle.lobby_state.specs.declared.member.Member.{Member}
 use Rattle.lobby_state.specs.Accept.{accept_effect, offer_from, offer_of, offering_in, terms_in}
@@ -18,16 +18,12 @@ use Rattle.lobby_state.proofs.Starts.{planned_where}
 use Rattle.lobby_state.proofs.WellFormed.{find-has}
 use Rattle.seek_match.specs.Matches.{is_between, is_to}
 
-both_hold : (a b : Bool) → (a && b) ≡ true → (a ≡ true) × (b ≡ true)
-both_hold true b e = (refl, e)
-both_hold false b e = cc
-
 offer_from-is : (lobby : LobbyState) (session : ℕ) (other : Option Member) (offer : Challenge) → offer_from lobby session other ≡ Some offer
     → AreChallengesOf (sessions_of lobby.members) lobby.challenges → (offer.to ≡ session) × IsBetweenMembers (sessions_of lobby.members) offer
 offer_from-is lobby session None offer e h = cc
 offer_from-is lobby session (Some other) offer e h =
     let p : Challenge → Bool = is_between other.session session in (
-      eqb-true offer.to session (both_hold _ _ (find-passes p lobby.challenges offer e)).1,
+      eqb-true offer.to session (and_parts _ _ (find-passes p lobby.challenges offer e)).1,
       find-has (IsBetweenMembers (sessions_of lobby.members)) p lobby.challenges offer h.members e,
     )
 

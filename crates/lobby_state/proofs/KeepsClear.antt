@@ -4,7 +4,7 @@ use Rattle.std.proofs.Math.ListN.{set}
 use Rattle.std.proofs.lemmas.Bool.{eqb-false, not-true}
 use Rattle.std.proofs.lemmas.List.{length-set}
 use Rattle.std.proofs.lemmas.List.Elements.{All-set, All-filter}
-use Rattle.std.proofs.lemmas.Option.{slice_get_within}
+use Rattle.std.proofs.lemmas.Option.{slice_get_within, same_Some}
 use Rattle.fics_words.specs.Handle.{key_of}
 use Rattle.lobby_state.specs.declared.acts.Plan.TheVariants.{Clear}
 use Rattle.lobby_state.specs.declared.game.Game.{Game}
@@ -123,9 +123,6 @@ others_by lobby session desk serial is_desk game true number low other =
     ∙ get-set_other lobby.games (desk - 1) (number - 1) None (λ e. other (ap Some (omega (arith, is_desk))))
 others_by lobby session desk serial is_desk game false number low other = refl
 
-same_number : (one another : ℕ) → Some one ≡ Some another → one ≡ another
-same_number one another e = cc
-
 own_by : (lobby : LobbyState) (session desk serial : ℕ) (game : Option StoredGame) (is_cleared : Bool) (number : ℕ) (before : Option Game) → desk ≡ number
     → slice_get lobby.games (number - 1) ≡ Some before
     → slice_get (committed lobby (Clear session desk serial) game is_cleared).games (number - 1)
@@ -140,7 +137,7 @@ pub keeps_cleared : (lobby : LobbyState) (session desk serial : ℕ) → IsDesk 
 keeps_cleared lobby session desk serial is_desk = record {
   is_desk = is_desk;
   formed = formed_by lobby session desk serial is_desk;
-  own = λ game is_cleared number before e there. own_by lobby session desk serial game is_cleared number before (same_number desk number e) there;
+  own = λ game is_cleared number before e there. own_by lobby session desk serial game is_cleared number before (same_Some desk number e) there;
   others = others_by lobby session desk serial is_desk;
 }
 

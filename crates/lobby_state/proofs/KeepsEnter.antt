@@ -1,6 +1,6 @@
 -- What an Enter keeps.
-use Rattle.std.proofs.Common.{◌≡◌, ◌≢◌, ℕ, ◌<◌, length, length-append, map, arith, true, false, List, [], ◌∷◌, ◌++◌, Option, None, Some, is_some, bytes_eq, leb, refl, sym, ap, subst, ◌∙◌, rules, tests}
-use Rattle.std.proofs.lemmas.Bool.{or_parts, eqb-false}
+use Rattle.std.proofs.Common.{◌≡◌, ◌≢◌, ℕ, ◌<◌, length, length-append, map, arith, true, false, List, [], ◌∷◌, ◌++◌, Option, None, Some, is_some, bytes_eq, refl, sym, ap, subst, ◌∙◌, rules}
+use Rattle.std.proofs.lemmas.Bool.{or_parts, eqb-false, leb-false}
 use Rattle.std.proofs.lemmas.Cmp.{nat_list_eq_equiv}
 use Rattle.std.proofs.lemmas.List.{length-map, map-append}
 use Rattle.std.proofs.lemmas.List.Elements.{All-nil, All-push, Contains-append_left}
@@ -26,13 +26,10 @@ none_some : {X : Type 0} (o : Option X) → is_some o ≡ false → o ≡ None
 none_some None e = refl
 none_some (Some x) e = cc
 
-same_key : (a b : List ℕ) → bytes_eq a b ≡ false → a ≢ b
+pub same_key : (a b : List ℕ) → bytes_eq a b ≡ false → a ≢ b
 same_key a b e same =
     let yes : bytes_eq a a ≡ true = nat_list_eq_equiv.refl a in
     let bad : true ≡ false = sym yes ∙ ap (bytes_eq a) same ∙ e in cc
-
-has_room : (n m : ℕ) → leb n m ≡ false → m < n
-has_room n m e = search (rules, tests)
 
 with_one_more : (lobby : LobbyState) (session : ℕ) (name : List ℕ) → length lobby.members < 256 → member_of lobby session ≡ None
     → holder_of lobby (key_of name) ≡ None → IsWellFormed lobby → IsWellFormed (with_newcomer lobby session name)
@@ -89,7 +86,7 @@ keeps_enter lobby session name digest =
     record {
       formed = λ allowed h.
           let parts = or_parts (is_some (member_of lobby session)) (is_some (holder_of lobby (key_of entrant.name))) allowed.1.0 in
-          formed_welcomed entrant.check lobby session entrant.name (has_room 256 (length lobby.members) allowed.0) (none_some (member_of lobby session) parts.0)
+          formed_welcomed entrant.check lobby session entrant.name (leb-false 256 (length lobby.members) allowed.0) (none_some (member_of lobby session) parts.0)
           (none_some (holder_of lobby (key_of entrant.name)) parts.1) h;
       games = games_welcomed entrant.check lobby session entrant.name;
       tells = λ _. tells_welcome entrant.check entrant.name;

@@ -10,7 +10,6 @@ use Rattle.lobby_state.specs.Keeps.{Keeps, TellsDesks}
 use Rattle.lobby_state.specs.Lobby.{LobbyState, is_named, is_session, member_of, named, partner_in}
 use Rattle.lobby_state.specs.Partner.{ask_effect, asked_reply, has_partner, is_asked_by, part_effect, partner_effect, partner_words, partnered, single}
 use Rattle.lobby_state.specs.Said.{said}
-use Rattle.lobby_state.specs.Told.{lists_told, no_lists}
 use Rattle.lobby_state.specs.WellFormed.{IsWellFormed, sessions_of}
 use Rattle.lobby_state.proofs.Broadcasting.{IsWellFormed-broadcast}
 use Rattle.lobby_state.proofs.Lists.{find-contained, find-passes}

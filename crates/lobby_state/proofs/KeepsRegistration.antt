@@ -1,5 +1,5 @@
 -- What a Register and the loading of an account keep.
-use Rattle.std.proofs.Common.{◌≡◌, ℕ, ◌<◌, false, leb, List, Option, None, Some, Result, Ok, Err, length, refl, sym, subst, rules, tests}
+use Rattle.std.proofs.Common.{◌≡◌, ℕ, false, leb, List, Option, None, Some, Result, Ok, Err, length, refl, sym, subst, rules}
 use Rattle.std.specs.Prelude.{is_some}
 use Rattle.fics_words.specs.Effect.{Takes}
 use Rattle.fics_words.specs.Handle.{key_of}
@@ -17,13 +17,11 @@ use Rattle.lobby_state.specs.WellFormed.{IsWellFormed, sessions_of}
 use Rattle.game_shelf.specs.Shelf.{account_order}
 use Rattle.lobby_state.proofs.ShelfRows.{AreCounted-account, AreCounted-new_account, IsShelfOf-ordered}
 use Rattle.lobby_state.proofs.Causes.{none_holds}
+use Rattle.std.proofs.lemmas.Bool.{leb-false}
 
 none_there : (o : Option Account) → is_some o ≡ false → o ≡ None
 none_there None e = refl
 none_there (Some account) e = cc
-
-has_room : (n m : ℕ) → leb n m ≡ false → m < n
-has_room n m e = search (rules, tests)
 
 -- an account of a handle without one, where there is room for it
 pub with_one_account : (lobby : LobbyState) (account : Account) → has_account lobby.accounts account.name ≡ false → leb 4096 (length lobby.accounts) ≡ false
@@ -31,7 +29,7 @@ pub with_one_account : (lobby : LobbyState) (account : Account) → has_account 
 with_one_account lobby account free room h = record {
   accounts = (
     HasOneEach-append lobby.accounts account h.accounts.0 (none_there (account_of lobby.accounts (key_of account.name)) free),
-    length-one_more lobby.accounts account (has_room 4096 (length lobby.accounts) room),
+    length-one_more lobby.accounts account (leb-false 4096 (length lobby.accounts) room),
   );
   hall = h.hall;
   sessions = h.sessions;

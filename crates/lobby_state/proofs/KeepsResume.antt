@@ -1,10 +1,9 @@
 -- What a Resume keeps: its plan can be carried out.
-use Rattle.std.proofs.Common.{◌≡◌, ◌≢◌, ◌⊎◌, ℕ, ◌+◌, ◌-◌, ◌<◌, zero, suc, Bool, true, false, ◌&&◌, ◌||◌, cond, List, [], ◌∷◌, Option, None, Some, is_none, bytes_eq, length, map, get_or, slice_get, refl, sym, ap, subst, ◌∙◌, inl, inr, arith}
+use Rattle.std.proofs.Common.{◌≡◌, ◌≢◌, ℕ, ◌+◌, ◌-◌, ◌<◌, zero, suc, Bool, true, false, ◌||◌, cond, List, [], ◌∷◌, Option, None, Some, is_none, bytes_eq, length, map, get_or, slice_get, refl, sym, ap, subst, ◌∙◌, inl, inr, arith}
 use Rattle.std.specs.Prelude.{All, Contains, nat_le}
 use Rattle.std.specs.List.{AllPairs, IsDistinct, find, list_all, list_any}
-use Rattle.std.proofs.lemmas.Bool.{eq-eqb, ne_eqb, eqb-true, eqb-false, leb-false, or_parts}
+use Rattle.std.proofs.lemmas.Bool.{eq-eqb, ne_eqb, eqb-true, eqb-false, leb-false, or_parts, or_cases, and_parts}
 use Rattle.std.proofs.lemmas.List.{map-id}
-use Rattle.std.proofs.lemmas.Slice.Eq.{bytes_eq-Decides}
 use Rattle.std.proofs.lemmas.List.Elements.{All-nil, All-cons, All-contains, All-head, All-tail}
 use Rattle.chess_model.specs.declared.variant.Variant.{Variant}
 use Rattle.chess_model.specs.declared.variant.Variant.TheVariants.{Chess, Crazyhouse, Bughouse, Fischer}
@@ -28,17 +27,14 @@ use Rattle.lobby_state.specs.Pairing.{needs_partners}
 use Rattle.lobby_state.specs.Planned.{AreApart, CanAsk, FitsVariant, IsMember, IsPlanned}
 use Rattle.lobby_state.specs.Resume.{Resuming, as_they_sat, asking, going_on, has_asked_for, meant, playing_as, resume_at, resume_effect, resuming_causes, resuming_of, resuming_plan, seated_as, would_start}
 use Rattle.lobby_state.specs.WellFormed.{IsWellFormed, sessions_of}
-use Rattle.lobby_state.proofs.First.{position-within}
 use Rattle.lobby_state.proofs.KeepsResumed.{used-stored}
 use Rattle.lobby_state.proofs.Lists.{find-contained, find-passes, find-step}
 use Rattle.lobby_state.proofs.Starts.{all_of_four, all_of_two, free-is, pairs_of_four, pairs_of_two}
 use Rattle.lobby_state.proofs.WellFormed.{find-has}
-
-same_key : (one other : List ℕ) → bytes_eq one other ≡ true → one ≡ other
-same_key one other h = (bytes_eq-Decides one other).0 h
-
-own_key : (key : List ℕ) → bytes_eq key key ≡ true
-own_key key = (bytes_eq-Decides key key).1 refl
+use Rattle.game_shelf.proofs.Leading.{same_key}
+use Rattle.login_handles.proofs.GuestNames.{bytes_eq-self}
+use Rattle.lobby_state.proofs.KeepsEnter.{same_key as differ_by}
+use Rattle.tables.proofs.Placed.{position-within}
 
 lesser : (a b c : ℕ) → a < b → b ≡ c → a ≡ c → ⊥
 lesser a b c h e same = omega (arith, h, e, same)
@@ -101,33 +97,25 @@ named_here : (lobby : LobbyState) (number : ℕ) (name : List ℕ) (found : Opti
 named_here lobby number name None e asked = cc
 named_here lobby number name (Some member) e asked = record { member = member; found = e }
 
-either : (a b : Bool) → a || b ≡ true → (a ≡ true) ⊎ (b ≡ true)
-either true b h = inl refl
-either false b h = inr h
-
 -- all players of a game that would start are there
 here_by : (lobby : LobbyState) (session : ℕ) (caller : Member) (number : ℕ) (name : List ℕ) → member_of lobby session ≡ Some caller
     → bytes_eq (key_of name) (key_of caller.name) || has_asked_for lobby number name ≡ true → IsHere lobby name
 here_by lobby session caller number name first h =
-    elim (either (bytes_eq (key_of name) (key_of caller.name)) (has_asked_for lobby number name) h) [
+    elim (or_cases (bytes_eq (key_of name) (key_of caller.name)) (has_asked_for lobby number name) h) [
       | inl own ↦
           let same = same_key (key_of name) (key_of caller.name) own in
           let found = some_found (is_session session) (has_handle (key_of name)) lobby.members caller first
-          (subst (λ (key : List ℕ). bytes_eq (key_of caller.name) key ≡ true) (sym same) (own_key (key_of caller.name))) in
+          (subst (λ (key : List ℕ). bytes_eq (key_of caller.name) key ≡ true) (sym same) (bytes_eq-self (key_of caller.name))) in
           record { member = found.0; found = found.1 }
       | inr asked ↦ named_here lobby number name (playing_as lobby name) refl asked
     ]
-
-both_pass : (a b : Bool) → a && b ≡ true → (a ≡ true) × (b ≡ true)
-both_pass true b h = (refl, h)
-both_pass false b h = cc
 
 all_here : (lobby : LobbyState) (session : ℕ) (caller : Member) (number : ℕ) (names : List (List ℕ)) → member_of lobby session ≡ Some caller
     → list_all (λ name. bytes_eq (key_of name) (key_of caller.name) || has_asked_for lobby number name) names ≡ true
     → All (IsHere lobby) names
 all_here lobby session caller number [] first h = All-nil (IsHere lobby)
 all_here lobby session caller number (name ∷ names) first h =
-    let both = both_pass _ _ h in
+    let both = and_parts _ _ h in
     All-cons (IsHere lobby) name names (here_by lobby session caller number name first both.0) (all_here lobby session caller number names first both.1)
 
 -- the player in the seat of a name
@@ -228,9 +216,9 @@ two_fit lobby (Fischer number) a b two are =
 
 -- one of two who have one key has every key that is among theirs
 among_two : (a b key : List ℕ) → key_of a ≡ key_of b → list_any (λ name. bytes_eq (key_of name) key) (a ∷ b ∷ []) ≡ true → key_of a ≡ key
-among_two a b key same there = elim (either (bytes_eq (key_of a) key) (bytes_eq (key_of b) key || false) there) [
+among_two a b key same there = elim (or_cases (bytes_eq (key_of a) key) (bytes_eq (key_of b) key || false) there) [
   | inl first ↦ same_key (key_of a) key first
-  | inr rest ↦ elim (either (bytes_eq (key_of b) key) false rest) [
+  | inr rest ↦ elim (or_cases (bytes_eq (key_of b) key) false rest) [
     | inl second ↦ same ∙ same_key (key_of b) key second
     | inr bad ↦ cc
   ]
@@ -239,10 +227,6 @@ among_two a b key same there = elim (either (bytes_eq (key_of a) key) (bytes_eq 
 two_keys : (a b own key : List ℕ) → own ≢ key → list_any (λ name. bytes_eq (key_of name) own) (a ∷ b ∷ []) ≡ true
     → list_any (λ name. bytes_eq (key_of name) key) (a ∷ b ∷ []) ≡ true → key_of a ≢ key_of b
 two_keys a b own key differ first second = λ same. differ (sym (among_two a b own same first) ∙ among_two a b key same second)
-
-differ_by : (one other : List ℕ) → bytes_eq one other ≡ false → one ≢ other
-differ_by one other fails same =
-    let bad : true ≡ false = sym (own_key one) ∙ ap (bytes_eq one) same ∙ fails in cc
 
 four_keys : (a b c d : List ℕ) → IsDistinct bytes_eq (map key_of (a ∷ b ∷ c ∷ d ∷ [])) → KeysDiffer a b c d
 unfolding IsDistinct
@@ -304,7 +288,7 @@ row_there lobby session key r are =
 
 keys_differ : (lobby : LobbyState) (session : ℕ) (key : List ℕ) (r : Resuming) → AreMeant lobby session key r → IsWellFormed lobby → key_of r.caller.name ≢ key
 keys_differ lobby session key r are h = λ same.
-    let named_so = both_pass (has_handle key r.other) _ (find-passes (is_named key) lobby.members r.other are.other) in
+    let named_so = and_parts (has_handle key r.other) _ (find-passes (is_named key) lobby.members r.other are.other) in
     let theirs : key_of r.other.name ≡ key = same_key (key_of r.other.name) key named_so.0 in
     let one : r.caller ≡ r.other =
     one_member (λ m. key_of m.name) lobby.members (is_session session) (is_named key) r.caller r.other are.caller are.other h.handles (same ∙ sym theirs) in
@@ -327,7 +311,7 @@ can_resume lobby session key r slot are starts found few h =
     let there = row_there lobby session key r are in
     let replays = All-contains (λ row. Replays row.game) lobby.shelf.games r.row h.shelf.sound.replay there in
     let game = r.row.game in
-    let both = both_pass _ _ (find-passes (is_of_both (key_of r.caller.name) key) lobby.shelf.games r.row are.row) in
+    let both = and_parts _ _ (find-passes (is_of_both (key_of r.caller.name) key) lobby.shelf.games r.row are.row) in
     let here = all_here lobby session r.caller r.row.number game.names are.caller starts in
     let fit = fit_by lobby game.terms.variant game.names (key_of r.caller.name) key replays.spelled.players replays.players
     (keys_differ lobby session key r are h) both.0 both.1 here h in

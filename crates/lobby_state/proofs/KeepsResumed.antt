@@ -25,9 +25,10 @@ use Rattle.channel_feed.specs.Waiting.{with_line as with_one_more}
 use Rattle.lobby_state.specs.Resumed.{ask_line, asked_of, resumed, with_lines}
 use Rattle.lobby_state.specs.WellFormed.{HasSeats, IsShelfOf, IsWellFormed, sessions_of}
 use Rattle.lobby_state.proofs.DesksUsed.{desks_used-taken}
-use Rattle.lobby_state.proofs.KeepsStart.{formed_at, own_started, same_number}
+use Rattle.lobby_state.proofs.KeepsStart.{formed_at, own_started}
 use Rattle.lobby_state.proofs.Lists.{All-change_first, get-set_other, map-change_first_same}
 use Rattle.lobby_state.proofs.WellFormed.{kept}
+use Rattle.std.proofs.lemmas.Option.{same_Some}
 
 -- a stored game that is found is there
 used_by : (b : Bool) (row : Shelved) (games : List Shelved) (number : ℕ) (game : StoredGame) → (stored_game games number ≡ Some game → is_used games number ≡ true)
@@ -92,7 +93,7 @@ keeps_resumed lobby desk serial number terms seats can = record {
   is_desk = can.is_desk;
   formed = λ _ _ _ h. formed_resumed lobby desk serial number terms seats can h;
   own = λ _ _ place before e there.
-      own_started lobby desk place (record { serial = serial; terms = terms; seats = seats }) before (same_number desk place e) there;
+      own_started lobby desk place (record { serial = serial; terms = terms; seats = seats }) before (same_Some desk place e) there;
   others = λ _ _ place low other.
       let d = can.is_desk in
       get-set_other lobby.games (desk - 1) (place - 1) (Some (record { serial = serial; terms = terms; seats = seats }))

@@ -5,7 +5,7 @@ use Rattle.std.proofs.Math.ListN.{set}
 use Rattle.std.proofs.lemmas.Bool.{eqb-true}
 use Rattle.std.proofs.lemmas.List.{length-set}
 use Rattle.std.proofs.lemmas.List.Elements.{All-set, All-push, All-weaker}
-use Rattle.std.proofs.lemmas.Option.{slice_get_within}
+use Rattle.std.proofs.lemmas.Option.{slice_get_within, same_Some}
 use Rattle.chess_model.specs.declared.variant.Terms.{Terms}
 use Rattle.chess_model.specs.declared.variant.Variant.{Variant}
 use Rattle.chess_model.specs.declared.variant.Variant.TheVariants.{Chess, Crazyhouse, Bughouse, Fischer}
@@ -28,12 +28,13 @@ use Rattle.lobby_state.specs.Planned.{CanStart, FitsVariant}
 use Rattle.lobby_state.specs.Start.{in_seat, is_by_seated, is_settled, seated}
 use Rattle.lobby_state.specs.WellFormed.{AreCounted, IsShelfOf, IsWellFormed, IsSeatOf, IsStarted, HasSeats, sessions_of}
 use Rattle.lobby_state.proofs.ChallengeRows.{AreChallengesOf-filter}
-use Rattle.lobby_state.proofs.First.{position-within, find-found}
-use Rattle.lobby_state.proofs.Lists.{map-map_same, All-map_each, find-passes, get-set_same, get-set_other, get_inside}
+use Rattle.lobby_state.proofs.Lists.{map-map_same, All-map_each, find-passes, get-set_same, get-set_other}
 use Rattle.game_shelf.specs.Shelf.{ShelfState, is_by_seated as asks_seated}
 use Rattle.lobby_state.specs.Terms.{AreTerms}
 use Rattle.lobby_state.proofs.DesksUsed.{desks_used-taken}
 use Rattle.lobby_state.proofs.WellFormed.{kept, resumes_gone, seeks_gone}
+use Rattle.tables.proofs.Placed.{position-within, find-found}
+use Rattle.lobby_state.proofs.Lent.{at_place}
 
 -- a number of a seat is that of the session's own
 record Sits (session : ℕ) (seats : Seats) (number : ℕ) : Type 0 where
@@ -44,7 +45,7 @@ record Sits (session : ℕ) (seats : Seats) (number : ℕ) : Type 0 where
 Sits-seat_number : (session : ℕ) (seats : Seats) (number : ℕ) → seat_number session (seat_list seats) ≡ Some number → Sits session seats number
 Sits-seat_number session seats number e =
     let p = plays_as session in
-    let found = get_inside (seat_list seats) number (position-within p (seat_list seats) number e) in
+    let found = at_place (seat_list seats) number (position-within p (seat_list seats) number e) in
     record {
       seat = found.0;
       sits = found.1;
@@ -161,9 +162,6 @@ formed_seated lobby desk serial terms seats can h =
     formed_at lobby lobby.shelf desk serial terms seats can.is_desk can.is_free can.is_next can.are_terms can.boards h.shelf
     (record { few = omega (arith, few, next); room = omega (arith, more, room); orders = omega (arith, more, next, orders) }) h
 
-pub same_number : (one another : ℕ) → Some one ≡ Some another → one ≡ another
-same_number one another e = cc
-
 pub own_started : (lobby : LobbyState) (desk number : ℕ) (game : Game) (before : Option Game) → desk ≡ number → slice_get lobby.games (number - 1) ≡ Some before
     → slice_get (set lobby.games (desk - 1) (Some game)) (number - 1) ≡ Some (Some game)
 own_started lobby desk number game before same there =
@@ -176,7 +174,7 @@ keeps_started lobby desk serial terms seats can = record {
   is_desk = can.is_desk;
   formed = λ _ _ _ h. formed_seated lobby desk serial terms seats can h;
   own = λ _ _ number before e there.
-      own_started lobby desk number (record { serial = serial; terms = terms; seats = seats }) before (same_number desk number e) there;
+      own_started lobby desk number (record { serial = serial; terms = terms; seats = seats }) before (same_Some desk number e) there;
   others = λ _ _ number low other.
       let d = can.is_desk in
       get-set_other lobby.games (desk - 1) (number - 1) (Some (record { serial = serial; terms = terms; seats = seats }))

@@ -1,16 +1,17 @@
 -- A part of one member that is lent: the member at a place with that part written, where the place is that of the first
 -- member that passes a test.
-use Rattle.std.proofs.Common.{◌≡◌, ℕ, ◌<◌, ◌≤◌, zero, suc, Bool, true, false, not, filter, List, [], ◌∷◌, ◌++◌, cond, Some, Result, Ok, Err, OnErr, length, slice_get, refl, sym, ap, ◌∙◌, arith}
+use Rattle.std.proofs.Common.{◌≡◌, ℕ, ◌<◌, ◌≤◌, zero, suc, Bool, true, false, not, filter, List, [], ◌∷◌, ◌++◌, cond, Some, length, slice_get, refl, sym, ap, ◌∙◌, arith}
 use Rattle.std.specs.Prelude.{◌==◌}
 use Rattle.std.specs.List.{position}
 use Rattle.std.proofs.Math.ListN.{set}
-use Rattle.std.proofs.lemmas.Bool.{eqb-true, eqb-false, eq-eqb, ne_eqb}
 use Rattle.std.proofs.lemmas.List.Filters.{length-filter_both}
 use Rattle.tables.specs.Rows.{change_at, change_first as change_row}
 use Rattle.lobby_state.specs.declared.member.Member.{Member}
 use Rattle.lobby_state.specs.Change.{change_first}
 use Rattle.lobby_state.specs.Lobby.{is_session}
-use Rattle.lobby_state.proofs.First.{change_first-found, position-within}
+use Rattle.lobby_state.proofs.First.{change_first-found}
+use Rattle.game_shelf.proofs.Requests.{turned}
+use Rattle.tables.proofs.Placed.{position-within}
 
 -- a write of what stands there changes nothing
 pub set-same : {X : Type 0} (xs : List X) (i : ℕ) (x : X) → slice_get xs i ≡ Some x → set xs i x ≡ xs
@@ -52,22 +53,9 @@ kept_there h xs i inside is =
 pub kept_here : {X : Type 0} (p : X → Bool) (h : X → X) (xs : List X) (i : ℕ) → Some i ≡ position p xs → ((x : X) → slice_get xs i ≡ Some x → h x ≡ x) → change_at i h xs ≡ xs
 kept_here p h xs i here is = kept_there h xs i (position-within p xs i (sym here)) is
 
--- a fact that holds anyway
-pub on_err : {T E Y : Type 0} (r : Result T E) → Y → OnErr r Y
-on_err (Ok x) y = tt
-on_err (Err e) y = y
-
 -- no more items pass a test than there are
 pub fewer : {X : Type 0} (p : X → Bool) (xs : List X) → length (filter p xs) ≤ length xs
 fewer p xs = omega (arith, length-filter_both p (λ x. not (p x)) (λ x. refl) xs)
-
--- a session is found from either side of the comparison
-pub turned : (a b : ℕ) → (a == b) ≡ (b == a)
-turned a b =
-    elim (b == a) as (λ t. (b == a) ≡ t → (a == b) ≡ t) [
-      | true ↦ λ same. eq-eqb a b (sym (eqb-true b a same))
-      | false ↦ λ differ. ne_eqb a b (λ e. eqb-false b a differ (sym e))
-    ] refl
 
 -- a table's change of the row of a session is the change of its member
 pub by_session : (session : ℕ) (f : Member → Member) (members : List Member)

@@ -6,6 +6,7 @@ use Rattle.std.proofs.Math.ListN.{set, get_or-map}
 use Rattle.std.proofs.lemmas.List.{length-map}
 use Rattle.std.proofs.lemmas.List.Elements.{All-nil, All-cons, All-head, All-tail}
 use Rattle.lobby_state.specs.Change.{change_first}
+use Rattle.game_shelf.proofs.Keeping.{filter_step}
 
 pub map-map_same : {X Y : Type 0} (g : X → Y) (f : X → X) → ((x : X) → g (f x) ≡ g x) → (xs : List X) → map g (map f xs) ≡ map g xs
 map-map_same g f same [] = refl
@@ -54,16 +55,12 @@ All-change_first_passing P p f step (x ∷ xs) h =
     let tail = All-tail P x xs h in
     by_test-passing P (p x) x (f x) xs (change_first p f xs) head (λ passes. step x passes head) tail (All-change_first_passing P p f step xs tail)
 
-pub filter-step : {X : Type 0} (Q : X → Type 0) (b : Bool) (x : X) (xs : List X) → (b ≡ true → Q x) → All Q xs → All Q (cond b (x ∷ xs) xs)
-filter-step Q true x xs head tail = All-cons Q x xs (head refl) tail
-filter-step Q false x xs head tail = tail
-
 -- what passes the test has more than each item has
 pub All-filter_passing : {X : Type 0} (P Q : X → Type 0) (p : X → Bool) → ((x : X) → p x ≡ true → P x → Q x) → (xs : List X)
     → All P xs → All Q (filter p xs)
 All-filter_passing P Q p step [] h = All-nil Q
 All-filter_passing P Q p step (x ∷ xs) h =
-    filter-step Q (p x) x (filter p xs) (λ e. step x e (All-head P x xs h)) (All-filter_passing P Q p step xs (All-tail P x xs h))
+    filter_step Q (p x) x (filter p xs) (λ e. step x e (All-head P x xs h)) (All-filter_passing P Q p step xs (All-tail P x xs h))
 
 pub map-cond_cons : {X Y : Type 0} (g : X → Y) (b : Bool) (x : X) (xs : List X) → map g (cond b (x ∷ xs) xs) ≡ cond b (g x ∷ map g xs) (map g xs)
 map-cond_cons g true x xs = refl
@@ -140,9 +137,3 @@ get-set_other (x ∷ xs) zero zero y h = absurd (h refl)
 get-set_other (x ∷ xs) zero (suc j) y h = refl
 get-set_other (x ∷ xs) (suc i) zero y h = refl
 get-set_other (x ∷ xs) (suc i) (suc j) y h = get-set_other xs i j y (λ e. h (ap suc e))
-
--- what stands within a list
-pub get_inside : {X : Type 0} (xs : List X) (i : ℕ) → i < length xs → (x : X) × (slice_get xs i ≡ Some x)
-get_inside [] i h = absurd (omega arith)
-get_inside (x ∷ xs) zero h = (x, refl)
-get_inside (x ∷ xs) (suc i) h = get_inside xs i (omega arith)

@@ -18,9 +18,9 @@ use Rattle.lobby_state.specs.Lobby.{LobbyState, is_session, member_of, named, pl
 use Rattle.lobby_state.specs.OwnPlaces.{placed, with_places}
 use Rattle.lobby_state.specs.Places.{PlaceList, present_at}
 use Rattle.lobby_state.proofs.Causes.{none_holds}
-use Rattle.lobby_state.proofs.First.{position-within}
 use Rattle.lobby_state.proofs.KeepingAway.{none_where_done}
 use Rattle.simul_control.specs.declared.place.Place.{Place}
+use Rattle.tables.proofs.Placed.{position-within}
 
 -- the place of the first item that passes, and where none does
 pub position-is : {X : Type 0} (p : X → Bool) (xs : List X) (i : ℕ) (d : X) → i < length xs

@@ -3,7 +3,7 @@
 use Rattle.std.proofs.Common.{◌≡◌, ◌⊎◌, ℕ, ◌≤◌, ◌<◌, zero, suc, Bool, true, false, not, cond, List, [], ◌∷◌, ◌++◌, length, get_or, refl, sym, ap, ◌∙◌, inl, inr, arith}
 use Rattle.std.specs.Prelude.{All, if◌then◌else◌}
 use Rattle.std.specs.Cmp.{IsStrictWeakOrder}
-use Rattle.std.specs.List.{AllByRecursion, AllPairs, filter, insert}
+use Rattle.std.specs.List.{AllByRecursion, filter, insert}
 use Rattle.std.specs.List.Sorted.{IsPartitionPoint, IsPartitionedBy, IsPermutation}
 use Rattle.std.proofs.lemmas.Cmp.{nat_list_cmp_total}
 use Rattle.std.proofs.lemmas.List.Elements.{All-nil, All-cons, All-weaker, recursion_from_All}
@@ -14,18 +14,12 @@ use Rattle.fics_words.specs.Handle.{key_of}
 use Rattle.lobby_state.specs.declared.name_row.NameRow.{NameRow}
 use Rattle.lobby_state.specs.declared.member.Member.{Member}
 use Rattle.lobby_state.specs.Names.{AreRowsInOrder, comes_before, row_of, with_row, with_rows}
+use Rattle.std.proofs.lemmas.Bool.{not-true, not_from_false}
+use Rattle.lobby_state.proofs.InOrder.{pairs_head, pairs_tail}
 
 -- of any two keys one comes before the other, or they are one
 keys_rank : IsStrictWeakOrder comes_before
 keys_rank = ranks_by nat_list_cmp_total (λ (row : NameRow). key_of row.name)
-
-was_not : (b : Bool) → not b ≡ true → b ≡ false
-was_not true e = cc
-was_not false e = refl
-
-not_false : (b : Bool) → b ≡ false → not b ≡ true
-not_false true e = cc
-not_false false e = refl
 
 same_or_before : (i j : ℕ) → i ≤ j → (i ≡ j) ⊎ (i < j)
 same_or_before i j h = grind arith
@@ -34,8 +28,8 @@ same_or_before i j h = grind arith
 pub parted : (name : NameRow) (names : List NameRow) → AreRowsInOrder names → IsPartitionedBy (λ other. not (comes_before name other)) names
 parted name names order i j d low inside up = elim (same_or_before i j low) [
   | inl same ↦ ap (λ (k : ℕ). not (comes_before name (get_or names k d))) same ∙ up
-  | inr before ↦ not_false (comes_before name (get_or names i d))
-      (keys_rank.chain name (get_or names j d) (get_or names i d) (was_not (comes_before name (get_or names j d)) up) (order i j d before inside))
+  | inr before ↦ not_from_false (comes_before name (get_or names i d))
+      (keys_rank.chain name (get_or names j d) (get_or names i d) (not-true (comes_before name (get_or names j d)) up) (order i j d before inside))
 ]
 
 the_first : (b : Bool) (one another : List NameRow) → not b ≡ false → (if b then one else another) ≡ one
@@ -58,12 +52,6 @@ put_there name (other ∷ names) (suc i) low h =
     ap (λ (ns : List NameRow). other ∷ ns) (put_there name names i (omega (arith, low))
     ((λ k d from below. h.0 (suc k) d (omega arith) (omega (arith, below))), λ k d from inside. h.1 (suc k) d (omega (arith, from)) (omega (arith, inside))))
     ∙ sym (the_second (comes_before name other) (name ∷ other ∷ names) (other ∷ with_row name names) (h.0 0 other (omega arith) (omega arith)))
-
-pub pairs_head : {X : Type 0} (R : X → X → Type 0) (x : X) (xs : List X) → AllPairs R (x ∷ xs) → All (R x) xs
-pairs_head R x xs h k d inside = h 0 (suc k) d (omega arith) (omega (arith, inside))
-
-pub pairs_tail : {X : Type 0} (R : X → X → Type 0) (x : X) (xs : List X) → AllPairs R (x ∷ xs) → AllPairs R xs
-pairs_tail R x xs h i j d before inside = h (suc i) (suc j) d (omega (arith, before)) (omega (arith, inside))
 
 -- one handle more, and the others as they were
 more_by : (b : Bool) (name other : NameRow) (names : List NameRow) → IsPermutation (name ∷ names) (with_row name names)

@@ -1,5 +1,5 @@
 -- The rows that an InUse tells are the desks in use, each of them once, in ascending order.
-use Rattle.std.proofs.Common.{◌≡◌, ℕ, ◌+◌, ◌<◌, ◌≤◌, ◌⊎◌, zero, suc, List, [], ◌++◌, Option, None, Some, refl, sym, ap, subst, ◌∙◌, inl, inr, arith}
+use Rattle.std.proofs.Common.{◌≡◌, ℕ, ◌+◌, ◌<◌, ◌≤◌, zero, suc, List, [], ◌++◌, Option, None, Some, refl, sym, ap, subst, ◌∙◌, inl, inr, arith}
 use Rattle.std.specs.Prelude.{All, Contains}
 use Rattle.std.specs.List.{AllPairs}
 use Rattle.std.proofs.lemmas.List.{append-nil}
@@ -10,6 +10,7 @@ use Rattle.lobby_state.specs.declared.game.Game.{Game}
 use Rattle.lobby_state.specs.InUse.{AreDesksInUse, IsInUse, desks_in_use, row_of, rows_to}
 use Rattle.lobby_state.specs.Lobby.{LobbyState, game_at}
 use Rattle.lobby_state.proofs.Lists.{Contains-here}
+use Rattle.lobby_state.proofs.GamesFound.{last_or_before}
 
 -- the row is of a desk up to this number
 abbrev IsUpTo : ℕ → DeskInUse → Type 0
@@ -49,9 +50,6 @@ has_row lobby row (Some game) e h =
     let same : game ≡ h.game = same_game game h.game (sym e ∙ h.there) in
     let serial : game.serial ≡ row.serial = ap (λ (g : Game). g.serial) same ∙ h.serial in
     Contains-here row (record { desk = row.desk; serial = game.serial }) [] (ap (λ (n : ℕ). record { desk = row.desk; serial = n }) serial)
-
-last_or_before : (desk count : ℕ) → desk ≤ suc count → (desk ≤ count) ⊎ (desk ≡ count + 1)
-last_or_before desk count h = grind arith
 
 has_rows : (lobby : LobbyState) (row : DeskInUse) (count : ℕ) → IsInUse lobby row → row.desk ≤ count → Contains (rows_to lobby count) row
 has_rows lobby row zero h low = absurd (omega (arith, h.is_desk))

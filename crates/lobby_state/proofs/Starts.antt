@@ -7,7 +7,7 @@ use Rattle.std.proofs.lemmas.Bool.Decides.{eqb_tells}
 use Rattle.std.proofs.lemmas.List.Elements.{All-nil, All-cons}
 use Rattle.std.proofs.lemmas.List.Folds.{find_at}
 use Rattle.std.proofs.lemmas.List.Kept.{AllPairs-cons}
-use Rattle.std.proofs.lemmas.Option.{get_or_from_slice_get, slice_get_within}
+use Rattle.std.proofs.lemmas.Option.{get_or_from_slice_get, slice_get_within, same_Some}
 use Rattle.chess_model.specs.declared.variant.Terms.{Terms}
 use Rattle.chess_model.specs.declared.variant.Variant.{Variant}
 use Rattle.chess_model.specs.declared.variant.Variant.TheVariants.{Chess, Crazyhouse, Bughouse, Fischer}
@@ -27,8 +27,9 @@ use Rattle.lobby_state.specs.Starting.{has_white, opponents_of, player_of, secon
 use Rattle.lobby_state.specs.ShelfRoom.{is_shelf_full, places_taken}
 use Rattle.lobby_state.specs.Terms.{AreTerms}
 use Rattle.lobby_state.specs.WellFormed.{IsWellFormed}
-use Rattle.lobby_state.proofs.First.{position-within, find-found}
-use Rattle.lobby_state.proofs.Lists.{find-contained, find-passes, get_inside}
+use Rattle.lobby_state.proofs.Lists.{find-contained, find-passes}
+use Rattle.tables.proofs.Placed.{position-within, find-found}
+use Rattle.lobby_state.proofs.Lent.{at_place}
 
 none_there : {X : Type 0} (o : Option X) → is_none o ≡ true → o ≡ None
 none_there None e = refl
@@ -37,7 +38,7 @@ none_there (Some x) e = cc
 -- the slot that was found is free
 pub free-is : (games : List (Option Game)) (slot : ℕ) → position is_none games ≡ Some slot → slice_get games slot ≡ Some None
 free-is games slot e =
-    let item = get_inside games slot (position-within is_none games slot e) in
+    let item = at_place games slot (position-within is_none games slot e) in
     let passes = find-passes is_none games item.0 (find-found is_none games slot e ∙ item.1) in
     item.1 ∙ ap (λ g. Some g) (none_there item.0 passes)
 
@@ -65,9 +66,6 @@ keys_apart members p q a b h first second apart = λ same.
             h j i a below in_i (ap (λ (m : Member). key_of m.name) get_j ∙ sym same ∙ sym (ap (λ (m : Member). key_of m.name) get_i))
       ]
     ]
-
-inside_some : (a b : ℕ) → Some a ≡ Some b → a ≡ b
-inside_some a b e = cc
 
 -- ---- members who are found and differ
 
@@ -216,9 +214,9 @@ are_four lobby offering accepting first second own other own_partner other_partn
     let beside_other : accepting.session ≢ second.session =
     λ e. partner_of-other links all accepting.session (other_link ∙ ap (λ (s : ℕ). Some s) (sym e)) in
     let across : offering.session ≢ second.session =
-    λ e. away (inside_some first.session accepting.session (sym own_link ∙ ap (partner_of links) e ∙ other_back)) in
+    λ e. away (same_Some first.session accepting.session (sym own_link ∙ ap (partner_of links) e ∙ other_back)) in
     let between : first.session ≢ second.session =
-    λ e. opposed (inside_some offering.session accepting.session (sym own_back ∙ ap (partner_of links) e ∙ other_back)) in
+    λ e. opposed (same_Some offering.session accepting.session (sym own_back ∙ ap (partner_of links) e ∙ other_back)) in
     record {
       own = own;
       other = other;

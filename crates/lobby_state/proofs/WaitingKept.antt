@@ -3,7 +3,7 @@
 use Rattle.std.proofs.Common.{◌≡◌, ◌≢◌, ◌⊎◌, ℕ, ◌==◌, inl, inr, arith, Bool, true, false, not, cond, if◌then◌else◌, List, [], ◌∷◌, ◌++◌, Option, None, Some, map, filter, refl, sym, ap, subst, ◌∙◌}
 use Rattle.std.specs.Prelude.{All}
 use Rattle.std.specs.List.{find}
-use Rattle.std.proofs.lemmas.Bool.{eqb-true}
+use Rattle.std.proofs.lemmas.Bool.{eqb-true, false_from_ne_true}
 use Rattle.std.proofs.lemmas.List.{append-nil, append_assoc}
 use Rattle.std.proofs.lemmas.List.Elements.{All-head, All-tail}
 use Rattle.channel_feed.specs.Waiting.{is_full as are_full}
@@ -113,10 +113,6 @@ hears_by false line m = same_lines m m refl refl
 kept_broadcast : (test : Member → Bool) (line : List ℕ) (session : ℕ) (xs : List Member) → Kept session xs (broadcast test line xs)
 kept_broadcast test line session xs = kept_map (hearing test line) (λ m. hears_by (hears test m) line m) session xs
 
-not_true : (b : Bool) → (b ≡ true → ⊥) → b ≡ false
-not_true true h = absurd (h refl)
-not_true false h = refl
-
 differs : (one another : ℕ) → (one == another) ≡ false → one ≢ another
 differs one another e same = grind (arith, e, same)
 
@@ -143,7 +139,7 @@ gone_by false false p x old left other e h =
 
 other_by : (by session number : ℕ) → by ≢ session → (number == session) ≡ true → (number == by) ≡ false
 other_by by session number differ e =
-    not_true (number == by) (λ f. differ (sym (eqb-true number by f) ∙ eqb-true number session e))
+    false_from_ne_true (number == by) (λ f. differ (sym (eqb-true number by f) ∙ eqb-true number session e))
 
 kept_gone : (by session : ℕ) (xs : List Member) → by ≢ session → Kept session xs (filter (λ m. not (is_session by m)) xs)
 kept_gone by session [] differ = begins_same []
@@ -234,7 +230,7 @@ fetch_by : (b : Bool) (by session : ℕ) (x : Member) (xs : List Member) → is_
     → Kept session (x ∷ xs) (cond b (emptied x ∷ xs) (x ∷ change_first (is_session by) emptied xs))
 fetch_by true by session x xs e differ rest =
     away_by (is_session session x) x (emptied x) (find (is_session session) xs)
-    (not_true (is_session session x) (λ own. differ (sym (eqb-true x.session by e) ∙ eqb-true x.session session own)))
+    (false_from_ne_true (is_session session x) (λ own. differ (sym (eqb-true x.session by e) ∙ eqb-true x.session session own)))
 fetch_by false by session x xs e differ rest = kept_cons session x x xs (change_first (is_session by) emptied xs) (same_lines x x refl refl) rest
 
 kept_fetched : (by session : ℕ) (xs : List Member) → by ≢ session → Kept session xs (change_first (is_session by) emptied xs)

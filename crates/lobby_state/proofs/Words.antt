@@ -54,7 +54,7 @@ IsPrinted-from_test most text short h = record {
   shows = λ k d inside. in_range-holds _ (AllPass-from_list_all in_range text h k d inside);
 }
 
-IsPrintable-digit : (byte : ℕ) → (48 ≤ byte) × (byte ≤ 57) → IsPrintable byte
+pub IsPrintable-digit : (byte : ℕ) → (48 ≤ byte) × (byte ≤ 57) → IsPrintable byte
 IsPrintable-digit byte h = (omega arith, omega arith)
 
 IsPrinted-decimal : (n : ℕ) → n < 2 ^ 16 → IsPrinted 5 (decimal n)
@@ -66,7 +66,7 @@ IsPrinted-decimal n small = record {
       (IsPrintable-digit _ (digit_at (decimal n) k (decimal_is_IsNumeral n fits).0.1 inside));
 }
 
-IsPrintable-letter : (byte : ℕ) → IsAsciiAlphabetic byte → IsPrintable byte
+pub IsPrintable-letter : (byte : ℕ) → IsAsciiAlphabetic byte → IsPrintable byte
 IsPrintable-letter byte (inl upper) = (omega (arith, upper), omega (arith, upper))
 IsPrintable-letter byte (inr lower) = (omega (arith, lower), omega (arith, lower))
 

@@ -6,12 +6,12 @@ use Rattle.lobby_state.specs.declared.told.ReplyLists.{ReplyLists}
 
 -- no lists
 abbrev pub no_lists : ReplyLists
-no_lists = record { lines = []; desks = []; orders = [] }
+no_lists = record { lines = []; waiting = []; desks = []; orders = [] }
 
 -- the lists that a reply tells
 abbrev pub lists_told : LobbyReply → ReplyLists
 lists_told (Lines lines) = record no_lists { lines = lines }
-lists_told (Waiting lines places) = record no_lists { lines = lines }
+lists_told (Waiting lines places) = record no_lists { waiting = lines }
 lists_told (Desks desks) = record no_lists { desks = desks }
 lists_told (Orders orders) = record no_lists { orders = orders }
 lists_told _ = no_lists

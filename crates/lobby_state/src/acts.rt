@@ -9,7 +9,7 @@ use crate::told::ReplyLists;
 use crate::var::Var;
 use chess_model::Terms;
 use collections::Listed;
-use fics_words::{Digest, Handle, HandleKey, Line, Seats};
+use fics_words::{Digest, Handle, HandleKey, Line, Lines, Seats};
 use game_shelf::Order;
 use simul_control::{Place, Places};
 
@@ -147,7 +147,7 @@ pub enum LobbyReply {
     /// The seek has this number.
     Number(u16),
     /// These lines, for whoever asked.
-    Lines(Listed<Line>),
+    Lines(Lines),
     /// So many members were told.
     Told(u16),
     /// The other is asked, and hasn't asked before.
@@ -179,7 +179,7 @@ impl LobbyReply {
             LobbyReply::Found(place) => LobbyReply::Found(*place),
             LobbyReply::Places(places) => LobbyReply::Places(*places),
             LobbyReply::Waiting { places, .. } => LobbyReply::Waiting {
-                lines: lists.lines,
+                lines: lists.waiting,
                 places: *places,
             },
             LobbyReply::Desks(_) => LobbyReply::Desks(lists.desks),

@@ -1,5 +1,4 @@
 //! Find: a member asks where a player plays.
-ghost use Rattle.std.specs.Prelude.{◌≡◌};
 ghost use Rattle.fics_words.specs.Effect.{Takes};
 ghost use Rattle.lobby_state.specs.Find.{find_effect};
 

@@ -1,5 +1,5 @@
 //! Games: a member asks which games there are.
-ghost use Rattle.std.specs.Prelude.{◌≡◌, ◌≤◌, ◌++◌, IfOk, OnOk, Some};
+ghost use Rattle.std.specs.Prelude.{◌≡◌, ◌≤◌, ◌∷◌, ◌++◌, [], IfOk, OnOk, Some};
 ghost use Rattle.fics_words.specs.Effect.{Takes};
 ghost use Rattle.lobby_state.specs.Desks.{IsDesk};
 ghost use Rattle.lobby_state.specs.Games.{board_line, board_words, game_number, games_effect, games_lines, lines_at, second_line};
@@ -9,9 +9,7 @@ use crate::game::{DESKS, Game};
 use crate::register::Register;
 use crate::terms::put_terms;
 use chess_model::Terms;
-use collections::Listed;
-use fics_words::{Fail, Line, NoMemory, Opponents, Refusal, write_number};
-use std::alloc::Global;
+use fics_words::{Fail, Lines, NoMemory, Opponents, Refusal, write_number};
 
 impl Register {
     /// The lines of all games, in the order of their numbers, one a board. It is refused where the session isn't a
@@ -27,22 +25,23 @@ impl Register {
     }
 
     /// The list of these lines.
-    pub(crate) fn games_lines(&self) -> Result<Listed<Line>, NoMemory>
+    pub(crate) fn games_lines(&self) -> Result<Lines, NoMemory>
         ensures { IfOk result (λ lines. lines ≡ games_lines self.now) }
     {
-        let mut lines = Listed::new(self.alloc);
+        let mut lines = Lines::new(self.alloc);
+        let mut text = Vec::new(self.alloc);
         for slot in 0..DESKS {
             let desk = slot as u8 + 1;
-            put_desk(self.alloc, &mut lines, desk, self.game(desk))?;
+            put_desk(&mut lines, &mut text, desk, self.game(desk))?;
         }
         Ok(lines)
     }
 }
 
-/// Appends the lines of the desk, where it is in use.
+/// Appends the lines of the desk, where it is in use. Each is written in `text` first.
 fn put_desk(
-    alloc: Global,
-    lines: &mut Listed<Line>,
+    lines: &mut Lines,
+    text: &mut Vec<u8>,
     desk: u8,
     game: Option<Game>,
 ) -> Result<(), NoMemory>
@@ -51,20 +50,25 @@ fn put_desk(
 {
     match game {
         None => Ok(()),
-        Some(game) => put_game(alloc, lines, desk, &game),
+        Some(game) => put_game(lines, text, desk, &game),
     }
 }
 
 /// Appends the lines of the desk in use for that game.
-fn put_game(alloc: Global, lines: &mut Listed<Line>, desk: u8, game: &Game) -> Result<(), NoMemory>
+fn put_game(lines: &mut Lines, text: &mut Vec<u8>, desk: u8, game: &Game) -> Result<(), NoMemory>
     requires { IsDesk desk }
     ensures { OnOk result (lines.new ≡ lines.old ++ lines_at desk (Some game.now)) }
 {
-    let first = board_line(alloc, game_number(desk, 1), game.terms, game.seats.first)?;
-    lines.push(first)?;
-    put_second(
-        alloc,
+    put_board(
         lines,
+        text,
+        game_number(desk, 1),
+        game.terms,
+        game.seats.first,
+    )?;
+    put_second(
+        lines,
+        text,
         game_number(desk, 2),
         game.terms,
         game.seats.second,
@@ -73,8 +77,8 @@ fn put_game(alloc: Global, lines: &mut Listed<Line>, desk: u8, game: &Game) -> R
 
 /// Appends the line of the second board, where there is one.
 fn put_second(
-    alloc: Global,
-    lines: &mut Listed<Line>,
+    lines: &mut Lines,
+    text: &mut Vec<u8>,
     number: u16,
     terms: Terms,
     second: Option<Opponents>,
@@ -83,10 +87,7 @@ fn put_second(
 {
     match second {
         None => Ok(()),
-        Some(opponents) => {
-            lines.push(board_line(alloc, number, terms, opponents)?)?;
-            Ok(())
-        }
+        Some(opponents) => put_board(lines, text, number, terms, opponents),
     }
 }
 
@@ -99,34 +100,35 @@ fn game_number(desk: u8, board: u16) -> u16
     2 * (u16::from(desk) - 1) + board
 }
 
-/// The line of a board, `G W B M I V`: the game's number, who has White and who has Black, and the terms without a
-/// colour.
-fn board_line(
-    alloc: Global,
+/// Appends the line of a board, `G W B M I V`: the game's number, who has White and who has Black, and the terms
+/// without a colour.
+fn put_board(
+    lines: &mut Lines,
+    text: &mut Vec<u8>,
     number: u16,
     terms: Terms,
     opponents: Opponents,
-) -> Result<Line, NoMemory>
-    ensures { IfOk result (λ line. line ≡ board_line number terms opponents) }
+) -> Result<(), NoMemory>
+    ensures { OnOk result (lines.new ≡ lines.old ++ board_line number terms opponents ∷ []) }
 {
     let white = opponents.white.name.letters();
     let black = opponents.black.name.letters();
-    let text = board_text(alloc, number, white, black, terms)?;
-    Ok(Line::from_bytes(text))
+    write_board(text, number, white, black, terms)?;
+    lines.push(text.as_slice())
 }
 
-/// The bytes of that line, for players with these letters.
-fn board_text(
-    alloc: Global,
+/// Writes that line, for players with these letters, in place of what the text has.
+fn write_board(
+    text: &mut Vec<u8>,
     number: u16,
     white: &[u8],
     black: &[u8],
     terms: Terms,
-) -> Result<Vec<u8>, NoMemory>
-    ensures { IfOk result (λ text. text.items ≡ board_words number white.now black.now terms) }
+) -> Result<(), NoMemory>
+    ensures { OnOk result (text.new.items ≡ board_words number white.now black.now terms) }
 {
-    let mut text = Vec::new(alloc);
-    write_number(&mut text, u64::from(number))?;
+    text.clear();
+    write_number(text, u64::from(number))?;
     text.push(b' ')?;
     text.extend_from_slice(white)?;
     text.push(b' ')?;
@@ -136,6 +138,5 @@ fn board_text(
         colour: None,
         ..terms
     };
-    put_terms(alloc, uncoloured, &mut text)?;
-    Ok(text)
+    put_terms(uncoloured, text)
 }

@@ -7,10 +7,9 @@ ghost use Rattle.lobby_state.specs.InChannel.{in_channel_effect, in_channel_line
 use crate::acts::LobbyReply;
 use crate::name_row::NameRow;
 use crate::register::Register;
-use crate::who::line_of;
+use crate::who::push_name;
 use channel_feed::Channels;
-use collections::Listed;
-use fics_words::{Fail, Line, NoMemory, Refusal};
+use fics_words::{Fail, Lines, NoMemory, Refusal};
 use std::alloc::Global;
 
 impl Register {
@@ -27,7 +26,7 @@ impl Register {
     }
 
     /// The list of these handles as lines.
-    pub(crate) fn in_channel_lines(&self, channel: u8) -> Result<Listed<Line>, NoMemory>
+    pub(crate) fn in_channel_lines(&self, channel: u8) -> Result<Lines, NoMemory>
         ensures { IfOk result (λ lines. lines ≡ in_channel_lines self.now channel) }
     {
         lines_in(self.alloc, self.members.names(), &self.channels, channel)
@@ -40,14 +39,14 @@ fn lines_in(
     names: &[NameRow],
     channels: &Channels,
     channel: u8,
-) -> Result<Listed<Line>, NoMemory>
+) -> Result<Lines, NoMemory>
     ensures { IfOk result (λ lines.
         lines ≡ map (λ row. row.name) (filter (λ row. is_in channels.now row.session channel) names.now)) }
 {
-    let mut lines = Listed::new(alloc);
+    let mut lines = Lines::new(alloc);
     for row in names {
         if channels.has(row.session, channel) {
-            lines.push(line_of(alloc, row.name)?)?;
+            push_name(&mut lines, row.name)?;
         }
     }
     Ok(lines)

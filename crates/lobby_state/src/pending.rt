@@ -1,16 +1,14 @@
 //! Pending: a member asks which challenges to it and by it stand.
-ghost use Rattle.std.specs.Prelude.{◌≡◌, ◌++◌, IfOk, OnOk};
+ghost use Rattle.std.specs.Prelude.{◌≡◌, ◌∷◌, ◌++◌, [], IfOk, OnOk};
 ghost use Rattle.fics_words.specs.Effect.{Takes};
 ghost use Rattle.lobby_state.specs.Pending.{is_on_side, other_of, pending_effect, pending_line, pending_lines, pending_words, side_lines, side_words};
 
 use crate::acts::LobbyReply;
 use crate::register::Register;
-use crate::terms::with_terms;
+use crate::terms::put_terms;
 use chess_model::Terms;
-use collections::Listed;
-use fics_words::{Fail, Line, NoMemory, Refusal};
+use fics_words::{Fail, Lines, NoMemory, Refusal};
 use seek_match::Challenge;
-use std::alloc::Global;
 
 /// On which side of a challenge the member stands that asks.
 #[derive(Clone, Copy)]
@@ -35,35 +33,62 @@ impl Register {
     }
 
     /// The list of these lines.
-    pub(crate) fn pending_lines(&self, session: u32) -> Result<Listed<Line>, NoMemory>
+    pub(crate) fn pending_lines(&self, session: u32) -> Result<Lines, NoMemory>
         ensures { IfOk result (λ lines. lines ≡ pending_lines self.now session) }
     {
-        let mut lines = self.side_lines(session, Side::FromOthers)?;
-        let mut others = self.side_lines(session, Side::ToOthers)?;
-        lines.append(&mut others)?;
+        let mut lines = Lines::new(self.alloc);
+        let mut text = Vec::new(self.alloc);
+        self.put_side(&mut lines, &mut text, session, Side::FromOthers)?;
+        self.put_side(&mut lines, &mut text, session, Side::ToOthers)?;
         Ok(lines)
     }
 
-    /// The lines of the challenges on this side of the session.
-    fn side_lines(&self, session: u32, side: Side) -> Result<Listed<Line>, NoMemory>
-        ensures { IfOk result (λ lines. lines ≡ side_lines self.now session side self.now.challenges) }
+    /// Appends the lines of the challenges on this side of the session. Each is written in `text` first.
+    fn put_side(
+        &self,
+        lines: &mut Lines,
+        text: &mut Vec<u8>,
+        session: u32,
+        side: Side,
+    ) -> Result<(), NoMemory>
+        ensures { OnOk result (lines.new ≡ lines.old ++ side_lines self.now session side self.now.challenges) }
     {
-        let mut lines = Listed::new(self.alloc);
         for challenge in self.challenges.rows() {
-            if is_on_side(side, session, *challenge) {
-                lines.push(self.pending_line(side, *challenge)?)?;
-            }
+            self.put_on_side(lines, text, session, side, *challenge)?;
         }
-        Ok(lines)
+        Ok(())
     }
 
-    /// The line of a challenge, `from H M I V C` or `to H M I V C`: the other, and on which terms.
-    fn pending_line(&self, side: Side, challenge: Challenge) -> Result<Line, NoMemory>
-        ensures { IfOk result (λ line. line ≡ pending_line self.now side challenge) }
+    /// Appends the line of a challenge, where it is on this side of the session.
+    fn put_on_side(
+        &self,
+        lines: &mut Lines,
+        text: &mut Vec<u8>,
+        session: u32,
+        side: Side,
+        challenge: Challenge,
+    ) -> Result<(), NoMemory>
+        ensures { OnOk result (lines.new ≡ lines.old ++ side_lines self.now session side (challenge ∷ [])) }
+    {
+        if is_on_side(side, session, challenge) {
+            return self.put_challenge(lines, text, side, challenge);
+        }
+        Ok(())
+    }
+
+    /// Appends the line of a challenge, `from H M I V C` or `to H M I V C`: the other, and on which terms.
+    fn put_challenge(
+        &self,
+        lines: &mut Lines,
+        text: &mut Vec<u8>,
+        side: Side,
+        challenge: Challenge,
+    ) -> Result<(), NoMemory>
+        ensures { OnOk result (lines.new ≡ lines.old ++ pending_line self.now side challenge ∷ []) }
     {
         let letters = self.letters_of(other_of(side, challenge));
-        let text = pending_text(self.alloc, side, letters, challenge.terms)?;
-        Ok(Line::from_bytes(text))
+        write_challenge(text, side, letters, challenge.terms)?;
+        lines.push(text.as_slice())
     }
 }
 
@@ -97,14 +122,18 @@ fn side_words(side: Side) -> &'static [u8]
     }
 }
 
-/// The bytes of the line of a challenge, where the other has these letters.
-fn pending_text(
-    alloc: Global,
+/// Writes the line of a challenge, where the other has these letters, in place of what the text has.
+fn write_challenge(
+    text: &mut Vec<u8>,
     side: Side,
     letters: &[u8],
     terms: Terms,
-) -> Result<Vec<u8>, NoMemory>
-    ensures { IfOk result (λ text. text.items ≡ pending_words side letters.now terms) }
+) -> Result<(), NoMemory>
+    ensures { OnOk result (text.new.items ≡ pending_words side letters.now terms) }
 {
-    with_terms(alloc, side_words(side), letters, terms)
+    text.clear();
+    text.extend_from_slice(side_words(side))?;
+    text.extend_from_slice(letters)?;
+    text.push(b' ')?;
+    put_terms(terms, text)
 }

@@ -1,5 +1,5 @@
 //! Sought: a member asks which seeks stand.
-ghost use Rattle.std.specs.Prelude.{◌≡◌, ◌≤◌, IfOk, All, length};
+ghost use Rattle.std.specs.Prelude.{◌≡◌, ◌≤◌, ◌∷◌, ◌++◌, [], IfOk, OnOk, All, length};
 ghost use Rattle.fics_words.specs.Effect.{Takes};
 ghost use Rattle.fics_words.specs.Line.{IsPrintable};
 ghost use Rattle.lobby_state.specs.Lobby.{member_of};
@@ -7,12 +7,9 @@ ghost use Rattle.lobby_state.specs.Sought.{name_in, sought_effect, sought_line, 
 
 use crate::acts::LobbyReply;
 use crate::register::Register;
-use crate::said::put_numbered;
-use crate::terms::with_terms;
-use collections::Listed;
-use fics_words::{Fail, Line, NoMemory, Refusal};
+use crate::terms::put_terms;
+use fics_words::{Fail, Lines, NoMemory, Refusal, write_number};
 use seek_match::Seek;
-use std::alloc::Global;
 
 impl Register {
     /// The lines of the seeks, in the order of their numbers. It is refused where the session isn't a member.
@@ -27,22 +24,24 @@ impl Register {
     }
 
     /// The list of these lines.
-    pub(crate) fn sought_lines(&self) -> Result<Listed<Line>, NoMemory>
+    pub(crate) fn sought_lines(&self) -> Result<Lines, NoMemory>
         ensures { IfOk result (λ lines. lines ≡ sought_lines self.now) }
     {
-        let mut lines = Listed::new(self.alloc);
+        let mut lines = Lines::new(self.alloc);
+        let mut text = Vec::new(self.alloc);
         for seek in self.seeks.rows() {
-            lines.push(self.sought_line(*seek)?)?;
+            self.put_seek(&mut lines, &mut text, *seek)?;
         }
         Ok(lines)
     }
 
-    /// The line of a seek, `N H M I V C`: its number, whose it is, and on which terms.
-    fn sought_line(&self, seek: Seek) -> Result<Line, NoMemory>
-        ensures { IfOk result (λ line. line ≡ sought_line self.now seek) }
+    /// Appends the line of a seek, `N H M I V C`: its number, whose it is, and on which terms. It is written in `text`
+    /// first.
+    fn put_seek(&self, lines: &mut Lines, text: &mut Vec<u8>, seek: Seek) -> Result<(), NoMemory>
+        ensures { OnOk result (lines.new ≡ lines.old ++ sought_line self.now seek ∷ []) }
     {
-        let text = sought_text(self.alloc, self.letters_of(seek.by), seek)?;
-        Ok(Line::from_bytes(text))
+        write_seek(text, self.letters_of(seek.by), seek)?;
+        lines.push(text.as_slice())
     }
 
     /// The letters of the session's handle; none where it isn't a member.
@@ -58,11 +57,14 @@ impl Register {
     }
 }
 
-/// The bytes of the line of a seek, by a player with these letters.
-fn sought_text(alloc: Global, letters: &[u8], seek: Seek) -> Result<Vec<u8>, NoMemory>
-    ensures { IfOk result (λ text. text.items ≡ sought_words letters.now seek) }
+/// Writes the line of a seek, by a player with these letters, in place of what the text has.
+fn write_seek(text: &mut Vec<u8>, letters: &[u8], seek: Seek) -> Result<(), NoMemory>
+    ensures { OnOk result (text.new.items ≡ sought_words letters.now seek) }
 {
-    let mut number = Vec::new(alloc);
-    put_numbered(&mut number, b"", u64::from(seek.number), b" ")?;
-    with_terms(alloc, &number, letters, seek.terms)
+    text.clear();
+    write_number(text, u64::from(seek.number))?;
+    text.push(b' ')?;
+    text.extend_from_slice(letters)?;
+    text.push(b' ')?;
+    put_terms(seek.terms, text)
 }

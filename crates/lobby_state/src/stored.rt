@@ -1,18 +1,15 @@
 //! Stored: a member asks which adjourned games of its own wait to be resumed.
 ghost use Rattle.std.specs.Prelude.{◌≡◌, ◌*◌, ◌≤◌, ◌++◌, IfOk, OnOk, All, length};
 ghost use Rattle.fics_words.specs.Effect.{Takes};
-ghost use Rattle.fics_words.specs.Line.{IsPrintable};
-ghost use Rattle.lobby_state.specs.Lobby.{member_of};
+ghost use Rattle.fics_words.specs.Line.{IsLine, IsPrintable};
 ghost use Rattle.lobby_state.specs.Stored.{names_words, stored_effect, stored_lines, stored_words, lines_for};
 
 use crate::acts::LobbyReply;
 use crate::register::Register;
 use crate::terms::put_terms;
 use chess_model::Terms;
-use collections::Listed;
-use fics_words::{Fail, Handle, HandleKey, Line, NoMemory, Refusal, write_number};
+use fics_words::{Fail, Handle, HandleKey, Lines, NoMemory, Refusal, write_number};
 use game_shelf::has_player;
-use std::alloc::Global;
 
 impl Register {
     /// The lines of the member's own games, in the order of their numbers. It is refused where the session isn't a
@@ -28,41 +25,49 @@ impl Register {
     }
 
     /// The list of these lines; none where the session isn't a member.
-    pub(crate) fn stored_lines(&self, session: u32) -> Result<Listed<Line>, NoMemory>
+    pub(crate) fn stored_lines(&self, session: u32) -> Result<Lines, NoMemory>
         ensures { IfOk result (λ lines. lines ≡ stored_lines self.now session) }
     {
         match self.member(session) {
             Some(member) => self.lines_for(member.name.key()),
-            None => Ok(Listed::new(self.alloc)),
+            None => Ok(Lines::new(self.alloc)),
         }
     }
 
     /// The lines of the games that the handle with this key plays in.
-    fn lines_for(&self, key: HandleKey) -> Result<Listed<Line>, NoMemory>
+    fn lines_for(&self, key: HandleKey) -> Result<Lines, NoMemory>
         ensures { IfOk result (λ lines. lines ≡ lines_for self.now.shelf.games key) }
     {
-        let mut lines = Listed::new(self.alloc);
+        let mut lines = Lines::new(self.alloc);
+        let mut text = Vec::new(self.alloc);
         for row in self.shelf.games() {
             if has_player(&row.game, key) {
-                lines.push(stored_line(self.alloc, row.number, &row.game.names, row.game.terms)?)?;
+                write_stored(&mut text, row.number, &row.game.names, row.game.terms)?;
+                lines.push(text.as_slice())?;
             }
         }
         Ok(lines)
     }
 }
 
-/// The line of a stored game, `N W B M I V`, and of a pair `N W B C D M I V`: its number, its players in the order of
-/// their seats, and its terms.
-fn stored_line(alloc: Global, number: u64, names: &[Handle], terms: Terms) -> Result<Line, NoMemory>
+/// Writes the line of a stored game, `N W B M I V`, and of a pair `N W B C D M I V`, in place of what the text has: its
+/// number, its players in the order of their seats, and its terms.
+fn write_stored(
+    text: &mut Vec<u8>,
+    number: u64,
+    names: &[Handle],
+    terms: Terms,
+) -> Result<(), NoMemory>
     requires players { length names.now ≤ 4 }
-    ensures { IfOk result (λ line. line ≡ stored_words number names.now terms) }
+    ensures words { OnOk result (text.new.items ≡ stored_words number names.now terms) }
+    ensures line { OnOk result (IsLine text.new.items) }
 {
-    let mut text = Vec::new(alloc);
-    write_number(&mut text, number)?;
-    put_names(&mut text, names)?;
+    text.clear();
+    write_number(text, number)?;
+    put_names(text, names)?;
     text.push(b' ')?;
-    put_terms(alloc, terms, &mut text)?;
-    Ok(Line::from_bytes(text))
+    put_terms(terms, text)?;
+    Ok(())
 }
 
 /// Appends the names, each behind a blank.

@@ -1,8 +1,7 @@
 //! Which act is carried out by which function.
-ghost use Rattle.std.specs.Prelude.{◌≡◌, ◌+◌, ◌<◌, ◌^◌, IfOk, IfSome, IsOk, length};
+ghost use Rattle.std.specs.Prelude.{◌≡◌, ◌+◌, ◌<◌, ◌^◌, IfOk, IsOk, length};
 ghost use Rattle.fics_words.specs.Effect.{Takes};
 ghost use Rattle.lobby_state.specs.Acts.{FitsLobby, LobbyNeedsNoMemory, lobby_effect};
-ghost use Rattle.lobby_state.specs.Desks.{IsDesk};
 ghost use Rattle.lobby_state.specs.Told.{lists_told};
 ghost use Rattle.lobby_state.specs.Planned.{IsPlanned};
 ghost use Rattle.lobby_state.specs.Plans.{committed, plan_of};
@@ -15,7 +14,7 @@ use crate::register::Register;
 use crate::reserve::Ready;
 use crate::told::ReplyLists;
 use collections::Listed;
-use fics_words::{Fail, Line, NoMemory, Refusal};
+use fics_words::{Fail, Line, Lines, NoMemory, Refusal};
 use game_shelf::Order;
 
 impl Register {
@@ -70,29 +69,42 @@ impl Register {
         ensures sure { LobbyNeedsNoMemory act.now → IsOk result }
     {
         let lines = self.lines_ahead(session, act)?;
+        let waiting = self.waiting_ahead(session, act)?;
         let desks = self.desks_ahead(session, act)?;
         let orders = self.orders_ahead(session, act)?;
         Ok(ReplyLists {
             lines,
+            waiting,
             desks,
             orders,
         })
     }
 
     /// A copy of the lines that an act will answer.
-    fn lines_ahead(&self, session: u32, act: &LobbyAct) -> Result<Listed<Line>, NoMemory>
+    fn lines_ahead(&self, session: u32, act: &LobbyAct) -> Result<Lines, NoMemory>
         ensures lines { IfOk result (λ lines.
             lines ≡ (lists_told (lobby_effect self.now session act.now).reply).lines) }
         ensures sure { LobbyNeedsNoMemory act.now → IsOk result }
     {
         match act {
-            LobbyAct::Fetch => self.waiting_copy(session),
             LobbyAct::Sought => self.sought_lines(),
             LobbyAct::Who => self.who_lines(),
             LobbyAct::Pending => self.pending_lines(session),
             LobbyAct::Games => self.games_lines(),
             LobbyAct::InChannel { channel } => self.in_channel_lines(*channel),
             LobbyAct::Stored => self.stored_lines(session),
+            _ => Ok(Lines::new(self.alloc)),
+        }
+    }
+
+    /// A copy of the lines that waited, which an act will answer.
+    fn waiting_ahead(&self, session: u32, act: &LobbyAct) -> Result<Listed<Line>, NoMemory>
+        ensures lines { IfOk result (λ lines.
+            lines ≡ (lists_told (lobby_effect self.now session act.now).reply).waiting) }
+        ensures sure { LobbyNeedsNoMemory act.now → IsOk result }
+    {
+        match act {
+            LobbyAct::Fetch => self.waiting_copy(session),
             _ => Ok(Listed::new(self.alloc)),
         }
     }

@@ -1,5 +1,5 @@
 //! TellChannel: a member says something to all others in a channel.
-ghost use Rattle.std.specs.Prelude.{◌≡◌, ◌≤◌, IfOk, length, not, ◌&&◌};
+ghost use Rattle.std.specs.Prelude.{◌≡◌, ◌≤◌, IfOk, length, ◌&&◌};
 ghost use Rattle.fics_words.specs.Effect.{Takes};
 ghost use Rattle.lobby_state.specs.TellChannel.{channel_words, hears_channel, tell_channel_effect};
 

@@ -17,17 +17,21 @@ pub(crate) fn with_terms(
     ensures { IfOk result (λ text. text.items ≡ first.now ++ second.now ++ codes " " ++ terms_words terms) }
 {
     let mut text = joined(alloc, first, second, b" ")?;
-    put_terms(alloc, terms, &mut text)?;
+    put_terms(terms, &mut text)?;
     Ok(text)
 }
 
 /// Appends the terms as lines of the lobby have them, `M I V C`: the minutes, the increment in seconds, the variant,
 /// and the colour where one is asked for.
-pub(crate) fn put_terms(alloc: Global, terms: Terms, text: &mut Vec<u8>) -> Result<(), NoMemory>
+pub(crate) fn put_terms(terms: Terms, text: &mut Vec<u8>) -> Result<(), NoMemory>
     ensures { OnOk result (text.new.items ≡ text.old.items ++ terms_words terms) }
 {
-    let words = words_of_terms(alloc, terms)?;
-    text.extend_from_slice(&words)?;
+    write_number(text, u64::from(terms.minutes))?;
+    text.push(b' ')?;
+    write_number(text, u64::from(terms.increment))?;
+    text.push(b' ')?;
+    text.extend_from_slice(variant_word(terms.variant).bytes())?;
+    text.extend_from_slice(colour_words(terms.colour))?;
     Ok(())
 }
 
@@ -36,12 +40,7 @@ pub(crate) fn words_of_terms(alloc: Global, terms: Terms) -> Result<Vec<u8>, NoM
     ensures { IfOk result (λ words. words.items ≡ terms_words terms) }
 {
     let mut words = Vec::new(alloc);
-    write_number(&mut words, u64::from(terms.minutes))?;
-    words.push(b' ')?;
-    write_number(&mut words, u64::from(terms.increment))?;
-    words.push(b' ')?;
-    words.extend_from_slice(variant_word(terms.variant).bytes())?;
-    words.extend_from_slice(colour_words(terms.colour))?;
+    put_terms(terms, &mut words)?;
     Ok(words)
 }
 

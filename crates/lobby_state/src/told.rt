@@ -4,7 +4,7 @@ ghost use Rattle.lobby_state.specs.Told.{no_lists};
 
 use crate::desk_in_use::DeskInUse;
 use collections::Listed;
-use fics_words::Line;
+use fics_words::{Line, Lines};
 use game_shelf::Order;
 use std::alloc::Global;
 
@@ -12,7 +12,10 @@ use std::alloc::Global;
 /// is made before the act, so that whoever keeps the reply too needs no memory after it.
 #[derive(Drop)]
 pub struct ReplyLists {
-    pub lines: Listed<Line>,
+    /// What whoever asked is told.
+    pub lines: Lines,
+    /// The lines that waited for a member.
+    pub waiting: Listed<Line>,
     pub desks: Listed<DeskInUse>,
     pub orders: Listed<Order>,
 }
@@ -23,7 +26,8 @@ impl ReplyLists {
         ensures { result ≡ no_lists }
     {
         ReplyLists {
-            lines: Listed::new(alloc),
+            lines: Lines::new(alloc),
+            waiting: Listed::new(alloc),
             desks: Listed::new(alloc),
             orders: Listed::new(alloc),
         }

@@ -1,13 +1,12 @@
 //! Who: a member asks who is in the hall.
-ghost use Rattle.std.specs.Prelude.{◌≡◌, IfOk, map};
+ghost use Rattle.std.specs.Prelude.{◌≡◌, ◌∷◌, ◌++◌, [], IfOk, OnOk, map};
 ghost use Rattle.fics_words.specs.Effect.{Takes};
 ghost use Rattle.lobby_state.specs.Who.{who_effect, who_lines};
 
 use crate::acts::LobbyReply;
 use crate::name_row::NameRow;
 use crate::register::Register;
-use collections::{Listed, Reserved};
-use fics_words::{Fail, Handle, Line, NoMemory, Refusal};
+use fics_words::{Fail, Handle, Lines, NoMemory, Refusal};
 use std::alloc::Global;
 
 impl Register {
@@ -23,29 +22,31 @@ impl Register {
     }
 
     /// The list of these handles as lines.
-    pub(crate) fn who_lines(&self) -> Result<Listed<Line>, NoMemory>
+    pub(crate) fn who_lines(&self) -> Result<Lines, NoMemory>
         ensures { IfOk result (λ lines. lines ≡ who_lines self.now) }
     {
         lines_of(self.alloc, self.members.names())
     }
 }
 
-/// The names as lines, in a block that is taken once.
-fn lines_of(alloc: Global, names: &[NameRow]) -> Result<Listed<Line>, NoMemory>
+/// The most letters of a handle.
+const MOST_LETTERS: usize = 17;
+
+/// The names as lines, whose room is taken once.
+fn lines_of(alloc: Global, names: &[NameRow]) -> Result<Lines, NoMemory>
     ensures { IfOk result (λ lines. lines ≡ map (λ row. row.name) names.now) }
 {
-    let mut lines = Reserved::new(alloc);
-    lines.reserve(names.len())?;
+    let mut lines = Lines::new(alloc);
+    lines.reserve(names.len(), names.len().saturating_mul(MOST_LETTERS))?;
     for row in names {
-        lines.push(line_of(alloc, row.name)?);
+        push_name(&mut lines, row.name)?;
     }
-    Ok(lines.take())
+    Ok(lines)
 }
 
-/// A handle as a line.
-pub(crate) fn line_of(alloc: Global, name: Handle) -> Result<Line, NoMemory>
-    ensures { IfOk result (λ line. line ≡ name) }
+/// Puts a handle behind the lines.
+pub(crate) fn push_name(lines: &mut Lines, name: Handle) -> Result<(), NoMemory>
+    ensures { OnOk result (lines.new ≡ lines.old ++ name ∷ []) }
 {
-    let letters = Vec::from_slice(alloc, name.letters())?;
-    Ok(Line::from_bytes(letters))
+    lines.push(name.letters())
 }

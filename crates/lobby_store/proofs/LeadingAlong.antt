@@ -1,9 +1,9 @@
 -- Each act of a lobby and each plan leads a store along.
-use Rattle.std.proofs.Common.{◌≡◌, ℕ, ◌<◌, ◌^◌, arith, Bool, true, false, cond, List, [], ◌∷◌, ◌++◌, Option, None, Some, refl, sym, ap, subst, ◌∙◌, append-nil, append_assoc}
+use Rattle.std.proofs.Common.{◌≡◌, ℕ, ◌<◌, ◌^◌, arith, Bool, true, false, cond, List, [], ◌∷◌, ◌++◌, Option, None, Some, refl, sym, ap, ◌∙◌, append-nil, append_assoc}
 use Rattle.std.specs.Prelude.{bytes_eq, is_some}
 use Rattle.std.proofs.lemmas.Bool.{eqb-true}
 use Rattle.std.specs.List.{find}
-use Rattle.fics_words.specs.Effect.{Effect, NoneHolds, first_cause, unless}
+use Rattle.fics_words.specs.Effect.{NoneHolds, first_cause, unless}
 use Rattle.fics_words.specs.Handle.{key_of}
 use Rattle.fics_words.specs.declared.account.Account.{Account}
 use Rattle.fics_words.specs.declared.refusal.Refusal.{Refusal}
@@ -11,17 +11,16 @@ use Rattle.game_records.specs.Keys.{account_key}
 use Rattle.fics_words.specs.declared.seats.Seats.{Seats}
 use Rattle.game_records.specs.declared.stored_game.StoredGame.{StoredGame}
 use Rattle.game_shelf.specs.Numbers.{RiseAbove, game_in as row_game, has_number, stored_game}
-use Rattle.game_shelf.specs.Shelf.{account_order, game_order, ordered, removal_order}
+use Rattle.game_shelf.specs.Shelf.{account_order, game_order, removal_order}
 use Rattle.game_shelf.specs.Wanted.{Table, is_account_at, table_with, wanted}
 use Rattle.game_shelf.specs.declared.order.Order.{Order}
 use Rattle.game_shelf.specs.declared.shelved.Shelved.{Shelved}
 use Rattle.game_shelf.proofs.Leading.{orders-lead}
 use Rattle.login_handles.specs.Accounts.{account_of}
 use Rattle.lobby_state.specs.declared.acts.LobbyAct.{LobbyAct}
-use Rattle.lobby_state.specs.declared.acts.LobbyAct.TheVariants.{Enter, Register, Match, Unpost, Sought, Who, Where, Fetch, Going, Bye, InUse, Var, Tell, Shout, Decline, Withdraw, Post, Channel, TellChannel, InChannel, Partner, Ptell, List as Listing, Pending, Games, Find, FindGame, SimOpen, SimNext, SimPrev, GoBoard, Stored, Orders, Saved}
-use Rattle.lobby_state.specs.declared.acts.LobbyReply.{LobbyReply}
+use Rattle.lobby_state.specs.declared.acts.LobbyAct.TheVariants.{Enter, Register, Match, Tell, Shout, Decline, Withdraw, Post, TellChannel, Partner, Ptell, Saved}
 use Rattle.lobby_state.specs.Acts.{lobby_after, lobby_effect}
-use Rattle.lobby_state.specs.Lobby.{LobbyState, has_account}
+use Rattle.lobby_state.specs.Lobby.{LobbyState}
 use Rattle.lobby_state.specs.declared.acts.Plan.{Plan}
 use Rattle.lobby_state.specs.declared.acts.Plan.TheVariants.{Start, Clear, Resume, Ask}
 use Rattle.lobby_state.specs.Planned.{CanResume, IsPlanned}
@@ -44,7 +43,7 @@ use Rattle.lobby_state.specs.Match.{challenged}
 use Rattle.lobby_state.specs.Partner.{partner_effect, partnered, single}
 use Rattle.lobby_state.specs.Post.{posted}
 use Rattle.lobby_state.specs.Ptell.{confided}
-use Rattle.lobby_state.specs.Registration.{registered, registration_effect}
+use Rattle.lobby_state.specs.Registration.{registered}
 use Rattle.lobby_state.specs.Shout.{shouted}
 use Rattle.lobby_state.specs.Tell.{told}
 use Rattle.lobby_state.specs.TellChannel.{channel_told}

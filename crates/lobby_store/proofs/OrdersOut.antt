@@ -4,13 +4,12 @@ use Rattle.std.specs.Prelude.{bytes_eq}
 use Rattle.std.specs.Ordering.{eq_by_cmp, is_eq}
 use Rattle.std.specs.declared.cmp.Ordering.{Ordering}
 use Rattle.std.specs.declared.cmp.Ordering.TheVariants.{Less, Equal, Greater}
-use Rattle.std.specs.Cmp.{eq_by_cmp_equiv}
+use Rattle.std.specs.Cmp.{eq_by_cmp_equiv, both_ways}
 use Rattle.std.specs.Cmp.Lexicographic.{nat_list_cmp_total}
 use Rattle.std.specs.FinMap as map
 use Rattle.std.specs.FinMap.{get-insert, get-remove, nat_cmp-IsAntisymmetric, slice_cmp-IsAntisymmetric}
-use Rattle.std.proofs.lemmas.Bool.{false_from_ne_true}
 use Rattle.std.proofs.lemmas.Slice.Eq.{bytes_eq-Decides}
-use Rattle.edge_traits.specs.Keeper.{HasPut, HasRemoved, Stays}
+use Rattle.edge_traits.specs.Keeper.{HasPut, HasRemoved}
 use Rattle.edge_traits.specs.Pairs.{Table, keys_order}
 use Rattle.edge_traits.specs.declared.keeper.Kept.{Kept}
 use Rattle.edge_traits.specs.declared.keeper.Kept.TheVariants.{Done, Failed, Memory}
@@ -51,13 +50,8 @@ is_tied Greater e = cc
 pub tied_same : (one other : List ℕ) → eq_by_cmp keys_order one other ≡ true → one ≡ other
 tied_same one other tied = slice_cmp-IsAntisymmetric nat_cmp-IsAntisymmetric one other (is_tied (keys_order one other) tied)
 
-same_answers : (one other : Bool) → (one ≡ true → other ≡ true) → (other ≡ true → one ≡ true) → one ≡ other
-same_answers true other f g = sym (f refl)
-same_answers false true f g = g refl
-same_answers false false f g = refl
-
 pub same_test : (key order : List ℕ) → eq_by_cmp keys_order key order ≡ bytes_eq order key
-same_test key order = same_answers (eq_by_cmp keys_order key order) (bytes_eq order key)
+same_test key order = both_ways (eq_by_cmp keys_order key order) (bytes_eq order key)
     (λ tied. (bytes_eq-Decides order key).1 (sym (tied_same key order tied)))
     (λ same. subst (λ k. eq_by_cmp keys_order k order ≡ true) ((bytes_eq-Decides order key).0 same) ((eq_by_cmp_equiv nat_list_cmp_total).refl order))
 

@@ -1,17 +1,16 @@
 -- A pair whose record is known is a row where its key is the record's own, and no other row.
-use Rattle.std.proofs.Common.{◌≡◌, ℕ, Bool, true, false, not, ◌<◌, ◌≤◌, ◌^◌, List, sym, ap, subst, ◌∙◌}
+use Rattle.std.proofs.Common.{◌≡◌, ℕ, Bool, true, false, not, List, ap, subst}
 use Rattle.fics_words.specs.Handle.{key_of}
 use Rattle.fics_words.specs.declared.account.Account.{Account}
-use Rattle.game_records.specs.Keys.{account_key, game_key}
+use Rattle.game_records.specs.Keys.{account_key}
 use Rattle.game_records.specs.Replays.{Replays}
 use Rattle.game_records.specs.Spelling.{IsSpelled}
 use Rattle.game_records.specs.declared.records.Record.{Record}
 use Rattle.game_records.specs.declared.records.Record.TheVariants as a
 use Rattle.game_records.specs.declared.stored_game.StoredGame.{StoredGame}
 use Rattle.game_records.proofs.ReadBack.{one_spelled}
-use Rattle.lobby_store.specs.declared.reading.StoreRow.{StoreRow}
 use Rattle.lobby_store.specs.declared.reading.StoreRow.TheVariants.{Account as AnAccount, Game as AGame}
-use Rattle.lobby_store.specs.Rows.{IsNoRow, IsRow}
+use Rattle.lobby_store.specs.Rows.{IsNoRow}
 
 -- the fact of a record that is an account, or that is a game
 OfAccount : (Account → Type 0) → Record → Type 0

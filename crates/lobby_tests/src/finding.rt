@@ -6,6 +6,7 @@ use fics_words::{Fail as Refused, Handle, NoMemory};
 use lobby_state::{Lobby, LobbyAct, LobbyReply};
 use std::alloc::Global;
 use std::test::Fail;
+use test_steps::first_wrong;
 
 /// What was found: the number of the refusal, the desk and the seat.
 #[derive(Clone, Copy, PartialEq, Eq)]
@@ -88,12 +89,7 @@ fn is_found(lobby: &mut Lobby, step: &Looking) -> bool {
 
 /// The place of the first step that finds something else, if one does.
 fn first_lost(lobby: &mut Lobby, steps: &[Looking]) -> Option<usize> {
-    for (place, step) in steps.iter().enumerate() {
-        if !is_found(lobby, step) {
-            return Some(place);
-        }
-    }
-    None
+    first_wrong!(steps, |step| is_found(lobby, step))
 }
 
 /// The same at a new lobby.

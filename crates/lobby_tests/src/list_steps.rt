@@ -7,6 +7,7 @@ use chess_model::Terms;
 use fics_words::NoMemory;
 use lobby_state::{Lobby, LobbyAct, WhichList};
 use std::alloc::Global;
+use test_steps::first_wrong;
 
 /// A step: the session that makes it, what it does, and what it has to answer; a number is that of the refusal.
 #[derive(Clone, Copy)]
@@ -31,12 +32,7 @@ pub enum Keeping {
 
 /// The place of the first step that answers otherwise, if one does.
 fn first_failing_list(alloc: Global, lobby: &mut Lobby, steps: &[Keeping]) -> Option<usize> {
-    for (place, step) in steps.iter().enumerate() {
-        if !answers(alloc, lobby, step) {
-            return Some(place);
-        }
-    }
-    None
+    first_wrong!(steps, |step| answers(alloc, lobby, step))
 }
 
 /// The same at a new lobby.

@@ -4,6 +4,7 @@ use crate::steps::{DONE, acted, hall, number_if_done};
 use fics_words::{Account, Digest, Fail, Handle, NoMemory};
 use lobby_state::{Lobby, LobbyAct, LobbyReply};
 use std::alloc::Global;
+use test_steps::first_wrong;
 
 /// The number that stands when out of memory, or for an answer of another kind than the step has.
 const STRANGE: u8 = 255;
@@ -33,12 +34,7 @@ pub enum Login {
 
 /// The place of the first step that answers otherwise, if one does.
 pub fn first_failing_login(lobby: &mut Lobby, steps: &[Login]) -> Option<usize> {
-    for (place, step) in steps.iter().enumerate() {
-        if !is_as_expected(lobby, step) {
-            return Some(place);
-        }
-    }
-    None
+    first_wrong!(steps, |step| is_as_expected(lobby, step))
 }
 
 /// The same at a new lobby.

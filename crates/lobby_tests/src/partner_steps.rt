@@ -5,6 +5,7 @@ use crate::talk_steps::{number_if_told_one, said};
 use fics_words::{Fail, Handle, NoMemory};
 use lobby_state::{Lobby, LobbyAct, LobbyReply};
 use std::alloc::Global;
+use test_steps::first_wrong;
 
 /// The number that stands for an answer of another kind than the step has.
 const STRANGE: u8 = 255;
@@ -29,12 +30,7 @@ pub enum Pairing {
 
 /// The place of the first step that answers otherwise, if one does.
 fn first_failing_pairing(alloc: Global, lobby: &mut Lobby, steps: &[Pairing]) -> Option<usize> {
-    for (place, step) in steps.iter().enumerate() {
-        if !answers(alloc, lobby, step) {
-            return Some(place);
-        }
-    }
-    None
+    first_wrong!(steps, |step| answers(alloc, lobby, step))
 }
 
 /// The same at a new lobby.

@@ -16,6 +16,7 @@ use game_records::{HalfList, StoredGame, played_by_steps};
 use game_shelf::Order;
 use lobby_state::{Lobby, LobbyAct, LobbyReply, PairAct, Plan};
 use std::alloc::Global;
+use test_steps::first_wrong;
 
 /// A step: the session that makes it, what it does, and what it has to answer; a number is that of the refusal.
 #[derive(Clone, Copy)]
@@ -54,12 +55,7 @@ pub enum Resuming {
 
 /// The place of the first step that answers otherwise, if one does.
 fn first_unlike(alloc: Global, lobby: &mut Lobby, steps: &[Resuming]) -> Option<usize> {
-    for (place, step) in steps.iter().enumerate() {
-        if !answers(alloc, lobby, step) {
-            return Some(place);
-        }
-    }
-    None
+    first_wrong!(steps, |step| answers(alloc, lobby, step))
 }
 
 /// The same at a new lobby.

@@ -7,9 +7,10 @@ use crate::steps::{
     number_of,
 };
 use chess_model::{Colour, Terms, Variant};
-use fics_words::{Fail, Line, NoMemory, Refusal};
+use fics_words::{Fail, Lines, NoMemory, Refusal};
 use lobby_state::{Lobby, LobbyAct, LobbyReply, PairAct, Plan, Var};
 use std::alloc::Global;
+use test_steps::first_wrong;
 
 /// Chess of 5 minutes, in which the seeker asks for White.
 pub const WHITE: Terms = Terms {
@@ -44,12 +45,7 @@ pub enum Seeking {
 
 /// The place of the first step that answers otherwise, if one does.
 pub fn first_failing_seek(lobby: &mut Lobby, steps: &[Seeking]) -> Option<usize> {
-    for (place, step) in steps.iter().enumerate() {
-        if !answers(lobby, step) {
-            return Some(place);
-        }
-    }
-    None
+    first_wrong!(steps, |step| answers(lobby, step))
 }
 
 /// The same at a new lobby.
@@ -122,17 +118,17 @@ pub fn tells(lobby: &mut Lobby, session: u32, act: &LobbyAct, rows: &[&[u8]]) ->
         return false;
     };
     match acted(lobby, session, act) {
-        Ok(LobbyReply::Lines(lines)) => lines == ahead.lines && are_rows(lines.as_slice(), rows),
+        Ok(LobbyReply::Lines(lines)) => lines == ahead.lines && are_rows(&lines, rows),
         _ => false,
     }
 }
 
-fn are_rows(lines: &[Line], rows: &[&[u8]]) -> bool {
+fn are_rows(lines: &Lines, rows: &[&[u8]]) -> bool {
     if lines.len() != rows.len() {
         return false;
     }
     for place in 0..lines.len() {
-        if lines[place].bytes() != rows[place] {
+        if lines.get(place) != Some(rows[place]) {
             return false;
         }
     }

@@ -10,6 +10,7 @@ use chess_model::Terms;
 use fics_words::{Fail, NoMemory};
 use lobby_state::{Lobby, LobbyAct, LobbyReply};
 use std::alloc::Global;
+use test_steps::first_wrong;
 
 /// A step: the session that makes it, what it does, and what it has to answer; a number is that of the refusal.
 #[derive(Clone, Copy)]
@@ -40,12 +41,7 @@ pub enum Giving {
 
 /// The place of the first step that answers otherwise, if one does.
 fn first_failing_simul(lobby: &mut Lobby, steps: &[Giving]) -> Option<usize> {
-    for (place, step) in steps.iter().enumerate() {
-        if !answers(lobby, step) {
-            return Some(place);
-        }
-    }
-    None
+    first_wrong!(steps, |step| answers(lobby, step))
 }
 
 /// The same at a new lobby.

@@ -8,6 +8,7 @@ use chess_model::{Colour, Terms, Variant};
 use fics_words::{Fail, Handle, HandleKey, Line, NoMemory, Refusal};
 use lobby_state::{DeskInUse, Lobby, LobbyAct, LobbyReply, PairAct, Places, Plan, ReplyLists};
 use std::alloc::Global;
+use test_steps::first_wrong;
 
 /// Chess of 2 minutes and 12 seconds, without a named colour.
 pub const CHESS: Terms = Terms {
@@ -68,12 +69,7 @@ pub enum Step {
 
 /// The place of the first step that answers otherwise, if one does.
 pub fn first_failing(lobby: &mut Lobby, steps: &[Step]) -> Option<usize> {
-    for (place, step) in steps.iter().enumerate() {
-        if !is_as_expected(lobby, step) {
-            return Some(place);
-        }
-    }
-    None
+    first_wrong!(steps, |step| is_as_expected(lobby, step))
 }
 
 /// The same at a new lobby. A test that has no lobby of its own is proved in a tenth of the time.
@@ -288,7 +284,7 @@ fn fetches(lobby: &mut Lobby, session: u32, count: usize) -> bool {
     };
     match acted(lobby, session, &LobbyAct::Fetch) {
         Ok(LobbyReply::Waiting { lines, .. }) => {
-            lines == ahead.lines && lines.len() == count && lines_of(lobby, session).is_empty()
+            lines == ahead.waiting && lines.len() == count && lines_of(lobby, session).is_empty()
         }
         _ => false,
     }

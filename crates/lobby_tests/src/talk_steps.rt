@@ -5,9 +5,10 @@ ghost use Rattle.std.specs.Prelude.{◌≤◌, IfSome, length};
 use crate::steps::{
     DONE, STRANGE, Step, acted, hall, is_as_expected, key_of, number_if_done, number_of,
 };
-use fics_words::{Fail, HandleKey, Line, NoMemory};
+use fics_words::{Fail, HandleKey, Line, Lines, NoMemory};
 use lobby_state::{Lobby, LobbyAct, LobbyReply, Var};
 use std::alloc::Global;
+use test_steps::first_wrong;
 
 /// What stands for an answer of another kind than the step has.
 const NOBODY: u16 = 1000 + STRANGE as u16;
@@ -36,12 +37,7 @@ pub enum Talk {
 
 /// The place of the first step that answers otherwise, if one does.
 fn first_failing_talk(alloc: Global, lobby: &mut Lobby, steps: &[Talk]) -> Option<usize> {
-    for (place, step) in steps.iter().enumerate() {
-        if !answers(alloc, lobby, step) {
-            return Some(place);
-        }
-    }
-    None
+    first_wrong!(steps, |step| answers(alloc, lobby, step))
 }
 
 /// The same at a new lobby.
@@ -176,17 +172,17 @@ fn in_channel(lobby: &mut Lobby, session: u32, channel: u8, first: &[u8]) -> u16
 /// How many lines are answered, where the first is this one, or a refusal's number and 1,000.
 fn listed(answer: &Result<LobbyReply, Fail>, first: &[u8]) -> u16 {
     match answer {
-        Ok(LobbyReply::Lines(lines)) => count_from(lines.as_slice(), first),
+        Ok(LobbyReply::Lines(lines)) => count_from(&lines, first),
         Ok(_) => NOBODY,
         Err(_) => 1000 + u16::from(number_of(answer)),
     }
 }
 
 /// How many lines these are, where the first is this one.
-fn count_from(lines: &[Line], first: &[u8]) -> u16 {
-    match lines.first() {
+fn count_from(lines: &Lines, first: &[u8]) -> u16 {
+    match lines.get(0) {
         None => 0,
-        Some(line) if line.bytes() == first => lines.len().min(999) as u16,
+        Some(line) if line == first => lines.len().min(999) as u16,
         Some(_) => NOBODY,
     }
 }

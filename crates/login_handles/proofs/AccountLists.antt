@@ -1,7 +1,7 @@
 -- An account more: each handle still has at most one.
 use Rattle.std.proofs.Common.{◌≡◌, ℕ, ◌<◌, ◌≤◌, length, length-append, arith, Bool, true, false, cond, List, [], ◌∷◌, ◌++◌, refl, sym, ap, ◌∙◌, Some, None}
-use Rattle.std.specs.Prelude.{Option, bytes_eq, is_some, option_copied}
-use Rattle.std.specs.Borrow.{Bor}
+use Rattle.std.specs.Prelude.{Option, bytes_eq, is_some}
+use Rattle.std.specs.List.{find}
 use Rattle.std.specs.Cmp.Lexicographic.{nat_list_eq_equiv}
 use Rattle.fics_words.specs.Handle.{key_of}
 use Rattle.fics_words.specs.declared.account.Account.{Account}
@@ -28,8 +28,12 @@ HasOneEach-append (first ∷ accounts) last each none =
       HasOneEach-append accounts last each.1 both.1,
     )
 
+-- a table finds the same account, whichever of the two keys stands first
+pub found_turned : (accounts : List Account) (key : List ℕ) → find (λ account. bytes_eq key (key_of account.name)) accounts ≡ account_of accounts key
+found_turned accounts key = λ j. find (λ account. nat_list_eq_equiv.symm key (key_of account.name) j) accounts
+
 -- a search that found nothing
-pub no_account : (found : Option (Bor Account)) (account : Option Account) → option_copied found ≡ account → is_some found ≡ false → account ≡ None
+pub no_account : (found account : Option Account) → found ≡ account → is_some found ≡ false → account ≡ None
 no_account None account e none = sym e
 no_account (Some there) account e none = absurd (let bad : true ≡ false = none in cc)
 

@@ -8,6 +8,7 @@ use Rattle.std.proofs.lemmas.Slice.Eq.{bytes_eq-Decides}
 use Rattle.std.proofs.lemmas.Str.Ascii.{lowercase_is}
 use Rattle.fics_words.specs.Handle.{key_of}
 use Rattle.login_handles.specs.Guests.{GuestsAreLeast, IsLeastFree, free_number, guest_among, guest_of, is_taken}
+use Rattle.std.proofs.lemmas.Bool.{or_right}
 
 -- the keys of all guests below this number are taken
 abbrev pub AllTaken : List (List ℕ) → ℕ → Type 0
@@ -33,12 +34,8 @@ AllTaken-more taken n all next k h =
 without : List ℕ → List (List ℕ) → List (List ℕ)
 without key = filter (λ other. not (bytes_eq other key))
 
-is_same : (a : List ℕ) → bytes_eq a a ≡ true
-is_same a = nat_list_eq_equiv.refl a
-
-or_true : (a b : Bool) → b ≡ true → a || b ≡ true
-or_true true b h = refl
-or_true false b h = h
+pub bytes_eq-self : (a : List ℕ) → bytes_eq a a ≡ true
+bytes_eq-self a = nat_list_eq_equiv.refl a
 
 -- another key stays taken
 taken-without : (taken : List (List ℕ)) (key gone : List ℕ) → (key ≡ gone → ⊥) → is_taken taken key ≡ true → is_taken (without gone taken) key ≡ true
@@ -63,7 +60,7 @@ taken-without (first ∷ taken) key gone differ h =
 
     later : (t : Bool) → is_taken (without gone taken) key ≡ true → is_taken (cond (not t) (first ∷ without gone taken) (without gone taken)) key ≡ true
     later true h = h
-    later false h = or_true (bytes_eq first key) _ h
+    later false h = or_right (bytes_eq first key) _ h
 
 without-short : (taken : List (List ℕ)) (key : List ℕ) → length (without key taken) ≤ length taken
 unfolding without

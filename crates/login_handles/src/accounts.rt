@@ -1,21 +1,36 @@
 //! Accounts: the registered handles and their passwords' digests.
 
-ghost use Rattle.std.specs.Prelude.{◌≡◌, option_copied};
-ghost use Rattle.login_handles.specs.Accounts.{account_of};
+ghost use Rattle.fics_words.specs.Handle.{key_of};
 
 use crate::check::Check;
-use collections::Listed;
 use fics_words::{Account, Digest, Duplicate, Fail, Handle, HandleKey, NoMemory, Refusal};
 use std::alloc::Global;
 use std::marker::Model;
+use tables::{Keyed, Table};
 
 /// The most accounts.
 const MOST: usize = 4_096;
 
+/// What an account is found by: the key of its handle.
+#[derive(Clone, Copy, PartialEq, Eq, Hash)]
+struct AccountKey {
+    name: HandleKey,
+}
+
+impl Keyed<AccountKey> for Account {
+    ghost key_of = { λ account. record { name = key_of account.name } };
+
+    fn key(&self) -> AccountKey {
+        AccountKey {
+            name: self.name.key(),
+        }
+    }
+}
+
 /// The accounts of a server, in the order in which they were made. Contracts see the list of them.
 #[derive(Drop)]
 pub struct Accounts {
-    rows: Listed<Account>,
+    rows: Table<AccountKey, Account>,
 }
 
 impl Model for Accounts {
@@ -40,7 +55,7 @@ impl Accounts {
         ensures { result ≡ [] }
     {
         Accounts {
-            rows: Listed::new(alloc),
+            rows: Table::new(alloc),
         }
     }
 
@@ -48,7 +63,7 @@ impl Accounts {
     pub fn check(&self, name: HandleKey, digest: Option<Digest>) -> Check
         ensures { result ≡ check_of (account_of self.now name) digest }
     {
-        let Some(account) = find_account(self.rows.as_slice(), &name) else {
+        let Some(account) = self.get(name) else {
             return Check::Free;
         };
         let Some(digest) = digest else {
@@ -65,7 +80,7 @@ impl Accounts {
     pub fn get(&self, name: HandleKey) -> Option<Account>
         ensures { result ≡ account_of self.now name }
     {
-        find_account(self.rows.as_slice(), &name).copied()
+        self.rows.get(AccountKey { name }).copied()
     }
 
     /// Makes an account of the handle, behind the others. Refuses with `AlreadyRegistered` where the handle has one,
@@ -73,7 +88,7 @@ impl Accounts {
     pub fn add(&mut self, name: Handle, digest: Digest) -> Result<(), Fail>
         ensures { Takes (registering self.old name digest) self.old self.new result }
     {
-        if find_account(self.rows.as_slice(), &name.key()).is_some() {
+        if self.get(name.key()).is_some() {
             return Err(Fail::Refused(Refusal::AlreadyRegistered));
         }
         if self.rows.len() >= MOST {
@@ -98,11 +113,4 @@ impl Duplicate for Accounts {
             rows: self.rows.duplicate()?,
         })
     }
-}
-
-/// The account of the handle that has this key, if there is one.
-fn find_account<'a>(rows: &'a [Account], key: &HandleKey) -> Option<&'a Account>
-    ensures { option_copied result ≡ account_of rows.now key.now }
-{
-    rows.iter().find(|row| row.name.key() == *key)
 }

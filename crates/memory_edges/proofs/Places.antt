@@ -1,28 +1,18 @@
 -- The scan for a key's place among pairs in ascending order.
-use Rattle.std.proofs.Common.{◌≡◌, ℕ, ◌+◌, ◌<◌, zero, suc, Bool, true, false, cond, not, ◌&&◌, List, [], ◌∷◌, ◌++◌, length, take, drop, get_or, set, refl, sym, ap, subst, ◌∙◌, arith, append_assoc, append-nil, add-one, take-append-drop}
+use Rattle.std.proofs.Common.{◌≡◌, ℕ, ◌+◌, ◌<◌, zero, suc, Bool, true, false, cond, not, List, [], ◌∷◌, ◌++◌, length, take, drop, get_or, set, refl, sym, ap, subst, ◌∙◌, arith, append_assoc, add-one, take-append-drop}
 use Rattle.std.specs.Ordering.{is_eq, is_lt}
 use Rattle.std.specs.declared.cmp.Ordering.{Ordering}
 use Rattle.std.specs.declared.cmp.Ordering.TheVariants.{Less, Equal, Greater}
 use Rattle.std.specs.Cmp.Lexicographic.{nat_list_cmp_total}
 use Rattle.std.specs.FinMap.{put, nat_cmp-IsAntisymmetric, slice_cmp-IsAntisymmetric}
 use Rattle.std.specs.FinMap.Entries.{below_all, by_order}
-use Rattle.std.proofs.Math.Seq.{drop-cons, drop-length, take-suc, take-suc-set}
+use Rattle.std.proofs.Math.Seq.{drop-cons, take-suc, take-suc-set}
 use Rattle.std.proofs.lemmas.List.{drop-set-lt}
 use Rattle.edge_traits.specs.Pairs.{Pairs, IsAscending, keys_order}
 use Rattle.memory_edges.specs.Shelf.{IsPlace, without}
 use Rattle.memory_edges.specs.declared.mem_keeper.Place.TheVariants.{At, Gap}
-
-both_true : (a b : Bool) → a ≡ true → b ≡ true → a && b ≡ true
-both_true true b p q = q
-both_true false b p q = p
-
-first_true : (a b : Bool) → a && b ≡ true → a ≡ true
-first_true true b p = refl
-first_true false b p = p
-
-second_true : (a b : Bool) → a && b ≡ true → b ≡ true
-second_true true b p = p
-second_true false b p = absurd (let bad : false ≡ true = p in cc)
+use Rattle.std.proofs.lemmas.Bool.{and_from}
+use Rattle.std.specs.Cmp.{first_so, second_so}
 
 -- the key stands below all of these
 IsBelow : List ℕ → Pairs → Type 0
@@ -38,21 +28,21 @@ without-below : (key : List ℕ) (pairs : Pairs) → IsBelow key pairs → witho
 unfolding IsBelow
 without-below key [] h = refl
 without-below key (e ∷ es) h =
-    let less = is_less (keys_order key e.0) (first_true _ _ h) in
-    let rest = without-below key es (second_true _ _ h) in
+    let less = is_less (keys_order key e.0) (first_so _ _ h) in
+    let rest = without-below key es (second_so _ _ h) in
     ap (λ o. cond (not (is_eq o)) (e ∷ without key es) (without key es)) less ∙ ap (λ l. e ∷ l) rest
 
 IsBelow-less : (key other : List ℕ) (pairs : Pairs) → keys_order key other ≡ Less → IsBelow other pairs → IsBelow key pairs
 unfolding IsBelow
 IsBelow-less key other [] p h = refl
 IsBelow-less key other (e ∷ es) p h =
-    let less = nat_list_cmp_total.trans key other e.0 p (is_less _ (first_true _ _ h)) in
-    both_true _ _ (ap is_lt less) (IsBelow-less key other es p (second_true _ _ h))
+    let less = nat_list_cmp_total.trans key other e.0 p (is_less _ (first_so _ _ h)) in
+    and_from _ _ (ap is_lt less) (IsBelow-less key other es p (second_so _ _ h))
 
 sorted-drop : (i : ℕ) (pairs : Pairs) → IsAscending pairs → IsAscending (drop i pairs)
 sorted-drop zero pairs h = h
 sorted-drop (suc i) [] h = h
-sorted-drop (suc i) (e ∷ es) h = sorted-drop i es (second_true _ _ h)
+sorted-drop (suc i) (e ∷ es) h = sorted-drop i es (second_so _ _ h)
 
 -- a write at i, as the pairs before it, the new one and those after it
 set_split : (pairs : Pairs) (i : ℕ) (x : List ℕ × List ℕ) → i < length pairs → set pairs i x ≡ take i pairs ++ x ∷ drop (suc i) pairs
@@ -110,7 +100,7 @@ module _ (pairs : Pairs) (key : List ℕ) (i : ℕ) (e : List ℕ × List ℕ) (
   unfolding IsBelow
   IsPlace-gap sorted less =
       let h = sorted_next sorted in
-      let below : IsBelow key (e ∷ rest) = both_true _ _ (ap is_lt less) (IsBelow-less key e.0 rest less (first_true _ _ h)) in
+      let below : IsBelow key (e ∷ rest) = and_from _ _ (ap is_lt less) (IsBelow-less key e.0 rest less (first_so _ _ h)) in
       let same : without key (drop i pairs) ≡ drop i pairs = ap (without key) next ∙ without-below key (e ∷ rest) below ∙ sym next in (
         omega arith,
         λ bytes. puts_next bytes Less less ∙ ap (λ l. take i pairs ++ (key, bytes) ∷ l) (sym next),
@@ -121,7 +111,7 @@ module _ (pairs : Pairs) (key : List ℕ) (i : ℕ) (e : List ℕ × List ℕ) (
   unfolding IsBelow rest
   IsPlace-at sorted equal =
       let same : key ≡ e.0 = slice_cmp-IsAntisymmetric nat_cmp-IsAntisymmetric key e.0 equal in
-      let below : IsBelow key rest = subst (λ k. IsBelow k rest) (sym same) (first_true _ _ (sorted_next sorted)) in (
+      let below : IsBelow key rest = subst (λ k. IsBelow k rest) (sym same) (first_so _ _ (sorted_next sorted)) in (
         within,
         λ bytes. puts_next bytes Equal equal ∙ ap (λ k. take i pairs ++ (k, bytes) ∷ rest) (sym same) ∙ sym (set_split pairs i (key, bytes) within),
         others_next Equal equal ∙ ap (λ l. take i pairs ++ l) (without-below key rest below),

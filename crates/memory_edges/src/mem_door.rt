@@ -95,10 +95,11 @@ fn written_in(links: &[MemLink], number: u64) -> Option<&[u8]>
 }
 
 impl Doorway for MemDoor {
-    ghost use Rattle.std.specs.Prelude.{◌≡◌, ◌↔◌, ◌≤◌, Some};
+    ghost use Rattle.std.specs.Prelude.{◌≡◌, ◌↔◌, ◌≤◌, Some, IfSome};
     ghost use Rattle.edge_traits.specs.Faults.{Rose};
     ghost use Rattle.memory_edges.specs.Plan.{IsToFail, after_call};
-    ghost use Rattle.edge_traits.specs.Door.{Gives, Goes, IfCame, IsNew, IsOut, IfTold, TakesBack, OnDoorFailed, door_failed, IsQuiet};
+    ghost use Rattle.edge_traits.specs.Door.{Gives, Goes, IfCame, IsNew, IsOut, TakesBack, OnDoorFailed};
+    ghost use Rattle.edge_traits.specs.Answers.{IsQuiet, door_failed};
 
     type Link = MemLink;
 
@@ -127,7 +128,7 @@ impl Doorway for MemDoor {
     }
 
     fn back(&mut self, number: u64, link: MemLink)
-        requires { IfTold (Some self.old.tale) (IsOut number) }
+        requires { IfSome (Some self.old.tale) (IsOut number) }
         ensures back { Goes (Some self.old.tale) (Some self.new.tale) (TakesBack number (record {
           tale = Some link.tale;
           faults = link.plan.faults;

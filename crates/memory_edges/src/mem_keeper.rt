@@ -69,7 +69,8 @@ impl Keeper for MemKeeper {
     ghost use Rattle.edge_traits.specs.Faults.{Rose};
     ghost use Rattle.memory_edges.specs.Plan.{IsToFail, after_call};
     ghost use Rattle.edge_traits.specs.Pairs.{IsAscending};
-    ghost use Rattle.edge_traits.specs.Keeper.{HasPut, HasRemoved, AreAllOf, Stays, OnKeepFailed, OnLoadFailed, keep_failed, load_failed};
+    ghost use Rattle.edge_traits.specs.Keeper.{HasPut, HasRemoved, AreAllOf, Stays, OnKeepFailed, OnLoadFailed};
+    ghost use Rattle.edge_traits.specs.Answers.{keep_failed, load_failed};
 
     ghost table = { λ keeper. Some (map.from_sorted keeper.pairs) };
 

@@ -107,8 +107,9 @@ impl Link for MemLink {
     ghost use Rattle.std.specs.Prelude.{◌≡◌, ◌<◌, ◌≤◌, ◌↔◌, Some, length};
     ghost use Rattle.edge_traits.specs.Faults.{Rose};
     ghost use Rattle.memory_edges.specs.Plan.{IsToFail, after_call};
-    ghost use Rattle.edge_traits.specs.Sink.{OnWriteFailed, write_failed};
-    ghost use Rattle.edge_traits.specs.Link.{Both, Reads, Writes, Closes, IfHeard, OnHearFailed, hear_failed};
+    ghost use Rattle.edge_traits.specs.Answers.{hear_failed, write_failed};
+    ghost use Rattle.edge_traits.specs.Sink.{OnWriteFailed};
+    ghost use Rattle.edge_traits.specs.Link.{Both, Reads, Writes, Closes, IfHeard, OnHearFailed};
 
     ghost tale = { λ link. Some link.tale };
 

@@ -47,7 +47,8 @@ impl Sink for MemSink {
     ghost use Rattle.std.specs.Prelude.{◌≡◌, ◌↔◌, ◌≤◌, Some};
     ghost use Rattle.edge_traits.specs.Faults.{Rose};
     ghost use Rattle.memory_edges.specs.Plan.{IsToFail, after_call};
-    ghost use Rattle.edge_traits.specs.Sink.{Wrote, OnWriteFailed, UnlessWriteFailed, write_failed};
+    ghost use Rattle.edge_traits.specs.Sink.{Wrote, OnWriteFailed, UnlessWriteFailed};
+    ghost use Rattle.edge_traits.specs.Answers.{write_failed};
 
     ghost written = { λ sink. Some sink.written };
 

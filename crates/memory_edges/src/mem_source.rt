@@ -57,7 +57,8 @@ impl Source for MemSource {
     ghost use Rattle.std.specs.Prelude.{◌≡◌, ◌↔◌, ◌<◌, ◌≤◌, Some, length, min};
     ghost use Rattle.edge_traits.specs.Faults.{Rose};
     ghost use Rattle.memory_edges.specs.Plan.{IsToFail, after_call};
-    ghost use Rattle.edge_traits.specs.Source.{Took, OnReadFailed, IfBytes, read_failed};
+    ghost use Rattle.edge_traits.specs.Source.{Took, OnReadFailed, IfBytes};
+    ghost use Rattle.edge_traits.specs.Answers.{read_failed};
 
     ghost left = { λ source. Some source.left };
 

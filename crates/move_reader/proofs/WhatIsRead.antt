@@ -1,7 +1,7 @@
 -- What is read as a word is a spelling of it.
 use Rattle.std.proofs.Common.{◌≡◌, ℕ, ◌+◌, ◌*◌, Bool, true, false, cond, List, [], ◌∷◌, ◌++◌, length, take, drop, refl, sym, ap, subst, ◌∙◌, Some, None, inl, inr, take-append-drop}
-use Rattle.std.specs.Prelude.{◌==◌, ◌&&◌, ◌||◌, Option, codes, bytes_eq}
-use Rattle.std.proofs.lemmas.Bool.{eqb-true}
+use Rattle.std.specs.Prelude.{◌==◌, ◌||◌, Option, codes, bytes_eq}
+use Rattle.std.proofs.lemmas.Bool.{eqb-true, and_parts}
 use Rattle.std.proofs.lemmas.Slice.Eq.{bytes_eq-Decides}
 use Rattle.chess_model.specs.declared.man.Kind.{Kind}
 use Rattle.chess_model.specs.declared.moves.MoveWord.{MoveWord}
@@ -133,13 +133,9 @@ named-step text w None is e =
 pub named-sound : (text : Text) (w : MoveWord) → named_of text ≡ Some w → IsNamed text w
 named-sound text w e = named-step text w (leading_square (behind 120 (leading rank_of_digit (leading file_of_letter (leading man_of text).1).1).1)) refl e
 
-both_true : (a b : Bool) → a && b ≡ true → (a ≡ true) × (b ≡ true)
-both_true true b e = (refl, e)
-both_true false b e = absurd (let bad : false ≡ true = e in cc)
-
 marked : (word text : Text) (choices : List Text) → OneOf choices word → is_marked word text ≡ true → MadeOf (choices ∷ marks ∷ []) text
 marked word text choices one e =
-    let both = both_true (bytes_eq (take (length word) text) word) (is_mark (drop (length word) text)) e in
+    let both = and_parts (bytes_eq (take (length word) text) word) (is_mark (drop (length word) text)) e in
     let front : take (length word) text ≡ word = (bytes_eq-Decides (take (length word) text) word).0 both.0 in (
       word,
       drop (length word) text,

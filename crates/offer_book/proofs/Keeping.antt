@@ -1,18 +1,15 @@
 -- What the calls keep: offers stay in order where some are cleared or one is made.
-use Rattle.std.proofs.Common.{◌≡◌, ℕ, ◌<◌, Bool, true, false, not, cond, List, [], ◌∷◌, ◌++◌, get_or, take, length, add-one, ◌+◌, refl, sym, ap, ◌∙◌, inl, inr, Some, None}
+use Rattle.std.proofs.Common.{◌≡◌, ℕ, ◌<◌, Bool, true, false, not, cond, List, [], ◌∷◌, ◌++◌, add-one, ◌+◌, refl, sym, ap, ◌∙◌, inl, inr, Some, None}
 use Rattle.std.specs.Prelude.{◌==◌, ◌&&◌, ◌||◌, Option, option_map, All}
 use Rattle.std.specs.List.{filter, find, list_any}
-use Rattle.std.proofs.lemmas.Bool.{eqb-false, eq-eqb, ne_eqb, and_cases, and_left, and_right, or_parts, or_from, cond_both}
-use Rattle.std.proofs.lemmas.List.Elements.{All-filter, All-push, All-weaker, filter_more, filter_passes}
+use Rattle.std.proofs.lemmas.Bool.{eqb-false, eq-eqb, ne_eqb, and_cases, and_left, and_right, or_parts, or_from, cond_both, not-true}
+use Rattle.std.proofs.lemmas.List.Elements.{All-filter, All-push, All-weaker, filter_passes}
 use Rattle.std.proofs.lemmas.List.Folds.{list_any-append}
 use Rattle.offer_book.specs.declared.offer.Offer.{Offer}
 use Rattle.offer_book.specs.declared.offer.Offer.TheVariants.{Draw, Abort, Adjourn, Takeback}
 use Rattle.offer_book.specs.declared.offer.Standing.{Standing}
 use Rattle.offer_book.specs.Offers.{AreOffers, HasOneEach, OfferBook, earliest, is_other_takeback, kind_of, same_offer, settled, stands, stands_alike, stands_for_all, where_stand, with_offer, without}
-
-pub not_true : (t : Bool) → not t ≡ true → t ≡ false
-not_true true h = sym h
-not_true false h = refl
+use Rattle.std.specs.Cmp.{second_so}
 
 any-filter : {X : Type 0} (p q : X → Bool) (xs : List X) → list_any p xs ≡ false → list_any p (filter q xs) ≡ false
 any-filter p q [] h = refl
@@ -95,7 +92,7 @@ one_number_left : (offer : Offer) (m : ℕ) (rows : List Standing) → All (λ r
 unfolding number_after
 one_number_left (Takeback n) m rows h =
     All-weaker (λ row. not (is_other_takeback (Takeback n) row.offer) ≡ true) (λ row. is_other_takeback (Takeback n) row.offer ≡ false)
-    (λ row k. not_true (is_other_takeback (Takeback n) row.offer) k) (filter (λ row. not (is_other_takeback (Takeback n) row.offer)) rows)
+    (λ row k. not-true (is_other_takeback (Takeback n) row.offer) k) (filter (λ row. not (is_other_takeback (Takeback n) row.offer)) rows)
     (filter_passes (λ row. not (is_other_takeback (Takeback n) row.offer)) rows)
 one_number_left Draw m rows h =
     All-filter (λ row. not (is_other_takeback Draw row.offer)) (λ row. is_other_takeback (Takeback m) row.offer ≡ false) rows h
@@ -142,11 +139,6 @@ first_lacking : (b : Bool) (row : Standing) (found : Option Standing) (offer : O
 first_lacking true row found offer fact here later e = let same : row.offer ≡ offer = cc in rw (← same) (here refl)
 first_lacking false row found offer fact here later e = later e
 
-both_true : (a b : Bool) → (a && b) ≡ true → b ≡ true
-both_true true b h = h
-both_true false true h = refl
-both_true false false h = h
-
 lacks : (all rows : List Standing) (seat : ℕ) (offer : Offer)
     → option_map (λ (row : Standing). row.offer) (find (λ row. not (row.seat == seat) && not (stands all seat row.offer)) rows) ≡ Some offer
     → stands all seat offer ≡ false
@@ -154,7 +146,7 @@ lacks all [] seat offer e = absurd (let bad : None ≡ Some offer = e in cc)
 lacks all (row ∷ rows) seat offer e =
     first_lacking (not (row.seat == seat) && not (stands all seat row.offer)) row
     (find (λ row. not (row.seat == seat) && not (stands all seat row.offer)) rows) offer (λ o. stands all seat o ≡ false)
-    (λ passes. not_true (stands all seat row.offer) (both_true (not (row.seat == seat)) (not (stands all seat row.offer)) passes))
+    (λ passes. not-true (stands all seat row.offer) (second_so (not (row.seat == seat)) (not (stands all seat row.offer)) passes))
     (lacks all rows seat offer) e
 
 -- the earliest offer of another seat is one that the seat doesn't have

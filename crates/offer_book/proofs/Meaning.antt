@@ -14,6 +14,7 @@ use Rattle.offer_book.specs.declared.offer.Offer.TheVariants.{Draw, Abort, Adjou
 use Rattle.offer_book.specs.declared.offer.Standing.{Standing}
 use Rattle.offer_book.specs.Offers.{AreOffers, OfferBook, earliest, is_other_takeback, is_takeback, opponent_of, same_offer, stands, stands_for_all, with_offer}
 use Rattle.offer_book.specs.Laws.{AcceptsTheEarliest, ClearsForTheMove, ClearsOne, TakebacksAgree, TakesEffectWithTheLast}
+use Rattle.std.specs.Cmp.{first_so, second_so}
 
 -- one offer is the other
 same_is : (a b : Offer) → same_offer a b ≡ true → a ≡ b
@@ -40,28 +41,20 @@ same_itself Abort = refl
 same_itself Adjourn = refl
 same_itself (Takeback n) = eq-eqb n n refl
 
-left_true : (a b : Bool) → (a && b) ≡ true → a ≡ true
-left_true true b h = refl
-left_true false b h = h
-
-right_true : (a b : Bool) → (a && b) ≡ true → b ≡ true
-right_true true b h = h
-right_true false b h = absurd (let bad : false ≡ true = h in cc)
-
 -- the row is of this seat, and this very offer
 abbrev is_row : ℕ → Offer → Standing → Bool
 is_row seat offer row = (row.seat == seat) && same_offer row.offer offer
 
 row_seat : (seat : ℕ) (offer : Offer) (row : Standing) → is_row seat offer row ≡ true → row.seat ≡ seat
-row_seat seat offer row h = eqb-true row.seat seat (left_true (row.seat == seat) (same_offer row.offer offer) h)
+row_seat seat offer row h = eqb-true row.seat seat (first_so (row.seat == seat) (same_offer row.offer offer) h)
 
 row_offer : (seat : ℕ) (offer : Offer) (row : Standing) → is_row seat offer row ≡ true → row.offer ≡ offer
-row_offer seat offer row h = same_is row.offer offer (right_true (row.seat == seat) (same_offer row.offer offer) h)
+row_offer seat offer row h = same_is row.offer offer (second_so (row.seat == seat) (same_offer row.offer offer) h)
 
 pub clears_one : (rows : List Standing) (offer : Offer) → ClearsOne rows offer
 clears_one rows offer = record {
   cleared = λ seat. any-filter_same (is_row seat offer) (λ row. not (same_offer row.offer offer)) false
-      (λ row h. not_from_true (same_offer row.offer offer) (right_true (row.seat == seat) (same_offer row.offer offer) h)) rows;
+      (λ row h. not_from_true (same_offer row.offer offer) (second_so (row.seat == seat) (same_offer row.offer offer) h)) rows;
   others = λ seat other differs. any-filter_same (is_row seat other) (λ row. not (same_offer row.offer offer)) true
       (λ row h. not_from_false (same_offer row.offer offer) (ap (λ o. same_offer o offer) (row_offer seat other row h) ∙ differs)) rows;
 }
@@ -72,7 +65,7 @@ clears_for_the_move rows seat = record {
       (λ row h. and_left (not (is_takeback row.offer)) (not (row.seat == opponent_of seat)) (ap (λ o. not (is_takeback o)) (row_offer other (Takeback number) row h))) rows;
   opponent = λ offer. any-filter_same (is_row (opponent_of seat) offer) stays false
       (λ row h. and_right (not (is_takeback row.offer)) (not (row.seat == opponent_of seat))
-      (not_from_true (row.seat == opponent_of seat) (left_true (row.seat == opponent_of seat) (same_offer row.offer offer) h))) rows;
+      (not_from_true (row.seat == opponent_of seat) (first_so (row.seat == opponent_of seat) (same_offer row.offer offer) h))) rows;
   others = λ other offer differs plain. any-filter_same (is_row other offer) stays true
       (λ row h. and_from (not (is_takeback row.offer)) (not (row.seat == opponent_of seat))
       (ap (λ o. not (is_takeback o)) (row_offer other offer row h) ∙ ap not plain)
@@ -92,7 +85,7 @@ has_after rows seat other offer =
     ∙ ap (λ b. b || ((seat == other) && same_offer offer offer || false))
     (any-filter_same (is_row other offer) (λ row. not (is_other_takeback offer row.offer)) true
     (λ row h. not_from_false (is_other_takeback offer row.offer)
-    (and_right (is_takeback offer && is_takeback row.offer) (not (same_offer row.offer offer)) (not_from_true (same_offer row.offer offer) (right_true (row.seat == other) (same_offer row.offer offer) h)))) rows)
+    (and_right (is_takeback offer && is_takeback row.offer) (not (same_offer row.offer offer)) (not_from_true (same_offer row.offer offer) (second_so (row.seat == other) (same_offer row.offer offer) h)))) rows)
 
 others_before : (rows : List Standing) (seat other : ℕ) (offer : Offer) → (seat == other) ≡ false
     → stands (with_offer seat offer rows) other offer ≡ true → stands rows other offer ≡ true
@@ -120,8 +113,8 @@ all_have : (n : ℕ) (rows : List Standing) (offer : Offer) → stands_for_all n
 all_have zero rows offer h seat below = absurd (omega (arith, below))
 all_have (suc n) rows offer h seat below =
     elim (cases_eq seat n) as (λ _. stands rows seat offer ≡ true) [
-      | inl same ↦ ap (λ s. stands rows s offer) same ∙ right_true (stands_for_all n rows offer) (stands rows n offer) h
-      | inr other ↦ all_have n rows offer (left_true (stands_for_all n rows offer) (stands rows n offer) h) seat (less seat n below other)
+      | inl same ↦ ap (λ s. stands rows s offer) same ∙ second_so (stands_for_all n rows offer) (stands rows n offer) h
+      | inr other ↦ all_have n rows offer (first_so (stands_for_all n rows offer) (stands rows n offer) h) seat (less seat n below other)
     ]
   where
     less : (k n : ℕ) → k < suc n → (k ≡ n → ⊥) → k < n

@@ -24,7 +24,7 @@ use Rattle.lobby_state.specs.Lobby.{LobbyState}
 use Rattle.lobby_state.specs.Planned.{IsPlanned}
 use Rattle.lobby_state.specs.Plans.{NamesDesk, plan_of, desk_of}
 use Rattle.lobby_state.proofs.KeepsPlans.{plan_of-is, desk_of-is}
-use Rattle.std.specs.Prelude.{IfOk, IfSome, OnOk}
+use Rattle.std.specs.Prelude.{IfSome, OnOk}
 use Rattle.one_server.specs.declared.act.Act.{Act}
 use Rattle.one_server.specs.declared.act.Act.TheVariants.{Lobby, Desk, Pair}
 use Rattle.one_server.specs.declared.act.Timed.{Timed}
@@ -176,10 +176,6 @@ module _ (lobby : LobbyState) (desks : List DeskState) (session : ℕ) (act : Pa
 -- an act behind its moment
 pub at_act : (timed : Timed) (act : Act) (Q : Timed → Type 0) → timed.act ≡ act → Q (record { moment = timed.moment; act = act }) → Q timed
 at_act timed act Q is h = subst (λ (a : Act). Q (record { moment = timed.moment; act = a })) (sym is) h
-
-pub if_ok : {T E : Type 0} (P Q : T → Type 0) (r : Result T E) → ((x : T) → P x → Q x) → IfOk r P → IfOk r Q
-if_ok P Q (Ok x) step h = step x h
-if_ok P Q (Err e) step h = tt
 
 pub on_ok : {T E : Type 0} (P Q : Type 0) (r : Result T E) → (P → Q) → OnOk r P → OnOk r Q
 on_ok P Q (Ok x) step h = step h

@@ -2,26 +2,16 @@
 use Rattle.std.proofs.Common.{◌≡◌, ℕ, Bool, true, false, not, cond, List, [], ◌∷◌, ◌++◌, Option, None, Some, refl, sym, ap, subst, ◌∙◌}
 use Rattle.std.specs.Prelude.{◌==◌, ◌||◌, is_some, option_map}
 use Rattle.std.specs.List.{filter, find}
-use Rattle.std.proofs.lemmas.Bool.{eqb-true, eqb-false, eq-eqb, ne_eqb}
+use Rattle.std.proofs.lemmas.Bool.{eqb-true, eqb-false, eq-eqb, ne_eqb, or_right, or_from, or_parts}
 use Rattle.partner_link.specs.declared.pairs.PartnerLink.{PartnerLink}
 use Rattle.partner_link.specs.Partners.{AreLinks, is_of, other_of, partner_of}
+use Rattle.std.proofs.lemmas.Option.{same_Some}
 
 same : (a : ℕ) → (a == a) ≡ true
 same a = eq-eqb a a refl
 
 pub flipped : (a b : ℕ) → (a == b) ≡ false → (b == a) ≡ false
 flipped a b differ = ne_eqb b a (λ e. eqb-false a b differ (sym e))
-
-or_true : (a b : Bool) → b ≡ true → a || b ≡ true
-or_true true b h = refl
-or_true false b h = h
-
-or_false : (a b : Bool) → a ≡ false → b ≡ false → a || b ≡ false
-or_false a b h k = ap (λ (t : Bool). t || b) h ∙ k
-
-pub neither_is : (a b : Bool) → a || b ≡ false → (a ≡ false) × (b ≡ false)
-neither_is true b h = absurd (let bad : true ≡ false = h in cc)
-neither_is false b h = (refl, h)
 
 -- a player without a partner isn't in the first link, and has no partner in the others
 without_partner : (t : Bool) (who : ℕ) (link : PartnerLink) (rest : Option PartnerLink) → option_map (other_of who) (cond t (Some link) rest) ≡ None
@@ -77,10 +67,10 @@ AreLinks-filter p (link ∷ links) all =
 apart : (link last : PartnerLink) → is_of last.first link ≡ false → is_of last.second link ≡ false
     → (is_of link.first last ≡ false) × (is_of link.second last ≡ false)
 apart link last one two =
-    let a = neither_is (link.first == last.first) (link.second == last.first) one in
-    let b = neither_is (link.first == last.second) (link.second == last.second) two in (
-      or_false (last.first == link.first) (last.second == link.first) (flipped link.first last.first a.0) (flipped link.first last.second b.0),
-      or_false (last.first == link.second) (last.second == link.second) (flipped link.second last.first a.1) (flipped link.second last.second b.1),
+    let a = or_parts (link.first == last.first) (link.second == last.first) one in
+    let b = or_parts (link.first == last.second) (link.second == last.second) two in (
+      or_from (last.first == link.first) (last.second == link.first) (flipped link.first last.first a.0) (flipped link.first last.second b.0),
+      or_from (last.first == link.second) (last.second == link.second) (flipped link.second last.first a.1) (flipped link.second last.second b.1),
     )
 
 -- two different players without partners can be linked
@@ -101,7 +91,7 @@ AreLinks-append (link ∷ links) last all differ first second =
 back : (link : PartnerLink) (a : ℕ) (t : Bool) → (link.first == a) ≡ t → t || (link.second == a) ≡ true → (link.first == link.second) ≡ false
     → (is_of (cond t link.second link.first) link ≡ true) × (other_of (cond t link.second link.first) link ≡ a)
 back link a true first is differ = (
-  or_true (link.first == link.second) (link.second == link.second) (same link.second),
+  or_right (link.first == link.second) (link.second == link.second) (same link.second),
   ap (λ (t : Bool). cond t link.second link.first) differ ∙ eqb-true link.first a first,
 )
 back link a false first is differ = (
@@ -109,16 +99,13 @@ back link a false first is differ = (
   ap (λ (t : Bool). cond t link.second link.first) (same link.first) ∙ eqb-true link.second a is,
 )
 
-some_is : (a b : ℕ) → Some a ≡ Some b → a ≡ b
-some_is a b e = cc
-
 no_some : (a : ℕ) → None ≡ Some a → ⊥
 no_some a e = cc
 
 in_first : (link : PartnerLink) (links : List PartnerLink) (a b : ℕ) → is_of a link ≡ true → (link.first == link.second) ≡ false
     → Some (other_of a link) ≡ Some b → partner_of (link ∷ links) b ≡ Some a
 in_first link links a b is differ found =
-    let other : other_of a link ≡ b = some_is (other_of a link) b found in
+    let other : other_of a link ≡ b = same_Some (other_of a link) b found in
     let there = back link a (link.first == a) refl is differ in
     subst (λ (x : ℕ). partner_of (link ∷ links) x ≡ Some a) other
     (met (other_of a link) link links there.0 ∙ ap (λ (x : ℕ). Some x) there.1)
@@ -136,7 +123,7 @@ partner_of-partner_of (link ∷ links) all a b found =
       | false ↦ λ _ later.
           let there = partner_of-partner_of links all.3 a b later in
           passed b link links
-          (or_false (link.first == b) (link.second == b) (differs links link.first b a all.1 there) (differs links link.second b a all.2 there))
+          (or_from (link.first == b) (link.second == b) (differs links link.first b a all.1 there) (differs links link.second b a all.2 there))
           ∙ there
     ] refl found
 
@@ -150,7 +137,7 @@ pub partner_of-other : (links : List PartnerLink) → AreLinks links → (a : �
 partner_of-other [] all a found = no_some a found
 partner_of-other (link ∷ links) all a found =
     elim (is_of a link) as (λ t. is_of a link ≡ t → option_map (other_of a) (cond t (Some link) (find (is_of a) links)) ≡ Some a → ⊥) [
-      | true ↦ λ is here. not_itself link a (link.first == a) refl is all.0 (some_is (other_of a link) a here)
+      | true ↦ λ is here. not_itself link a (link.first == a) refl is all.0 (same_Some (other_of a link) a here)
       | false ↦ λ _ later. partner_of-other links all.3 a later
     ] refl found
 
@@ -172,5 +159,5 @@ linked_first first second =
 
 pub linked_second : (first second : ℕ) → (first == second) ≡ false → partner_of (record { first = first; second = second } ∷ []) second ≡ Some first
 linked_second first second differ =
-    met second (record { first = first; second = second }) [] (or_true (first == second) (second == second) (same second))
+    met second (record { first = first; second = second }) [] (or_right (first == second) (second == second) (same second))
     ∙ ap (λ (t : Bool). Some (cond t second first)) differ

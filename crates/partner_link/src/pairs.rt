@@ -1,30 +1,33 @@
 //! Requests and links: two players each.
 ghost use Rattle.std.specs.Prelude.{◌≡◌, Ok, not, ◌||◌};
-ghost use Rattle.partner_link.specs.Partners.{is_of, is_request, names, other_of};
+ghost use Rattle.partner_link.specs.Partners.{is_of, names, other_of};
 
 use collections::Predicate;
 use fics_words::{Duplicate, NoMemory};
+use tables::Keyed;
 
 /// A request that stands: which player has asked which to be its partner.
-#[derive(Clone, Copy)]
+#[derive(Clone, Copy, PartialEq, Eq, Hash)]
 pub struct PartnerRequest {
     pub from: u32,
     pub to: u32,
 }
 
 impl PartnerRequest {
-    /// Whether the request is by this player to that one.
-    pub(crate) fn is(&self, from: u32, to: u32) -> bool
-        ensures { result ≡ is_request from to self.now }
-    {
-        self.from == from && self.to == to
-    }
-
     /// Whether the request is by this player or to it.
     pub(crate) fn names(&self, who: u32) -> bool
         ensures { result ≡ names who self.now }
     {
         self.from == who || self.to == who
+    }
+}
+
+/// A request is found by itself.
+impl Keyed<PartnerRequest> for PartnerRequest {
+    ghost key_of = { λ request. request };
+
+    fn key(&self) -> PartnerRequest {
+        *self
     }
 }
 

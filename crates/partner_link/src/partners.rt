@@ -8,6 +8,7 @@ use collections::{Listed, Predicate};
 use fics_words::{Duplicate, Fail, NoMemory, Refusal};
 use std::alloc::Global;
 use std::marker::Model;
+use tables::Table;
 
 /// The requests that stand, in the order of asking, and the links of partners, in the order in which they were made.
 /// Players are known by the numbers of their sessions. Contracts see the two lists.
@@ -15,7 +16,7 @@ use std::marker::Model;
 /// Each player has one partner at most, and nobody is its own partner.
 #[derive(Drop)]
 pub struct Partners {
-    requests: Listed<PartnerRequest>,
+    requests: Table<PartnerRequest, PartnerRequest>,
     pub(crate) links: Listed<PartnerLink>,
 }
 
@@ -40,7 +41,7 @@ impl Partners {
         ensures { result ≡ record { requests = []; links = [] } }
     {
         Partners {
-            requests: Listed::new(alloc),
+            requests: Table::new(alloc),
             links: Listed::new(alloc),
         }
     }
@@ -64,15 +65,15 @@ impl Partners {
         if self.of(from).is_some() || self.of(to).is_some() {
             return Err(Fail::Refused(Refusal::HasPartner));
         }
-        if from != to && stands(self.requests.as_slice(), to, from) {
+        if from != to && stands(&self.requests, to, from) {
             self.links.push(PartnerLink {
                 first: to,
                 second: from,
             })?;
-            keep(&mut self.requests, &RequestOfNeither(from, to));
+            keep_requests(&mut self.requests, &RequestOfNeither(from, to));
             return Ok(true);
         }
-        if !stands(self.requests.as_slice(), from, to) {
+        if !stands(&self.requests, from, to) {
             self.requests.push(PartnerRequest { from, to })?;
         }
         Ok(false)
@@ -91,7 +92,7 @@ impl Partners {
     pub fn has_asked(&self, other: u32, who: u32) -> bool
         ensures { result ≡ has_asked self.now.requests other who }
     {
-        who != other && stands(self.requests.as_slice(), other, who)
+        who != other && stands(&self.requests, other, who)
     }
 
     /// Takes away the link of this player, and gives who its partner was. Refuses with `NoPartner` where it has none.
@@ -103,7 +104,7 @@ impl Partners {
         let Some(partner) = self.of(who) else {
             return Err(Refusal::NoPartner);
         };
-        keep(&mut self.links, &LinkOfOthers(who));
+        keep_links(&mut self.links, &LinkOfOthers(who));
         Ok(partner)
     }
 
@@ -111,8 +112,8 @@ impl Partners {
     pub fn forget(&mut self, who: u32)
         ensures { self.new ≡ without self.old who }
     {
-        keep(&mut self.requests, &RequestOfOthers(who));
-        keep(&mut self.links, &LinkOfOthers(who));
+        keep_requests(&mut self.requests, &RequestOfOthers(who));
+        keep_links(&mut self.links, &LinkOfOthers(who));
     }
 }
 
@@ -143,18 +144,29 @@ fn find_link<'a>(links: &'a [PartnerLink], who: u32) -> Option<&'a PartnerLink>
 }
 
 /// Whether a request by this player to that one is among these.
-fn stands(requests: &[PartnerRequest], from: u32, to: u32) -> bool
+fn stands(requests: &Table<PartnerRequest, PartnerRequest>, from: u32, to: u32) -> bool
     ensures { result ≡ stands requests.now from to }
 {
-    requests.iter().any(|request| request.is(from, to))
+    requests.has(PartnerRequest { from, to })
 }
 
-/// Keeps the items that pass the test. A list that is left empty gives its block back.
-fn keep<T: Drop, P: Predicate<T>>(items: &mut Listed<T>, test: &P)
-    ensures { items.new ≡ filter (P.passes test.now) items.old }
+/// Keeps the requests that pass the test. A table that is left empty gives its memory back.
+fn keep_requests<P: Predicate<PartnerRequest>>(
+    requests: &mut Table<PartnerRequest, PartnerRequest>,
+    test: &P,
+)
+    ensures { requests.new ≡ filter (P.passes test.now) requests.old }
 {
-    items.retain(test);
-    if items.is_empty() {
-        items.take();
+    requests.retain(test);
+    requests.shrink();
+}
+
+/// Keeps the links that pass the test. A list that is left empty gives its block back.
+fn keep_links<P: Predicate<PartnerLink>>(links: &mut Listed<PartnerLink>, test: &P)
+    ensures { links.new ≡ filter (P.passes test.now) links.old }
+{
+    links.retain(test);
+    if links.is_empty() {
+        links.take();
     }
 }

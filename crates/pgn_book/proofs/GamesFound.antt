@@ -3,7 +3,7 @@ use Rattle.std.proofs.Common.{arith, ◌≡◌, inl, inr, ℕ, ◌+◌, ◌<◌,
 use Rattle.std.specs.Prelude.{◌==◌, ◌||◌, bytes_eq, codes}
 use Rattle.std.specs.List.{list_all, AllByRecursion}
 use Rattle.std.specs.Result.{result_ok}
-use Rattle.std.proofs.lemmas.Bool.{eqb-true, and_parts}
+use Rattle.std.proofs.lemmas.Bool.{eqb-true, and_parts, not-true}
 use Rattle.std.proofs.lemmas.Slice.Eq.{bytes_eq-Decides}
 use Rattle.move_reader.proofs.ByteMeanings.{below}
 use Rattle.move_reader.specs.Reading.{reading}
@@ -228,10 +228,6 @@ onward_told told_so stage row moves word h s =
     (λ e. onward_move told_so row moves word r number result (below (length moves) 1200 e) stage (move_read (position_of moves) (without_praise word)) refl)
     (λ e. tt)))
 
-is_false : (x : Bool) → not x ≡ true → x ≡ false
-is_false true e = cc
-is_false false e = refl
-
 onward_named : (told_so : List Piece) (row : Row) (moves : List Move) (word : List ℕ) → SoFar told_so Opened row moves →
     Onward (told_so ++ Word word ∷ []) (named (book_at Opened row moves) word)
 onward_named told_so row moves word s =
@@ -242,7 +238,7 @@ onward_named told_so row moves word s =
       s.0,
       ap (λ (l : List Piece). l ++ Word word ∷ []) s.1 ∙ append_assoc (all_tag_pieces s.0.tags) (Sign 91 ∷ []) (Word word ∷ []),
       s.2,
-      record { bytes = parts.0; not_FEN = is_false (bytes_eq word (codes "FEN")) parts.1 },
+      record { bytes = parts.0; not_FEN = not-true (bytes_eq word (codes "FEN")) parts.1 },
     ))
     (λ e. tt)
 

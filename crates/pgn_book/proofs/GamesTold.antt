@@ -18,8 +18,9 @@ use Rattle.pgn_book.specs.Reading as reader
 use Rattle.pgn_book.specs.declared.stage.Stage.{Stage}
 use Rattle.pgn_book.specs.declared.stage.Stage.TheVariants.{Before, Tags, Opened, Named, Told, Moves}
 use Rattle.pgn_book.specs.declared.row.Row.{Row}
-use Rattle.pgn_book.specs.Reading.{Book, empty_row, no_book, noted_as, noted, result_of, game_of, Taken, goes, fails, staged, passed_over, from_word, move_read, with_move, told, took, Outcome, adding, all_told, read_from, first_state}
+use Rattle.pgn_book.specs.Reading.{Book, empty_row, no_book, noted_as, noted, result_of, game_of, Taken, goes, fails, passed_over, from_word, move_read, with_move, told, took, Outcome, adding, all_told, read_from, first_state}
 use Rattle.pgn_book.proofs.PiecesRead.{telling, lexed_read, start_read}
+use Rattle.std.proofs.lemmas.Bool.{and_from}
 
 abbrev book_at : Stage → Row → List Move → Book
 book_at stage row moves = record { stage = stage; row = row; moves = moves }
@@ -50,11 +51,6 @@ front_ready (Named name) h = absurd h
 front_ready Told h = absurd h
 front_ready Moves h = absurd h
 
-and-true : (x y : Bool) → x ≡ true → y ≡ true → (x && y) ≡ true
-and-true true true e f = refl
-and-true true false e f = cc
-and-true false y e f = cc
-
 -- ---- tags
 
 one_tag : (stage : Stage) (row : Row) (tag : Tag) (rest : List Piece) → IsFront stage → IsTag tag →
@@ -63,13 +59,13 @@ one_tag : (stage : Stage) (row : Row) (tag : Tag) (rest : List Piece) → IsFron
 unfolding took
 one_tag Before row tag rest front is =
     let test : (list_all is_name_byte tag.name && not (bytes_eq tag.name (codes "FEN"))) ≡ true =
-    and-true (list_all is_name_byte tag.name) (not (bytes_eq tag.name (codes "FEN"))) is.bytes (ap not is.not_FEN) in
+    and_from (list_all is_name_byte tag.name) (not (bytes_eq tag.name (codes "FEN"))) is.bytes (ap not is.not_FEN) in
     ap (λ (t : Bool).
     let taken : Taken = cond t (goes (book_at (Named tag.name) row [])) fails in
     adding taken.given (all_told taken.on (Quoted tag.text ∷ Sign 93 ∷ rest))) test
 one_tag Tags row tag rest front is =
     let test : (list_all is_name_byte tag.name && not (bytes_eq tag.name (codes "FEN"))) ≡ true =
-    and-true (list_all is_name_byte tag.name) (not (bytes_eq tag.name (codes "FEN"))) is.bytes (ap not is.not_FEN) in
+    and_from (list_all is_name_byte tag.name) (not (bytes_eq tag.name (codes "FEN"))) is.bytes (ap not is.not_FEN) in
     ap (λ (t : Bool).
     let taken : Taken = cond t (goes (book_at (Named tag.name) row [])) fails in
     adding taken.given (all_told taken.on (Quoted tag.text ∷ Sign 93 ∷ rest))) test

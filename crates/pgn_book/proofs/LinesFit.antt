@@ -2,8 +2,7 @@
 use Rattle.std.proofs.Common.{arith, ◌≡◌, ℕ, ◌+◌, ◌/◌, ◌%◌, ◌<◌, ◌≤◌, Bool, true, false, ◌&&◌, not, cond, nat_eq, List, [], ◌∷◌, ◌++◌, length, map, refl, sym, ap, subst, ◌∙◌, append_assoc, length-append}
 use Rattle.std.specs.Prelude.{◌==◌, nat_le, codes, decimal}
 use Rattle.std.specs.List.{AllByRecursion, list_all, onto_first}
-use Rattle.std.proofs.lemmas.Bool.{and_parts, eqb-true}
-use Rattle.std.proofs.lemmas.Bool.Decides.{nat_tests}
+use Rattle.std.proofs.lemmas.Bool.{and_parts, eqb-true, not-true}
 use Rattle.std.proofs.lemmas.Fmt.{length-decimal-le}
 use Rattle.chess_model.specs.declared.moves.Move.{Move}
 use Rattle.chess_model.specs.declared.variant.Variant.TheVariants.{Chess}
@@ -20,6 +19,7 @@ use Rattle.pgn_book.specs.Laws.{LinesFit, lines_of}
 use Rattle.pgn_book.proofs.Laying.{allowed_at}
 use Rattle.pgn_book.proofs.PrettyWords.{IsPlain, allowed_on_squares, pretty_plain, plain_word}
 use Rattle.pgn_book.proofs.ExportRead.{decimal_digits, digits_word}
+use Rattle.fics_words.proofs.HandleTests.{at_least}
 
 -- a byte of a line
 abbrev is_line_byte : ℕ → Bool
@@ -41,10 +41,6 @@ record FitsFrom (column : ℕ) (text : List ℕ) : Type 0 where
   fits : column + length first ≤ 79
   short : AllByRecursion (λ line. length line ≤ 79) others
 
-is_false : (x : Bool) → not x ≡ true → x ≡ false
-is_false true e = cc
-is_false false e = refl
-
 end_fits : (column : ℕ) → column ≤ 79 → FitsFrom column []
 end_fits column h = record { first = []; others = []; lines = refl; fits = omega arith; short = tt }
 
@@ -54,7 +50,7 @@ byte_fits column b text h f =
     record {
       first = b ∷ f.first;
       others = f.others;
-      lines = ap (λ (t : Bool). cond t ([] ∷ lines_of text) (onto_first b (lines_of text))) (is_false (b == 10) h) ∙ ap (onto_first b) f.lines;
+      lines = ap (λ (t : Bool). cond t ([] ∷ lines_of text) (onto_first b (lines_of text))) (not-true (b == 10) h) ∙ ap (onto_first b) f.lines;
       fits = omega arith;
       short = f.short;
     }
@@ -72,9 +68,6 @@ feed_fits column text h f =
     let short : length f.first ≤ 79 = omega arith in
     record { first = []; others = f.first ∷ f.others; lines = ap (λ (l : List (List ℕ)). [] ∷ l) f.lines; fits = omega arith; short = (short, f.short) }
 
-le-true : (m n : ℕ) → nat_le m n ≡ true → m ≤ n
-le-true m n h = grind (arith, nat_tests)
-
 -- a token at the beginning of a line
 first_fits : (token : List ℕ) (text : List ℕ) → IsShort token → FitsFrom (length token) text → FitsFrom 0 (token ++ text)
 first_fits token text s f = token_fits 0 token text s.bytes (subst (λ (c : ℕ). FitsFrom c text) (let e : length token ≡ 0 + length token = omega arith in e) f)
@@ -89,7 +82,7 @@ laid_by token tokens column true near e f h s again =
 laid_by token tokens column false true e f h s again =
     let next : ℕ = column + 1 + length token in
     byte_fits column 32 (token ++ laid next tokens) refl
-    (token_fits (column + 1) token (laid next tokens) s.bytes (again next (le-true next 79 f)))
+    (token_fits (column + 1) token (laid next tokens) s.bytes (again next (at_least next 79 f)))
 laid_by token tokens column false false e f h s again =
     feed_fits column (token ++ laid (length token) tokens) h (first_fits token (laid (length token) tokens) s (again (length token) s.most))
 

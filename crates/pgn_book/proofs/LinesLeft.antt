@@ -128,7 +128,7 @@ record CanEnd (s : State) : Type 0 where
 abbrev book_at : Stage → Row → List Move → Book
 book_at stage row moves = record { stage = stage; row = row; moves = moves }
 
-given_whole : (given : Option PgnGame) (o : Outcome) → (adding given o).whole ≡ o.whole
+pub given_whole : (given : Option PgnGame) (o : Outcome) → (adding given o).whole ≡ o.whole
 given_whole None o = refl
 given_whole (Some g) o = refl
 

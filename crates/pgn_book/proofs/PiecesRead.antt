@@ -2,7 +2,7 @@
 use Rattle.std.proofs.Common.{arith, ◌≡◌, ℕ, ◌+◌, ◌-◌, ◌<◌, ◌≤◌, Bool, true, false, ◌&&◌, not, cond, nat_eq, List, [], ◌∷◌, ◌++◌, length, take, drop, filter, Option, Some, None, refl, sym, ap, subst, ◌∙◌, append_assoc, append-nil, length-append}
 use Rattle.std.specs.Prelude.{◌==◌, ◌||◌, bytes_eq}
 use Rattle.std.specs.List.{list_all}
-use Rattle.std.proofs.lemmas.Bool.{eqb-true, ne_eqb, and_parts, or_parts}
+use Rattle.std.proofs.lemmas.Bool.{eqb-true, ne_eqb, and_parts, or_parts, not-false, cond-false}
 use Rattle.std.proofs.lemmas.Slice.Eq.{bytes_eq-Decides}
 use Rattle.move_reader.proofs.ByteMeanings.{is_below}
 use Rattle.pgn_book.specs.declared.game.PgnGame.{PgnGame}
@@ -12,6 +12,7 @@ use Rattle.pgn_book.specs.declared.stage.Stage.{Stage}
 use Rattle.pgn_book.specs.declared.stage.Stage.TheVariants.{Before, Tags, Opened, Named, Told, Moves}
 use Rattle.pgn_book.specs.declared.place.Place.TheVariants.{AfterOne, AfterTwo, Between, InLine, InBraces, InWord, InQuotes, InStroke}
 use Rattle.pgn_book.specs.Reading.{Book, no_book, Taken, opened, closed, passed_over, quoted, took, Outcome, adding, nothing_read, all_told, State, state_at, to_place, Step, silent, outside, opens, closes, nested, skipping, spaced, begun, begun_behind, piece_of, longer, word_ended, step, resting, read_from, first_state}
+use Rattle.pretty_reading.proofs.Answered.{cond-both, cond-second}
 
 -- a property of each of some bytes
 abbrev pub EachOf : (ℕ → Type 0) → List ℕ → Type 0
@@ -25,10 +26,6 @@ each_among P (x ∷ xs) b all h =
       | true ↦ λ e g. subst P (sym (eqb-true b x e)) all.0
       | false ↦ λ e g. each_among P xs b all.1 g
     ] refl h
-
-not_false : (x : Bool) → not x ≡ false → x ≡ true
-not_false true e = refl
-not_false false e = absurd (let f : true ≡ false = e in cc)
 
 -- a step that gives no game
 goes_on : (s : State) (on : Option State) (b : ℕ) (text : List ℕ) → step s b ≡ silent on → read_from (Some s) (b ∷ text) ≡ read_from on text
@@ -49,7 +46,7 @@ line_read : (body rest : List ℕ) (depth : ℕ) (book : Book) → Every is_of_l
     read_from (Some (state_at InLine depth book)) (body ++ rest) ≡ read_from (Some (state_at (Between false) depth book)) rest
 line_read [] [] depth book h stops = refl
 line_read [] (b ∷ rest) depth book h stops =
-    let feed : b ≡ 10 = eqb-true b 10 (not_false (b == 10) stops) in
+    let feed : b ≡ 10 = eqb-true b 10 (not-false (b == 10) stops) in
     subst (λ (x : ℕ). read_from (Some (state_at InLine depth book)) (x ∷ rest) ≡ read_from (Some (state_at (Between false) depth book)) (x ∷ rest))
     (sym feed) (at_feed depth book rest)
 line_read (b ∷ body) rest depth book h stops =
@@ -186,24 +183,6 @@ text_read (b ∷ text) rest done depth book h most =
     first (is_among (34 ∷ 92 ∷ []) b) refl ∙ again
 
 -- ---- the first bytes of pieces
-
-cond-both : {A : Type 0} (x y : Bool) (a c : A) → x ≡ true → y ≡ true → cond (x && y) a c ≡ a
-cond-both true true a c e f = refl
-cond-both true false a c e f = cc
-cond-both false y a c e f = cc
-
-cond-second : {A : Type 0} (x y : Bool) (a c : A) → y ≡ false → cond (x && y) a c ≡ c
-cond-second true true a c e = cc
-cond-second true false a c e = refl
-cond-second false y a c e = refl
-
-cond-false : {A : Type 0} (x : Bool) (a c : A) → x ≡ false → cond x a c ≡ c
-cond-false true a c e = cc
-cond-false false a c e = refl
-
-cond-true : {A : Type 0} (x : Bool) (a c : A) → x ≡ true → cond x a c ≡ a
-cond-true true a c e = refl
-cond-true false a c e = cc
 
 first_word : (fresh : Bool) (depth : ℕ) (book : Book) (b : ℕ) → is_word_byte b ≡ true → depth ≡ 0 →
     step (state_at (Between fresh) depth book) b ≡ silent (Some (state_at (InWord false (b ∷ [])) depth book))

@@ -1,8 +1,8 @@
 -- Words without praise.
-use Rattle.std.proofs.Common.{◌≡◌, ℕ, ◌+◌, ◌<◌, ◌≤◌, Bool, true, false, cond, List, [], ◌∷◌, ◌++◌, length, take, get_or, sym, ap, ◌∙◌}
+use Rattle.std.proofs.Common.{◌≡◌, ℕ, ◌+◌, ◌≤◌, Bool, true, false, cond, List, [], ◌∷◌, ◌++◌, length, take}
 use Rattle.std.specs.Prelude.{reverse}
-use Rattle.std.proofs.lemmas.List.{reverse-append, reverse-reverse, take_more}
-use Rattle.pgn_book.specs.Games.{is_praise, without_leading, without_praise}
+use Rattle.std.proofs.lemmas.List.{reverse-append}
+use Rattle.pgn_book.specs.Games.{without_praise}
 
 -- what stands behind is praise
 pub record Cut (word : List ℕ) (end : ℕ) : Type 0 where

@@ -2,7 +2,7 @@
 use Rattle.std.proofs.Common.{arith, ◌≡◌, ℕ, ◌+◌, ◌/◌, ◌%◌, ◌<◌, ◌≤◌, suc, zero, Bool, true, false, ◌&&◌, ◌||◌, not, cond, nat_eq, List, [], ◌∷◌, ◌++◌, length, reverse, Option, Some, None, refl, sym, ap, subst, ◌∙◌, length-append}
 use Rattle.std.specs.Prelude.{◌==◌, bytes_eq, codes}
 use Rattle.std.specs.List.{list_all}
-use Rattle.std.proofs.lemmas.Bool.{and_parts}
+use Rattle.std.proofs.lemmas.Bool.{and_parts, not-true}
 use Rattle.std.proofs.lemmas.List.{reverse-append, reverse-reverse}
 use Rattle.chess_model.specs.declared.man.Kind.{Kind}
 use Rattle.chess_model.specs.declared.man.Kind.TheVariants.{Pawn, Knight, Bishop, Rook, Queen, King}
@@ -17,6 +17,7 @@ use Rattle.move_writer.specs.Letters.{letter_of, file_letter, rank_digit, square
 use Rattle.move_writer.specs.Pretty.{only_if, origin_text, pretty_move, mark_text, pretty_of}
 use Rattle.pgn_book.specs.Bytes.{is_among, is_digit, is_word_byte}
 use Rattle.pgn_book.specs.Games.{is_result, is_praise, without_leading, without_praise}
+use Rattle.chess_model.proofs.Arrays.{each_file}
 
 -- ---- the bytes of pretty texts
 
@@ -51,28 +52,17 @@ none = record { bytes = refl; most = omega arith }
 one : (b : ℕ) → is_plain b ≡ true → IsPlain (b ∷ []) 1
 one b h = record { bytes = ap (λ (t : Bool). t && true) h; most = omega arith }
 
-below_eight : (P : ℕ → Type 0) → P 0 → P 1 → P 2 → P 3 → P 4 → P 5 → P 6 → P 7 → (n : ℕ) → n < 8 → P n
-below_eight P a b c d e f g h zero less = a
-below_eight P a b c d e f g h (suc zero) less = b
-below_eight P a b c d e f g h (suc (suc zero)) less = c
-below_eight P a b c d e f g h (suc (suc (suc zero))) less = d
-below_eight P a b c d e f g h (suc (suc (suc (suc zero)))) less = e
-below_eight P a b c d e f g h (suc (suc (suc (suc (suc zero))))) less = f
-below_eight P a b c d e f g h (suc (suc (suc (suc (suc (suc zero)))))) less = g
-below_eight P a b c d e f g h (suc (suc (suc (suc (suc (suc (suc zero))))))) less = h
-below_eight P a b c d e f g h (suc (suc (suc (suc (suc (suc (suc (suc n)))))))) less = absurd (omega arith)
-
 letter_plain : (f : ℕ) → f < 8 → is_plain (97 + f) ≡ true
 unfolding is_plain is_word_byte
-letter_plain = below_eight (λ f. is_plain (97 + f) ≡ true) refl refl refl refl refl refl refl refl
+letter_plain = each_file (λ f. is_plain (97 + f) ≡ true) refl refl refl refl refl refl refl refl
 
 digit_plain : (r : ℕ) → r < 8 → is_plain (49 + r) ≡ true
 unfolding is_plain is_word_byte
-digit_plain = below_eight (λ r. is_plain (49 + r) ≡ true) refl refl refl refl refl refl refl refl
+digit_plain = each_file (λ r. is_plain (49 + r) ≡ true) refl refl refl refl refl refl refl refl
 
 letter_head : (f : ℕ) → f < 8 → is_head (97 + f) ≡ true
 unfolding is_head
-letter_head = below_eight (λ f. is_head (97 + f) ≡ true) refl refl refl refl refl refl refl refl
+letter_head = each_file (λ f. is_head (97 + f) ≡ true) refl refl refl refl refl refl refl refl
 
 man_plain : (k : Kind) → is_plain (letter_of k) ≡ true
 unfolding is_plain is_word_byte
@@ -209,15 +199,11 @@ move_head shown (move.Drop k to) = record { byte = letter_of k; rest = _; is = r
 
 -- ---- such words are moves
 
-is_false : (x : Bool) → not x ≡ true → x ≡ false
-is_false true e = cc
-is_false false e = refl
-
 pub no_number : (text : List ℕ) → HasHead text → list_all is_digit text ≡ false
 unfolding is_head
 no_number text h =
     let parts = and_parts (not (is_digit h.byte)) (not (is_among (49 ∷ 48 ∷ 42 ∷ []) h.byte)) h.head in
-    ap (list_all is_digit) h.is ∙ ap (λ (t : Bool). t && list_all is_digit h.rest) (is_false (is_digit h.byte) parts.0)
+    ap (list_all is_digit) h.is ∙ ap (λ (t : Bool). t && list_all is_digit h.rest) (not-true (is_digit h.byte) parts.0)
 
 -- none of three
 apart : (x y z : Bool) → (x || (y || (z || false))) ≡ false → (x ≡ false) × (y ≡ false) × (z ≡ false)
@@ -230,7 +216,7 @@ pub no_result : (text : List ℕ) → HasHead text → is_result text ≡ false
 unfolding is_head
 no_result text h =
     let parts = and_parts (not (is_digit h.byte)) (not (is_among (49 ∷ 48 ∷ 42 ∷ []) h.byte)) h.head in
-    let t = apart (h.byte == 49) (h.byte == 48) (h.byte == 42) (is_false (is_among (49 ∷ 48 ∷ 42 ∷ []) h.byte) parts.1) in
+    let t = apart (h.byte == 49) (h.byte == 48) (h.byte == 42) (not-true (is_among (49 ∷ 48 ∷ 42 ∷ []) h.byte) parts.1) in
     let white : Bool = bytes_eq h.rest (45 ∷ 48 ∷ []) in
     let black : Bool = bytes_eq h.rest (45 ∷ 49 ∷ []) in
     let draw : Bool = bytes_eq h.rest (47 ∷ 50 ∷ 45 ∷ 49 ∷ 47 ∷ 50 ∷ []) in
@@ -243,7 +229,7 @@ no_result text h =
 -- nothing is taken from a word that neither praises nor blames
 no_praise : (b : ℕ) → is_plain b ≡ true → is_praise b ≡ false
 unfolding is_plain
-no_praise b h = is_false (is_praise b) (and_parts (is_word_byte b) (not (is_praise b)) h).1
+no_praise b h = not-true (is_praise b) (and_parts (is_word_byte b) (not (is_praise b)) h).1
 
 no_leading : (text : List ℕ) → list_all is_plain text ≡ true → without_leading is_praise text ≡ text
 no_leading [] h = refl

@@ -15,7 +15,7 @@ use Rattle.chess_model.proofs.LegalLists.{legal_lists}
 use Rattle.fics_words.specs.Handle.{IsHandle}
 use Rattle.game_records.specs.declared.stored_game.Half.{Half}
 use Rattle.game_records.specs.declared.stored_game.StoredGame.{StoredGame}
-use Rattle.game_records.specs.Bounds.{AreHalves, IsHalf, seats}
+use Rattle.game_records.specs.Bounds.{AreHalves, IsHalf}
 use Rattle.game_records.specs.Replays.{CanBePlayed, MayCome, half_moves}
 use Rattle.pgn_book.specs.declared.game.PgnResult.TheVariants.{Open}
 use Rattle.pgn_book.specs.declared.game.TagRow.{TagRow}

@@ -1,6 +1,6 @@
 -- What a byte makes of a walk, from what its piece makes of the book.
 use Rattle.std.proofs.Common.{◌≡◌, ℕ, ◌+◌, ◌-◌, Bool, true, false, ◌||◌, cond, nat_eq, nat_lt, List, [], ◌∷◌, ◌++◌, Option, Some, None, refl, sym, ap, ◌∙◌}
-use Rattle.std.specs.Prelude.{◌==◌, Result, Ok, Err, IfOk}
+use Rattle.std.specs.Prelude.{◌==◌, Result, Ok, Err, IfOk, OnErr}
 use Rattle.pgn_book.specs.declared.book.Read.{Read}
 use Rattle.pgn_book.specs.declared.place.Place.{Place}
 use Rattle.pgn_book.specs.declared.place.Place.TheVariants.{Between, InWord, InQuotes, InStroke}
@@ -12,6 +12,10 @@ use Rattle.pgn_book.specs.Taking.{on_if, IsTaken, IsTakenSilently, IsStep}
 pub ok_from : {A E : Type 0} (P Q : A → Type 0) → ((x : A) → P x → Q x) → (r : Result A E) → IfOk r P → IfOk r Q
 ok_from P Q f (Ok x) h = f x h
 ok_from P Q f (Err e) h = h
+
+pub err_from : {A E : Type 0} (P Q : Type 0) → (P → Q) → (r : Result A E) → OnErr r P → OnErr r Q
+err_from P Q f (Ok x) h = h
+err_from P Q f (Err e) h = f h
 
 pub word_by_name : (b : ℕ) (x : Bool) → x ≡ is_name_byte b → x ≡ true → x ≡ is_word_byte b
 unfolding is_word_byte
@@ -69,15 +73,15 @@ sign_at place d b new now byte on e zero_deep no_glyph no_quote h t =
     ∙ sym (ap (λ (x : Bool). cond x (Some (state_at (InWord true []) 0 b)) (cond (byte == 34) quotes signs)) no_glyph)
     ∙ ap (λ (s : State). outside s.book byte) e
 
-pub quote_at : (place : Place) (d : ℕ) (b new : Book) (now : State) (text shown : List ℕ) (byte : ℕ) (on : Bool) → state_at place d b ≡ now
-    → shown ≡ text → (byte == 34) ≡ true → IsTakenSilently on new (quoted b.stage b shown)
+pub quote_at : (place : Place) (d : ℕ) (b new : Book) (now : State) (text : List ℕ) (byte : ℕ) (on : Bool) → state_at place d b ≡ now
+    → (byte == 34) ≡ true → IsTakenSilently on new (quoted b.stage b text)
     → on_if on (state_at (Between false) d new) ≡ in_quotes text now.depth now.book byte
 unfolding took
-quote_at place d b new now text shown byte on e is h t =
+quote_at place d b new now text byte on e h t =
     let there : Option State = to_place (Between false) d (quoted b.stage b text).on in
     let else_so : Option State =
     cond (byte == 92) (Some (state_at (InStroke text) d b)) (cond (is_of_text byte) (longer (InQuotes (text ++ byte ∷ [])) text d b) None) in
-    placed_by on d new (quoted b.stage b shown) t ∙ ap (λ (l : List ℕ). to_place (Between false) d (quoted b.stage b l).on) is
+    placed_by on d new (quoted b.stage b text) t
     ∙ sym (ap (λ (x : Bool). cond x there else_so) h)
     ∙ ap (λ (s : State). in_quotes text s.depth s.book byte) e
 
@@ -116,3 +120,8 @@ pub step_loud : (place kind : Place) (d : ℕ) (b : Book) (now new : State) (byt
 unfolding step
 step_loud place kind d b now new byte read e k h =
     ap (λ (s : State). step s byte) (sym e) ∙ ap (λ (p : Place). step_in p d b byte) (sym k) ∙ h
+
+-- where memory was wanting, the walk stands where it stood
+pub step_back : (place kind : Place) (d : ℕ) (b : Book) (now new : State) → state_at place d b ≡ now → kind ≡ place
+    → new ≡ state_at kind d b → new ≡ now
+step_back place kind d b now new e k h = h ∙ ap (λ (p : Place). state_at p d b) k ∙ e

@@ -17,6 +17,7 @@ use Rattle.pgn_book.proofs.Cuts.{reads_in_pieces}
 use Rattle.pgn_book.proofs.GamesFound.{reader_reads}
 use Rattle.pgn_book.proofs.PiecesRead.{each_among}
 use Rattle.pgn_book.proofs.SoundStates.{step_sound, first_sound, gone_sound}
+use Rattle.pgn_book.proofs.LinesLeft.{given_whole as adding_whole}
 
 abbrev listed : Option PgnGame → List PgnGame
 listed None = []
@@ -209,10 +210,6 @@ begun_read text =
 -- at the end either no game is given, or the text is whole
 abbrev Ends : Outcome → Type 0
 Ends o = (o.games ≡ []) ⊎ (o.whole ≡ true)
-
-adding_whole : (given : Option PgnGame) (o : Outcome) → (adding given o).whole ≡ o.whole
-adding_whole None o = refl
-adding_whole (Some g) o = refl
 
 word_ends : (depth : ℕ) (taken : Taken) → depth ≡ 0 → LeavesNone taken → Ends (adding taken.given (resting depth taken.on))
 word_ends depth taken deep (inl none) = inl (ap (λ (o : Option PgnGame). (adding o (resting depth taken.on)).games) none)

@@ -63,6 +63,14 @@ LeavesFewer old (Game g) new = most_left new < most_left old
 LeavesFewer old More new = most_left new ≤ most_left old
 LeavesFewer old (Bad line) new = Unit {0}
 
+-- memory was wanting: some bytes of what was fed were passed over, in which no game ended, so that whatever is fed, the
+-- new reader gives what the old one gives
+pub record IsHalted (old new : Reader) : Type 0 where
+  pub passed : List ℕ
+  pub split : old.rest ≡ passed ++ new.rest
+  pub goes_on : GoesOn old None new
+  pub fewer : most_left new ≤ most_left old
+
 -- behind the end of the text all was read and nothing of a game is left, so the end comes again
 abbrev pub StaysAtEnd : PgnStep → Reader → Type 0
 StaysAtEnd (Game g) new = Unit {0}

@@ -7,7 +7,7 @@ use Rattle.pgn_book.specs.declared.reader.PgnStep.TheVariants.{Game, More, Bad}
 use Rattle.pgn_book.specs.Bytes.{is_space}
 use Rattle.pgn_book.specs.Games.{Reads}
 use Rattle.pgn_book.specs.Reading.{Outcome, Gone, first_state, read_from, gone, adding_all}
-use Rattle.pgn_book.specs.Reader.{Reader, fresh_reader, line_from, IsNext, IsLast}
+use Rattle.pgn_book.specs.Reader.{Reader, fresh_reader, line_from, IsHalted, IsNext, IsLast}
 use Rattle.pgn_book.specs.BadLines.{IsLeftOn}
 
 -- what is read in a whole text: the games that are whole before it leaves the grammar or ends, and whether all of it is
@@ -60,11 +60,14 @@ pub data Call : Type 0 where
   Feed : List ℕ → Call
   -- `next`, which gave this
   Next : PgnStep → Call
+  -- `next` or `finish`, for which memory was wanting
+  Halted : Call
 
 -- what a call makes of a reader
 abbrev pub Makes : Reader → Call → Reader → Type 0
 Makes old (Feed piece) new = new ≡ record old { rest = old.rest ++ piece }
 Makes old (Next step) new = IsNext old step new
+Makes old Halted new = IsHalted old new
 
 -- what calls make of a reader, one after another
 abbrev pub MakeAll : Reader → List Call → Reader → Type 0
@@ -81,6 +84,7 @@ abbrev pub text_of : List Call → List ℕ
 text_of [] = []
 text_of (Feed piece ∷ calls) = piece ++ text_of calls
 text_of (Next step ∷ calls) = text_of calls
+text_of (Halted ∷ calls) = text_of calls
 
 abbrev pub game_in : PgnStep → List PgnGame
 game_in (Game g) = g ∷ []
@@ -92,13 +96,14 @@ abbrev pub games_of : List Call → List PgnGame
 games_of [] = []
 games_of (Feed piece ∷ calls) = games_of calls
 games_of (Next step ∷ calls) = game_in step ++ games_of calls
+games_of (Halted ∷ calls) = games_of calls
 
 -- ---- whole runs
 
--- however a text is cut into pieces, and wherever games are asked for between them: `finish` gives More at last exactly
--- where the grammar reads the text, and then the games that were given are those that it reads; else it gives Bad with
--- the line on which the text leaves the grammar. `next` gives More where no further game is whole in what was fed and a
--- text may go on so, and Bad where none does, whatever follows
+-- however a text is cut into pieces, wherever games are asked for between them, and however often memory is wanting:
+-- `finish` gives More at last exactly where the grammar reads the text, and then the games that were given are those that
+-- it reads; else it gives Bad with the line on which the text leaves the grammar. `next` gives More where no further game
+-- is whole in what was fed and a text may go on so, and Bad where none does, whatever follows
 pub record RunsReadTheText : Type 0 where
   pub whole : (calls : List Call) (fed : Reader) (games : List PgnGame) → MakeAll fresh_reader calls fed
       → Ends fed games More → Reads (text_of calls) (games_of calls ++ games)
@@ -110,3 +115,10 @@ pub record RunsReadTheText : Type 0 where
   pub lost : (calls : List Call) (fed new : Reader) (line : ℕ) → MakeAll fresh_reader calls fed
       → IsNext fed (Bad line) new → (more : List ℕ) → IsLeftOn (text_of calls ++ more) line
       × ((outcome_of (text_of calls ++ more)).games ≡ games_of calls)
+
+-- a call for which memory was wanting may be made again: what is given then is what it would have given
+pub record MayCallAgain : Type 0 where
+  pub next : (old between new : Reader) (step : PgnStep) → IsHalted old between → IsNext between step new
+      → IsNext old step new
+  pub last : (old between new : Reader) (step : PgnStep) → IsHalted old between → IsLast between step new
+      → IsLast old step new

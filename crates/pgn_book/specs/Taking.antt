@@ -1,6 +1,5 @@
 -- What the calls of the reader say of pieces and bytes.
-use Rattle.std.specs.Prelude.{◌≡◌, Bool, true, false, Option, Some, None, unwrap_or, codes}
-use Rattle.pgn_book.specs.declared.row.Row.{Row}
+use Rattle.std.specs.Prelude.{◌≡◌, Bool, true, false, Option, Some, None}
 use Rattle.pgn_book.specs.declared.book.Read.{Read}
 use Rattle.pgn_book.specs.declared.place.Place.TheVariants.{Between}
 use Rattle.pgn_book.specs.Reading.{Book, Taken, State, Step}
@@ -25,14 +24,3 @@ IsStep read s step = step ≡ record { given = read.game; on = on_if read.goes_o
 -- the same state between two pieces
 abbrev pub between : State → State
 between s = record { place = Between false; depth = s.depth; book = s.book }
-
--- the same row, absent texts as `?`
-abbrev pub filled : Row → Row
-filled row = record {
-  event = Some (unwrap_or row.event (codes "?"));
-  site = Some (unwrap_or row.site (codes "?"));
-  date = Some (unwrap_or row.date (codes "????.??.??"));
-  round = Some (unwrap_or row.round (codes "?"));
-  white = Some (unwrap_or row.white (codes "?"));
-  black = Some (unwrap_or row.black (codes "?"));
-}

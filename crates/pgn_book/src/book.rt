@@ -1,9 +1,9 @@
 //! What has come of a game, a piece at a time.
-ghost use Rattle.std.specs.Prelude.{◌≡◌, true, [], ◌∷◌, ◌++◌, if◌then◌else◌, IfOk, IfSome, OnOk, Option, Some, None};
+ghost use Rattle.std.specs.Prelude.{◌≡◌, true, [], ◌∷◌, ◌++◌, if◌then◌else◌, IfOk, IfSome, OnErr, OnOk, Option, Some, None};
 ghost use Rattle.chess_model.specs.Allowed.{Allowed};
 ghost use Rattle.pgn_book.specs.declared.stage.Stage.TheVariants.{Moves};
 ghost use Rattle.pgn_book.specs.Games.{is_result, position_of, without_praise};
-ghost use Rattle.pgn_book.specs.Reading.{Book, game_of, game_with, glyphed, is_before, move_read, moved, named, no_book, opened, closed, passed_over, quoted, result_of, signed, told, worded};
+ghost use Rattle.pgn_book.specs.Reading.{Book, game_with, glyphed, is_before, move_read, moved, named, no_book, opened, closed, passed_over, quoted, result_of, signed, told, worded};
 ghost use Rattle.pgn_book.specs.Taking.{IsTaken, IsTakenSilently};
 
 use crate::bytes::{are_digits, is_name, without_praise};
@@ -108,15 +108,15 @@ impl Book {
     }
 
     /// Takes a text in quotes.
-    pub(crate) fn quote(&mut self, alloc: Global, text: &[u8]) -> Result<bool, NoMemory>
-        ensures { IfOk result (λ on. IsTakenSilently on self.new (quoted self.old.stage self.old text.now)) }
+    pub(crate) fn quote(&mut self, text: &Text) -> bool
+        ensures { IsTakenSilently result self.new (quoted self.old.stage self.old text.now) }
     {
         match mem::replace(&mut self.stage, Stage::Told) {
             Stage::Named(name) => {
-                self.row.note(alloc, name.bytes(), text)?;
-                Ok(true)
+                self.row.note(name.bytes(), text);
+                true
             },
-            _ => Ok(false),
+            _ => false,
         }
     }
 
@@ -134,8 +134,9 @@ impl Book {
     }
 
     /// Takes a word.
-    pub(crate) fn word(&mut self, alloc: Global, word: Text) -> Result<Read, NoMemory>
-        ensures { IfOk result (λ read. IsTaken read self.new (worded self.old.stage self.old word)) }
+    pub(crate) fn word(&mut self, alloc: Global, word: &Text) -> Result<Read, NoMemory>
+        ensures taken { IfOk result (λ read. IsTaken read self.new (worded self.old.stage self.old word.now)) }
+        ensures unchanged { OnErr result (self.new ≡ self.old) }
     {
         match self.stage {
             Stage::Before => self.tell(alloc, word.bytes()),
@@ -175,8 +176,8 @@ impl Book {
     }
 
     /// Takes the name of a tag.
-    fn name(&mut self, word: Text) -> bool
-        ensures { IsTakenSilently result self.new (named self.old word) }
+    fn name(&mut self, word: &Text) -> bool
+        ensures { IsTakenSilently result self.new (named self.old word.now) }
     {
         if !is_name(word.bytes()) {
             return false;
@@ -184,13 +185,14 @@ impl Book {
         if word.bytes() == b"FEN".as_slice() {
             return false;
         }
-        self.stage = Stage::Named(word);
+        self.stage = Stage::Named(word.copy());
         true
     }
 
     /// Takes a number, a result or a move.
     fn tell(&mut self, alloc: Global, word: &[u8]) -> Result<Read, NoMemory>
-        ensures { IfOk result (λ read. IsTaken read self.new (told self.old word.now)) }
+        ensures taken { IfOk result (λ read. IsTaken read self.new (told self.old word.now)) }
+        ensures unchanged { OnErr result (self.new ≡ self.old) }
     {
         if are_digits(word) {
             return Ok(silent(self.pass_over()));
@@ -205,8 +207,10 @@ impl Book {
     fn end(&mut self, alloc: Global, ending: PgnResult) -> Result<Read, NoMemory>
         ensures game { IfOk result (λ read. read ≡ record { game = Some (game_with self.old ending); goes_on = true }) }
         ensures emptied { OnOk result (self.new ≡ no_book) }
+        ensures unchanged { OnErr result (self.new ≡ self.old) }
     {
-        let tags = self.row.take(alloc)?;
+        let tags = self.row.tags(alloc)?;
+        self.row = Row::new();
         let moves = self.moves.take();
         self.position = Position::start(Variant::Chess);
         self.stage = Stage::Before;
@@ -222,7 +226,8 @@ impl Book {
 
     /// Takes a move.
     fn play(&mut self, word: &[u8]) -> Result<bool, NoMemory>
-        ensures { IfOk result (λ on. IsTakenSilently on self.new (moved self.old word.now)) }
+        ensures taken { IfOk result (λ on. IsTakenSilently on self.new (moved self.old word.now)) }
+        ensures unchanged { OnErr result (self.new ≡ self.old) }
     {
         if self.moves.len() >= MOST_MOVES {
             return Ok(false);
@@ -253,11 +258,12 @@ impl Book {
     /// Makes an allowed move.
     fn make(&mut self, m: &Move) -> Result<(), NoMemory>
         requires { Allowed (position_of self.old.moves) m.now }
-        ensures { OnOk result (self.new ≡ record {
+        ensures made { OnOk result (self.new ≡ record {
           stage = Moves;
           row = self.old.row;
           moves = self.old.moves ++ m.now ∷ [];
         }) }
+        ensures unchanged { OnErr result (self.new ≡ self.old) }
     {
         let kept = *m;
         self.moves.push(kept)?;

@@ -26,9 +26,9 @@ mod walk;
 pub use export_form::export;
 pub use game::{PgnGame, PgnResult, TagRow};
 pub use laws::{
-    exported_lines_fit, exports_read_back, games_that_are_read_can_be_exported, runs_read_the_text,
-    texts_are_read_from_left_to_right, texts_are_read_in_pieces, texts_have_one_reading,
-    worked_exports, worked_texts,
+    calls_may_be_made_again, exported_lines_fit, exports_read_back,
+    games_that_are_read_can_be_exported, runs_read_the_text, texts_are_read_from_left_to_right,
+    texts_are_read_in_pieces, texts_have_one_reading, worked_exports, worked_texts,
 };
 pub use reader::{PgnReader, PgnStep};
 pub use stored::of_stored;

@@ -54,6 +54,7 @@ impl PgnReader {
     ghost use Rattle.pgn_book.specs.Export.{IsExportable};
     ghost use Rattle.pgn_book.specs.Reader.{
       GoesOn,
+      IsHalted,
       IsLast,
       IsNext,
       LeavesFewer,
@@ -88,11 +89,13 @@ impl PgnReader {
     }
 
     /// The next whole game of what was fed, which may be exported; `More` exactly where there is none and nothing is
-    /// outside the grammar; `Bad`, from then on, where something is. Out of memory, nothing is promised of the reader.
+    /// outside the grammar; `Bad`, from then on, where something is. Out of memory, the reader has passed over bytes
+    /// that end no game, and gives from then on what it would have given.
     pub fn next(&mut self) -> Result<PgnStep, NoMemory>
         ensures next { IfOk result (λ step. IsNext self.old step self.new) }
         ensures exportable { IfOk result MayBeExported }
         ensures fewer { IfOk result (λ step. LeavesFewer self.old step self.new) }
+        ensures halted { OnErr result (IsHalted self.old self.new) }
     {
         while let Some(byte) = self.peek() {
             if let Some(game) = self.take(byte)? {
@@ -107,13 +110,14 @@ impl PgnReader {
     }
 
     /// At the end of the text, the next game, which may be exported; `More`, from then on, exactly where nothing of a
-    /// game is left; `Bad`, from then on, where something is, or something is outside the grammar. Out of memory,
-    /// nothing is promised of the reader.
+    /// game is left; `Bad`, from then on, where something is, or something is outside the grammar. Out of memory, the
+    /// reader stands as after `next`.
     pub fn finish(&mut self) -> Result<PgnStep, NoMemory>
         ensures last { IfOk result (λ step. IsLast self.old step self.new) }
         ensures ended { IfOk result (λ step. StaysAtEnd step self.new) }
         ensures exportable { IfOk result MayBeExported }
         ensures fewer { IfOk result (λ step. LeavesFewer self.old step self.new) }
+        ensures halted { OnErr result (IsHalted self.old self.new) }
     {
         match self.next()? {
             PgnStep::More => self.end(),
@@ -128,11 +132,11 @@ impl PgnReader {
         ensures ended { IfOk result (λ step. StaysAtEnd step self.new) }
         ensures exportable { IfOk result MayBeExported }
         ensures fewer { IfOk result (λ step. LeavesFewer self.old step self.new) }
+        ensures unchanged { OnErr result (self.new ≡ self.old) }
     {
         if !self.goes_on {
             return Ok(PgnStep::Bad(self.line));
         }
-        self.goes_on = false;
         let Read { game, goes_on } = self.walk.finish(self.alloc)?;
         self.walk.rest();
         self.goes_on = goes_on;
@@ -166,13 +170,14 @@ impl PgnReader {
         ensures goes_on { IfOk result (λ given. GoesOn self.old given self.new) }
         ensures exportable { IfOk result (λ given. IfSome given IsExportable) }
         ensures rest { OnOk result (self.new.rest ≡ drop 1 self.old.rest) }
+        ensures unchanged { OnErr result (self.new ≡ self.old) }
     {
-        self.pass(byte);
         if !self.goes_on {
+            self.pass(byte);
             return Ok(None);
         }
-        self.goes_on = false;
         let read = self.walk.step(self.alloc, byte)?;
+        self.looked_at += 1;
         self.goes_on = read.goes_on;
         let line = line_behind(read.goes_on, self.line, byte);
         self.line = line;

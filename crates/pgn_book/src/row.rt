@@ -1,9 +1,10 @@
-//! The texts of a game's tags while they are read.
-ghost use Rattle.std.specs.Prelude.{◌≡◌, [], ◌++◌, IfOk, OnOk, Option, Some, None, unwrap_or, codes};
+//! The texts of a game's tags while they are read. Each has a place of fixed size, so that noting one asks for no
+//! memory.
+ghost use Rattle.std.specs.Prelude.{◌≡◌, ◌++◌, IfOk, OnOk, Option, unwrap_or};
 ghost use Rattle.pgn_book.specs.Reading.{empty_row, noted, noted_as, tags_of};
-ghost use Rattle.pgn_book.specs.Taking.{filled};
 
 use crate::game::TagRow;
+use crate::text::Text;
 use collections::Listed;
 use memory::NoMemory;
 use std::alloc::Global;
@@ -11,12 +12,12 @@ use std::alloc::Global;
 /// The first text of each name, if one was told.
 #[derive(Drop)]
 pub(crate) struct Row {
-    event: Option<Listed<u8>>,
-    site: Option<Listed<u8>>,
-    date: Option<Listed<u8>>,
-    round: Option<Listed<u8>>,
-    white: Option<Listed<u8>>,
-    black: Option<Listed<u8>>,
+    event: Option<Text>,
+    site: Option<Text>,
+    date: Option<Text>,
+    round: Option<Text>,
+    white: Option<Text>,
+    black: Option<Text>,
 }
 
 impl Row {
@@ -35,99 +36,54 @@ impl Row {
     }
 
     /// Notes the text of a tag, where its name is one of the six and none of that name was told.
-    pub(crate) fn note(&mut self, alloc: Global, name: &[u8], text: &[u8]) -> Result<(), NoMemory>
-        ensures { OnOk result (self.new ≡ noted name.now text.now self.old) }
+    pub(crate) fn note(&mut self, name: &[u8], text: &Text)
+        ensures { self.new ≡ noted name.now text.now self.old }
     {
-        note_as(&mut self.event, alloc, b"Event", name, text)?;
-        note_as(&mut self.site, alloc, b"Site", name, text)?;
-        note_as(&mut self.date, alloc, b"Date", name, text)?;
-        note_as(&mut self.round, alloc, b"Round", name, text)?;
-        note_as(&mut self.white, alloc, b"White", name, text)?;
-        note_as(&mut self.black, alloc, b"Black", name, text)?;
-        Ok(())
+        note_as(&mut self.event, b"Event", name, text);
+        note_as(&mut self.site, b"Site", name, text);
+        note_as(&mut self.date, b"Date", name, text);
+        note_as(&mut self.round, b"Round", name, text);
+        note_as(&mut self.white, b"White", name, text);
+        note_as(&mut self.black, b"Black", name, text);
     }
 
-    /// The texts of a game, those that weren't told as `?`; leaves no text.
-    pub(crate) fn take(&mut self, alloc: Global) -> Result<TagRow, NoMemory>
-        ensures tags { IfOk result (λ tags. tags ≡ tags_of self.old) }
-        ensures emptied { OnOk result (self.new ≡ empty_row) }
+    /// The texts of a game, those that weren't told as `?`.
+    pub(crate) fn tags(&self, alloc: Global) -> Result<TagRow, NoMemory>
+        ensures { IfOk result (λ tags. tags ≡ tags_of self.now) }
     {
-        self.fill(alloc)?;
-        Ok(self.hand_over(alloc))
-    }
-
-    /// Puts `?` where no text was told.
-    fn fill(&mut self, alloc: Global) -> Result<(), NoMemory>
-        ensures { OnOk result (self.new ≡ filled self.old) }
-    {
-        fill_in(&mut self.event, alloc, b"?")?;
-        fill_in(&mut self.site, alloc, b"?")?;
-        fill_in(&mut self.date, alloc, b"????.??.??")?;
-        fill_in(&mut self.round, alloc, b"?")?;
-        fill_in(&mut self.white, alloc, b"?")?;
-        fill_in(&mut self.black, alloc, b"?")?;
-        Ok(())
-    }
-
-    /// Takes out the texts.
-    fn hand_over(&mut self, alloc: Global) -> TagRow
-        ensures tags { result ≡ record {
-          event = unwrap_or self.old.event [];
-          site = unwrap_or self.old.site [];
-          date = unwrap_or self.old.date [];
-          round = unwrap_or self.old.round [];
-          white = unwrap_or self.old.white [];
-          black = unwrap_or self.old.black [];
-        } }
-        ensures emptied { self.new ≡ empty_row }
-    {
-        TagRow {
-            event: take_out(&mut self.event, alloc),
-            site: take_out(&mut self.site, alloc),
-            date: take_out(&mut self.date, alloc),
-            round: take_out(&mut self.round, alloc),
-            white: take_out(&mut self.white, alloc),
-            black: take_out(&mut self.black, alloc),
-        }
+        let event = text_or(&self.event, alloc, b"?")?;
+        let site = text_or(&self.site, alloc, b"?")?;
+        let date = text_or(&self.date, alloc, b"????.??.??")?;
+        let round = text_or(&self.round, alloc, b"?")?;
+        let white = text_or(&self.white, alloc, b"?")?;
+        let black = text_or(&self.black, alloc, b"?")?;
+        Ok(TagRow {
+            event,
+            site,
+            date,
+            round,
+            white,
+            black,
+        })
     }
 }
 
 /// Notes a text of that name as the one of `key`, if it is the first.
-fn note_as(
-    slot: &mut Option<Listed<u8>>,
-    alloc: Global,
-    key: &[u8],
-    name: &[u8],
-    text: &[u8],
-) -> Result<(), NoMemory>
-    ensures { OnOk result (slot.new ≡ noted_as key.now name.now text.now slot.old) }
+fn note_as(slot: &mut Option<Text>, key: &[u8], name: &[u8], text: &Text)
+    ensures { slot.new ≡ noted_as key.now name.now text.now slot.old }
 {
     if slot.is_none() && name == key {
-        let first = copied(alloc, text)?;
-        drop(slot.replace(first));
+        drop(slot.replace(text.copy()));
     }
-    Ok(())
 }
 
-/// Puts a text where there is none.
-fn fill_in(slot: &mut Option<Listed<u8>>, alloc: Global, text: &[u8]) -> Result<(), NoMemory>
-    ensures { OnOk result (slot.new ≡ Some (unwrap_or slot.old text.now)) }
+/// A text, or the absent one where none was told.
+fn text_or(slot: &Option<Text>, alloc: Global, absent: &[u8]) -> Result<Listed<u8>, NoMemory>
+    ensures { IfOk result (λ text. text ≡ unwrap_or slot.now absent.now) }
 {
-    if slot.is_none() {
-        let absent = copied(alloc, text)?;
-        drop(slot.replace(absent));
-    }
-    Ok(())
-}
-
-/// Takes out a text, or the empty one where there is none.
-fn take_out(slot: &mut Option<Listed<u8>>, alloc: Global) -> Listed<u8>
-    ensures text { result ≡ unwrap_or slot.old [] }
-    ensures emptied { slot.new ≡ None }
-{
-    match slot.take() {
-        Some(text) => text,
-        None => Listed::new(alloc),
+    match slot {
+        Some(text) => copied(alloc, text.bytes()),
+        None => copied(alloc, absent),
     }
 }
 

@@ -41,6 +41,16 @@ impl Text {
         &self.bytes[..self.len]
     }
 
+    /// The same text once more.
+    pub(crate) fn copy(&self) -> Text
+        ensures { result ≡ self.now }
+    {
+        Text {
+            bytes: self.bytes,
+            len: self.len,
+        }
+    }
+
     /// Whether one more byte may stand behind the others.
     pub(crate) fn has_room(&self) -> bool
         ensures { result ≡ nat_lt (length self.now) 255 }

@@ -1,5 +1,5 @@
 //! Reading PGN text a byte at a time.
-ghost use Rattle.std.specs.Prelude.{◌≡◌, ◌==◌, ◌∷◌, ◌++◌, [], if◌then◌else◌, IfOk, OnOk, Option, Some, None};
+ghost use Rattle.std.specs.Prelude.{◌≡◌, ◌==◌, ◌∷◌, ◌++◌, [], if◌then◌else◌, IfOk, OnErr, OnOk, Some, None};
 ghost use Rattle.pgn_book.specs.Reading.{State, adding, begun, closes, ended_in, first_state, in_braces, in_line, in_quotes, in_stroke, is_at_rest, longer, nested, opens, outside, piece_of, read_from, skipping, started, state_at, step, step_in, took};
 ghost use Rattle.pgn_book.specs.declared.place.Place.TheVariants.{InWord, InQuotes};
 ghost use Rattle.pgn_book.specs.Taking.{IsStep, IsTaken, between, on_if};
@@ -46,7 +46,8 @@ impl Walk {
 
     /// Takes a byte.
     pub(crate) fn step(&mut self, alloc: Global, byte: u8) -> Result<Read, NoMemory>
-        ensures { IfOk result (λ read. IsStep read self.new (step self.old byte)) }
+        ensures taken { IfOk result (λ read. IsStep read self.new (step self.old byte)) }
+        ensures unchanged { OnErr result (self.new ≡ self.old) }
     {
         match mem::replace(&mut self.place, Place::InLine) {
             Place::Start => Ok(silent(self.start(byte))),
@@ -56,7 +57,7 @@ impl Walk {
             Place::InLine => Ok(silent(self.pass_line(byte))),
             Place::InBraces => Ok(silent(self.pass_braces(byte))),
             Place::InWord { glyph, word } => self.go_on(alloc, glyph, word, byte),
-            Place::InQuotes(text) => Ok(silent(self.quote(alloc, text, byte)?)),
+            Place::InQuotes(text) => Ok(silent(self.quote(text, byte))),
             Place::InStroke(text) => Ok(silent(self.stroke(text, byte))),
         }
     }
@@ -67,6 +68,7 @@ impl Walk {
             ≡ adding read.game (read_from (on_if read.goes_on (between self.new)) [])) }
         ensures ended { IfOk result (λ read. IsStep read (between self.new)
             (ended_in self.old.place self.old.depth self.old.book)) }
+        ensures unchanged { OnErr result (self.new ≡ self.old) }
     {
         match mem::replace(&mut self.place, Place::Between { fresh: false }) {
             Place::Start => Ok(silent(true)),
@@ -238,8 +240,9 @@ impl Walk {
 
     /// Takes a byte in a word, or behind it.
     fn go_on(&mut self, alloc: Global, glyph: bool, word: Text, byte: u8) -> Result<Read, NoMemory>
-        ensures { IfOk result (λ read. IsStep read self.new
+        ensures taken { IfOk result (λ read. IsStep read self.new
             (step_in (InWord glyph word) self.old.depth self.old.book byte)) }
+        ensures unchanged { OnErr result (self.new ≡ state_at (InWord glyph word) self.old.depth self.old.book) }
     {
         if is_word_byte(byte) {
             return Ok(silent(self.lengthen(glyph, word, byte)));
@@ -255,15 +258,22 @@ impl Walk {
         })
     }
 
-    /// Takes the piece that a word is.
+    /// Takes the piece that a word is. Out of memory, the walk stands in the word again.
     fn take_word(&mut self, alloc: Global, glyph: bool, word: Text) -> Result<Read, NoMemory>
         ensures taken { IfOk result (λ read. IsTaken read self.new.book (took self.old.book (piece_of glyph word))) }
         ensures depth { OnOk result (self.new.depth ≡ self.old.depth) }
+        ensures unchanged { OnErr result (self.new ≡ state_at (InWord glyph word) self.old.depth self.old.book) }
     {
         if glyph {
             return Ok(silent(self.book.glyph(word.bytes())));
         }
-        self.book.word(alloc, word)
+        match self.book.word(alloc, &word) {
+            Ok(read) => Ok(read),
+            Err(lacking) => {
+                self.place = Place::InWord { glyph, word };
+                Err(lacking)
+            },
+        }
     }
 
     /// Takes a byte more in a word.
@@ -279,21 +289,21 @@ impl Walk {
     }
 
     /// Takes a byte in quotes.
-    fn quote(&mut self, alloc: Global, text: Text, byte: u8) -> Result<bool, NoMemory>
-        ensures { IfOk result (λ on. on_if on self.new ≡ in_quotes text self.old.depth self.old.book byte) }
+    fn quote(&mut self, text: Text, byte: u8) -> bool
+        ensures { on_if result self.new ≡ in_quotes text self.old.depth self.old.book byte }
     {
         if byte == b'"' {
             self.place = Place::Between { fresh: false };
-            return self.book.quote(alloc, text.bytes());
+            return self.book.quote(&text);
         }
         if byte == b'\\' {
             self.place = Place::InStroke(text);
-            return Ok(true);
+            return true;
         }
         if byte < 32 {
-            return Ok(false);
+            return false;
         }
-        Ok(self.lengthen_text(text, byte))
+        self.lengthen_text(text, byte)
     }
 
     /// Takes a byte behind a stroke.

@@ -1,13 +1,11 @@
 -- The games of a lobby that was loaded are those of the table.
-use Rattle.std.proofs.Common.{arith, ◌≡◌, ℕ, ◌<◌, ◌^◌, Bool, true, false, cond, List, [], ◌∷◌, Option, None, Some, refl, sym, ap, subst, ◌∙◌, inl, inr}
-use Rattle.std.specs.Prelude.{◌⊎◌, All, Contains, IfSome, bytes_eq}
+use Rattle.std.proofs.Common.{arith, ◌≡◌, ℕ, Bool, true, false, cond, List, [], ◌∷◌, Option, None, Some, refl, sym, ap, subst, ◌∙◌, inl, inr}
+use Rattle.std.specs.Prelude.{◌⊎◌, All, Contains, IfSome}
 use Rattle.std.specs.List.{find}
-use Rattle.std.proofs.lemmas.Bool.{false_from_ne_true}
 use Rattle.std.proofs.lemmas.Slice.Eq.{bytes_eq-Decides}
 use Rattle.edge_traits.specs.Pairs.{Table}
-use Rattle.fics_words.specs.Handle.{key_of}
 use Rattle.fics_words.specs.declared.account.Account.{Account}
-use Rattle.game_records.specs.Keys.{account_key, game_key}
+use Rattle.game_records.specs.Keys.{game_key}
 use Rattle.game_records.specs.Replays.{Replays}
 use Rattle.game_records.specs.Spelling.{IsSpelled, spelling}
 use Rattle.game_records.specs.declared.records.Record.{Record}
@@ -17,7 +15,7 @@ use Rattle.game_records.proofs.KeysBack.{one_game}
 use Rattle.game_records.proofs.ReadBack.{one_spelled}
 use Rattle.game_shelf.specs.declared.shelved.Shelved.{Shelved}
 use Rattle.game_shelf.specs.Numbers.{RiseAbove}
-use Rattle.game_shelf.specs.Wanted.{either_record, account_record, game_record, is_account_at, is_game_at, wanted}
+use Rattle.game_shelf.specs.Wanted.{either_record, account_record, game_record, is_game_at, wanted}
 use Rattle.lobby_load.specs.BadRows.{IsGoodStore}
 use Rattle.lobby_load.specs.Loaded.{AreSpelled, HasLoaded}
 use Rattle.lobby_state.specs.Lobby.{LobbyState}
@@ -25,28 +23,9 @@ use Rattle.lobby_state.specs.WellFormed.{IsWellFormed}
 use Rattle.lobby_store.specs.Carrying.{held}
 use Rattle.pgn_command.specs.Games.{AreGamesOf, AreStoreGames, HasGame}
 use Rattle.pgn_command.proofs.Listed.{contains_above, contains_behind, contains_cases, contains_first, contains_none, contains_small}
+use Rattle.game_shelf.proofs.Leading.{same_key, other_key, no_account}
 
 -- ---- keys
-
-same_key : (one other : List ℕ) → bytes_eq one other ≡ true → one ≡ other
-same_key one other h = (bytes_eq-Decides one other).0 h
-
-other_key : (one other : List ℕ) → (one ≡ other → ⊥) → bytes_eq one other ≡ false
-other_key one other differs = false_from_ne_true (bytes_eq one other) (λ h. differs (same_key one other h))
-
-account_not_game : (letters : List ℕ) (number : ℕ) → account_key letters ≡ game_key number → ⊥
-account_not_game letters number e = let heads = ap first_byte e in omega (arith, heads)
-  where
-    first_byte : List ℕ → ℕ
-    first_byte [] = 0
-    first_byte (byte ∷ bytes) = byte
-
-no_account : (accounts : List Account) (number : ℕ) → find (is_account_at (game_key number)) accounts ≡ None
-no_account [] number = refl
-no_account (account ∷ accounts) number =
-    ap (λ t. cond t (Some account) (find (is_account_at (game_key number)) accounts))
-    (other_key (account_key (key_of account.name)) (game_key number) (account_not_game (key_of account.name) number))
-    ∙ no_account accounts number
 
 -- under the key of a game stands the game of that number
 wanted_game : (accounts : List Account) (games : List Shelved) (number : ℕ) → wanted accounts games (game_key number) ≡ game_record (find (is_game_at (game_key number)) games)

@@ -9,6 +9,7 @@ use pgn_command::pgn;
 use std::alloc::Global;
 use std::test::Fail;
 use store_ends::Outcome;
+use test_steps::assert_rows;
 
 /// A key and its record.
 type Pair = (&'static [u8], &'static [u8]);
@@ -131,16 +132,6 @@ const ROWS: &[Row] = &[
     },
 ];
 
-/// The place of the first row that goes otherwise, if there is one.
-fn first_wrong(alloc: Global) -> Result<Option<usize>, NoMemory> {
-    for (place, row) in ROWS.iter().enumerate() {
-        if !goes_as_said(alloc, row)? {
-            return Ok(Some(place));
-        }
-    }
-    Ok(None)
-}
-
 fn goes_as_said(alloc: Global, row: &Row) -> Result<bool, NoMemory> {
     let text = joined(alloc, row.texts)?;
     let keeper = MemKeeper::new(alloc, Vec::from_slice(alloc, row.keeper)?);
@@ -148,7 +139,8 @@ fn goes_as_said(alloc: Global, row: &Row) -> Result<bool, NoMemory> {
     Ok(is_written(alloc, keeper, sink, row, text.as_slice()))
 }
 
-fn joined(alloc: Global, parts: &[&[u8]]) -> Result<Vec<u8>, NoMemory> {
+/// The parts one behind the other.
+pub fn joined(alloc: Global, parts: &[&[u8]]) -> Result<Vec<u8>, NoMemory> {
     let mut bytes = Vec::new(alloc);
     for part in parts {
         bytes.extend_from_slice(part)?;
@@ -174,6 +166,6 @@ fn is_written(
 
 #[test]
 fn chess_games_of_a_store_are_exported(rt: HostRuntime) -> Result<(), Fail> {
-    assert_eq!(rt; first_wrong(rt.alloc())?, None);
+    assert_rows!(rt; ROWS, |row| goes_as_said(rt.alloc(), row)?);
     Ok(())
 }

@@ -5,6 +5,8 @@
 #[cfg(test)]
 mod exported;
 #[cfg(test)]
+mod lacking;
+#[cfg(test)]
 mod reading;
 #[cfg(test)]
 mod stored;

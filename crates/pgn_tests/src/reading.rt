@@ -4,6 +4,7 @@ use crate::telling::told;
 use memory::NoMemory;
 use std::alloc::Global;
 use std::test::Fail;
+use test_steps::{assert_rows, least_wrong};
 
 /// A text, and its games and the line on which it is bad.
 type Row = (&'static [u8], &'static [u8]);
@@ -45,16 +46,9 @@ const ROWS: &[Row] = &[
     (b"(\n(a *)", b"!2"),
 ];
 
-/// The place of the first row that is read otherwise, and where it was cut, if there is one.
-fn first_wrong(alloc: Global) -> Result<Option<(usize, usize)>, NoMemory> {
-    for (place, (text, games)) in ROWS.iter().enumerate() {
-        for cut in 0..=text.len() {
-            if !is_told(alloc, text, cut, games)? {
-                return Ok(Some((place, cut)));
-            }
-        }
-    }
-    Ok(None)
+/// Where the row, cut in two, is read otherwise, if there is such a place.
+fn first_wrong_cut(alloc: Global, row: &(&[u8], &[u8])) -> Result<Option<usize>, NoMemory> {
+    Ok(least_wrong!(0..=row.0.len(), |cut| is_told(alloc, row.0, cut, row.1)?))
 }
 
 fn is_told(alloc: Global, text: &[u8], cut: usize, games: &[u8]) -> Result<bool, NoMemory> {
@@ -64,6 +58,6 @@ fn is_told(alloc: Global, text: &[u8], cut: usize, games: &[u8]) -> Result<bool,
 
 #[test]
 fn each_cut(rt: HostRuntime) -> Result<(), Fail> {
-    assert_eq!(rt; first_wrong(rt.alloc())?, None);
+    assert_rows!(rt; ROWS, |row| first_wrong_cut(rt.alloc(), row)?.is_none());
     Ok(())
 }

@@ -2,11 +2,13 @@
 
 ghost use Rattle.pgn_book.specs.Export.{IsExportable};
 
+use crate::exported::joined;
 use game_records::{Record, StoredGame, read_record};
 use memory::NoMemory;
 use pgn_book::{PgnGame, export, of_stored};
 use std::alloc::Global;
 use std::test::Fail;
+use test_steps::assert_rows;
 
 /// What a record begins with before the names: an untimed game of chess, and one of 5 minutes.
 const UNTIMED: &[u8] = b"\x01\x47\x00\x00\x00\x00\x00";
@@ -83,30 +85,13 @@ const TAGS: &str = "\
 
 ";
 
-/// The place of the first row whose export is another, or whose bytes are no game's.
-fn first_wrong(alloc: Global) -> Result<Option<usize>, NoMemory> {
-    for (place, (parts, movetext)) in ROWS.iter().enumerate() {
-        let bytes = joined(alloc, parts)?;
-        if !is_as_said(alloc, bytes.as_slice(), *movetext)? {
-            return Ok(Some(place));
-        }
-    }
-    Ok(None)
-}
-
-fn is_as_said(alloc: Global, bytes: &[u8], movetext: Option<&str>) -> Result<bool, NoMemory> {
-    match read_record(alloc, bytes)? {
+/// Whether the parts are a game, and its export is that text.
+fn is_as_said(alloc: Global, parts: &[&[u8]], movetext: Option<&str>) -> Result<bool, NoMemory> {
+    let bytes = joined(alloc, parts)?;
+    match read_record(alloc, bytes.as_slice())? {
         Some(Record::Game(game)) => is_exported(alloc, &game, movetext),
         _ => Ok(false),
     }
-}
-
-fn joined(alloc: Global, parts: &[&[u8]]) -> Result<Vec<u8>, NoMemory> {
-    let mut bytes = Vec::new(alloc);
-    for part in parts {
-        bytes.extend_from_slice(part)?;
-    }
-    Ok(bytes)
 }
 
 fn is_exported(alloc: Global, game: &StoredGame, movetext: Option<&str>) -> Result<bool, NoMemory> {
@@ -134,6 +119,6 @@ fn are_lines(alloc: Global, text: &[u8], movetext: &str) -> Result<bool, NoMemor
 
 #[test]
 fn chess_that_replays_is_exported(rt: HostRuntime) -> Result<(), Fail> {
-    assert_eq!(rt; first_wrong(rt.alloc())?, None);
+    assert_rows!(rt; ROWS, |(parts, movetext)| is_as_said(rt.alloc(), parts, *movetext)?);
     Ok(())
 }

@@ -1,5 +1,5 @@
 //! What a reader gives, told as text: of each game its event, its result as `+`, `-`, `=` or `*`, its moves and a line
-//! feed; and `!` with a line where the text is bad.
+//! feed; and `!` with a line where the text is bad. A call for which memory is wanting is made once more.
 
 use chess_model::Move;
 use fics_words::write_number;
@@ -11,12 +11,23 @@ use std::alloc::Global;
 /// The most games of a text.
 const MOST_GAMES: usize = 4;
 
+/// The most bytes that are told of a text.
+const MOST_TOLD: usize = 256;
+
 /// What is read in a text that is fed in two pieces.
 pub fn told(alloc: Global, text: &[u8], cut: usize) -> Result<Vec<u8>, NoMemory> {
-    let mut told = Vec::new(alloc);
+    let mut told = room(alloc)?;
     let mut reader = PgnReader::new(alloc)?;
     tell_all(&mut reader, text, cut, &mut told)?;
     Ok(told)
+}
+
+/// Room for all that is told, which is asked for once more where it is refused.
+fn room(alloc: Global) -> Result<Vec<u8>, NoMemory> {
+    match Vec::with_capacity(alloc, MOST_TOLD) {
+        Ok(told) => Ok(told),
+        Err(_) => Ok(Vec::with_capacity(alloc, MOST_TOLD)?),
+    }
 }
 
 fn tell_all(
@@ -26,16 +37,37 @@ fn tell_all(
     told: &mut Vec<u8>,
 ) -> Result<(), NoMemory> {
     let (front, back) = text.split_at(cut.min(text.len()));
-    reader.feed(front)?;
+    feed(reader, front)?;
     tell_fed(reader, told)?;
-    reader.feed(back)?;
+    feed(reader, back)?;
     tell_last(reader, told)
+}
+
+fn feed(reader: &mut PgnReader, piece: &[u8]) -> Result<(), NoMemory> {
+    match reader.feed(piece) {
+        Ok(()) => Ok(()),
+        Err(_) => reader.feed(piece),
+    }
+}
+
+fn next(reader: &mut PgnReader) -> Result<PgnStep, NoMemory> {
+    match reader.next() {
+        Ok(step) => Ok(step),
+        Err(_) => reader.next(),
+    }
+}
+
+fn finish(reader: &mut PgnReader) -> Result<PgnStep, NoMemory> {
+    match reader.finish() {
+        Ok(step) => Ok(step),
+        Err(_) => reader.finish(),
+    }
 }
 
 /// Tells the whole games of what was fed.
 fn tell_fed(reader: &mut PgnReader, told: &mut Vec<u8>) -> Result<(), NoMemory> {
     for _ in 0..MOST_GAMES {
-        let step = reader.next()?;
+        let step = next(reader)?;
         if !tell_game(&step, told)? {
             return Ok(());
         }
@@ -46,7 +78,7 @@ fn tell_fed(reader: &mut PgnReader, told: &mut Vec<u8>) -> Result<(), NoMemory> 
 /// Tells what is left at the end, and the line of a bad text.
 fn tell_last(reader: &mut PgnReader, told: &mut Vec<u8>) -> Result<(), NoMemory> {
     for _ in 0..MOST_GAMES {
-        let step = reader.finish()?;
+        let step = finish(reader)?;
         if !tell_game(&step, told)? {
             return tell_end(&step, told);
         }

@@ -1,2 +1,1 @@
-pub mod NamedWords
 pub mod PlainBoardFields

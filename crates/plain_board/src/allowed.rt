@@ -1,18 +1,19 @@
 //! Which half-moves are allowed, tried square by square.
 ghost use Rattle.std.specs.Prelude.{◌≡◌, ◌↔◌, IsTrue};
 ghost use Rattle.chess_model.specs.Placement.{man_at};
-ghost use Rattle.chess_model.specs.Allowed.{IsPromotion, HasPromotion, GoesAs, IsPlainMove, right_of, IsUnattackedWay, IsFreeFor, IsFreeWay, CanCastle, HasDrops, MayDropOn, CanDrop, IsMove, IsSafeAfter, Allowed};
+ghost use Rattle.chess_model.specs.Allowed.{IsPromotion, HasPromotion, GoesAs, IsPlainMove, right_of, IsUnattackedWay, IsFreeFor, IsFreeWay, CanCastle, CanDrop, IsMove, IsSafeAfter, Allowed};
 ghost use Rattle.chess_model.specs.Tests.{is_allowed};
 
 use crate::attack::{is_attacked, is_king_safe};
 use crate::changes::with_move;
-use crate::placement::{
-    Men, end_of_king, end_of_rook, home_of_king, home_of_rook, last_rank_of, man_on,
-};
+use crate::placement::{Men, man_on};
 use crate::plain_board::PlainBoard;
 use crate::reach::reaches;
 use crate::square::{stepped, steps_between};
-use chess_model::{Colour, Kind, Move, Rights, Square, Variant};
+use chess_model::{Colour, Kind, Move, Rights, Square};
+use word_answers::{
+    end_of_king, end_of_rook, has_drops, home_of_king, home_of_rook, last_rank_of, may_drop_on,
+};
 
 /// Whether a pawn may become that kind.
 fn is_promotion_kind(promo: Option<Kind>) -> bool
@@ -105,31 +106,6 @@ fn is_free_way(men: &Men, king: Square, rook: Square, a: Square, b: Square) -> b
         }
     }
     true
-}
-
-pub(crate) fn has_drops(v: Variant) -> bool
-    ensures { IsTrue result ↔ HasDrops v }
-{
-    match v {
-        Variant::Chess => false,
-        Variant::Crazyhouse => true,
-        Variant::Bughouse => true,
-        Variant::Fischer(_) => false,
-    }
-}
-
-/// Whether a man of that kind may be dropped on the rank of that square.
-pub(crate) fn may_drop_on(k: Kind, to: Square) -> bool
-    ensures { IsTrue result ↔ MayDropOn k to }
-{
-    match k {
-        Kind::Pawn => 0 < to.rank() && to.rank() < 7,
-        Kind::Knight => true,
-        Kind::Bishop => true,
-        Kind::Rook => true,
-        Kind::Queen => true,
-        Kind::King => true,
-    }
 }
 
 impl PlainBoard {

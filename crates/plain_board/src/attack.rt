@@ -2,10 +2,11 @@
 ghost use Rattle.std.specs.Prelude.{◌↔◌, IsTrue};
 ghost use Rattle.chess_model.specs.Attacked.{StrikesFrom, IsAttacked, IsInCheckOn, IsKingSafe};
 
-use crate::placement::{Men, is_held_as_kind, man_on};
+use crate::placement::{Men, man_on};
 use crate::reach::strikes;
 use crate::square::numbered;
 use chess_model::{Colour, Kind, Square};
+use word_answers::is_held_as_kind;
 
 /// Whether a man of that colour stands on a and strikes s.
 fn strikes_from(men: &Men, c: Colour, a: Square, s: Square) -> bool

@@ -2,9 +2,10 @@
 ghost use Rattle.std.specs.Prelude.{◌≡◌, Option};
 ghost use Rattle.chess_model.specs.MoveList.{is_pawn_kind, is_pawn, is_en_passant, taking_square, landed, two_moved, place_after, taken};
 
-use crate::placement::{Men, end_of_king, end_of_rook, home_of_king, home_of_rook, man_on};
+use crate::placement::{Men, man_on};
 use crate::square::index_of;
 use chess_model::{Colour, Kind, Man, Move, Square, Variant};
+use word_answers::{end_of_king, end_of_rook, home_of_king, home_of_rook};
 
 fn is_pawn_of_kind(k: Kind) -> bool
     ensures { result ≡ is_pawn_kind k }

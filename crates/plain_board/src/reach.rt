@@ -2,9 +2,10 @@
 ghost use Rattle.std.specs.Prelude.{◌+◌, ◌<◌, ◌↔◌, IsTrue, Option, Some};
 ghost use Rattle.chess_model.specs.Reach.{IsForward, IsStraight, IsDiagonal, IsKnightStep, IsStep, Clear, IsOpen, Strikes, IsAhead, Advances, PawnTakes, Goes, Reaches};
 
-use crate::placement::{Men, is_held_by, man_on, second_rank_of};
+use crate::placement::{Men, man_on, second_rank_of};
 use crate::square::{files_between, ranks_between, stepped, steps_between};
 use chess_model::{Colour, Kind, Square};
+use word_answers::is_held_by;
 
 /// Whether b is n ranks before a, seen by that colour.
 fn is_forward(c: Colour, n: u8, a: Square, b: Square) -> bool

@@ -3,8 +3,8 @@ ghost use Rattle.std.specs.Prelude.{◌≡◌};
 ghost use Rattle.chess_model.specs.RightsAndCounts.{touches, keeps_right};
 ghost use Rattle.chess_model.specs.Next.{next_rights};
 
-use crate::placement::{home_of_king, home_of_rook};
 use chess_model::{Colour, Move, Rights, Square, Variant};
+use word_answers::{home_of_king, home_of_rook};
 
 /// Whether a half-move of the colour `by` leaves or reaches the square s; castling leaves the king's home.
 fn touches_square(v: Variant, by: Colour, m: &Move, s: Square) -> bool

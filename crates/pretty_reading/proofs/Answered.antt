@@ -37,15 +37,15 @@ clear_answer p w m ok choice = answer_by p w m (word_answer p w) (word_answer-ho
 
 -- promotions
 
-queen_for : {A : Type 0} (x y : Bool) (t e : A) → x ≡ true → y ≡ true → cond (x && y) t e ≡ t
-queen_for true true t e h g = refl
-queen_for true false t e h g = cc
-queen_for false y t e h g = cc
+pub cond-both : {A : Type 0} (x y : Bool) (t e : A) → x ≡ true → y ≡ true → cond (x && y) t e ≡ t
+cond-both true true t e h g = refl
+cond-both true false t e h g = cc
+cond-both false y t e h g = cc
 
-none_for : {A : Type 0} (x y : Bool) (t e : A) → y ≡ false → cond (x && y) t e ≡ e
-none_for true true t e h = cc
-none_for true false t e h = refl
-none_for false y t e h = refl
+pub cond-second : {A : Type 0} (x y : Bool) (t e : A) → y ≡ false → cond (x && y) t e ≡ e
+cond-second true true t e h = cc
+cond-second true false t e h = refl
+cond-second false y t e h = refl
 
 no_pawn_for : {A : Type 0} (x y : Bool) (t e : A) → x ≡ false → cond (x && y) t e ≡ e
 no_pawn_for true y t e h = cc
@@ -57,12 +57,12 @@ pub pawn_promotion : (p : Position) (a b : ℕ) (promo : Option Kind) → IsHeld
 pawn_promotion p a b None held (inl last) = absurd last.1
 pawn_promotion p a b (Some k) held (inl last) = (
   inr last.1,
-  queen_for (is_held_as p.to_move Pawn (man_at p.men a)) (nat_eq (rank_of b) (last_rank p.to_move)) (Some k) None
+  cond-both (is_held_as p.to_move Pawn (man_at p.men a)) (nat_eq (rank_of b) (last_rank p.to_move)) (Some k) None
       ((Decides-held_as p.to_move Pawn (man_at p.men a)).1 held) (eq-eqb (rank_of b) (last_rank p.to_move) last.0),
 )
 pawn_promotion p a b promo held (inr other) = (
   inl other.1,
-  none_for (is_held_as p.to_move Pawn (man_at p.men a)) (nat_eq (rank_of b) (last_rank p.to_move)) (Some (unwrap_or promo Queen)) None
+  cond-second (is_held_as p.to_move Pawn (man_at p.men a)) (nat_eq (rank_of b) (last_rank p.to_move)) (Some (unwrap_or promo Queen)) None
       (ne_eqb (rank_of b) (last_rank p.to_move) other.0) ∙ sym other.1,
 )
 

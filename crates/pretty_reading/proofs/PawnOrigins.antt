@@ -12,7 +12,7 @@ use Rattle.chess_model.specs.Reach.{IsForward, IsStep, IsAhead, Advances, PawnTa
 use Rattle.chess_model.specs.MoveList.{is_pawn_kind, is_pawn, taking_square}
 use Rattle.chess_model.specs.Position.{Position}
 use Rattle.chess_model.specs.LegalPositions.{behind, HasPassed, IsSound}
-use Rattle.chess_model.proofs.Captures.{Take, nothing, on_target, passing}
+use Rattle.chess_model.proofs.Captures.{Take, nothing, on_target, passing, not_opposite, files_differ}
 
 -- an own pawn that goes from a to b
 pub record IsPawnTo (p : Position) (a b : ℕ) : Type 0 where
@@ -30,10 +30,6 @@ held_some c k (Some m) h = refl
 by_none : (c : Colour) (o : Option Man) → IsHeldBy c o → o ≡ None → ⊥
 by_none c None h e = h
 by_none c (Some m) h e = absurd (let f : None ≡ Some m = sym e in cc)
-
-not_opposite : (c : Colour) → c ≡ opposite c → ⊥
-not_opposite White e = cc
-not_opposite Black e = cc
 
 own_and_enemy : (c : Colour) (o : Option Man) → IsHeldAs c Pawn o → IsHeldAs (opposite c) Pawn o → ⊥
 own_and_enemy c None h g = h
@@ -89,9 +85,6 @@ three false y z s b e f g = cc
 pawn_there : (c : Colour) (o : Option Man) → IsHeldAs c Pawn o → is_pawn o ≡ true
 pawn_there c None h = absurd h
 pawn_there c (Some m) h = ap is_pawn_kind h.1
-
-files_differ : (a b : ℕ) → files_apart a b ≡ 1 → file_of a ≢ file_of b
-files_differ a b f e = omega (arith, f, e)
 
 beside_differs : (c : Colour) (a b : ℕ) → IsForward c 1 a b → square_at (file_of b) (rank_of a) ≢ b
 beside_differs White a b r e = omega (arith, r, e)

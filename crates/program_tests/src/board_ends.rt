@@ -4,13 +4,14 @@
 use crate::running::{board, outcome};
 use std::alloc::Global;
 use std::test::Fail;
+use test_steps::boards::{FOOLS_MATE, KNIGHT_ON_D2};
 
 /// Words, and the lines that the text ends with which is written for them.
 const ENDS: &[(&str, &[&str])] = &[
     (
         "f3 e5 g4 Qh4",
         &[
-            "<12> rnb-kbnr pppp-ppp -------- ----p--- ------Pq -----P-- PPPPP--P RNBQKBNR W -1 1 1 1 1 1 1 White Black 0 0 0 39 39 0 0 3 Q/d8-h4 (0:00) Qh4# 0",
+            FOOLS_MATE,
             "{Game 1 (White vs. Black) White checkmated} 0-1",
         ],
     ),
@@ -41,10 +42,7 @@ const ENDS: &[(&str, &[&str])] = &[
     ),
     (
         "d4 d5 Nf3 Nf6 Nd2 Nbd2",
-        &[
-            "refused 1 Ambiguous",
-            "<12> rnbqkb-r ppp-pppp -----n-- ---p---- ---P---- -----N-- PPPNPPPP R-BQKB-R B -1 1 1 1 1 3 1 White Black 0 0 0 39 39 0 0 3 N/b1-d2 (0:00) Nbd2 0",
-        ],
+        &["refused 1 Ambiguous", KNIGHT_ON_D2],
     ),
     // a rook that came home brings no right back
     (

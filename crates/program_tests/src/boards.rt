@@ -3,6 +3,7 @@
 use crate::running::{Case, Row, at_least_one, board, expect, expect_tables, outcome};
 use std::alloc::Global;
 use std::test::Fail;
+use test_steps::limits::LINE_BYTES;
 
 /// The board line after White's e2 to e4.
 const FIRST_MOVE: &str =
@@ -240,7 +241,7 @@ fn with_long_line(alloc: Global, length: usize) -> Result<Vec<u8>, Fail> {
 #[test]
 fn long_lines_are_no_words(rt: HostRuntime) -> Result<(), Fail> {
     let text = format!(in rt.alloc(); "{FIRST_MOVE}bad line 2\n\r")?;
-    for length in [1_023, 1_024, 1_025, 100_000] {
+    for length in [LINE_BYTES, LINE_BYTES + 1, LINE_BYTES + 2, 100_000] {
         let input = with_long_line(rt.alloc(), length)?;
         expect(&rt, rt.alloc(), &board(input.as_slice()), 7, text.as_str())?;
     }

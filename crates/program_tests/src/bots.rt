@@ -6,6 +6,7 @@ use crate::running::{Case, Row, expect_tables, outcome};
 use std::alloc::Global;
 use std::process::Abort;
 use std::test::Fail;
+use test_steps::assert_rows;
 
 /// How far is looked ahead, the lines that are read, the status and what is written.
 struct Answer(&'static str, &'static str, u8, &'static str);
@@ -120,16 +121,6 @@ const CUTS_AND_FAULTS: &[Row] = &[
 
 const USAGE: &str = "usage: ficsd board, replay, demo N, check --store PATH, serve --port P\n";
 
-/// The place of the first row that is answered otherwise, if one is.
-fn first_wrong(alloc: Global, rows: &[Answer]) -> Result<Option<usize>, Fail> {
-    for (place, row) in rows.iter().enumerate() {
-        if !is_answered(alloc, row.0, row.1.as_bytes(), row.2, row.3)? {
-            return Ok(Some(place));
-        }
-    }
-    Ok(None)
-}
-
 /// Whether a run ends with that status and writes that text.
 fn is_answered(
     alloc: Global,
@@ -152,8 +143,8 @@ fn is_answered(
 
 #[test]
 fn positions_are_answered(rt: HostRuntime) -> Result<(), Fail> {
-    assert_eq!(rt; first_wrong(rt.alloc(), ANSWERS)?, None);
-    assert_eq!(rt; first_wrong(rt.alloc(), BAD_LINES)?, None);
+    assert_rows!(rt; ANSWERS, |row| is_answered(rt.alloc(), row.0, row.1.as_bytes(), row.2, row.3)?);
+    assert_rows!(rt; BAD_LINES, |row| is_answered(rt.alloc(), row.0, row.1.as_bytes(), row.2, row.3)?);
     Ok(())
 }
 

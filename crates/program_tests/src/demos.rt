@@ -70,7 +70,7 @@ fn summary(alloc: Global, number: &str) -> Result<Vec<u8>, Fail> {
 }
 
 /// The place of the first line of a summary that isn't as said, if one is; the number of lines where one is missing.
-fn first_wrong(text: &str) -> Option<usize> {
+fn first_wrong_line(text: &str) -> Option<usize> {
     let mut lines = text.lines();
     for (place, words) in WORDS.iter().enumerate() {
         let (least, most) = BOUNDS[place];
@@ -104,7 +104,7 @@ fn summaries_are_six_counts(rt: HostRuntime) -> Result<(), Fail> {
     for number in ["0", "7"] {
         let bytes = summary(rt.alloc(), number)?;
         let text = str::from_utf8(bytes.as_slice())?;
-        assert_eq!(&rt; first_wrong(text), None, "{text}");
+        assert_eq!(&rt; first_wrong_line(text), None, "{text}");
     }
     Ok(())
 }

@@ -7,6 +7,7 @@ use run_call::run;
 use std::alloc::Global;
 use std::process::Abort;
 use std::test::Fail;
+use test_steps::first_wrong;
 
 /// A program's run: the words, what it reads, and which reads and writes fail.
 #[derive(Drop)]
@@ -98,19 +99,13 @@ pub(crate) fn expect_tables(
     tables: &[(&str, &[Row])],
 ) -> Result<(), Fail> {
     for (name, rows) in tables {
-        assert_eq!(rt; first_wrong(alloc, rows)?, None, "{name}");
+        assert_eq!(rt;
+            first_wrong!(rows, |row| is_as_said(alloc, row)?),
+            None,
+            "{name}"
+        );
     }
     Ok(())
-}
-
-/// The place of the first row that ends otherwise or is answered by another text, if one is.
-fn first_wrong(alloc: Global, rows: &[Row]) -> Result<Option<usize>, Fail> {
-    for (place, row) in rows.iter().enumerate() {
-        if !is_as_said(alloc, row)? {
-            return Ok(Some(place));
-        }
-    }
-    Ok(None)
 }
 
 fn is_as_said(alloc: Global, row: &Row) -> Result<bool, Fail> {

@@ -7,6 +7,7 @@ use run_call::run;
 use std::alloc::Global;
 use std::process::Abort;
 use std::test::Fail;
+use test_steps::assert_rows;
 
 /// A key and the record under it.
 type KeyAndRecord = (&'static [u8], &'static [u8]);
@@ -112,18 +113,8 @@ fn is_as_said(alloc: Global, row: &Row) -> Result<bool, Fail> {
     Ok(status == row.4 && sink.written() == row.5.as_bytes())
 }
 
-/// The place of the first row that ends otherwise, if one does.
-fn first_wrong(alloc: Global, rows: &[Row]) -> Result<Option<usize>, Fail> {
-    for (place, row) in rows.iter().enumerate() {
-        if !is_as_said(alloc, row)? {
-            return Ok(Some(place));
-        }
-    }
-    Ok(None)
-}
-
 #[test]
 fn stores_are_checked(rt: HostRuntime) -> Result<(), Fail> {
-    assert_eq!(rt; first_wrong(rt.alloc(), ROWS)?, None);
+    assert_rows!(rt; ROWS, |row| is_as_said(rt.alloc(), row)?);
     Ok(())
 }

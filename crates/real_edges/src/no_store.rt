@@ -1,7 +1,5 @@
 //! The keeper of a program that has no store.
 
-ghost use Rattle.std.specs.Prelude.{◌≡◌};
-
 use edge_traits::{Keeper, KeeperFail, Kept, Pair};
 use std::alloc::Global;
 

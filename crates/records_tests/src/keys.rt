@@ -4,6 +4,7 @@ use fics_words::{Handle, NoMemory};
 use game_records::{account_key, game_key, game_number};
 use std::alloc::Global;
 use std::test::Fail;
+use test_steps::assert_rows;
 
 /// A key, and the number of the game that it is the key of.
 type Row = (&'static [u8], Option<u64>);
@@ -23,41 +24,23 @@ const ROWS: &[Row] = &[
     (b"", None),
 ];
 
-/// The place of the first key that is read otherwise, if there is one.
-fn first_wrong() -> Option<usize> {
-    for (place, (key, number)) in ROWS.iter().enumerate() {
-        if game_number(key) != *number {
-            return Some(place);
-        }
-    }
-    None
-}
-
 #[test]
 fn numbers(rt: HostRuntime) -> Result<(), Fail> {
-    assert_eq!(rt; first_wrong(), None);
+    assert_rows!(rt; ROWS, |(key, number)| game_number(key) == *number);
     Ok(())
 }
 
-fn is_key(alloc: Global, number: u64, key: &[u8]) -> Result<bool, NoMemory> {
+/// Whether that is the key of the number, where there is one.
+fn is_key(alloc: Global, number: Option<u64>, key: &[u8]) -> Result<bool, NoMemory> {
+    let Some(number) = number else {
+        return Ok(true);
+    };
     Ok(number != 0 && game_key(alloc, number)?.as_slice() == key)
-}
-
-/// The place of the first number that has another key, if there is one.
-fn first_miswritten(alloc: Global) -> Result<Option<usize>, NoMemory> {
-    for (place, (key, number)) in ROWS.iter().enumerate() {
-        if let Some(number) = number {
-            if !is_key(alloc, *number, key)? {
-                return Ok(Some(place));
-            }
-        }
-    }
-    Ok(None)
 }
 
 #[test]
 fn games(rt: HostRuntime) -> Result<(), Fail> {
-    assert_eq!(rt; first_miswritten(rt.alloc())?, None);
+    assert_rows!(rt; ROWS, |(key, number)| is_key(rt.alloc(), *number, key)?);
     Ok(())
 }
 

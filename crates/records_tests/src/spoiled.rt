@@ -5,6 +5,8 @@ use crate::texts::{ANN, CHESS, CRAZYHOUSE, FISCHER, PAIR};
 use fics_words::NoMemory;
 use std::alloc::Global;
 use std::test::Fail;
+use test_steps::limits::HALF_MOVES;
+use test_steps::{assert_rows, least_wrong};
 
 const TEXTS: &[&[u8]] = &[ANN, CHESS, PAIR, FISCHER, CRAZYHOUSE];
 
@@ -94,24 +96,18 @@ const ROWS: &[Row] = &[
     ),
 ];
 
-/// The place of the first row that is read otherwise, if there is one.
-fn first_wrong(alloc: Global) -> Result<Option<usize>, NoMemory> {
-    for (place, (text, good)) in ROWS.iter().enumerate() {
-        let met = if *good {
-            is_same(alloc, text)?
-        } else {
-            is_nothing(alloc, text)?
-        };
-        if !met {
-            return Ok(Some(place));
-        }
+/// Whether the text is a record that is written so, or none.
+fn is_read_so(alloc: Global, text: &[u8], good: bool) -> Result<bool, NoMemory> {
+    if good {
+        is_same(alloc, text)
+    } else {
+        is_nothing(alloc, text)
     }
-    Ok(None)
 }
 
 #[test]
 fn written_out(rt: HostRuntime) -> Result<(), Fail> {
-    assert_eq!(rt; first_wrong(rt.alloc())?, None);
+    assert_rows!(rt; ROWS, |(text, good)| is_read_so(rt.alloc(), text, *good)?);
     Ok(())
 }
 
@@ -128,19 +124,9 @@ fn is_whole(alloc: Global, text: &[u8]) -> Result<bool, NoMemory> {
     Ok(is_same(alloc, text)? && is_nothing(alloc, &longer)?)
 }
 
-/// The place of the first text that isn't whole, if there is one.
-fn first_open(alloc: Global) -> Result<Option<usize>, NoMemory> {
-    for (place, text) in TEXTS.iter().enumerate() {
-        if !is_whole(alloc, text)? {
-            return Ok(Some(place));
-        }
-    }
-    Ok(None)
-}
-
 #[test]
 fn cut_and_lengthened(rt: HostRuntime) -> Result<(), Fail> {
-    assert_eq!(rt; first_open(rt.alloc())?, None);
+    assert_rows!(rt; TEXTS, |text| is_whole(rt.alloc(), text)?);
     Ok(())
 }
 
@@ -166,12 +152,7 @@ fn is_spelled_at(alloc: Global, text: &[u8], place: usize) -> Result<bool, NoMem
 
 /// The place of the first byte that can be turned so that what is read is written otherwise.
 fn first_misread(alloc: Global, text: &[u8]) -> Result<Option<usize>, NoMemory> {
-    for place in 0..text.len() {
-        if !is_spelled_at(alloc, text, place)? {
-            return Ok(Some(place));
-        }
-    }
-    Ok(None)
+    Ok(least_wrong!(0..text.len(), |place| is_spelled_at(alloc, text, place)?))
 }
 
 #[test]
@@ -188,7 +169,7 @@ fn repeated(
     head: &[u8],
     count: u16,
     text: &[u8],
-    times: usize,
+    times: u16,
 ) -> Result<Vec<u8>, NoMemory> {
     let mut bytes = Vec::new(alloc);
     bytes.extend_from_slice(head)?;
@@ -205,54 +186,37 @@ const FOUR: &[u8] = b"\x02\x47\x02\x00\x00\x00\x00\x03Ann\x03Ben\x03Cat\x03Dan";
 
 /// A beginning, a count, a text, how often it stands, and whether that is a record: a board has at most 1,200
 /// half-moves, which are 2,400 for a pair.
-type Count = (&'static [u8], u16, &'static [u8], usize, bool);
+type Count = (&'static [u8], u16, &'static [u8], u16, bool);
 
 const COUNTS: &[Count] = &[
-    (TWO, 1_200, b"\x18\xe0\x00", 1_200, true),
-    (TWO, 1_201, b"\x18\xe0\x00", 1_201, false),
-    (TWO, 1_200, b"\x18\xe0\x00", 1_199, false),
-    (TWO, 65_535, b"\x18\xe0\x00", 1_200, false),
-    (
-        FOUR,
-        2_400,
-        b"\x01\x18\xe0\x00\x02\x18\xe0\x00",
-        1_200,
-        true,
-    ),
-    (
-        FOUR,
-        2_402,
-        b"\x01\x18\xe0\x00\x02\x18\xe0\x00",
-        1_201,
-        false,
-    ),
-    (FOUR, 1_200, b"\x01\x18\xe0\x00", 1_200, true),
-    (FOUR, 1_201, b"\x01\x18\xe0\x00", 1_201, false),
-    (FOUR, 1_201, b"\x02\x18\xe0\x00", 1_201, false),
+    (TWO, HALF_MOVES, HALF, HALF_MOVES, true),
+    (TWO, HALF_MOVES + 1, HALF, HALF_MOVES + 1, false),
+    (TWO, HALF_MOVES, HALF, HALF_MOVES - 1, false),
+    (TWO, 65_535, HALF, HALF_MOVES, false),
+    (FOUR, 2 * HALF_MOVES, HALVES, HALF_MOVES, true),
+    (FOUR, 2 * HALF_MOVES + 2, HALVES, HALF_MOVES + 1, false),
+    (FOUR, HALF_MOVES, FIRST, HALF_MOVES, true),
+    (FOUR, HALF_MOVES + 1, FIRST, HALF_MOVES + 1, false),
+    (FOUR, HALF_MOVES + 1, SECOND, HALF_MOVES + 1, false),
 ];
+
+/// A half-move of one board, of the first and of the second board of a pair, and of both.
+const HALF: &[u8] = b"\x18\xe0\x00";
+
+const FIRST: &[u8] = b"\x01\x18\xe0\x00";
+
+const SECOND: &[u8] = b"\x02\x18\xe0\x00";
+
+const HALVES: &[u8] = b"\x01\x18\xe0\x00\x02\x18\xe0\x00";
 
 /// Whether the text of a row is read as the row says.
 fn is_counted(alloc: Global, row: &Count) -> Result<bool, NoMemory> {
     let text = repeated(alloc, row.0, row.1, row.2, row.3)?;
-    if row.4 {
-        is_same(alloc, &text)
-    } else {
-        is_nothing(alloc, &text)
-    }
-}
-
-/// The place of the first row that is read otherwise, if there is one.
-fn first_miscounted(alloc: Global) -> Result<Option<usize>, NoMemory> {
-    for (place, row) in COUNTS.iter().enumerate() {
-        if !is_counted(alloc, row)? {
-            return Ok(Some(place));
-        }
-    }
-    Ok(None)
+    is_read_so(alloc, &text, row.4)
 }
 
 #[test]
 fn counts(rt: HostRuntime) -> Result<(), Fail> {
-    assert_eq!(rt; first_miscounted(rt.alloc())?, None);
+    assert_rows!(rt; COUNTS, |row| is_counted(rt.alloc(), row)?);
     Ok(())
 }

@@ -7,6 +7,8 @@ use fics_words::{Account, Handle, NoMemory};
 use game_records::{Half, PackedHalf, Record, StoredGame, read_record};
 use std::alloc::Global;
 use std::test::Fail;
+use test_steps::assert_rows;
+use test_steps::limits::{LAST_MOMENT, MINUTES};
 
 /// A half-move, squares by their numbers.
 #[derive(Clone, Copy)]
@@ -59,7 +61,7 @@ const ROWS: &[Row] = &[
     },
     Row {
         text: CRAZYHOUSE,
-        minutes: 600,
+        minutes: MINUTES,
         increment: 1,
         variant: Variant::Crazyhouse,
         names: &[b"Ann", b"Ben"],
@@ -70,7 +72,7 @@ const ROWS: &[Row] = &[
                 Said::Drop(Kind::Knight, 28),
                 Some(Charge {
                     begin: 1_000,
-                    end: 281_474_976_710_656,
+                    end: LAST_MOMENT,
                     client: None,
                 }),
             ),
@@ -163,19 +165,9 @@ fn is_read(alloc: Global, row: &Row) -> Result<bool, NoMemory> {
     Ok(is_of_row(&read(alloc, row.text)?, row))
 }
 
-/// The place of the first row that says another game, if there is one.
-fn first_wrong(alloc: Global) -> Result<Option<usize>, NoMemory> {
-    for (place, row) in ROWS.iter().enumerate() {
-        if !is_read(alloc, row)? {
-            return Ok(Some(place));
-        }
-    }
-    Ok(None)
-}
-
 #[test]
 fn games(rt: HostRuntime) -> Result<(), Fail> {
-    assert_eq!(rt; first_wrong(rt.alloc())?, None);
+    assert_rows!(rt; ROWS, |row| is_read(rt.alloc(), row)?);
     Ok(())
 }
 

@@ -2,9 +2,7 @@
 use Rattle.std.proofs.Common.{◌≡◌, ℕ, List, [], ◌∷◌, ◌++◌, map, length, get_or, append_assoc, refl, sym, ap, ◌∙◌, arith, OnOk, Ok, Err, Result}
 use Rattle.std.proofs.lemmas.List.{map-append}
 use Rattle.memory.specs.declared.NoMemory.{NoMemory}
-use Rattle.histories.specs.History.{entry}
 use Rattle.one_server.specs.declared.act.Timed.{Timed}
-use Rattle.one_server.specs.declared.reply.Reply.{Reply}
 use Rattle.one_server.specs.Running.{Log}
 use Rattle.replay_command.specs.Evening.{HasMade, asked_of}
 

@@ -7,6 +7,7 @@ use game_board::GameBoard;
 use std::alloc::Global;
 use std::process::Abort;
 use std::test::Fail;
+use test_steps::first_wrong;
 
 /// What comes to a board, or what it has to show.
 enum Step {
@@ -75,18 +76,13 @@ struct Case {
 }
 
 /// The place of the first step of a game that isn't as it has to be, if one isn't.
-fn first_wrong(alloc: Global, case: &Case) -> Result<Option<usize>, Fail> {
+fn first_failing(alloc: Global, case: &Case) -> Result<Option<usize>, Fail> {
     let mut board = new_board(alloc, terms(case.minutes, case.increment, Variant::Chess))?;
-    Ok(first_wrong_at(&mut board, case.steps))
+    Ok(first_failing_at(&mut board, case.steps))
 }
 
-fn first_wrong_at(board: &mut GameBoard, steps: &[Step]) -> Option<usize> {
-    for (place, step) in steps.iter().enumerate() {
-        if !holds(board, step) {
-            return Some(place);
-        }
-    }
-    None
+fn first_failing_at(board: &mut GameBoard, steps: &[Step]) -> Option<usize> {
+    first_wrong!(steps, |step| holds(board, step))
 }
 
 const CASES: &[Case] = &[
@@ -190,7 +186,7 @@ const TAKEN: &str =
 /// Looks at each case, whether it goes as it has to.
 fn each_case(rt: &impl Abort, alloc: Global) -> Result<(), Fail> {
     for case in CASES {
-        assert_eq!(rt; first_wrong(alloc, case)?, None, "{}", case.name);
+        assert_eq!(rt; first_failing(alloc, case)?, None, "{}", case.name);
     }
     Ok(())
 }

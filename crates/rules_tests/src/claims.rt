@@ -7,6 +7,7 @@ use game_board::GameBoard;
 use std::alloc::Global;
 use std::process::Abort;
 use std::test::Fail;
+use test_steps::assert_rows;
 
 /// Knights go out and come home.
 const KNIGHTS: &str = "g1f3 g8f6 f3g1 f6g8";
@@ -100,8 +101,6 @@ fn answer(board: &GameBoard) -> Result<Why, Refusal> {
 
 #[test]
 fn claims(rt: HostRuntime) -> Result<(), Fail> {
-    for (place, row) in ROWS.iter().enumerate() {
-        assert!(rt; claimed(&rt, rt.alloc(), row)? == row.5, "row {place}");
-    }
+    assert_rows!(rt; ROWS, |row| claimed(&rt, rt.alloc(), row)? == row.5);
     Ok(())
 }

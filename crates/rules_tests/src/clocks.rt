@@ -2,6 +2,7 @@
 use clock_ledger::{Charge, ClockLedger, STAMP_CYCLE, span};
 use std::alloc::Global;
 use std::test::Fail;
+use test_steps::first_wrong;
 
 /// What a span comes to. It ensures nothing, so that nothing above it is proved over what is measured.
 fn measured(begin: u32, end: u32) -> u32 {
@@ -151,13 +152,8 @@ fn holds(clock: &mut ClockLedger, step: &Step) -> bool {
 }
 
 /// The place of the first step of a clock that isn't as it has to be, if one isn't.
-fn first_wrong(clock: &mut ClockLedger, steps: &[Step]) -> Option<usize> {
-    for (place, step) in steps.iter().enumerate() {
-        if !holds(clock, step) {
-            return Some(place);
-        }
-    }
-    None
+fn first_failing(clock: &mut ClockLedger, steps: &[Step]) -> Option<usize> {
+    first_wrong!(steps, |step| holds(clock, step))
 }
 
 /// A clock with these minutes and this increment.
@@ -202,15 +198,15 @@ const CASES: &[Case] = &[
 ];
 
 /// The place of the first step of a case that isn't as it has to be, if one isn't.
-fn first_wrong_of(alloc: Global, case: &Case) -> Result<Option<usize>, Fail> {
+fn first_failing_of(alloc: Global, case: &Case) -> Result<Option<usize>, Fail> {
     let mut clock = new_clock(alloc, case.minutes, case.increment)?;
-    Ok(first_wrong(&mut clock, case.steps))
+    Ok(first_failing(&mut clock, case.steps))
 }
 
 #[test]
 fn clocks_are_charged(rt: HostRuntime) -> Result<(), Fail> {
     for case in CASES {
-        assert_eq!(rt; first_wrong_of(rt.alloc(), case)?, None, "{}", case.name);
+        assert_eq!(rt; first_failing_of(rt.alloc(), case)?, None, "{}", case.name);
     }
     Ok(())
 }

@@ -7,6 +7,7 @@ use fics_words::Refusal;
 use game_board::{GameBoard, MOST_PLAYED, Played};
 use std::alloc::Global;
 use std::test::Fail;
+use test_steps::first_wrong;
 
 /// The moment from which the player to move is thinking.
 const BEGIN: u64 = 5_000;
@@ -153,22 +154,17 @@ fn is_rewound(board: &mut GameBoard) -> bool {
 }
 
 /// The place of the first step that isn't as it has to be, if one isn't.
-fn first_wrong(alloc: Global) -> Result<Option<usize>, Fail> {
+fn first_failing(alloc: Global) -> Result<Option<usize>, Fail> {
     let mut board = GameBoard::start(alloc, 1, terms(5, 3, Variant::Chess), BEGIN)?;
-    Ok(first_wrong_at(&mut board))
+    Ok(first_failing_at(&mut board))
 }
 
-fn first_wrong_at(board: &mut GameBoard) -> Option<usize> {
-    for (place, step) in STEPS.iter().enumerate() {
-        if !holds(board, step) {
-            return Some(place);
-        }
-    }
-    None
+fn first_failing_at(board: &mut GameBoard) -> Option<usize> {
+    first_wrong!(STEPS, |step| holds(board, step))
 }
 
 #[test]
 fn steps_of_a_game_looked_at_again(rt: HostRuntime) -> Result<(), Fail> {
-    assert_eq!(rt; first_wrong(rt.alloc())?, None);
+    assert_eq!(rt; first_failing(rt.alloc())?, None);
     Ok(())
 }

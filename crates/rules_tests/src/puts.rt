@@ -7,6 +7,7 @@ use game_board::{GameBoard, Played};
 use std::alloc::Global;
 use std::process::Abort;
 use std::test::Fail;
+use test_steps::assert_rows;
 
 /// Puts a half-move on a board that takes it, and says what was captured.
 pub fn put(board: &mut GameBoard, half: &Played) -> Result<Option<Man>, Fail> {
@@ -73,9 +74,7 @@ fn is_same_game(board: &GameBoard, again: &GameBoard) -> bool {
 
 #[test]
 fn a_list_is_put_again(rt: HostRuntime) -> Result<(), Fail> {
-    for (place, game) in GAMES.iter().enumerate() {
-        assert!(rt; is_put_again(&rt, rt.alloc(), game)?, "game {place}");
-    }
+    assert_rows!(rt; GAMES, |game| is_put_again(&rt, rt.alloc(), game)?);
     Ok(())
 }
 
@@ -137,9 +136,7 @@ fn takes(board: &GameBoard, next: Option<Played>) -> bool {
 
 #[test]
 fn takes_what_follows(rt: HostRuntime) -> Result<(), Fail> {
-    for (place, row) in NEXT.iter().enumerate() {
-        assert!(rt; is_taken(&rt, rt.alloc(), row)? == row.3, "row {place}");
-    }
+    assert_rows!(rt; NEXT, |row| is_taken(&rt, rt.alloc(), row)? == row.3);
     Ok(())
 }
 

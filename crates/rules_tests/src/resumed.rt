@@ -9,6 +9,7 @@ use fics_words::Refusal;
 use game_board::{GameBoard, Played};
 use std::alloc::Global;
 use std::test::Fail;
+use test_steps::first_wrong;
 
 /// The moment at which the games are resumed.
 const RESUMED: u64 = 1_000_000;
@@ -226,25 +227,20 @@ fn holds(board: &mut GameBoard, step: &Step) -> Result<bool, Fail> {
 }
 
 /// The place of the first step of a game that isn't as it has to be, if one isn't.
-fn first_wrong(alloc: Global, case: &Case) -> Result<Option<usize>, Fail> {
+fn first_failing(alloc: Global, case: &Case) -> Result<Option<usize>, Fail> {
     let terms = terms(case.minutes, case.increment, Variant::Chess);
     let mut board = GameBoard::start(alloc, 1, terms, RESUMED)?;
-    first_wrong_at(&mut board, case.steps)
+    first_failing_at(&mut board, case.steps)
 }
 
-fn first_wrong_at(board: &mut GameBoard, steps: &[Step]) -> Result<Option<usize>, Fail> {
-    for (place, step) in steps.iter().enumerate() {
-        if !holds(board, step)? {
-            return Ok(Some(place));
-        }
-    }
-    Ok(None)
+fn first_failing_at(board: &mut GameBoard, steps: &[Step]) -> Result<Option<usize>, Fail> {
+    Ok(first_wrong!(steps, |step| holds(board, step)?))
 }
 
 #[test]
 fn steps_of_resumed_games(rt: HostRuntime) -> Result<(), Fail> {
     for case in CASES {
-        assert_eq!(rt; first_wrong(rt.alloc(), case)?, None, "{}", case.name);
+        assert_eq!(rt; first_failing(rt.alloc(), case)?, None, "{}", case.name);
     }
     Ok(())
 }

@@ -7,6 +7,7 @@ use game_board::GameBoard;
 use std::alloc::Global;
 use std::process::Abort;
 use std::test::Fail;
+use test_steps::first_wrong;
 
 /// What comes to a board.
 #[derive(Clone, Copy)]
@@ -92,16 +93,6 @@ fn last_charge(board: &GameBoard) -> Option<Option<Charge>> {
         Some(half) => Some(half.charge),
         None => None,
     }
-}
-
-/// The place of the first row whose last charge is another one, if one is.
-fn first_wrong(alloc: Global, case: &Case) -> Result<Option<usize>, Fail> {
-    for (place, row) in case.rows.iter().enumerate() {
-        if !is_charged(alloc, row, case.begin, case.end)? {
-            return Ok(Some(place));
-        }
-    }
-    Ok(None)
 }
 
 /// White plays `g1f3` at 9,000.
@@ -249,7 +240,15 @@ const CASES: &[Case] = &[
 /// Looks at each case, whether it goes as it has to.
 fn each_case(rt: &impl Abort, alloc: Global) -> Result<(), Fail> {
     for case in CASES {
-        assert_eq!(rt; first_wrong(alloc, case)?, None, "{}", case.name);
+        assert_eq!(rt;
+            first_wrong!(
+                case.rows,
+                |row| is_charged(alloc, row, case.begin, case.end)?
+            ),
+            None,
+            "{}",
+            case.name
+        );
     }
     Ok(())
 }

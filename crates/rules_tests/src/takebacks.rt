@@ -7,6 +7,8 @@ use game_board::GameBoard;
 use std::alloc::Global;
 use std::process::Abort;
 use std::test::Fail;
+use test_steps::limits::HALF_MOVES;
+use test_steps::{assert_rows, first_wrong};
 
 /// A variant, the half-moves that stay, those that are taken back, and how many these are.
 const GAMES: &[(Variant, &str, &str, u16)] = &[
@@ -113,9 +115,7 @@ fn is_as_it_was(
 
 #[test]
 fn all_is_as_it_was(rt: HostRuntime) -> Result<(), Fail> {
-    for (place, game) in GAMES.iter().enumerate() {
-        assert!(rt; is_as_it_was(&rt, rt.alloc(), game)?, "game {place}");
-    }
+    assert_rows!(rt; GAMES, |game| is_as_it_was(&rt, rt.alloc(), game)?);
     Ok(())
 }
 
@@ -175,7 +175,7 @@ const CASES: &[Case] = &[
             TooFew(0),
             TooFew(6),
             TooFew(7),
-            TooFew(1_200),
+            TooFew(HALF_MOVES),
             TooFew(65_535),
             Stands(5, 5, 5_000),
             Backs(5),
@@ -185,24 +185,19 @@ const CASES: &[Case] = &[
 ];
 
 /// The place of the first step of a game that isn't as it has to be, if one isn't.
-fn first_wrong(alloc: Global, case: &Case) -> Result<Option<usize>, Fail> {
+fn first_failing(alloc: Global, case: &Case) -> Result<Option<usize>, Fail> {
     let mut board = new_board(alloc, terms(case.minutes, case.increment, Variant::Chess))?;
-    Ok(first_wrong_at(&mut board, case.steps))
+    Ok(first_failing_at(&mut board, case.steps))
 }
 
-fn first_wrong_at(board: &mut GameBoard, steps: &[Step]) -> Option<usize> {
-    for (place, step) in steps.iter().enumerate() {
-        if !holds(board, step) {
-            return Some(place);
-        }
-    }
-    None
+fn first_failing_at(board: &mut GameBoard, steps: &[Step]) -> Option<usize> {
+    first_wrong!(steps, |step| holds(board, step))
 }
 
 #[test]
 fn steps_of_games(rt: HostRuntime) -> Result<(), Fail> {
     for case in CASES {
-        assert_eq!(rt; first_wrong(rt.alloc(), case)?, None, "{}", case.name);
+        assert_eq!(rt; first_failing(rt.alloc(), case)?, None, "{}", case.name);
     }
     Ok(())
 }

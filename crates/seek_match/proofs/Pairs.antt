@@ -1,18 +1,11 @@
 -- Challenges of which each pair of players has one: some go, and one comes.
 use Rattle.std.proofs.Common.{◌≡◌, ℕ, Bool, true, false, not, cond, List, [], ◌∷◌, ◌++◌, refl, sym, ap, ◌∙◌}
-use Rattle.std.specs.Prelude.{◌==◌, ◌&&◌, ◌||◌}
+use Rattle.std.specs.Prelude.{◌==◌, ◌&&◌}
 use Rattle.std.specs.List.{filter, list_any}
-use Rattle.std.proofs.lemmas.Bool.{eqb-true, eqb-false, eq-eqb, ne_eqb}
+use Rattle.std.proofs.lemmas.Bool.{eqb-true, eqb-false, eq-eqb, ne_eqb, or_from, or_parts}
 use Rattle.std.proofs.lemmas.List.Folds.{list_any-append}
 use Rattle.seek_match.specs.declared.challenge.Challenge.{Challenge}
 use Rattle.seek_match.specs.Matches.{AreChallenges, is_same_pair, with_challenge}
-
-or_false : (a b : Bool) → a ≡ false → b ≡ false → a || b ≡ false
-or_false a b h k = ap (λ (t : Bool). t || b) h ∙ k
-
-neither : (a b : Bool) → a || b ≡ false → (a ≡ false) × (b ≡ false)
-neither true b h = absurd (let bad : true ≡ false = h in cc)
-neither false b h = (refl, h)
 
 -- equality of numbers, seen from the other one
 pub turned : (a b : ℕ) → (a == b) ≡ (b == a)
@@ -29,13 +22,13 @@ is_same_pair-turned one other =
 
 kept_none : (q : Challenge → Bool) (t : Bool) (x : Challenge) (rest : List Challenge) → q x ≡ false → list_any q rest ≡ false
     → list_any q (cond t (x ∷ rest) rest) ≡ false
-kept_none q true x rest fails none = or_false (q x) (list_any q rest) fails none
+kept_none q true x rest fails none = or_from (q x) (list_any q rest) fails none
 kept_none q false x rest fails none = none
 
 list_any-filter : (q p : Challenge → Bool) (xs : List Challenge) → list_any q xs ≡ false → list_any q (filter p xs) ≡ false
 list_any-filter q p [] none = refl
 list_any-filter q p (x ∷ xs) none =
-    let both = neither (q x) (list_any q xs) none in
+    let both = or_parts (q x) (list_any q xs) none in
     kept_none q (p x) x (filter p xs) both.0 (list_any-filter q p xs both.1)
 
 kept : (t : Bool) (x : Challenge) (rest : List Challenge) → list_any (is_same_pair x) rest ≡ false → AreChallenges rest → AreChallenges (cond t (x ∷ rest) rest)
@@ -55,9 +48,9 @@ AreChallenges-with new (x ∷ xs) all =
       | true ↦ λ _. AreChallenges-with new xs all.1
       | false ↦ λ apart. (
         list_any-append (is_same_pair x) rest (new ∷ [])
-            ∙ or_false (list_any (is_same_pair x) rest) (list_any (is_same_pair x) (new ∷ []))
+            ∙ or_from (list_any (is_same_pair x) rest) (list_any (is_same_pair x) (new ∷ []))
             (list_any-filter (is_same_pair x) (λ old. not (is_same_pair new old)) xs all.0)
-            (or_false (is_same_pair x new) false (is_same_pair-turned x new ∙ apart) refl),
+            (or_from (is_same_pair x new) false (is_same_pair-turned x new ∙ apart) refl),
         AreChallenges-with new xs all.1,
       )
     ] refl

@@ -2,13 +2,10 @@
 use Rattle.std.proofs.Common.{◌≡◌, ℕ, zero, suc, ◌+◌, ◌<◌, ◌≤◌, Bool, true, false, cond, List, [], ◌∷◌, None, Some, length, refl, sym, ap, subst, ◌∙◌, arith}
 use Rattle.std.specs.Prelude.{◌==◌, ◌||◌}
 use Rattle.std.specs.List.{filter, find, insert}
-use Rattle.std.proofs.lemmas.Bool.{eqb-true, eqb-false, ne_eqb}
+use Rattle.std.proofs.lemmas.Bool.{eqb-true, eqb-false, ne_eqb, or_from}
 use Rattle.seek_match.specs.declared.seek.Seek.{Seek}
 use Rattle.seek_match.proofs.Pairs.{turned}
 use Rattle.seek_match.specs.Seeks.{AreSeeks, IsLeastUnused, RiseAbove, first_gap, is_used, next_number}
-
-or_false : (a b : Bool) → a ≡ false → b ≡ false → a || b ≡ false
-or_false a b h k = ap (λ (t : Bool). t || b) h ∙ k
 
 -- a number above another one that isn't the next
 past : (a b : ℕ) → a < b → (b ≡ a + 1 → ⊥) → a + 1 < b
@@ -95,7 +92,7 @@ unused_above : (seeks : List Seek) (low n : ℕ) → n ≤ low → RiseAbove low
 unused_above [] low n h rise = refl
 unused_above (seek ∷ seeks) low n h rise =
     let above = rise.0 in
-    or_false (seek.number == n) (is_used seeks n)
+    or_from (seek.number == n) (is_used seeks n)
     (ne_eqb seek.number n (not_same n seek.number (omega (arith, above, h))))
     (unused_above seeks seek.number n (omega (arith, above, h)) rise.2)
 
@@ -108,11 +105,11 @@ first_gap-unused (seek ∷ seeks) low rise =
     elim (seek.number == low + 1) as (λ t. (seek.number == low + 1) ≡ t → is_used (seek ∷ seeks) (cond t (first_gap (low + 1 + 1) seeks) (low + 1)) ≡ false) [
       | true ↦ λ same.
           let next = eqb-true seek.number (low + 1) same in
-          or_false (seek.number == gap) (is_used seeks gap)
+          or_from (seek.number == gap) (is_used seeks gap)
           (ne_eqb seek.number gap (not_same_above seek.number gap (omega (arith, next, far))))
           (subst (λ (n : ℕ). is_used seeks (first_gap (n + 1) seeks) ≡ false) next (first_gap-unused seeks seek.number rise.2))
       | false ↦ λ differ.
-          or_false (seek.number == low + 1) (is_used seeks (low + 1)) differ
+          or_from (seek.number == low + 1) (is_used seeks (low + 1)) differ
           (unused_above seeks seek.number (low + 1) (omega (arith, above)) rise.2)
     ] refl
 

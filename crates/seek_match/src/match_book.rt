@@ -29,7 +29,7 @@ impl Model for MatchBook {
 }
 
 impl MatchBook {
-    ghost use Rattle.std.specs.Prelude.{◌≡◌, OnErr, OnOk, [], not};
+    ghost use Rattle.std.specs.Prelude.{◌≡◌, OnErr, OnOk, []};
     ghost use Rattle.std.specs.List.{filter, list_any};
     ghost use Rattle.seek_match.specs.Matches.{AreChallenges, challenge_by, challenge_to, is_between, with_challenge, without_between, without_challenges_of};
 

@@ -1,11 +1,12 @@
 -- What is promised of the hall that is given back, once the last turn was made.
-use Rattle.std.proofs.Common.{◌≡◌, ℕ, suc, ◌+◌, ◌<◌, ◌≤◌, ◌⊎◌, inl, inr, Bool, true, List, [], ◌++◌, length, map, refl, sym, ap, subst, ◌∙◌, arith}
+use Rattle.std.proofs.Common.{◌≡◌, ℕ, ◌+◌, ◌<◌, ◌≤◌, ◌⊎◌, inl, inr, Bool, true, List, [], ◌++◌, length, map, refl, sym, ap, subst, ◌∙◌, arith}
+use Rattle.std.specs.Prelude.{IfSome}
 use Rattle.std.specs.declared.option.Option.{Option}
 use Rattle.std.specs.declared.option.Option.TheVariants.{None, Some}
 use Rattle.std.specs.List.{AllByRecursion}
 use Rattle.atomic_table.specs.Seated.{TableId}
 use Rattle.edge_traits.specs.Faults.{Rose}
-use Rattle.edge_traits.specs.Door.{DoorTale, IfTold}
+use Rattle.edge_traits.specs.Door.{DoorTale}
 use Rattle.edge_traits.specs.Pairs.{Table}
 use Rattle.histories.specs.History.{calls_of, state}
 use Rattle.turn_table.specs.declared.view.Joined.{Joined}
@@ -28,24 +29,27 @@ use Rattle.serve_core.specs.declared.end.ServeEnd.{ServeEnd}
 use Rattle.serve_core.specs.declared.settle.Supply.{Supply}
 use Rattle.serve_core.specs.declared.settle.Supply.TheVariants.{Enough, Short}
 use Rattle.serve_core.specs.Keeping.{Underway}
-use Rattle.serve_core.specs.Sessions.{CameAs, CameBack, HasServed}
-use Rattle.serve_core.specs.Serving.{AgreesIn, HasServedAll, IsClean, IsUnused, MayBeShort, Sheet, TellsAgreed}
-use Rattle.serve_core.specs.Stewarding.{AreTurns, IsDone, MayEnd, StewardTurn, asked}
-use Rattle.serve_core.specs.Tending.{GivesQuiets, Store, Tended, stand}
+use Rattle.serve_core.specs.Sessions.{CameAs, CameBack, HadSession}
+use Rattle.serve_core.specs.Serving.{AgreesIn, EachHadSession, HasOneHistory, HasServedAll, IsUnused, TellsAgreed}
+use Rattle.serve_core.specs.Stopping.{MayBeShort}
+use Rattle.serve_core.specs.Text.{SaysText}
+use Rattle.serve_core.specs.Outside.{Sheet, Store}
+use Rattle.serve_core.specs.Stewarding.{AreTurns, HasTended, MayEnd}
+use Rattle.serve_core.specs.Tending.{GivesQuiets, Tended, stand}
 use Rattle.serve_core.specs.Turns.{TurnsLast}
 use Rattle.serve_core.proofs.Among.{in_map_from}
-use Rattle.serve_core.proofs.Ending.{Closes, LastEnds, last_short, never_short}
+use Rattle.serve_core.proofs.Ending.{LastEnds, last_short}
 use Rattle.serve_core.proofs.Keeping.{served_then}
 use Rattle.serve_core.proofs.LastTurn.{last_home, last_is, last_joined, last_leaves, last_made, last_number, last_opening, last_splits, own_last}
 use Rattle.serve_core.proofs.Telling.{goes_same, told_and, told_as, told_then}
 use Rattle.serve_core.proofs.Tending.{looked_made, rose_after, tended_looked, tended_then}
-use Rattle.serve_core.proofs.Turning.{all_done, may_end, turns_as, turns_asked, turns_stewards}
+use Rattle.serve_core.proofs.Turning.{may_end, turns_as}
 
 -- ---- the table
 
 -- a table that is told, and agreed, agrees with what was seen at the end, where no other session told orders as saved
 told_agreed : (parts opening : List Part) (before after : Option Table) (old new : RunnerState) → StaysAgreed before after old new → IsWhole old.opening → NoOthersSave old new → state_seen old ≡ opening → state_seen new ≡ parts
-    → IfTold before (λ table. AgreesIn table opening → TellsAgreed after parts)
+    → IfSome before (λ table. AgreesIn table opening → TellsAgreed after parts)
 told_agreed parts opening None after old new stays whole none was is = tt
 told_agreed parts opening (Some before) None old new stays whole none was is = absurd stays
 told_agreed parts opening (Some before) (Some after) old new stays whole none was is = λ agrees. (
@@ -56,10 +60,6 @@ told_agreed parts opening (Some before) (Some after) old new stays whole none wa
 
 -- ---- the turns
 
--- one turn more
-turn_more : (Ends : StewardEnd → Type 0) (n : ℕ) (before made : Log) (last : StewardTurn) → AreTurns Ends n before → Ends last.end → made ≡ before ++ last.entries → AreTurns Ends (suc n) made
-turn_more Ends n before made last turns ends is = (before, last, turns, ends, is)
-
 last_may : (lack fault : Type 0) (last : StewardEnd) → (last ≡ steward.Memory → lack) → (last ≡ steward.KeeperFault → fault) → MayEnd lack fault last
 last_may lack fault (steward.Done count) f g = tt
 last_may lack fault steward.KeeperFault f g = g refl
@@ -68,7 +68,7 @@ last_may lack fault steward.Memory f g = f refl
 -- what is known once all links were served: the first pass, with the passes that were joined into it, and the turns of
 -- the steward that were made, from the opening on
 module _ {C : Type 0} (shows : C → ℕ → Bool) (hall : TableId) (clock : C) (supply : Supply) (opens door : Option DoorTale) (opening : List Part) (pass new : PassState) (old mid after : Store) (last : StewardEnd)
-    (k : Underway shows hall clock supply door pass []) (tended : Tended (stand (first_pass hall opening) Enough opens old) (stand pass supply door mid)) (unused : IfTold opens IsUnused) (whole : IsWhole opening)
+    (k : Underway shows hall clock supply door pass []) (tended : Tended (stand (first_pass hall opening) Enough opens old) (stand pass supply door mid)) (unused : IfSome opens IsUnused) (whole : IsWhole opening)
     (t : TurnsLast last mid.table after.table pass new) (fault : last ≡ steward.KeeperFault → Rose mid.faults after.faults) (counted : mid.faults ≤ after.faults) where
   abbrev start : RunnerState
   start = runs_of (first_pass hall opening)
@@ -124,15 +124,15 @@ module _ {C : Type 0} (shows : C → ℕ → Bool) (hall : TableId) (clock : C) 
       agreed_then old.table table table start (runs_of t.mid) (runs_of new) (ready.entries ++ turn.entries) [] (made_then start (runs_of t.first) (runs_of t.mid) ready.entries turn.entries grew turn.grew) looks one
       (agreed_unsaved table (runs_of t.mid) (runs_of new) [] turn.grew.known looks tt)
 
-  served_session : (lack : Type 0) → (supply ≡ Short → lack) → (m : ℕ) (j : Joined Timed Reply) → In j pass.joined → m ≡ j.number → HasServed (shows clock) lack door m (calls_of m new.seen)
+  served_session : (lack : Type 0) → (supply ≡ Short → lack) → (m : ℕ) (j : Joined Timed Reply) → In j pass.joined → m ≡ j.number → HadSession (shows clock) lack door m (calls_of m new.seen)
   served_session lack short m j there is =
       let calls : calls_of j.number new.seen ≡ j.calls = t.looked_again.calls j (subst (λ (xs : List (Joined Timed Reply)). In j xs) (sym joined_are) there) in
-      let same : HasServed (shows clock) lack door j.number j.calls =
+      let same : HadSession (shows clock) lack door j.number j.calls =
       served_then (shows clock) j.number j.calls (supply ≡ Short) lack door door (λ a b. a ≡ b) (goes_same door (λ a b. a ≡ b) (λ tale. refl)) (λ n link a b e p. subst (λ (x : DoorTale). CameAs n link x) e p) (λ n link a b e p. subst (λ (x : DoorTale). CameBack n link x) e p) short (k.served j there) in
-      subst (λ n. HasServed (shows clock) lack door n (calls_of n new.seen)) (sym is) (subst (λ (l : Log). HasServed (shows clock) lack door j.number l) (sym calls) same)
+      subst (λ n. HadSession (shows clock) lack door n (calls_of n new.seen)) (sym is) (subst (λ (l : Log). HadSession (shows clock) lack door j.number l) (sym calls) same)
 
   module _ (end : ServeEnd) (short : supply ≡ Short → MayBeShort end) (ends : LastEnds end last) where
-    sessions_served : (m : ℕ) → 0 < m → m ≤ new.splits → HasServed (shows clock) (MayBeShort end) door m (calls_of m new.seen)
+    sessions_served : (m : ℕ) → 0 < m → m ≤ new.splits → HadSession (shows clock) (MayBeShort end) door m (calls_of m new.seen)
     sessions_served m low high =
         let found = in_map_from joined_number m pass.joined (everyone m low (omega (arith, high, splits_are))) in
         served_session (MayBeShort end) short m found.0 found.1 found.2
@@ -151,56 +151,60 @@ module _ {C : Type 0} (shows : C → ℕ → Bool) (hall : TableId) (clock : C) 
     abbrev Ends : StewardEnd → Type 0
     Ends = MayEnd (MayBeShort end) (Rose old.faults after.faults)
 
-    turns_then : AreTurns Ends (suc ready.count) (calls_of 0 new.seen)
-    turns_then =
-        turn_more Ends ready.count ready.entries (calls_of 0 new.seen) (last_is last mid.table after.table pass new t)
-        (turns_as (MayEnd (supply ≡ Short) (Rose old.faults mid.faults)) Ends (may_end (supply ≡ Short) (MayBeShort end) (Rose old.faults mid.faults) (Rose old.faults after.faults) short (rose_after old.faults mid.faults after.faults counted)) ready.count ready.entries ready.turns)
-        (last_may (MayBeShort end) (Rose old.faults after.faults) last (last_short end last ends) (λ e. let rose = fault e in let before = ready.counted in omega (arith, rose, before)))
-        made_is
+    turns_before : AreTurns Ends ready.count ready.entries
+    turns_before =
+        turns_as (MayEnd (supply ≡ Short) (Rose old.faults mid.faults)) Ends (may_end (supply ≡ Short) (MayBeShort end) (Rose old.faults mid.faults) (Rose old.faults after.faults) short (rose_after old.faults mid.faults after.faults counted)) ready.count ready.entries ready.turns
 
-    quiets_then : IfTold door (λ tale. suc ready.count ≡ tale.quiets + 1)
-    quiets_then =
-        told_then opens door (GivesQuiets ready.count) IsUnused (λ tale. suc ready.count ≡ tale.quiets + 1) (λ a b gives none. omega (arith, gives, none.2)) ready.quiets unused
+    quiets_then : IfSome door (λ tale. ready.count ≡ tale.quiets)
+    quiets_then = told_then opens door (GivesQuiets ready.count) IsUnused (λ tale. ready.count ≡ tale.quiets) (λ a b gives none. omega (arith, gives, none.2)) ready.quiets unused
 
-    are_done : IsClean end → (Rose old.faults after.faults → ⊥) → AreTurns IsDone (suc ready.count) (calls_of 0 new.seen)
-    are_done clean calm = turns_as Ends IsDone (all_done (MayBeShort end) (Rose old.faults after.faults) (never_short end clean) calm) (suc ready.count) (calls_of 0 new.seen) turns_then
-
-    pub served_all : (before later : Sheet) → Closes end last door before later pass.splits → HasServedAll (shows clock) opening end door before later old after new
-    served_all before later leaves = record {
+    one_history : HasOneHistory opening new
+    one_history = record {
       first = is_first;
       opens = opening_is;
       opens_whole = subst IsWhole (sym opening_is) whole;
       legal = t.looked_again.known.legal;
       all_joined = λ m low high. subst (λ (xs : List (Joined Timed Reply)). In m (map joined_number xs)) (sym joined_are) (everyone m low (omega (arith, high, splits_are)));
       no_others = nobody_else;
+    }
+
+    each_session : EachHadSession (shows clock) end door new
+    each_session = record {
       sessions = sessions_served;
       came = told_as door (λ tale. length tale.came ≡ pass.splits) (λ tale. length tale.came ≡ new.splits) (λ tale n. n ∙ sym splits_are) k.came;
       back = told_and door (λ tale. length tale.came ≡ pass.splits) (λ tale. length tale.back + 0 ≡ length tale.came) (λ tale. length tale.back ≡ new.splits) (λ tale n m. omega (arith, n, m, splits_are)) k.came k.out;
-      stewards = turns_stewards Ends (suc ready.count) (calls_of 0 new.seen) turns_then;
-      all_turns = (suc ready.count, turns_then, quiets_then);
+    }
+
+    tended_all : HasTended Ends last door (calls_of 0 new.seen) (state house new.opening new.seen)
+    tended_all = record {
+      count = ready.count;
+      before = ready.entries;
+      turn = last_is last mid.table after.table pass new t;
+      turns = turns_before;
+      quiets = quiets_then;
+      ended = refl;
+      ends = last_may (MayBeShort end) (Rose old.faults after.faults) last (last_short end last ends) (λ e. let rose = fault e in let before = ready.counted in omega (arith, rose, before));
+      made_is = made_is;
+      orders = last_leaves last mid.table after.table pass new t k.first everyone (subst IsWhole (sym opening_was) whole);
+    }
+
+    pub served_all : (before later : Sheet) → SaysText end last door pass.splits before later → HasServedAll (shows clock) opening end door before later old after new
+    served_all before later leaves = record {
       last = last;
-      last_turn = record {
-        before = ready.entries;
-        last = last_is last mid.table after.table pass new t;
-        ends = refl;
-        made_is = made_is;
-        orders = last_leaves last mid.table after.table pass new t k.first everyone (subst IsWhole (sym opening_was) whole);
-      };
-      turns = λ clean calm.
-          let count = turns_asked IsDone (λ e done. done) (suc ready.count) (calls_of 0 new.seen) (are_done clean calm) in
-          told_as door (λ tale. suc ready.count ≡ tale.quiets + 1) (λ tale. asked (calls_of 0 new.seen) ≡ tale.quiets + 1) (λ tale n. count ∙ n) quiets_then;
-      whole_turns = λ clean calm. (suc ready.count, are_done clean calm, quiets_then);
-      agrees = told_agreed (state house new.opening new.seen) new.opening old.table after.table start (runs_of new) stays whole (known_seen (others_never_save new.splits new.seen others)) (sym opening_is) refl;
-      text = subst (λ n. Closes end last door before later n) (sym splits_are) leaves;
+      hall = one_history;
+      links = each_session;
+      steward = tended_all;
+      store = told_agreed (state house new.opening new.seen) new.opening old.table after.table start (runs_of new) stays whole (known_seen (others_never_save new.splits new.seen others)) (sym opening_is) refl;
+      text = subst (λ n. SaysText end last door n before later) (sym splits_are) leaves;
     }
 
   pub still_here : new.home ≡ hall
   still_here = last_home last mid.table after.table pass new t ∙ k.here
 
 pub all_served : {C : Type 0} (shows : C → ℕ → Bool) (hall : TableId) (clock : C) (supply : Supply) (opens door : Option DoorTale) (opening : List Part) (first pass new : PassState) (old mid after : Store) (last : StewardEnd)
-    → Underway shows hall clock supply door pass [] → first ≡ first_pass hall opening → Tended (stand first Enough opens old) (stand pass supply door mid) → IfTold opens IsUnused → IsWhole first.opening
+    → Underway shows hall clock supply door pass [] → first ≡ first_pass hall opening → Tended (stand first Enough opens old) (stand pass supply door mid) → IfSome opens IsUnused → IsWhole first.opening
     → TurnsLast last mid.table after.table pass new → (last ≡ steward.KeeperFault → Rose mid.faults after.faults) → mid.faults ≤ after.faults
-    → (end : ServeEnd) → (supply ≡ Short → MayBeShort end) → LastEnds end last → (before later : Sheet) → Closes end last door before later pass.splits
+    → (end : ServeEnd) → (supply ≡ Short → MayBeShort end) → LastEnds end last → (before later : Sheet) → SaysText end last door pass.splits before later
     → HasServedAll (shows clock) first.opening end door before later old after new
 all_served shows hall clock supply opens door opening first pass new old mid after last k is tended unused whole t fault counted end short ends before later leaves =
     let at : first.opening ≡ opening = ap (λ (p : PassState). p.opening) is in

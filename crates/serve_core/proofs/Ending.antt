@@ -1,7 +1,6 @@
 -- The end of serving: its status, the text, and why no further link was taken.
 use Rattle.std.proofs.Common.{◌≡◌, ◌≢◌, ℕ, ◌⊎◌, inl, inr, refl, sym, subst, ◌∙◌}
 use Rattle.std.specs.declared.option.Option.{Option}
-use Rattle.edge_traits.specs.Faults.{Rose}
 use Rattle.edge_traits.specs.Door.{DoorTale}
 use Rattle.edge_traits.specs.Sink.{UnlessWriteFailed}
 use Rattle.steward_core.specs.declared.turn.StewardEnd.{StewardEnd}
@@ -14,9 +13,11 @@ use Rattle.serve_core.specs.declared.end.ServeEnd.{ServeEnd}
 use Rattle.serve_core.specs.declared.end.ServeEnd.TheVariants.{Done, DoorFault, WriteFault, KeeperFault, Memory, Spent}
 use Rattle.serve_core.specs.declared.settle.Supply.{Supply}
 use Rattle.serve_core.specs.declared.settle.Supply.TheVariants.{Enough, Short}
-use Rattle.serve_core.specs.Stewarding.{IsDone}
-use Rattle.serve_core.specs.Serving.{IsClean, MayBeShort, Says, SaysClosed, Sheet, StopsUnready, closed_text, ready_text}
-use Rattle.serve_core.specs.Stopping.{IsStopped, Stopped, end_of}
+use Rattle.serve_core.specs.StewardLaws.{IsDone}
+use Rattle.serve_core.specs.Stopping.{IsClean, MayBeShort, IsStopped, end_of}
+use Rattle.serve_core.specs.Text.{Says, SaysText, closed_text, ready_text}
+use Rattle.serve_core.specs.Outside.{Sheet}
+use Rattle.serve_core.specs.Keeping.{Stopped}
 
 -- ---- how serving ends
 
@@ -102,9 +103,6 @@ never_short DoorFault clean short = clean
 
 -- ---- the text, and why no further link was taken
 
-abbrev pub Closes : ServeEnd → StewardEnd → Option DoorTale → Sheet → Sheet → ℕ → Type 0
-Closes end last door before after splits = StopsUnready end last splits before after ⊎ SaysClosed end last door splits before after
-
 is_stopped : (why : DoorEnd) (door : Option DoorTale) (splits before now : ℕ) → Stopped why splits door before now → IsStopped why splits door
 is_stopped door_end.Closed door splits before now p = p
 is_stopped door_end.Failed door splits before now p = p.1
@@ -112,7 +110,7 @@ is_stopped door_end.Spent door splits before now p = p
 
 -- `ready` was written, links were taken, and then `closed` was to be written
 pub closes_by : (why : DoorEnd) (s : Sent) (last : StewardEnd) (supply : Supply) (door : Option DoorTale) (splits before now : ℕ) (first mid after : Sheet) → Stopped why splits door before now
-    → Says ready_text sent.All first mid → Says closed_text s mid after → Closes (end_of why s last supply) last door first after splits
+    → Says ready_text sent.All first mid → Says closed_text s mid after → SaysText (end_of why s last supply) last door splits first after
 closes_by why s last supply door splits before now first mid after p ready closed = inr (record {
   why = why;
   stopped = is_stopped why door splits before now p;
@@ -125,10 +123,10 @@ closes_by why s last supply door splits before now first mid after p ready close
 })
 
 -- `ready` couldn't be written
-pub closes_failed : (last : StewardEnd) (door : Option DoorTale) (splits : ℕ) (first after : Sheet) → splits ≡ 0 → Says ready_text sent.Failed first after → Closes WriteFault last door first after splits
+pub closes_failed : (last : StewardEnd) (door : Option DoorTale) (splits : ℕ) (first after : Sheet) → splits ≡ 0 → Says ready_text sent.Failed first after → SaysText WriteFault last door splits first after
 closes_failed last door splits first after zero ready = inl (record { none_taken = zero; said = sent.Failed; unwritten = λ e. cc; ready = ready; ends = refl })
 
-pub closes_short : (last : StewardEnd) (door : Option DoorTale) (splits : ℕ) (first after : Sheet) → splits ≡ 0 → Says ready_text sent.Memory first after → Closes (end_of door_end.Closed sent.Memory last Enough) last door first after splits
+pub closes_short : (last : StewardEnd) (door : Option DoorTale) (splits : ℕ) (first after : Sheet) → splits ≡ 0 → Says ready_text sent.Memory first after → SaysText (end_of door_end.Closed sent.Memory last Enough) last door splits first after
 closes_short last door splits first after zero ready = inl (record { none_taken = zero; said = sent.Memory; unwritten = λ e. cc; ready = ready; ends = refl })
 
 -- ---- the count of the sink

@@ -1,10 +1,11 @@
 -- What holds while links come and workers are joined, from one step to the next.
 use Rattle.std.proofs.Common.{◌≡◌, ◌≢◌, ℕ, ◌+◌, ◌-◌, ◌<◌, ◌⊎◌, inl, inr, Bool, true, List, [], ◌∷◌, ◌++◌, length, map, refl, sym, ap, subst, ◌∙◌, arith}
+use Rattle.std.specs.Prelude.{IfSome}
 use Rattle.std.proofs.lemmas.Option.{slice_get_within}
 use Rattle.std.specs.declared.option.Option.{Option}
 use Rattle.atomic_table.specs.Seated.{TableId}
 use Rattle.edge_traits.specs.Link.{Handed, IsFresh, Tale}
-use Rattle.edge_traits.specs.Door.{DoorTale, Goes, IfTold, IsOut, TakesBack}
+use Rattle.edge_traits.specs.Door.{DoorTale, Goes, IsOut, TakesBack}
 use Rattle.turn_table.specs.declared.view.Joined.{Joined}
 use Rattle.turn_table.specs.Views.{In, joined_number}
 use Rattle.one_server.specs.declared.act.Timed.{Timed}
@@ -14,7 +15,7 @@ use Rattle.one_server.specs.Running.{Log}
 use Rattle.hall_core.specs.Passes.{IsJoined, PassState, divided, first_pass}
 use Rattle.link_core.specs.declared.link_end.LinkEnd.{LinkEnd}
 use Rattle.link_core.specs.declared.link_end.LinkEnd.TheVariants as link_end
-use Rattle.link_core.specs.Served.{WasServed}
+use Rattle.link_core.specs.ServedInPart.{WasServed}
 use Rattle.edge_traits.specs.Pairs.{Table}
 use Rattle.steward_core.specs.declared.turn.StewardEnd.{StewardEnd}
 use Rattle.steward_core.specs.declared.turn.StewardEnd.TheVariants as steward
@@ -24,7 +25,7 @@ use Rattle.serve_core.specs.Turns.{MadeTurn, supply_then}
 use Rattle.serve_core.specs.Working.{Due, IsPaid}
 use Rattle.serve_core.specs.Keeping.{Comes, IsOwed, Underway, due_number, supply_after}
 use Rattle.serve_core.specs.Serving.{IsUnused}
-use Rattle.serve_core.specs.Sessions.{CameAs, CameBack, HasServed}
+use Rattle.serve_core.specs.Sessions.{CameAs, CameBack, HadSession}
 use Rattle.serve_core.proofs.Among.{in_last, in_cases, in_map_left, in_map_last, in_rest, in_map_rest, one_less, one_longer}
 use Rattle.serve_core.proofs.Telling.{told_then, told_and, told_as, came_stays, came_new, came_back_stays, came_count, came_out, back_came, back_stays, back_new, back_count, back_out}
 use Rattle.serve_core.proofs.Turning.{turn_home, turn_number, turn_splits}
@@ -57,7 +58,7 @@ module _ (shows : ℕ → Bool) (number : ℕ) (calls : Log) where
   pub served_then : (lack lack' : Type 0) (door door' : Option DoorTale) (R : DoorTale → DoorTale → Type 0) → Goes door door' R
       → ((k : ℕ) (link : Option Tale) (old new : DoorTale) → R old new → CameAs k link old → CameAs k link new)
       → ((k : ℕ) (link : Handed) (old new : DoorTale) → R old new → CameBack k link old → CameBack k link new)
-      → (lack → lack') → HasServed shows lack door number calls → HasServed shows lack' door' number calls
+      → (lack → lack') → HadSession shows lack door number calls → HadSession shows lack' door' number calls
   served_then lack lack' door door' R goes came back short p = record {
     end = p.end;
     link = p.link;
@@ -71,7 +72,7 @@ module _ (shows : ℕ → Bool) (number : ℕ) (calls : Log) where
 
 module _ {C : Type 0} (shows : C → ℕ → Bool) (hall : TableId) (clock : C) where
   -- nothing came yet
-  pub kept_first : (door : Option DoorTale) (opening : List Part) (pass : PassState) → pass ≡ first_pass hall opening → IfTold door IsUnused → Underway shows hall clock Enough door pass []
+  pub kept_first : (door : Option DoorTale) (opening : List Part) (pass : PassState) → pass ≡ first_pass hall opening → IfSome door IsUnused → Underway shows hall clock Enough door pass []
   kept_first door opening pass is unused =
       let none : pass.joined ≡ [] = ap (λ (p : PassState). p.joined) is in
       let zero : pass.splits ≡ 0 = ap (λ (p : PassState). p.splits) is in
@@ -87,7 +88,7 @@ module _ {C : Type 0} (shows : C → ℕ → Bool) (hall : TableId) (clock : C) 
 
   -- a link came, and has a pass
   module _ (supply : Supply) (door door' : Option DoorTale) (pass : PassState) (waiting : List (Due C)) (d : Due C) (k : Underway shows hall clock supply door pass waiting) (goes : Goes door door' (Comes d.link))
-      (home : d.pass.home ≡ hall) (number : d.pass.number ≡ pass.splits + 1) (same : d.clock ≡ clock) (fresh : IfTold d.link IsFresh) where
+      (home : d.pass.home ≡ hall) (number : d.pass.number ≡ pass.splits + 1) (same : d.clock ≡ clock) (fresh : IfSome d.link IsFresh) where
     owed_stays : (due : Due C) → IsOwed shows hall clock door due → IsOwed shows hall clock door' due
     owed_stays due p = record {
       home = p.home;
@@ -103,7 +104,7 @@ module _ {C : Type 0} (shows : C → ℕ → Bool) (hall : TableId) (clock : C) 
       number = λ e. omega (arith, e, number);
       same = same;
       fresh = fresh;
-      came = subst (λ n. IfTold door' (CameAs n d.link)) (sym number) (told_then door door' (Comes d.link) (λ tale. length tale.came ≡ pass.splits) (CameAs (pass.splits + 1) d.link) (came_new d.link pass.splits) goes k.came);
+      came = subst (λ n. IfSome door' (CameAs n d.link)) (sym number) (told_then door door' (Comes d.link) (λ tale. length tale.came ≡ pass.splits) (CameAs (pass.splits + 1) d.link) (came_new d.link pass.splits) goes k.came);
     }
 
     owed_came : (due : Due C) → In due waiting ⊎ In due (d ∷ []) → IsOwed shows hall clock door' due
@@ -164,7 +165,7 @@ module _ {C : Type 0} (shows : C → ℕ → Bool) (hall : TableId) (clock : C) 
     pub given_not_first : given.number ≢ 0
     given_not_first = λ e. owes.number (sym paid.number ∙ e)
 
-    pub given_out : IfTold door (IsOut given.number)
+    pub given_out : IfSome door (IsOut given.number)
     given_out = told_and door (CameAs d.pass.number d.link) (λ tale. length tale.back + length (one ++ d ∷ two) ≡ length tale.came) (IsOut given.number)
         (λ tale c n.
         let low : d.pass.number - 1 < length tale.came = slice_get_within tale.came (d.pass.number - 1) d.link c in
@@ -184,7 +185,7 @@ module _ {C : Type 0} (shows : C → ℕ → Bool) (hall : TableId) (clock : C) 
         came = told_then door door' (TakesBack given.number link) (CameAs due.pass.number due.link) (CameAs due.pass.number due.link) (back_came given.number link due.pass.number due.link) goes o.came;
       }
 
-      serves_new : HasServed (shows clock) (supply_after end supply ≡ Short) door' given.number given.made
+      serves_new : HadSession (shows clock) (supply_after end supply ≡ Short) door' given.number given.made
       serves_new = record {
         end = end;
         link = d.link;
@@ -194,13 +195,13 @@ module _ {C : Type 0} (shows : C → ℕ → Bool) (hall : TableId) (clock : C) 
             subst (λ (c : C). WasServed (shows c) true given.number end given.made (record { tale = d.link; faults = 0 }) link) owes.same
             (subst (λ n. WasServed (shows d.clock) true n end given.made (record { tale = d.link; faults = 0 }) link) (sym paid.number) paid.served);
         short = now_short end supply;
-        came = subst (λ n. IfTold door' (CameAs n d.link)) (sym paid.number) (told_then door door' (TakesBack given.number link) (CameAs d.pass.number d.link) (CameAs d.pass.number d.link) (back_came given.number link d.pass.number d.link) goes owes.came);
+        came = subst (λ n. IfSome door' (CameAs n d.link)) (sym paid.number) (told_then door door' (TakesBack given.number link) (CameAs d.pass.number d.link) (CameAs d.pass.number d.link) (back_came given.number link d.pass.number d.link) goes owes.came);
         back = told_then door door' (TakesBack given.number link) (CameAs d.pass.number d.link) (CameBack given.number link) (λ a b e p. back_new given.number link a b e) goes owes.came;
       }
 
-      served_still : (j : Joined Timed Reply) → In j pass.joined ⊎ In j (record { number = given.number; calls = given.made } ∷ []) → HasServed (shows clock) (supply_after end supply ≡ Short) door' j.number j.calls
+      served_still : (j : Joined Timed Reply) → In j pass.joined ⊎ In j (record { number = given.number; calls = given.made } ∷ []) → HadSession (shows clock) (supply_after end supply ≡ Short) door' j.number j.calls
       served_still j (inl p) = served_then (shows clock) j.number j.calls (supply ≡ Short) (supply_after end supply ≡ Short) door door' (TakesBack given.number link) goes (back_came given.number link) (back_stays given.number link) (stays_short end supply) (k.served j p)
-      served_still j (inr (inl e)) = subst (λ (x : Joined Timed Reply). HasServed (shows clock) (supply_after end supply ≡ Short) door' x.number x.calls) (sym e) serves_new
+      served_still j (inr (inl e)) = subst (λ (x : Joined Timed Reply). HadSession (shows clock) (supply_after end supply ≡ Short) door' x.number x.calls) (sym e) serves_new
       served_still j (inr (inr p)) = absurd p
 
       number_joined : (m : ℕ) → m ≡ given.number → In m (map joined_number new.joined)

@@ -7,6 +7,7 @@ pub mod OrdersOver
 pub mod LastTurn
 pub mod Settling
 pub mod Ending
+pub mod StewardLaws
 pub mod Closing
 pub mod Writing
 pub mod Opening

@@ -5,7 +5,7 @@ use Rattle.std.specs.declared.option.Option.{Option}
 use Rattle.std.specs.declared.option.Option.TheVariants.{None, Some}
 use Rattle.std.specs.Io.KnownBytes.{Appends}
 use Rattle.std.proofs.KnownBytes.{Appends-trans}
-use Rattle.edge_traits.specs.Door.{DoorTale, IfTold}
+use Rattle.edge_traits.specs.Door.{DoorTale}
 use Rattle.edge_traits.specs.Faults.{Rose}
 use Rattle.edge_traits.specs.Keeper.{Stays}
 use Rattle.edge_traits.specs.Pairs.{Table}
@@ -28,12 +28,14 @@ use Rattle.steward_core.proofs.StatesLead.{one_lobby}
 use Rattle.serve_core.specs.declared.end.ServeEnd.{ServeEnd}
 use Rattle.steward_core.specs.declared.turn.StewardEnd.{StewardEnd}
 use Rattle.serve_core.specs.Opening.{IsLoaded}
-use Rattle.serve_core.specs.Serving.{AgreesIn, HasServedAll, MayBeShort, Says, Sheet, TellsAgreed, ready_text}
+use Rattle.serve_core.specs.Serving.{AgreesIn, HasServedAll, TellsAgreed}
+use Rattle.serve_core.specs.Stopping.{MayBeShort}
+use Rattle.serve_core.specs.Text.{Says, SaysText, ready_text}
+use Rattle.serve_core.specs.Outside.{Sheet, Store}
 use Rattle.serve_core.specs.Stewarding.{MayEnd}
-use Rattle.serve_core.specs.Tending.{Store}
-use Rattle.serve_core.proofs.Ending.{Closes}
-use Rattle.serve_core.proofs.Tending.{rose_before}
-use Rattle.serve_core.proofs.Turning.{may_end, turns_as}
+use Rattle.serve_core.proofs.StewardLaws.{tended_as}
+use Rattle.serve_core.proofs.Turning.{may_end}
+use Rattle.line_answers.proofs.Rounds.{Rose-since}
 
 -- ---- nothing was written at the load
 
@@ -57,7 +59,7 @@ module _ (end : ServeEnd) (last : StewardEnd) (before mid later : Sheet) (none :
     calm = subst (λ (n : ℕ). UnlessWriteFailed said (now.faults ≡ n)) same p.calm;
   }
 
-  text_from : (count : ℕ) (door : Option DoorTale) → Closes end last door mid later count → Closes end last door before later count
+  text_from : (count : ℕ) (door : Option DoorTale) → SaysText end last door count mid later → SaysText end last door count before later
   text_from count door (inl p) = inl (record { none_taken = p.none_taken; said = p.said; unwritten = p.unwritten; ready = says_from ready_text p.said later p.ready; ends = p.ends })
   text_from count door (inr p) = inr (record {
     why = p.why;
@@ -72,7 +74,7 @@ module _ (end : ServeEnd) (last : StewardEnd) (before mid later : Sheet) (none :
 
 -- ---- the table stayed at the load
 
-agrees_from : (told told' now : Option Table) (opening parts : List Part) → Stays told told' → IfTold told' (λ table. AgreesIn table opening → TellsAgreed now parts) → IfTold told (λ table. AgreesIn table opening → TellsAgreed now parts)
+agrees_from : (told told' now : Option Table) (opening parts : List Part) → Stays told told' → IfSome told' (λ table. AgreesIn table opening → TellsAgreed now parts) → IfSome told (λ table. AgreesIn table opening → TellsAgreed now parts)
 agrees_from None told' now opening parts stays p = tt
 agrees_from (Some table) None now opening parts stays p = absurd stays
 agrees_from (Some table) (Some table') now opening parts stays p = subst (λ (t : Table). AgreesIn t opening → TellsAgreed now parts) stays p
@@ -81,30 +83,16 @@ agrees_from (Some table) (Some table') now opening parts stays p = subst (λ (t 
 pub served_from : (shows : ℕ → Bool) (opening : List Part) (end : ServeEnd) (door : Option DoorTale) (before mid later : Sheet) (old loaded new : Store) (pass : PassState) → Appends before.written mid.written [] → mid.faults ≡ before.faults
     → Stays old.table loaded.table → old.faults ≤ loaded.faults → HasServedAll shows opening end door mid later loaded new pass → HasServedAll shows opening end door before later old new pass
 served_from shows opening end door before mid later old loaded new pass none same stays counted p =
-    let later_rose : Rose loaded.faults new.faults → Rose old.faults new.faults = rose_before old.faults loaded.faults new.faults counted in
-    let turns = p.all_turns in
+    let later_rose : Rose loaded.faults new.faults → Rose old.faults new.faults = Rose-since old.faults loaded.faults new.faults counted in
+    let Ends = MayEnd (MayBeShort end) (Rose loaded.faults new.faults) in
+    let Ends' = MayEnd (MayBeShort end) (Rose old.faults new.faults) in
+    let weaker = may_end (MayBeShort end) (MayBeShort end) (Rose loaded.faults new.faults) (Rose old.faults new.faults) (λ e. e) later_rose in
     record {
-      first = p.first;
-      opens = p.opens;
-      opens_whole = p.opens_whole;
-      legal = p.legal;
-      all_joined = p.all_joined;
-      no_others = p.no_others;
-      sessions = p.sessions;
-      came = p.came;
-      back = p.back;
-      stewards = p.stewards;
-      all_turns = (
-        turns.0,
-        turns_as (MayEnd (MayBeShort end) (Rose loaded.faults new.faults)) (MayEnd (MayBeShort end) (Rose old.faults new.faults))
-            (may_end (MayBeShort end) (MayBeShort end) (Rose loaded.faults new.faults) (Rose old.faults new.faults) (λ e. e) later_rose) turns.0 (calls_of 0 pass.seen) turns.1,
-        turns.2,
-      );
       last = p.last;
-      last_turn = p.last_turn;
-      turns = λ clean calm. p.turns clean (λ r. calm (later_rose r));
-      whole_turns = λ clean calm. p.whole_turns clean (λ r. calm (later_rose r));
-      agrees = agrees_from old.table loaded.table new.table pass.opening (state house pass.opening pass.seen) stays p.agrees;
+      hall = p.hall;
+      links = p.links;
+      steward = tended_as Ends Ends' weaker p.last door (calls_of 0 pass.seen) (state house pass.opening pass.seen) p.steward;
+      store = agrees_from old.table loaded.table new.table pass.opening (state house pass.opening pass.seen) stays p.store;
       text = text_from end p.last before mid later none same pass.splits door p.text;
     }
 
@@ -122,14 +110,14 @@ loaded_agrees table lobby at loads other there key =
     ∙ sym (loads key)
     ∙ ap (λ (l : LobbyState). wanted_by l key) (sym same)
 
-agreed_by : (told now : Option Table) (lobby : LobbyState) (opening parts : List Part) → IsLoaded told lobby → opening ≡ opened lobby → IfTold told (λ table. AgreesIn table opening → TellsAgreed now parts) → IfTold told (λ table. TellsAgreed now parts)
+agreed_by : (told now : Option Table) (lobby : LobbyState) (opening parts : List Part) → IsLoaded told lobby → opening ≡ opened lobby → IfSome told (λ table. AgreesIn table opening → TellsAgreed now parts) → IfSome told (λ table. TellsAgreed now parts)
 agreed_by None now lobby opening parts loaded is p = tt
 agreed_by (Some table) now lobby opening parts loaded is p = p (subst (AgreesIn table) (sym is) (loaded_agrees table lobby loaded.opening loaded.holds))
 
 -- the table that is told agrees at the end
 pub table_agrees : (shows : ℕ → Bool) (lobby : LobbyState) (end : ServeEnd) (door : Option DoorTale) (before later : Sheet) (old new : Store) (pass : PassState) → IsLoaded old.table lobby
-    → HasServedAll shows (opened lobby) end door before later old new pass → IfTold old.table (λ table. TellsAgreed new.table (state house pass.opening pass.seen))
-table_agrees shows lobby end door before later old new pass loaded p = agreed_by old.table new.table lobby pass.opening (state house pass.opening pass.seen) loaded p.opens p.agrees
+    → HasServedAll shows (opened lobby) end door before later old new pass → IfSome old.table (λ table. TellsAgreed new.table (state house pass.opening pass.seen))
+table_agrees shows lobby end door before later old new pass loaded p = agreed_by old.table new.table lobby pass.opening (state house pass.opening pass.seen) loaded p.hall.opens p.store
 
 -- ---- a hall, if there is one
 

@@ -1,6 +1,6 @@
 -- The statuses of serving.
 use Rattle.std.proofs.Common.{◌≡◌, ℕ, ◌⊎◌, inl, inr, List, [], ◌∷◌, length, refl, sym, ap, subst, ◌∙◌, arith}
-use Rattle.std.specs.Prelude.{Contains, Err, None, Option, Some, String}
+use Rattle.std.specs.Prelude.{Contains, Err, None, Option, Some, String, IfSome}
 use Rattle.std.specs.declared.alloc.Global.{Global}
 use Rattle.std.specs.Io.KnownBytes.{Appends}
 use Rattle.std.proofs.Math.Seq.{take-length}
@@ -12,7 +12,6 @@ use Rattle.job_words.specs.declared.job.Job.TheVariants as TheJob
 use Rattle.job_words.specs.declared.job.JobFail.{JobFail}
 use Rattle.job_words.specs.declared.job.JobFail.TheVariants as TheFail
 use Rattle.job_words.specs.Usage.{UsageEnds, usage_line}
-use Rattle.edge_traits.specs.Door.{IfTold}
 use Rattle.edge_traits.specs.Faults.{Rose}
 use Rattle.edge_traits.specs.Pairs.{Table}
 use Rattle.lobby_load.specs.BadRows.{IsGoodStore}
@@ -21,12 +20,13 @@ use Rattle.lobby_load.specs.declared.refusals.StoreFault.{StoreFault}
 use Rattle.lobby_load.specs.declared.refusals.StoreFault.TheVariants as unopened
 use Rattle.lobby_state.specs.Lobby.{LobbyState}
 use Rattle.lobby_load.specs.Refused.{unopened_status}
-use Rattle.serve_core.specs.Opening.{EndsCall, StaysUnopened}
-use Rattle.serve_core.specs.ServeEnds.{Counts, OneRose}
-use Rattle.serve_core.specs.Tending.{Store}
+use Rattle.serve_core.specs.ServeEnds.{EndsCall, Counts, OneRose}
+use Rattle.serve_core.specs.Opening.{StaysUnopened}
+use Rattle.serve_core.specs.Outside.{Store, Sheet}
 use Rattle.serve_core.specs.declared.end.ServeEnd.{ServeEnd}
 use Rattle.serve_core.specs.declared.end.ServeEnd.TheVariants.{Done, DoorFault, WriteFault, KeeperFault, Memory, Spent}
-use Rattle.serve_core.specs.Serving.{IsClean, Sheet, status_of, whole_text}
+use Rattle.serve_core.specs.Stopping.{IsClean, status_of}
+use Rattle.serve_core.specs.Text.{whole_text}
 
 pub is_write_fault : (end : ServeEnd) → status_of end ≡ 3 → end ≡ WriteFault
 is_write_fault Done e = absurd (omega (arith, e))
@@ -146,7 +146,7 @@ status_told end (inr e) = inr (ap status_of e)
 -- ---- a call that opened a hall, or none
 
 -- a table with a bad key is no good store
-pub first_bad : (told : Option Table) (key : List ℕ) → IsFirstBad told key → IfTold told (λ table. IsGoodStore table → ⊥)
+pub first_bad : (told : Option Table) (key : List ℕ) → IsFirstBad told key → IfSome told (λ table. IsGoodStore table → ⊥)
 first_bad None key first = tt
 first_bad (Some table) key first = λ good. good.none_bad key first.bad
 
@@ -216,7 +216,7 @@ module _ (old new : Store) (before after : Sheet) (door door' : ℕ) where
   call_text status (inr (end, is, p)) (inr e) = p.text (is_whole end (inr (sym is ∙ e)))
 
   pub call_bad : (status : ℕ) → EndsCall status old new before after counts counts' → status ≡ 5 → (key : List ℕ) × IsFirstBad old.table key × Appends before.written after.written (bad_record_line key)
-  call_bad status (inl (fault, is, p)) e = subst (λ (f : StoreFault). Tells {A = LobbyState} old.table before.written after.written (Err f)) (unopened_bad fault (sym is ∙ e)) p.tells
+  call_bad status (inl (fault, is, p)) e = subst (λ (f : StoreFault). Tells {A = LobbyState} old.table before.written after.written (Err f)) (unopened_bad fault (sym is ∙ e)) p.wrote
   call_bad status (inr (end, is, p)) e = absurd (is_no_bad_record end (sym is ∙ e))
 
   pub call_listed : (status : ℕ) → EndsCall status old new before after counts counts' → AllStatuses status
@@ -244,7 +244,7 @@ module _ (old new : Store) (before after : Sheet) (door door' : ℕ) where
   call_told status (inl (fault, is, p)) = subst IsWriteTold (sym is) (unopened_told fault p)
   call_told status (inr (end, is, p)) = subst IsWriteTold (sym is) (served_told end p.write_told)
 
-  pub call_good : (status : ℕ) → EndsCall status old new before after counts counts' → status ≡ 5 → IfTold old.table (λ table. IsGoodStore table → ⊥)
+  pub call_good : (status : ℕ) → EndsCall status old new before after counts counts' → status ≡ 5 → IfSome old.table (λ table. IsGoodStore table → ⊥)
   call_good status ends e = let bad = call_bad status ends e in first_bad old.table bad.0 bad.1
 
 pub one_rose : {one two three : Type 0} → (one → ⊥) → (two → ⊥) → (three → ⊥) → one ⊎ (two ⊎ three) → ⊥

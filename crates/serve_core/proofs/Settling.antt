@@ -1,11 +1,12 @@
 -- Settling with a worker: what it gave up is joined and handed back.
 use Rattle.std.proofs.Common.{◌≡◌, ◌≢◌, ℕ, suc, ◌<◌, Bool, List, [], ◌∷◌, ◌++◌, length, take, drop, refl, sym, ap, subst, ◌∙◌, take-append-drop}
+use Rattle.std.specs.Prelude.{IfSome}
 use Rattle.std.proofs.Math.Seq.{drop-cons}
 use Rattle.std.specs.List.{slice_index_or}
 use Rattle.std.specs.declared.option.Option.{Option}
 use Rattle.atomic_table.specs.Seated.{TableId}
 use Rattle.edge_traits.specs.Link.{Handed, IsFresh, Tale}
-use Rattle.edge_traits.specs.Door.{DoorTale, Goes, IfTold, IsOut, TakesBack}
+use Rattle.edge_traits.specs.Door.{DoorTale, Goes, IsOut, TakesBack}
 use Rattle.hall_core.specs.Passes.{IsJoined, PassState, divided, new_pass}
 use Rattle.link_core.specs.declared.link_end.LinkEnd.{LinkEnd}
 use Rattle.serve_core.specs.declared.settle.Supply.{Supply}
@@ -37,7 +38,7 @@ module _ {C : Type 0} (shows : C → ℕ → Bool) (hall : TableId) (clock : C) 
     pub pays_not_first : given.number ≢ 0
     pays_not_first = given_not_first shows hall clock supply end door door pass pass given one two d link kept_around paid
 
-    pub pays_out : IfTold door (IsOut given.number)
+    pub pays_out : IfSome door (IsOut given.number)
     pays_out = given_out shows hall clock supply end door door pass pass given one two d link kept_around paid
 
     pub pays : (supply' : Supply) (door' : Option DoorTale) (new : PassState) (rest : List (Due C)) → IsJoined pass given new → Goes door door' (TakesBack given.number link) → rest ≡ one ++ two → supply' ≡ supply_after end supply → Underway shows hall clock supply' door' new rest
@@ -48,7 +49,7 @@ module _ {C : Type 0} (shows : C → ℕ → Bool) (hall : TableId) (clock : C) 
 
   -- a link that came, and its pass
   module _ (supply : Supply) (before door : Option DoorTale) (pass mid given : PassState) (waiting : List (Due C)) (link : Option Tale) (k : Underway shows hall clock supply before pass waiting)
-      (goes : Goes before door (Comes link)) (counted : mid ≡ divided pass) (new : given ≡ new_pass pass) (fresh : IfTold link IsFresh) where
+      (goes : Goes before door (Comes link)) (counted : mid ≡ divided pass) (new : given ≡ new_pass pass) (fresh : IfSome link IsFresh) where
     pub due_now : Due C
     due_now = record { pass = given; link = link; clock = clock }
 

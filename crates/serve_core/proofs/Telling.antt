@@ -1,11 +1,12 @@
 -- What a door tells, from one call to the next.
 use Rattle.std.proofs.Common.{◌≡◌, ℕ, ◌+◌, ◌-◌, List, [], ◌∷◌, ◌++◌, length, refl, sym, ap, subst, ◌∙◌, arith, append_assoc}
+use Rattle.std.specs.Prelude.{IfSome}
 use Rattle.std.proofs.lemmas.List.Elements.{Contains-append_left, Contains-append_right}
 use Rattle.std.specs.List.{Contains, slice_get}
 use Rattle.std.specs.declared.option.Option.{Option}
 use Rattle.std.specs.declared.option.Option.TheVariants.{None, Some}
 use Rattle.edge_traits.specs.Link.{Handed, Tale}
-use Rattle.edge_traits.specs.Door.{DoorTale, Gives, Goes, IfTold, KeepsLinks, TakesBack}
+use Rattle.edge_traits.specs.Door.{DoorTale, Gives, Goes, KeepsLinks, TakesBack}
 use Rattle.edge_traits.specs.declared.doorway.Came.{Came}
 use Rattle.edge_traits.specs.declared.doorway.Came.TheVariants.{Link, Quiet, Closed, Failed}
 use Rattle.serve_core.specs.Keeping.{Comes, KeepsLeft}
@@ -13,17 +14,17 @@ use Rattle.serve_core.specs.Sessions.{CameAs, CameBack}
 use Rattle.serve_core.proofs.Among.{get_left, get_last, one_longer}
 
 -- a fact goes on
-pub told_then : (door door' : Option DoorTale) (R : DoorTale → DoorTale → Type 0) (P Q : DoorTale → Type 0) → ((old new : DoorTale) → R old new → P old → Q new) → Goes door door' R → IfTold door P → IfTold door' Q
+pub told_then : (door door' : Option DoorTale) (R : DoorTale → DoorTale → Type 0) (P Q : DoorTale → Type 0) → ((old new : DoorTale) → R old new → P old → Q new) → Goes door door' R → IfSome door P → IfSome door' Q
 told_then None None R P Q h g p = tt
 told_then None (Some new) R P Q h g p = absurd g
 told_then (Some old) None R P Q h g p = absurd g
 told_then (Some old) (Some new) R P Q h g p = h old new g p
 
-pub told_and : (door : Option DoorTale) (P Q R : DoorTale → Type 0) → ((tale : DoorTale) → P tale → Q tale → R tale) → IfTold door P → IfTold door Q → IfTold door R
+pub told_and : (door : Option DoorTale) (P Q R : DoorTale → Type 0) → ((tale : DoorTale) → P tale → Q tale → R tale) → IfSome door P → IfSome door Q → IfSome door R
 told_and None P Q R h p q = tt
 told_and (Some tale) P Q R h p q = h tale p q
 
-pub told_as : (door : Option DoorTale) (P Q : DoorTale → Type 0) → ((tale : DoorTale) → P tale → Q tale) → IfTold door P → IfTold door Q
+pub told_as : (door : Option DoorTale) (P Q : DoorTale → Type 0) → ((tale : DoorTale) → P tale → Q tale) → IfSome door P → IfSome door Q
 told_as None P Q h p = tt
 told_as (Some tale) P Q h p = h tale p
 

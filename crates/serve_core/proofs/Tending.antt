@@ -1,7 +1,8 @@
 -- What the door's thread does for the store, from one step to the next.
 use Rattle.std.proofs.Common.{◌≡◌, ℕ, ◌+◌, ◌≤◌, [], ◌++◌, refl, sym, ap, subst, ◌∙◌, arith, append-nil}
 use Rattle.std.specs.declared.option.Option.{Option}
-use Rattle.edge_traits.specs.Door.{DoorTale, Gives, Goes, IsQuiet, TakesBack}
+use Rattle.edge_traits.specs.Door.{DoorTale, Gives, Goes, TakesBack}
+use Rattle.edge_traits.specs.Answers.{IsQuiet}
 use Rattle.edge_traits.specs.Faults.{Rose}
 use Rattle.edge_traits.specs.Link.{Handed, Tale}
 use Rattle.edge_traits.specs.declared.doorway.Came.{Came}
@@ -17,16 +18,15 @@ use Rattle.serve_core.specs.declared.settle.Supply.{Supply}
 use Rattle.serve_core.specs.declared.settle.Supply.TheVariants.{Short}
 use Rattle.serve_core.specs.Keeping.{supply_after}
 use Rattle.serve_core.specs.Stewarding.{AreTurns, MayEnd}
-use Rattle.serve_core.specs.Tending.{GivesQuiets, Stand, Store, Tended, stand}
+use Rattle.serve_core.specs.Tending.{GivesQuiets, Stand, Tended, stand}
+use Rattle.serve_core.specs.Outside.{Store}
 use Rattle.serve_core.specs.Turns.{MadeTurn, supply_then}
 use Rattle.serve_core.proofs.Keeping.{stays_short, then_short}
 use Rattle.serve_core.proofs.Telling.{goes_as, goes_same, goes_then}
 use Rattle.serve_core.proofs.Turning.{may_end, turn_is, turns_append, turns_as}
+use Rattle.line_answers.proofs.Rounds.{Rose-since}
 
 -- ---- counts that never fall
-
-pub rose_before : (start before now : ℕ) → start ≤ before → Rose before now → Rose start now
-rose_before start before now s r = omega (arith, s, r)
 
 pub rose_after : (before now after : ℕ) → now ≤ after → Rose before now → Rose before after
 rose_after before now after n r = omega (arith, n, r)
@@ -45,7 +45,7 @@ tended_then one two three p q =
     p.count p.entries p.turns in
     let second : AreTurns Ends q.count q.entries =
     turns_as (MayEnd (three.supply ≡ Short) (Rose two.store.faults three.store.faults)) Ends
-    (may_end (three.supply ≡ Short) (three.supply ≡ Short) (Rose two.store.faults three.store.faults) (Rose one.store.faults three.store.faults) (λ e. e) (rose_before one.store.faults two.store.faults three.store.faults p.counted))
+    (may_end (three.supply ≡ Short) (three.supply ≡ Short) (Rose two.store.faults three.store.faults) (Rose one.store.faults three.store.faults) (λ e. e) (Rose-since one.store.faults two.store.faults three.store.faults p.counted))
     q.count q.entries q.turns in
     record {
       count = p.count + q.count;

@@ -15,18 +15,20 @@ use Rattle.steward_core.specs.declared.turn.StewardEnd.TheVariants.{Done, Keeper
 use Rattle.steward_core.specs.Clearing.{AreClears, AsksAndClears, IsPartOf, IsClearing, acts_of, clears, rows_told}
 use Rattle.steward_core.specs.Saving.{AreFullRounds, EndsSaving, IsCutShort, IsRound, IsSaving, last_number, says_saved, tells_upto}
 use Rattle.steward_core.specs.Turn.{end_of_turn}
-use Rattle.serve_core.specs.Stewarding.{AreStewards, AreTurns, IsDone, IsStewards, MayEnd, StewardTurn, asked, asks_once}
+use Rattle.serve_core.specs.StewardLaws.{AreStewards, IsDone, IsStewards, times_asked, asks_once}
+use Rattle.serve_core.specs.Stewarding.{AreTurns, MayEnd, StewardTurn}
 use Rattle.serve_core.specs.Turns.{MadeTurn}
+use Rattle.steward_core.proofs.DesksCleared.{part_of_itself}
 
 -- entries of a steward that ask so often which desks are in use
 abbrev pub Asks : ℕ → Log → Type 0
-Asks n es = AreStewards es × (asked es ≡ n)
+Asks n es = AreStewards es × (times_asked es ≡ n)
 
 pub stewards_append : (one two : Log) → AreStewards one → AreStewards two → AreStewards (one ++ two)
 stewards_append [] two p q = q
 stewards_append (e ∷ one) two p q = (p.0, stewards_append one two p.1 q)
 
-pub asked_append : (one two : Log) → asked (one ++ two) ≡ asked one + asked two
+pub asked_append : (one two : Log) → times_asked (one ++ two) ≡ times_asked one + times_asked two
 asked_append [] two = omega arith
 asked_append (e ∷ one) two = omega (arith, asked_append one two)
 
@@ -43,13 +45,9 @@ asks_some moment (e ∷ es) (row ∷ rows) (inl p) =
     let more = asks_some moment es rows p.1 in
     let act : clears moment row ≡ e.act = sym p.0 in (
       (subst (λ (t : Timed). IsStewards t.act) act tt, more.0),
-      subst (λ (t : Timed). asks_once t.act + asked es ≡ 0) act (omega (arith, more.1)),
+      subst (λ (t : Timed). asks_once t.act + times_asked es ≡ 0) act (omega (arith, more.1)),
     )
 asks_some moment (e ∷ es) (row ∷ rows) (inr p) = asks_some moment (e ∷ es) rows p
-
-part_of_itself : {T : Type 0} (xs : List T) → IsPartOf xs xs
-part_of_itself [] = tt
-part_of_itself (x ∷ xs) = inl (refl, part_of_itself xs)
 
 asks_rest : (end : ClearingEnd) (moment : ℕ) (rows : List DeskInUse) (es : Log) → AreClears end moment rows es → Asks 0 es
 asks_rest clearing.Done moment rows es p = asks_some moment es rows (subst (λ (l : List Timed). IsPartOf (acts_of es) l) p (part_of_itself (acts_of es)))
@@ -60,7 +58,7 @@ asks_once_and_clears end moment es p =
     let rest = asks_rest end moment (rows_told p.first.reply) p.rest p.clears in
     let both : Asks 1 (p.first ∷ p.rest) = (
       (subst (λ (t : Timed). IsStewards t.act) (sym p.asks) tt, rest.0),
-      subst (λ (t : Timed). asks_once t.act + asked p.rest ≡ 1) (sym p.asks) (omega (arith, rest.1)),
+      subst (λ (t : Timed). asks_once t.act + times_asked p.rest ≡ 1) (sym p.asks) (omega (arith, rest.1)),
     ) in
     subst (Asks 1) (sym p.all) both
 
@@ -88,7 +86,7 @@ asks_round moment es orders p =
     let rest = asks_told moment (last_number orders) p.rest p.saved in
     let both : Asks 0 (p.first ∷ p.rest) = (
       (subst (λ (t : Timed). IsStewards t.act) (sym p.asks) tt, rest.0),
-      subst (λ (t : Timed). asks_once t.act + asked p.rest ≡ 0) (sym p.asks) (omega (arith, rest.1)),
+      subst (λ (t : Timed). asks_once t.act + times_asked p.rest ≡ 0) (sym p.asks) (omega (arith, rest.1)),
     ) in
     subst (Asks 0) (sym p.all) both
 
@@ -101,7 +99,7 @@ asks_cut moment es carried p =
     let rest = asks_cut_rest moment (last_number carried) p.rest p.saved in
     let both : Asks 0 (p.first ∷ p.rest) = (
       (subst (λ (t : Timed). IsStewards t.act) (sym p.asks) tt, rest.0),
-      subst (λ (t : Timed). asks_once t.act + asked p.rest ≡ 0) (sym p.asks) (omega (arith, rest.1)),
+      subst (λ (t : Timed). asks_once t.act + times_asked p.rest ≡ 0) (sym p.asks) (omega (arith, rest.1)),
     ) in
     subst (Asks 0) (sym p.all) both
 
@@ -138,13 +136,13 @@ cleared_whole end clearing.Memory (Done count) is done = absurd (subst IsDone is
 cleared_whole end clearing.Memory KeeperFault is done = absurd (subst IsDone is done)
 cleared_whole end clearing.Memory Memory is done = absurd (subst IsDone is done)
 
-pub turn_asks : (t : StewardTurn) → IsDone t.end → asked t.entries ≡ 1
+pub turn_asks : (t : StewardTurn) → IsDone t.end → times_asked t.entries ≡ 1
 turn_asks t done =
     let p = t.turn in
     let whole = cleared_whole t.end p.cleared p.saved p.ends done in
     let first = asks_once_and_clears clearing.Done t.moment p.first (subst (λ (c : ClearingEnd). IsClearing c t.moment p.first) whole p.clearing) in
     let rest = asks_saving t.moment p.saved p.rest t.carried p.saving in
-    ap asked p.all ∙ (asks_append 1 0 p.first p.rest first rest).1
+    ap times_asked p.all ∙ (asks_append 1 0 p.first p.rest first rest).1
 
 -- ---- how turns may have ended
 
@@ -164,12 +162,12 @@ module _ (Ends : StewardEnd → Type 0) where
   turns_stewards (suc n) made (before, last, turns, ends, is) =
       subst AreStewards (sym is) (stewards_append before last.entries (turns_stewards n before turns) (turn_stewards last))
 
-  pub turns_asked : ((end : StewardEnd) → Ends end → IsDone end) → (n : ℕ) (made : Log) → AreTurns Ends n made → asked made ≡ n
-  turns_asked done zero made is = ap asked is
+  pub turns_asked : ((end : StewardEnd) → Ends end → IsDone end) → (n : ℕ) (made : Log) → AreTurns Ends n made → times_asked made ≡ n
+  turns_asked done zero made is = ap times_asked is
   turns_asked done (suc n) made (before, last, turns, ends, is) =
       let so_far = turns_asked done n before turns in
       let one = turn_asks last (done last.end ends) in
-      omega (arith, ap asked is, asked_append before last.entries, so_far, one)
+      omega (arith, ap times_asked is, asked_append before last.entries, so_far, one)
 
   pub turns_append : (n m : ℕ) (one two : Log) → AreTurns Ends n one → AreTurns Ends m two → AreTurns Ends (n + m) (one ++ two)
   turns_append n zero one two p is =

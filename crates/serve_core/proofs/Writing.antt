@@ -1,20 +1,15 @@
 -- The text that is written, and why no more links are taken.
-use Rattle.std.proofs.Common.{◌≡◌, ℕ, zero, suc, ◌+◌, ◌≤◌, List, [], ◌∷◌, ◌++◌, length, take, refl, sym, ap, subst, ◌∙◌, arith}
-use Rattle.std.proofs.Math.Seq.{take-append-add, take-length}
+use Rattle.std.proofs.Common.{◌≡◌, ℕ, zero, suc, ◌+◌, List, [], ◌∷◌, ◌++◌, length, take, refl, sym, ap, subst}
+use Rattle.std.proofs.Math.Seq.{take-length}
 use Rattle.std.proofs.KnownBytes.{Appends-trans}
 use Rattle.std.specs.Io.KnownBytes.{Appends}
 use Rattle.std.specs.declared.option.Option.{Option}
-use Rattle.edge_traits.specs.Faults.{Rose}
 use Rattle.edge_traits.specs.Sink.{AppendsFront, Wrote}
-use Rattle.edge_traits.specs.Door.{DoorTale, Goes}
 use Rattle.edge_traits.specs.declared.sink.Sent.{Sent}
 use Rattle.edge_traits.specs.declared.sink.Sent.TheVariants as sent
-use Rattle.serve_core.specs.declared.end.DoorEnd.{DoorEnd}
 use Rattle.serve_core.specs.declared.end.DoorEnd.TheVariants as door_end
-use Rattle.serve_core.specs.Keeping.{KeepsLeft}
-use Rattle.serve_core.specs.Serving.{closed_text, ready_text, whole_text}
-use Rattle.serve_core.specs.Stopping.{Stopped}
-use Rattle.serve_core.proofs.Telling.{told_then}
+use Rattle.serve_core.specs.Text.{closed_text, ready_text, whole_text}
+use Rattle.line_answers.proofs.Sending.{AppendsFront-behind}
 
 -- a front of the first half is one of the whole
 take_less : (n : ℕ) (xs ys : List ℕ) → (k : ℕ) × (take k (xs ++ ys) ≡ take n xs)
@@ -25,16 +20,13 @@ take_less (suc n) (x ∷ xs) ys = let more = take_less n xs ys in (suc more.0, a
 pub front_of_half : (old new : Option (List ℕ)) (xs ys : List ℕ) → AppendsFront old new xs → AppendsFront old new (xs ++ ys)
 front_of_half old new xs ys p = let t = take_less p.0 xs ys in (t.0, subst (λ (bs : List ℕ). Appends old new bs) (sym t.1) p.1)
 
-pub front_of_rest : (old mid new : Option (List ℕ)) (xs ys : List ℕ) → Appends old mid xs → AppendsFront mid new ys → AppendsFront old new (xs ++ ys)
-front_of_rest old mid new xs ys p q = (length xs + q.0, subst (λ (bs : List ℕ). Appends old new bs) (sym (take-append-add xs ys q.0)) (Appends-trans old mid new xs (take q.0 ys) p q.1))
-
 pub front_of_all : (old mid new : Option (List ℕ)) (xs ys : List ℕ) → Appends old mid xs → Appends mid new ys → AppendsFront old new (xs ++ ys)
-front_of_all old mid new xs ys p q = front_of_rest old mid new xs ys p (length ys, subst (λ (bs : List ℕ). Appends mid new bs) (sym (take-length ys)) q)
+front_of_all old mid new xs ys p q = AppendsFront-behind old mid new xs ys p (length ys, subst (λ (bs : List ℕ). Appends mid new bs) (sym (take-length ys)) q)
 
 pub wrote_front : (old mid new : Option (List ℕ)) (s : Sent) → Appends old mid ready_text → Wrote mid new closed_text s → AppendsFront old new whole_text
 wrote_front old mid new sent.All p q = front_of_all old mid new ready_text closed_text p q
-wrote_front old mid new sent.Failed p q = front_of_rest old mid new ready_text closed_text p q
-wrote_front old mid new sent.Memory p q = front_of_rest old mid new ready_text closed_text p q
+wrote_front old mid new sent.Failed p q = AppendsFront-behind old mid new ready_text closed_text p q
+wrote_front old mid new sent.Memory p q = AppendsFront-behind old mid new ready_text closed_text p q
 
 pub wrote_whole : (old mid new : Option (List ℕ)) (s : Sent) → s ≡ sent.All → Appends old mid ready_text → Wrote mid new closed_text s → Appends old new whole_text
 wrote_whole old mid new s e p q = Appends-trans old mid new ready_text closed_text p (subst (λ (x : Sent). Wrote mid new closed_text x) e q)

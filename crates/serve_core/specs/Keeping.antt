@@ -1,19 +1,22 @@
 -- What holds while the door's thread takes links and joins workers.
-use Rattle.std.specs.Prelude.{◌≡◌, ◌≢◌, ℕ, ◌+◌, ◌<◌, ◌≤◌, ◌⊎◌, Bool, List, [], ◌∷◌, ◌++◌, length, map}
+use Rattle.std.specs.Prelude.{◌≡◌, ◌≢◌, ℕ, ◌+◌, ◌^◌, ◌<◌, ◌≤◌, ◌⊎◌, Bool, List, [], ◌∷◌, ◌++◌, length, map, IfSome}
 use Rattle.std.specs.declared.option.Option.{Option}
 use Rattle.atomic_table.specs.Seated.{TableId}
+use Rattle.edge_traits.specs.Faults.{Rose}
 use Rattle.edge_traits.specs.Link.{IsFresh, Tale}
-use Rattle.edge_traits.specs.Door.{DoorTale, IfTold}
+use Rattle.edge_traits.specs.Door.{DoorTale}
 use Rattle.turn_table.specs.declared.view.Joined.{Joined}
 use Rattle.turn_table.specs.Views.{In, joined_number}
 use Rattle.one_server.specs.declared.act.Timed.{Timed}
 use Rattle.one_server.specs.declared.reply.Reply.{Reply}
-use Rattle.hall_core.specs.Passes.{PassState}
+use Rattle.hall_core.specs.Pass.{PassState}
 use Rattle.link_core.specs.declared.link_end.LinkEnd.{LinkEnd}
 use Rattle.link_core.specs.declared.link_end.LinkEnd.TheVariants as link_end
+use Rattle.serve_core.specs.declared.end.DoorEnd.{DoorEnd}
+use Rattle.serve_core.specs.declared.end.DoorEnd.TheVariants as door_end
 use Rattle.serve_core.specs.declared.settle.Supply.{Supply}
 use Rattle.serve_core.specs.declared.settle.Supply.TheVariants.{Short}
-use Rattle.serve_core.specs.Sessions.{CameAs, HasServed}
+use Rattle.serve_core.specs.Sessions.{CameAs, HadSession}
 use Rattle.serve_core.specs.Working.{Due}
 
 -- whether memory ran out somewhere, once a link was served that ended like this
@@ -31,8 +34,8 @@ module _ {C : Type 0} (shows : C → ℕ → Bool) (hall : TableId) (clock : C) 
     pub home : due.pass.home ≡ hall
     pub number : due.pass.number ≢ 0
     pub same : due.clock ≡ clock
-    pub fresh : IfTold due.link IsFresh
-    pub came : IfTold door (CameAs due.pass.number due.link)
+    pub fresh : IfSome due.link IsFresh
+    pub came : IfSome door (CameAs due.pass.number due.link)
 
   -- The pass is the hall's first one. Each number that was split from it is that of a pass which was joined and has
   -- served its link, or of a worker that is waited for; links came as many as there are such numbers, and those that
@@ -43,11 +46,11 @@ module _ {C : Type 0} (shows : C → ℕ → Bool) (hall : TableId) (clock : C) 
     pub first : pass.number ≡ 0
     pub owed : (due : Due C) → In due waiting → IsOwed door due
     pub served : (j : Joined Timed Reply) → In j pass.joined
-        → HasServed (shows clock) (supply ≡ Short) door j.number j.calls
+        → HadSession (shows clock) (supply ≡ Short) door j.number j.calls
     pub numbers : (m : ℕ) → 0 < m → m ≤ pass.splits
         → In m (map joined_number pass.joined) ⊎ In m (map due_number waiting)
-    pub came : IfTold door (λ tale. length tale.came ≡ pass.splits)
-    pub out : IfTold door (λ tale. length tale.back + length waiting ≡ length tale.came)
+    pub came : IfSome door (λ tale. length tale.came ≡ pass.splits)
+    pub out : IfSome door (λ tale. length tale.back + length waiting ≡ length tale.came)
 
 -- a settlement changes neither how many passes were split nor with what the hall opened
 abbrev pub SameHall : PassState → PassState → Type 0
@@ -60,3 +63,10 @@ KeepsLeft old new = (new.left ≡ old.left) × (new.came ≡ old.came)
 -- one more link came, which tells this
 abbrev pub Comes : Option Tale → DoorTale → DoorTale → Type 0
 Comes link old new = new ≡ record old { left = new.left; came = old.came ++ link ∷ [] }
+
+-- why no further link is taken, of so many: the door is closed and has none left, where it tells; or it counted a
+-- fault; or 2^31 came
+abbrev pub Stopped : DoorEnd → ℕ → Option DoorTale → ℕ → ℕ → Type 0
+Stopped door_end.Closed count door before now = IfSome door (λ tale. tale.left ≡ []) × (count < 2 ^ 31)
+Stopped door_end.Failed count door before now = Rose before now × (count < 2 ^ 31)
+Stopped door_end.Spent count door before now = count ≡ 2 ^ 31

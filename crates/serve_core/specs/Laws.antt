@@ -3,17 +3,19 @@ use Rattle.std.specs.Prelude.{◌≡◌, ◌⊎◌, ℕ, ◌^◌, ◌<◌, ◌�
 use Rattle.edge_traits.specs.Door.{DoorTale}
 use Rattle.edge_traits.specs.Link.{Tale}
 use Rattle.one_server.specs.Running.{Log}
-use Rattle.link_core.specs.Laws.{AnswersAll, WasGreeted, telling}
-use Rattle.serve_core.specs.Serving.{IsClean, MayBeShort}
+use Rattle.link_core.specs.Laws.{AnswersAll, WasGreeted, handed_over}
+use Rattle.serve_core.specs.Stopping.{IsClean, MayBeShort}
 use Rattle.serve_core.specs.declared.end.ServeEnd.{ServeEnd}
-use Rattle.serve_core.specs.Sessions.{CameAs, CameBack, HasServed}
+use Rattle.serve_core.specs.Sessions.{CameAs, CameBack, HadSession}
 
 -- the link came back under its number with what it had to give, taken or left; it was greeted, or counted a fault; and
 -- unless it counted one, or had 2^40 bytes and pauses to give, all that came over it was answered, by these entries
 pub record ComesBack (shows : ℕ → Bool) (door : DoorTale) (number : ℕ) (calls : Log) (came : Tale) : Type 0 where
+  -- there is
   pub link : Tale
   pub faults : ℕ
-  pub back : CameBack number (telling link faults) door
+  -- such that
+  pub back : CameBack number (handed_over link faults) door
   pub signs : link.taken ++ link.left ≡ came.left
   pub greeted : WasGreeted came link ⊎ (1 ≤ faults)
   pub answered : faults ≡ 0 → length came.left < 2 ^ 40 → AnswersAll shows number calls came link
@@ -23,5 +25,5 @@ pub record ComesBack (shows : ℕ → Bool) (door : DoorTale) (number : ℕ) (ca
 abbrev pub EachComesBack : Type 0
 EachComesBack =
     (shows : ℕ → Bool) (end : ServeEnd) (door : DoorTale) (number : ℕ) (calls : Log) (came : Tale) → IsClean end
-    → HasServed shows (MayBeShort end) (Some door) number calls → CameAs number (Some came) door
+    → HadSession shows (MayBeShort end) (Some door) number calls → CameAs number (Some came) door
     → ComesBack shows door number calls came

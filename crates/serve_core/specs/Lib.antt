@@ -1,11 +1,14 @@
-pub mod Keeping
 pub mod Laws
 pub mod Opening
-pub mod ServeEnds
+pub mod Outside
 pub mod Serving
 pub mod Sessions
+pub mod StewardLaws
 pub mod Stewarding
 pub mod Stopping
+pub mod Text
+pub mod Keeping
+pub mod ServeEnds
 pub mod Tending
 pub mod Turns
 pub mod Working

@@ -1,20 +1,17 @@
 -- How a server opens: with a lobby that was loaded from a store, or not at all.
-use Rattle.std.specs.Prelude.{◌≡◌, ◌⊎◌, ℕ, Err, IfSome}
+use Rattle.std.specs.Prelude.{◌≡◌, Err, IfSome}
 use Rattle.std.specs.declared.option.Option.{Option}
 use Rattle.edge_traits.specs.Faults.{Rose}
 use Rattle.edge_traits.specs.Keeper.{Stays}
 use Rattle.edge_traits.specs.Pairs.{Table}
 use Rattle.lobby_load.specs.BadRows.{IsGoodStore}
 use Rattle.lobby_load.specs.Loaded.{AreSpelled, HasLoaded, IsAtOpening}
-use Rattle.lobby_load.specs.Refused.{UnlessUnwritten, unopened_status}
+use Rattle.lobby_load.specs.Refused.{UnlessUnwritten}
 use Rattle.lobby_load.specs.Telling.{Tells}
 use Rattle.lobby_load.specs.declared.refusals.StoreFault.{StoreFault}
 use Rattle.lobby_load.specs.declared.refusals.StoreFault.TheVariants.{KeeperFault, WriteFault}
 use Rattle.lobby_state.specs.Lobby.{LobbyState}
-use Rattle.serve_core.specs.ServeEnds.{Counts, EndsServing}
-use Rattle.serve_core.specs.Serving.{Sheet, status_of}
-use Rattle.serve_core.specs.declared.end.ServeEnd.{ServeEnd}
-use Rattle.serve_core.specs.Tending.{Store}
+use Rattle.serve_core.specs.Outside.{Sheet, Store}
 
 -- the lobby was loaded from a store: nobody is there and no save order stands; and it holds what the store holds, where
 -- this tells its table, which is then a good one
@@ -28,14 +25,8 @@ pub record IsLoaded (told : Option Table) (lobby : LobbyState) : Type 0 where
 -- sink, which counted it there and nowhere else; else nothing was written, or at want of memory perhaps a front of that
 -- line. A fault of the keeper is told only where it counted one, and its table stays
 pub record StaysUnopened (fault : StoreFault) (old new : Store) (before after : Sheet) : Type 0 where
-  pub tells : Tells {A = LobbyState} old.table before.written after.written (Err fault)
+  pub wrote : Tells {A = LobbyState} old.table before.written after.written (Err fault)
   pub keeper_fault : fault ≡ KeeperFault → Rose old.faults new.faults
   pub write_fault : fault ≡ WriteFault → Rose before.faults after.faults
   pub write_calm : UnlessUnwritten fault (after.faults ≡ before.faults)
   pub table : Stays old.table new.table
-
--- how a call ended that was to serve: it opened no store, or it served
-abbrev pub EndsCall : ℕ → Store → Store → Sheet → Sheet → Counts → Counts → Type 0
-EndsCall status old new before after counts counts' =
-    ((fault : StoreFault) × (status ≡ unopened_status fault) × StaysUnopened fault old new before after)
-    ⊎ ((end : ServeEnd) × (status ≡ status_of end) × EndsServing end counts counts' before.written after.written)

@@ -1,11 +1,16 @@
--- How serving ends, as its status tells.
+-- What a call comes to that was to serve, by the counts of faults and the text: so the clauses of its status follow.
 use Rattle.std.specs.Prelude.{◌≡◌, ◌⊎◌, ℕ, List, Option}
 use Rattle.std.specs.Io.KnownBytes.{Appends}
 use Rattle.edge_traits.specs.Faults.{Rose}
 use Rattle.edge_traits.specs.Sink.{AppendsFront}
+use Rattle.lobby_load.specs.Refused.{unopened_status}
+use Rattle.lobby_load.specs.declared.refusals.StoreFault.{StoreFault}
 use Rattle.serve_core.specs.declared.end.ServeEnd.{ServeEnd}
 use Rattle.serve_core.specs.declared.end.ServeEnd.TheVariants.{DoorFault, WriteFault, KeeperFault, Memory}
-use Rattle.serve_core.specs.Serving.{IsClean, whole_text}
+use Rattle.serve_core.specs.Opening.{StaysUnopened}
+use Rattle.serve_core.specs.Outside.{Sheet, Store}
+use Rattle.serve_core.specs.Stopping.{IsClean, status_of}
+use Rattle.serve_core.specs.Text.{whole_text}
 
 -- how many faults the door, the sink and the keeper have counted
 pub record Counts : Type 0 where
@@ -28,3 +33,9 @@ pub record EndsServing (end : ServeEnd) (old new : Counts) (written written' : O
   pub text_part : AppendsFront written written' whole_text
   pub complete : (OneRose old new → ⊥) → IsClean end ⊎ (end ≡ Memory)
   pub write_told : (new.sink ≡ old.sink) ⊎ ((end ≡ WriteFault) ⊎ (end ≡ DoorFault))
+
+-- how a call ended that was to serve: it opened no store, or it served
+abbrev pub EndsCall : ℕ → Store → Store → Sheet → Sheet → Counts → Counts → Type 0
+EndsCall status old new before after counts counts' =
+    ((fault : StoreFault) × (status ≡ unopened_status fault) × StaysUnopened fault old new before after)
+    ⊎ ((end : ServeEnd) × (status ≡ status_of end) × EndsServing end counts counts' before.written after.written)

@@ -1,8 +1,7 @@
--- Why no further link is taken, and how serving ends then.
-use Rattle.std.specs.Prelude.{◌≡◌, ℕ, ◌^◌, ◌<◌, []}
+-- How serving ends: why no further link is taken, what decides beside that, and with which status the program ends.
+use Rattle.std.specs.Prelude.{◌≡◌, ℕ, ◌^◌, ◌<◌, ⊤, [], IfSome}
 use Rattle.std.specs.declared.option.Option.{Option}
-use Rattle.edge_traits.specs.Faults.{Rose}
-use Rattle.edge_traits.specs.Door.{DoorTale, IfTold}
+use Rattle.edge_traits.specs.Door.{DoorTale}
 use Rattle.edge_traits.specs.declared.sink.Sent.{Sent}
 use Rattle.edge_traits.specs.declared.sink.Sent.TheVariants as sent
 use Rattle.steward_core.specs.declared.turn.StewardEnd.{StewardEnd}
@@ -14,16 +13,10 @@ use Rattle.serve_core.specs.declared.end.ServeEnd.TheVariants.{Done, DoorFault, 
 use Rattle.serve_core.specs.declared.settle.Supply.{Supply}
 use Rattle.serve_core.specs.declared.settle.Supply.TheVariants.{Short}
 
--- why no further link is taken, of so many: the door is closed and has none left, where it tells; or it counted a
--- fault; or 2^31 came
-abbrev pub Stopped : DoorEnd → ℕ → Option DoorTale → ℕ → ℕ → Type 0
-Stopped door_end.Closed count door before now = IfTold door (λ tale. tale.left ≡ []) × (count < 2 ^ 31)
-Stopped door_end.Failed count door before now = Rose before now × (count < 2 ^ 31)
-Stopped door_end.Spent count door before now = count ≡ 2 ^ 31
-
--- the same, but for the count of faults
+-- why no further link is taken, of so many: the door is closed and has none left, where it tells; or it failed; or 2^31
+-- came
 abbrev pub IsStopped : DoorEnd → ℕ → Option DoorTale → Type 0
-IsStopped door_end.Closed count door = IfTold door (λ tale. tale.left ≡ []) × (count < 2 ^ 31)
+IsStopped door_end.Closed count door = IfSome door (λ tale. tale.left ≡ []) × (count < 2 ^ 31)
 IsStopped door_end.Failed count door = count < 2 ^ 31
 IsStopped door_end.Spent count door = count ≡ 2 ^ 31
 
@@ -39,3 +32,31 @@ end_of door written steward.Memory supply = Memory
 end_of door written last Short = Memory
 end_of door_end.Spent written last supply = Spent
 end_of door_end.Closed written last supply = Done
+
+-- the number with which the program ends
+abbrev pub status_of : ServeEnd → ℕ
+status_of Done = 0
+status_of WriteFault = 3
+status_of KeeperFault = 4
+status_of Memory = 6
+status_of DoorFault = 8
+status_of Spent = 9
+
+-- nothing failed and memory was enough
+abbrev pub IsClean : ServeEnd → Type 0
+IsClean Done = ⊤
+IsClean WriteFault = ⊥
+IsClean KeeperFault = ⊥
+IsClean Memory = ⊥
+IsClean DoorFault = ⊥
+IsClean Spent = ⊤
+
+-- memory may have run out: at status 6 somewhere, and at 3, 4 and 8, which stand above it, perhaps. No contract tells
+-- want of memory, so at these it counts as possible wherever memory is taken
+abbrev pub MayBeShort : ServeEnd → Type 0
+MayBeShort Done = ⊥
+MayBeShort WriteFault = ⊤
+MayBeShort KeeperFault = ⊤
+MayBeShort Memory = ⊤
+MayBeShort DoorFault = ⊤
+MayBeShort Spent = ⊥

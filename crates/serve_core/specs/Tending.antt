@@ -3,18 +3,13 @@ use Rattle.std.specs.Prelude.{◌≡◌, ℕ, ◌+◌, ◌≤◌}
 use Rattle.std.specs.declared.option.Option.{Option}
 use Rattle.edge_traits.specs.Door.{DoorTale, Goes}
 use Rattle.edge_traits.specs.Faults.{Rose}
-use Rattle.edge_traits.specs.Pairs.{Table}
 use Rattle.one_server.specs.Running.{IsKnown, Log, Made}
 use Rattle.hall_core.specs.Passes.{PassState, runs_of}
 use Rattle.steward_core.specs.Agreement.{StaysAgreed}
+use Rattle.serve_core.specs.Outside.{Store}
 use Rattle.serve_core.specs.Stewarding.{AreTurns, MayEnd}
 use Rattle.serve_core.specs.declared.settle.Supply.{Supply}
 use Rattle.serve_core.specs.declared.settle.Supply.TheVariants.{Short}
-
--- a keeper: the table that it tells, if it tells one, and how many faults it has counted
-pub record Store : Type 0 where
-  pub table : Option Table
-  pub faults : ℕ
 
 -- where the door's thread stands: its pass, whether memory ran out somewhere, what the door tells, and the keeper
 pub record Stand : Type 0 where

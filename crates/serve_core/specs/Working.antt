@@ -2,9 +2,9 @@
 use Rattle.std.specs.Prelude.{◌≡◌, ℕ, Bool, true, []}
 use Rattle.std.specs.declared.option.Option.{Option}
 use Rattle.edge_traits.specs.Link.{Handed, Tale}
-use Rattle.hall_core.specs.Passes.{PassState}
+use Rattle.hall_core.specs.Pass.{PassState}
 use Rattle.link_core.specs.declared.link_end.LinkEnd.{LinkEnd}
-use Rattle.link_core.specs.Served.{WasServed}
+use Rattle.link_core.specs.ServedInPart.{WasServed}
 
 -- what a worker was started with: its pass, what its link told then, and the clock
 pub record Due (C : Type 0) : Type 0 where

@@ -4,7 +4,8 @@ ghost use Rattle.std.specs.Prelude.{◌≡◌, ◌<◌, ◌+◌, ◌^◌, OnSome
 ghost use Rattle.std.specs.declared.option.Option.{Option};
 ghost use Rattle.edge_traits.specs.Door.{DoorTale, Goes, IsNew};
 ghost use Rattle.serve_core.specs.Keeping.{Comes, KeepsLeft, Underway};
-ghost use Rattle.serve_core.specs.Tending.{Store, Tended, stand};
+ghost use Rattle.serve_core.specs.Outside.{Store};
+ghost use Rattle.serve_core.specs.Tending.{Tended, stand};
 
 use crate::place::Place;
 use crate::settle::Host;

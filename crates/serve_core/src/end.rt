@@ -30,7 +30,7 @@ pub enum ServeEnd {
 
 impl ServeEnd {
     ghost use Rattle.std.specs.Prelude.{◌≡◌};
-    ghost use Rattle.serve_core.specs.Serving.{status_of};
+    ghost use Rattle.serve_core.specs.Stopping.{status_of};
 
     /// The number with which the program ends.
     pub fn status(self) -> u8

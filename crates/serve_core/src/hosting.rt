@@ -2,9 +2,9 @@
 
 ghost use Rattle.std.specs.Prelude.{◌≡◌, ◌≤◌, []};
 ghost use Rattle.edge_traits.specs.Door.{Goes, KeepsLinks};
-ghost use Rattle.serve_core.specs.Keeping.{KeepsLeft, SameHall, Underway};
-ghost use Rattle.serve_core.specs.Stopping.{Stopped};
-ghost use Rattle.serve_core.specs.Tending.{Store, Tended, stand};
+ghost use Rattle.serve_core.specs.Keeping.{KeepsLeft, SameHall, Underway, Stopped};
+ghost use Rattle.serve_core.specs.Outside.{Store};
+ghost use Rattle.serve_core.specs.Tending.{Tended, stand};
 ghost use Rattle.serve_core.specs.declared.settle.Supply.TheVariants.{Enough};
 
 use crate::end::DoorEnd;

@@ -1,5 +1,7 @@
-//! What holds of each link that came to a server, as a call that does nothing: what it ensures is the law.
+//! What holds of each link that came to a server, and of the steward's acts, as calls that do nothing: what each
+//! ensures is the law.
 ghost use Rattle.serve_core.specs.Laws.{EachComesBack};
+ghost use Rattle.serve_core.specs.StewardLaws.{MakesEachTurn, MakesStewardsActs, MakesTurns};
 
 /// Where nothing failed and memory was enough, the link of each session came back under its number with what it had to
 /// give, taken or left, was written the opening or counted a fault, and unless it counted one all that came over it, up
@@ -7,4 +9,12 @@ ghost use Rattle.serve_core.specs.Laws.{EachComesBack};
 /// another, and no line was dropped.
 pub fn each_link_comes_back_as_its_own()
     ensures { EachComesBack }
+{}
+
+/// All that session 0 makes are acts of a steward: turns, one for each Quiet of the door and one more. Where serving
+/// ended well and the keeper counted no fault each of them was done, and asked once which desks are in use.
+pub fn the_steward_makes_each_turn()
+    ensures acts { MakesStewardsActs }
+    ensures turns { MakesTurns }
+    ensures done { MakesEachTurn }
 {}

@@ -3,8 +3,7 @@
 ghost use Rattle.std.specs.Prelude.{◌≡◌, ◌≤◌, ◌<◌, ◌^◌, MatchOption};
 ghost use Rattle.edge_traits.specs.Door.{Goes, KeepsLinks};
 ghost use Rattle.edge_traits.specs.Faults.{Rose};
-ghost use Rattle.serve_core.specs.Keeping.{Underway};
-ghost use Rattle.serve_core.specs.Stopping.{Stopped};
+ghost use Rattle.serve_core.specs.Keeping.{Underway, Stopped};
 ghost use Rattle.serve_core.specs.Tending.{Tended, stand};
 ghost use Rattle.serve_core.specs.Turns.{MadeTurn, supply_then};
 ghost use Rattle.serve_core.specs.declared.end.DoorEnd.{DoorEnd};

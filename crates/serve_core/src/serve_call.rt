@@ -1,8 +1,8 @@
 //! The top call that serves players who connect.
 
-ghost use Rattle.std.specs.Prelude.{◌≡◌, ◌≢◌, ◌≤◌, ◌⊎◌, ◌∷◌, [], ℕ, List, IfSome, IfNone, IfErr, OnOk, Contains};
+ghost use Rattle.std.specs.Prelude.{◌≡◌, ◌≤◌, ◌⊎◌, ◌∷◌, [], ℕ, List, IfSome, IfNone, IfErr, OnOk, Contains};
 ghost use Rattle.std.specs.Io.KnownBytes.{Appends};
-ghost use Rattle.edge_traits.specs.Door.{Goes, IfTold, KeepsLinks};
+ghost use Rattle.edge_traits.specs.Door.{Goes, KeepsLinks};
 ghost use Rattle.edge_traits.specs.Faults.{Rose};
 ghost use Rattle.edge_traits.specs.Sink.{AppendsFront};
 ghost use Rattle.histories.specs.History.{state};
@@ -15,8 +15,11 @@ ghost use Rattle.lobby_load.specs.declared.refusals.StoreFault.{StoreFault};
 ghost use Rattle.lobby_state.specs.Lobby.{LobbyState};
 ghost use Rattle.one_server.specs.House.{house};
 ghost use Rattle.one_server.specs.Whole.{opened};
-ghost use Rattle.serve_core.specs.Opening.{EndsCall, IsLoaded, StaysUnopened};
-ghost use Rattle.serve_core.specs.Serving.{HasServedAll, IsUnused, TellsAgreed, status_of, whole_text};
+ghost use Rattle.serve_core.specs.ServeEnds.{EndsCall};
+ghost use Rattle.serve_core.specs.Opening.{IsLoaded, StaysUnopened};
+ghost use Rattle.serve_core.specs.Serving.{HasServedAll, IsUnused, TellsAgreed};
+ghost use Rattle.serve_core.specs.Stopping.{status_of};
+ghost use Rattle.serve_core.specs.Text.{whole_text};
 ghost use Rattle.serve_core.specs.declared.end.ServeEnd.{ServeEnd};
 
 use crate::serving::serve_lobby;
@@ -56,7 +59,7 @@ where
     P: Keeper,
     K: Sink,
     G: Gate + Sync,
-    requires door { IfTold (D.tale door.old) IsUnused }
+    requires door { IfSome (D.tale door.old) IsUnused }
     ensures hall { IfSome result.1 (λ h. h.1.home ≡ h.0) }
     ensures served { IfSome result.1 (λ h. AsksToServe words.now × (lobby : LobbyState)
         × IsLoaded (P.table keeper.old) lobby × (end : ServeEnd) × (result.0 ≡ status_of end)
@@ -65,7 +68,7 @@ where
         (record { written = K.written sink.new; faults = K.faults sink.new })
         (record { table = P.table keeper.old; faults = P.faults keeper.old })
         (record { table = P.table keeper.new; faults = P.faults keeper.new }) h.1) }
-    ensures table { IfSome result.1 (λ h. IfTold (P.table keeper.old)
+    ensures table { IfSome result.1 (λ h. IfSome (P.table keeper.old)
         (λ _. TellsAgreed (P.table keeper.new) (state house h.1.opening h.1.seen))) }
     ensures links { Goes (D.tale door.old) (D.tale door.new) KeepsLinks }
     ensures untouched { IfNone result.1 (D.tale door.new ≡ D.tale door.old) }
@@ -84,7 +87,7 @@ where
     ensures keeper_fault { result.0 ≡ 4 → Rose (P.faults keeper.old) (P.faults keeper.new) }
     ensures bad_record { result.0 ≡ 5 → AsksToServe words.now × (key : List ℕ) × IsFirstBad (P.table keeper.old) key
         × Appends (K.written sink.old) (K.written sink.new) (bad_record_line key) }
-    ensures good_store { result.0 ≡ 5 → IfTold (P.table keeper.old) (λ table. ¬ (IsGoodStore table)) }
+    ensures good_store { result.0 ≡ 5 → IfSome (P.table keeper.old) (λ table. ¬ (IsGoodStore table)) }
     ensures text { (result.0 ≡ 0) ⊎ (result.0 ≡ 9) → Appends (K.written sink.old) (K.written sink.new) whole_text }
     ensures text_part { IfSome result.1 (λ h. AppendsFront (K.written sink.old) (K.written sink.new) whole_text) }
     ensures usage_part { ¬ (AsksToServe words.now)
@@ -132,7 +135,7 @@ where
     P: Keeper,
     K: Sink,
     G: Gate + Sync,
-    requires door { IfTold (D.tale door.old) IsUnused }
+    requires door { IfSome (D.tale door.old) IsUnused }
     ensures hall { IfSome result.1 (λ h. h.1.home ≡ h.0) }
     ensures served { IfSome result.1 (λ h. (lobby : LobbyState)
         × IsLoaded (P.table keeper.old) lobby × (end : ServeEnd) × (result.0 ≡ status_of end)
@@ -141,7 +144,7 @@ where
         (record { written = K.written sink.new; faults = K.faults sink.new })
         (record { table = P.table keeper.old; faults = P.faults keeper.old })
         (record { table = P.table keeper.new; faults = P.faults keeper.new }) h.1) }
-    ensures table { IfSome result.1 (λ h. IfTold (P.table keeper.old)
+    ensures table { IfSome result.1 (λ h. IfSome (P.table keeper.old)
         (λ _. TellsAgreed (P.table keeper.new) (state house h.1.opening h.1.seen))) }
     ensures links { Goes (D.tale door.old) (D.tale door.new) KeepsLinks }
     ensures untouched { IfNone result.1 (D.tale door.new ≡ D.tale door.old) }

@@ -2,14 +2,15 @@
 
 ghost use Rattle.std.specs.Prelude.{◌≡◌, ◌≤◌, ◌⊎◌, ℕ, IfSome, IfNone, List, take};
 ghost use Rattle.std.specs.Io.KnownBytes.{Appends, Keeps};
-ghost use Rattle.edge_traits.specs.Door.{Goes, IfTold, KeepsLinks};
+ghost use Rattle.edge_traits.specs.Door.{Goes, KeepsLinks};
 ghost use Rattle.edge_traits.specs.Faults.{Rose};
 ghost use Rattle.edge_traits.specs.Sink.{OnWriteFailed, UnlessWriteFailed, Wrote};
 ghost use Rattle.one_server.specs.declared.part.Part.{Part};
 ghost use Rattle.one_server.specs.Whole.{IsOpening, IsWhole, opened};
 ghost use Rattle.hall_core.specs.Passes.{first_pass};
-ghost use Rattle.serve_core.specs.Serving.{HasServedAll, IsClean, IsUnused, closed_text, ready_text, whole_text};
-ghost use Rattle.serve_core.specs.Stopping.{end_of};
+ghost use Rattle.serve_core.specs.Serving.{HasServedAll, IsUnused};
+ghost use Rattle.serve_core.specs.Stopping.{IsClean, end_of};
+ghost use Rattle.serve_core.specs.Text.{closed_text, ready_text, whole_text};
 ghost use Rattle.serve_core.specs.Turns.{TurnsLast};
 ghost use Rattle.steward_core.specs.declared.turn.StewardEnd.{StewardEnd};
 ghost use Rattle.serve_core.specs.declared.end.ServeEnd.{ServeEnd};
@@ -57,7 +58,7 @@ where
     K: Sink,
     G: Gate + Sync,
     requires opening { IsOpening lobby }
-    requires door { IfTold (D.tale door.old) IsUnused }
+    requires door { IfSome (D.tale door.old) IsUnused }
     ensures hall { IfSome result.1 (λ h. h.1.home ≡ h.0) }
     ensures served { IfSome result.1 (λ h. HasServedAll (C.shows clock.now) (opened lobby) result.0 (D.tale door.new)
         (record { written = K.written sink.old; faults = K.faults sink.old })
@@ -113,7 +114,7 @@ where
     G: Gate + Sync,
     requires first { (opening : List Part) × (pass ≡ first_pass place.now.hall.now opening) }
     requires whole { IsWhole pass.opening }
-    requires door { IfTold (D.tale door.old) IsUnused }
+    requires door { IfSome (D.tale door.old) IsUnused }
     ensures hall { result.0.home ≡ place.now.hall.now }
     ensures served { HasServedAll (C.shows place.now.clock.now) pass.opening result.1 (D.tale door.new)
         (record { written = K.written sink.old; faults = K.faults sink.old })

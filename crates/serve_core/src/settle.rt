@@ -1,11 +1,11 @@
 //! What the door's thread keeps of its workers, and how it settles with those that have ended.
 
-ghost use Rattle.std.specs.Prelude.{◌≡◌, ◌≢◌, [], OnSome, vec_len, vec_capacity, ◌<◌};
-ghost use Rattle.edge_traits.specs.Door.{Goes};
-ghost use Rattle.edge_traits.specs.Door.{IfTold, IsOut, TakesBack};
+ghost use Rattle.std.specs.Prelude.{◌≡◌, ◌≢◌, [], OnSome, vec_len, vec_capacity, ◌<◌, IfSome};
+ghost use Rattle.edge_traits.specs.Door.{Goes, IsOut, TakesBack};
 ghost use Rattle.hall_core.specs.Passes.{IsJoined};
 ghost use Rattle.serve_core.specs.Keeping.{KeepsLeft, SameHall, Underway, supply_after};
-ghost use Rattle.serve_core.specs.Tending.{Store, Tended, stand};
+ghost use Rattle.serve_core.specs.Outside.{Store};
+ghost use Rattle.serve_core.specs.Tending.{Tended, stand};
 
 use crate::place::Place;
 use crate::worker::{Returned, Worker};
@@ -51,7 +51,7 @@ impl<L: Link + Drop, C: Clock> Host<L, C> {
         requires here { self.old.pass.home ≡ hall.now }
         requires other_here { returned.pass.home ≡ hall.now }
         requires other_not_first { returned.pass.number ≢ 0 }
-        requires out { IfTold (D.tale door.old) (IsOut returned.pass.number) }
+        requires out { IfSome (D.tale door.old) (IsOut returned.pass.number) }
         ensures joined { IsJoined self.old.pass returned.pass self.new.pass }
         ensures back { Goes (D.tale door.old) (D.tale door.new) (TakesBack returned.pass.number (record {
           tale = L.tale returned.link;

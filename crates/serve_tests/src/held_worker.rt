@@ -12,6 +12,7 @@ use std::alloc::{AllocError, Global};
 use std::sync::Wait;
 use std::test::Fail;
 use std::thread::Threads;
+use test_steps::assert_rows;
 
 /// A door that gives a link for each player of the play, watches what they say, and is then closed. It gives no Quiet,
 /// so the steward makes no act before it is closed.
@@ -124,8 +125,6 @@ fn is_served<T: Threads + Wait + Sync>(
 /// once the gate is open, both are.
 #[test]
 fn a_desk_is_waited_for_by_itself(rt: HostRuntime) -> Result<(), Fail> {
-    for (place, play) in PLAYS.iter().enumerate() {
-        assert!(rt; is_served(&rt, rt.alloc(), play)?, "play {place}");
-    }
+    assert_rows!(rt; PLAYS, |play| is_served(&rt, rt.alloc(), play)?);
     Ok(())
 }

@@ -13,6 +13,7 @@ use std::alloc::{AllocError, Global};
 use std::sync::Wait;
 use std::test::Fail;
 use std::thread::Threads;
+use test_steps::assert_rows;
 
 const SERVE: &[&str] = &["serve", "--port", "5000"];
 
@@ -213,9 +214,7 @@ fn row_holds<T: Threads + Wait + Sync>(rt: &T, alloc: Global, row: &Row) -> Resu
 
 #[test]
 fn a_keeper_is_served_over(rt: HostRuntime) -> Result<(), Fail> {
-    for (place, row) in ROWS.iter().enumerate() {
-        assert!(rt; row_holds(&rt, rt.alloc(), row)?, "row {place}");
-    }
+    assert_rows!(rt; ROWS, |row| row_holds(&rt, rt.alloc(), row)?);
     Ok(())
 }
 
@@ -239,7 +238,7 @@ const EVENINGS: &[Evening] = &[
 ];
 
 /// The first evening on which serving didn't end well or another text was sent, all of them over one keeper.
-fn first_wrong<T: Threads + Wait + Sync>(
+fn first_wrong_evening<T: Threads + Wait + Sync>(
     rt: &T,
     alloc: Global,
     evenings: &[Evening],
@@ -256,6 +255,6 @@ fn first_wrong<T: Threads + Wait + Sync>(
 
 #[test]
 fn what_was_registered_is_known_on_the_next_evening(rt: HostRuntime) -> Result<(), Fail> {
-    assert_eq!(rt; first_wrong(&rt, rt.alloc(), EVENINGS)?, None);
+    assert_eq!(rt; first_wrong_evening(&rt, rt.alloc(), EVENINGS)?, None);
     Ok(())
 }

@@ -1,7 +1,7 @@
 //! Games by acts alone, with each reply.
 
-use crate::steps::{Does, Said, Step, first_failing_anew, made_anew};
 use chess_model::Variant;
+use server_steps::{Does, Said, Step, first_failing_anew, made_anew};
 use std::test::Fail;
 
 const A_GAME_THAT_IS_RESIGNED_STEPS: &[Step] = &[

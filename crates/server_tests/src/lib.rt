@@ -1,8 +1,7 @@
 //! Tests of the server of one thread: a game played by acts alone with each reply, and the refusals of these acts.
 //! Expected replies are those of the rules of the server, written out by hand.
 //!
-//! A test is a table of steps. The steps are made by functions without contracts, so a test is proved quickly: what it
-//! shows is shown by running it.
+//! A test is a table of steps, which `server_steps` makes.
 #![tactic(auto)]
 
 #[cfg(test)]
@@ -13,5 +12,3 @@ mod limits;
 mod refusals;
 #[cfg(test)]
 mod resuming;
-#[cfg(test)]
-mod steps;

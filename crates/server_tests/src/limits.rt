@@ -1,12 +1,13 @@
 //! Refusals that come where a list is at its end: half-moves, desks, lines, sessions, and men in hand.
 
-use crate::steps::{Does, Said, Step, first_failing, is_as_expected, server};
 use chess_model::Variant;
 use fics_words::NoMemory;
 use one_server::OneServer;
+use server_steps::{Does, Said, Step, first_failing, is_as_expected, server};
 use std::alloc::Global;
 use std::process::Abort;
 use std::test::Fail;
+use test_steps::{first_wrong, least_wrong};
 
 /// Ann and Ben at desk 1.
 const SEATED_AT_CHESS: &[Step] = &[
@@ -37,16 +38,11 @@ enum Part {
 /// The place of the first part at a new server in which a step is replied otherwise, if there is one.
 fn first_failing_part(alloc: Global, parts: &[Part]) -> Result<Option<usize>, NoMemory> {
     let mut server = server(alloc)?;
-    Ok(first_wrong(&mut server, parts))
+    Ok(first_wrong_part(&mut server, parts))
 }
 
-fn first_wrong(server: &mut OneServer, parts: &[Part]) -> Option<usize> {
-    for (place, part) in parts.iter().enumerate() {
-        if !holds(server, part) {
-            return Some(place);
-        }
-    }
-    None
+fn first_wrong_part(server: &mut OneServer, parts: &[Part]) -> Option<usize> {
+    first_wrong!(parts, |part| holds(server, part))
 }
 
 fn holds(server: &mut OneServer, part: &Part) -> bool {
@@ -60,23 +56,15 @@ fn holds(server: &mut OneServer, part: &Part) -> bool {
 
 /// The first of so many times at which steps are replied otherwise, if there is one.
 fn first_failing_time(server: &mut OneServer, times: u32, steps: &[Step]) -> Option<u32> {
-    for time in 0..times {
-        if first_failing(server, steps).is_some() {
-            return Some(time);
-        }
-    }
-    None
+    least_wrong!(0..times, |_time| first_failing(server, steps).is_none())
 }
 
 /// The first of 256 sessions that doesn't enter under its name, if one doesn't.
 fn first_outside(server: &mut OneServer) -> Option<u32> {
-    for number in 0..256u32 {
+    least_wrong!(0..256u32, |number| {
         let step = Step(0, number, Does::Enter(name_of(number)), Said::Entered);
-        if !is_as_expected(server, &step) {
-            return Some(number);
-        }
-    }
-    None
+        is_as_expected(server, &step)
+    })
 }
 
 /// A name of three letters, another one for each number below 676.
@@ -100,12 +88,7 @@ fn starts(server: &mut OneServer, one: u32) -> bool {
 
 /// The first of 128 pairs of sessions that starts no game, if one doesn't.
 fn first_unseated(server: &mut OneServer) -> Option<u32> {
-    for pair in 0..128u32 {
-        if !starts(server, 2 * pair) {
-            return Some(pair);
-        }
-    }
-    None
+    least_wrong!(0..128u32, |pair| starts(server, 2 * pair))
 }
 
 const AFTER_1200_HALF_MOVES_ROUND: &[Step] = &[

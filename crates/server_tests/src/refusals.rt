@@ -1,7 +1,7 @@
 //! The refusals of the acts, each by its number.
 
-use crate::steps::{Does, Said, Step, first_failing_anew};
 use chess_model::Variant;
+use server_steps::{Does, Said, Step, first_failing_anew};
 use std::alloc::Global;
 use std::process::Abort;
 use std::test::Fail;

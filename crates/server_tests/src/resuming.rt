@@ -1,7 +1,7 @@
 //! Games that are adjourned, stored and resumed, by acts alone, with each reply.
 
-use crate::steps::{Does, Said, Step, first_failing_anew};
 use chess_model::Variant;
+use server_steps::{Does, Said, Step, first_failing_anew};
 use std::test::Fail;
 
 /// Two who are registered adjourn a game of one half-move and resume it, under another serial; then one of them leaves,

@@ -163,6 +163,12 @@ module _ (moment : ℕ) where
       record { went = went_on act rest reply (coming next) old out new out' ran s; remembers = remembers }
   on_asked act rest reply (Err e) coming old before out new after out' ran s remembers = tt
 
+  -- an act was made, and its reply says what follows
+  pub on_made : (act : Act) (rest : Reply → Course) (reply : Reply) (old : RunnerState) (before : MemoryState) (out : List ℕ) (new : RunnerState) (after : MemoryState)
+      → Ran old (timed moment act) reply new → Remembers before (entry old.number (timed moment act) reply ∷ []) after → WentOn (Asks act rest) (rest reply) moment old before out new after out
+  unfolding went_ask
+  on_made act rest reply old before out new after ran remembers = record { went = went_ask act rest reply old out new ran; remembers = remembers }
+
   -- and then the next
   pub on_then : (one two three : Course) (old : RunnerState) (before : MemoryState) (out : List ℕ) (mid : RunnerState) (there : MemoryState) (out' : List ℕ) (new : RunnerState) (after : MemoryState) (out'' : List ℕ)
       → WentOn one two moment old before out mid there out' → WentOn two three moment mid there out' new after out'' → WentOn one three moment old before out new after out''
@@ -266,6 +272,20 @@ module _ (moment : ℕ) where
         follows = w.leads.whole a.entries a.text after a.follows;
         appended = a.appended ∙ ap (λ (l : List ℕ). l ++ a.text) w.appended ∙ append_assoc out w.put a.text;
       }
+
+  -- it went on, and then followed the rest to the end
+  pub answered_next : (result : Result (Unit {0}) NoMemory) (one coming two : Course) (old mid new : RunnerState) (out out' out'' : List ℕ) (after : MemoryState) → Went one coming moment old out mid out'
+      → coming ≡ two → OnOk result (Answered two (λ text. text) moment mid out' new out'' after) → OnOk result (Answered one (λ text. text) moment old out new out'' after)
+  answered_next (Ok u) one coming two old mid new out out' out'' after p is a =
+      let w : Went one two moment old out mid out' = subst (λ (c : Course). Went one c moment old out mid out') is p in
+      record {
+        entries = w.entries ++ a.entries;
+        text = w.put ++ a.text;
+        grew = made_then old mid new w.entries a.entries w.grew a.grew;
+        follows = w.leads.whole a.entries a.text after (subst (λ (n : ℕ). Follows two n moment a.entries a.text after) (same_number old mid w.entries w.grew) a.follows);
+        appended = a.appended ∙ ap (λ (l : List ℕ). l ++ a.text) w.appended ∙ append_assoc out w.put a.text;
+      }
+  answered_next (Err e) one coming two old mid new out out' out'' after p is a = tt
 
   -- a session that left followed its course, and wrote nothing
   pub answered_left : (course : Course) (old new : RunnerState) (out : List ℕ) (after : MemoryState) → Left course moment old new after → Answered course (λ text. text) moment old out new out after

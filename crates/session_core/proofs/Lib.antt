@@ -2,6 +2,7 @@ pub mod Remembering
 pub mod Going
 pub mod Following
 pub mod Lists
+pub mod ListTexts
 pub mod Passing
 pub mod MatchTerms
 pub mod Beginning
@@ -10,3 +11,4 @@ pub mod Rounds
 pub mod Endings
 pub mod Turning
 pub mod Quitting
+pub mod VisitSteps

@@ -45,10 +45,12 @@ use Rattle.command_words.specs.Takeback.{takeback_from, takeback_of}
 use Rattle.command_words.specs.TermReading.{agreed, terms_of}
 use Rattle.command_words.specs.Unseek.{unseek_from, unseek_of}
 use Rattle.command_words.specs.TermWords.{Spells, SpellsTime, UsualTime, time_of}
-use Rattle.command_words.specs.Texts.{handle_of, is_text}
-use Rattle.command_words.proofs.Forms.{at_least, both_true}
+use Rattle.fics_words.specs.HandleTest.{handle_of}
+use Rattle.command_words.specs.Texts.{is_text}
+use Rattle.fics_words.proofs.HandleTests.{at_least}
 use Rattle.command_words.proofs.TermParts.{are_read_as_spelled}
 use Rattle.session_core.specs.Stages.{FitsCommand}
+use Rattle.std.proofs.lemmas.Bool.{and_parts}
 
 -- a time that was spelled is within its bounds, where the usual one is
 spelled_fits : (usual : UsualTime) (words : Words) (terms : Terms) → usual.minutes ≤ 600 → usual.increment ≤ 600 → SpellsTime usual words (time_of terms) → IsNumbered terms.variant → AreTerms terms
@@ -104,7 +106,7 @@ takeback_fits (b ∷ rest) = takeback_from_fits (number_of 1200 (b ∷ rest))
 
 -- a text that was read has at most 800 bytes
 text_short : (text : List ℕ) → is_text text ≡ true → length text ≤ 800
-text_short text e = at_least (length text) 800 (both_true _ _ (both_true (nat_le 1 (length text)) _ e).1).0
+text_short text e = at_least (length text) 800 (and_parts _ _ (and_parts (nat_le 1 (length text)) _ e).1).0
 
 -- so has what is read of a text
 text_fits : (made : List ℕ → Command) (text : List ℕ) → (length text ≤ 800 → FitsCommand (made text))

@@ -4,7 +4,7 @@ use Rattle.std.specs.declared.option.Option.{Option}
 use Rattle.std.specs.declared.option.Option.TheVariants.{None, Some}
 use Rattle.command_words.specs.declared.command.Command.{Command}
 use Rattle.command_words.specs.Commands.{command_in}
-use Rattle.command_words.specs.Texts.{handle_of}
+use Rattle.fics_words.specs.HandleTest.{handle_of}
 use Rattle.fics_words.specs.declared.refusal.Refusal.{Refusal}
 use Rattle.fics_words.specs.declared.refusal.Refusal.TheVariants as refusal
 use Rattle.line_reader.specs.declared.incoming.Incoming.{Incoming}
@@ -33,6 +33,7 @@ use Rattle.histories.specs.declared.entry.Entry.{Entry}
 use Rattle.histories.specs.History.{entry}
 use Rattle.lobby_state.specs.Places.{PlaceList}
 use Rattle.one_server.specs.declared.act.Timed.{Timed}
+use Rattle.std.proofs.lemmas.Bool.{true_from_ne_false}
 
 -- the session hasn't left at any end of the course
 NeverGone : Course → Type 0
@@ -172,11 +173,7 @@ never_input : (input : Input) (memory : MemoryState) → is_gone memory ≡ fals
 never_input Quiet memory here goes_on = never_quiet memory.standing memory here
 never_input (Line line) memory here goes_on = never_greeting (is_greeting memory.link line) memory (record memory { link = Stamped }) line here here goes_on
 
-decide : (t : Bool) → (t ≡ false → ⊥) → t ≡ true
-decide true f = refl
-decide false f = absurd (f refl)
-
 pub only_quit : (input : Input) (before after : MemoryState) (session moment : ℕ) (made : Log) (text : List ℕ) → Follows (input_course input before) session moment made text after → is_gone before ≡ false → is_gone after ≡ true
     → asks_to_quit input before ≡ true
 only_quit input before after session moment made text f here gone =
-    decide (asks_to_quit input before) (λ goes_on. let never = never_followed (input_course input before) session moment made text after (never_input input before here goes_on) f in let bad : true ≡ false = sym gone ∙ never in cc)
+    true_from_ne_false (asks_to_quit input before) (λ goes_on. let never = never_followed (input_course input before) session moment made text after (never_input input before here goes_on) f in let bad : true ≡ false = sym gone ∙ never in cc)

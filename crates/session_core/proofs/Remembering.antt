@@ -1,5 +1,5 @@
 -- What a session remembers behind entries: behind none, behind one, and behind some more.
-use Rattle.std.proofs.Common.{◌≡◌, ◌⊎◌, ℕ, ◌&&◌, ◌||◌, Bool, true, false, not, cond, if◌then◌else◌, List, [], ◌∷◌, ◌++◌, get_or, refl, sym, ap, subst, ◌∙◌, inl, inr}
+use Rattle.std.proofs.Common.{◌≡◌, ◌⊎◌, ℕ, ◌&&◌, ◌||◌, Bool, true, false, not, cond, if◌then◌else◌, List, [], ◌∷◌, ◌++◌, get_or, refl, sym, ap, subst, ◌∙◌, inl, inr, Result}
 use Rattle.std.specs.Prelude.{Contains, ◌==◌}
 use Rattle.std.specs.List.{filter}
 use Rattle.std.specs.declared.option.Option.{Option}
@@ -17,6 +17,7 @@ use Rattle.linked_desk.specs.declared.acts.DeskAct.TheVariants as desk_act
 use Rattle.linked_desk.specs.declared.acts.DeskReply.TheVariants as desk_reply
 use Rattle.lobby_state.specs.Places.{PlaceList, is_elsewhere, is_full as holds_most}
 use Rattle.lobby_state.proofs.Lists.{All-filter_passing, Contains-filter}
+use Rattle.memory.specs.declared.NoMemory.{NoMemory}
 use Rattle.one_server.specs.declared.act.Act.{Act}
 use Rattle.one_server.specs.declared.act.Act.TheVariants as one_act
 use Rattle.one_server.specs.declared.act.Timed.{Timed}
@@ -31,7 +32,7 @@ use Rattle.session_core.specs.Laws.{LooksAway, acts_of, places_by}
 use Rattle.session_core.specs.Memory.{MemoryState, has_entered, told, without_observed}
 use Rattle.session_core.specs.Remembering.{IsOver, LooksOn, Remembers, WasShown, any_entered, asks_places, is_entered, places_told, shows_game}
 use Rattle.session_core.specs.Session.{at_game, at_place, behind, forgets, says_over, watched}
-use Rattle.session_core.specs.Stages.{Suits, kept}
+use Rattle.session_core.specs.Stages.{Suits, is_done, kept, kept_behind}
 use Rattle.session_core.proofs.Rounds.{told_keeps, told_places}
 use Rattle.simul_control.specs.declared.place.Place.{Place}
 
@@ -62,6 +63,10 @@ forgets_places : (seat : Option ℕ) (desk : ℕ) (memory : MemoryState) → (fo
 forgets_places None desk memory = refl
 forgets_places (Some seat) desk memory = refl
 
+forgets_entered : (seat : Option ℕ) (desk : ℕ) (memory : MemoryState) → has_entered (forgets seat desk memory) ≡ has_entered memory
+forgets_entered None desk memory = refl
+forgets_entered (Some seat) desk memory = refl
+
 behind_places : (visit : Visit) (over : Bool) (memory : MemoryState) → (behind visit over memory).places ≡ memory.places
 behind_places visit true memory = forgets_places visit.seat visit.desk memory
 behind_places visit false memory = refl
@@ -74,17 +79,16 @@ module _ (memory : MemoryState) (r : Reply) where
   not_asked : (act : Act) → asks_places act ≡ false → places_at memory.places act r ≡ memory.places
   not_asked act asks = ap (λ (b : Bool). if b then places_by memory.places r else memory.places) asks
 
-  places_kept : (at : Stage) (done : Bool) (act : Act) → Suits act at → (kept at done memory r).places ≡ places_at memory.places act r
-  places_kept (stage.Placing deed) done act is = told_places memory r ∙ sym (asked act _ is refl)
-  places_kept (stage.Moving word stamp) done act is = told_places memory r ∙ sym (asked act _ is refl)
-  places_kept (stage.Reacting reaction) done act is = told_places memory r ∙ sym (asked act _ is refl)
-  places_kept (stage.Remarking deed) done act is = told_places memory r ∙ sym (asked act _ is refl)
-  places_kept (stage.AwaitingPlace stamp) done act is = told_places memory r ∙ sym (asked act _ is refl)
-  places_kept stage.Rounding done act is = told_places memory r ∙ sym (asked act _ is refl)
-  places_kept (stage.Watching place) done act is = watched_places place r memory ∙ sym (not_asked act (ap asks_places is))
-  places_kept (stage.Unwatching place) done act is = sym (not_asked act (ap asks_places is))
-  places_kept (stage.Visiting visit rest) done act is = behind_places visit (done && says_over r) memory ∙ sym (not_asked act (ap asks_places is))
-  places_kept _ done act is = sym (not_asked act is)
+  places_kept : (at : Stage) (act : Act) → Suits act at → (kept at memory r).places ≡ places_at memory.places act r
+  places_kept (stage.Placing deed) act is = told_places memory r ∙ sym (asked act _ is refl)
+  places_kept (stage.Moving word stamp) act is = told_places memory r ∙ sym (asked act _ is refl)
+  places_kept (stage.Reacting reaction) act is = told_places memory r ∙ sym (asked act _ is refl)
+  places_kept (stage.Remarking deed) act is = told_places memory r ∙ sym (asked act _ is refl)
+  places_kept (stage.AwaitingPlace stamp) act is = told_places memory r ∙ sym (asked act _ is refl)
+  places_kept stage.Rounding act is = told_places memory r ∙ sym (asked act _ is refl)
+  places_kept (stage.Watching place) act is = watched_places place r memory ∙ sym (not_asked act (ap asks_places is))
+  places_kept (stage.Unwatching place) act is = sym (not_asked act (ap asks_places is))
+  places_kept _ act is = sym (not_asked act is)
 
 -- ---- where it looks on
 
@@ -214,25 +218,47 @@ module _ (session moment : ℕ) (act : Act) (r : Reply) (memory : MemoryState) w
   looks_told : LooksOn memory.observed.rows made (told memory r).observed.rows
   looks_told = looks_same memory.observed.rows (told memory r).observed.rows made (ap (λ (l : PlaceList). l.rows) (told_keeps memory r).looks)
 
-  looks_kept : (at : Stage) (done : Bool) → Suits act at → LooksOn memory.observed.rows made (kept at done memory r).observed.rows
-  looks_kept (stage.Placing deed) done is = looks_told
-  looks_kept (stage.Moving word stamp) done is = looks_told
-  looks_kept (stage.Reacting reaction) done is = looks_told
-  looks_kept (stage.Remarking deed) done is = looks_told
-  looks_kept (stage.AwaitingPlace stamp) done is = looks_told
-  looks_kept stage.Rounding done is = looks_told
-  looks_kept (stage.Watching place) done is = looks_watched r place refl is
-  looks_kept (stage.Unwatching place) done is = looks_away place is
-  looks_kept (stage.Visiting visit rest) done is = looks_visited visit (done && says_over r) (was_told done) is
-  looks_kept _ done is = looks_same memory.observed.rows memory.observed.rows made refl
+  looks_kept : (at : Stage) → Suits act at → LooksOn memory.observed.rows made (kept at memory r).observed.rows
+  looks_kept (stage.Placing deed) is = looks_told
+  looks_kept (stage.Moving word stamp) is = looks_told
+  looks_kept (stage.Reacting reaction) is = looks_told
+  looks_kept (stage.Remarking deed) is = looks_told
+  looks_kept (stage.AwaitingPlace stamp) is = looks_told
+  looks_kept stage.Rounding is = looks_told
+  looks_kept (stage.Watching place) is = looks_watched r place refl is
+  looks_kept (stage.Unwatching place) is = looks_away place is
+  looks_kept _ is = looks_same memory.observed.rows memory.observed.rows made refl
 
   -- what it remembers behind the reply to the act at which it stands
-  pub remembers_kept : (at : Stage) (done : Bool) (after : MemoryState) → Suits act at → after ≡ kept at done memory r
+  pub remembers_kept : (at : Stage) (after : MemoryState) → Suits act at → after ≡ kept at memory r
       → has_entered after ≡ (has_entered memory || is_entered r) → Remembers memory (entry session (timed moment act) r ∷ []) after
-  remembers_kept at done after suits is inside = record {
+  remembers_kept at after suits is inside = record {
     inside = inside ∙ ap (λ (b : Bool). has_entered memory || b) (sym (or-false (is_entered r)));
-    places = ap (λ (m : MemoryState). m.places) is ∙ places_kept memory r at done act suits;
-    looks = subst (λ (m : MemoryState). LooksOn memory.observed.rows made m.observed.rows) (sym is) (looks_kept at done suits);
+    places = ap (λ (m : MemoryState). m.places) is ∙ places_kept memory r at act suits;
+    looks = subst (λ (m : MemoryState). LooksOn memory.observed.rows made m.observed.rows) (sym is) (looks_kept at suits);
+  }
+
+  -- and behind a visit
+  entered_still : (over : Bool) (visit : Visit) → has_entered (behind visit over memory) ≡ has_entered memory
+  entered_still true visit = forgets_entered visit.seat visit.desk memory
+  entered_still false visit = refl
+
+  pub remembers_visited : {T : Type 0} (visit : Visit) (result : Result T NoMemory) (after : MemoryState) → act ≡ at_game visit desk_act.Fetch
+      → after ≡ kept_behind visit result memory r → has_entered memory ≡ true → Remembers memory (entry session (timed moment act) r ∷ []) after
+  remembers_visited visit result after fetches is inside =
+      let over = is_done result && says_over r in
+      record {
+        inside = ap has_entered is ∙ entered_still over visit ∙ inside ∙ sym (ap (λ (b : Bool). b || any_entered (entry session (timed moment act) r ∷ [])) inside);
+        places = ap (λ (m : MemoryState). m.places) is ∙ behind_places visit over memory ∙ sym (not_asked memory r act (ap asks_places fetches));
+        looks = subst (λ (m : MemoryState). LooksOn memory.observed.rows made m.observed.rows) (sym is) (looks_visited visit over (was_told (is_done result)) fetches);
+      }
+
+  -- and behind an act that tells nothing of where it is
+  pub remembers_silent : asks_places act ≡ false → has_entered memory ≡ true → Remembers memory (entry session (timed moment act) r ∷ []) memory
+  remembers_silent silent inside = record {
+    inside = inside ∙ sym (ap (λ (b : Bool). b || any_entered (entry session (timed moment act) r ∷ [])) inside);
+    places = sym (not_asked memory r act silent);
+    looks = looks_same memory.observed.rows memory.observed.rows made refl;
   }
 
 -- ---- behind no entry, and behind some more

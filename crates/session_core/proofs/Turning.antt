@@ -4,7 +4,7 @@ use Rattle.std.specs.declared.option.Option.{Option}
 use Rattle.std.specs.declared.option.Option.TheVariants.{None, Some}
 use Rattle.std.proofs.lemmas.List.Elements.{All-cons, All-nil}
 use Rattle.command_words.specs.Commands.{command_in}
-use Rattle.command_words.specs.Texts.{handle_of}
+use Rattle.fics_words.specs.HandleTest.{handle_of}
 use Rattle.command_words.specs.declared.command.Command.{Command}
 use Rattle.command_words.specs.declared.command.Command.TheVariants as command
 use Rattle.fics_words.specs.declared.refusal.Refusal.{Refusal}

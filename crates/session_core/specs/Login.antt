@@ -1,7 +1,7 @@
 -- How a session comes in. This server's own.
 use Rattle.std.specs.Prelude.{ℕ, Bool, if◌then◌else◌, List, [], ◌∷◌, Option, None, Some, codes}
 use Rattle.std.specs.Str.{str_eq_ignore_ascii_case}
-use Rattle.command_words.specs.Texts.{handle_of}
+use Rattle.fics_words.specs.HandleTest.{handle_of}
 use Rattle.fics_words.specs.declared.refusal.Refusal.{Refusal}
 use Rattle.fics_words.specs.declared.refusal.Refusal.TheVariants.{BadHandle}
 use Rattle.lobby_state.specs.declared.acts.LobbyAct.TheVariants.{Enter}

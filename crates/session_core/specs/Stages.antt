@@ -16,19 +16,22 @@ use Rattle.one_server.specs.Acts.{FitsAct}
 use Rattle.session_core.specs.declared.first.First.{First}
 use Rattle.session_core.specs.declared.first.First.TheVariants as first
 use Rattle.session_core.specs.declared.next.Next.{Next}
-use Rattle.session_core.specs.declared.next.Next.TheVariants.{Ask, End}
+use Rattle.session_core.specs.declared.next.Next.TheVariants.{Ask, Visits, End}
 use Rattle.session_core.specs.declared.stage.Stage.{Stage}
 use Rattle.session_core.specs.declared.stage.Stage.TheVariants as stage
+use Rattle.session_core.specs.declared.leaving_stage.LeavingNext.{LeavingNext}
+use Rattle.session_core.specs.declared.leaving_stage.LeavingNext.TheVariants as leaving_next
 use Rattle.session_core.specs.declared.leaving_stage.LeavingStage.{LeavingStage}
 use Rattle.session_core.specs.declared.leaving_stage.LeavingStage.TheVariants as leaving_stage
 use Rattle.session_core.specs.Course.{Course, Done, Asks, Writes}
-use Rattle.session_core.specs.Memory.{MemoryState, departed, has_entered, is_gone, reader_in, stands_at, told, without_observed}
+use Rattle.session_core.specs.Memory.{MemoryState, departed, has_entered, is_gone, stands_at, told, without_observed}
 use Rattle.session_core.specs.Login.{admitted, entered_as}
 use Rattle.session_core.specs.Remembering.{asks_places}
-use Rattle.session_core.specs.Session.{acking, answered, at_game, at_place, behind, clear_at, finding, given_up, leave_games, leaving, placing, reacted, reacting, remarking}
-use Rattle.session_core.specs.Session.{moved, moving, round, rounding, says_over, shown, visits, watched, watching}
-use Rattle.session_core.specs.Texts.{news_text, waiting_text}
+use Rattle.session_core.specs.Session.{acking, answered, at_place, behind, clear_at, finding, leave_games, leaving, placing, reacted, reacting, remarking}
+use Rattle.session_core.specs.Session.{moved, moving, round, rounding, says_over, shown, watched, watching}
+use Rattle.session_core.specs.Texts.{waiting_text}
 use Rattle.session_core.specs.Visits.{visits_in}
+use Rattle.session_core.specs.declared.visit.Visit.{Visit}
 
 -- what follows the reply to the act at which the session stands
 abbrev pub continues : Stage → MemoryState → Reply → Course
@@ -46,10 +49,6 @@ continues stage.Finding memory reply = finding reply memory
 continues (stage.Watching place) memory reply = watching place reply memory
 continues (stage.Unwatching place) memory reply = answered reply (without_observed place.desk memory)
 continues stage.Rounding memory reply = Writes (waiting_text reply) (rounding (told memory reply))
-continues (stage.Visiting visit rest) memory reply =
-    Writes (news_text (reader_in memory visit.seat) reply)
-    (given_up visit (says_over reply) (visits rest (behind visit (says_over reply) memory)))
-continues (stage.Clearing rest) memory reply = visits rest memory
 continues (stage.AwaitingPlace stamp) memory reply = acking stamp (told memory reply)
 continues stage.Acking memory reply = Done memory
 
@@ -58,20 +57,23 @@ abbrev pub is_done : {T : Type 0} → Result T NoMemory → Bool
 is_done (Ok next) = true
 is_done (Err cause) = false
 
--- what the session remembers once it has that reply, and has written what stands behind it or ran out of memory: then
--- a game that is over isn't forgotten, and is still left and given up in the end
-abbrev pub kept : Stage → Bool → MemoryState → Reply → MemoryState
-kept (stage.Entering name) done memory reply = stands_at (admitted name reply) memory
-kept (stage.Placing act) done memory reply = told memory reply
-kept (stage.Moving word stamp) done memory reply = told memory reply
-kept (stage.Reacting reaction) done memory reply = told memory reply
-kept (stage.Remarking act) done memory reply = told memory reply
-kept (stage.Watching place) done memory reply = watched place reply memory
-kept (stage.Unwatching place) done memory reply = without_observed place.desk memory
-kept stage.Rounding done memory reply = told memory reply
-kept (stage.Visiting visit rest) done memory reply = behind visit (done && says_over reply) memory
-kept (stage.AwaitingPlace stamp) done memory reply = told memory reply
-kept _ done memory reply = memory
+-- what the session remembers once it has that reply, whether it has written what stands behind it or ran out of memory
+abbrev pub kept : Stage → MemoryState → Reply → MemoryState
+kept (stage.Entering name) memory reply = stands_at (admitted name reply) memory
+kept (stage.Placing act) memory reply = told memory reply
+kept (stage.Moving word stamp) memory reply = told memory reply
+kept (stage.Reacting reaction) memory reply = told memory reply
+kept (stage.Remarking act) memory reply = told memory reply
+kept (stage.Watching place) memory reply = watched place reply memory
+kept (stage.Unwatching place) memory reply = without_observed place.desk memory
+kept stage.Rounding memory reply = told memory reply
+kept (stage.AwaitingPlace stamp) memory reply = told memory reply
+kept _ memory reply = memory
+
+-- and behind a visit: where it ran out of memory a game that is over isn't forgotten, and is still left and given up in
+-- the end
+abbrev pub kept_behind : {T : Type 0} → Visit → Result T NoMemory → MemoryState → Reply → MemoryState
+kept_behind visit result memory reply = behind visit (is_done result && says_over reply) memory
 
 -- what follows when it leaves
 abbrev pub leaves : LeavingStage → MemoryState → Reply → Course
@@ -80,29 +82,34 @@ leaves (leaving_stage.Leaving visit rest) memory reply = Asks (clear_at visit) (
 leaves (leaving_stage.Clearing rest) memory reply = leave_games rest memory
 leaves leaving_stage.Gone memory reply = Done (departed memory)
 
--- the course of what comes next: an act, and what follows its reply by what the session remembers; or the end
-abbrev pub course_of : {S : Type 0} → (S → MemoryState → Reply → Course) → Next S → MemoryState → Course
-course_of follows (Ask act at) memory = Asks act (follows at memory)
-course_of follows End memory = Done memory
+-- the course of what comes next: an act, and what follows its reply by what the session remembers; the visits; or the
+-- end
+abbrev pub course_of : Next → MemoryState → Course
+course_of (Ask act at) memory = Asks act (continues at memory)
+course_of Visits memory = rounding memory
+course_of End memory = Done memory
 
--- how many acts may still follow the reply
+-- and as it leaves
+abbrev pub leaving_of : LeavingNext → MemoryState → Course
+leaving_of (leaving_next.Ask act at) memory = Asks act (leaves at memory)
+leaving_of leaving_next.End memory = Done memory
+
+-- how many acts may still follow the reply before the visits
 abbrev pub acts_after : Stage → ℕ
 acts_after (stage.Entering name) = 0
-acts_after (stage.Placing act) = 131
-acts_after (stage.Moving word stamp) = 132
-acts_after (stage.Moved seat) = 131
-acts_after stage.Turning = 130
-acts_after (stage.Reacting reaction) = 132
-acts_after (stage.Reacted reaction) = 131
-acts_after (stage.Remarking act) = 131
-acts_after stage.Finding = 131
-acts_after (stage.Watching place) = 130
-acts_after (stage.Unwatching place) = 130
-acts_after (stage.Showing seat) = 130
-acts_after stage.Answering = 130
-acts_after stage.Rounding = 129
-acts_after (stage.Visiting visit rest) = 2 * length rest + 1
-acts_after (stage.Clearing rest) = 2 * length rest
+acts_after (stage.Placing act) = 2
+acts_after (stage.Moving word stamp) = 3
+acts_after (stage.Moved seat) = 2
+acts_after stage.Turning = 1
+acts_after (stage.Reacting reaction) = 3
+acts_after (stage.Reacted reaction) = 2
+acts_after (stage.Remarking act) = 2
+acts_after stage.Finding = 2
+acts_after (stage.Watching place) = 1
+acts_after (stage.Unwatching place) = 1
+acts_after (stage.Showing seat) = 1
+acts_after stage.Answering = 1
+acts_after stage.Rounding = 0
 acts_after (stage.AwaitingPlace stamp) = 1
 acts_after stage.Acking = 0
 
@@ -112,10 +119,14 @@ acts_of_leaving (leaving_stage.Leaving visit rest) = 2 * length rest + 2
 acts_of_leaving (leaving_stage.Clearing rest) = 2 * length rest + 1
 acts_of_leaving leaving_stage.Gone = 0
 
--- how many acts are still to be made
-abbrev pub acts_left : {S : Type 0} → (S → ℕ) → Next S → ℕ
-acts_left after (Ask act at) = after at + 1
-acts_left after End = 0
+-- how many acts are still to be made before the visits, or before the member is gone
+abbrev pub acts_left : Next → ℕ
+acts_left (Ask act at) = acts_after at + 1
+acts_left _ = 0
+
+abbrev pub acts_to_leave : LeavingNext → ℕ
+acts_to_leave (leaving_next.Ask act at) = acts_of_leaving at + 1
+acts_to_leave leaving_next.End = 0
 
 -- the stamp of a line, where there is one, is below 10,000,000
 abbrev pub FitsStamp : Option ℕ → Type 0
@@ -140,7 +151,6 @@ IsSet memory (stage.Placing act) = (has_entered memory ≡ true) × FitsDeskAct 
 IsSet memory (stage.Moving word stamp) = (has_entered memory ≡ true) × FitsStamp stamp
 IsSet memory (stage.Remarking act) = (has_entered memory ≡ true) × FitsDeskAct act
 IsSet memory (stage.Watching place) = (has_entered memory ≡ true) × IsDesk place.desk
-IsSet memory (stage.Visiting visit rest) = (has_entered memory ≡ true) × IsDesk visit.desk
 IsSet memory (stage.AwaitingPlace stamp) = (has_entered memory ≡ true) × IsStamp stamp
 IsSet memory _ = has_entered memory ≡ true
 
@@ -153,28 +163,28 @@ Suits act (stage.Remarking deed) = act ≡ Lobby lobby_act.Where
 Suits act (stage.Watching place) = act ≡ at_place place desk_act.Watch
 Suits act (stage.Unwatching place) = act ≡ at_place place desk_act.Unwatch
 Suits act stage.Rounding = act ≡ Lobby lobby_act.Fetch
-Suits act (stage.Visiting visit rest) = act ≡ at_game visit desk_act.Fetch
 Suits act (stage.AwaitingPlace stamp) = act ≡ Lobby lobby_act.Where
 Suits act _ = asks_places act ≡ false
 
 -- an act may be made at its stage, by a session that remembers this
-abbrev pub IsPosed : MemoryState → Next Stage → Type 0
+abbrev pub IsPosed : MemoryState → Next → Type 0
 IsPosed memory (Ask act at) = FitsAct act × IsSet memory at × Suits act at
+IsPosed memory Visits = has_entered memory ≡ true
 IsPosed memory End = Unit {0}
 
 abbrev pub LeavesDesk : LeavingStage → Type 0
 LeavesDesk (leaving_stage.Leaving visit rest) = IsDesk visit.desk
 LeavesDesk _ = Unit {0}
 
--- the next act may be made
-abbrev pub IsReady : {S : Type 0} → (S → Type 0) → Next S → Type 0
-IsReady stands (Ask act at) = FitsAct act × stands at
-IsReady stands End = Unit {0}
+-- the next act of leaving may be made
+abbrev pub MayLeave : LeavingNext → Type 0
+MayLeave (leaving_next.Ask act at) = FitsAct act × LeavesDesk at
+MayLeave leaving_next.End = Unit {0}
 
 -- the course of what comes first
 abbrev pub first_course : First → MemoryState → Course
 first_course first.Leaving memory = leaving memory
-first_course (first.Going next) memory = course_of continues next memory
+first_course (first.Going next) memory = course_of next memory
 
 -- and it may be made, by a session that has entered where it leaves
 abbrev pub IsPrepared : MemoryState → First → Type 0
@@ -182,9 +192,9 @@ IsPrepared memory first.Leaving = has_entered memory ≡ true
 IsPrepared memory (first.Going next) = IsPosed memory next
 
 -- where nothing more is to be made, the session has left
-abbrev pub HasGone : {S : Type 0} → Next S → MemoryState → Type 0
-HasGone (Ask act at) memory = Unit {0}
-HasGone End memory = is_gone memory ≡ true
+abbrev pub HasGone : LeavingNext → MemoryState → Type 0
+HasGone (leaving_next.Ask act at) memory = Unit {0}
+HasGone leaving_next.End memory = is_gone memory ≡ true
 
 -- a text with what a course writes before its next act or its end
 abbrev pub onto : List ℕ → Course → List ℕ

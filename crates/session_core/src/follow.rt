@@ -8,6 +8,7 @@ ghost use Rattle.session_core.specs.Stages.{IsPosed, IsSet, Suits, acts_after, a
 use crate::next::Next;
 use crate::session_memory::Memory;
 use crate::stage::Stage;
+use crate::visiting::visit_all;
 use fics_words::NoMemory;
 use one_server::{Act, Runner};
 use std::alloc::Global;
@@ -20,15 +21,15 @@ pub(crate) fn follow<R: Runner>(
     r: &mut R,
     moment: u64,
     memory: &mut Memory,
-    first: Next<Stage>,
+    first: Next,
     out: &mut Vec<u8>,
 ) -> Result<(), NoMemory>
     requires moment { moment ≤ 2 ^ 48 }
     requires ready { IsPosed memory.old first }
     ensures home { R.home r.new ≡ R.home r.old }
-    ensures followed { OnOk result (Answered (course_of continues first memory.old) (λ text. text) moment
+    ensures followed { OnOk result (Answered (course_of first memory.old) (λ text. text) moment
         (R.state r.old) out.old.items (R.state r.new) out.new.items memory.new) }
-    ensures so_far { BrokeOff (course_of continues first memory.old) moment (R.state r.old) memory.old
+    ensures so_far { BrokeOff (course_of first memory.old) moment (R.state r.old) memory.old
         (R.state r.new) memory.new }
 {
     // What is known of every runner is known from here on.
@@ -37,6 +38,7 @@ pub(crate) fn follow<R: Runner>(
     loop {
         match next {
             Next::End => return Ok(()),
+            Next::Visits => return visit_all(alloc, r, moment, memory, out),
             Next::Ask(act, stage) => next = ask(alloc, r, moment, memory, act, stage, out)?,
         }
     }
@@ -51,19 +53,19 @@ fn ask<R: Runner>(
     act: Act,
     stage: Stage,
     out: &mut Vec<u8>,
-) -> Result<Next<Stage>, NoMemory>
+) -> Result<Next, NoMemory>
     requires moment { moment ≤ 2 ^ 48 }
     requires fits { FitsAct act }
     requires set { IsSet memory.old stage }
     requires suits { Suits act stage }
     ensures home { R.home r.new ≡ R.home r.old }
     ensures went { IfOk result (λ next. WentOn (Asks act (continues stage memory.old))
-        (course_of continues next memory.new) moment (R.state r.old) memory.old out.old.items
+        (course_of next memory.new) moment (R.state r.old) memory.old out.old.items
         (R.state r.new) memory.new out.new.items) }
     ensures broke { OnErr result (BrokeOff (Asks act (continues stage memory.old)) moment (R.state r.old) memory.old
         (R.state r.new) memory.new) }
     ensures ready { IfOk result (IsPosed memory.new) }
-    ensures fewer { IfOk result (λ next. acts_left acts_after next ≤ acts_after stage) }
+    ensures fewer { IfOk result (λ next. acts_left next ≤ acts_after stage) }
 {
     let reply = r.run(alloc, moment, act)?;
     stage.next(memory, &reply, out)

@@ -5,11 +5,10 @@ ghost use Rattle.session_core.specs.Course.{Asks, nothing_told};
 ghost use Rattle.session_core.specs.Going.{Left, LeftInPart, Passed, Went};
 ghost use Rattle.session_core.specs.Memory.{is_gone};
 ghost use Rattle.session_core.specs.Session.{leaving};
-ghost use Rattle.session_core.specs.Stages.{HasGone, IsReady, LeavesDesk, acts_left, acts_of_leaving};
-ghost use Rattle.session_core.specs.Stages.{course_of, leaves};
+ghost use Rattle.session_core.specs.Stages.{HasGone, LeavesDesk, MayLeave, acts_of_leaving, acts_to_leave};
+ghost use Rattle.session_core.specs.Stages.{leaves, leaving_of};
 
-use crate::leaving_stage::{LeavingStage, ask_going};
-use crate::next::Next;
+use crate::leaving_stage::{LeavingNext, LeavingStage, ask_going};
 use crate::session_memory::Memory;
 use fics_words::NoMemory;
 use lobby_state::LobbyReply;
@@ -39,8 +38,8 @@ pub(crate) fn leave<R: Runner>(
     let mut next = ask_going();
     loop {
         match next {
-            Next::End => return all,
-            Next::Ask(act, stage) => {
+            LeavingNext::End => return all,
+            LeavingNext::Ask(act, stage) => {
                 let (done, then) = ask_or_pass(alloc, r, moment, memory, act, stage);
                 all = all.and(done);
                 next = then;
@@ -57,18 +56,18 @@ fn ask_or_pass<R: Runner>(
     memory: &mut Memory,
     act: Act,
     stage: LeavingStage,
-) -> (Result<(), NoMemory>, Next<LeavingStage>)
+) -> (Result<(), NoMemory>, LeavingNext)
     requires moment { moment ≤ 2 ^ 48 }
     requires fits { FitsAct act }
     requires desk { LeavesDesk stage }
     ensures home { R.home r.new ≡ R.home r.old }
     ensures went { OnOk result.0
-        (Went (Asks act (leaves stage memory.old)) (course_of leaves result.1 memory.new) moment
+        (Went (Asks act (leaves stage memory.old)) (leaving_of result.1 memory.new) moment
         (R.state r.old) [] (R.state r.new) []) }
-    ensures passed { Passed (Asks act (leaves stage memory.old)) (course_of leaves result.1 memory.new) moment
+    ensures passed { Passed (Asks act (leaves stage memory.old)) (leaving_of result.1 memory.new) moment
         (R.state r.old) (R.state r.new) }
-    ensures ready { IsReady LeavesDesk result.1 }
-    ensures fewer { acts_left acts_of_leaving result.1 ≤ acts_of_leaving stage }
+    ensures ready { MayLeave result.1 }
+    ensures fewer { acts_to_leave result.1 ≤ acts_of_leaving stage }
     ensures gone { HasGone result.1 memory.new }
 {
     match r.run(alloc, moment, act) {

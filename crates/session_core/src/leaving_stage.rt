@@ -2,14 +2,12 @@
 ghost use Rattle.std.specs.Prelude.{◌≡◌, ◌≤◌, ◌*◌, ◌+◌, length};
 ghost use Rattle.session_core.specs.Memory.{MemoryState};
 ghost use Rattle.session_core.specs.Session.{leave_games};
-ghost use Rattle.session_core.specs.Stages.{HasGone, IsReady, LeavesDesk, acts_left, acts_of_leaving};
-ghost use Rattle.session_core.specs.Stages.{course_of, leaves};
+ghost use Rattle.session_core.specs.Stages.{HasGone, LeavesDesk, MayLeave, acts_of_leaving, acts_to_leave};
+ghost use Rattle.session_core.specs.Stages.{leaves, leaving_of};
 
-use crate::next::Next;
 use crate::rest::Rest;
 use crate::session_memory::Memory;
-use crate::stage::{at_game, clear_at};
-use crate::visit::Visit;
+use crate::visit::{Visit, at_game, clear_at};
 use linked_desk::DeskAct;
 use lobby_state::LobbyAct;
 use one_server::{Act, Reply};
@@ -27,13 +25,20 @@ pub(crate) enum LeavingStage {
     Gone,
 }
 
+/// What comes next: an act of leaving, and the stage at which its reply is awaited; or nothing more.
+#[derive(Drop)]
+pub(crate) enum LeavingNext {
+    Ask(Act, LeavingStage),
+    End,
+}
+
 impl LeavingStage {
     /// Goes on by the reply to the next act or the end.
-    pub(crate) fn next(self, memory: &mut Memory, reply: &Reply) -> Next<LeavingStage>
+    pub(crate) fn next(self, memory: &mut Memory, reply: &Reply) -> LeavingNext
         requires { LeavesDesk self }
-        ensures goes { course_of leaves result memory.new ≡ leaves self memory.old reply.now }
-        ensures ready { IsReady LeavesDesk result }
-        ensures fewer { acts_left acts_of_leaving result ≤ acts_of_leaving self }
+        ensures goes { leaving_of result memory.new ≡ leaves self memory.old reply.now }
+        ensures ready { MayLeave result }
+        ensures fewer { acts_to_leave result ≤ acts_of_leaving self }
         ensures gone { HasGone result memory.new }
     {
         match self {
@@ -42,38 +47,37 @@ impl LeavingStage {
                 leave_next(memory.visits())
             }
             LeavingStage::Leaving(visit, rest) => {
-                Next::Ask(clear_at(&visit), LeavingStage::Clearing(rest))
+                LeavingNext::Ask(clear_at(&visit), LeavingStage::Clearing(rest))
             }
             LeavingStage::Clearing(rest) => leave_next(rest),
             LeavingStage::Gone => {
                 memory.depart();
-                Next::End
+                LeavingNext::End
             }
         }
     }
 }
 
 /// The act that begins to leave.
-pub(crate) fn ask_going() -> Next<LeavingStage>
-    ensures { result ≡ Next.Ask (Act.Lobby LobbyAct.Going) LeavingStage.Going }
+pub(crate) fn ask_going() -> LeavingNext
+    ensures { result ≡ LeavingNext.Ask (Act.Lobby LobbyAct.Going) LeavingStage.Going }
 {
-    Next::Ask(Act::Lobby(LobbyAct::Going), LeavingStage::Going)
+    LeavingNext::Ask(Act::Lobby(LobbyAct::Going), LeavingStage::Going)
 }
 
 /// The act that leaves the first of these games; behind the last one the member is gone.
-fn leave_next(rest: Rest) -> Next<LeavingStage>
-    ensures goes { (memory : MemoryState) → course_of leaves result memory ≡ leave_games rest memory }
-    ensures ready { IsReady LeavesDesk result }
-    ensures fewer { acts_left acts_of_leaving result ≤ 2 * length rest + 1 }
+fn leave_next(rest: Rest) -> LeavingNext
+    ensures goes { (memory : MemoryState) → leaving_of result memory ≡ leave_games rest memory }
+    ensures ready { MayLeave result }
+    ensures fewer { acts_to_leave result ≤ 2 * length rest + 1 }
     ensures gone { (memory : MemoryState) → HasGone result memory }
 {
+    let mut rest = rest;
     match rest.pop() {
-        None => Next::Ask(Act::Lobby(LobbyAct::Bye), LeavingStage::Gone),
-        Some((visit, rest)) => {
-            Next::Ask(
-                at_game(&visit, DeskAct::Leave),
-                LeavingStage::Leaving(visit, rest),
-            )
+        None => LeavingNext::Ask(Act::Lobby(LobbyAct::Bye), LeavingStage::Gone),
+        Some(visit) => {
+            let act = at_game(&visit, DeskAct::Leave);
+            LeavingNext::Ask(act, LeavingStage::Leaving(visit, rest))
         }
     }
 }

@@ -2,9 +2,11 @@
 //!
 //! What comes is an input. A session's course says which acts it makes for an input and what it writes: the next act
 //! follows from the input, from what the session remembers and from the replies to the acts before it, and so does the
-//! text. All that a session decides is in its stages, a machine without a server: what stands between an act and its
-//! reply, and what comes next. One loop drives it, and one more when it leaves. The contract: `take` and `leave` make
-//! exactly the acts of the course, in order, and `take` appends exactly its text, whoever runs the acts.
+//! text. What a session decides up to the visits of a round, and as it leaves, is in its stages, machines without a
+//! server: what stands between an act and its reply, and what comes next. One loop drives a course; a second one visits
+//! the games of a round, as the session knew them when the visits began, and gives up those that are over; a third one
+//! drives leaving. The contract: `take` and `leave` make exactly the acts of the course, in order, and `take` appends
+//! exactly its text, whoever runs the acts.
 #![tactic(auto)]
 
 mod begin;
@@ -31,6 +33,7 @@ mod standing;
 mod taking;
 mod texts;
 mod visit;
+mod visiting;
 mod watching;
 
 pub use framing::Framing;

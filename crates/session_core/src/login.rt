@@ -1,11 +1,11 @@
 //! How a session comes in.
 ghost use Rattle.std.specs.Prelude.{◌≡◌, IfOk, None, Some, false};
-ghost use Rattle.command_words.specs.Texts.{handle_of};
+ghost use Rattle.fics_words.specs.HandleTest.{handle_of};
 ghost use Rattle.session_core.specs.Remembering.{is_entered};
 ghost use Rattle.session_core.specs.Login.{admitted, entered_as, entering_named, is_guest, naming};
 ghost use Rattle.session_core.specs.Login.{password_of, proving, turned_away};
 ghost use Rattle.session_core.specs.Memory.{has_entered, is_in, stands_at};
-ghost use Rattle.session_core.specs.Stages.{IsPrepared, Settles, continues, course_of, first_course};
+ghost use Rattle.session_core.specs.Stages.{IsPrepared, Settles, course_of, first_course};
 
 use crate::first::First;
 use crate::next::Next;
@@ -81,7 +81,7 @@ pub(crate) fn take_password(memory: &Memory, name: Handle, text: &[u8]) -> First
 }
 
 /// The act that asks to enter under this name, or as a guest.
-fn ask_to_enter(name: &Option<Handle>, digest: Option<Digest>) -> Next<Stage>
+fn ask_to_enter(name: &Option<Handle>, digest: Option<Digest>) -> Next
     ensures { result ≡ Next.Ask (Act.Lobby (LobbyAct.Enter name.now digest)) (Stage.Entering name.now) }
 {
     let act = Act::Lobby(LobbyAct::Enter {
@@ -116,9 +116,9 @@ pub(crate) fn entered(
     memory: &mut Memory,
     reply: &Reply,
     out: &mut Vec<u8>,
-) -> Result<Next<Stage>, NoMemory>
+) -> Result<Next, NoMemory>
     ensures settles { IfOk result (λ next. Settles (entered_as name reply.now memory.old)
-        (course_of continues next memory.new) out.old.items out.new.items) }
+        (course_of next memory.new) out.old.items out.new.items) }
     ensures end { IfOk result (λ next. next ≡ Next.End) }
     ensures after { memory.new ≡ stands_at (admitted name reply.now) memory.old }
     ensures inside { has_entered memory.new ≡ is_entered reply.now }

@@ -3,8 +3,8 @@ ghost use Rattle.std.specs.Prelude.{◌≡◌, ◌≤◌, IfOk, true};
 ghost use Rattle.one_server.specs.Replies.{IsReply};
 ghost use Rattle.session_core.specs.Memory.{MemoryState, has_entered, told};
 ghost use Rattle.session_core.specs.Session.{is_accepted, moved, moving, to_move, turns};
-ghost use Rattle.session_core.specs.Stages.{FitsStamp, IsPosed, IsPrepared, Settles, acts_after, acts_left};
-ghost use Rattle.session_core.specs.Stages.{continues, course_of, first_course};
+ghost use Rattle.session_core.specs.Stages.{FitsStamp, IsPosed, IsPrepared, Settles, acts_left};
+ghost use Rattle.session_core.specs.Stages.{course_of, first_course};
 
 use crate::first::First;
 use crate::next::Next;
@@ -34,13 +34,13 @@ pub(crate) fn moving(
     memory: &mut Memory,
     reply: &Reply,
     out: &mut Vec<u8>,
-) -> Result<Next<Stage>, NoMemory>
+) -> Result<Next, NoMemory>
     requires inside { has_entered memory.old ≡ true }
     requires stamp { FitsStamp stamp }
     ensures settles { IfOk result (λ next. Settles (moving word stamp (told memory.old reply.now))
-        (course_of continues next memory.new) out.old.items out.new.items) }
+        (course_of next memory.new) out.old.items out.new.items) }
     ensures ready { IfOk result (IsPosed memory.new) }
-    ensures fewer { IfOk result (λ next. acts_left acts_after next ≤ 132) }
+    ensures fewer { IfOk result (λ next. acts_left next ≤ 3) }
     ensures after { memory.new ≡ told memory.old reply.now }
     ensures stands { memory.new.standing ≡ memory.old.standing }
 {
@@ -60,13 +60,13 @@ pub(crate) fn moved(
     memory: &mut Memory,
     reply: &Reply,
     out: &mut Vec<u8>,
-) -> Result<Next<Stage>, NoMemory>
+) -> Result<Next, NoMemory>
     requires inside { has_entered memory.old ≡ true }
     requires fits { IsReply reply.now }
     ensures settles { IfOk result (λ next. Settles (moved seat reply.now memory.old)
-        (course_of continues next memory.new) out.old.items out.new.items) }
+        (course_of next memory.new) out.old.items out.new.items) }
     ensures ready { IfOk result (IsPosed memory.new) }
-    ensures fewer { IfOk result (λ next. acts_left acts_after next ≤ 131) }
+    ensures fewer { IfOk result (λ next. acts_left next ≤ 2) }
     ensures after { memory.new ≡ memory.old }
     ensures stands { memory.new.standing ≡ memory.old.standing }
 {

@@ -26,12 +26,15 @@ impl Model for PlacesLeft {
 
 impl PlacesLeft {
     /// All of these places.
-    pub(crate) fn all(places: Places) -> PlacesLeft
-        ensures places { result ≡ places.rows }
-        ensures most { length places.rows ≤ 32 }
+    pub(crate) fn all(places: &Places) -> PlacesLeft
+        ensures places { result ≡ places.now.rows }
+        ensures most { length places.now.rows ≤ 32 }
     {
         let _rows = places.rows();
-        PlacesLeft { places, taken: 0 }
+        PlacesLeft {
+            places: *places,
+            taken: 0,
+        }
     }
 
     /// Takes the first place; none where there is no place left.

@@ -28,9 +28,9 @@ impl Model for Rest {
 
 impl Rest {
     /// The games of all of these places, and all at which the session looks on.
-    pub(crate) fn all(places: Places, observed: Places) -> Rest
-        ensures visits { result ≡ all_visits places.rows observed.rows }
-        ensures most { length (all_visits places.rows observed.rows) ≤ 64 }
+    pub(crate) fn all(places: &Places, observed: &Places) -> Rest
+        ensures visits { result ≡ all_visits places.now.rows observed.now.rows }
+        ensures most { length (all_visits places.now.rows observed.now.rows) ≤ 64 }
     {
         Rest {
             places: PlacesLeft::all(places),
@@ -38,20 +38,17 @@ impl Rest {
         }
     }
 
-    /// The first game and the games behind it; none where there is no game left.
-    pub(crate) fn pop(self) -> Option<(Visit, Rest)>
-        ensures first { MatchOption result (self ≡ []) (λ next. self ≡ next.0 ∷ next.1) }
-        ensures desk { IfSome result (λ next. IsDesk next.0.desk) }
+    /// Takes the first game; none where there is no game left.
+    pub(crate) fn pop(&mut self) -> Option<Visit>
+        ensures first { MatchOption result (self.old ≡ []) (λ visit. self.old ≡ visit ∷ self.new) }
+        ensures desk { IfSome result (λ visit. IsDesk visit.desk) }
     {
-        let Rest { places, observed } = self;
-        let mut places = places;
-        let mut observed = observed;
-        if let Some(place) = places.pop() {
-            return Some((playing(&place), Rest { places, observed }));
+        if let Some(place) = self.places.pop() {
+            return Some(playing(&place));
         }
-        if let Some(place) = observed.pop() {
-            return Some((looking(&place), Rest { places, observed }));
+        match self.observed.pop() {
+            Some(place) => Some(looking(&place)),
+            None => None,
         }
-        None
     }
 }

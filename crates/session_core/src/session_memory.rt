@@ -190,7 +190,7 @@ impl Memory {
         ensures visits { result ≡ visits_in self.now }
         ensures most { length (visits_in self.now) ≤ 64 }
     {
-        Rest::all(self.places, self.observed)
+        Rest::all(&self.places, &self.observed)
     }
 
     /// For whom the items of a game are written that the session plays at this seat, or at which it looks on.

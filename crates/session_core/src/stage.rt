@@ -1,32 +1,30 @@
-//! The stages of a session: all that it decides between an act and its reply.
-ghost use Rattle.std.specs.Prelude.{◌≡◌, ◌≤◌, ◌*◌, ◌+◌, ◌&&◌, ◌||◌, true, IfOk, Some, length};
+//! The stages of a session: all that it decides between an act and its reply, up to the visits of a round.
+ghost use Rattle.std.specs.Prelude.{◌≡◌, ◌≤◌, ◌||◌, true, IfOk, Some};
 ghost use Rattle.clock_ledger.specs.Span.{IsStamp};
 ghost use Rattle.linked_desk.specs.Acts.{FitsDeskAct};
-ghost use Rattle.lobby_state.specs.Desks.{IsDesk};
 ghost use Rattle.one_server.specs.Replies.{IsReply};
 ghost use Rattle.session_core.specs.Course.{Writes};
 ghost use Rattle.session_core.specs.Remembering.{is_entered};
-ghost use Rattle.session_core.specs.Memory.{MemoryState, has_entered, told, reader_in, without_observed};
-ghost use Rattle.session_core.specs.Session.{acking, answered, at_place, clear_at, given_up, at_game, behind, forgets};
-ghost use Rattle.session_core.specs.Session.{placing, reacted, reacting, rounding, says_over, visits, remarking, shown};
+ghost use Rattle.session_core.specs.Memory.{has_entered, told, without_observed};
+ghost use Rattle.session_core.specs.Session.{acking, answered, at_place};
+ghost use Rattle.session_core.specs.Session.{placing, reacted, reacting, rounding, remarking, shown};
 ghost use Rattle.session_core.specs.Stages.{IsPosed, IsSet, Settles, acts_after, acts_left, continues};
-ghost use Rattle.session_core.specs.Stages.{course_of, is_done, kept};
-ghost use Rattle.session_core.specs.Texts.{news_text, waiting_text};
+ghost use Rattle.session_core.specs.Stages.{course_of, kept};
+ghost use Rattle.session_core.specs.Texts.{waiting_text};
 
 use crate::login::entered;
 use crate::moves::{moved, moving};
 use crate::next::Next;
 use crate::reaction::{Reaction, in_lobby, of_desk, says_no_offer};
-use crate::rest::Rest;
 use crate::session_memory::Memory;
-use crate::texts::{put_news, put_refusal, put_reply, put_shown, put_waiting};
-use crate::visit::Visit;
+use crate::texts::{put_refusal, put_reply, put_shown, put_waiting};
 use crate::watching::{found, watched};
 use chess_model::MoveWord;
 use fics_words::{Handle, NoMemory, Refusal};
-use linked_desk::{DeskAct, DeskReply};
-use lobby_state::{LobbyAct, PairAct, Place};
+use linked_desk::DeskAct;
+use lobby_state::{LobbyAct, Place};
 use one_server::{Act, Reply};
+use std::mem::size_of;
 
 /// What stands between an act that an input makes and its reply.
 #[derive(Drop)]
@@ -59,15 +57,14 @@ pub(crate) enum Stage {
     Unwatching(Place),
     /// The lobby is asked for what is new.
     Rounding,
-    /// A game is asked for its news, and these games come next.
-    Visiting(Visit, Rest),
-    /// A game is given up, and these games come next.
-    Clearing(Rest),
     /// The lobby is asked for the present place, for an acknowledgement with this stamp.
     AwaitingPlace(u32),
     /// An acknowledgement is made, and nothing follows.
     Acking,
 }
+
+// A stage is moved from each act to the next.
+const _: () = prove!(size_of::<Stage>() <= 64);
 
 impl Stage {
     /// Goes on by the reply: what follows it is written, up to the next act or the end.
@@ -76,14 +73,14 @@ impl Stage {
         memory: &mut Memory,
         reply: &Reply,
         out: &mut Vec<u8>,
-    ) -> Result<Next<Stage>, NoMemory>
+    ) -> Result<Next, NoMemory>
         requires set { IsSet memory.old self }
         requires fits { IsReply reply.now }
         ensures settles { IfOk result (λ next. Settles (continues self memory.old reply.now)
-            (course_of continues next memory.new) out.old.items out.new.items) }
+            (course_of next memory.new) out.old.items out.new.items) }
         ensures ready { IfOk result (IsPosed memory.new) }
-        ensures fewer { IfOk result (λ next. acts_left acts_after next ≤ acts_after self) }
-        ensures after { memory.new ≡ kept self (is_done result) memory.old reply.now }
+        ensures fewer { IfOk result (λ next. acts_left next ≤ acts_after self) }
+        ensures after { memory.new ≡ kept self memory.old reply.now }
         ensures inside { has_entered memory.new ≡ (has_entered memory.old || is_entered reply.now) }
     {
         match self {
@@ -101,8 +98,6 @@ impl Stage {
             Stage::Finding => found(memory, reply, out),
             Stage::Watching(place) => watched(place, memory, reply, out),
             Stage::Unwatching(place) => unwatched(place.desk, memory, reply, out),
-            Stage::Visiting(visit, rest) => visited(&visit, rest, memory, reply, out),
-            Stage::Clearing(rest) => Ok(visit_next(rest)),
             Stage::AwaitingPlace(stamp) => Ok(acking(stamp, memory, reply)),
             Stage::Acking => Ok(Next::End),
         }
@@ -115,13 +110,13 @@ fn placed(
     memory: &mut Memory,
     reply: &Reply,
     out: &mut Vec<u8>,
-) -> Result<Next<Stage>, NoMemory>
+) -> Result<Next, NoMemory>
     requires inside { has_entered memory.old ≡ true }
     requires act { FitsDeskAct act }
     ensures settles { IfOk result (λ next. Settles (placing act (told memory.old reply.now))
-        (course_of continues next memory.new) out.old.items out.new.items) }
+        (course_of next memory.new) out.old.items out.new.items) }
     ensures ready { IfOk result (IsPosed memory.new) }
-    ensures fewer { IfOk result (λ next. acts_left acts_after next ≤ 131) }
+    ensures fewer { IfOk result (λ next. acts_left next ≤ 2) }
     ensures after { memory.new ≡ told memory.old reply.now }
     ensures stands { memory.new.standing ≡ memory.old.standing }
 {
@@ -140,13 +135,13 @@ fn remarked(
     memory: &mut Memory,
     reply: &Reply,
     out: &mut Vec<u8>,
-) -> Result<Next<Stage>, NoMemory>
+) -> Result<Next, NoMemory>
     requires inside { has_entered memory.old ≡ true }
     requires act { FitsDeskAct act }
     ensures settles { IfOk result (λ next. Settles (remarking act (told memory.old reply.now))
-        (course_of continues next memory.new) out.old.items out.new.items) }
+        (course_of next memory.new) out.old.items out.new.items) }
     ensures ready { IfOk result (IsPosed memory.new) }
-    ensures fewer { IfOk result (λ next. acts_left acts_after next ≤ 131) }
+    ensures fewer { IfOk result (λ next. acts_left next ≤ 2) }
     ensures after { memory.new ≡ told memory.old reply.now }
     ensures stands { memory.new.standing ≡ memory.old.standing }
 {
@@ -164,13 +159,13 @@ fn shown(
     memory: &mut Memory,
     reply: &Reply,
     out: &mut Vec<u8>,
-) -> Result<Next<Stage>, NoMemory>
+) -> Result<Next, NoMemory>
     requires inside { has_entered memory.old ≡ true }
     requires fits { IsReply reply.now }
     ensures settles { IfOk result (λ next. Settles (shown (Some seat) reply.now memory.old)
-        (course_of continues next memory.new) out.old.items out.new.items) }
+        (course_of next memory.new) out.old.items out.new.items) }
     ensures ready { IfOk result (IsPosed memory.new) }
-    ensures fewer { IfOk result (λ next. acts_left acts_after next ≤ 130) }
+    ensures fewer { IfOk result (λ next. acts_left next ≤ 1) }
     ensures after { memory.new ≡ memory.old }
     ensures stands { memory.new.standing ≡ memory.old.standing }
 {
@@ -184,12 +179,12 @@ fn unwatched(
     memory: &mut Memory,
     reply: &Reply,
     out: &mut Vec<u8>,
-) -> Result<Next<Stage>, NoMemory>
+) -> Result<Next, NoMemory>
     requires inside { has_entered memory.old ≡ true }
     ensures settles { IfOk result (λ next. Settles (answered reply.now (without_observed desk memory.old))
-        (course_of continues next memory.new) out.old.items out.new.items) }
+        (course_of next memory.new) out.old.items out.new.items) }
     ensures ready { IfOk result (IsPosed memory.new) }
-    ensures fewer { IfOk result (λ next. acts_left acts_after next ≤ 130) }
+    ensures fewer { IfOk result (λ next. acts_left next ≤ 1) }
     ensures after { memory.new ≡ without_observed desk memory.old }
     ensures stands { memory.new.standing ≡ memory.old.standing }
 {
@@ -198,11 +193,11 @@ fn unwatched(
 }
 
 /// The lobby has told the places: the desk of the present one is asked first, and without a place the lobby alone.
-fn reacting(reaction: Reaction, memory: &mut Memory, reply: &Reply) -> Next<Stage>
+fn reacting(reaction: Reaction, memory: &mut Memory, reply: &Reply) -> Next
     requires inside { has_entered memory.old ≡ true }
-    ensures goes { course_of continues result memory.new ≡ reacting reaction (told memory.old reply.now) }
+    ensures goes { course_of result memory.new ≡ reacting reaction (told memory.old reply.now) }
     ensures ready { IsPosed memory.new result }
-    ensures fewer { acts_left acts_after result ≤ 132 }
+    ensures fewer { acts_left result ≤ 3 }
     ensures after { memory.new ≡ told memory.old reply.now }
     ensures stands { memory.new.standing ≡ memory.old.standing }
 {
@@ -223,12 +218,12 @@ fn reacted(
     memory: &mut Memory,
     reply: &Reply,
     out: &mut Vec<u8>,
-) -> Result<Next<Stage>, NoMemory>
+) -> Result<Next, NoMemory>
     requires inside { has_entered memory.old ≡ true }
     ensures settles { IfOk result (λ next. Settles (reacted reaction reply.now memory.old)
-        (course_of continues next memory.new) out.old.items out.new.items) }
+        (course_of next memory.new) out.old.items out.new.items) }
     ensures ready { IfOk result (IsPosed memory.new) }
-    ensures fewer { IfOk result (λ next. acts_left acts_after next ≤ 131) }
+    ensures fewer { IfOk result (λ next. acts_left next ≤ 2) }
     ensures after { memory.new ≡ memory.old }
     ensures stands { memory.new.standing ≡ memory.old.standing }
 {
@@ -243,12 +238,12 @@ pub(crate) fn answered(
     memory: &mut Memory,
     reply: &Reply,
     out: &mut Vec<u8>,
-) -> Result<Next<Stage>, NoMemory>
+) -> Result<Next, NoMemory>
     requires inside { has_entered memory.old ≡ true }
     ensures settles { IfOk result (λ next. Settles (answered reply.now memory.old)
-        (course_of continues next memory.new) out.old.items out.new.items) }
+        (course_of next memory.new) out.old.items out.new.items) }
     ensures ready { IfOk result (IsPosed memory.new) }
-    ensures fewer { IfOk result (λ next. acts_left acts_after next ≤ 130) }
+    ensures fewer { IfOk result (λ next. acts_left next ≤ 1) }
     ensures after { memory.new ≡ memory.old }
     ensures stands { memory.new.standing ≡ memory.old.standing }
 {
@@ -257,56 +252,28 @@ pub(crate) fn answered(
 }
 
 /// The lobby has told what waits there, and the places: the games are visited.
-fn rounded(memory: &mut Memory, reply: &Reply, out: &mut Vec<u8>) -> Result<Next<Stage>, NoMemory>
+fn rounded(memory: &mut Memory, reply: &Reply, out: &mut Vec<u8>) -> Result<Next, NoMemory>
     requires inside { has_entered memory.old ≡ true }
     ensures settles { IfOk result
         (λ next. Settles (Writes (waiting_text reply.now) (rounding (told memory.old reply.now)))
-        (course_of continues next memory.new) out.old.items out.new.items) }
+        (course_of next memory.new) out.old.items out.new.items) }
     ensures ready { IfOk result (IsPosed memory.new) }
-    ensures fewer { IfOk result (λ next. acts_left acts_after next ≤ 129) }
+    ensures fewer { IfOk result (λ next. acts_left next ≤ 0) }
     ensures after { memory.new ≡ told memory.old reply.now }
     ensures stands { memory.new.standing ≡ memory.old.standing }
 {
     memory.note(reply);
     put_waiting(reply, out)?;
-    Ok(visit_next(memory.visits()))
-}
-
-/// A game has told its news: where nothing more will come it is given up, and the session looks on there no longer.
-fn visited(
-    visit: &Visit,
-    rest: Rest,
-    memory: &mut Memory,
-    reply: &Reply,
-    out: &mut Vec<u8>,
-) -> Result<Next<Stage>, NoMemory>
-    requires inside { has_entered memory.old ≡ true }
-    requires desk { IsDesk visit.now.desk }
-    requires fits { IsReply reply.now }
-    ensures settles { IfOk result (λ next. Settles
-        (Writes (news_text (reader_in memory.old visit.now.seat) reply.now)
-        (given_up visit.now (says_over reply.now) (visits rest (behind visit.now (says_over reply.now) memory.old))))
-        (course_of continues next memory.new) out.old.items out.new.items) }
-    ensures ready { IfOk result (IsPosed memory.new) }
-    ensures fewer { IfOk result (λ next. acts_left acts_after next ≤ 2 * length rest + 1) }
-    ensures after { memory.new ≡ behind visit.now (is_done result && says_over reply.now) memory.old }
-    ensures stands { memory.new.standing ≡ memory.old.standing }
-{
-    put_news(&memory.reader(visit.seat), reply, out)?;
-    if says_over(reply) {
-        forget(memory, visit);
-        return Ok(Next::Ask(clear_at(visit), Stage::Clearing(rest)));
-    }
-    Ok(visit_next(rest))
+    Ok(Next::Visits)
 }
 
 /// The lobby has told the places: the acknowledgement is made at the present one, if there is any.
-fn acking(stamp: u32, memory: &mut Memory, reply: &Reply) -> Next<Stage>
+fn acking(stamp: u32, memory: &mut Memory, reply: &Reply) -> Next
     requires inside { has_entered memory.old ≡ true }
     requires stamp { IsStamp stamp }
-    ensures goes { course_of continues result memory.new ≡ acking stamp (told memory.old reply.now) }
+    ensures goes { course_of result memory.new ≡ acking stamp (told memory.old reply.now) }
     ensures ready { IsPosed memory.new result }
-    ensures fewer { acts_left acts_after result ≤ 1 }
+    ensures fewer { acts_left result ≤ 1 }
     ensures after { memory.new ≡ told memory.old reply.now }
     ensures stands { memory.new.standing ≡ memory.old.standing }
 {
@@ -318,44 +285,17 @@ fn acking(stamp: u32, memory: &mut Memory, reply: &Reply) -> Next<Stage>
 }
 
 /// The act of the round, which asks the lobby for what is new.
-pub(crate) fn ask_round() -> Next<Stage>
+pub(crate) fn ask_round() -> Next
     ensures { result ≡ Next.Ask (Act.Lobby LobbyAct.Fetch) Stage.Rounding }
 {
     Next::Ask(Act::Lobby(LobbyAct::Fetch), Stage::Rounding)
 }
 
 /// The act of an acknowledgement, which asks for the present place.
-pub(crate) fn ask_place(stamp: u32) -> Next<Stage>
+pub(crate) fn ask_place(stamp: u32) -> Next
     ensures { result ≡ Next.Ask (Act.Lobby LobbyAct.Where) (Stage.AwaitingPlace stamp) }
 {
     Next::Ask(Act::Lobby(LobbyAct::Where), Stage::AwaitingPlace(stamp))
-}
-
-/// Of a game that is given up the session remembers nothing: it looks on there no longer; of its places the lobby
-/// tells.
-fn forget(memory: &mut Memory, visit: &Visit)
-    ensures after { memory.new ≡ forgets visit.now.seat visit.now.desk memory.old }
-    ensures stands { memory.new.standing ≡ memory.old.standing }
-{
-    match visit.seat {
-        Some(_) => {}
-        None => memory.unobserve(visit.desk),
-    }
-}
-
-/// The visit of the first of these games, or the end.
-fn visit_next(rest: Rest) -> Next<Stage>
-    ensures goes { (memory : MemoryState) → course_of continues result memory ≡ visits rest memory }
-    ensures ready { (memory : MemoryState) → has_entered memory ≡ true → IsPosed memory result }
-    ensures fewer { acts_left acts_after result ≤ 2 * length rest }
-{
-    match rest.pop() {
-        None => Next::End,
-        Some((visit, rest)) => Next::Ask(
-            at_game(&visit, DeskAct::Fetch),
-            Stage::Visiting(visit, rest),
-        ),
-    }
 }
 
 /// An act at the game of a place.
@@ -366,36 +306,5 @@ pub(crate) fn at_place(place: &Place, act: DeskAct) -> Act
         desk: place.desk,
         serial: place.serial,
         act,
-    }
-}
-
-/// An act at the game of a visit.
-pub(crate) fn at_game(visit: &Visit, act: DeskAct) -> Act
-    ensures { result ≡ at_game visit.now act }
-{
-    Act::Desk {
-        desk: visit.desk,
-        serial: visit.serial,
-        act,
-    }
-}
-
-/// The act that gives up a game.
-pub(crate) fn clear_at(visit: &Visit) -> Act
-    ensures { result ≡ clear_at visit.now }
-{
-    Act::Pair(PairAct::Clear {
-        desk: visit.desk,
-        serial: visit.serial,
-    })
-}
-
-/// Whether nothing more will come from the game.
-fn says_over(reply: &Reply) -> bool
-    ensures { result ≡ says_over reply.now }
-{
-    match reply {
-        Reply::Desk(DeskReply::Items { over, .. }) => *over,
-        _ => false,
     }
 }

@@ -1,5 +1,5 @@
 //! What a session writes.
-ghost use Rattle.std.specs.Prelude.{◌≡◌, ◌++◌, All, OnOk, codes, decimal};
+ghost use Rattle.std.specs.Prelude.{◌≡◌, ◌<◌, ◌++◌, [], All, OnOk, codes, decimal, length, slice_index_or};
 ghost use Rattle.linked_desk.specs.Sound.{NamesWinner};
 ghost use Rattle.one_server.specs.Replies.{IsReply};
 ghost use Rattle.session_core.specs.Texts.{asked_line, asks_back, board_text, done_line, entered_line, is_own_turn};
@@ -9,7 +9,7 @@ ghost use Rattle.session_core.specs.Texts.{prompt_of, refusal_line, reply_text, 
 use crate::reader::Reader;
 use crate::standing::{LinkMark, Standing};
 use command_words::Style;
-use fics_words::{Handle, Line, NoMemory, Refusal, write_number};
+use fics_words::{Handle, Line, Lines, NoMemory, Refusal, write_number};
 use linked_desk::{DeskReply, viewer_of};
 use lobby_state::LobbyReply;
 use one_server::{PairReply, Reply};
@@ -49,7 +49,7 @@ pub(crate) fn put_reply(reply: &Reply, out: &mut Vec<u8>) -> Result<(), NoMemory
         Reply::Pair(PairReply::Asked) => put_asked(out),
         Reply::Lobby(LobbyReply::Entered(name)) => put_entered(*name, out),
         Reply::Lobby(LobbyReply::Number(number)) => put_number(*number, out),
-        Reply::Lobby(LobbyReply::Lines(lines)) => put_list(lines.as_slice(), out),
+        Reply::Lobby(LobbyReply::Lines(lines)) => put_list(lines, out),
         Reply::Lobby(LobbyReply::Told(count)) => put_told(*count, out),
         _ => Ok(()),
     }
@@ -83,13 +83,36 @@ fn put_number(number: u16, out: &mut Vec<u8>) -> Result<(), NoMemory>
     put_count(b"Your seek is ", u64::from(number), b".\n\r", out)
 }
 
-/// Appends the lines of a list, or that there are none.
-fn put_list(lines: &[Line], out: &mut Vec<u8>) -> Result<(), NoMemory>
+/// Appends the lines of a list, or that there are none. The room for them is taken once.
+fn put_list(lines: &Lines, out: &mut Vec<u8>) -> Result<(), NoMemory>
     ensures { OnOk result (out.new.items ≡ out.old.items ++ list_text lines.now) }
 {
-    match lines {
-        [] => put_none(out),
-        [_, ..] => put_lines(lines, out),
+    if lines.len() == 0 {
+        return put_none(out);
+    }
+    let ends = lines.len().saturating_mul(LINE_END.len());
+    out.reserve(lines.count_bytes().saturating_add(ends))?;
+    put_each(lines, out)
+}
+
+/// Appends the lines of a list, each with its end.
+fn put_each(lines: &Lines, out: &mut Vec<u8>) -> Result<(), NoMemory>
+    ensures { OnOk result (out.new.items ≡ out.old.items ++ lines_text lines.now) }
+{
+    for place in 0..lines.len() {
+        put_at(lines, place, out)?;
+    }
+    Ok(())
+}
+
+/// Appends the line at `place` and its end.
+fn put_at(lines: &Lines, place: usize, out: &mut Vec<u8>) -> Result<(), NoMemory>
+    requires { place < length lines.now }
+    ensures { OnOk result (out.new.items ≡ out.old.items ++ slice_index_or lines.now place [] ++ line_end) }
+{
+    match lines.get(place) {
+        Some(line) => put_ended(line, out),
+        None => Ok(()),
     }
 }
 

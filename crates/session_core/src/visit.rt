@@ -1,8 +1,11 @@
 //! The games to which a session goes for its news.
 ghost use Rattle.std.specs.Prelude.{◌≡◌};
+ghost use Rattle.session_core.specs.Session.{at_game, clear_at};
 ghost use Rattle.session_core.specs.Visits.{looking, playing};
 
-use lobby_state::Place;
+use linked_desk::DeskAct;
+use lobby_state::{PairAct, Place};
+use one_server::Act;
 
 /// A game that a session plays or looks on at.
 #[derive(Clone, Copy)]
@@ -35,4 +38,25 @@ pub(crate) fn looking(place: &Place) -> Visit
         serial: place.serial,
         seat: None,
     }
+}
+
+/// An act at the game of a visit.
+pub(crate) fn at_game(visit: &Visit, act: DeskAct) -> Act
+    ensures { result ≡ at_game visit.now act }
+{
+    Act::Desk {
+        desk: visit.desk,
+        serial: visit.serial,
+        act,
+    }
+}
+
+/// The act that gives up a game.
+pub(crate) fn clear_at(visit: &Visit) -> Act
+    ensures { result ≡ clear_at visit.now }
+{
+    Act::Pair(PairAct::Clear {
+        desk: visit.desk,
+        serial: visit.serial,
+    })
 }

@@ -7,7 +7,7 @@ ghost use Rattle.session_core.specs.Memory.{has_entered};
 ghost use Rattle.session_core.specs.Remembering.{asks_places};
 ghost use Rattle.session_core.specs.Session.{finding, remark_of, remark_text, to_observe, to_remark, to_unobserve};
 ghost use Rattle.session_core.specs.Session.{watched, watching};
-ghost use Rattle.session_core.specs.Stages.{IsPosed, IsPrepared, Settles, acts_after, acts_left, continues};
+ghost use Rattle.session_core.specs.Stages.{IsPosed, IsPrepared, Settles, acts_left};
 ghost use Rattle.session_core.specs.Stages.{course_of, first_course};
 
 use crate::first::First;
@@ -87,13 +87,13 @@ pub(crate) fn found(
     memory: &mut Memory,
     reply: &Reply,
     out: &mut Vec<u8>,
-) -> Result<Next<Stage>, NoMemory>
+) -> Result<Next, NoMemory>
     requires inside { has_entered memory.old ≡ true }
     requires fits { IsReply reply.now }
     ensures settles { IfOk result (λ next. Settles (finding reply.now memory.old)
-        (course_of continues next memory.new) out.old.items out.new.items) }
+        (course_of next memory.new) out.old.items out.new.items) }
     ensures ready { IfOk result (IsPosed memory.new) }
-    ensures fewer { IfOk result (λ next. acts_left acts_after next ≤ 131) }
+    ensures fewer { IfOk result (λ next. acts_left next ≤ 2) }
     ensures after { memory.new ≡ memory.old }
     ensures stands { memory.new.standing ≡ memory.old.standing }
 {
@@ -112,14 +112,14 @@ pub(crate) fn watched(
     memory: &mut Memory,
     reply: &Reply,
     out: &mut Vec<u8>,
-) -> Result<Next<Stage>, NoMemory>
+) -> Result<Next, NoMemory>
     requires inside { has_entered memory.old ≡ true }
     requires fits { IsReply reply.now }
     requires desk { IsDesk place.desk }
     ensures settles { IfOk result (λ next. Settles (watching place reply.now memory.old)
-        (course_of continues next memory.new) out.old.items out.new.items) }
+        (course_of next memory.new) out.old.items out.new.items) }
     ensures ready { IfOk result (IsPosed memory.new) }
-    ensures fewer { IfOk result (λ next. acts_left acts_after next ≤ 130) }
+    ensures fewer { IfOk result (λ next. acts_left next ≤ 1) }
     ensures after { memory.new ≡ watched place reply.now memory.old }
     ensures stands { memory.new.standing ≡ memory.old.standing }
 {

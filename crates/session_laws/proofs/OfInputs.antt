@@ -3,7 +3,7 @@ use Rattle.std.proofs.Common.{ℕ, Ok, Err, Result, List, [], ◌∷◌}
 use Rattle.std.specs.declared.option.Option.{Option}
 use Rattle.std.specs.declared.option.Option.TheVariants.{None, Some}
 use Rattle.command_words.specs.Commands.{command_in}
-use Rattle.command_words.specs.Texts.{handle_of}
+use Rattle.fics_words.specs.HandleTest.{handle_of}
 use Rattle.command_words.specs.declared.command.Command.{Command}
 use Rattle.fics_words.specs.declared.refusal.Refusal.{Refusal}
 use Rattle.fics_words.specs.declared.refusal.Refusal.TheVariants as refusal

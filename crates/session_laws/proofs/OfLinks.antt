@@ -1,7 +1,7 @@
 -- The entries by which a session served a link tell no save orders as saved, also where memory ran out.
 use Rattle.std.proofs.Common.{◌≡◌, ◌⊎◌, ℕ, Bool, List, [], ◌∷◌, ◌++◌, sym, subst, inl, inr}
-use Rattle.link_core.specs.Served.{BreaksOff, Dialogue, IsMidway, LeavesInPart, LeavesShort, QuitsShort, ServedInPart}
-use Rattle.link_core.specs.Served.{ServedWhole, WasServed, inputs_taken}
+use Rattle.link_core.specs.ServedInPart.{BreaksOff, IsMidway, LeavesInPart, LeavesShort, QuitsShort, ServedInPart, WasServed}
+use Rattle.link_core.specs.ServedWhole.{Dialogue, ServedWhole, inputs_taken}
 use Rattle.link_core.specs.Talk.{Talks}
 use Rattle.link_core.specs.declared.link_end.LinkEnd.{LinkEnd}
 use Rattle.link_core.specs.declared.link_end.LinkEnd.TheVariants as link_end
@@ -13,8 +13,7 @@ use Rattle.session_core.specs.Going.{departing}
 use Rattle.session_core.specs.Inputs.{input_course}
 use Rattle.session_core.specs.Memory.{MemoryState, has_entered, newcomer}
 use Rattle.session_core.specs.Session.{leaving}
-use Rattle.session_laws.proofs.NeverSaving.{NeverSaves, never_either, none_begun, none_followed, none_joined}
-use Rattle.session_laws.proofs.NeverSaving.{none_passed}
+use Rattle.session_laws.proofs.NeverSaving.{NeverSaves, never_either, none_begun, none_followed, none_joined, none_passed}
 use Rattle.session_laws.proofs.OfCommands.{never_leaving}
 use Rattle.session_laws.proofs.OfInputs.{never_input}
 use Rattle.session_laws.specs.WhoSaves.{LinksNeverSave, NoneSaves}
@@ -53,34 +52,34 @@ module _ (shows : ℕ → Bool) (mark : Bool) (session : ℕ) where
   none_broken inputs come memory made (inr q) =
       none_passed session q.moment mark (leaving q.there) made (never_leaving q.there) q.passes
 
-  none_later : (end : LinkEnd) (told : Dialogue) → LeavesInPart end shows mark session told → NoneSaves told.later
-  none_later link_end.Quit told l = none_left told.memory told.later l
-  none_later link_end.End told l = none_left told.memory told.later l
-  none_later link_end.ReadFault told l = none_left told.memory told.later l
-  none_later link_end.WriteFault told l = none_left told.memory told.later l
-  none_later link_end.Spent told l = none_left told.memory told.later l
-  none_later link_end.Memory told l = none_broken told.inputs (inputs_taken told) told.memory told.later l
+  none_later : (end : LinkEnd) (talk : Dialogue) → LeavesInPart end shows mark session talk → NoneSaves talk.later
+  none_later link_end.Quit talk l = none_left talk.memory talk.later l
+  none_later link_end.End talk l = none_left talk.memory talk.later l
+  none_later link_end.ReadFault talk l = none_left talk.memory talk.later l
+  none_later link_end.WriteFault talk l = none_left talk.memory talk.later l
+  none_later link_end.Spent talk l = none_left talk.memory talk.later l
+  none_later link_end.Memory talk l = none_broken talk.inputs (inputs_taken talk) talk.memory talk.later l
 
-  none_acted : (told : Dialogue) (entries : Log) → entries ≡ told.made ++ told.later
-      → Talks shows session told.inputs newcomer told.made told.pieces told.memory → NoneSaves told.later
+  none_acted : (talk : Dialogue) (entries : Log) → entries ≡ talk.made ++ talk.later
+      → Talks shows session talk.inputs newcomer talk.made talk.pieces talk.memory → NoneSaves talk.later
       → NoneSaves entries
-  none_acted told entries all talked later =
-      subst NoneSaves (sym all) (none_joined told.made told.later
-      (none_talked told.inputs newcomer told.memory told.made told.pieces talked) later)
+  none_acted talk entries all talked later =
+      subst NoneSaves (sym all) (none_joined talk.made talk.later
+      (none_talked talk.inputs newcomer talk.memory talk.made talk.pieces talked) later)
 
   -- a link that was served whole, and one that was served in part
   none_whole : (end : LinkEnd) (entries : Log) (old new : Handed) → ServedWhole shows session end entries old new
       → NoneSaves entries
   none_whole end entries old new s =
       let l = s.acts.leaves in
-      none_acted s.told entries s.acts.all s.acts.talked
-      (none_followed session l.moment (departing s.told.memory) s.told.later [] l.after
-      (never_departing s.told.memory) l.follows)
+      none_acted s.talk entries s.acts.all s.acts.talked
+      (none_followed session l.moment (departing s.talk.memory) s.talk.later [] l.after
+      (never_departing s.talk.memory) l.follows)
 
   none_in_part : (entries : Log) (old new : Handed) → ServedInPart shows mark session entries old new
       → NoneSaves entries
   none_in_part entries old new s =
-      none_acted s.told entries s.acts.all s.acts.talked (none_later s.stopped s.told s.acts.leaves)
+      none_acted s.talk entries s.acts.all s.acts.talked (none_later s.stopped s.talk s.acts.leaves)
 
   pub none_served : (end : LinkEnd) (entries : Log) (old new : Handed)
       → WasServed shows mark session end entries old new → NoneSaves entries

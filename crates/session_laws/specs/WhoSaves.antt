@@ -3,7 +3,7 @@ use Rattle.std.specs.Prelude.{◌≡◌, ℕ, ◌<◌, ◌≤◌, Bool, [], ◌+
 use Rattle.std.specs.List.{AllByRecursion}
 use Rattle.edge_traits.specs.Link.{Handed}
 use Rattle.histories.specs.History.{calls_of}
-use Rattle.link_core.specs.Served.{WasServed}
+use Rattle.link_core.specs.ServedInPart.{WasServed}
 use Rattle.link_core.specs.declared.link_end.LinkEnd.{LinkEnd}
 use Rattle.one_server.specs.Running.{Log}
 use Rattle.steward_core.specs.Agreement.{IsNoOthers, SaysSaved}
@@ -14,11 +14,13 @@ NoneSaves entries = AllByRecursion (λ e. SaysSaved e.act.act → ⊥) entries
 
 -- these entries of a session served a link, in whatever state it came and was left, and however that ended
 pub record ServedALink (session : ℕ) (calls : Log) : Type 0 where
+  -- there is
   pub shows : ℕ → Bool
   pub mark : Bool
   pub end : LinkEnd
   pub came : Handed
   pub back : Handed
+  -- such that
   pub served : WasServed shows mark session end calls came back
 
 -- who serves a link tells no orders as saved

@@ -5,7 +5,7 @@ use Rattle.std.proofs.lemmas.List.{append_cancel_left}
 use Rattle.std.specs.Result.{IfOk, OnErr}
 use Rattle.histories.specs.declared.entry.Entry.{Entry}
 use Rattle.histories.specs.History.{calls_of, entry, Legal}
-use Rattle.histories.proofs.Histories.{calls-append, calls_own, prefix_refl, prefix_trans}
+use Rattle.histories.proofs.Histories.{calls-append, calls_own, prefix_trans}
 use Rattle.memory.specs.declared.NoMemory.{NoMemory}
 use Rattle.one_server.specs.declared.act.Timed.{Timed}
 use Rattle.one_server.specs.declared.part.Part.{Part}

@@ -1,11 +1,12 @@
 //! The acts of sessions, in order.
 
 use crate::evenings::{Asked, Step, first_failing_anew, takes};
-use crate::talks::{Comes, server};
 use fics_words::Fail as Failure;
 use one_server::OneServer;
+use server_steps::server;
 use std::alloc::Global;
 use std::test::Fail;
+use talk_steps::Comes;
 
 const AT_DESK: &[Asked] = &[Asked::Where, Asked::Move, Asked::Lines, Asked::News];
 

@@ -1,19 +1,21 @@
 //! Sessions that end while their player's game runs, each in its way: what they still do at the server, how the game
 //! ends, what the opponent is told, and that others go on.
 
-use crate::evenings::{Asked, enter, first_differing, handle, made, takes};
+use crate::evenings::{Asked, enter, first_differing, takes};
 use crate::links::{Gives, link_of};
 use crate::short::ShortSeat;
-use crate::talks::{Comes, answered, input_of, server};
 use chess_model::{Colour, Why};
 use edge_traits::StillClock;
 use fics_words::{Fail as Failure, NoMemory};
 use link_core::{LinkEnd, serve_link};
 use linked_desk::Ended;
 use one_server::OneServer;
+use server_steps::{handle, made, server};
 use session_core::Session;
 use std::alloc::Global;
 use std::test::Fail;
+use talk_steps::{Comes, input_of, taken_at};
+use test_steps::assert_rows;
 
 /// Ann, whose session ends.
 const ANN: u32 = 1;
@@ -317,7 +319,7 @@ fn answer(
     text: &'static [u8],
 ) -> Result<Vec<u8>, Failure> {
     let input = input_of(alloc, Comes::Line(text))?;
-    answered(server, NEXT, session, MOMENT, input)
+    taken_at(server, NEXT, session, MOMENT, input)
 }
 
 /// Ben comes in and says what he says before Ann comes.
@@ -344,18 +346,8 @@ fn holds_anew(alloc: Global, row: &Row) -> Result<bool, Failure> {
     holds(alloc, &mut server, row)
 }
 
-/// The place of the first row that goes otherwise, if one does.
-fn first_wrong(alloc: Global) -> Result<Option<usize>, Failure> {
-    for (place, row) in ROWS.iter().enumerate() {
-        if !holds_anew(alloc, row)? {
-            return Ok(Some(place));
-        }
-    }
-    Ok(None)
-}
-
 #[test]
 fn a_session_that_ends_in_a_game_leaves_it(rt: HostRuntime) -> Result<(), Fail> {
-    assert_eq!(rt; first_wrong(rt.alloc())?, None);
+    assert_rows!(rt; ROWS, |row| holds_anew(rt.alloc(), row)?);
     Ok(())
 }

@@ -3,15 +3,16 @@
 ghost use Rattle.one_server.specs.Acts.{FitsAct};
 
 use crate::short::ShortSeat;
-use crate::talks::{Comes, answered, input_of, server};
 use chess_model::{Colour, Terms, Variant};
-use fics_words::{Fail, Handle, Refusal};
+use fics_words::{Fail, Handle};
 use histories::Entry;
 use linked_desk::DeskAct;
 use lobby_state::{LobbyAct, PairAct};
 use one_server::{Act, OneServer, Reply, Timed};
+use server_steps::{handle, made, server};
 use session_core::{Input, Session};
 use std::alloc::Global;
+use talk_steps::{Comes, input_of, taken_at};
 
 /// What an entry of the history asks for, in short. An act that no test names is another one.
 #[derive(Clone, Copy, PartialEq, Eq)]
@@ -135,7 +136,7 @@ pub fn takes(
 ) -> Result<Vec<u8>, Fail> {
     let mut entered = Session::seated(alloc, handle(b"Ann")?);
     let input = input_of(alloc, comes)?;
-    answered(server, session, &mut entered, moment, input)
+    taken_at(server, session, &mut entered, moment, input)
 }
 
 /// The session leaves at this moment.
@@ -160,21 +161,9 @@ pub fn leaves_short(
     before: u32,
 ) -> Result<bool, Fail> {
     let mut entered = Session::seated(alloc, handle(b"Ann")?);
-    let _news = answered(server, session, &mut entered, moment, Input::Quiet)?;
+    let _news = taken_at(server, session, &mut entered, moment, Input::Quiet)?;
     let mut seat = ShortSeat::new(server, session, before);
     Ok(entered.leave(&mut seat, u64::from(moment)).is_err())
-}
-
-pub fn handle(name: &[u8; 3]) -> Result<Handle, Fail> {
-    match Handle::read(name) {
-        Some(handle) => Ok(handle),
-        None => Err(Fail::Refused(Refusal::BadHandle)),
-    }
-}
-
-/// How many acts were made.
-pub fn made(server: &OneServer) -> usize {
-    server.history().len()
 }
 
 /// The acts that were made.

@@ -4,13 +4,14 @@ use crate::calls::{end_at, written_before};
 use crate::links::{Gives, link_of};
 use crate::opponent::{OpposedSeat, Spoken};
 use crate::script_clock::ScriptClock;
-use crate::talks::server;
 use fics_words::{Fail as Failure, NoMemory};
 use link_core::{LinkEnd, serve_link};
 use memory_edges::MemLink;
 use one_server::OneServer;
+use server_steps::server;
 use std::alloc::Global;
 use std::test::Fail;
+use test_steps::least_wrong;
 
 /// What comes over Alice's link.
 const ALICE: &[Gives] = &[
@@ -52,18 +53,11 @@ fn ends_at(alloc: Global, call: usize) -> Result<bool, Failure> {
     Ok(end == end_at(call) && link.written() == expected.as_slice())
 }
 
-/// The number of the first call that ends the link otherwise, if one does.
-fn first_wrong(alloc: Global) -> Result<Option<usize>, Failure> {
-    for call in 0..TRIED {
-        if !ends_at(alloc, call)? {
-            return Ok(Some(call));
-        }
-    }
-    Ok(None)
-}
-
 #[test]
 fn a_link_ends_by_the_kind_of_the_call_that_fails(rt: HostRuntime) -> Result<(), Fail> {
-    assert_eq!(rt; first_wrong(rt.alloc())?, None);
+    assert_eq!(rt;
+        least_wrong!(0..TRIED, |call| ends_at(rt.alloc(), call)?),
+        None
+    );
     Ok(())
 }

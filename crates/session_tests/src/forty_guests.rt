@@ -4,11 +4,11 @@
 ghost use Rattle.std.specs.Prelude.{IfOk};
 ghost use Rattle.session_core.specs.Inputs.{FitsInput};
 
-use crate::talks::server;
 use evening_model::{Draws, GUESTS, Model, Order, answered, drawn, name_of, typed};
 use fics_words::Line;
 use line_reader::Incoming;
 use one_server::OneServer;
+use server_steps::server;
 use session_core::{Input, Session};
 use std::alloc::Global;
 use std::test::Fail;

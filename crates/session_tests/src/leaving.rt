@@ -1,9 +1,9 @@
 //! The acts of sessions that leave.
 
-use crate::evenings::{Asked, first_differing, leaves, leaves_short, made, seat};
-use crate::talks::server;
+use crate::evenings::{Asked, first_differing, leaves, leaves_short, seat};
 use fics_words::Fail as Failure;
 use one_server::OneServer;
+use server_steps::{made, server};
 use std::alloc::Global;
 use std::test::Fail;
 

@@ -36,6 +36,4 @@ mod simuls;
 #[cfg(test)]
 mod stamps;
 #[cfg(test)]
-mod talks;
-#[cfg(test)]
 mod watching;

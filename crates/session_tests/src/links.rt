@@ -1,13 +1,15 @@
 //! Links in memory: how they end, what is written to them, and how often the clock is asked.
 
-use crate::talks::server;
 use edge_traits::{Clock, StillClock};
 use fics_words::{Fail as Failure, NoMemory};
 use link_core::{LinkEnd, serve_link};
 use memory_edges::{LinkStep, MemLink};
+use server_steps::server;
 use std::alloc::Global;
 use std::cell::Cell;
 use std::test::Fail;
+use test_steps::first_wrong;
+use test_steps::limits::LINE_BYTES;
 
 const OPENING: &[u8] = b"Free Internet Chess Server profile\n\rlogin: ";
 
@@ -23,7 +25,7 @@ const CUT: &[u8] = b"Free Internet Chess Server profile\n\rlogin: Entered as Gue
 const LONG: &[u8] =
     b"Free Internet Chess Server profile\n\rlogin: Entered as GuestAAAA.\n\rfics% refused 26 Unknown\n\rfics% refused 29 TooLong\n\rfics% refused 20 NotPlaying\n\rfics% ";
 
-const LETTERS: [u8; 1_023] = [b'x'; 1_023];
+const LETTERS: [u8; LINE_BYTES] = [b'x'; LINE_BYTES];
 
 /// What a link gives: a piece of bytes, or a pause.
 pub enum Gives {
@@ -113,13 +115,7 @@ impl Clock for CountingClock {
 
 /// The place of the first row that ends otherwise, if one does.
 fn first_failing(alloc: Global, rows: &[Row]) -> Option<usize> {
-    for (place, row) in rows.iter().enumerate() {
-        match serves(alloc, row) {
-            Ok(true) => {}
-            _ => return Some(place),
-        }
-    }
-    None
+    first_wrong!(rows, |row| matches!(serves(alloc, row), Ok(true)))
 }
 
 fn serves(alloc: Global, row: &Row) -> Result<bool, Failure> {

@@ -1,8 +1,8 @@
 //! The acts of sessions that make and answer offers, in order.
 
 use crate::evenings::{Asked, Step, first_failing_anew};
-use crate::talks::Comes;
 use std::test::Fail;
+use talk_steps::Comes;
 
 /// An offer at the present place, and then the round.
 const OFFERS: &[Asked] = &[Asked::Where, Asked::Offer, Asked::Lines, Asked::News];

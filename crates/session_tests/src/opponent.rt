@@ -3,11 +3,11 @@
 ghost use Rattle.session_core.specs.Inputs.{FitsInput};
 ghost use Rattle.session_tests.specs.Beside.{Beside};
 
-use crate::talks::{Comes, input_of};
 use fics_words::NoMemory;
 use one_server::{Act, OneServer, Reply, Runner};
 use session_core::{Input, Session, Wrote};
 use std::alloc::Global;
+use talk_steps::{Comes, input_of};
 
 /// The session of the player.
 const PLAYER: u32 = 1;

@@ -1,12 +1,13 @@
 //! The acts of who gives a simul, in order: behind each half-move that is accepted comes the next place.
 
-use crate::evenings::{Asked, Step, enter, first_failing, handle, ran, start};
-use crate::talks::{Comes, server};
+use crate::evenings::{Asked, Step, enter, first_failing, ran, start};
 use fics_words::{Fail, Handle};
 use lobby_state::LobbyAct;
 use one_server::{Act, OneServer};
+use server_steps::{handle, server};
 use std::alloc::Global;
 use std::test::Fail as TestFail;
+use talk_steps::Comes;
 
 /// Ann, session 1, gives a simul.
 fn open(server: &mut OneServer) -> Result<Handle, Fail> {

@@ -1,13 +1,14 @@
 //! A session looks on at 32 games, and at no more.
 
-use crate::evenings::{enter, handle, made, start};
-use crate::talks::{answered, server};
+use crate::evenings::{enter, start};
 use fics_words::{Fail, Line, Refusal, write_number};
 use line_reader::Incoming;
 use one_server::OneServer;
+use server_steps::{handle, made, server};
 use session_core::{Input, Session};
 use std::alloc::Global;
 use std::test::Fail as TestFail;
+use talk_steps::taken_at;
 
 /// The session that looks on.
 const CAT: u32 = 100;
@@ -66,7 +67,7 @@ fn says(
     text: &[u8],
 ) -> Result<Vec<u8>, Fail> {
     match Line::read(alloc, text)? {
-        Some(line) => answered(server, CAT, cat, 0, Input::Line(Incoming::Plain(line))),
+        Some(line) => taken_at(server, CAT, cat, 0, Input::Line(Incoming::Plain(line))),
         None => Err(Fail::Refused(Refusal::BadByte)),
     }
 }

@@ -1,15 +1,7 @@
 -- What holds of each byte of a list.
-use Rattle.std.proofs.Common.{◌≡◌, ℕ, suc, get_or, Bool, true, List, [], ◌∷◌, ◌++◌}
+use Rattle.std.proofs.Common.{ℕ, suc, get_or, Bool, true, List, [], ◌∷◌, ◌++◌}
 use Rattle.std.specs.Prelude.{Option, Some, None, IfSome, IfNone}
-use Rattle.std.specs.List.{list_all, AllByRecursion}
-use Rattle.std.proofs.lemmas.Bool.{and_parts}
-
--- what a test tells of each
-pub each_of : (p : ℕ → Bool) (P : ℕ → Type 0) → ((b : ℕ) → p b ≡ true → P b) → (bytes : List ℕ) → list_all p bytes ≡ true → AllByRecursion P bytes
-each_of p P one [] h = tt
-each_of p P one (byte ∷ bytes) h =
-    let parts = and_parts (p byte) (list_all p bytes) h in
-    (one byte parts.0, each_of p P one bytes parts.1)
+use Rattle.std.specs.List.{AllByRecursion}
 
 pub each-append : (P : ℕ → Type 0) (xs ys : List ℕ) → AllByRecursion P xs → AllByRecursion P ys → AllByRecursion P (xs ++ ys)
 each-append P [] ys p q = q

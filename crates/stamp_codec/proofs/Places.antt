@@ -1,14 +1,12 @@
 -- Bytes that are changed by their places, and the cipher of a byte.
-use Rattle.std.proofs.Common.{◌≡◌, ℕ, zero, suc, add-one, ◌+◌, ◌%◌, ◌^◌, ◌<◌, List, [], ◌∷◌, ◌++◌, length, take, drop, get_or, set, refl, sym, ap, subst, ◌∙◌, arith, append_assoc}
+use Rattle.std.proofs.Common.{◌≡◌, ℕ, zero, suc, ◌+◌, ◌%◌, ◌^◌, ◌<◌, List, [], ◌∷◌, ◌++◌, get_or, refl, sym, ap, subst, ◌∙◌, arith}
 use Rattle.std.specs.Prelude.{bit_or, bit_xor, nat_lt}
 use Rattle.std.proofs.lemmas.Bool.Decides.{nat_tests}
 use Rattle.std.specs.List.{AllByRecursion}
-use Rattle.std.proofs.Math.Seq.{drop-cons}
-use Rattle.std.proofs.lemmas.List.{take_more_set, drop-set-lt}
 use lib.Bits.{xor_assoc, xor_self, xor_zero_r, xor_comm, xor_lt, or_comm, or_shifted, xor_shifted}
 use Rattle.stamp_codec.specs.Spelling.{key, key_at, by_place, cipher}
 use Rattle.stamp_codec.specs.Opening.{decipher}
-use Rattle.stamp_codec.proofs.Each.{each_of}
+use Rattle.fics_words.proofs.HandleTests.{each}
 
 -- ---- one byte
 
@@ -28,7 +26,7 @@ at_each P (x ∷ xs) none all zero = all.0
 at_each P (x ∷ xs) none all (suc n) = at_each P xs none all.1 n
 
 key_small : (place : ℕ) → key_at place < 256
-key_small place = at_each (λ b. b < 256) key (omega arith) (each_of (λ b. nat_lt b 256) (λ b. b < 256) (λ b h. grind (arith, nat_tests)) key refl) (place % 50)
+key_small place = at_each (λ b. b < 256) key (omega arith) (each (λ b. nat_lt b 256) (λ b. b < 256) (λ b h. grind (arith, nat_tests)) key refl) (place % 50)
 
 -- a small byte is read back as it was
 decipher-cipher : (place byte : ℕ) → byte < 128 → decipher place (cipher place byte) ≡ byte

@@ -10,8 +10,9 @@ use Rattle.std.proofs.lemmas.Slice.Eq.{bytes_eq-Decides}
 use Rattle.stamp_codec.specs.Message.{Message, Text, Ack, text_of, stamp_of, ack_text, is_printable, is_text, is_message, message_of}
 use Rattle.stamp_codec.specs.Spelling.{body, pads, padded, written}
 use Rattle.stamp_codec.specs.Opening.{number}
-use Rattle.stamp_codec.proofs.Each.{each_of, each-append, each-weaker}
+use Rattle.stamp_codec.proofs.Each.{each-append, each-weaker}
 use Rattle.stamp_codec.proofs.Marks.{mark_within, one_cut}
+use Rattle.fics_words.proofs.HandleTests.{each}
 
 -- a byte of a text or of an acknowledgement
 abbrev pub IsLetter : ℕ → Type 0
@@ -27,7 +28,7 @@ printable_letter byte h =
 pub letters_of : (message : Message) → is_message message ≡ true → AllByRecursion IsLetter (text_of message)
 letters_of (Text text stamp) h =
     let parts = and_parts (is_text text) (nat_lt stamp 10000000) h in
-    each_of is_printable IsLetter printable_letter text (and_parts (nat_le (length text) 1023) (list_all is_printable text) parts.0).1
+    each is_printable IsLetter printable_letter text (and_parts (nat_le (length text) 1023) (list_all is_printable text) parts.0).1
 letters_of (Ack stamp) h = ((omega arith, λ e. omega arith), ((omega arith, λ e. omega arith), tt))
 
 pub stamp_small : (message : Message) → is_message message ≡ true → stamp_of message < 10000000

@@ -1,5 +1,5 @@
 -- A table that agrees with what a session has seen still agrees once the session has made acts.
-use Rattle.std.proofs.Common.{◌≡◌, ◌≢◌, ℕ, ◌+◌, ◌<◌, ◌≤◌, ◌==◌, Bool, true, false, cond, not, List, [], ◌∷◌, ◌++◌, Option, None, Some, length, filter, map, inl, inr, set, slice_get, refl, sym, ap, subst, ◌∙◌, append_assoc, append-nil, arith}
+use Rattle.std.proofs.Common.{◌≡◌, ℕ, ◌+◌, ◌<◌, ◌≤◌, ◌==◌, Bool, true, false, cond, List, [], ◌∷◌, ◌++◌, Option, None, Some, filter, map, inl, inr, set, slice_get, refl, sym, ap, subst, ◌∙◌, append_assoc, arith}
 use Rattle.std.specs.Prelude.{nat_lt}
 use Rattle.std.specs.List.{AllByRecursion}
 use Rattle.std.proofs.lemmas.Bool.{eqb-false, lt-ltb, le-ltb}
@@ -15,8 +15,8 @@ use Rattle.histories.specs.History.{IsPrefix, Legal, calls_of, entry, state}
 use Rattle.histories.proofs.Histories.{calls-append, calls_own, legal_front, state-append, stays_whole, steps_once}
 use Rattle.histories.proofs.Steps.{after_alone}
 use Rattle.lobby_state.specs.Lobby.{LobbyState}
-use Rattle.lobby_store.specs.Agreeing.{AgreesWith, LeadsAlong}
-use Rattle.lobby_store.specs.Carrying.{Carries, held}
+use Rattle.lobby_store.specs.Agreeing.{AgreesWith}
+use Rattle.lobby_store.specs.Carrying.{held}
 use Rattle.lobby_store.proofs.OrdersOut.{same_table, table_with-append}
 use Rattle.one_server.specs.declared.act.Timed.{Timed}
 use Rattle.one_server.specs.declared.part.Part.{Part}
@@ -37,7 +37,7 @@ use Rattle.steward_core.specs.declared.saving.Round.{Round}
 use Rattle.steward_core.specs.declared.saving.Told.{Told}
 use Rattle.steward_core.specs.declared.saving.Told.TheVariants as told
 use Rattle.steward_core.proofs.OrdersTold.{StandFirst}
-use Rattle.steward_core.proofs.StatesLead.{LeadsParts, leads_log, one_lobby, put_lobby}
+use Rattle.steward_core.proofs.StatesLead.{leads_log, one_lobby, put_lobby}
 
 -- ---- lists
 

@@ -23,7 +23,7 @@ made_then old mid new one two p q = record {
   only = λ e. q.only (ap (λ (s : RunnerState). s.sole) p.same ∙ e) ∙ ap (λ (l : Log). l ++ two) (p.only e) ∙ append_assoc old.seen one two;
 }
 
-part_of_itself : {T : Type 0} (xs : List T) → IsPartOf xs xs
+pub part_of_itself : {T : Type 0} (xs : List T) → IsPartOf xs xs
 part_of_itself [] = tt
 part_of_itself (x ∷ xs) = inl (refl, part_of_itself xs)
 

@@ -1,8 +1,7 @@
 -- The save orders that an answer tells are the first ones that stand.
-use Rattle.std.proofs.Common.{◌≡◌, ℕ, ◌+◌, ◌-◌, ◌<◌, ◌≤◌, zero, suc, List, [], ◌∷◌, ◌++◌, Option, None, Some, length, take, drop, set, slice_get, refl, sym, ap, subst, ◌∙◌, take-append-drop, arith}
+use Rattle.std.proofs.Common.{◌≡◌, ℕ, ◌+◌, ◌-◌, ◌≤◌, zero, suc, List, [], ◌∷◌, ◌++◌, Option, None, Some, length, take, drop, set, slice_get, refl, sym, ap, subst, ◌∙◌, take-append-drop, arith}
 use Rattle.std.specs.Option.{option_map}
 use Rattle.std.proofs.lemmas.List.{length-take}
-use Rattle.game_shelf.specs.Shelf.{orders_told}
 use Rattle.game_shelf.specs.declared.order.Order.{Order}
 use Rattle.histories.specs.declared.entry.Entry.{Entry}
 use Rattle.histories.specs.Core.{after, other_of, reply}
@@ -19,7 +18,7 @@ use Rattle.one_server.specs.declared.part.Part.TheVariants.{Lobby as TheLobby, D
 use Rattle.one_server.specs.declared.reply.Reply.{Reply}
 use Rattle.one_server.specs.Acts.{lobby_reply}
 use Rattle.one_server.specs.House.{house, no_parts}
-use Rattle.one_server.specs.Running.{IsKnown, Log, Made, Ran, RunnerState}
+use Rattle.one_server.specs.Running.{Log, Made, Ran, RunnerState}
 use Rattle.steward_core.specs.Agreement.{state_seen}
 use Rattle.steward_core.specs.Saving.{Tells, TellsUpTo, asks_orders, last_number, orders_in, says_saved}
 use Rattle.steward_core.specs.declared.saving.Told.{Told}

@@ -10,7 +10,7 @@ use Rattle.steward_core.specs.Saving.{IsSaving}
 use Rattle.steward_core.specs.declared.clearing.ClearingEnd.{ClearingEnd}
 use Rattle.steward_core.specs.declared.clearing.ClearingEnd.TheVariants as clearing
 use Rattle.steward_core.specs.declared.turn.StewardEnd.{StewardEnd}
-use Rattle.steward_core.specs.declared.turn.StewardEnd.TheVariants.{Done, KeeperFault, Memory}
+use Rattle.steward_core.specs.declared.turn.StewardEnd.TheVariants.{Done, Memory}
 
 -- how a turn ended whose halves ended like this: memory that ran out in the first one is told unless the keeper failed
 abbrev pub end_of_turn : ClearingEnd → StewardEnd → StewardEnd

@@ -6,6 +6,7 @@ use lobby_load::{StoreFault, open_store};
 use lobby_state::Lobby;
 use memory_edges::{MemKeeper, MemSink};
 use std::alloc::Global;
+use test_steps::assert_rows;
 
 /// A key and its record.
 type Row = (&'static [u8], &'static [u8]);
@@ -145,7 +146,7 @@ const CASES: &[Case] = &[
 
 #[test]
 fn stores_are_opened(rt: HostRuntime) -> Result<(), NoMemory> {
-    assert_eq!(rt; first_wrong(rt.alloc())?, None);
+    assert_rows!(rt; CASES, |case| goes(rt.alloc(), case)?);
     Ok(())
 }
 
@@ -153,16 +154,6 @@ fn stores_are_opened(rt: HostRuntime) -> Result<(), NoMemory> {
 fn what_was_put_is_loaded(rt: HostRuntime) -> Result<(), NoMemory> {
     assert!(rt; loads_the_three(rt.alloc())?);
     Ok(())
-}
-
-/// The number of the first case that goes otherwise.
-fn first_wrong(alloc: Global) -> Result<Option<usize>, NoMemory> {
-    for (place, case) in CASES.iter().enumerate() {
-        if !goes(alloc, case)? {
-            return Ok(Some(place));
-        }
-    }
-    Ok(None)
 }
 
 /// Whether the case goes as it says.

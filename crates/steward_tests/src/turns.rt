@@ -8,6 +8,7 @@ use memory_edges::MemKeeper;
 use one_server::{Act, OneServer};
 use std::alloc::Global;
 use steward_core::{StewardEnd, steward_turn};
+use test_steps::assert_rows;
 
 /// How a turn ends.
 #[derive(Clone, Copy)]
@@ -81,7 +82,7 @@ const DIGEST: [u8; 32] = [7; 32];
 
 #[test]
 fn turns_save_what_stands(rt: HostRuntime) -> Result<(), NoMemory> {
-    assert_eq!(rt; first_wrong(rt.alloc())?, None);
+    assert_rows!(rt; ROWS, |row| goes(rt.alloc(), row)?);
     Ok(())
 }
 
@@ -89,16 +90,6 @@ fn turns_save_what_stands(rt: HostRuntime) -> Result<(), NoMemory> {
 fn the_pair_is_the_account(rt: HostRuntime) -> Result<(), NoMemory> {
     assert!(rt; saves_the_account(rt.alloc())?);
     Ok(())
-}
-
-/// The number of the first row that goes otherwise.
-fn first_wrong(alloc: Global) -> Result<Option<usize>, NoMemory> {
-    for (place, row) in ROWS.iter().enumerate() {
-        if !goes(alloc, row)? {
-            return Ok(Some(place));
-        }
-    }
-    Ok(None)
 }
 
 /// Whether the row goes as it says.

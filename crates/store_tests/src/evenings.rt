@@ -9,6 +9,7 @@ use session_core::Session;
 use std::alloc::Global;
 use std::sync::Wait;
 use steward_core::StewardEnd;
+use test_steps::first_wrong;
 
 /// A sitting at one server. Its rows are answered as they say; behind them the steward makes a turn at this moment in
 /// milliseconds, which carries out so many save orders; and the keeper holds so many pairs then.
@@ -80,7 +81,7 @@ pub fn wrong_at<S: Seats>(
     keeper: &mut MemKeeper,
     sitting: &Sitting,
 ) -> Result<Option<Place>, Fail> {
-    if let Some(row) = first_wrong(alloc, seats, sitting.rows)? {
+    if let Some(row) = first_wrong_row(alloc, seats, sitting.rows)? {
         return Ok(Some(Place::Row(row)));
     }
     Ok(wrong_turn(alloc, seats, keeper, sitting))
@@ -106,7 +107,7 @@ fn wrong_turn<S: Seats>(
 }
 
 /// The number of the first row that is answered otherwise, if one is.
-fn first_wrong<S: Seats>(
+fn first_wrong_row<S: Seats>(
     alloc: Global,
     seats: &mut S,
     rows: &[Row],
@@ -126,16 +127,20 @@ fn first_wrong_of<S: Seats>(
     players: &mut Players,
     rows: &[Row],
 ) -> Result<Option<usize>, Fail> {
-    for (place, row) in rows.iter().enumerate() {
-        let held = match row.0 {
-            Player::Ann => seats.answers(alloc, &mut players.ann, row)?,
-            Player::Ben => seats.answers(alloc, &mut players.ben, row)?,
-            Player::Cat => seats.answers(alloc, &mut players.cat, row)?,
-            Player::Dan => seats.answers(alloc, &mut players.dan, row)?,
-        };
-        if !held {
-            return Ok(Some(place));
-        }
+    Ok(first_wrong!(rows, |row| is_answered(alloc, seats, players, row)?))
+}
+
+/// Whether the player of a row is answered as the row says.
+fn is_answered<S: Seats>(
+    alloc: Global,
+    seats: &mut S,
+    players: &mut Players,
+    row: &Row,
+) -> Result<bool, Fail> {
+    match row.0 {
+        Player::Ann => seats.answers(alloc, &mut players.ann, row),
+        Player::Ben => seats.answers(alloc, &mut players.ben, row),
+        Player::Cat => seats.answers(alloc, &mut players.cat, row),
+        Player::Dan => seats.answers(alloc, &mut players.dan, row),
     }
-    Ok(None)
 }

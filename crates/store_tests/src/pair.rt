@@ -1,10 +1,10 @@
 //! A bughouse pair of four registered players that is adjourned and resumed elsewhere.
 
 use crate::evenings::{House, Sitting, first_failing};
-use crate::talks::Comes::{Line, Quiet};
 use crate::talks::Player::{Ann, Ben, Cat, Dan};
 use crate::talks::{ASKED, DONE, PASSWORD, PROMPT, Row};
 use std::test::Fail;
+use talk_steps::Comes::{Line, Quiet};
 
 const CREATED_1: &[u8] = b"{Game 1 (Ann vs. Ben) Creating 2 0 bughouse match.}\n\r";
 

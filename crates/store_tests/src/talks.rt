@@ -1,13 +1,10 @@
 //! What comes from a player, and what the player's session has to write.
 
-ghost use Rattle.std.specs.Prelude.{IfOk};
-ghost use Rattle.session_core.specs.Inputs.{FitsInput};
-
-use fics_words::{Fail, Line, Refusal};
-use line_reader::Incoming;
+use fics_words::Fail;
 use one_server::Runner;
-use session_core::{Input, Session};
+use session_core::Session;
 use std::alloc::Global;
+use talk_steps::{Comes, answered};
 
 /// Who plays; the sessions of the four are 1 to 4.
 #[derive(Clone, Copy)]
@@ -28,13 +25,6 @@ impl Player {
             Player::Dan => 4,
         }
     }
-}
-
-/// What comes from a player.
-#[derive(Clone, Copy)]
-pub enum Comes {
-    Line(&'static [u8]),
-    Quiet,
 }
 
 /// A row: the player, the moment in milliseconds, what comes, and what the session has to write, in pieces.
@@ -60,39 +50,8 @@ pub fn answers<R: Runner>(
     session: &mut Session,
     row: &Row,
 ) -> Result<bool, Fail> {
-    let input = input_of(alloc, row.2)?;
-    let wrote = answered(seat, session, row.1, input)?;
+    let wrote = answered(alloc, seat, session, row.1, row.2)?;
     Ok(is_written(wrote.as_slice(), row.3))
-}
-
-/// What a session writes for an input. It ensures nothing, so that nothing above it is proved over what a session does.
-fn answered<R: Runner>(
-    seat: &mut R,
-    session: &mut Session,
-    moment: u32,
-    input: Input,
-) -> Result<Vec<u8>, Fail>
-    requires { FitsInput input }
-{
-    let wrote = session.take(seat, u64::from(moment), input)?;
-    Ok(wrote.bytes)
-}
-
-/// The input of what comes.
-fn input_of(alloc: Global, comes: Comes) -> Result<Input, Fail>
-    ensures { IfOk result FitsInput }
-{
-    Ok(match comes {
-        Comes::Line(text) => Input::Line(Incoming::Plain(line_of(alloc, text)?)),
-        Comes::Quiet => Input::Quiet,
-    })
-}
-
-fn line_of(alloc: Global, text: &[u8]) -> Result<Line, Fail> {
-    match Line::read(alloc, text)? {
-        Some(line) => Ok(line),
-        None => Err(Fail::Refused(Refusal::BadByte)),
-    }
 }
 
 /// Whether the bytes are these pieces, one behind the other.

@@ -1,12 +1,28 @@
--- For callers: a change of the first item that passes a test, where it is known which one that is.
-use Rattle.std.proofs.Common.{◌≡◌, Bool, true, false, cond, List, [], ◌∷◌, Option, None, Some, Result, Ok, Err, OnErr, length, suc, option_map, unwrap_or, refl, sym, ap, ◌∙◌}
-use Rattle.std.specs.List.{find}
-use Rattle.std.proofs.lemmas.Option.{none-some}
+-- For callers: the first item that passes a test, whether there is one, and a change of it.
+use Rattle.std.proofs.Common.{◌≡◌, ◌||◌, Bool, true, false, cond, List, [], ◌∷◌, Option, None, Some, Result, Ok, Err, OnErr, length, suc, is_some, true≢false, refl, ap, ◌∙◌}
+use Rattle.std.specs.List.{find, list_any}
 use Rattle.tables.specs.Rows.{change_first}
 
 pub on_err : {T E Y : Type 0} (r : Result T E) → Y → OnErr r Y
 on_err (Ok x) y = tt
 on_err (Err e) y = y
+
+-- there is a first one exactly if one passes
+pub is_some-find : {X : Type 0} (p : X → Bool) (xs : List X) → is_some (find p xs) ≡ list_any p xs
+is_some-find p [] = refl
+is_some-find p (x ∷ xs) =
+    elim (p x) as (λ t. is_some (cond t (Some x) (find p xs)) ≡ (t || list_any p xs)) [
+      | true ↦ refl
+      | false ↦ is_some-find p xs
+    ]
+
+-- and where none passes there is none
+pub find-absent : {X : Type 0} (p : X → Bool) (xs : List X) → list_any p xs ≡ false → find p xs ≡ None
+find-absent p xs absent = none (find p xs) (is_some-find p xs ∙ absent)
+  where
+    none : {X : Type 0} (o : Option X) → is_some o ≡ false → o ≡ None
+    none None e = refl
+    none (Some x) e = absurd (true≢false e)
 
 -- as many items as before
 pub length-change_first : {X : Type 0} (p : X → Bool) (f : X → X) (xs : List X) → length (change_first p f xs) ≡ length xs

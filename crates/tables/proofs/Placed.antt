@@ -1,26 +1,18 @@
 -- The first item that passes a test, and its place.
-use Rattle.std.proofs.Common.{◌≡◌, ◌+◌, ◌<◌, ◌≤◌, ℕ, zero, suc, Bool, true, false, not, cond, List, [], ◌∷◌, None, Some, length, ltb, slice_get, option_map, get_or, position, refl, sym, ap, subst, ◌∙◌, arith, rules, tests}
+use Rattle.std.proofs.Common.{◌≡◌, ◌+◌, ◌<◌, ℕ, zero, suc, Bool, true, false, not, cond, List, [], ◌∷◌, None, Some, length, slice_get, option_map, get_or, position, refl, sym, ap, subst, ◌∙◌, arith, rules}
 use Rattle.std.specs.List.{find, position_or_len}
-use Rattle.std.proofs.lemmas.Bool.{ltb-true}
+use Rattle.std.proofs.lemmas.Bool.{ltb-true, ltb-false}
 use Rattle.std.proofs.lemmas.List.Folds.{find_at}
-use Rattle.std.proofs.lemmas.Option.{slice_get-get_or}
+use Rattle.std.proofs.lemmas.Option.{slice_get-get_or, slice_get_past}
 use Rattle.tables.specs.Rows.{change_at, change_first}
 
-some_by_test : (b : Bool) (n i : ℕ) → cond b (Some n) None ≡ Some i → (b ≡ true) × (n ≡ i)
+pub some_by_test : (b : Bool) (n i : ℕ) → cond b (Some n) None ≡ Some i → (b ≡ true) × (n ≡ i)
 some_by_test true n i e = (refl, cc)
 some_by_test false n i e = cc
 
-none_by_test : (b : Bool) (n : ℕ) → cond b (Some n) None ≡ None → b ≡ false
+pub none_by_test : (b : Bool) (n : ℕ) → cond b (Some n) None ≡ None → b ≡ false
 none_by_test true n e = cc
 none_by_test false n e = refl
-
-past_end : (n m : ℕ) → ltb n m ≡ false → m ≤ n
-past_end n m e = search (rules, tests)
-
-past_get : {X : Type 0} (xs : List X) (i : ℕ) → length xs ≤ i → slice_get xs i ≡ None
-past_get [] i h = refl
-past_get (x ∷ xs) zero h = absurd (omega arith)
-past_get (x ∷ xs) (suc i) h = past_get xs i (omega arith)
 
 -- it stands within the list
 pub position-within : {X : Type 0} (p : X → Bool) (xs : List X) (i : ℕ) → position p xs ≡ Some i → i < length xs
@@ -34,7 +26,7 @@ pub find-found : {X : Type 0} (p : X → Bool) (xs : List X) (i : ℕ) → posit
 find-found p xs i e = find_at p xs ∙ ap (slice_get xs) (some_by_test _ (position_or_len p xs) i e).1
 
 pub find-missing : {X : Type 0} (p : X → Bool) (xs : List X) → position p xs ≡ None → find p xs ≡ None
-find-missing p xs e = find_at p xs ∙ past_get xs _ (past_end _ _ (none_by_test _ (position_or_len p xs) e))
+find-missing p xs e = find_at p xs ∙ slice_get_past xs _ (ltb-false _ _ (none_by_test _ (position_or_len p xs) e))
 
 change_at-first : {X : Type 0} (p : X → Bool) (f : X → X) (xs : List X) → change_at (position_or_len p xs) f xs ≡ change_first p f xs
 change_at-first p f [] = refl

@@ -2,7 +2,7 @@
 ghost use Rattle.std.specs.Prelude.{◌≡◌, ◌↔◌, ◌<◌, ◌≤◌, Some, slice_get, [], ◌∷◌, ◌++◌, length, map, not, IsTrue, true, IfOk, None, OnOk, OnErr, option_copied, option_map};
 ghost use Rattle.std.specs.Borrow.{sem};
 ghost use Rattle.std.specs.Option.{option_copied_mut};
-ghost use Rattle.std.specs.List.{filter, find, insert, position};
+ghost use Rattle.std.specs.List.{filter, find, insert, list_any, position};
 ghost use Rattle.tables.specs.Rows.{AreApart, change_first, has_key};
 
 use crate::keyed::{Keyed, Parted};
@@ -74,6 +74,13 @@ impl<K: Eq + Hash + Copy, T: Keyed<K>> Table<K, T> {
         // The length is what says that no two keys are equal.
         let _len = self.rows.len();
         self.rows.values().as_slice()
+    }
+
+    /// Whether a row has this key.
+    pub fn has(&self, key: K) -> bool
+        ensures { result ≡ list_any (has_key T.key_of K.eq key) self.now }
+    {
+        self.rows.contains_key(&key)
     }
 
     /// The row with this key, if there is one.

@@ -5,6 +5,8 @@ use chess_model::Variant;
 use std::alloc::Global;
 use std::test::Fail;
 use style12_writer::{BoardView, Viewer};
+use test_steps::assert_rows;
+use test_steps::boards::{FOOLS_MATE, KNIGHT_FOR_BEN, KNIGHT_ON_D2};
 
 const OBSERVER: Viewer = Viewer {
     relation: 0,
@@ -122,16 +124,6 @@ fn is_shown(alloc: Global, row: &Row) -> Result<bool, Fail> {
     Ok(line_of(alloc, &view, row.4)?.bytes() == row.5.as_bytes())
 }
 
-/// The place of the first row that is shown otherwise, if one is.
-fn first_wrong(alloc: Global, rows: &[Row]) -> Result<Option<usize>, Fail> {
-    for (place, row) in rows.iter().enumerate() {
-        if !is_shown(alloc, row)? {
-            return Ok(Some(place));
-        }
-    }
-    Ok(None)
-}
-
 const PLAYERS: [&str; 2] = ["White", "Black"];
 
 #[test]
@@ -155,7 +147,7 @@ const DROP: &[Row] = &[Row(
 
 #[test]
 fn shows_a_drop(rt: HostRuntime) -> Result<(), Fail> {
-    assert_eq!(rt; first_wrong(rt.alloc(), DROP)?, None);
+    assert_rows!(rt; DROP, |row| is_shown(rt.alloc(), row)?);
     Ok(())
 }
 
@@ -166,7 +158,7 @@ const MARKS: &[Row] = &[
         PLAYERS,
         UNTIMED,
         OBSERVER,
-        "<12> rnbqkb-r ppp-pppp -----n-- ---p---- ---P---- -----N-- PPPNPPPP R-BQKB-R B -1 1 1 1 1 3 1 White Black 0 0 0 39 39 0 0 3 N/b1-d2 (0:00) Nbd2 0",
+        KNIGHT_ON_D2,
     ),
     Row(
         Variant::Chess,
@@ -174,13 +166,13 @@ const MARKS: &[Row] = &[
         PLAYERS,
         UNTIMED,
         OBSERVER,
-        "<12> rnb-kbnr pppp-ppp -------- ----p--- ------Pq -----P-- PPPPP--P RNBQKBNR W -1 1 1 1 1 1 1 White Black 0 0 0 39 39 0 0 3 Q/d8-h4 (0:00) Qh4# 0",
+        FOOLS_MATE,
     ),
 ];
 
 #[test]
 fn shows_marks(rt: HostRuntime) -> Result<(), Fail> {
-    assert_eq!(rt; first_wrong(rt.alloc(), MARKS)?, None);
+    assert_rows!(rt; MARKS, |row| is_shown(rt.alloc(), row)?);
     Ok(())
 }
 
@@ -221,7 +213,7 @@ const VIEWERS: &[Row] = &[
 
 #[test]
 fn shows_viewers(rt: HostRuntime) -> Result<(), Fail> {
-    assert_eq!(rt; first_wrong(rt.alloc(), VIEWERS)?, None);
+    assert_rows!(rt; VIEWERS, |row| is_shown(rt.alloc(), row)?);
     Ok(())
 }
 
@@ -232,7 +224,7 @@ const CLOCKS: &[Row] = &[
         ["Ann", "Ben"],
         Times(2, 12, [128_000, 120_000], 4_000),
         BLACK_IS_TO_MOVE,
-        "<12> rnbqkbnr pppp-ppp -------- ----p--- ----P--- -----N-- PPPP-PPP RNBQKB-R B -1 1 1 1 1 1 1 Ann Ben 1 2 12 39 39 128 120 2 N/g1-f3 (0:04) Nf3 1",
+        KNIGHT_FOR_BEN,
     ),
     Row(
         Variant::Chess,
@@ -246,6 +238,6 @@ const CLOCKS: &[Row] = &[
 
 #[test]
 fn shows_clocks(rt: HostRuntime) -> Result<(), Fail> {
-    assert_eq!(rt; first_wrong(rt.alloc(), CLOCKS)?, None);
+    assert_rows!(rt; CLOCKS, |row| is_shown(rt.alloc(), row)?);
     Ok(())
 }

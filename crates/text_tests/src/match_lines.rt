@@ -5,6 +5,7 @@ use fics_words::{Handle, Line, NoMemory};
 use std::alloc::Global;
 use std::test::Fail;
 use style12_writer::{continued_line, created_line};
+use test_steps::assert_rows;
 
 /// The number of a game, its players, its minutes, increment and variant, and the lines that tell that it begins and
 /// that it goes on.
@@ -81,8 +82,6 @@ fn is_told(alloc: Global, row: &Row) -> Result<bool, Fail> {
 
 #[test]
 fn tells_that_a_game_is_on(rt: HostRuntime) -> Result<(), Fail> {
-    for (place, row) in ROWS.iter().enumerate() {
-        assert!(rt; is_told(rt.alloc(), row)?, "row {place}");
-    }
+    assert_rows!(rt; ROWS, |row| is_told(rt.alloc(), row)?);
     Ok(())
 }

@@ -4,6 +4,7 @@ use crate::games::square;
 use chess_model::{Kind, Move, MoveText, Shown, State};
 use move_writer::{pretty, verbose};
 use std::test::Fail;
+use test_steps::assert_rows;
 
 /// The verbose text, of which the tests know no more than what they read in it.
 fn long_text(shown: &Shown) -> MoveText {
@@ -81,16 +82,6 @@ fn is_written(row: &Row) -> bool {
     }
 }
 
-/// The place of the first row whose texts are written otherwise, if one is.
-fn first_wrong(rows: &[Row]) -> Option<usize> {
-    for (place, row) in rows.iter().enumerate() {
-        if !is_written(row) {
-            return Some(place);
-        }
-    }
-    None
-}
-
 const PAWNS: &[Row] = &[
     Row(
         Goes(Kind::Pawn, b"e2", b"e4", None),
@@ -160,7 +151,7 @@ const PAWNS: &[Row] = &[
 
 #[test]
 fn writes_pawns(rt: HostRuntime) -> Result<(), Fail> {
-    assert_eq!(rt; first_wrong(PAWNS), None);
+    assert_rows!(rt; PAWNS, |row| is_written(row));
     Ok(())
 }
 
@@ -239,7 +230,7 @@ const PIECES: &[Row] = &[
 
 #[test]
 fn writes_pieces(rt: HostRuntime) -> Result<(), Fail> {
-    assert_eq!(rt; first_wrong(PIECES), None);
+    assert_rows!(rt; PIECES, |row| is_written(row));
     Ok(())
 }
 
@@ -273,6 +264,6 @@ const OTHERS: &[Row] = &[
 
 #[test]
 fn writes_castlings_and_drops(rt: HostRuntime) -> Result<(), Fail> {
-    assert_eq!(rt; first_wrong(OTHERS), None);
+    assert_rows!(rt; OTHERS, |row| is_written(row));
     Ok(())
 }

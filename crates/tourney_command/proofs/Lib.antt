@@ -1,5 +1,3 @@
-pub mod Cuts
-pub mod Handles
 pub mod LineAnswers
 pub mod RoundNumbers
 pub mod RowTexts

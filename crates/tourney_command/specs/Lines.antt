@@ -1,7 +1,8 @@
 -- The lines of `tourney`: `start` and `table`; `join` and a handle; `round` and a decimal from 1 to 255; `result`, two
 -- handles, White's first, and the score. One blank stands between two words. This program's own.
-use Rattle.std.specs.Prelude.{ℕ, ◌==◌, nat_le, Bool, ◌&&◌, ◌||◌, if◌then◌else◌, bytes_eq, codes, decimal, List, length, Option, Some, None, option_map}
-use Rattle.std.specs.List.{after_first, before_first, find, list_all, range_with_len}
+use Rattle.std.specs.Prelude.{ℕ, ◌==◌, Bool, if◌then◌else◌, bytes_eq, codes, decimal, List, Option, Some, None, option_map}
+use Rattle.std.specs.List.{after_first, before_first, find, range_with_len}
+use Rattle.fics_words.specs.HandleTest.{handle_of}
 use Rattle.tourney_desk.specs.declared.score.Score.{Score}
 use Rattle.tourney_desk.specs.declared.score.Score.TheVariants as score
 use Rattle.tourney_command.specs.declared.line.TourneyLine.{TourneyLine}
@@ -9,16 +10,6 @@ use Rattle.tourney_command.specs.declared.line.TourneyLine.TheVariants as line
 
 abbrev pub is_blank : ℕ → Bool
 is_blank byte = byte == 32
-
--- a handle is 3 to 17 ASCII letters
-abbrev pub is_handle : List ℕ → Bool
-is_handle bytes =
-    nat_le 3 (length bytes) && (nat_le (length bytes) 17
-    && list_all (λ b. (nat_le 65 b && nat_le b 90) || (nat_le 97 b && nat_le b 122)) bytes)
-
--- the handle that the bytes spell
-abbrev pub handle_of : List ℕ → Option (List ℕ)
-handle_of bytes = if is_handle bytes then Some bytes else None
 
 -- the number from 1 to 255 of which the bytes are the decimal
 unfoldable pub round_of : List ℕ → Option ℕ

@@ -2,7 +2,8 @@
 
 ghost use Rattle.std.specs.Prelude.{◌≡◌, ◌<◌, IfSome, length};
 ghost use Rattle.std.specs.List.{after_first, before_first, position};
-ghost use Rattle.tourney_command.specs.Lines.{handle_of, is_blank, reading, result_of, round_of, score_of, worded};
+ghost use Rattle.fics_words.specs.HandleTest.{handle_of};
+ghost use Rattle.tourney_command.specs.Lines.{is_blank, reading, result_of, round_of, score_of, worded};
 
 use crate::line::TourneyLine;
 use fics_words::{Handle, read_number};

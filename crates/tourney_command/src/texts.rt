@@ -1,6 +1,6 @@
 //! The texts of answers, each line ended by a line feed.
 
-ghost use Rattle.std.specs.Prelude.{◌≡◌, ◌++◌, ◌∷◌, ◌<◌, ◌≤◌, ◌+◌, ◌^◌, All, OnOk, codes, decimal, length};
+ghost use Rattle.std.specs.Prelude.{◌≡◌, ◌++◌, ◌<◌, ◌+◌, All, OnOk, codes, decimal, length};
 ghost use Rattle.std.specs.List.{flat_map};
 ghost use Rattle.tourney_desk.specs.Pairing.{IsOfPlayers};
 ghost use Rattle.tourney_command.specs.Texts.{name_at, pair_text, refusal_text, rounds_text, row_text, rows_text};

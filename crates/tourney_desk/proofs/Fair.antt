@@ -8,6 +8,7 @@ use Rattle.tourney_desk.specs.Pairing.{all_pairs, as_pair, first_is_white, meet,
 use Rattle.tourney_desk.specs.Fairness.{IsRoundFair, is_of, stands_in}
 use Rattle.tourney_desk.proofs.Rounds.{IsMet, InCircle, WithLast, OfLast, meets_one, rounds_are}
 use Rattle.tourney_desk.proofs.Sums.{sum_by-filter, sum_by-flat_map, sum_by-map, sum_by-range, total, total-add, total-at_most_one, total-cross, total-same, total-single, total-swap, total-zero}
+use Rattle.std.proofs.Math.Bool.{or-true, or-false}
 
 -- what holds of both orders of two players holds of their pair
 pub of_pair : (n : ℕ) (two : ℕ × ℕ) (P : ℕ × ℕ → Type 0) → P two → P (two.1, two.0) → P (as_pair n two)
@@ -100,20 +101,12 @@ sum_in_round n a round f low off =
 
 -- ---- every two meet exactly once
 
-or_true : (t : Bool) → (t || true) ≡ true
-or_true true = refl
-or_true false = refl
-
-or_false : (t : Bool) → (t || false) ≡ t
-or_false true = refl
-or_false false = refl
-
 is_of-two : (i j k : ℕ) → (i ≡ j → ⊥) → (is_of i j (i, k) ≡ eqb k j) × (is_of i j (k, i) ≡ eqb k j)
 is_of-two i j k apart =
     let same : eqb i i ≡ true = eq-eqb i i refl in
     let other : eqb i j ≡ false = ne_eqb i j apart in (
       ap (λ t. (t || eqb k i) && (eqb i j || eqb k j)) same ∙ ap (λ t. t || eqb k j) other,
-      ap (λ t. (eqb k i || t) && (eqb k j || eqb i j)) same ∙ ap (λ t. t && (eqb k j || eqb i j)) (or_true (eqb k i)) ∙ ap (λ t. eqb k j || t) other ∙ or_false (eqb k j),
+      ap (λ t. (eqb k i || t) && (eqb k j || eqb i j)) same ∙ ap (λ t. t && (eqb k j || eqb i j)) (or-true (eqb k i)) ∙ ap (λ t. eqb k j || t) other ∙ or-false (eqb k j),
     )
 
 pub once : (n i j : ℕ) → i < n → j < n → (i ≡ j → ⊥) → count_by (is_of i j) (all_pairs n) ≡ 1

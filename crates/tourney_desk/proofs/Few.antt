@@ -2,7 +2,7 @@
 use Rattle.std.proofs.Common.{◌≡◌, ℕ, suc, ◌+◌, ◌*◌, ◌<◌, ◌≤◌, Bool, true, false, cond, eqb, List, [], ◌∷◌, map, length, refl, sym, ap, ◌∙◌, inl, inr, arith}
 use Rattle.std.specs.Prelude.{◌||◌, All, count_by, sum_by}
 use Rattle.std.specs.List.{AllByRecursion, AllPairs, IsDistinct, filter, list_any}
-use Rattle.std.proofs.lemmas.Bool.{eq-eqb, ne_eqb, eqb-true, or_cases, or_left, or_right, and_from}
+use Rattle.std.proofs.lemmas.Bool.{eq-eqb, ne_eqb, eqb-true, or_cases, or_left, or_right, and_from, both_ways}
 use Rattle.std.proofs.lemmas.List.Elements.{All-head, All-tail}
 use Rattle.std.proofs.lemmas.List.Sums.{length-filter, sum_by-cons}
 use Rattle.std.proofs.lemmas.Map.Steps.{length-le_from_distinct_below}
@@ -14,10 +14,10 @@ use Rattle.tourney_desk.specs.Scores.{black_halves, halves_from, has_player, whi
 use Rattle.tourney_desk.specs.Tourney.{is_of_game, same_players}
 
 -- the first of a list whose elements are apart in pairs is apart from the others, and these are too
-pairs-head : {X : Type 0} (R : X → X → Type 0) (x : X) (xs : List X) → AllPairs R (x ∷ xs) → All (R x) xs
+pub pairs-head : {X : Type 0} (R : X → X → Type 0) (x : X) (xs : List X) → AllPairs R (x ∷ xs) → All (R x) xs
 pairs-head R x xs h k d q = h 0 (suc k) d (omega arith) (omega arith)
 
-pairs-tail : {X : Type 0} (R : X → X → Type 0) (x : X) (xs : List X) → AllPairs R (x ∷ xs) → AllPairs R xs
+pub pairs-tail : {X : Type 0} (R : X → X → Type 0) (x : X) (xs : List X) → AllPairs R (x ∷ xs) → AllPairs R xs
 pairs-tail R x xs h i j d p q = h (suc i) (suc j) d (omega arith) (omega arith)
 
 -- what sends the elements that are kept to different numbers below a bound
@@ -88,9 +88,6 @@ turned_if a b e f =
     or_right (is_of_game a.white a.black b) (is_of_game a.black a.white b)
     (and_from (eqb b.white a.black) (eqb b.black a.white) (eq-eqb b.white a.black (sym f)) (eq-eqb b.black a.white (sym e)))
 
-contradicts : (t : Bool) → t ≡ false → t ≡ true → ⊥
-contradicts t e f = let no : false ≡ true = sym e ∙ f in cc
-
 -- a number for each game
 abbrev code : Report → ℕ
 code report = 64 * report.white + report.black
@@ -111,7 +108,7 @@ codes_differ : Numbers Apart IsSmall always code 4096
 codes_differ = record {
   below = λ x p k. code_small x.white x.black p.0 p.1;
   differ = λ x y p q k l r e.
-      contradicts (same_players x y) r (same_if x y (same_white x.white x.black y.white y.black p.1 q.1 e) (same_black x.white x.black y.white y.black p.1 q.1 e));
+      both_ways (same_players x y) r (same_if x y (same_white x.white x.black y.white y.black p.1 q.1 e) (same_black x.white x.black y.white y.black p.1 q.1 e));
 }
 
 count-always : {X : Type 0} (xs : List X) → count_by (λ x. true) xs ≡ length xs
@@ -152,7 +149,7 @@ same_opponent player x y (AsBlack b w) (AsBlack b' w') e = same_if x y (w ∙ e 
 opponents_differ : (player : ℕ) → Numbers Apart IsSmall (has_player player) (opponent player) 64
 opponents_differ player = record {
   below = λ x p k. opponent_small player x p;
-  differ = λ x y p q k l r e. contradicts (same_players x y) r (same_opponent player x y (sides player x k) (sides player y l) e);
+  differ = λ x y p q k l r e. both_ways (same_players x y) r (same_opponent player x y (sides player x k) (sides player y l) e);
 }
 
 -- a player has at most 64 results

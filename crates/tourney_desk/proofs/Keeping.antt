@@ -1,8 +1,8 @@
 -- What the calls keep of a tourney.
-use Rattle.std.proofs.Common.{◌≡◌, ℕ, ◌+◌, ◌-◌, ◌<◌, ◌≤◌, Bool, true, false, List, [], ◌∷◌, ◌++◌, length, get_or, sym, ap, subst, ◌∙◌, arith, max}
+use Rattle.std.proofs.Common.{◌≡◌, ℕ, ◌+◌, ◌-◌, ◌<◌, ◌≤◌, Bool, true, false, List, [], ◌∷◌, ◌++◌, length, get_or, sym, ap, ◌∙◌, arith, max}
 use Rattle.std.specs.Prelude.{All, AllPairs, count_by, ◌==◌, ◌&&◌}
 use Rattle.std.specs.List.{list_any}
-use Rattle.std.proofs.lemmas.Bool.{and_from, and_parts, eq-eqb, eqb-true, false_from_ne_true, or_from, or_parts}
+use Rattle.std.proofs.lemmas.Bool.{and_from, and_parts, eq-eqb, eqb-true, false_from_ne_true, or_from, or_parts, both_ways}
 use Rattle.std.proofs.lemmas.List.{length_push}
 use Rattle.std.proofs.lemmas.List.Elements.{All-cons, All-get_or, All-nil, All-push, All-weaker}
 use Rattle.std.proofs.lemmas.List.Quantifiers.{all_pairs_push}
@@ -32,9 +32,6 @@ are_small : (n : ℕ) (reports : List Report) → 0 < n → n ≤ 64 → All (Is
 are_small n reports some few h =
     All-weaker (IsGame n) IsSmall (λ report is. small n report.white report.black few (are_paired n report.white report.black some is)) reports h
 
-clash : (t : Bool) → t ≡ false → t ≡ true → ⊥
-clash t e f = let no : false ≡ true = sym e ∙ f in cc
-
 -- a game that has no result isn't one of the two who have one
 new_apart : (n : ℕ) (old : Report) (w b : ℕ) (score : Score) → 0 < n → IsGame n old → is_paired n w b ≡ true → is_of_game w b old ≡ false
     → same_players old (record { white = w; black = b; score = score }) ≡ false
@@ -43,13 +40,13 @@ new_apart n old w b score some game paired none =
     or_from (is_of_game old.white old.black (record { white = w; black = b; score = score })) (is_of_game old.black old.white (record { white = w; black = b; score = score }))
     (false_from_ne_true ((w == old.white) && (b == old.black)) (λ e.
     let both = and_parts (w == old.white) (b == old.black) e in
-    clash (is_of_game w b old) none
+    both_ways (is_of_game w b old) none
     (and_from (old.white == w) (old.black == b) (eq-eqb old.white w (sym (eqb-true w old.white both.0))) (eq-eqb old.black b (sym (eqb-true b old.black both.1))))))
     (false_from_ne_true ((w == old.black) && (b == old.white)) (λ e.
     let both = and_parts (w == old.black) (b == old.white) e in
     let turned : is_paired n b w ≡ true =
     ap (λ k. is_paired n k w) (eqb-true b old.white both.1) ∙ ap (λ k. is_paired n old.white k) (eqb-true w old.black both.0) ∙ game in
-    clash (is_paired n b w) now.turned turned))
+    both_ways (is_paired n b w) now.turned turned))
 
 -- the results with one more
 module _ (t : TourneyState) (space : ℕ) (h : IsTourney t space) (started : t.started ≡ true) (w b : ℕ) (score : Score)
@@ -86,7 +83,7 @@ module _ (t : TourneyState) (space : ℕ) (h : IsTourney t space) (started : t.s
       record {
         few = h.few;
         enough = h.enough;
-        waits = λ e. absurd (clash t.started e started);
+        waits = λ e. absurd (both_ways t.started e started);
         games = added_games;
         apart = added_apart;
         room = λ e. let all : 4096 ≤ length t.results + space = h.room started in omega (arith, all, more, place);

@@ -7,6 +7,7 @@ use Rattle.std.proofs.lemmas.List.Sums.{sum_by-cons}
 use Rattle.tourney_desk.specs.Pairing.{all_pairs, as_pair, is_paired}
 use Rattle.tourney_desk.proofs.Fair.{IsOfPlayer, nothing, of_pair, of_player, pair_value, sum_by-all_pairs, sum_of_player}
 use Rattle.tourney_desk.proofs.Sums.{total, total-single, total-zero}
+use Rattle.std.proofs.Math.Bool.{and-true}
 
 -- an element passes exactly where at least one is counted
 any-count : {X : Type 0} (p : X → Bool) (xs : List X) → list_any p xs ≡ ltb 0 (count_by p xs)
@@ -32,21 +33,17 @@ off_white w b pair p q = ap (λ t. cond (t && eqb pair.1 b) 1 0) (ne_eqb pair.0 
 off_black : (w b : ℕ) → IsOfPlayer b (value w b)
 off_black w b pair p q = ap (λ t. cond t 1 0) (and_right (eqb pair.0 w) (eqb pair.1 b) (ne_eqb pair.1 b q))
 
-and_true : (t : Bool) → (t && true) ≡ t
-and_true true = refl
-and_true false = refl
-
 -- where two have such a pair, its first is White
 pair_told : (n i j w b : ℕ) → ((i ≡ w) × (j ≡ b)) ⊎ ((i ≡ b) × (j ≡ w)) → (w ≡ b → ⊥)
     → is_game w b (as_pair n (i, j)) ≡ eqb (as_pair n (i, j)).0 w
 pair_told n i j w b (inl e) apart =
     of_pair n (i, j) (λ pair. is_game w b pair ≡ eqb pair.0 w)
-    (ap (λ t. eqb i w && t) (eq-eqb j b e.1) ∙ and_true (eqb i w))
+    (ap (λ t. eqb i w && t) (eq-eqb j b e.1) ∙ and-true (eqb i w))
     (ap (λ t. t && eqb i b) (ne_eqb j w (λ same. apart (sym same ∙ e.1))) ∙ sym (ne_eqb j w (λ same. apart (sym same ∙ e.1))))
 pair_told n i j w b (inr e) apart =
     of_pair n (i, j) (λ pair. is_game w b pair ≡ eqb pair.0 w)
     (ap (λ t. t && eqb j b) (ne_eqb i w (λ same. apart (sym same ∙ e.0))) ∙ sym (ne_eqb i w (λ same. apart (sym same ∙ e.0))))
-    (ap (λ t. eqb j w && t) (eq-eqb i b e.0) ∙ and_true (eqb j w))
+    (ap (λ t. eqb j w && t) (eq-eqb i b e.0) ∙ and-true (eqb j w))
 
 bit_back : (t : Bool) → ltb 0 (cond t 1 0) ≡ t
 bit_back true = refl

@@ -3,6 +3,7 @@
 use fics_words::{Fail, Handle, HandleKey, Refusal};
 use std::alloc::Global;
 use std::test::Fail as TestFail;
+use test_steps::first_wrong;
 use tourney_desk::{Row, Score, Tourney};
 
 /// What a call has to answer: nothing where it is done, and else the refusal; `TooLong` stands for want of memory.
@@ -185,12 +186,7 @@ fn is_as_expected(tourney: &mut Tourney, step: &Step) -> bool {
 /// The place of the first step that answers otherwise, if one does.
 fn first_failing(alloc: Global, steps: &[Step]) -> Option<usize> {
     let mut tourney = Tourney::new(alloc);
-    for (place, step) in steps.iter().enumerate() {
-        if !is_as_expected(&mut tourney, step) {
-            return Some(place);
-        }
-    }
-    None
+    first_wrong!(steps, |step| is_as_expected(&mut tourney, step))
 }
 
 #[test]

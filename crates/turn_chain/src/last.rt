@@ -22,7 +22,7 @@ pub fn alone<S: Steps>(
     alloc: Global,
     table: &Turns<S>,
     pass: &mut Pass<S>,
-    one: Lent<S::Part>,
+    mut one: Lent<S::Part>,
     act: &S::Act,
 ) -> Result<S::Reply, NoMemory>
     requires here { pass.old.home ≡ table.now }
@@ -37,17 +37,16 @@ pub fn alone<S: Steps>(
     ensures err { OnErr result (HasNotRun S.core pass.old.view pass.new.view) }
     ensures sure { S.sure act.now → IsOk result }
 {
-    let Lent { number, value } = one;
-    let mut part = value;
-    match S::alone(alloc, &mut part, pass.number(), act) {
-        Ok(reply) => {
+    let made = S::alone(alloc, &mut one.value, pass.number(), act);
+    match &made {
+        Ok(_) => {
             table.commit(pass);
-            table.give(pass, number, part);
-            Ok(reply)
+            table.give(pass, one.number, one.value);
+            made
         }
-        Err(NoMemory) => {
-            table.give(pass, number, part); // nothing was made of it
-            Err(NoMemory)
+        Err(_) => {
+            table.give(pass, one.number, one.value); // nothing was made of it
+            made
         }
     }
 }
@@ -57,8 +56,8 @@ pub fn together<S: Steps>(
     alloc: Global,
     table: &Turns<S>,
     pass: &mut Pass<S>,
-    one: Lent<S::Part>,
-    two: Lent<S::Part>,
+    mut one: Lent<S::Part>,
+    mut two: Lent<S::Part>,
     act: &S::Act,
 ) -> Result<S::Reply, NoMemory>
     requires here { pass.old.home ≡ table.now }
@@ -73,27 +72,18 @@ pub fn together<S: Steps>(
     ensures err { OnErr result (HasNotRun S.core pass.old.view pass.new.view) }
     ensures sure { S.sure act.now → IsOk result }
 {
-    let Lent {
-        number: first,
-        value,
-    } = one;
-    let mut left = value;
-    let Lent {
-        number: second,
-        value,
-    } = two;
-    let mut right = value;
-    match S::together(alloc, &mut left, &mut right, pass.number(), act) {
-        Ok(reply) => {
+    let made = S::together(alloc, &mut one.value, &mut two.value, pass.number(), act);
+    match &made {
+        Ok(_) => {
             table.commit(pass);
-            table.give(pass, first, left);
-            table.give(pass, second, right);
-            Ok(reply)
+            table.give(pass, one.number, one.value);
+            table.give(pass, two.number, two.value);
+            made
         }
-        Err(NoMemory) => {
-            table.give(pass, first, left);
-            table.give(pass, second, right);
-            Err(NoMemory)
+        Err(_) => {
+            table.give(pass, one.number, one.value);
+            table.give(pass, two.number, two.value);
+            made
         }
     }
 }

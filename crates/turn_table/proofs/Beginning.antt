@@ -22,10 +22,6 @@ pub some_or_none : (o : Option ℕ) → (o ≡ None) ⊎ ((j : ℕ) × (o ≡ So
 some_or_none None = inl refl
 some_or_none (Some j) = inr (j, refl)
 
-pub bool_cases : (b : Bool) → (b ≡ true) ⊎ (b ≡ false)
-bool_cases true = inl refl
-bool_cases false = inr refl
-
 pub one_more : (m : ℕ) → (m % 2 ^ 64 + 1) % 2 ^ 64 ≡ (m + 1) % 2 ^ 64
 one_more m = omega arith
 

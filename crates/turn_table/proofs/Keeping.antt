@@ -6,7 +6,7 @@ use Rattle.atomic_table.specs.Table.{Me, turned}
 use Rattle.histories.specs.Core.{Core}
 use Rattle.histories.specs.History.{calls_of}
 use Rattle.turn_table.specs.declared.view.View.{View}
-use Rattle.turn_table.specs.Views.{In, Holds, Looks, Knows, looked, begun, taken, tried, done, left_by, given, let_go, divided, split_from, merged, joined_with, newcomer}
+use Rattle.turn_table.specs.Views.{In, Holds, Looks, Knows, looked, begun, taken, tried, done, left_by, given, let_go, divided, split_from, merged, joined_with}
 use Rattle.turn_table.specs.Plays.{Sat, LooksOn, BeginsAct, TakesPart, FindsBusy, CommitsAct}
 use Rattle.turn_table.specs.Passes.{out, Topped, IsPass, Sound, TookPart, Committed}
 use Rattle.turn_table.proofs.Among.{in_map, kept_was}

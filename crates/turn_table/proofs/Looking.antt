@@ -1,17 +1,15 @@
 -- A look at the history.
-use Rattle.std.proofs.Common.{◌≡◌, ℕ, Bool, true, false, cond, List, length, set, get_or, refl, sym, subst, inl}
+use Rattle.std.proofs.Common.{◌≡◌, ℕ, true, List, set, get_or, refl, sym, subst, inl}
 use Rattle.std.proofs.lemmas.List.{set-get_or}
-use Rattle.std.specs.Prelude.{nat_lt}
 use Rattle.std.specs.List.{slice_get}
-use Rattle.std.specs.declared.option.Option.{Option}
 use Rattle.std.specs.declared.option.Option.TheVariants.{Some}
 use mathlib.Core.Option.{none}
 use Rattle.atomic_table.specs.Table.{step, keeps, Allows}
 use Rattle.histories.specs.Core.{Core, Lawful}
-use Rattle.histories.specs.History.{IsPrefix, state}
+use Rattle.histories.specs.History.{state}
 use Rattle.histories.proofs.Histories.{prefix_refl}
 use Rattle.turn_table.specs.declared.view.View.{View}
-use Rattle.turn_table.specs.Views.{In, Looks, Knows, looked, merged}
+use Rattle.turn_table.specs.Views.{In, Looks, Knows, looked}
 use Rattle.turn_table.specs.Rule.{Names, Fits, Rule, Ruled}
 use Rattle.turn_table.specs.Plays.{Sat, LooksOn, Sees}
 use Rattle.turn_table.proofs.Owing.{renamed, moved, Owes, stays}

@@ -1,6 +1,6 @@
 -- Splitting a pass, joining two, and closing the table.
 use Rattle.std.proofs.Common.{◌≡◌, ◌≢◌, ℕ, zero, suc, ◌+◌, ◌<◌, ◌≤◌, ◌⊎◌, Bool, true, false, cond, eqb, ltb, List, [], ◌∷◌, ◌++◌, map, length, set, refl, ap, sym, subst, ◌∙◌, inl, inr, ⊎_elim, arith, length-set, eq-eqb, ne_eqb}
-use Rattle.std.proofs.lemmas.Bool.{ltb-true, ltb-false, lt-ltb, le-ltb}
+use Rattle.std.proofs.lemmas.Bool.{ltb-true, ltb-false, lt-ltb, le-ltb, cases_Bool}
 use Rattle.std.specs.Prelude.{slice_index, nat_lt}
 use Rattle.std.specs.List.{slice_get}
 use Rattle.std.specs.declared.option.Option.{Option}
@@ -18,10 +18,10 @@ use Rattle.turn_table.specs.declared.view.View.{View}
 use Rattle.turn_table.specs.Views.{In, Distinct, Holds, numbers_of, joined_number, divided, split_from, as_joined, merged, spent, newcomer}
 use Rattle.turn_table.specs.Rule.{Names, Fits, Rule, Ruled}
 use Rattle.turn_table.proofs.Among.{in_append, split_on, at_one, at_one_same, at_one_else, at_length}
-use Rattle.turn_table.proofs.Beginning.{some_or_none, bool_cases, none_held}
+use Rattle.turn_table.proofs.Beginning.{some_or_none, none_held}
 
 pub split_lt : (m n : ℕ) {X : Type 0} → (m < n → X) → (n ≤ m → X) → X
-split_lt m n below else = ⊎_elim (λ e. below (ltb-true m n e)) (λ e. else (ltb-false m n e)) (bool_cases (ltb m n))
+split_lt m n below else = ⊎_elim (λ e. below (ltb-true m n e)) (λ e. else (ltb-false m n e)) (cases_Bool (ltb m n))
 
 at_end : {X : Type 0} (l : List X) (a b : X) (j : ℕ) → get_elem? (l ++ a ∷ []) j ≡ some b → (get_elem? l j ≡ some b) ⊎ ((j ≡ length l) × (a ≡ b))
 at_end [] a b zero e = inr (refl, some-injective a b e)
@@ -437,7 +437,7 @@ module _ {P A R : Type 0} (c : Core P A R) (law : Lawful c) (opening : List P) w
       (λ t. absurd (let old = (rule.held k t.0 r t.1).1 in ⊎_elim
       (λ alive. let here : t.0 ≡ id = alone t.0 old.0 old.1 alive in let same : old.0 ≡ v = some-injective old.0 v (sym old.1 ∙ (ap (get_elem? s.views) here ∙ at)) in none_held c v empty k (subst (λ (x : View P A R). Holds x k) same old.2))
       (λ dead. none_held c old.0 (rule.spent_holds_none t.0 old.0 old.1 dead) k old.2)
-      (bool_cases old.0.live)))
+      (cases_Bool old.0.live)))
       (some_or_none (n.holder k)) in
       record {
         same_opening = g.same_opening;

@@ -9,7 +9,7 @@ use Rattle.std.specs.declared.option.Option.TheVariants.{None, Some}
 use mathlib.Core.Option.{some, none}
 use lib.ListN.{get_elem?}
 use prog.Atomic.{either}
-use Rattle.atomic_table.specs.Table.{State, Me, Step, step, Act, keeps, takes, gives, Allows, rest}
+use Rattle.atomic_table.specs.Table.{State, Step, step, Act, keeps, takes, Allows}
 use Rattle.atomic_table.proofs.Lists.{set_here, set_else}
 use Rattle.histories.specs.Core.{Core, Lawful}
 use Rattle.histories.specs.History.{state}
@@ -21,7 +21,8 @@ use Rattle.turn_table.specs.Rule.{Names, Fits, Rule, Ruled}
 use Rattle.turn_table.specs.Plays.{Sat, TakesPart, Takes, FindsBusy}
 use Rattle.turn_table.proofs.Among.{in_append, in_front, pair_first, split_on, at_one, at_one_same, at_one_else}
 use Rattle.turn_table.proofs.Owing.{renamed, moved, Owes, stays}
-use Rattle.turn_table.proofs.Beginning.{some_or_none, bool_cases, pair_second, only_one, second_found, second_short, second_none, flight_cases, whole, count, look, holds_here}
+use Rattle.turn_table.proofs.Beginning.{some_or_none, pair_second, only_one, second_found, second_short, second_none, flight_cases, whole, count, look, holds_here}
+use Rattle.std.proofs.lemmas.Bool.{cases_Bool}
 
 module _ {P A R : Type 0} (c : Core P A R) (law : Lawful c) (opening : List P) where
   module _ (s : State (Option P) (View P A R)) (n : Names A R) (id : ℕ) (v : View P A R) (rule : Rule c opening s n) (at : get_elem? s.views id ≡ some v) (live : v.live ≡ true) where
@@ -42,7 +43,7 @@ module _ {P A R : Type 0} (c : Core P A R) (law : Lawful c) (opening : List P) w
 
       -- it isn't committed, since then all that may be taken is held
       pending : v.committed ≡ false
-      pending = ⊎_elim (λ e. absurd (unheld_here (f.all_held e k may))) (λ e. e) (bool_cases v.committed)
+      pending = ⊎_elim (λ e. absurd (unheld_here (f.all_held e k may))) (λ e. e) (cases_Bool v.committed)
 
       -- where its first part may be taken, or is it, nothing else may be
       alone : (a : A) → v.flight ≡ Some a → k ≡ c.first a → v.may ≡ c.first a ∷ []

@@ -13,6 +13,7 @@
 mod edges;
 mod law;
 mod pass;
+mod patience;
 mod steps;
 mod turns;
 mod view;

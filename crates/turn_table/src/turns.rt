@@ -10,7 +10,7 @@ ghost use Rattle.turn_table.specs.Passes.{busy_more, with_busy, AllJoined, Commi
 use crate::law::{Joining, Law, Opening, Slot, Splitting};
 use crate::pass::Pass;
 use crate::view::View;
-use crate::{edges, steps};
+use crate::{edges, patience, steps};
 use atomic_table::Table;
 use histories::Served;
 use memory::NoMemory;
@@ -19,6 +19,10 @@ use std::marker::{Brand, Model};
 use std::snapshot::Snapshot;
 use std::sync::Wait;
 use std::thread;
+use std::time::Duration;
+
+/// What the word of a turn shows while a pass has it.
+const TAKEN: u32 = 1;
 
 /// The parts of a server, each behind a turn. Contracts see which table it is.
 #[derive(Drop)]
@@ -133,13 +137,37 @@ impl<S: Served> Turns<S> {
         ensures value { slice_get (state S.core pass.old.view.opening pass.new.view.seen) part ≡ Some result }
         ensures held { HoldsState S.core pass.new.view }
     {
+        let mut tries: u32 = 0;
         for _ in rt.forever() {
             if let Some(value) = self.try_take(pass, part) {
                 return value;
             }
-            thread::yield_now();
+            if let Some(sleep) = self.rest(pass, part, tries) {
+                self.table
+                    .shared
+                    .park_timeout(rt, part as usize, TAKEN, sleep);
+            }
+            tries = tries.saturating_add(1);
         }
         unreachable!()
+    }
+
+    /// Lets some time go by after so many tries in vain of a part's turn: looks at the turn's word at first, and then
+    /// gives the processor up. Answers how long the pass may sleep, once it has tried for long.
+    fn rest(&self, pass: &Pass<S>, part: u8, tries: u32) -> Option<Duration>
+        requires here { pass.now.home ≡ self.now }
+        requires may { In part pass.now.view.may }
+        ensures there { part < self.now.words }
+    {
+        // What holds of every pass is known from here on.
+        let _number = pass.number;
+        let sleep = patience::sleep_after(tries);
+        if tries == 0 {
+            patience::watch::<S>(&self.table.shared, part as usize);
+        } else if sleep.is_none() {
+            thread::yield_now();
+        }
+        sleep
     }
 
     /// Commits the act in flight: it becomes one entry of the history, the last that the pass then sees. All its parts

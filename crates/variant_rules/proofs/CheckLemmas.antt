@@ -1,5 +1,5 @@
 -- Attacks on a square before and after a man comes or goes.
-use Rattle.std.proofs.Common.{arith, ◌≡◌, ◌≢◌, ◌⊎◌, ℕ, not, nat_eq, ◌<◌, inl, inr, length, Bool, true, false, ◌||◌, refl, sym, ap, subst, ◌∙◌, Option, Some, None}
+use Rattle.std.proofs.Common.{arith, ◌≡◌, ◌≢◌, ◌⊎◌, ℕ, not, nat_eq, ◌<◌, inl, inr, length, Bool, true, false, refl, sym, ap, subst, ◌∙◌, Option, Some, None}
 use Rattle.std.specs.Prelude.{slice_set}
 use Rattle.std.proofs.lemmas.Bool.{cases_order}
 use Rattle.std.proofs.lemmas.Bool.Decides.{eqb_tells}
@@ -12,27 +12,20 @@ use Rattle.chess_model.specs.declared.man.Kind.TheVariants.{Pawn, Knight, Bishop
 use Rattle.chess_model.specs.declared.man.Man.{Man}
 use Rattle.chess_model.specs.Squares.{distance, along}
 use Rattle.chess_model.specs.Placement.{Placement, man_at, opposite, IsHeldBy}
-use Rattle.chess_model.specs.Reach.{IsStep, Clear, Strikes}
+use Rattle.chess_model.specs.Reach.{Clear, Strikes}
 use Rattle.chess_model.specs.Attacked.{StrikesAs, StrikesFrom, IsAttacked}
 use Rattle.bitboard_core.specs.Sets.{Has}
-use Rattle.bitboard_core.proofs.StrikesBack.{Strikes-back}
 use Rattle.variant_rules.specs.Checks.{IsBare}
-use Rattle.variant_rules.proofs.LineLemmas.{Fills, along-lt, distance-along, distance-self, same_or_other, still-strikes}
-use Rattle.variant_rules.proofs.UndoLemmas.{opposite-opposite}
+use Rattle.variant_rules.proofs.LineLemmas.{Fills, distance-along, same_or_other, still-strikes}
+use Rattle.chess_model.proofs.NoMoreMen.{IsStep-differs}
+use Rattle.chess_model.proofs.ChessLaws.{Strikes-back, opposite-opposite}
+use Rattle.bitboard_core.proofs.StepLemmas.{along-lt}
 
 pub has_or_not : (set t : ℕ) → Has set t ⊎ (¬ Has set t)
 has_or_not set t = elim (cases_order (bit_at set t) 1) [
   | inl same ↦ inl same
   | inr other ↦ inr (λ h. elim other [ inl less ↦ absurd (omega (arith, less, h)) | inr more ↦ absurd (omega (arith, more, h)) ])
 ]
-
-pub neither : (x y : Bool) → (x || y) ≡ false → (x ≡ false) × (y ≡ false)
-neither true y e = cc
-neither false y e = (refl, e)
-
-pub one_of : (x y : Bool) → (x || y) ≡ true → (x ≡ true) ⊎ (y ≡ true)
-one_of true y e = inl refl
-one_of false y e = inr e
 
 pub some-not : (n : ℕ) → n ≢ 0 → not (nat_eq n 0) ≡ true
 some-not n other = elim (eqb_tells n 0) [ inl same ↦ absurd (other same.1) | inr apart ↦ ap not apart.0 ]
@@ -69,18 +62,6 @@ pub record Eases (Q R : Placement) (by : Colour) (s : ℕ) : Type 0 where
   pub empty : (t : ℕ) → t < 64 → t ≢ s → man_at Q t ≡ None → man_at R t ≡ None
   pub men : (x : ℕ) → x < 64 → x ≢ s → IsHeldBy by (man_at Q x) → man_at R x ≡ man_at Q x
 
-step-apart : (c : Colour) (k : Kind) (x s : ℕ) → IsStep c k x s → x ≢ s
-unfolding IsStep
-step-apart c Pawn x s step e = absurd (omega (arith, step.0, distance-self x s e))
-step-apart c Knight x s step e = elim step [
-  | inl one ↦ absurd (omega (arith, one.0, distance-self x s e))
-  | inr two ↦ absurd (omega (arith, two.0, distance-self x s e))
-]
-step-apart c Bishop x s step e = step.0 e
-step-apart c Rook x s step e = step.0 e
-step-apart c Queen x s step e = elim step [ inl straight ↦ straight.0 e | inr diagonal ↦ diagonal.0 e ]
-step-apart c King x s step e = absurd (omega (arith, step, distance-self x s e))
-
 eased-way : (Q R : Placement) (by : Colour) (x s : ℕ) → x < 64 → s < 64 → Eases Q R by s → Clear Q x s → Clear R x s
 eased-way Q R by x s lx ls eases clear = record {
   empty = λ k some less.
@@ -113,7 +94,7 @@ eased-as Q R by x s (Some m) lx ls eases h = (h.0, eased-strikes Q R by by m.kin
 
 apart-as : (Q : Placement) (by : Colour) (x s : ℕ) (man : Option Man) → StrikesAs Q by x s man → x ≢ s
 apart-as Q by x s None h = absurd h
-apart-as Q by x s (Some m) h = step-apart by m.kind x s h.1.step
+apart-as Q by x s (Some m) h = IsStep-differs by m.kind x s h.1.step
 
 pub eased-from : (Q R : Placement) (by : Colour) (x s : ℕ) → x < 64 → s < 64 → Eases Q R by s → StrikesFrom Q by x s → StrikesFrom R by x s
 eased-from Q R by x s lx ls eases h =

@@ -5,7 +5,6 @@ pub mod HandLemmas
 pub mod LiftLemmas
 pub mod LineLemmas
 pub mod MoveLemmas
-pub mod NamedAnswers
 pub mod PartLemmas
 pub mod ReachLemmas
 pub mod SightLemmas

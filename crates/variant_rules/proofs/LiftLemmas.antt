@@ -21,9 +21,10 @@ use Rattle.bitboard_core.specs.Sets.{Has, IsSetOf, bit_if}
 use Rattle.bitboard_core.specs.Strikers.{man_place, is_placed, IsOccupied, AreMenOf, IsStruckSet, IsStrikerSet}
 use Rattle.bitboard_core.proofs.SetLemmas.{Has-and, Has-and_both}
 use Rattle.variant_rules.specs.Checks.{AreSeenFrom, ArePinned}
-use Rattle.variant_rules.proofs.SightLemmas.{held-placed, own-bit}
+use Rattle.variant_rules.proofs.SightLemmas.{held-placed}
 use Rattle.variant_rules.proofs.LineLemmas.{same_or_other}
 use Rattle.variant_rules.proofs.CheckLemmas.{has_or_not, held-both, none-held, at-written, at-unwritten, Eases, eased-from, bare-from, bare-strikes, bare-near, bare-far}
+use Rattle.bitboard_core.proofs.BitsLemmas.{Has-held}
 
 -- nothing where the bit is set
 abbrev pub lift_man : ℕ → Option Man → Option Man
@@ -139,14 +140,14 @@ pinned-is P c s lines own occupied snipers seen side size ls fits_l fits_o safe 
       let shields : ℕ = bit_and lines own in
       let fits : shields < 2 ^ 64 = and_lt 64 lines own fits_l fits_o in
       let owns : (t : ℕ) → t < 64 → Has shields t → IsHeldBy c (man_at P t) =
-      λ t lt h. (own-bit P c own t held lt).0 (Has-and lines own t h).1 in
+      λ t lt h. (Has-held P c own t held lt).0 (Has-and lines own t h).1 in
       let from = bare-from P c s a size la bare in
       let x : ℕ = from.0 in
       let first : Has lines a = elim (has_or_not lines a) [
         | inl in_lines ↦ in_lines
         | inr out ↦ absurd (bare-near P c s a x ls safe from.1 (λ strikes. out ((struck.each a la).1 strikes)))
       ] in
-      let shield : Has shields a = Has-and_both lines own a first ((own-bit P c own a held la).1 here) in
+      let shield : Has shields a = Has-and_both lines own a first ((Has-held P c own a held la).1 here) in
       let set = strike (lifted P shields) (lifted-enemies P c shields side owns men) (lifted-occupied P occupied shields fits all) in
       let through : StrikesFrom (lifted P shields) (opposite c) x s =
       eased-from (slice_set P a None) (lifted P shields) (opposite c) x s from.1.square ls (lifted-eases P c s a shields size la shield owns)

@@ -3,50 +3,30 @@ use Rattle.std.proofs.Common.{arith, ◌≡◌, ◌≢◌, ℕ, ◌<◌, ◌≤�
 use Rattle.std.specs.Int.{abs_diff}
 use Rattle.std.proofs.lemmas.Bool.{cases_order}
 use Rattle.chess_model.specs.declared.man.Colour.{Colour}
-use Rattle.chess_model.specs.declared.man.Colour.TheVariants.{White, Black}
 use Rattle.chess_model.specs.declared.man.Kind.{Kind}
 use Rattle.chess_model.specs.declared.man.Kind.TheVariants.{Pawn, Knight, Bishop, Rook, Queen, King}
 use Rattle.chess_model.specs.Squares.{file_of, rank_of, square_at, files_apart, ranks_apart, distance, toward, along}
 use Rattle.chess_model.specs.Placement.{Placement, man_at, opposite}
-use Rattle.chess_model.specs.Reach.{IsForward, IsStep, Clear, IsOpen, Strikes}
-use Rattle.bitboard_core.proofs.StrikesBack.{Clear-near, Strikes-back}
-use Rattle.variant_rules.proofs.UndoLemmas.{opposite-opposite}
+use Rattle.chess_model.specs.Reach.{IsStep, Clear, IsOpen, Strikes}
+use Rattle.bitboard_core.proofs.RayLemmas.{toward-lt, file_of-square_at, rank_of-square_at}
+use Rattle.bitboard_core.proofs.StepLemmas.{along-lt}
+use Rattle.chess_model.proofs.Captures.{forward-near}
+use Rattle.chess_model.proofs.ChessLaws.{Clear-near, Strikes-back, opposite-opposite}
 
 -- the coordinates of a square along the way
-
-toward-lt : (x y k : ℕ) → x < 8 → y < 8 → toward x y k < 8
-toward-lt x y k a b = omega arith
-
-file-square_at : (f r : ℕ) → f < 8 → file_of (square_at f r) ≡ f
-file-square_at f r l = omega arith
-
-rank-square_at : (f r : ℕ) → f < 8 → rank_of (square_at f r) ≡ r
-rank-square_at f r l = omega arith
 
 file-lt : (s : ℕ) → file_of s < 8
 file-lt s = omega arith
 
-rank-lt : (s : ℕ) → s < 64 → rank_of s < 8
-rank-lt s l = omega arith
-
 file-along : (s x k : ℕ) → file_of (along s x k) ≡ toward (file_of s) (file_of x) k
 file-along s x k =
-    file-square_at (toward (file_of s) (file_of x) k) (toward (rank_of s) (rank_of x) k)
+    file_of-square_at (toward (file_of s) (file_of x) k) (toward (rank_of s) (rank_of x) k)
     (toward-lt (file_of s) (file_of x) k (file-lt s) (file-lt x))
 
 rank-along : (s x k : ℕ) → rank_of (along s x k) ≡ toward (rank_of s) (rank_of x) k
 rank-along s x k =
-    rank-square_at (toward (file_of s) (file_of x) k) (toward (rank_of s) (rank_of x) k)
+    rank_of-square_at (toward (file_of s) (file_of x) k) (toward (rank_of s) (rank_of x) k)
     (toward-lt (file_of s) (file_of x) k (file-lt s) (file-lt x))
-
-square_at-lt : (f r : ℕ) → f < 8 → r < 8 → square_at f r < 64
-square_at-lt f r a b = omega arith
-
-pub along-lt : (s x k : ℕ) → s < 64 → x < 64 → along s x k < 64
-along-lt s x k ls lx =
-    square_at-lt (toward (file_of s) (file_of x) k) (toward (rank_of s) (rank_of x) k)
-    (toward-lt (file_of s) (file_of x) k (file-lt s) (file-lt x))
-    (toward-lt (rank_of s) (rank_of x) k (rank-lt s ls) (rank-lt x lx))
 
 -- k steps toward y leave x by k, or reach y
 apart-toward : (x y k : ℕ) → abs_diff x (toward x y k) ≡ min k (abs_diff x y)
@@ -193,10 +173,6 @@ by-line P Q c by k s x a ls lx fills line other h =
     still-clear P Q c s x a ls lx fills (line-of c (opposite by) k s x line back.step) (clear-of k Q s x other back.open_way) in
     let there : Strikes P (opposite by) k s x = record { step = back.step; open_way = open-of k P s x clear } in
     subst (λ (d : Colour). Strikes P d k x s) (opposite-opposite by) (Strikes-back P (opposite by) k s x there)
-
-forward-near : (c : Colour) (a b : ℕ) → files_apart a b ≡ 1 → IsForward c 1 a b → distance a b ≤ 1
-forward-near White a b files h = omega (arith, files, h)
-forward-near Black a b files h = omega (arith, files, h)
 
 pub still-strikes : (P Q : Placement) (c by : Colour) (k : Kind) (s x a : ℕ) → s < 64 → x < 64 → Fills P Q c s a →
     Strikes Q by k x s → Strikes P by k x s

@@ -1,6 +1,5 @@
 -- The moves of a man to its targets.
 use Rattle.std.proofs.Common.{arith, ◌≡◌, ◌≢◌, ℕ, ◌+◌, ◌<◌, ◌≤◌, inl, inr, List, [], ◌∷◌, ◌++◌, Bool, true, false, ◌&&◌, not, nat_eq, is_none, refl, sym, ap, subst, ◌∙◌, Option, Some, None}
-use Rattle.std.specs.Int.{abs_diff}
 use Rattle.std.proofs.lemmas.Bool.{cases_order, eq-eqb}
 use Rattle.chess_model.specs.declared.man.Colour.{Colour}
 use Rattle.chess_model.specs.declared.man.Kind.{Kind}
@@ -15,13 +14,13 @@ use Rattle.chess_model.specs.MoveList.{is_pawn_kind, is_pawn, is_en_passant}
 use Rattle.chess_model.specs.Position.{Position}
 use Rattle.chess_model.specs.Allowed.{HasPromotion, GoesAs, IsMove, Allowed}
 use Rattle.bitboard_core.specs.Sets.{Has}
-use Rattle.bitboard_core.specs.Strikers.{IsReachSet}
 use Rattle.bitboard_core.proofs.SetLemmas.{Has-and, Has-and_both}
 use lib.Bits.{bit_and}
 use Rattle.variant_rules.specs.declared.guard.Guard.{Guard}
 use Rattle.variant_rules.specs.Listing.{moves_between, moves_from_below, if_allowed, IsGuard, IsTargetSet, AreGoals}
 use Rattle.variant_rules.proofs.CheckLemmas.{has_or_not, held-both, none-held}
 use Rattle.variant_rules.proofs.PartLemmas.{between-none, between-not, between-one, between-four, from-start, from-step}
+use Rattle.chess_model.proofs.ChessLaws.{no_diff}
 
 -- which moves a man of a kind has
 
@@ -176,9 +175,6 @@ not-both : (x y : Bool) → (x && (false && y)) ≡ false
 not-both true y = refl
 not-both false y = refl
 
-no_diff : (x y : ℕ) → abs_diff x y ≡ 0 → x ≡ y
-no_diff x y e = omega arith
-
 some-held : (c : Colour) (man : Option Man) → IsHeldBy c man → is_none man ≡ false
 some-held c None h = absurd h
 some-held c (Some m) h = refl
@@ -235,7 +231,7 @@ next-more b n lb from le = elim (cases_order n 64) [
 
 -- squares without an own man
 
-no_own : (p : Position) (a b : ℕ) (promo : Option Kind) (man : Option Man) → ¬ IsHeldBy p.to_move man → ¬ GoesAs p a b promo man
+pub no_own : (p : Position) (a b : ℕ) (promo : Option Kind) (man : Option Man) → ¬ IsHeldBy p.to_move man → ¬ GoesAs p a b promo man
 no_own p a b promo None other h = h
 no_own p a b promo (Some m) other h = other h.0
 

@@ -1,16 +1,11 @@
 -- What a pawn reaches by taking in passing.
-use Rattle.std.proofs.Common.{arith, ◌≡◌, ◌↔◌, ℕ, ◌≤◌, ◌⊎◌, inl, inr, sym, ap, Option, Some, None}
+use Rattle.std.proofs.Common.{arith, ◌≡◌, ◌↔◌, ℕ, ◌⊎◌, inl, inr, sym, ap, Option, Some, None}
 use Rattle.chess_model.specs.declared.man.Colour.{Colour}
-use Rattle.chess_model.specs.declared.man.Colour.TheVariants.{White, Black}
 use Rattle.chess_model.specs.declared.man.Kind.TheVariants.{Pawn}
-use Rattle.chess_model.specs.Squares.{files_apart, distance}
 use Rattle.chess_model.specs.Placement.{Placement}
-use Rattle.chess_model.specs.Reach.{IsForward, IsStep, Strikes, Reaches}
-use Rattle.bitboard_core.proofs.StrikesBack.{Clear-near}
-
-forward-near : (c : Colour) (a b : ℕ) → files_apart a b ≡ 1 → IsForward c 1 a b → distance a b ≤ 1
-forward-near White a b files h = omega (arith, files, h)
-forward-near Black a b files h = omega (arith, files, h)
+use Rattle.chess_model.specs.Reach.{IsStep, Strikes, Reaches}
+use Rattle.chess_model.proofs.Captures.{forward-near}
+use Rattle.chess_model.proofs.ChessLaws.{Clear-near}
 
 step-strikes : (P : Placement) (c : Colour) (a b : ℕ) → IsStep c Pawn a b → Strikes P c Pawn a b
 unfolding IsStep

@@ -1,5 +1,5 @@
 -- The sets by which kings see, after a square has changed.
-use Rattle.std.proofs.Common.{arith, ◌≡◌, ◌≢◌, ◌↔◌, ◌&&◌, ℕ, ◌<◌, ◌^◌, nat_eq, is_some, refl, sym, ap, ◌∙◌, Option, Some, None, w64}
+use Rattle.std.proofs.Common.{arith, ◌≡◌, ◌≢◌, ◌&&◌, ℕ, ◌<◌, ◌^◌, nat_eq, is_some, refl, sym, ap, ◌∙◌, Option, Some, None, w64}
 use Rattle.std.specs.Bool.{Decides}
 use Rattle.std.specs.Int.{bit_not}
 use Rattle.std.proofs.lemmas.Bool.Decides.{Decides-eqb, Decides-and, Decides-like, same_from_decides}
@@ -8,12 +8,12 @@ use Rattle.chess_model.specs.declared.man.Colour.{Colour}
 use Rattle.chess_model.specs.declared.man.Kind.{Kind}
 use Rattle.chess_model.specs.declared.man.Kind.TheVariants.{King}
 use Rattle.chess_model.specs.declared.man.Man.{Man}
-use Rattle.chess_model.specs.Men.{same_colour, same_kind, is_held_as, is_held_by}
-use Rattle.chess_model.specs.Placement.{Placement, man_at, IsHeldBy, IsHeldAs}
-use Rattle.chess_model.proofs.TestsDecide.{Decides-colour, Decides-kind, Decides-held_by, Decides-held_as}
-use Rattle.bitboard_core.specs.Sets.{Has, IsSetOf, bit_if}
+use Rattle.chess_model.specs.Men.{same_colour, same_kind, is_held_as}
+use Rattle.chess_model.specs.Placement.{Placement, man_at, IsHeldAs}
+use Rattle.chess_model.proofs.TestsDecide.{Decides-colour, Decides-kind, Decides-held_as}
+use Rattle.bitboard_core.specs.Sets.{Has, bit_if}
 use Rattle.bitboard_core.specs.Strikers.{man_place, is_placed, IsOccupied, AreKingsOf}
-use Rattle.bitboard_core.proofs.SetLemmas.{bit_if-true, bit_if-of_true}
+use Rattle.bitboard_core.proofs.SetLemmas.{bit_if-of_true}
 use Rattle.bitboard_core.proofs.StrikerLemmas.{same_place}
 
 -- a man's set is that of its colour and kind
@@ -33,19 +33,6 @@ king-bit P c kings s all ls held =
     all.each s ls
     ∙ bit_if-of_true (is_placed (man_place c King) (man_at P s))
     (sym (held-placed c King (man_at P s)) ∙ (Decides-held_as c King (man_at P s)).1 held)
-
--- and nothing else
-pub king-of-bit : (P : Placement) (c : Colour) (kings s : ℕ) → AreKingsOf P c kings → s < 64 → Has kings s → IsHeldAs c King (man_at P s)
-king-of-bit P c kings s all ls h =
-    (Decides-held_as c King (man_at P s)).0
-    (held-placed c King (man_at P s) ∙ bit_if-true (is_placed (man_place c King) (man_at P s)) (sym (all.each s ls) ∙ h))
-
--- the set of a colour's men has exactly the squares where one stands
-pub own-bit : (P : Placement) (c : Colour) (set s : ℕ) → IsSetOf (is_held_by c) P set → s < 64 → Has set s ↔ IsHeldBy c (man_at P s)
-own-bit P c set s all ls = (
-  λ h. (Decides-held_by c (man_at P s)).0 (bit_if-true (is_held_by c (man_at P s)) (sym (all.each s ls) ∙ h)),
-  λ h. all.each s ls ∙ bit_if-of_true (is_held_by c (man_at P s)) ((Decides-held_by c (man_at P s)).1 h),
-)
 
 -- of all squares outside the set of the occupied ones none is occupied
 pub free-bit : (P : Placement) (occupied s : ℕ) → occupied < 2 ^ 64 → IsOccupied P occupied → s < 64 → ¬ Has (bit_not w64 occupied) s →

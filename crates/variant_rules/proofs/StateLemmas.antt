@@ -1,8 +1,6 @@
 -- What there is to do for the player to move.
-use Rattle.std.proofs.Common.{arith, ◌≡◌, ◌≢◌, ℕ, ◌+◌, ◌<◌, ◌≤◌, ◌⊎◌, inl, inr, Bool, true, false, not, refl, sym, subst, ◌∙◌, Option, Some, None}
-use Rattle.std.specs.Bool.{Decides}
+use Rattle.std.proofs.Common.{arith, ◌≡◌, ◌≢◌, ℕ, ◌+◌, ◌<◌, ◌≤◌, ◌⊎◌, inl, inr, Bool, true, false, refl, subst, Option, Some, None}
 use Rattle.std.proofs.lemmas.Bool.{cases_order}
-use Rattle.std.proofs.lemmas.Bool.Decides.{not_from_Decides}
 use Rattle.chess_model.specs.declared.man.Colour.{Colour}
 use Rattle.chess_model.specs.declared.man.Kind.{Kind}
 use Rattle.chess_model.specs.declared.man.Kind.TheVariants.{Pawn, Knight, Bishop, Rook, Queen, King}
@@ -15,13 +13,13 @@ use Rattle.chess_model.specs.Placement.{man_at, IsHeldBy}
 use Rattle.chess_model.specs.Holdings.{count_in}
 use Rattle.chess_model.specs.Position.{Position, hand_of_side}
 use Rattle.chess_model.specs.Allowed.{IsPromotion, HasPromotion, GoesAs, HasDrops, Allowed}
-use Rattle.chess_model.specs.Attacked.{IsKingSafe}
 use Rattle.chess_model.specs.declared.states.State.{State}
 use Rattle.chess_model.specs.declared.states.State.TheVariants.{Safe, Check, Mate, Stalemate}
-use Rattle.chess_model.specs.Result.{state_of, IsOnBoard, HasAnswer, Shields, IsState}
+use Rattle.chess_model.specs.Result.{IsOnBoard, HasAnswer, Shields, IsState}
 use Rattle.bitboard_core.specs.Sets.{Has}
 use Rattle.variant_rules.specs.Listing.{AreGoals}
 use Rattle.variant_rules.specs.States.{NoneFrom, CanMove, CanDropAny, CanBeShielded}
+use Rattle.variant_rules.proofs.MoveLemmas.{no_own}
 
 pub can-move : (p : Position) (a b : ℕ) (promo : Option Kind) → Allowed p (Plain a b promo) → CanMove p
 unfolding CanMove
@@ -96,12 +94,8 @@ none-all p a n le below = record { none = λ b promo h. below.none b (omega (ari
 
 -- squares without an own man
 
-no-own : (p : Position) (a b : ℕ) (promo : Option Kind) (man : Option Man) → ¬ IsHeldBy p.to_move man → ¬ GoesAs p a b promo man
-no-own p a b promo None other h = h
-no-own p a b promo (Some m) other h = other h.0
-
 pub none-from-other : (p : Position) (a : ℕ) → ¬ IsHeldBy p.to_move (man_at p.men a) → NoneFrom p a
-none-from-other p a other = record { none = λ b promo h. no-own p a b promo (man_at p.men a) other h.move.goes }
+none-from-other p a other = record { none = λ b promo h. no_own p a b promo (man_at p.men a) other h.move.goes }
 
 -- nothing on the board is allowed
 pub none-on-board : (p : Position) → ((a : ℕ) → a < 64 → NoneFrom p a) → ¬ Allowed p (Castle false) → ¬ Allowed p (Castle true) → ¬ CanMove p
@@ -217,14 +211,3 @@ state_unique p Safe Check a b = absurd (b.0 a.0)
 state_unique p Safe Mate a b = absurd (b.0 a.0)
 state_unique p Safe Stalemate a b = elim (a.1) [ inl h ↦ absurd (b.1 h) | inr h ↦ absurd (b.2 h) ]
 state_unique p Safe Safe a b = refl
-
--- the state by the variant, for the facts that the two tests decide
-pub told : (v : Variant) (p : Position) → p.variant ≡ v → (safe answered : Bool) → Decides safe (IsKingSafe p.men p.to_move) →
-    Decides answered (HasAnswer p.variant p) → IsState p (state_of v (not safe) answered)
-told v p e true true s a = (s.0 refl, inl (a.0 refl))
-told v p e false true s a = (not_from_Decides false s refl, a.0 refl)
-told v p e false false s a = (not_from_Decides false s refl, not_from_Decides false a refl)
-told Chess p e true false s a = (s.0 refl, not_from_Decides false a refl, λ f. let g = sym e ∙ f in cc)
-told (Fischer number) p e true false s a = (s.0 refl, not_from_Decides false a refl, λ f. let g = sym e ∙ f in cc)
-told Crazyhouse p e true false s a = (s.0 refl, not_from_Decides false a refl, λ f. let g = sym e ∙ f in cc)
-told Bughouse p e true false s a = (s.0 refl, inr e)

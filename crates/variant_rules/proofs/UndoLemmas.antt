@@ -4,7 +4,6 @@ use Rattle.std.specs.Prelude.{slice_set}
 use Rattle.std.proofs.lemmas.Bool.{cases_order}
 use Rattle.std.proofs.lemmas.List.{length-set, get_or-set_other, get_or-set_same, get_or_default, same_lists}
 use Rattle.chess_model.specs.declared.man.Colour.{Colour}
-use Rattle.chess_model.specs.declared.man.Colour.TheVariants.{White, Black}
 use Rattle.chess_model.specs.declared.moves.Move.{Move}
 use Rattle.chess_model.specs.declared.moves.Move.TheVariants.{Plain, Castle, Drop}
 use Rattle.chess_model.specs.declared.variant.Variant.{Variant}
@@ -18,6 +17,8 @@ use Rattle.chess_model.specs.Next.{next}
 use Rattle.chess_model.proofs.NoMoreMen.{length-place_after}
 use Rattle.variant_rules.specs.declared.make.Undo.{Undo}
 use Rattle.variant_rules.specs.Undos.{changed_squares, DifferOn, StoodIn, IsUndoOf}
+use Rattle.chess_model.proofs.ChessLaws.{opposite-opposite}
+use Rattle.variant_rules.proofs.LineLemmas.{same_or_other}
 
 pub differ-after : (v : Variant) (P : Placement) (c : Colour) (m : Move) →
     DifferOn P (place_after v P c m) (changed_squares v P c m).one (changed_squares v P c m).two (changed_squares v P c m).three (changed_squares v P c m).four
@@ -49,12 +50,6 @@ set_back P X a s less h = elim (cases_order s a) [
   | inr other ↦
       let apart : s ≢ a = elim other [ inl l ↦ omega (arith, l) | inr l ↦ omega (arith, l) ] in
       get_or-set_other X a s (man_at P a) None apart ∙ elim h [ inl e ↦ e | inr e ↦ absurd (apart e) ]
-]
-
-same_or_other : (s a : ℕ) → (s ≡ a) ⊎ (s ≢ a)
-same_or_other s a = elim (cases_order s a) [
-  | inl same ↦ inl same
-  | inr other ↦ inr (elim other [ inl l ↦ omega (arith, l) | inr l ↦ omega (arith, l) ])
 ]
 
 module _ (P Q : Placement) (a b c d : ℕ) (size : length P ≡ 64) (kept : length Q ≡ 64) (differ : DifferOn P Q a b c d) where
@@ -164,10 +159,6 @@ undo_made p m u squares size few which on1 on2 on3 on4 s1 s2 s3 s4 passed rights
       white = white;
       black = black;
     }
-
-pub opposite-opposite : (c : Colour) → opposite (opposite c) ≡ c
-opposite-opposite White = refl
-opposite-opposite Black = refl
 
 -- the men after the taking back
 pub men_back : (u : Undo) (p q : Position) → IsUndoOf u p q →

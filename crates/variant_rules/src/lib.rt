@@ -9,7 +9,6 @@
 mod answer;
 mod changes;
 mod guard;
-mod homes;
 mod kings;
 mod listing;
 mod make;

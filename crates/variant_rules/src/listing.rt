@@ -14,13 +14,12 @@ ghost use Rattle.variant_rules.specs.Listing.{moves_between, moves_from_below, p
 
 use crate::changes::takes_en_passant;
 use crate::guard::Guard;
-use crate::homes::last_rank_of;
 use crate::position::Position;
-use crate::rules::has_drops;
 use bitboard_core::{Bits, has_square, next_square, pawn_squares, square_of};
 use chess_model::{Colour, Kind, Move, Square};
 use memory::NoMemory;
 use std::alloc::Global;
+use word_answers::{has_drops, last_rank_of};
 
 /// Room for the allowed half-moves of nearly all positions.
 const USUAL_ROOM: usize = 64;

@@ -10,11 +10,11 @@ ghost use Rattle.variant_rules.specs.Undos.{captured_by, changed_squares, IsUndo
 use crate::changes::{
     change_men, hand_next, passed_square, quiet_after, rights_left, taken_by, takes_on,
 };
-use crate::homes::{end_of_king, end_of_rook, home_of_king, home_of_rook};
 use crate::position::Position;
 use bitboard_core::Bits;
 use chess_model::{Colour, Man, Move, Rights, Square, Variant};
 use holdings_drops::Holdings;
+use word_answers::{end_of_king, end_of_rook, home_of_king, home_of_rook};
 
 /// Four squares, which may repeat each other.
 #[derive(Clone, Copy)]

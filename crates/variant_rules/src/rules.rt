@@ -4,14 +4,16 @@ ghost use Rattle.chess_model.specs.Placement.{man_at};
 ghost use Rattle.chess_model.specs.Reach.{Strikes, Reaches};
 ghost use Rattle.chess_model.specs.Attacked.{IsAttacked};
 ghost use Rattle.chess_model.specs.Tests.{is_allowed};
-ghost use Rattle.chess_model.specs.Allowed.{IsPromotion, HasPromotion, GoesAs, IsPlainMove, right_of, IsUnattackedWay, IsFreeFor, IsFreeWay, CanCastle, HasDrops, MayDropOn, CanDrop, IsMove, IsSafeAfter, Allowed};
+ghost use Rattle.chess_model.specs.Allowed.{IsPromotion, HasPromotion, GoesAs, IsPlainMove, right_of, IsUnattackedWay, IsFreeFor, IsFreeWay, CanCastle, CanDrop, IsMove, IsSafeAfter, Allowed};
 ghost use Rattle.chess_model.specs.Squares.{distance, along, toward};
 
-use crate::homes::{end_of_king, end_of_rook, home_of_king, home_of_rook, last_rank_of};
 use crate::position::Position;
 use crate::sights::sights_after;
 use bitboard_core::{Bits, has_square, is_struck, pawn_squares};
-use chess_model::{Colour, Kind, Move, Rights, Square, Variant};
+use chess_model::{Colour, Kind, Move, Rights, Square};
+use word_answers::{
+    end_of_king, end_of_rook, has_drops, home_of_king, home_of_rook, last_rank_of, may_drop_on,
+};
 
 /// Whether a pawn may become that kind.
 fn is_promotion_kind(promo: Option<Kind>) -> bool
@@ -140,31 +142,6 @@ fn is_free_way(men: &Bits, king: Square, rook: Square, a: Square, b: Square) -> 
         }
     }
     true
-}
-
-pub(crate) fn has_drops(v: Variant) -> bool
-    ensures { IsTrue result ↔ HasDrops v }
-{
-    match v {
-        Variant::Chess => false,
-        Variant::Crazyhouse => true,
-        Variant::Bughouse => true,
-        Variant::Fischer(_) => false,
-    }
-}
-
-/// Whether a man of that kind may be dropped on the rank of that square.
-pub(crate) fn may_drop_on(k: Kind, to: Square) -> bool
-    ensures { IsTrue result ↔ MayDropOn k to }
-{
-    match k {
-        Kind::Pawn => 0 < to.rank() && to.rank() < 7,
-        Kind::Knight => true,
-        Kind::Bishop => true,
-        Kind::Rook => true,
-        Kind::Queen => true,
-        Kind::King => true,
-    }
 }
 
 fn is_that(en_passant: Option<Square>, b: Square) -> bool

@@ -10,10 +10,10 @@ ghost use Rattle.variant_rules.specs.States.{state_in, NoneFrom, CanMove, CanDro
 use crate::changes::{is_pawn_of_kind, unpromoted_man};
 use crate::guard::Guard;
 use crate::position::Position;
-use crate::rules::has_drops;
 use crate::sights::sights_of;
 use bitboard_core::{has_square, next_square, square_of};
 use chess_model::{Kind, Man, Move, Square, State, Variant};
+use word_answers::has_drops;
 
 /// The state by the variant, whether the player is in check, and whether there is an answer.
 fn state_by(v: Variant, in_check: bool, has_answer: bool) -> State

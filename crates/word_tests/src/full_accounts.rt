@@ -3,6 +3,7 @@
 use fics_words::{Digest, Fail as Refused, Handle, Refusal};
 use login_handles::Accounts;
 use std::test::Fail;
+use test_steps::least_wrong;
 
 /// As many accounts as a server holds.
 const MOST: u64 = 4_096;
@@ -36,12 +37,7 @@ fn refusal(accounts: &mut Accounts, number: u64) -> Option<Refusal> {
 
 /// The first of the accounts up to that number that is refused, if one is.
 fn first_refused(accounts: &mut Accounts, count: u64) -> Option<u64> {
-    for number in 0..count {
-        if refusal(accounts, number).is_some() {
-            return Some(number);
-        }
-    }
-    None
+    least_wrong!(0..count, |number| refusal(accounts, number).is_none())
 }
 
 #[test]

@@ -5,6 +5,7 @@ use memory_edges::{LinkStep, MemLink};
 use std::alloc::Global;
 use std::process::Abort;
 use std::test::Fail;
+use test_steps::first_wrong;
 
 /// A call of a link, and what it has to come to.
 enum Call {
@@ -70,21 +71,15 @@ fn closes(link: &mut MemLink) -> bool {
 }
 
 /// The place of the first call that comes to something else, if one does.
-fn first_wrong(link: &mut MemLink, calls: &[Call]) -> Option<usize> {
-    for (place, call) in calls.iter().enumerate() {
-        let holds = match call {
-            Writes(bytes) => sent(link, bytes) == Sent::All,
-            Loses(bytes) => sent(link, bytes) == Sent::Failed,
-            Reads(bytes) => reads(link, bytes),
-            Hears(what) => hears(link, *what),
-            Closes => closes(link),
-            Keeps(bytes) => keeps(link, bytes),
-        };
-        if !holds {
-            return Some(place);
-        }
-    }
-    None
+fn first_failing(link: &mut MemLink, calls: &[Call]) -> Option<usize> {
+    first_wrong!(calls, |call| match call {
+        Writes(bytes) => sent(link, bytes) == Sent::All,
+        Loses(bytes) => sent(link, bytes) == Sent::Failed,
+        Reads(bytes) => reads(link, bytes),
+        Hears(what) => hears(link, *what),
+        Closes => closes(link),
+        Keeps(bytes) => keeps(link, bytes),
+    })
 }
 
 /// What a link gives, the calls of it that fail, by their numbers, and what all calls come to.
@@ -128,16 +123,16 @@ const CASES: &[Case] = &[
 ];
 
 /// The place of the first call of a case that comes to something else, if one does.
-fn first_wrong_of(alloc: Global, case: &Case) -> Result<Option<usize>, Fail> {
+fn first_failing_of(alloc: Global, case: &Case) -> Result<Option<usize>, Fail> {
     let steps = steps_of(alloc, case.given)?;
     let fails = Vec::from_slice(alloc, case.fails)?;
-    Ok(first_wrong(&mut MemLink::new(alloc, steps, fails), case.calls))
+    Ok(first_failing(&mut MemLink::new(alloc, steps, fails), case.calls))
 }
 
 /// Looks at each case, whether it goes as it has to.
 fn each_case(rt: &impl Abort, alloc: Global) -> Result<(), Fail> {
     for case in CASES {
-        assert_eq!(rt; first_wrong_of(alloc, case)?, None, "{}", case.name);
+        assert_eq!(rt; first_failing_of(alloc, case)?, None, "{}", case.name);
     }
     Ok(())
 }

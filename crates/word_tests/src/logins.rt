@@ -5,6 +5,7 @@ use login_handles::{Accounts, Check, digest_of, guest_name};
 use std::alloc::Global;
 use std::process::Abort;
 use std::test::Fail;
+use test_steps::assert_rows;
 
 /// The key of a handle that is one.
 fn key(rt: &impl Abort, name: &[u8]) -> HandleKey {
@@ -47,18 +48,13 @@ fn check(accounts: &Accounts, name: HandleKey, digest: Option<Digest>) -> Check 
 /// A name, a password if there is one, and what a login with them is met by.
 struct Row(&'static [u8], Option<&'static [u8]>, Check);
 
-/// The first row that is met otherwise, if one is.
-fn first_wrong(rt: &impl Abort, accounts: &Accounts, rows: &[Row]) -> Option<usize> {
-    for (place, row) in rows.iter().enumerate() {
-        let digest = match row.1 {
-            Some(password) => Some(digest(password)),
-            None => None,
-        };
-        if check(accounts, key(rt, row.0), digest) != row.2 {
-            return Some(place);
-        }
-    }
-    None
+/// Whether a login is met as the row says.
+fn is_met(rt: &impl Abort, accounts: &Accounts, row: &Row) -> bool {
+    let digest = match row.1 {
+        Some(password) => Some(digest(password)),
+        None => None,
+    };
+    check(accounts, key(rt, row.0), digest) == row.2
 }
 
 /// The digest of a password.
@@ -99,9 +95,9 @@ const AFTER: &[Row] = &[
 #[test]
 fn an_account_guards_its_handle(rt: HostRuntime) -> Result<(), Fail> {
     let mut accounts = Accounts::new(rt.alloc());
-    assert_eq!(rt; first_wrong(&rt, &accounts, BEFORE), None);
+    assert_rows!(rt; BEFORE, |row| is_met(&rt, &accounts, row));
     assert!(rt; add(&rt, &mut accounts, b"Ann", b"abc") == Ok(()));
-    assert_eq!(rt; first_wrong(&rt, &accounts, AFTER), None);
+    assert_rows!(rt; AFTER, |row| is_met(&rt, &accounts, row));
     let twice = add(&rt, &mut accounts, b"aNN", b"x y ");
     assert!(rt; twice == Err(Refused::Refused(Refusal::AlreadyRegistered)));
     assert!(rt; is_alone(&accounts, b"Ann"));
@@ -132,8 +128,6 @@ fn is_next(alloc: Global, rt: &impl Abort, taken: &[&[u8]], name: &[u8]) -> Resu
 
 #[test]
 fn a_guest_has_the_least_free_name(rt: HostRuntime) -> Result<(), Fail> {
-    for (place, (taken, name)) in GUESTS.iter().enumerate() {
-        assert!(rt; is_next(rt.alloc(), &rt, taken, name)?, "row {place}");
-    }
+    assert_rows!(rt; GUESTS, |(taken, name)| is_next(rt.alloc(), &rt, taken, name)?);
     Ok(())
 }

@@ -1,5 +1,5 @@
 use Rattle.std.proofs.Common.{take, sym, ap, ◌∙◌}
-use Rattle.examine_command.proofs.Cuts.{after_is, after_none, before_none, place-found, place-missing}
+use Rattle.line_answers.proofs.Cuts.{after_is, after_none, before_none, place-found, place-missing}
 use Rattle.examine_command.specs.Lines.{is_blank}
 use Rattle.examine_command.proofs.reading.cut.Goals as goal
 

@@ -2,8 +2,9 @@ use Rattle.std.proofs.Common.{ℕ, List, unwrap_or, sym, ap, ◌∙◌}
 use Rattle.channel_feed.specs.Waiting.{with_line as with_one_more}
 use Rattle.lobby_state.specs.Broadcast.{hears}
 use Rattle.lobby_state.proofs.Broadcasting.{not_told, was_told}
-use Rattle.lobby_state.proofs.Lent.{kept_there, length-change_at, on_err}
+use Rattle.lobby_state.proofs.Lent.{kept_there, length-change_at}
 use Rattle.lobby_state.proofs.broadcast.tell.Goals as goal
+use Rattle.tables.proofs.Firsts.{on_err}
 
 pub returns-then-not-hears-clause-told : goal.returns-then-not-hears-clause-told
 returns-then-not-hears-clause-told g c m at =

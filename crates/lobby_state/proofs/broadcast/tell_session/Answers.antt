@@ -3,9 +3,10 @@ use Rattle.channel_feed.specs.Waiting.{with_line as with_one_more}
 use Rattle.lobby_state.specs.Lobby.{is_session}
 use Rattle.lobby_state.specs.Match.{with_line}
 use Rattle.lobby_state.proofs.First.{change_first-missing}
-use Rattle.lobby_state.proofs.Lent.{changed_there, kept_here, on_err}
+use Rattle.lobby_state.proofs.Lent.{changed_there, kept_here}
 use Rattle.lobby_state.proofs.OneHears.{one_hears}
 use Rattle.lobby_state.proofs.broadcast.tell_session.Goals as goal
+use Rattle.tables.proofs.Firsts.{on_err}
 
 pub returns-in_default-clause-ok : goal.returns-in_default-clause-ok
 returns-in_default-clause-ok c =

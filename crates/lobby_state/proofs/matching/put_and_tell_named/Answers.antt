@@ -3,8 +3,9 @@ use Rattle.channel_feed.specs.Waiting.{with_line as with_one_more}
 use Rattle.lobby_state.specs.Lobby.{is_named}
 use Rattle.lobby_state.specs.Match.{with_line}
 use Rattle.lobby_state.proofs.First.{change_first-missing}
-use Rattle.lobby_state.proofs.Lent.{changed_there, kept_here, on_err}
+use Rattle.lobby_state.proofs.Lent.{changed_there, kept_here}
 use Rattle.lobby_state.proofs.matching.put_and_tell_named.Goals as goal
+use Rattle.tables.proofs.Firsts.{on_err}
 
 pub returns-in_default-clause-told : goal.returns-in_default-clause-told
 returns-in_default-clause-told c = sym (change_first-missing (is_named c.args.to) (with_line c.args.line) c.args.members.now (sym c.in_default.ensures))

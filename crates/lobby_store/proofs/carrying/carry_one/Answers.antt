@@ -1,4 +1,4 @@
-use Rattle.std.proofs.Common.{List, ℕ, subst, sym, ap, ◌∙◌}
+use Rattle.std.proofs.Common.{List, ℕ, subst}
 use Rattle.edge_traits.specs.Keeper.{HasPut, HasRemoved}
 use Rattle.lobby_store.proofs.OrdersOut.{put_carries, removed_carries}
 use Rattle.lobby_store.proofs.carrying.carry_one.Goals as goal

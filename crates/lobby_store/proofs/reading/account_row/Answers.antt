@@ -1,4 +1,4 @@
-use Rattle.std.proofs.Common.{List, ℕ, Bool, not, true, sym, ap, ◌∙◌, refl, ◌≡◌, subst}
+use Rattle.std.proofs.Common.{List, ℕ, Bool, true, sym, ap, ◌∙◌, refl, ◌≡◌}
 use Rattle.std.specs.Prelude.{bytes_eq}
 use Rattle.game_records.specs.Keys.{account_key}
 use Rattle.std.proofs.lemmas.Slice.Eq.{bytes_eq-Decides}

@@ -1,12 +1,12 @@
 use Rattle.std.proofs.Common.{◌≡◌, Bool, true, false, not, cond, [], ◌∷◌, None, Some, refl, sym, subst, ◌∙◌}
 use Rattle.std.specs.Prelude.{ℕ, ◌==◌, ◌||◌, is_some}
-use Rattle.std.proofs.lemmas.Bool.{and_parts, not-true}
+use Rattle.std.proofs.lemmas.Bool.{and_parts, not-true, or_parts}
 use Rattle.fics_words.specs.declared.refusal.Refusal.{Refusal}
 use Rattle.fics_words.specs.declared.refusal.Refusal.TheVariants.{HasPartner}
 use Rattle.partner_link.specs.declared.pairs.PartnerLink.{PartnerLink}
 use Rattle.partner_link.specs.Laws.{ArePartnersAlone}
 use Rattle.partner_link.specs.Partners.{PartnerLists, asked, has_asked, linked, names, partner_of, stands}
-use Rattle.partner_link.proofs.Links.{flipped, linked_first, linked_second, neither_is, no_partner, partner_of-append}
+use Rattle.partner_link.proofs.Links.{flipped, linked_first, linked_second, no_partner, partner_of-append}
 use Rattle.partner_link.proofs.Requests.{list_any-filter}
 use Rattle.partner_link.proofs.laws.asked_back_are_partners.Goals as goal
 
@@ -18,7 +18,7 @@ allowed false cause e = refl
 partners : (lists : PartnerLists) (from to : ℕ) → is_some (partner_of lists.links from) || is_some (partner_of lists.links to) ≡ false
     → has_asked lists.requests to from ≡ true → ArePartnersAlone (linked lists from to) from to
 partners lists from to alone asks =
-    let free = neither_is (is_some (partner_of lists.links from)) (is_some (partner_of lists.links to)) alone in
+    let free = or_parts (is_some (partner_of lists.links from)) (is_some (partner_of lists.links to)) alone in
     let differ = not-true (from == to) (and_parts (not (from == to)) (stands lists.requests to from) asks).0 in
     let link : PartnerLink = record { first = to; second = from } in
     record {
@@ -30,10 +30,10 @@ partners lists from to alone asks =
           ∙ linked_first to from;
       first_unasked =
           list_any-filter (names from) (λ request. not (names from request || names to request))
-          (λ request kept. (neither_is (names from request) (names to request) (not-true (names from request || names to request) kept)).0) lists.requests;
+          (λ request kept. (or_parts (names from request) (names to request) (not-true (names from request || names to request) kept)).0) lists.requests;
       second_unasked =
           list_any-filter (names to) (λ request. not (names from request || names to request))
-          (λ request kept. (neither_is (names from request) (names to request) (not-true (names from request || names to request) kept)).1) lists.requests;
+          (λ request kept. (or_parts (names from request) (names to request) (not-true (names from request || names to request) kept)).1) lists.requests;
     }
 
 pub returns : goal.returns

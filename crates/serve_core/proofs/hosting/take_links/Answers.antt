@@ -1,6 +1,7 @@
 use Rattle.std.proofs.Common.{◌∙◌, arith, refl, rules}
 use Rattle.edge_traits.specs.Door.{KeepsLinks}
-use Rattle.serve_core.specs.Tending.{Stand, Store, stand}
+use Rattle.serve_core.specs.Tending.{Stand, stand}
+use Rattle.serve_core.specs.Outside.{Store}
 use Rattle.serve_core.specs.declared.settle.Supply.TheVariants.{Enough}
 use Rattle.serve_core.proofs.Telling.{goes_same, links_then}
 use Rattle.serve_core.proofs.Tending.{tended_same, tended_then}

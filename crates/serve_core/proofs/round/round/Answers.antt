@@ -2,7 +2,8 @@ use Rattle.std.proofs.Common.{ap, sym, subst}
 use Rattle.edge_traits.specs.declared.doorway.Came.TheVariants as came
 use Rattle.serve_core.specs.declared.settle.Supply.{Supply}
 use Rattle.serve_core.specs.Keeping.{Underway}
-use Rattle.serve_core.specs.Tending.{Stand, Store, Tended, stand}
+use Rattle.serve_core.specs.Tending.{Stand, Tended, stand}
+use Rattle.serve_core.specs.Outside.{Store}
 use Rattle.serve_core.specs.Turns.{supply_then}
 use Rattle.serve_core.proofs.Keeping.{kept_quiet}
 use Rattle.serve_core.proofs.Telling.{links_came, links_stay}

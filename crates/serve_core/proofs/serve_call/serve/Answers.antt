@@ -1,7 +1,6 @@
 use Rattle.std.proofs.Common.{[], ◌∷◌, arith, inl, inr, refl, subst, sym}
 use Rattle.std.specs.Prelude.{Contains}
-use Rattle.serve_core.specs.Serving.{Sheet}
-use Rattle.serve_core.specs.Tending.{Store}
+use Rattle.serve_core.specs.Outside.{Sheet, Store}
 use Rattle.serve_core.proofs.ServeEnds.{call_bad, call_calm, call_door, call_good, call_keeper, call_listed, call_text, call_told, call_usage, call_write, one_rose, usage_else, usage_front, usage_listed, usage_told}
 use Rattle.serve_core.proofs.serve_call.serve.Goals as goal
 

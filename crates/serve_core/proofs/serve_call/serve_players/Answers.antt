@@ -1,12 +1,12 @@
 use Rattle.std.proofs.Common.{inl, inr}
 use Rattle.one_server.specs.Whole.{opened}
 use Rattle.serve_core.specs.Opening.{IsLoaded}
-use Rattle.serve_core.specs.Serving.{Sheet, whole_text}
-use Rattle.serve_core.specs.Tending.{Store}
+use Rattle.serve_core.specs.Outside.{Sheet, Store}
+use Rattle.serve_core.specs.Text.{whole_text}
 use Rattle.serve_core.proofs.Opening.{appends_from, front_from, served_from, some_as, table_agrees}
 use Rattle.serve_core.proofs.ServeEnds.{told_from}
-use Rattle.serve_core.proofs.Tending.{rose_before}
 use Rattle.serve_core.proofs.serve_call.serve_players.Goals as goal
+use Rattle.line_answers.proofs.Rounds.{Rose-since}
 
 pub returns-in-Ok-clause-served : goal.returns-in-Ok-clause-served
 returns-in-Ok-clause-served g c =
@@ -61,12 +61,12 @@ returns-in-Ok-clause-ends g c =
       c.status.ensures,
       record {
         door_fault = s.ensures.door_fault;
-        write_fault = λ e. rose_before before.faults mid.faults later.faults store.write_counted (s.ensures.write_fault e);
-        keeper_fault = λ e. rose_before old.faults loaded.faults new.faults store.keeper_counted (s.ensures.keeper_fault e);
+        write_fault = λ e. Rose-since before.faults mid.faults later.faults store.write_counted (s.ensures.write_fault e);
+        keeper_fault = λ e. Rose-since old.faults loaded.faults new.faults store.keeper_counted (s.ensures.keeper_fault e);
         text = λ clean. appends_from before.written mid.written later.written none whole_text (s.ensures.text clean);
         text_part = front_from before.written mid.written later.written none whole_text s.ensures.text_part;
-        complete = λ calm. s.ensures.complete (λ r. calm (inl r)) (λ r. calm (inr (inl (rose_before before.faults mid.faults later.faults store.write_counted r))))
-            (λ r. calm (inr (inr (rose_before old.faults loaded.faults new.faults store.keeper_counted r))));
+        complete = λ calm. s.ensures.complete (λ r. calm (inl r)) (λ r. calm (inr (inl (Rose-since before.faults mid.faults later.faults store.write_counted r))))
+            (λ r. calm (inr (inr (Rose-since old.faults loaded.faults new.faults store.keeper_counted r))));
         write_told = told_from before.faults mid.faults later.faults end c.in-Ok.ensures.write_calm s.ensures.write_told;
       },
     )

@@ -5,9 +5,11 @@ use Rattle.serve_core.specs.declared.end.DoorEnd.TheVariants as door_end
 use Rattle.serve_core.specs.declared.end.ServeEnd.{ServeEnd}
 use Rattle.serve_core.specs.declared.end.ServeEnd.TheVariants.{DoorFault, WriteFault}
 use Rattle.serve_core.specs.declared.settle.Supply.TheVariants.{Enough}
-use Rattle.serve_core.specs.Serving.{HasServedAll, IsClean, Sheet, closed_text, ready_text}
-use Rattle.serve_core.specs.Stopping.{end_of}
-use Rattle.serve_core.specs.Tending.{Store, stand}
+use Rattle.serve_core.specs.Serving.{HasServedAll}
+use Rattle.serve_core.specs.Stopping.{IsClean, end_of}
+use Rattle.serve_core.specs.Outside.{Sheet, Store}
+use Rattle.serve_core.specs.Text.{closed_text, ready_text}
+use Rattle.serve_core.specs.Tending.{stand}
 use Rattle.serve_core.proofs.Closing.{all_served}
 use Rattle.serve_core.proofs.Ending.{closes_by, closes_failed, closes_short, comes, may_be, told_by}
 use Rattle.serve_core.proofs.Keeping.{kept_first}

@@ -3,10 +3,9 @@ use Rattle.command_words.specs.Commands.{command_in}
 use Rattle.command_words.specs.declared.command.Command.{Command}
 use Rattle.fics_words.specs.declared.refusal.Refusal.{Refusal}
 use Rattle.session_core.specs.declared.next.Next.{Next}
-use Rattle.session_core.specs.declared.stage.Stage.{Stage}
 use Rattle.session_core.specs.Inputs.{asked_course}
 use Rattle.session_core.specs.Texts.{refusal_line}
-use Rattle.session_core.specs.Stages.{Settles, continues, course_of}
+use Rattle.session_core.specs.Stages.{Settles, course_of}
 use Rattle.session_core.proofs.MatchTerms.{command_read}
 use Rattle.session_core.proofs.OwnAnswers.{refused-answered}
 use Rattle.session_core.proofs.begin.read_text.Goals as goal
@@ -21,8 +20,8 @@ returns-in_ok-put_refusal-in-Err-Refused-clause-settles c =
     let is : command_in c.args.memory.now.aliases c.args.text.now ≡ Err c.in-Err-Refused.cause =
     sym (ap (λ aliases. command_in aliases c.args.text.now) c.aliases.ensures) ∙ read in
     subst (λ (asked : Result Command Refusal). Settles (asked_course asked c.args.stamp c.args.memory.now)
-    (course_of continues c.ask_round.result c.args.memory.now) c.args.out.now.items c.put_refusal.new.out.items) (sym is)
+    (course_of c.ask_round.result c.args.memory.now) c.args.out.now.items c.put_refusal.new.out.items) (sym is)
     (record {
       text = c.in_ok-put_refusal-in-Err-Refused.ensures ∙ ap (λ cause. c.args.out.now.items ++ refusal_line cause) c.in-Err-Refused.cause-is;
-      goes = ap (λ (next : Next Stage). course_of continues next c.args.memory.now) c.ask_round.ensures;
+      goes = ap (λ (next : Next). course_of next c.args.memory.now) c.ask_round.ensures;
     })

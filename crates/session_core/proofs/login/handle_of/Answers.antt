@@ -1,4 +1,4 @@
-use Rattle.command_words.proofs.Forms.{handle_is}
+use Rattle.fics_words.proofs.HandleTests.{handle_is}
 use Rattle.session_core.proofs.login.handle_of.Goals as goal
 
 pub returns : goal.returns

@@ -1,6 +1,6 @@
 use Rattle.session_core.specs.Inputs.{input_course}
 use Rattle.session_core.specs.Session.{leaving}
-use Rattle.session_core.specs.Stages.{Settles, continues, course_of, first_course}
+use Rattle.session_core.specs.Stages.{Settles, course_of, first_course}
 use Rattle.session_core.specs.declared.first.First.{First}
 use Rattle.session_core.proofs.Beginning.{answered_going, answered_leaving, broke_begun, broke_going, broke_leaving}
 use Rattle.std.proofs.Common.{subst}
@@ -28,14 +28,14 @@ returns-in-Leaving-clause-so_far g c =
 
 pub returns-in-Going-clause-answered : goal.returns-in-Going-clause-answered
 returns-in-Going-clause-answered g c =
-    answered_going c.args.moment c.follow.result (input_course c.args.input c.args.memory.now) (course_of continues c.in-Going.next c.begin.new.memory) (g.R.Runner.state c.args.r.now) (g.R.Runner.state c.follow.new.r)
+    answered_going c.args.moment c.follow.result (input_course c.args.input c.args.memory.now) (course_of c.in-Going.next c.begin.new.memory) (g.R.Runner.state c.args.r.now) (g.R.Runner.state c.follow.new.r)
     c.args.out.now.items c.begin.new.out.items c.follow.new.out.items c.follow.new.memory c.session-session.ensures.known
     (subst (λ (f : First). Settles (input_course c.args.input c.args.memory.now) (first_course f c.begin.new.memory) c.args.out.now.items c.begin.new.out.items) c.in-Going.is c.in_ok-first.ensures.settles)
     c.follow.ensures.followed
 
 pub returns-in-Going-clause-so_far : goal.returns-in-Going-clause-so_far
 returns-in-Going-clause-so_far g c =
-    broke_going c.args.moment (input_course c.args.input c.args.memory.now) (course_of continues c.in-Going.next c.begin.new.memory) (g.R.Runner.state c.args.r.now) c.args.memory.now c.begin.new.memory
+    broke_going c.args.moment (input_course c.args.input c.args.memory.now) (course_of c.in-Going.next c.begin.new.memory) (g.R.Runner.state c.args.r.now) c.args.memory.now c.begin.new.memory
     c.args.out.now.items c.begin.new.out.items (g.R.Runner.state c.follow.new.r) c.follow.new.memory c.session-session.ensures.known
     (subst (λ (f : First). Settles (input_course c.args.input c.args.memory.now) (first_course f c.begin.new.memory) c.args.out.now.items c.begin.new.out.items) c.in-Going.is c.in_ok-first.ensures.settles)
     (remembers_none c.args.memory.now c.begin.new.memory c.begin.ensures.inside c.begin.ensures.places c.begin.ensures.looks) c.follow.ensures.so_far

@@ -1,8 +1,7 @@
-use Rattle.std.proofs.Common.{◌≡◌, ℕ, ◌+◌, ◌*◌, ◌≤◌, suc, sym, ap, subst, ◌∙◌, refl, arith, add-one}
+use Rattle.std.proofs.Common.{ℕ, ◌+◌, suc, sym, subst, ◌∙◌, refl, arith, add-one}
 use Rattle.steward_core.specs.Saving.{RunsRound, TakesSaving}
 use Rattle.steward_core.specs.declared.saving.Round.{Round}
-use Rattle.steward_core.specs.declared.turn.StewardEnd.{StewardEnd}
-use Rattle.steward_core.specs.declared.turn.StewardEnd.TheVariants.{Done, KeeperFault, Memory}
+use Rattle.steward_core.specs.declared.turn.StewardEnd.TheVariants.{Done}
 use Rattle.steward_core.proofs.AgreedStill.{agreed_still, agreed_then}
 use Rattle.steward_core.proofs.OrdersSaved.{HasSaved, ended_fault, ended_last, ended_most, ended_short, none_saved, saved_next}
 use Rattle.steward_core.proofs.saving.save_orders.Goals as goal

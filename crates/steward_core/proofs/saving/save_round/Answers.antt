@@ -1,4 +1,4 @@
-use Rattle.std.proofs.Common.{List, length, sym, ap, subst, ◌∙◌, ◌≤◌}
+use Rattle.std.proofs.Common.{List, length, sym, subst, ◌∙◌, ◌≤◌}
 use Rattle.game_shelf.specs.declared.order.Order.{Order}
 use Rattle.steward_core.specs.Agreement.{state_seen}
 use Rattle.steward_core.specs.Saving.{last_number}

@@ -1,7 +1,6 @@
-use Rattle.std.proofs.Common.{◌≡◌, ◌-◌, List, [], take, drop, length, sym, ap, subst, ◌∙◌, take-append-drop, arith}
+use Rattle.std.proofs.Common.{◌≡◌, ◌-◌, List, [], take, drop, length, sym, ap, ◌∙◌, take-append-drop, arith}
 use Rattle.std.proofs.lemmas.List.{length-drop}
 use Rattle.std.proofs.Math.Seq.{drop-length}
-use Rattle.steward_core.specs.Saving.{Tells}
 use Rattle.steward_core.proofs.saving.save_told.Goals as goal
 
 pub returns-clause-saves : goal.returns-clause-saves

@@ -1,7 +1,5 @@
-use Rattle.std.proofs.Common.{Option, Some, sym, ap, ◌∙◌, subst}
+use Rattle.std.proofs.Common.{Option, Some, sym, ap, ◌∙◌}
 use Rattle.std.specs.Option.{option_copied}
-use Rattle.one_server.specs.Running.{Runs}
-use Rattle.steward_core.specs.Saving.{says_saved}
 use Rattle.steward_core.proofs.OrdersTold.{says_last, tells_done, tells_short}
 use Rattle.steward_core.proofs.saving.tell_saved.Goals.{in-Ok, in-Err}
 use Rattle.steward_core.proofs.saving.tell_saved.Goals as goal

@@ -1,7 +1,7 @@
 use Rattle.std.proofs.Common.{take, sym, ap, ◌∙◌}
 use Rattle.tourney_desk.proofs.Positions.{place-found, place-missing}
 use Rattle.tourney_command.specs.Lines.{is_blank}
-use Rattle.tourney_command.proofs.Cuts.{after_is, after_none, before_none}
+use Rattle.line_answers.proofs.Cuts.{after_is, after_none, before_none}
 use Rattle.tourney_command.proofs.reading.cut.Goals as goal
 
 pub returns-in-Some-clause-word : goal.returns-in-Some-clause-word

@@ -1,4 +1,4 @@
-use Rattle.tourney_command.proofs.Handles.{handle_is}
+use Rattle.fics_words.proofs.HandleTests.{handle_is}
 use Rattle.tourney_command.proofs.reading.read_handle.Goals as goal
 
 pub returns : goal.returns

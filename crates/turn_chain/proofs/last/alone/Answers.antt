@@ -1,9 +1,11 @@
-use Rattle.std.proofs.Common.{None, ap, ◌∙◌}
+use Rattle.std.proofs.Common.{◌≡◌, None, ap, sym, subst, ◌∙◌}
+use Rattle.std.specs.Prelude.{IfOk, OnOk}
+use Rattle.turn_chain.specs.Chain.{HasRun}
 use Rattle.turn_chain.proofs.Ending.{lent_first, out_alone, named_alone, idle_alone, same_alone, ran_alone}
 use Rattle.turn_chain.proofs.last.alone.Goals as goal
 
-pub alone-requires-clause-first : goal.alone-requires-clause-first
-alone-requires-clause-first g c = lent_first g.S.Served.core c.args.pass.now.view c.args.act.now c.args.one.number c.args.one.value c.requires.ready c.requires.first
+pub alone-made-requires-clause-first : goal.alone-made-requires-clause-first
+alone-made-requires-clause-first g c = lent_first g.S.Served.core c.args.pass.now.view c.args.act.now c.args.one.number c.args.one.value c.requires.ready c.requires.first
 
 pub commit-requires-clause-out : goal.commit-requires-clause-out
 commit-requires-clause-out g c κs within =
@@ -21,7 +23,7 @@ give-requires-clause-named g c κs within =
     let p = c.args.one.value in
     let w = c.commit.new.pass.view in
     let told = c.commit.ensures.done a p None (out_alone g.S.Served.core v a k p r.ready r.first r.single) in
-    named_alone g.S.Served.core v a k p r.ready r.first r.single w told c.alone.new.one (c.in-Ok.ensures.after ∙ ap (λ n. g.S.Served.core.one p None n a) c.number.ensures)
+    named_alone g.S.Served.core v a k p r.ready r.first r.single w told c.alone-made.new.one ((subst (λ made. OnOk made (c.alone-made.new.one ≡ g.S.Served.core.one p None c.number.result a)) c.in-Ok.is c.alone-made.ensures.after) ∙ ap (λ n. g.S.Served.core.one p None n a) c.number.ensures)
 
 pub returns-in-Ok-clause-idle : goal.returns-in-Ok-clause-idle
 returns-in-Ok-clause-idle g c =
@@ -51,5 +53,6 @@ returns-in-Ok-clause-ok g c =
     let k = c.args.one.number in
     let p = c.args.one.value in
     let told = c.commit.ensures.done a p None (out_alone g.S.Served.core v a k p r.ready r.first r.single) in
-    ran_alone g.S.Served.core v a k p r.ready r.first r.single c.commit.new.pass.view told c.give.new.pass.view c.give.ensures.given c.in-Ok.reply
-    (c.in-Ok.ensures.reply ∙ ap (λ n. g.S.Served.core.answer p None n a) c.number.ensures)
+    subst (λ made. IfOk made (λ reply. HasRun g.S.Served.core v a reply c.give.new.pass.view)) (sym c.in-Ok.is)
+    (ran_alone g.S.Served.core v a k p r.ready r.first r.single c.commit.new.pass.view told c.give.new.pass.view c.give.ensures.given c.in-Ok.field-0
+    ((subst (λ made. IfOk made (λ r. r ≡ g.S.Served.core.answer p None c.number.result a)) c.in-Ok.is c.alone-made.ensures.reply) ∙ ap (λ n. g.S.Served.core.answer p None n a) c.number.ensures))

@@ -1,10 +1,12 @@
-use Rattle.std.proofs.Common.{Some, ap, sym, subst, ◌∙◌}
+use Rattle.std.proofs.Common.{◌≡◌, Some, ap, sym, subst, ◌∙◌}
+use Rattle.std.specs.Prelude.{IfOk, OnOk, OnErr}
+use Rattle.turn_chain.specs.Chain.{HasRun}
 use Rattle.turn_chain.specs.Lent.{AreBoth}
 use Rattle.turn_chain.proofs.Ending.{lent_both, out_both, named_again, named_first, named_second, idle_both, same_both, ran_both}
 use Rattle.turn_chain.proofs.last.together.Goals as goal
 
-pub together-requires-clause-both : goal.together-requires-clause-both
-together-requires-clause-both g c =
+pub together-made-requires-clause-both : goal.together-made-requires-clause-both
+together-made-requires-clause-both g c =
     let r = c.requires in
     let v = c.args.pass.now.view in
     let a = c.args.act.now in
@@ -35,7 +37,7 @@ give-requires-clause-named g c κs within =
     let s = c.args.two.number in
     let q = c.args.two.value in
     let told = c.commit.ensures.done a p (Some q) (out_both g.S.Served.core v a g.S.Served.lawful r.fits k p s q r.ready r.first r.second) in
-    named_first g.S.Served.core v a g.S.Served.lawful r.fits k p s q r.ready r.first r.second c.commit.new.pass.view told c.together.new.one (c.in-Ok.ensures.one ∙ ap (λ n. g.S.Served.core.one p (Some q) n a) c.number.ensures)
+    named_first g.S.Served.core v a g.S.Served.lawful r.fits k p s q r.ready r.first r.second c.commit.new.pass.view told c.together-made.new.one ((subst (λ made. OnOk made (c.together-made.new.one ≡ g.S.Served.core.one p (Some q) c.number.result a)) c.in-Ok.is c.together-made.ensures.one) ∙ ap (λ n. g.S.Served.core.one p (Some q) n a) c.number.ensures)
 
 pub give-requires-in-Ok-clause-named : goal.give-requires-in-Ok-clause-named
 give-requires-in-Ok-clause-named g c κs within =
@@ -47,8 +49,8 @@ give-requires-in-Ok-clause-named g c κs within =
     let s = c.args.two.number in
     let q = c.args.two.value in
     let told = c.commit.ensures.done a p (Some q) (out_both g.S.Served.core v a g.S.Served.lawful r.fits k p s q r.ready r.first r.second) in
-    named_second g.S.Served.core v a g.S.Served.lawful r.fits k p s q r.ready r.first r.second c.commit.new.pass.view told c.give.new.pass.view c.give.ensures.given c.together.new.two
-    (c.in-Ok.ensures.two ∙ ap (λ n. g.S.Served.core.two p q n a) c.number.ensures)
+    named_second g.S.Served.core v a g.S.Served.lawful r.fits k p s q r.ready r.first r.second c.commit.new.pass.view told c.give.new.pass.view c.give.ensures.given c.together-made.new.two
+    ((subst (λ made. OnOk made (c.together-made.new.two ≡ g.S.Served.core.two p q c.number.result a)) c.in-Ok.is c.together-made.ensures.two) ∙ ap (λ n. g.S.Served.core.two p q n a) c.number.ensures)
 
 pub give-requires-in-Err-2-clause-named : goal.give-requires-in-Err-2-clause-named
 give-requires-in-Err-2-clause-named g c κs within =
@@ -59,7 +61,7 @@ give-requires-in-Err-2-clause-named g c κs within =
     let p = c.args.one.value in
     let s = c.args.two.number in
     let q = c.args.two.value in
-    named_again g.S.Served.core v a g.S.Served.lawful r.fits k p s q r.ready r.first r.second c.give-in-Err.new.pass.view c.give-in-Err.ensures.given c.together.new.two c.in-Err.ensures.err_two
+    named_again g.S.Served.core v a g.S.Served.lawful r.fits k p s q r.ready r.first r.second c.give-in-Err.new.pass.view c.give-in-Err.ensures.given c.together-made.new.two (subst (λ made. OnErr made (c.together-made.new.two ≡ q)) c.in-Err.is c.together-made.ensures.err_two)
 
 pub returns-in-Ok-clause-idle : goal.returns-in-Ok-clause-idle
 returns-in-Ok-clause-idle g c =
@@ -95,5 +97,6 @@ returns-in-Ok-clause-ok g c =
     let s = c.args.two.number in
     let q = c.args.two.value in
     let told = c.commit.ensures.done a p (Some q) (out_both g.S.Served.core v a g.S.Served.lawful r.fits k p s q r.ready r.first r.second) in
-    ran_both g.S.Served.core v a g.S.Served.lawful r.fits k p s q r.ready r.first r.second c.commit.new.pass.view told c.give.new.pass.view c.give.ensures.given c.give-in-Ok.new.pass.view c.give-in-Ok.ensures.given c.in-Ok.reply
-    (c.in-Ok.ensures.reply ∙ ap (λ n. g.S.Served.core.answer p (Some q) n a) c.number.ensures)
+    subst (λ made. IfOk made (λ reply. HasRun g.S.Served.core v a reply c.give-in-Ok.new.pass.view)) (sym c.in-Ok.is)
+    (ran_both g.S.Served.core v a g.S.Served.lawful r.fits k p s q r.ready r.first r.second c.commit.new.pass.view told c.give.new.pass.view c.give.ensures.given c.give-in-Ok.new.pass.view c.give-in-Ok.ensures.given c.in-Ok.field-0
+    ((subst (λ made. IfOk made (λ r. r ≡ g.S.Served.core.answer p (Some q) c.number.result a)) c.in-Ok.is c.together-made.ensures.reply) ∙ ap (λ n. g.S.Served.core.answer p (Some q) n a) c.number.ensures))

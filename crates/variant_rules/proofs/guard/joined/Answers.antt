@@ -1,7 +1,8 @@
 use Rattle.std.proofs.Common.{inl, inr, sym, ◌∙◌}
 use Rattle.bitboard_core.proofs.SetLemmas.{Has-or_left, Has-or_right, Has-and_both}
-use Rattle.variant_rules.proofs.CheckLemmas.{has_or_not, neither, one_of}
+use Rattle.variant_rules.proofs.CheckLemmas.{has_or_not}
 use Rattle.variant_rules.proofs.guard.joined.Goals as goal
+use Rattle.std.proofs.lemmas.Bool.{or_parts, or_cases}
 
 pub returns : goal.returns
 returns c =
@@ -13,6 +14,6 @@ returns c =
         | inr left ↦ inl left
         | inl a ↦ elim (has_or_not two.answers t) [ inr left ↦ inr left | inl b ↦ absurd (out (Has-and_both one.answers two.answers t a b)) ]
       ];
-      safe = λ e. neither one.in_check two.in_check (sym c.either.ensures ∙ e);
-      check = λ e. one_of one.in_check two.in_check (sym c.either.ensures ∙ e);
+      safe = λ e. or_parts one.in_check two.in_check (sym c.either.ensures ∙ e);
+      check = λ e. or_cases one.in_check two.in_check (sym c.either.ensures ∙ e);
     }

@@ -5,8 +5,9 @@ use Rattle.chess_model.specs.Placement.{opposite}
 use Rattle.chess_model.specs.Attacked.{IsAttacked}
 use Rattle.bitboard_core.specs.Sets.{Has}
 use Rattle.variant_rules.specs.Checks.{IsBare}
-use Rattle.variant_rules.proofs.SightLemmas.{king-bit, king-of-bit}
+use Rattle.variant_rules.proofs.SightLemmas.{king-bit}
 use Rattle.variant_rules.proofs.guard.watches.Goals as goal
+use Rattle.bitboard_core.proofs.SafetyLemmas.{Has-king}
 
 pub loop-s-init : goal.loop-s-init
 loop-s-init c = record {
@@ -46,7 +47,7 @@ loop-s-preserved c =
           c.square_of.result,
           record {
             square = here;
-            held = king-of-bit P k c.side-kings.result.kings c.square_of.result c.side-kings.ensures.kings here
+            held = Has-king P k c.side-kings.result.kings c.square_of.result c.side-kings.ensures.kings here
                 (subst (λ (x : ℕ). Has c.side-kings.result.kings x) (sym same_square) king);
             attacked = one.answers.each b man lb left own;
           },
@@ -66,7 +67,7 @@ loop-s-preserved c =
           c.square_of.result,
           record {
             square = here;
-            held = king-of-bit P k c.side-kings.result.kings c.square_of.result c.side-kings.ensures.kings here
+            held = Has-king P k c.side-kings.result.kings c.square_of.result c.side-kings.ensures.kings here
                 (subst (λ (x : ℕ). Has c.side-kings.result.kings x) (sym same_square) king);
             attacked = one.check mine;
           },

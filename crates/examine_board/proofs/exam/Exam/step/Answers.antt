@@ -4,8 +4,9 @@ use Rattle.std.proofs.lemmas.Option.{slice_get_within}
 use Rattle.game_records.specs.declared.stored_game.Half.{Half}
 use Rattle.examine_board.specs.Exam.{ExamState, boards_after}
 use Rattle.examine_board.specs.Laid.{MayLie}
-use Rattle.examine_board.proofs.Stepping.{chargeable, laid, lay_allowed, lay_board, lay_room, lay_short, next_first}
+use Rattle.examine_board.proofs.Stepping.{laid, lay_allowed, lay_board, lay_room, lay_short, next_first}
 use Rattle.examine_board.proofs.exam.Exam.step.Goals as goal
+use Rattle.linked_boards.proofs.Replayed.{chargeable}
 
 pub lay-requires-clause-board : goal.lay-requires-clause-board
 lay-requires-clause-board c =

@@ -23,11 +23,11 @@ use Rattle.game_board.specs.Charges.{clock_of}
 use Rattle.game_board.specs.Steps.{AreSteps}
 use Rattle.game_board.proofs.Charged.{has_room}
 use Rattle.game_board.proofs.Grown.{clock_of-append, half_moves-append}
-use Rattle.game_board.proofs.Legal.{IsLegal-append}
 use Rattle.game_board.proofs.LastPlayed.{All-one}
 use Rattle.game_board.proofs.Movers.{position_of-stands}
 use Rattle.game_board.proofs.Steps.{AreSteps-append, shown-append}
 use Rattle.game_board.proofs.game_board.GameBoard.add.Goals as goal
+use Rattle.chess_model.proofs.LegalLists.{IsLegal-append}
 
 pub make-undo-requires : goal.make-undo-requires
 make-undo-requires c =

@@ -15,11 +15,11 @@ use Rattle.game_board.specs.declared.played.Played.{Played}
 use Rattle.game_board.specs.Board.{Board, made}
 use Rattle.game_board.specs.BoardFace.{before_own}
 use Rattle.game_board.specs.Learn.{partner_position}
-use Rattle.game_board.proofs.Legal.{IsLegal-append}
 use Rattle.game_board.proofs.OwnMoves.{before_own-other}
 use Rattle.game_board.proofs.PairHands.{not_king_if, room_if}
 use Rattle.game_board.proofs.Received.{boards_differ, with_captured-variant, Stands-other}
 use Rattle.game_board.proofs.game_board.GameBoard.learn.Goals as goal
+use Rattle.chess_model.proofs.LegalLists.{IsLegal-append}
 
 -- a half-move as it is kept, and what it is to the rules
 abbrev as_rules : Made → HalfMove

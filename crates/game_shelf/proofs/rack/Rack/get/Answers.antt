@@ -1,9 +1,10 @@
 use Rattle.std.proofs.Common.{◌≡◌, ◌≤◌, None, Some, length, slice_get, sym, ap, subst, ◌∙◌, ltb-true, ltb-false}
 use Rattle.std.specs.Option.{option_copied}
 use Rattle.game_shelf.specs.Numbers.{AreInOrder}
-use Rattle.game_shelf.proofs.Lists.{get_inside, get_past}
+use Rattle.game_shelf.proofs.Lists.{get_inside}
 use Rattle.game_shelf.proofs.Rising.{FoundAt, found_at}
 use Rattle.game_shelf.proofs.rack.Rack.get.Goals as goal
+use Rattle.std.proofs.lemmas.Option.{slice_get_past}
 
 pub returns-in_err-row : goal.returns-in_err-row
 returns-in_err-row c =
@@ -11,7 +12,7 @@ returns-in_err-row c =
     let same = c.deref.ensures.value ∙ c.self.view_is in
     let past : length c.deref.result.now ≤ c.place.result = ltb-false _ _ (sym c.in_err-row.ensures.lookup.0) in
     let at : slice_get c.args.self.now c.place.result ≡ None =
-    subst (λ l. slice_get l c.place.result ≡ None) same (get_past c.deref.result.now c.place.result past) in
+    subst (λ l. slice_get l c.place.result ≡ None) same (slice_get_past c.deref.result.now c.place.result past) in
     let found = subst (λ r. FoundAt c.args.number c.args.self.now r) at
     (subst (λ k. FoundAt c.args.number c.args.self.now (slice_get c.args.self.now k)) (sym c.place.ensures.place)
     (found_at c.args.number 0 c.args.self.now rise)) in

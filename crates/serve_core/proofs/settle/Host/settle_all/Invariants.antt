@@ -1,7 +1,8 @@
 use Rattle.std.proofs.Common.{◌≡◌, vec_len}
 use Rattle.edge_traits.specs.Door.{Goes}
 use Rattle.serve_core.specs.Keeping.{KeepsLeft, Underway, SameHall}
-use Rattle.serve_core.specs.Tending.{Store, Tended, stand}
+use Rattle.serve_core.specs.Outside.{Store}
+use Rattle.serve_core.specs.Tending.{Tended, stand}
 use Rattle.serve_core.proofs.settle.Host.settle_all.Given as goal
 
 abbrev pub invariant-loop-worker : goal.invariant-loop-worker

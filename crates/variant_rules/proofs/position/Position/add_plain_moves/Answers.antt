@@ -4,13 +4,13 @@ use Rattle.chess_model.specs.Position.{Position}
 use Rattle.chess_model.specs.Men.{is_held_by}
 use Rattle.bitboard_core.specs.Sets.{Has, IsSetOf}
 use Rattle.variant_rules.specs.Listing.{moves_from_below, plain_moves_below}
-use Rattle.variant_rules.proofs.SightLemmas.{own-bit}
 use Rattle.variant_rules.proofs.PartLemmas.{plain-start, plain-step}
 use Rattle.variant_rules.proofs.MoveLemmas.{nothing_from, next-more, appended}
 use Rattle.variant_rules.proofs.position.Position.add_plain_moves.Goals as goal
+use Rattle.bitboard_core.proofs.BitsLemmas.{Has-held}
 
 empty : (p : Position) (own k : ℕ) → IsSetOf (is_held_by p.to_move) p.men own → k < 64 → ¬ Has own k → moves_from_below p k 64 ≡ []
-empty p own k all lk out = nothing_from p k (λ h. out ((own-bit p.men p.to_move own k all lk).1 h))
+empty p own k all lk out = nothing_from p k (λ h. out ((Has-held p.men p.to_move own k all lk).1 h))
 
 pub loop-a-init : goal.loop-a-init
 loop-a-init c =

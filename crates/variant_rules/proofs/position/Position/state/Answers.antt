@@ -4,9 +4,9 @@ use Rattle.chess_model.specs.Attacked.{IsKingSafe}
 use Rattle.chess_model.specs.declared.variant.Variant.{Variant}
 use Rattle.chess_model.specs.Position.{Position}
 use Rattle.chess_model.specs.Result.{state_of, IsState}
-use Rattle.chess_model.proofs.StatesTold.{state_told}
+use Rattle.chess_model.proofs.StatesTold.{state_told, state_is_told}
 use Rattle.variant_rules.specs.States.{state_in}
-use Rattle.variant_rules.proofs.StateLemmas.{state_unique, told}
+use Rattle.variant_rules.proofs.StateLemmas.{state_unique}
 use Rattle.variant_rules.proofs.position.Position.state.Goals as goal
 
 twice : (x : Bool) → not (not x) ≡ x
@@ -26,7 +26,7 @@ returns c =
     let guarded = c.guard-guard.ensures in
     let answered = c.has_answer-answered.result in
     let told_so : IsState p (state_of p.variant (not (not in_check)) answered) =
-    told p.variant p (λ i. p.variant) (not in_check) answered (safe-if p in_check guarded.safe guarded.check) c.has_answer-answered.ensures in
+    state_is_told p.variant p (λ i. p.variant) (not in_check) answered (safe-if p in_check guarded.safe guarded.check) c.has_answer-answered.ensures in
     let here : IsState p (state_of p.variant in_check answered) =
     subst (λ (x : Bool). IsState p (state_of p.variant x answered)) (twice in_check) told_so in
     c.state_by.ensures ∙ ap (λ (x : Variant). state_of x in_check answered) v ∙ state_unique p _ (state_in p) here (state_told p)

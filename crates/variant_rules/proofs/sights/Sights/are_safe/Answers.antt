@@ -3,8 +3,8 @@ use Rattle.chess_model.specs.declared.man.Colour.{Colour}
 use Rattle.chess_model.specs.Placement.{opposite}
 use Rattle.chess_model.specs.Attacked.{IsKingSafe}
 use Rattle.bitboard_core.specs.Strikers.{AreKingsOf, AreMenOf}
-use Rattle.variant_rules.proofs.UndoLemmas.{opposite-opposite}
 use Rattle.variant_rules.proofs.sights.Sights.are_safe.Goals as goal
+use Rattle.chess_model.proofs.ChessLaws.{opposite-opposite}
 
 pub returns : goal.returns
 returns c P seen =

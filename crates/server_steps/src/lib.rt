@@ -1,0 +1,13 @@
+//! Steps that tests make at a server of one thread by acts alone, and what replies say in short: what the tests of the
+//! server, of the hall and of the steward share.
+//!
+//! It promises nothing by contracts: what a step shows is shown by running it.
+#![tactic(auto)]
+
+mod parts;
+mod said;
+mod steps;
+
+pub use parts::{handle, server, square};
+pub use said::{Said, in_short, of_pair};
+pub use steps::{Does, Step, first_failing, first_failing_anew, is_as_expected, made, made_anew};

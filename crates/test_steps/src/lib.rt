@@ -1,0 +1,11 @@
+//! What tests of every layer share: the macros that go through the rows of a table, bounds of the rules, and lines of
+//! boards. It uses no other crate, so that the tests of a low layer stand on no higher one, and takes nothing from the
+//! program that is tested.
+//!
+//! Rows are gone through by macros and not by functions that take a closure: each use is proved as the loop that it
+//! stands for, while a closure is three functions more to prove.
+#![tactic(auto)]
+
+pub mod boards;
+pub mod limits;
+mod rows;
