@@ -154,12 +154,7 @@ fn remarked(
 }
 
 /// An act was made at a desk: its reply is printed for the player of this seat, and the round comes.
-fn shown(
-    seat: u8,
-    memory: &mut Memory,
-    reply: &Reply,
-    out: &mut Vec<u8>,
-) -> Result<Next, NoMemory>
+fn shown(seat: u8, memory: &mut Memory, reply: &Reply, out: &mut Vec<u8>) -> Result<Next, NoMemory>
     requires inside { has_entered memory.old ≡ true }
     requires fits { IsReply reply.now }
     ensures settles { IfOk result (λ next. Settles (shown (Some seat) reply.now memory.old)

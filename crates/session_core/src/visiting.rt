@@ -95,12 +95,7 @@ fn ask_news<R: Runner>(
 }
 
 /// Gives up a game from which nothing more will come.
-fn give_up<R: Runner>(
-    alloc: Global,
-    r: &mut R,
-    moment: u64,
-    visit: &Visit,
-) -> Result<(), NoMemory>
+fn give_up<R: Runner>(alloc: Global, r: &mut R, moment: u64, visit: &Visit) -> Result<(), NoMemory>
     requires moment { moment ≤ 2 ^ 48 }
     requires desk { IsDesk visit.now.desk }
     ensures home { R.home r.new ≡ R.home r.old }

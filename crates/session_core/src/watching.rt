@@ -83,11 +83,7 @@ fn remark_line(memory: &Memory, text: &Line, out: &Vec<u8>) -> Result<Line, NoMe
 
 /// The lobby has answered where a game is played: there the session asks to look on. Any other reply is printed, and
 /// the round comes.
-pub(crate) fn found(
-    memory: &mut Memory,
-    reply: &Reply,
-    out: &mut Vec<u8>,
-) -> Result<Next, NoMemory>
+pub(crate) fn found(memory: &mut Memory, reply: &Reply, out: &mut Vec<u8>) -> Result<Next, NoMemory>
     requires inside { has_entered memory.old ≡ true }
     requires fits { IsReply reply.now }
     ensures settles { IfOk result (λ next. Settles (finding reply.now memory.old)

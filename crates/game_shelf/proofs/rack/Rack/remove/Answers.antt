@@ -42,7 +42,7 @@ invariant_of-self c =
     c.place-place.ensures.place ∙ ap (λ (l : List Shelved). length (filter (is_below n) l)) (sym c.self.view_is) in
     let found = c.get.ensures ∙ ap (find (has_number n)) (sym c.self.view_is) in
     let gone = c.remove.ensures.items
-        ∙ (removed_at games n c.place-place.result c.get.result c.self.invariant.order found (ap not (c.is_none.ensures ∙ ap not c.if-is_none.false)) at).1 in
+    ∙ (removed_at games n c.place-place.result c.get.result c.self.invariant.order found (ap not (c.is_none.ensures ∙ ap not c.if-is_none.false)) at).1 in
     let shorter = c.remove.ensures.len in
     let within = c.self.invariant.within in
     record {
