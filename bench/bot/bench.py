@@ -1,7 +1,7 @@
 #!/usr/bin/env python3
-"""Processor time of the bot's search beside that of the plain one, of the program `bot_pace`.
+"""Processor time of the bot's search beside that of the plain one, of the program `pace_bot`.
 
-Usage: bench.py [PROGRAM]. PROGRAM is `crates/bot_pace/out/bot_pace` where none is named; `(cd crates/bot_pace && rt run)`
+Usage: bench.py [PROGRAM]. PROGRAM is `crates/pace_bot/out/pace_bot` where none is named; `(cd crates/pace_bot && rt run)`
 builds it. Both searches run in one process, on one thread, one after the other: the one with bounds in all positions,
 and then the plain one, which looks at every list of half-moves. The bench stops where their values differ.
 """
@@ -32,9 +32,9 @@ def rows(program):
 
 
 def main():
-    program = sys.argv[1] if len(sys.argv) > 1 else os.path.join(TOP, "crates", "bot_pace", "out", "bot_pace")
+    program = sys.argv[1] if len(sys.argv) > 1 else os.path.join(TOP, "crates", "pace_bot", "out", "pace_bot")
     if not os.access(program, os.X_OK):
-        sys.exit(f"bench: {program} isn't there; `(cd crates/bot_pace && rt run)` builds it")
+        sys.exit(f"bench: {program} isn't there; `(cd crates/pace_bot && rt run)` builds it")
     print(machine())
     print(f"{'position':<12}{'depth':>6}{'value':>8}{'seconds':>9}{'plain':>9}{'times':>8}")
     bounded = {}

@@ -1,5 +1,5 @@
 #!/usr/bin/env python3
-"""Acts answered a second over the server of one thread and over the hall, by `hall_pace`.
+"""Acts answered a second over the server of one thread and over the hall, by `pace_hall`.
 
 Usage: bench.py [PROGRAM]
 """
@@ -12,7 +12,7 @@ import time
 sys.path.insert(0, os.path.join(os.path.dirname(os.path.abspath(__file__)), ".."))
 from measure import TOP, machine
 
-PROGRAM = os.path.join(TOP, "crates", "hall_pace", "out", "hall_pace")
+PROGRAM = os.path.join(TOP, "crates", "pace_hall", "out", "pace_hall")
 THREADS = [1, 2, 4, 8]
 LOOK_ROUNDS = 50_000
 MOVE_ROUNDS = 600
@@ -59,7 +59,7 @@ def cases():
 def main():
     program = os.path.abspath(sys.argv[1]) if len(sys.argv) > 1 else PROGRAM
     if not os.access(program, os.X_OK):
-        sys.exit(f"bench: {program} isn't there; `rt run` in crates/hall_pace builds it")
+        sys.exit(f"bench: {program} isn't there; `rt run` in crates/pace_hall builds it")
     print(f"{machine()}, load {os.getloadavg()[0]:.1f}")
     print(f"{'case':<28}{'acts':>10}{'seconds':>10}{'acts/s':>12}{'pace':>8}{'us of processor':>17}{'cost':>8}")
     base = {}

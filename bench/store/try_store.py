@@ -1,8 +1,8 @@
 #!/usr/bin/env python3
-"""Puts a second and loads of the program `store_pace`, and what becomes of a store on which things go wrong.
+"""Puts a second and loads of the program `pace_store`, and what becomes of a store on which things go wrong.
 
-Usage: try_store.py [PROGRAM]. PROGRAM is `crates/store_pace/out/store_pace` where none is named;
-`(cd crates/store_pace && rt run)` builds it. The command `sqlite3` is Debian's (`apt-get install sqlite3`); without it
+Usage: try_store.py [PROGRAM]. PROGRAM is `crates/pace_store/out/pace_store` where none is named;
+`(cd crates/pace_store && rt run)` builds it. The command `sqlite3` is Debian's (`apt-get install sqlite3`); without it
 its lines are left out. It ends with 1 where something came otherwise than it should.
 """
 
@@ -181,7 +181,7 @@ def main():
         sys.exit(f"wrong: {', '.join(wrong)}")
 
 
-PROGRAM = sys.argv[1] if len(sys.argv) > 1 else os.path.join(TOP, "crates", "store_pace", "out", "store_pace")
+PROGRAM = sys.argv[1] if len(sys.argv) > 1 else os.path.join(TOP, "crates", "pace_store", "out", "pace_store")
 if not os.access(PROGRAM, os.X_OK):
-    sys.exit(f"bench: {PROGRAM} isn't there; `(cd crates/store_pace && rt run)` builds it")
+    sys.exit(f"bench: {PROGRAM} isn't there; `(cd crates/pace_store && rt run)` builds it")
 main()

@@ -1,4 +1,4 @@
-# Which words behind the program's name are a job, as crates/job_words reads them: the launcher looks before it builds.
+# Which words behind the program's name are a job, as crates/cmd_job reads them: the launcher looks before it builds.
 
 declare -A given
 

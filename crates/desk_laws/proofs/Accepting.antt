@@ -15,7 +15,7 @@ use Rattle.game_board.specs.Scoresheet.{IsTrueScore}
 use Rattle.histories.specs.Core.{after, new_first, new_second, other_of, part_at, put, reply, second_of}
 use Rattle.histories.proofs.Histories.{stays_whole}
 use Rattle.histories.proofs.Parts.{get_set_same}
-use Rattle.linked_boards.proofs.BoardLists.{All-at}
+use Rattle.desk_boards.proofs.BoardLists.{All-at}
 use Rattle.linked_desk.specs.declared.acts.DeskAct.TheVariants as act
 use Rattle.linked_desk.specs.declared.acts.DeskReply.{DeskReply}
 use Rattle.linked_desk.specs.declared.acts.DeskReply.TheVariants.{Done}
@@ -24,7 +24,7 @@ use Rattle.linked_desk.specs.Desk.{DeskState, GameState, moment_at, seat_of}
 use Rattle.linked_desk.specs.Playing.{moved, moved_by, seat_word, with_cleared, word_by}
 use Rattle.linked_desk.specs.Seats.{colour_at, place_of}
 use Rattle.linked_desk.specs.Sound.{IsSound}
-use Rattle.linked_boards.specs.Boards.{boards_after, word_at}
+use Rattle.desk_boards.specs.Boards.{boards_after, word_at}
 use Rattle.move_reader.specs.Reading.{reading}
 use Rattle.one_server.specs.declared.act.Timed.{Timed}
 use Rattle.one_server.specs.declared.part.Part.{Part}
@@ -35,13 +35,13 @@ use Rattle.one_server.specs.House.{house}
 use Rattle.one_server.specs.Laws.{HoldsInEachState}
 use Rattle.one_server.specs.LawfulProof.{house_lawful}
 use Rattle.one_server.specs.Whole.{IsWhole}
-use Rattle.pretty_reading.specs.ReadsBack.{IsReadAs, pretty_in}
-use Rattle.pretty_reading.proofs.ReadBack.{reads_back}
+use Rattle.rules_reading.specs.ReadsBack.{IsReadAs, pretty_in}
+use Rattle.rules_reading.proofs.ReadBack.{reads_back}
 use Rattle.desk_laws.specs.LegalMoves.{AcceptsLegalMoves, IsLegalMove, IsPlayed, IsToMove, TakesLegalMoves, playing}
 use Rattle.desk_laws.proofs.Boards.{board_after, boards_moved, moves_after}
 use Rattle.desk_laws.proofs.Words.{accepted_by, answer_is, desk_said, desk_then, nothing_refuses, refusing, said, takes_word, word_taken}
-use Rattle.linked_boards.proofs.StaySound.{played_there}
-use Rattle.pretty_reading.proofs.Answered.{answer_is as is_answer}
+use Rattle.desk_boards.proofs.StaySound.{played_there}
+use Rattle.rules_reading.proofs.Answered.{answer_is as is_answer}
 
 reply_done : (r : Result DeskReply Refusal) → Some (desk_reply r) ≡ Some (reply.Desk Done) → r ≡ Ok Done
 reply_done (Ok answer) e = cc

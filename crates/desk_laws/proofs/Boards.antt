@@ -13,7 +13,7 @@ use Rattle.game_board.specs.Play.{next_charge, play_after, with_half_move}
 use Rattle.histories.proofs.Parts.{get_set_else, get_set_same}
 use Rattle.style12_writer.specs.declared.item.Item.{Item}
 use Rattle.style12_writer.specs.declared.view.BoardView.{BoardView}
-use Rattle.linked_boards.specs.Boards.{boards_after, changed_at, other_place, reply_at, set_board, told_answer}
+use Rattle.desk_boards.specs.Boards.{boards_after, changed_at, other_place, reply_at, set_board, told_answer}
 use Rattle.linked_desk.specs.declared.ended.Ended.{Ended}
 use Rattle.linked_desk.specs.Desk.{GameState, moment_at}
 use Rattle.linked_desk.specs.Finish.{end_at, with_end}

@@ -21,7 +21,7 @@ use Rattle.one_server.specs.declared.part.Part.{Part}
 use Rattle.one_server.specs.declared.part.Part.TheVariants.{Desk as ADesk}
 use Rattle.one_server.specs.declared.reply.Reply.TheVariants as reply
 use Rattle.one_server.specs.House.{house}
-use Rattle.pretty_reading.specs.ReadsBack.{pretty_in}
+use Rattle.rules_reading.specs.ReadsBack.{pretty_in}
 
 -- the session is to move at this board: it has a seat there of the colour that is to move, the game runs, and fewer
 -- than 1,200 half-moves were played on the board

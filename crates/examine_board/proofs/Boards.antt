@@ -13,10 +13,10 @@ use Rattle.game_board.specs.Rewind.{rewound}
 use Rattle.game_records.specs.declared.stored_game.Half.{Half}
 use Rattle.game_records.specs.Bounds as bounds
 use Rattle.game_records.specs.Replays.{half_moves, made_on}
-use Rattle.linked_boards.specs.Boards.{board_numbers}
-use Rattle.linked_boards.specs.Halves.{list_on, played_of}
-use Rattle.linked_boards.specs.Replaying.{boards_put}
-use Rattle.linked_boards.proofs.Halved.{list_on-own, list_on-else}
+use Rattle.desk_boards.specs.Boards.{board_numbers}
+use Rattle.desk_boards.specs.Halves.{list_on, played_of}
+use Rattle.desk_boards.specs.Replaying.{boards_put}
+use Rattle.desk_boards.proofs.Halved.{list_on-own, list_on-else}
 use Rattle.examine_board.specs.Exam.{board_after, boards_after}
 
 -- ---- the half-moves of one board

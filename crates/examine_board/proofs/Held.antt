@@ -10,7 +10,7 @@ use Rattle.game_records.specs.declared.stored_game.Half.{Half}
 use Rattle.game_records.specs.declared.stored_game.StoredGame.{StoredGame}
 use Rattle.game_records.specs.Bounds as bounds
 use Rattle.game_records.specs.Replays.{Replays}
-use Rattle.linked_boards.specs.Boards.{new_boards}
+use Rattle.desk_boards.specs.Boards.{new_boards}
 use Rattle.examine_board.specs.declared.exam.Exam.TheInside.{Inside}
 use Rattle.examine_board.specs.Exam.{boards_after}
 use Rattle.examine_board.specs.Holds.{HoldsExam}

@@ -5,8 +5,8 @@ use Rattle.chess_model.specs.declared.variant.Terms.{Terms}
 use Rattle.chess_model.specs.Allowed.{Allowed}
 use Rattle.game_board.specs.Board.{Board, position_of}
 use Rattle.game_records.specs.declared.stored_game.Half.{Half}
-use Rattle.linked_boards.specs.Halves.{played_of}
-use Rattle.linked_boards.specs.Replaying.{boards_put}
+use Rattle.desk_boards.specs.Halves.{played_of}
+use Rattle.desk_boards.specs.Replaying.{boards_put}
 use Rattle.examine_board.specs.Exam.{board_after, boards_after}
 use Rattle.examine_board.specs.Laid.{MayLie}
 use Rattle.examine_board.proofs.Boards.{board_there, boards_laid}

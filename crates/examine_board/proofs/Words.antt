@@ -19,8 +19,8 @@ use Rattle.game_board.specs.Causes.{in_words}
 use Rattle.game_board.specs.Play.{move_answer}
 use Rattle.game_records.specs.declared.stored_game.Half.{Half}
 use Rattle.game_records.specs.Bounds as bounds
-use Rattle.linked_boards.specs.Boards.{board_numbers}
-use Rattle.linked_boards.specs.Halves.{list_on}
+use Rattle.desk_boards.specs.Boards.{board_numbers}
+use Rattle.desk_boards.specs.Halves.{list_on}
 use Rattle.examine_board.specs.Exam.{ExamState, board_after, board_on, boards_after, present}
 use Rattle.examine_board.specs.Laid.{CanBeLaid, MayLie}
 use Rattle.examine_board.specs.Play.{is_pair, play_answer, position, uncharged}

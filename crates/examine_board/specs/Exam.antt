@@ -5,8 +5,8 @@ use Rattle.game_board.specs.Board.{Board}
 use Rattle.game_records.specs.declared.stored_game.Half.{Half}
 use Rattle.game_records.specs.declared.stored_game.StoredGame.{StoredGame}
 use Rattle.game_records.specs.Replays.{half_moves}
-use Rattle.linked_boards.specs.Boards.{board_numbers}
-use Rattle.linked_boards.specs.Halves.{list_on}
+use Rattle.desk_boards.specs.Boards.{board_numbers}
+use Rattle.desk_boards.specs.Halves.{list_on}
 
 pub record ExamState : Type 0 where
   -- on which terms the game is played, and by whom: White and Black, or for a pair those of the first board and those

@@ -6,7 +6,7 @@ use Rattle.chess_model.specs.Allowed.{Allowed}
 use Rattle.game_records.specs.declared.stored_game.Half.{Half}
 use Rattle.game_records.specs.Bounds.{IsCharge, boards}
 use Rattle.game_records.specs.Replays.{position_on}
-use Rattle.linked_boards.specs.Halves.{list_on}
+use Rattle.desk_boards.specs.Halves.{list_on}
 
 -- a half-move may be laid behind these: it is of a board of the game, which has room for it, it is allowed there, and
 -- its charge, if it has one, is one that a clock may have

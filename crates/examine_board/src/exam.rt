@@ -6,9 +6,9 @@ ghost use Rattle.examine_board.specs.Laid.{MayLie};
 
 use chess_model::Terms;
 use collections::{Listed, Roomy};
+use desk_boards::{Boards, replays};
 use fics_words::{Handle, NoMemory};
 use game_records::{Half, PackedHalf, StoredGame};
-use linked_boards::{Boards, replays};
 use std::alloc::Global;
 use std::marker::Model;
 

@@ -2,12 +2,12 @@
 //! standard streams; it ends with their status.
 #![tactic(auto)]
 
+use cmd_job::{Job, JobFail, read_job};
+use cmd_lines::{End, status};
+use cmd_run::run;
 use edge_traits::{Keeper, OpenGate};
 use file_keeper::{SqliteKeeper, StoreReader};
-use job_words::{Job, JobFail, read_job};
-use line_answers::{End, status};
 use real_edges::{NoStore, StdSink, StdSource, TcpDoor, WallClock};
-use run_call::run;
 use serve_core::serve;
 use std::alloc::{AllocError, Global};
 use std::io::ErrorKind;

@@ -11,7 +11,7 @@ use Rattle.offer_book.proofs.Meaning.{clears_for_the_move}
 use Rattle.style12_writer.specs.declared.item.Item.{Item}
 use Rattle.style12_writer.specs.declared.view.BoardView.{BoardView}
 use Rattle.linked_desk.specs.declared.ended.Ended.{Ended}
-use Rattle.linked_boards.specs.Boards.{reply_at}
+use Rattle.desk_boards.specs.Boards.{reply_at}
 use Rattle.linked_desk.specs.Desk.{GameState}
 use Rattle.linked_desk.specs.Finish.{end_at, with_end}
 use Rattle.linked_desk.specs.Hands.{hands_at, partner_hands_at}

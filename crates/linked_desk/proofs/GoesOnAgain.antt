@@ -19,14 +19,14 @@ use Rattle.game_records.specs.Bounds as bounds
 use Rattle.game_records.specs.Bounds.{IsHalf}
 use Rattle.game_records.specs.Replays.{CanBePlayed, GoesOn, MayCome, OtherGoesOn, half_moves, position_on}
 use Rattle.game_records.proofs.Played.{by_steps}
-use Rattle.linked_boards.specs.Boards.{board_numbers, new_boards}
-use Rattle.linked_boards.specs.Halves.{halves_of}
-use Rattle.linked_boards.specs.Sound.{AreSoundBoards, GoOn}
-use Rattle.linked_boards.proofs.BoardLists.{All-at}
-use Rattle.linked_boards.proofs.Pairs.{number_at}
-use Rattle.linked_boards.proofs.SoundHalves.{all_of}
+use Rattle.desk_boards.specs.Boards.{board_numbers, new_boards}
+use Rattle.desk_boards.specs.Halves.{halves_of}
+use Rattle.desk_boards.specs.Sound.{AreSoundBoards, GoOn}
+use Rattle.desk_boards.proofs.BoardLists.{All-at}
+use Rattle.desk_boards.proofs.Pairs.{number_at}
+use Rattle.desk_boards.proofs.SoundHalves.{all_of}
 use Rattle.linked_desk.specs.Restore.{last_place, place_on}
-use Rattle.linked_boards.proofs.GoingOn.{go_start, learnt_goes}
+use Rattle.desk_boards.proofs.GoingOn.{go_start, learnt_goes}
 use Rattle.game_board.proofs.Steps.{last_at}
 
 -- a list is empty, or there is a last item

@@ -7,7 +7,7 @@ use Rattle.chess_model.specs.Holdings.{handed_kind}
 use Rattle.chess_model.specs.Tests.{has_drops}
 use Rattle.game_board.specs.Board.{Board}
 use Rattle.game_board.specs.BoardFace.{last_played}
-use Rattle.linked_boards.specs.Boards.{other_place}
+use Rattle.desk_boards.specs.Boards.{other_place}
 use Rattle.linked_desk.specs.Desk.{GameState}
 use Rattle.linked_desk.specs.Hands.{hold_item, first_hands, ends_with_drop, changes_hands, hands_told, hands_at, partner_told, partner_hands_at}
 use Rattle.linked_desk.specs.Sound.{NamesWinner}

@@ -7,14 +7,14 @@ use Rattle.clock_ledger.specs.Span.{IsStamp}
 use Rattle.game_board.specs.Acked.{acknowledged}
 use Rattle.game_board.specs.Board.{Board, to_move}
 use Rattle.linked_desk.specs.Acked.{acked_by, acked_effect}
-use Rattle.linked_boards.specs.Boards.{latest, boards_acked}
+use Rattle.desk_boards.specs.Boards.{latest, boards_acked}
 use Rattle.linked_desk.specs.Desk.{GameState, seat_of, moment_at}
 use Rattle.linked_desk.specs.Seats.{place_of, colour_at}
 use Rattle.linked_desk.specs.Sound.{IsSound}
-use Rattle.linked_boards.proofs.BoardLists.{latest-changed_at}
+use Rattle.desk_boards.proofs.BoardLists.{latest-changed_at}
 use Rattle.linked_desk.proofs.Keeps.{Keeps, IsSound-later, timely_at}
-use Rattle.linked_boards.proofs.StaySound.{sound_acked, alike}
-use Rattle.linked_boards.proofs.GoingOn.{go_acked}
+use Rattle.desk_boards.proofs.StaySound.{sound_acked, alike}
+use Rattle.desk_boards.proofs.GoingOn.{go_acked}
 
 same_acknowledged : {X : Type 0} (of : Board → X) (b : Board) (c : Colour) (stamp : ℕ) → of (record b { kept = Some stamp }) ≡ of b →
     of (acknowledged b c stamp) ≡ of b

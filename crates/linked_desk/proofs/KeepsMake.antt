@@ -11,7 +11,7 @@ use Rattle.offer_book.specs.declared.offer.Offer.{Offer}
 use Rattle.offer_book.specs.declared.offer.Offer.TheVariants.{Draw, Abort, Adjourn, Takeback}
 use Rattle.offer_book.specs.Offers.{offering}
 use Rattle.linked_desk.specs.Desk.{GameState, occupant, seat_of}
-use Rattle.linked_boards.specs.Claims.{claim_at, granted}
+use Rattle.desk_boards.specs.Claims.{claim_at, granted}
 use Rattle.linked_desk.specs.Make.{claim_effect, claimed, fitting_effect, make_effect, stood}
 use Rattle.linked_desk.specs.Offering.{agreed, end_without_winner, offer_item, told, with_count, with_offers}
 use Rattle.linked_desk.specs.Seats.{place_of}

@@ -14,9 +14,9 @@ use Rattle.offer_book.specs.Offers.{after_half_move, where_stand}
 use Rattle.style12_writer.specs.declared.item.Item.{Item}
 use Rattle.style12_writer.specs.declared.item.Item.TheVariants as item
 use Rattle.style12_writer.specs.declared.view.BoardView.{BoardView}
-use Rattle.linked_boards.specs.Boards.{reply_at, latest, boards_after, changed_at, other_place, told_answer}
-use Rattle.linked_boards.proofs.BoardLists.{latest-changed_at}
-use Rattle.linked_boards.proofs.Pairs.{same_told}
+use Rattle.desk_boards.specs.Boards.{reply_at, latest, boards_after, changed_at, other_place, told_answer}
+use Rattle.desk_boards.proofs.BoardLists.{latest-changed_at}
+use Rattle.desk_boards.proofs.Pairs.{same_told}
 use Rattle.linked_desk.specs.declared.ended.Ended.{Ended}
 use Rattle.linked_desk.specs.Desk.{GameState, seat_of, moment_at, occupant}
 use Rattle.linked_desk.specs.Finish.{end_at, finished}
@@ -24,14 +24,14 @@ use Rattle.linked_desk.specs.Hands.{hands_at, partner_hands_at}
 use Rattle.linked_desk.specs.Playing.{seat_word, captured_by, moved, with_cleared, with_hands, with_partner_hands, moved_by, move_effect}
 use Rattle.linked_desk.specs.Seats.{place_of, colour_at}
 use Rattle.linked_desk.specs.Sound.{IsSound, Names, NamesWinner}
-use Rattle.linked_boards.specs.Sound.{GoOn}
+use Rattle.desk_boards.specs.Sound.{GoOn}
 use Rattle.linked_desk.specs.Views.{feed_with, views_of, with_board_item}
 use Rattle.linked_desk.proofs.Finishing.{IsSound-with_end, end_on-names, goes_on_at, occupant-finished}
 use Rattle.linked_desk.proofs.Holding.{names_hands_at, names_partner_hands_at}
 use Rattle.linked_desk.proofs.Keeps.{Keeps, IsSound-later, timely_at, occupant-with_view, occupant-with_item}
 use Rattle.linked_desk.proofs.Telling.{told_of, with_hands-told}
-use Rattle.linked_boards.proofs.StaySound.{sound_play}
-use Rattle.linked_boards.proofs.GoingOn.{go_played}
+use Rattle.desk_boards.proofs.StaySound.{sound_play}
+use Rattle.desk_boards.proofs.GoingOn.{go_played}
 
 -- who is to move thinks from no later moment than that of the act
 begin-played : (b : Board) (moment : ℕ) (stamp : Option ℕ) (answer : Result Move Refusal) → b.begin ≤ moment → (play_after b moment stamp answer).begin ≤ moment

@@ -15,18 +15,18 @@ use Rattle.offer_book.specs.Offers.{OfferBook}
 use Rattle.style12_writer.specs.OfferLines.{decline_text, taken_text}
 use Rattle.style12_writer.specs.declared.item.Item.{Item}
 use Rattle.style12_writer.specs.declared.item.Item.TheVariants as item
-use Rattle.linked_boards.specs.Boards.{latest}
+use Rattle.desk_boards.specs.Boards.{latest}
 use Rattle.linked_desk.specs.Desk.{GameState, moment_at, occupant}
 use Rattle.linked_desk.specs.Hands.{first_hands}
-use Rattle.linked_boards.specs.TakenBack.{back_by}
+use Rattle.desk_boards.specs.TakenBack.{back_by}
 use Rattle.linked_desk.specs.Offering.{agreed, decline_item, end_without_winner, offer_item, offer_text, told, with_count, with_offers, with_taken}
 use Rattle.linked_desk.specs.Offering as offering
 use Rattle.linked_desk.specs.Sound.{IsSound, NamesWinner}
 use Rattle.linked_desk.specs.Tally.{counted}
 use Rattle.linked_desk.specs.Views.{views_of, with_board_item, with_items}
-use Rattle.linked_boards.proofs.BoardLists.{latest-changed_at}
+use Rattle.desk_boards.proofs.BoardLists.{latest-changed_at}
 use Rattle.linked_desk.proofs.Holding.{names_first}
-use Rattle.linked_boards.proofs.BackSound.{goes_back, sound_back}
+use Rattle.desk_boards.proofs.BackSound.{goes_back, sound_back}
 use Rattle.linked_desk.proofs.Keeps.{IsSound-ended_by, IsSound-later, timely_at, IsSound-with_view, IsSound-with_item, occupant-with_view, occupant-with_item}
 
 -- the game with other offers and counts, since a later moment

@@ -6,9 +6,9 @@ use Rattle.fics_words.specs.declared.seats.Seats.{Seats}
 use Rattle.game_board.specs.Board.{Board}
 use Rattle.game_records.specs.declared.stored_game.StoredGame.{StoredGame}
 use Rattle.game_records.specs.Replays.{Replays}
-use Rattle.linked_boards.specs.Boards.{latest}
-use Rattle.linked_boards.specs.Replaying.{replayed}
-use Rattle.linked_boards.specs.Sound.{AreSoundBoards, GoOn}
+use Rattle.desk_boards.specs.Boards.{latest}
+use Rattle.desk_boards.specs.Replaying.{replayed}
+use Rattle.desk_boards.specs.Sound.{AreSoundBoards, GoOn}
 use Rattle.linked_desk.specs.declared.ended.Ended.{Ended}
 use Rattle.linked_desk.specs.declared.occasion.Occasion.TheVariants.{Resumption}
 use Rattle.linked_desk.specs.Desk.{DeskState, GameState, occupant, occupant_of}
@@ -19,7 +19,7 @@ use Rattle.linked_desk.specs.Sound.{HasSoundGame, IsSound, Names}
 use Rattle.linked_desk.proofs.Finishing.{IsSound-with_end, end_on-names, goes_on_at, occupant-finished}
 use Rattle.linked_desk.proofs.KeepsStart.{IsSound-begun}
 use Rattle.linked_desk.proofs.Restored.{order_replayed}
-use Rattle.linked_boards.proofs.Replayed.{replayed_at}
+use Rattle.desk_boards.proofs.Replayed.{replayed_at}
 use Rattle.linked_desk.proofs.GoesOnAgain.{GoesOnAt, replayed_go_on}
 
 boards_go_on : (g : StoredGame) (moment : ℕ) (boards : List Board) → Replays g → replayed g.terms g.halves moment ≡ Some boards → GoesOnAt boards (last_place g.halves) →

@@ -7,7 +7,7 @@ use Rattle.fics_words.specs.declared.seats.Opponents.{Opponents}
 use Rattle.fics_words.specs.declared.seats.Seats.{Seats}
 use Rattle.game_board.specs.Board.{Board, new_board}
 use Rattle.style12_writer.specs.declared.item.Item.{Item}
-use Rattle.linked_boards.specs.Boards.{board_numbers, new_boards, latest}
+use Rattle.desk_boards.specs.Boards.{board_numbers, new_boards, latest}
 use Rattle.linked_desk.specs.declared.ended.Ended.{Ended}
 use Rattle.linked_desk.specs.declared.occasion.Occasion.{Occasion}
 use Rattle.linked_desk.specs.declared.occasion.Occasion.TheVariants.{Start}
@@ -15,12 +15,12 @@ use Rattle.linked_desk.specs.Hands.{first_hands}
 use Rattle.linked_desk.specs.Seating.{MayPlay, announced_board, begun, board_item, first_items, opening_items, opened}
 use Rattle.linked_desk.specs.Seats.{pairs_of}
 use Rattle.linked_desk.specs.Sound.{IsSound, Names, NamesWinner}
-use Rattle.linked_boards.specs.Sound.{AreSoundBoards, GoOn}
+use Rattle.desk_boards.specs.Sound.{AreSoundBoards, GoOn}
 use Rattle.linked_desk.specs.Views.{each_board}
 use Rattle.linked_desk.proofs.Holding.{names_first}
 use Rattle.linked_desk.proofs.Keeps.{All-each_board}
-use Rattle.linked_boards.proofs.StaySound.{sound_start}
-use Rattle.linked_boards.proofs.GoingOn.{go_start}
+use Rattle.desk_boards.proofs.StaySound.{sound_start}
+use Rattle.desk_boards.proofs.GoingOn.{go_start}
 
 -- an item that is shown beside a board, if there is one
 All-option : {X : Type 0} (P : X → Type 0) (x : Option X) → IfSome x P → All P (option_to_list x)

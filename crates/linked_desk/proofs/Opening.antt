@@ -10,7 +10,7 @@ use Rattle.fics_words.specs.Seats.{seat_list}
 use Rattle.game_board.specs.Board.{Board}
 use Rattle.style12_writer.specs.declared.item.Item.{Item}
 use Rattle.linked_desk.specs.declared.occasion.Occasion.{Occasion}
-use Rattle.linked_boards.specs.Boards.{board_numbers}
+use Rattle.desk_boards.specs.Boards.{board_numbers}
 use Rattle.linked_desk.specs.Seating.{HasPairsFor, announcement, announcements, opening_items, shown_items}
 use Rattle.linked_desk.specs.Seats.{pairs_of}
 use Rattle.linked_desk.specs.Views.{each_board}

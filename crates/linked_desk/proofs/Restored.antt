@@ -4,10 +4,10 @@ use Rattle.std.proofs.lemmas.List.Elements.{All-head, All-tail}
 use Rattle.game_board.specs.Board.{Board}
 use Rattle.game_records.specs.declared.stored_game.StoredGame.{StoredGame}
 use Rattle.game_records.specs.Replays.{Replays}
-use Rattle.linked_boards.specs.Boards.{board_numbers, latest}
-use Rattle.linked_boards.specs.Laws.{IsFresh}
-use Rattle.linked_boards.specs.Replaying.{replayed}
-use Rattle.linked_boards.proofs.Replayed.{replayed_at, replayed_fresh}
+use Rattle.desk_boards.specs.Boards.{board_numbers, latest}
+use Rattle.desk_boards.specs.Laws.{IsFresh}
+use Rattle.desk_boards.specs.Replaying.{replayed}
+use Rattle.desk_boards.proofs.Replayed.{replayed_at, replayed_fresh}
 
 latest_at : (boards : List Board) (moment : ℕ) → All (IsFresh moment) boards → latest boards ≤ moment
 latest_at [] moment all = omega arith

@@ -13,14 +13,14 @@ use Rattle.game_board.specs.Charges.{clock_of, remaining_of}
 use Rattle.clock_ledger.specs.Clock as clock
 use Rattle.game_records.specs.declared.stored_game.StoredGame.{StoredGame}
 use Rattle.game_records.specs.Replays.{Replays, half_moves}
-use Rattle.linked_boards.specs.Boards.{board_numbers}
-use Rattle.linked_boards.specs.Halves.{halves_of, list_on}
-use Rattle.linked_boards.specs.Laws.{IsFresh}
-use Rattle.linked_boards.specs.Replaying.{replayed}
-use Rattle.linked_boards.specs.Sound.{AreSoundBoards}
-use Rattle.linked_boards.proofs.BoardLists.{All-at}
-use Rattle.linked_boards.proofs.Pairs.{number_at}
-use Rattle.linked_boards.proofs.SoundHalves.{all_of, each_of}
+use Rattle.desk_boards.specs.Boards.{board_numbers}
+use Rattle.desk_boards.specs.Halves.{halves_of, list_on}
+use Rattle.desk_boards.specs.Laws.{IsFresh}
+use Rattle.desk_boards.specs.Replaying.{replayed}
+use Rattle.desk_boards.specs.Sound.{AreSoundBoards}
+use Rattle.desk_boards.proofs.BoardLists.{All-at}
+use Rattle.desk_boards.proofs.Pairs.{number_at}
+use Rattle.desk_boards.proofs.SoundHalves.{all_of, each_of}
 use Rattle.linked_desk.specs.declared.ended.Ended.{Ended}
 use Rattle.linked_desk.specs.declared.occasion.Occasion.TheVariants.{Resumption}
 use Rattle.linked_desk.specs.Desk.{DeskState, GameState}
@@ -31,7 +31,7 @@ use Rattle.linked_desk.specs.ShelfLaws.{Gets, GoesOnFrom, IsAsBefore, IsOnAgain,
 use Rattle.linked_desk.specs.Shelve.{names_in, shelved}
 use Rattle.linked_desk.specs.Sound.{IsSound}
 use Rattle.linked_desk.proofs.Shelved.{shelved_replays}
-use Rattle.linked_boards.proofs.Replayed.{replayed_at, replayed_exactly, replayed_fresh}
+use Rattle.desk_boards.proofs.Replayed.{replayed_at, replayed_exactly, replayed_fresh}
 use Rattle.std.proofs.lemmas.Option.{same_Some}
 
 -- an end changes neither the boards nor who plays

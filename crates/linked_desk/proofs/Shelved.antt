@@ -14,13 +14,13 @@ use Rattle.fics_words.specs.Seats.{seat_list}
 use Rattle.game_records.specs.declared.stored_game.Half.{Half}
 use Rattle.game_records.specs.Bounds.{seats}
 use Rattle.game_records.specs.Replays.{AreFour, CanBePlayed, MayCome, Replays}
-use Rattle.linked_boards.specs.Boards.{board_numbers}
-use Rattle.linked_boards.specs.Halves.{halves_of}
+use Rattle.desk_boards.specs.Boards.{board_numbers}
+use Rattle.desk_boards.specs.Halves.{halves_of}
 use Rattle.linked_desk.specs.Desk.{GameState}
 use Rattle.linked_desk.specs.Seating.{AllDiffer, NoneIs, uncoloured}
 use Rattle.linked_desk.specs.Shelve.{names_in, shelved}
 use Rattle.linked_desk.specs.Sound.{IsSound}
-use Rattle.linked_boards.proofs.SoundHalves.{bounds_of}
+use Rattle.desk_boards.proofs.SoundHalves.{bounds_of}
 
 as_many : (v : Variant) → 2 * length (board_numbers v) ≡ seats v
 as_many Chess = refl

@@ -7,7 +7,7 @@ use Rattle.fics_words.specs.declared.refusal.Refusal.{Refusal}
 use Rattle.style12_writer.specs.declared.item.Item.{Item}
 use Rattle.style12_writer.specs.declared.item.Item.TheVariants as item
 use Rattle.style12_writer.specs.declared.view.BoardView.{BoardView}
-use Rattle.linked_boards.specs.Boards.{boards_after, reply_at}
+use Rattle.desk_boards.specs.Boards.{boards_after, reply_at}
 use Rattle.linked_desk.specs.Desk.{GameState, moment_at}
 use Rattle.linked_desk.specs.Finish.{finished}
 use Rattle.linked_desk.specs.Hands.{hands_at, partner_hands_at}

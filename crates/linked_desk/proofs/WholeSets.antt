@@ -17,12 +17,12 @@ use Rattle.chess_model.proofs.Censuses.{census_kept}
 use Rattle.game_board.specs.Board.{Board, position_of}
 use Rattle.game_board.specs.Scoresheet.{IsTrueScore}
 use Rattle.game_board.proofs.PairHands.{few_in_hand, most_in_two_sets}
-use Rattle.linked_boards.specs.Boards.{board_numbers}
+use Rattle.desk_boards.specs.Boards.{board_numbers}
 use Rattle.linked_desk.specs.Desk.{GameState, DeskState}
-use Rattle.linked_boards.specs.Sound.{AreSame}
+use Rattle.desk_boards.specs.Sound.{AreSame}
 use Rattle.linked_desk.specs.Sound.{IsSound, HasSoundGame}
 use Rattle.linked_desk.specs.WholeSets.{AreWhole, HasOneSet, HasTwoSets, HaveTwoSets, HasWholeSets, HasPrintedHands, AllAt}
-use Rattle.linked_boards.proofs.Pairs.{never_three, numbers_of_two}
+use Rattle.desk_boards.proofs.Pairs.{never_three, numbers_of_two}
 
 one_set_on : (b : Board) → ¬ HasDrops b.terms.variant → IsTrueScore b → HasOneSet b
 unfolding position_of

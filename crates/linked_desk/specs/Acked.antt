@@ -4,7 +4,7 @@ use Rattle.fics_words.specs.Effect.{Effect}
 use Rattle.game_board.specs.Board.{Board}
 use Rattle.linked_desk.specs.declared.acts.DeskReply.{DeskReply}
 use Rattle.linked_desk.specs.declared.acts.DeskReply.TheVariants.{Done}
-use Rattle.linked_boards.specs.Boards.{boards_acked}
+use Rattle.desk_boards.specs.Boards.{boards_acked}
 use Rattle.linked_desk.specs.Desk.{GameState, moment_at, seat_of}
 use Rattle.linked_desk.specs.Ends.{no_seat_cause}
 use Rattle.linked_desk.specs.Seats.{place_of, colour_at}

@@ -8,7 +8,7 @@ use Rattle.fics_words.specs.declared.refusal.Refusal.TheVariants.{NotPlaying}
 use Rattle.linked_desk.specs.declared.acts.DeskReply.{DeskReply}
 use Rattle.linked_desk.specs.declared.acts.DeskReply.TheVariants.{Done}
 use Rattle.linked_desk.specs.declared.ended.Ended.{Ended}
-use Rattle.linked_boards.specs.Boards.{flag_at}
+use Rattle.desk_boards.specs.Boards.{flag_at}
 use Rattle.linked_desk.specs.Desk.{GameState, moment_at, seat_of}
 use Rattle.linked_desk.specs.Ends.{no_seat_cause, over_cause, ended_by}
 use Rattle.linked_desk.specs.Seats.{place_of, board_of, colour_at}

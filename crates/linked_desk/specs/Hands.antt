@@ -19,7 +19,7 @@ use Rattle.game_board.specs.Board.{Board, position_of}
 use Rattle.game_board.specs.BoardFace.{last_played}
 use Rattle.style12_writer.specs.declared.item.Item.{Item}
 use Rattle.style12_writer.specs.declared.item.Item.TheVariants as item
-use Rattle.linked_boards.specs.Boards.{other_place}
+use Rattle.desk_boards.specs.Boards.{other_place}
 use Rattle.linked_desk.specs.Desk.{GameState, game_number}
 
 -- both hands at a board as it stands, and the kind of the man that has just come into one of them, if one has

@@ -2,7 +2,7 @@
 use Rattle.std.specs.Prelude.{◌≡◌, ◌≤◌, ◌^◌, length, None}
 use Rattle.fics_words.specs.Seats.{seat_list}
 use Rattle.linked_desk.specs.declared.game.Game.TheInside.{Inside}
-use Rattle.linked_boards.specs.Boards.{latest}
+use Rattle.desk_boards.specs.Boards.{latest}
 
 pub record HoldsGame (g : Inside) : Type 0 where
   -- while the game runs there is room for the items of its end, so nobody who leaves needs memory

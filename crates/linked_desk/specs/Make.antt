@@ -8,8 +8,8 @@ use Rattle.game_board.specs.Board.{Board}
 use Rattle.offer_book.specs.declared.offer.Offer.{Offer}
 use Rattle.offer_book.specs.declared.offer.Offer.TheVariants.{Draw, Abort, Adjourn, Takeback}
 use Rattle.offer_book.specs.Offers.{offering, stands}
-use Rattle.linked_boards.specs.Claims.{claim_at}
-use Rattle.linked_boards.specs.TakenBack.{lacks_half_moves}
+use Rattle.desk_boards.specs.Claims.{claim_at}
+use Rattle.desk_boards.specs.TakenBack.{lacks_half_moves}
 use Rattle.linked_desk.specs.declared.acts.DeskReply.{DeskReply}
 use Rattle.linked_desk.specs.declared.acts.DeskReply.TheVariants.{Done}
 use Rattle.linked_desk.specs.Desk.{GameState, all_registered, is_pair, seat_of}

@@ -14,7 +14,7 @@ use Rattle.style12_writer.specs.OfferLines.{abort_text, adjourn_text, decline_te
 use Rattle.style12_writer.specs.declared.item.Item.{Item}
 use Rattle.style12_writer.specs.declared.item.Item.TheVariants as item
 use Rattle.linked_desk.specs.declared.ended.Ended.{Ended}
-use Rattle.linked_boards.specs.TakenBack.{boards_taken_back}
+use Rattle.desk_boards.specs.TakenBack.{boards_taken_back}
 use Rattle.linked_desk.specs.Desk.{GameState, moment_at}
 use Rattle.linked_desk.specs.Ends.{ended_by}
 use Rattle.linked_desk.specs.Hands.{first_hands}

@@ -11,7 +11,7 @@ use Rattle.fics_words.specs.declared.refusal.Refusal.TheVariants.{NotPlaying}
 use Rattle.offer_book.specs.Offers.{after_half_move, where_stand}
 use Rattle.linked_desk.specs.declared.acts.DeskReply.{DeskReply}
 use Rattle.linked_desk.specs.declared.acts.DeskReply.TheVariants.{Done}
-use Rattle.linked_boards.specs.Boards.{word_at, reply_at, boards_after}
+use Rattle.desk_boards.specs.Boards.{word_at, reply_at, boards_after}
 use Rattle.linked_desk.specs.Desk.{GameState, moment_at, seat_of}
 use Rattle.linked_desk.specs.Ends.{no_seat_cause, over_cause}
 use Rattle.linked_desk.specs.Finish.{finished}

@@ -14,7 +14,7 @@ use Rattle.game_board.specs.Board.{Board}
 use Rattle.offer_book.specs.Offers.{no_offers}
 use Rattle.observer_feed.specs.declared.cursor.Cursor.{Cursor}
 use Rattle.game_records.specs.Bounds.{AreStoredTerms}
-use Rattle.linked_boards.specs.Boards.{board_numbers, new_boards}
+use Rattle.desk_boards.specs.Boards.{board_numbers, new_boards}
 use Rattle.linked_desk.specs.declared.occasion.Occasion.{Occasion}
 use Rattle.linked_desk.specs.declared.occasion.Occasion.TheVariants.{Start, Resumption}
 use Rattle.linked_desk.specs.Desk.{GameState, DeskState, game_number}

@@ -6,7 +6,7 @@ use Rattle.game_board.specs.Board.{Board, position_of}
 use Rattle.game_board.specs.Charges.{remaining_of}
 use Rattle.game_records.specs.declared.stored_game.StoredGame.{StoredGame}
 use Rattle.game_records.specs.Replays.{Replays}
-use Rattle.linked_boards.specs.Halves.{halves_of}
+use Rattle.desk_boards.specs.Halves.{halves_of}
 use Rattle.linked_desk.specs.Desk.{DeskState, GameState}
 use Rattle.linked_desk.specs.Restore.{restored}
 use Rattle.linked_desk.specs.Seating.{uncoloured}

@@ -6,7 +6,7 @@ use Rattle.fics_words.specs.declared.player.Player.{Player}
 use Rattle.fics_words.specs.declared.seats.Seats.{Seats}
 use Rattle.fics_words.specs.Seats.{seat_list}
 use Rattle.game_records.specs.declared.stored_game.StoredGame.{StoredGame}
-use Rattle.linked_boards.specs.Halves.{halves_of}
+use Rattle.desk_boards.specs.Halves.{halves_of}
 use Rattle.linked_desk.specs.declared.ended.Ended.{Ended}
 use Rattle.linked_desk.specs.Desk.{DeskState, GameState, end_of}
 use Rattle.linked_desk.specs.Seating.{uncoloured}

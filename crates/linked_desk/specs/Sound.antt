@@ -8,8 +8,8 @@ use Rattle.style12_writer.specs.declared.item.Item.TheVariants.{End}
 use Rattle.style12_writer.specs.EndLine.{is_decisive}
 use Rattle.linked_desk.specs.declared.acts.DeskReply.{DeskReply}
 use Rattle.linked_desk.specs.declared.acts.DeskReply.TheVariants.{Done, Items}
-use Rattle.linked_boards.specs.Boards.{latest}
-use Rattle.linked_boards.specs.Sound.{AreSoundBoards, GoOn}
+use Rattle.desk_boards.specs.Boards.{latest}
+use Rattle.desk_boards.specs.Sound.{AreSoundBoards, GoOn}
 use Rattle.linked_desk.specs.Desk.{GameState, DeskState}
 use Rattle.linked_desk.specs.Seating.{MayPlay}
 

@@ -2,7 +2,7 @@
 ghost use Rattle.std.specs.Prelude.{◌≡◌, ◌≤◌, ◌^◌, ◌↔◌, ℕ, None, Some, IfOk, IsSome, IsTrue, OnOk, OnErr};
 ghost use Rattle.std.specs.Option.{option_copied};
 ghost use Rattle.fics_words.specs.Effect.{Takes};
-ghost use Rattle.linked_boards.specs.Boards.{numbered};
+ghost use Rattle.desk_boards.specs.Boards.{numbered};
 
 use crate::acts::{DeskAct, DeskReply};
 use crate::ended::Ended;

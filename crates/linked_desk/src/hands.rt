@@ -7,8 +7,8 @@ ghost use Rattle.linked_desk.specs.Hands.{changes_hands, ends_with_drop, first_h
 use crate::game::Game;
 use crate::views::game_number;
 use chess_model::{Colour, Kind, Man, Move, Variant};
+use desk_boards::other_place;
 use game_board::{GameBoard, Played, handed_over_as};
-use linked_boards::other_place;
 use style12_writer::Item;
 
 impl Game {

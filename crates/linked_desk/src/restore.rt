@@ -2,16 +2,16 @@
 ghost use Rattle.std.specs.Prelude.{◌≡◌, ◌≤◌, ◌^◌, ◌↔◌, IfOk, IsSome, None};
 ghost use Rattle.std.specs.Option.{option_map};
 ghost use Rattle.game_records.specs.Replays.{Replays};
-ghost use Rattle.linked_boards.specs.Replaying.{replayed};
+ghost use Rattle.desk_boards.specs.Replaying.{replayed};
 ghost use Rattle.linked_desk.specs.Restore.{finished_at, last_place, place_on, resumed};
 ghost use Rattle.linked_desk.specs.Seating.{AllDiffer, HasPairsFor, sessions_of};
 
 use crate::game::Game;
 use crate::occasion::Occasion;
 use crate::seating::{announced, game_at, show_each};
+use desk_boards::Boards;
 use fics_words::{NoMemory, Seats};
 use game_records::{Half, PackedHalf, StoredGame};
-use linked_boards::Boards;
 use std::alloc::Global;
 
 /// A stored game that goes on at a desk, or None where it doesn't replay.

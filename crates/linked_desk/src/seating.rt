@@ -3,7 +3,7 @@ ghost use Rattle.std.specs.Prelude.{◌≡◌, ◌≢◌, ◌+◌, ◌≤◌, �
 ghost use Rattle.fics_words.specs.Seats.{seat_list};
 ghost use Rattle.offer_book.specs.Offers.{no_offers};
 ghost use Rattle.observer_feed.specs.Feed.{empty_feed, is_viewer};
-ghost use Rattle.linked_boards.specs.Boards.{latest};
+ghost use Rattle.desk_boards.specs.Boards.{latest};
 ghost use Rattle.linked_desk.specs.Seating.{AllDiffer, HasPairsFor, announcement, announcements, first_items, from_start, game_at, news, opened, sessions_of, shown_items};
 ghost use Rattle.linked_desk.specs.Seats.{pairs_of};
 
@@ -13,9 +13,9 @@ use crate::occasion::Occasion;
 use crate::tally::Tally;
 use crate::views::{game_number, view_of};
 use chess_model::Terms;
+use desk_boards::Boards;
 use fics_words::{Line, NoMemory, Opponents, Seats};
 use game_board::GameBoard;
-use linked_boards::Boards;
 use observer_feed::{Feed, Told};
 use offer_book::Offers;
 use std::alloc::Global;

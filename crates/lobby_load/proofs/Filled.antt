@@ -13,11 +13,11 @@ use Rattle.game_records.specs.Spelling.{IsSpelled, spelling}
 use Rattle.game_records.specs.declared.records.Record.{Record}
 use Rattle.game_records.specs.declared.records.Record.TheVariants as a
 use Rattle.game_records.specs.declared.stored_game.StoredGame.{StoredGame}
-use Rattle.game_shelf.specs.declared.shelved.Shelved.{Shelved}
-use Rattle.game_shelf.specs.Numbers.{is_above, is_below}
-use Rattle.game_shelf.specs.Shelf.{most_stored, with_stored}
-use Rattle.game_shelf.proofs.Keeping.{length-with}
-use Rattle.game_shelf.proofs.Rising.{RiseAbove-with}
+use Rattle.lobby_shelf.specs.declared.shelved.Shelved.{Shelved}
+use Rattle.lobby_shelf.specs.Numbers.{is_above, is_below}
+use Rattle.lobby_shelf.specs.Shelf.{most_stored, with_stored}
+use Rattle.lobby_shelf.proofs.Keeping.{length-with}
+use Rattle.lobby_shelf.proofs.Rising.{RiseAbove-with}
 use Rattle.edge_traits.specs.Pairs.{Pairs, keys_order}
 use Rattle.lobby_state.specs.Lobby.{LobbyState, most_accounts, opening}
 use Rattle.lobby_state.specs.Registration.{with_account}

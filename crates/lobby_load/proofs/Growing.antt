@@ -8,12 +8,12 @@ use Rattle.game_records.specs.Keys.{account_key, game_key}
 use Rattle.game_records.specs.Spelling.{spelling}
 use Rattle.game_records.specs.declared.records.Record.TheVariants as a
 use Rattle.game_records.specs.declared.stored_game.StoredGame.{StoredGame}
-use Rattle.game_shelf.specs.declared.shelved.Shelved.{Shelved}
-use Rattle.game_shelf.specs.Numbers.{AreInOrder, is_used, with_game}
-use Rattle.game_shelf.specs.Shelf.{ShelfState, empty}
-use Rattle.game_shelf.specs.Wanted.{account_record, either_record, game_record, is_account_at, is_game_at, wanted}
-use Rattle.game_shelf.proofs.Finding.{find-with_new, find-with_other, unused-all}
-use Rattle.game_shelf.proofs.Leading.{orders-lead, same_key, no_account, no_such_game, small_numbers}
+use Rattle.lobby_shelf.specs.declared.shelved.Shelved.{Shelved}
+use Rattle.lobby_shelf.specs.Numbers.{AreInOrder, is_used, with_game}
+use Rattle.lobby_shelf.specs.Shelf.{ShelfState, empty}
+use Rattle.lobby_shelf.specs.Wanted.{account_record, either_record, game_record, is_account_at, is_game_at, wanted}
+use Rattle.lobby_shelf.proofs.Finding.{find-with_new, find-with_other, unused-all}
+use Rattle.lobby_shelf.proofs.Leading.{orders-lead, same_key, no_account, no_such_game, small_numbers}
 use Rattle.login_handles.proofs.GuestNames.{bytes_eq-self}
 
 -- an account that comes is wanted under its own key, and nothing else changes

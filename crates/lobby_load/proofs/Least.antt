@@ -2,7 +2,7 @@
 use Rattle.std.proofs.Common.{◌≡◌, ◌⊎◌, inl, inr, ℕ, ◌≤◌, Bool, true, false, List, [], ◌∷◌, ◌++◌, Some, All, length, sym, ap, subst, ◌∙◌, arith, append-nil}
 use Rattle.std.specs.FinMap as map
 use Rattle.std.specs.FinMap.{find, get-entries}
-use Rattle.game_shelf.specs.Shelf.{most_stored}
+use Rattle.lobby_shelf.specs.Shelf.{most_stored}
 use Rattle.edge_traits.specs.Pairs.{IsAscending, Pairs, Table, keys_order}
 use Rattle.lobby_state.specs.Lobby.{LobbyState, most_accounts}
 use Rattle.lobby_state.specs.ShelfRoom.{desks_used}

@@ -6,9 +6,9 @@ use Rattle.std.proofs.lemmas.Bool.{eqb-true}
 use Rattle.std.proofs.lemmas.Slice.Eq.{bytes_eq-Decides}
 use Rattle.fics_words.specs.declared.account.Account.{Account}
 use Rattle.game_records.specs.Keys.{game_key}
-use Rattle.game_shelf.specs.declared.shelved.Shelved.{Shelved}
-use Rattle.game_shelf.specs.Numbers.{game_in, has_number, stored_game}
-use Rattle.game_shelf.specs.Wanted.{account_record, either_record, game_record, is_account_at, is_game_at}
+use Rattle.lobby_shelf.specs.declared.shelved.Shelved.{Shelved}
+use Rattle.lobby_shelf.specs.Numbers.{game_in, has_number, stored_game}
+use Rattle.lobby_shelf.specs.Wanted.{account_record, either_record, game_record, is_account_at, is_game_at}
 use Rattle.lobby_state.specs.Lobby.{LobbyState}
 use Rattle.lobby_store.specs.Agreeing.{wanted_by}
 

@@ -5,7 +5,7 @@ use Rattle.std.specs.FinMap as map
 use Rattle.std.specs.declared.cmp.Ordering.TheVariants.{Less}
 use Rattle.fics_words.specs.declared.account.Account.{Account}
 use Rattle.game_records.specs.declared.stored_game.StoredGame.{StoredGame}
-use Rattle.game_shelf.specs.Shelf.{most_stored}
+use Rattle.lobby_shelf.specs.Shelf.{most_stored}
 use Rattle.edge_traits.specs.Pairs.{Pairs, Table, keys_order}
 use Rattle.lobby_state.specs.Lobby.{most_accounts}
 use Rattle.lobby_store.specs.Carrying.{held}

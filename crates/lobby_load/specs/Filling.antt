@@ -4,8 +4,8 @@ use Rattle.std.specs.FinMap.{find}
 use Rattle.std.specs.FinMap as map
 use Rattle.fics_words.specs.declared.account.Account.{Account}
 use Rattle.game_records.specs.declared.stored_game.StoredGame.{StoredGame}
-use Rattle.game_shelf.specs.Numbers.{AreInOrder}
-use Rattle.game_shelf.specs.Shelf.{most_stored, with_stored}
+use Rattle.lobby_shelf.specs.Numbers.{AreInOrder}
+use Rattle.lobby_shelf.specs.Shelf.{most_stored, with_stored}
 use Rattle.edge_traits.specs.Pairs.{Pairs, Table, keys_order}
 use Rattle.lobby_state.specs.Lobby.{LobbyState, most_accounts}
 use Rattle.lobby_state.specs.Registration.{with_account}

@@ -5,8 +5,8 @@ use Rattle.fics_words.specs.declared.account.Account.{Account}
 use Rattle.edge_traits.specs.Pairs.{Pairs, Table}
 use Rattle.game_records.specs.Spelling.{IsSpelled, spelling}
 use Rattle.game_records.specs.declared.records.Record.TheVariants as a
-use Rattle.game_shelf.specs.Shelf.{empty}
-use Rattle.game_shelf.specs.declared.shelved.Shelved.{Shelved}
+use Rattle.lobby_shelf.specs.Shelf.{empty}
+use Rattle.lobby_shelf.specs.declared.shelved.Shelved.{Shelved}
 use Rattle.lobby_state.specs.Desks.{desks}
 use Rattle.lobby_state.specs.Lobby.{LobbyState, opening}
 use Rattle.lobby_store.specs.Agreeing.{wanted_by}

@@ -1,8 +1,8 @@
 //! The rows of a store are added to a lobby, one after another.
 ghost use Rattle.std.specs.Prelude.{◌≡◌, ◌≤◌, ◌<◌, false, IfOk, None, length};
 ghost use Rattle.game_records.specs.Replays.{Replays};
-ghost use Rattle.game_shelf.specs.Numbers.{stored_game};
-ghost use Rattle.game_shelf.specs.Shelf.{most_stored};
+ghost use Rattle.lobby_shelf.specs.Numbers.{stored_game};
+ghost use Rattle.lobby_shelf.specs.Shelf.{most_stored};
 ghost use Rattle.lobby_state.specs.Lobby.{has_account, most_accounts};
 ghost use Rattle.lobby_state.specs.ShelfRoom.{places_taken};
 ghost use Rattle.lobby_store.specs.Agreeing.{wanted_by};

@@ -13,7 +13,7 @@ use Rattle.lobby_state.proofs.Lists.{map-filter}
 use Rattle.lobby_state.proofs.ChallengeRows.{AreChallengesOf-without}
 use Rattle.lobby_state.proofs.SeekRows.{AreSeeksOf-without}
 use Rattle.lobby_state.proofs.PartnerRows.{ArePartnersOf-without}
-use Rattle.game_shelf.specs.Shelf.{without_requests}
+use Rattle.lobby_shelf.specs.Shelf.{without_requests}
 use Rattle.lobby_state.proofs.ShelfRows.{IsShelfOf-without}
 use Rattle.partner_link.specs.Partners.{without}
 use Rattle.seek_match.specs.Matches.{without_challenges_of}

@@ -20,11 +20,11 @@ use Rattle.lobby_state.proofs.Lists.{map-map_same, All-map_each, All-filter_pass
 use Rattle.std.specs.Prelude.{IfSome, IsSome}
 use Rattle.game_records.specs.Replays.{Replays}
 use Rattle.game_records.specs.declared.stored_game.StoredGame.{StoredGame}
-use Rattle.game_shelf.specs.Numbers.{next_number}
-use Rattle.game_shelf.specs.Shelf.{most_stored, shelved}
-use Rattle.game_shelf.specs.declared.shelved.Shelved.{Shelved}
-use Rattle.game_shelf.proofs.Keeping.{IsShelf-shelved, length-with}
-use Rattle.game_shelf.proofs.Rising.{next_number-least}
+use Rattle.lobby_shelf.specs.Numbers.{next_number}
+use Rattle.lobby_shelf.specs.Shelf.{most_stored, shelved}
+use Rattle.lobby_shelf.specs.declared.shelved.Shelved.{Shelved}
+use Rattle.lobby_shelf.proofs.Keeping.{IsShelf-shelved, length-with}
+use Rattle.lobby_shelf.proofs.Rising.{next_number-least}
 use Rattle.lobby_state.specs.Reserve.{CanShelve}
 use Rattle.lobby_state.proofs.DesksUsed.{desks_used-free, desks_used-freed}
 use Rattle.lobby_state.proofs.WellFormed.{kept, member_changed}

@@ -14,7 +14,7 @@ use Rattle.lobby_state.specs.Keeps.{Keeps}
 use Rattle.lobby_state.specs.Lobby.{LobbyState, has_account, is_registered, member_of}
 use Rattle.lobby_state.specs.Registration.{loading_effect, registered, registration_effect, with_account, with_new_account}
 use Rattle.lobby_state.specs.WellFormed.{IsWellFormed, sessions_of}
-use Rattle.game_shelf.specs.Shelf.{account_order}
+use Rattle.lobby_shelf.specs.Shelf.{account_order}
 use Rattle.lobby_state.proofs.ShelfRows.{AreCounted-account, AreCounted-new_account, IsShelfOf-ordered}
 use Rattle.lobby_state.proofs.Causes.{none_holds}
 use Rattle.std.proofs.lemmas.Bool.{leb-false}

@@ -14,11 +14,11 @@ use Rattle.fics_words.specs.declared.account.Account.{Account}
 use Rattle.fics_words.specs.declared.player.Player.{Player}
 use Rattle.game_records.specs.Bounds.{seats}
 use Rattle.game_records.specs.Replays.{AreFour, Replays}
-use Rattle.game_shelf.specs.Numbers.{RiseAbove, game_in, has_number, stored_game}
-use Rattle.game_shelf.specs.Players.{is_of_both, least_of}
-use Rattle.game_shelf.specs.Shelf.{asks}
-use Rattle.game_shelf.specs.declared.shelved.Shelved.{Shelved}
-use Rattle.game_shelf.proofs.Rising.{rises_at}
+use Rattle.lobby_shelf.specs.Numbers.{RiseAbove, game_in, has_number, stored_game}
+use Rattle.lobby_shelf.specs.Players.{is_of_both, least_of}
+use Rattle.lobby_shelf.specs.Shelf.{asks}
+use Rattle.lobby_shelf.specs.declared.shelved.Shelved.{Shelved}
+use Rattle.lobby_shelf.proofs.Rising.{rises_at}
 use Rattle.lobby_state.specs.declared.member.Member.{Member}
 use Rattle.lobby_state.specs.Change.{holds}
 use Rattle.lobby_state.specs.Keeps.{KeepsPlanned}
@@ -31,7 +31,7 @@ use Rattle.lobby_state.proofs.KeepsResumed.{used-stored}
 use Rattle.lobby_state.proofs.Lists.{find-contained, find-passes, find-step}
 use Rattle.lobby_state.proofs.Starts.{all_of_four, all_of_two, free-is, pairs_of_four, pairs_of_two}
 use Rattle.lobby_state.proofs.WellFormed.{find-has}
-use Rattle.game_shelf.proofs.Leading.{same_key}
+use Rattle.lobby_shelf.proofs.Leading.{same_key}
 use Rattle.login_handles.proofs.GuestNames.{bytes_eq-self}
 use Rattle.lobby_state.proofs.KeepsEnter.{same_key as differ_by}
 use Rattle.tables.proofs.Placed.{position-within}

@@ -8,12 +8,12 @@ use Rattle.chess_model.specs.declared.variant.Terms.{Terms}
 use Rattle.fics_words.specs.Handle.{key_of}
 use Rattle.fics_words.specs.declared.seats.Seats.{Seats}
 use Rattle.game_records.specs.declared.stored_game.StoredGame.{StoredGame}
-use Rattle.game_shelf.specs.Numbers.{AreInOrder, game_in, has_number, is_used, stored_game, without_game}
-use Rattle.game_shelf.specs.Shelf.{ShelfState, asked, asks, taken_off, with_request}
-use Rattle.game_shelf.specs.declared.request.Request.{Request}
-use Rattle.game_shelf.specs.declared.shelved.Shelved.{Shelved}
-use Rattle.game_shelf.proofs.Keeping.{IsShelf-asked, IsShelf-taken_off}
-use Rattle.game_shelf.proofs.Rising.{unused_above}
+use Rattle.lobby_shelf.specs.Numbers.{AreInOrder, game_in, has_number, is_used, stored_game, without_game}
+use Rattle.lobby_shelf.specs.Shelf.{ShelfState, asked, asks, taken_off, with_request}
+use Rattle.lobby_shelf.specs.declared.request.Request.{Request}
+use Rattle.lobby_shelf.specs.declared.shelved.Shelved.{Shelved}
+use Rattle.lobby_shelf.proofs.Keeping.{IsShelf-asked, IsShelf-taken_off}
+use Rattle.lobby_shelf.proofs.Rising.{unused_above}
 use Rattle.lobby_state.specs.declared.acts.Plan.TheVariants.{Resume, Ask}
 use Rattle.lobby_state.specs.declared.member.Member.{Member}
 use Rattle.lobby_state.specs.Change.{change_first}

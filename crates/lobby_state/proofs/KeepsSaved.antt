@@ -1,6 +1,6 @@
 -- What a Saved keeps.
 use Rattle.std.proofs.Common.{ℕ, refl}
-use Rattle.game_shelf.proofs.Keeping.{IsShelf-saved}
+use Rattle.lobby_shelf.proofs.Keeping.{IsShelf-saved}
 use Rattle.lobby_state.specs.Keeps.{Keeps}
 use Rattle.lobby_state.specs.Lobby.{LobbyState}
 use Rattle.lobby_state.specs.Saved.{saved_effect}

@@ -29,7 +29,7 @@ use Rattle.lobby_state.specs.Start.{in_seat, is_by_seated, is_settled, seated}
 use Rattle.lobby_state.specs.WellFormed.{AreCounted, IsShelfOf, IsWellFormed, IsSeatOf, IsStarted, HasSeats, sessions_of}
 use Rattle.lobby_state.proofs.ChallengeRows.{AreChallengesOf-filter}
 use Rattle.lobby_state.proofs.Lists.{map-map_same, All-map_each, find-passes, get-set_same, get-set_other}
-use Rattle.game_shelf.specs.Shelf.{ShelfState, is_by_seated as asks_seated}
+use Rattle.lobby_shelf.specs.Shelf.{ShelfState, is_by_seated as asks_seated}
 use Rattle.lobby_state.specs.Terms.{AreTerms}
 use Rattle.lobby_state.proofs.DesksUsed.{desks_used-taken}
 use Rattle.lobby_state.proofs.WellFormed.{kept, resumes_gone, seeks_gone}

@@ -6,10 +6,10 @@ use Rattle.fics_words.specs.declared.fail.Fail.{Fail}
 use Rattle.fics_words.specs.declared.fail.Fail.TheVariants.{Refused, Memory}
 use Rattle.game_records.specs.Replays.{Replays}
 use Rattle.game_records.specs.declared.stored_game.StoredGame.{StoredGame}
-use Rattle.game_shelf.specs.Numbers.{is_used}
-use Rattle.game_shelf.specs.Shelf.{with_stored}
-use Rattle.game_shelf.specs.declared.shelved.Shelved.{Shelved}
-use Rattle.game_shelf.proofs.Keeping.{IsShelf-with_stored, length-with}
+use Rattle.lobby_shelf.specs.Numbers.{is_used}
+use Rattle.lobby_shelf.specs.Shelf.{with_stored}
+use Rattle.lobby_shelf.specs.declared.shelved.Shelved.{Shelved}
+use Rattle.lobby_shelf.proofs.Keeping.{IsShelf-with_stored, length-with}
 use Rattle.lobby_state.specs.Lobby.{LobbyState}
 use Rattle.lobby_state.specs.ShelfRoom.{is_shelf_full, places_taken, storing_effect}
 use Rattle.lobby_state.specs.WellFormed.{IsWellFormed}

@@ -10,7 +10,7 @@ use Rattle.lobby_state.specs.declared.member.Member.{Member}
 use Rattle.lobby_state.specs.Change.{change_first}
 use Rattle.lobby_state.specs.Lobby.{is_session}
 use Rattle.lobby_state.proofs.First.{change_first-found}
-use Rattle.game_shelf.proofs.Requests.{turned}
+use Rattle.lobby_shelf.proofs.Requests.{turned}
 use Rattle.tables.proofs.Placed.{position-within}
 
 -- a write of what stands there changes nothing

@@ -6,7 +6,7 @@ use Rattle.std.proofs.Math.ListN.{set, get_or-map}
 use Rattle.std.proofs.lemmas.List.{length-map}
 use Rattle.std.proofs.lemmas.List.Elements.{All-nil, All-cons, All-head, All-tail}
 use Rattle.lobby_state.specs.Change.{change_first}
-use Rattle.game_shelf.proofs.Keeping.{filter_step}
+use Rattle.lobby_shelf.proofs.Keeping.{filter_step}
 
 pub map-map_same : {X Y : Type 0} (g : X → Y) (f : X → X) → ((x : X) → g (f x) ≡ g x) → (xs : List X) → map g (map f xs) ≡ map g xs
 map-map_same g f same [] = refl

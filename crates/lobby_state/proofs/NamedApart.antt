@@ -12,7 +12,7 @@ use Rattle.lobby_state.specs.Lobby.{has_handle, is_named}
 use Rattle.lobby_state.specs.Names.{AreNamedApart, comes_before, row_of, with_row, with_rows}
 use Rattle.lobby_state.proofs.Lent.{at_place}
 use Rattle.tables.proofs.Placed.{find-found, position-within}
-use Rattle.game_shelf.proofs.Requests.{turned}
+use Rattle.lobby_shelf.proofs.Requests.{turned}
 
 abbrev pub key : Member → List ℕ
 key member = key_of member.name

@@ -10,7 +10,7 @@ use Rattle.lobby_state.specs.declared.member.Member.{Member}
 use Rattle.lobby_state.specs.declared.name_row.NameRow.{NameRow}
 use Rattle.lobby_state.specs.Lobby.{has_handle, is_session}
 use Rattle.lobby_state.specs.Names.{comes_before, row_of, with_row, with_rows}
-use Rattle.game_shelf.proofs.Requests.{turned}
+use Rattle.lobby_shelf.proofs.Requests.{turned}
 
 -- where two tests agree, they find the same
 find-same : {X : Type 0} (p q : X → Bool) → ((x : X) → p x ≡ q x) → (xs : List X) → find p xs ≡ find q xs

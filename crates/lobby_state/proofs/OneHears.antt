@@ -9,7 +9,7 @@ use Rattle.lobby_state.specs.Broadcast.{broadcast}
 use Rattle.lobby_state.specs.Change.{change_first}
 use Rattle.lobby_state.specs.Lobby.{is_session}
 use Rattle.lobby_state.specs.Match.{with_line}
-use Rattle.game_shelf.proofs.Requests.{turned}
+use Rattle.lobby_shelf.proofs.Requests.{turned}
 
 -- who is named hears the line, if there is room for it
 hears_it : (line : List ℕ) (m : Member) → cond (true && not (are_full m.waiting)) (with_line line m) m ≡ with_line line m

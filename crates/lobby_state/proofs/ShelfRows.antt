@@ -3,10 +3,10 @@ use Rattle.std.proofs.Common.{◌≡◌, ℕ, ◌+◌, Bool, not, eqb, List, [],
 use Rattle.std.specs.Prelude.{Contains}
 use Rattle.std.proofs.lemmas.List.Elements.{All-filter, All-weaker}
 use Rattle.fics_words.specs.declared.account.Account.{Account}
-use Rattle.game_shelf.specs.Shelf.{ShelfState, account_order, ordered, without_requests}
-use Rattle.game_shelf.specs.declared.order.Order.{Order}
-use Rattle.game_shelf.specs.declared.request.Request.{Request}
-use Rattle.game_shelf.proofs.Keeping.{IsShelf-fewer, IsShelf-ordered}
+use Rattle.lobby_shelf.specs.Shelf.{ShelfState, account_order, ordered, without_requests}
+use Rattle.lobby_shelf.specs.declared.order.Order.{Order}
+use Rattle.lobby_shelf.specs.declared.request.Request.{Request}
+use Rattle.lobby_shelf.proofs.Keeping.{IsShelf-fewer, IsShelf-ordered}
 use Rattle.lobby_state.specs.declared.game.Game.{Game}
 use Rattle.lobby_state.specs.WellFormed.{AreCounted, IsShelfOf}
 use Rattle.lobby_state.proofs.Lists.{All-filter_passing, Contains-filter}

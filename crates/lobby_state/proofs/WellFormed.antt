@@ -19,9 +19,9 @@ use Rattle.lobby_state.proofs.ChallengeRows.{AreChallengesOf-filter}
 use Rattle.lobby_state.proofs.SeekRows.{AreSeeksOf-filter, has_numbers_left}
 use Rattle.seek_match.specs.declared.seek.Seek.{Seek}
 use Rattle.partner_link.specs.Partners.{PartnerLists}
-use Rattle.game_shelf.specs.Shelf.{ShelfState}
-use Rattle.game_shelf.specs.declared.request.Request.{Request}
-use Rattle.game_shelf.proofs.Keeping.{IsShelf-empty}
+use Rattle.lobby_shelf.specs.Shelf.{ShelfState}
+use Rattle.lobby_shelf.specs.declared.request.Request.{Request}
+use Rattle.lobby_shelf.proofs.Keeping.{IsShelf-empty}
 use Rattle.lobby_state.proofs.ShelfRows.{IsShelfOf-fewer}
 
 -- lists that show the same are of one length

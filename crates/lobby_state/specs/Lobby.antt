@@ -6,7 +6,7 @@ use Rattle.channel_feed.specs.declared.channels.Membership.{Membership}
 use Rattle.channel_feed.specs.Channels.{without_player}
 use Rattle.fics_words.specs.Handle.{key_of}
 use Rattle.fics_words.specs.declared.account.Account.{Account}
-use Rattle.game_shelf.specs.Shelf.{ShelfState, empty, without_requests}
+use Rattle.lobby_shelf.specs.Shelf.{ShelfState, empty, without_requests}
 use Rattle.login_handles.specs.Accounts.{account_of}
 use Rattle.partner_link.specs.Partners.{PartnerLists, partner_of, without}
 use Rattle.seek_match.specs.declared.seek.Seek.{Seek}

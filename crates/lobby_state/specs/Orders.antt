@@ -1,7 +1,7 @@
 -- Orders: a steward asks for the first save orders. This server's own.
 use Rattle.std.specs.Prelude.{true, []}
 use Rattle.fics_words.specs.Effect.{Effect}
-use Rattle.game_shelf.specs.Shelf.{orders_told}
+use Rattle.lobby_shelf.specs.Shelf.{orders_told}
 use Rattle.lobby_state.specs.declared.acts.LobbyReply.{LobbyReply}
 use Rattle.lobby_state.specs.declared.acts.LobbyReply.TheVariants.{Orders}
 use Rattle.lobby_state.specs.Lobby.{LobbyState}

@@ -10,8 +10,8 @@ use Rattle.fics_words.specs.declared.seats.Opponents.{Opponents}
 use Rattle.fics_words.specs.declared.seats.Seats.{Seats}
 use Rattle.fics_words.specs.Seats.{seat_list}
 use Rattle.game_records.specs.declared.stored_game.StoredGame.{StoredGame}
-use Rattle.game_shelf.specs.Numbers.{is_used, stored_game}
-use Rattle.game_shelf.specs.Shelf.{most_stored}
+use Rattle.lobby_shelf.specs.Numbers.{is_used, stored_game}
+use Rattle.lobby_shelf.specs.Shelf.{most_stored}
 use Rattle.lobby_state.specs.declared.acts.Plan.{Plan}
 use Rattle.lobby_state.specs.declared.acts.Plan.TheVariants.{Start, Clear, Resume, Ask}
 use Rattle.lobby_state.specs.Desks.{IsDesk}

@@ -4,7 +4,7 @@ use Rattle.std.specs.Prelude.{ℕ, Bool, true, false, Option, None, Some, Result
 use Rattle.fics_words.specs.declared.refusal.Refusal.{Refusal}
 use Rattle.fics_words.specs.Effect.{Effect, answer_of}
 use Rattle.game_records.specs.declared.stored_game.StoredGame.{StoredGame}
-use Rattle.game_shelf.specs.Shelf.{shelved}
+use Rattle.lobby_shelf.specs.Shelf.{shelved}
 use Rattle.lobby_state.specs.declared.acts.PairAct.{PairAct}
 use Rattle.lobby_state.specs.declared.acts.PairAct.TheVariants.{Accept, Play, Clear, Resume}
 use Rattle.lobby_state.specs.declared.acts.Plan.{Plan}

@@ -3,7 +3,7 @@ use Rattle.std.specs.Prelude.{ℕ, true, nat_le, List, [], ◌∷◌, ◌++◌, 
 use Rattle.fics_words.specs.Effect.{Effect}
 use Rattle.fics_words.specs.declared.account.Account.{Account}
 use Rattle.fics_words.specs.declared.refusal.Refusal.TheVariants.{NotIn, AlreadyRegistered, AccountsFull}
-use Rattle.game_shelf.specs.Shelf.{account_order, ordered}
+use Rattle.lobby_shelf.specs.Shelf.{account_order, ordered}
 use Rattle.lobby_state.specs.declared.acts.LobbyReply.{LobbyReply}
 use Rattle.lobby_state.specs.declared.acts.LobbyReply.TheVariants.{Done}
 use Rattle.lobby_state.specs.declared.member.Member.{Member}

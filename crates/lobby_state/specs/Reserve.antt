@@ -4,8 +4,8 @@ use Rattle.std.specs.Prelude.{◌≡◌, ℕ, IsSome, Option, None, Some}
 use Rattle.channel_feed.specs.Waiting.{with_line}
 use Rattle.game_records.specs.Replays.{Replays}
 use Rattle.game_records.specs.declared.stored_game.StoredGame.{StoredGame}
-use Rattle.game_shelf.specs.Facts.{HasRoom}
-use Rattle.game_shelf.specs.Shelf.{ShelfState, game_order, removal_order}
+use Rattle.lobby_shelf.specs.Facts.{HasRoom}
+use Rattle.lobby_shelf.specs.Shelf.{ShelfState, game_order, removal_order}
 use Rattle.lobby_state.specs.declared.acts.Plan.{Plan}
 use Rattle.lobby_state.specs.declared.acts.Plan.TheVariants.{Start, Clear, Resume, Ask}
 use Rattle.lobby_state.specs.declared.reserve.Ready.{Ready}

@@ -11,9 +11,9 @@ use Rattle.fics_words.specs.declared.player.Player.{Player}
 use Rattle.fics_words.specs.declared.refusal.Refusal.TheVariants.{NotIn, NoSuchPlayer, BadOpponent, NoStored, Playing, SimulFull, NoDesk, QueueFull}
 use Rattle.fics_words.specs.declared.seats.Opponents.{Opponents}
 use Rattle.fics_words.specs.declared.seats.Seats.{Seats}
-use Rattle.game_shelf.specs.Players.{least_of}
-use Rattle.game_shelf.specs.Shelf.{asks}
-use Rattle.game_shelf.specs.declared.shelved.Shelved.{Shelved}
+use Rattle.lobby_shelf.specs.Players.{least_of}
+use Rattle.lobby_shelf.specs.Shelf.{asks}
+use Rattle.lobby_shelf.specs.declared.shelved.Shelved.{Shelved}
 use Rattle.lobby_state.specs.declared.acts.Plan.{Plan}
 use Rattle.lobby_state.specs.declared.acts.Plan.TheVariants.{Resume, Ask}
 use Rattle.lobby_state.specs.declared.member.Member.{Member}

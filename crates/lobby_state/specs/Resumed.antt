@@ -3,7 +3,7 @@
 use Rattle.std.specs.Prelude.{ℕ, List, [], codes}
 use Rattle.chess_model.specs.declared.variant.Terms.{Terms}
 use Rattle.fics_words.specs.declared.seats.Seats.{Seats}
-use Rattle.game_shelf.specs.Shelf.{asked, taken_off}
+use Rattle.lobby_shelf.specs.Shelf.{asked, taken_off}
 use Rattle.lobby_state.specs.declared.member.Member.{Member}
 use Rattle.lobby_state.specs.Change.{change_first}
 use Rattle.lobby_state.specs.Lobby.{LobbyState, is_session, member_of}

@@ -1,7 +1,7 @@
 -- Saved: a steward tells which save orders a store has carried out. This server's own.
 use Rattle.std.specs.Prelude.{ℕ, false, []}
 use Rattle.fics_words.specs.Effect.{Effect}
-use Rattle.game_shelf.specs.Shelf.{saved}
+use Rattle.lobby_shelf.specs.Shelf.{saved}
 use Rattle.lobby_state.specs.declared.acts.LobbyReply.{LobbyReply}
 use Rattle.lobby_state.specs.declared.acts.LobbyReply.TheVariants.{Done}
 use Rattle.lobby_state.specs.Lobby.{LobbyState}

@@ -5,7 +5,7 @@ use Rattle.chess_model.specs.declared.variant.Terms.{Terms}
 use Rattle.fics_words.specs.declared.seats.Seats.{Seats}
 use Rattle.fics_words.specs.Seats.{seat_list, seat_number}
 use Rattle.seek_match.specs.declared.challenge.Challenge.{Challenge}
-use Rattle.game_shelf.specs.Shelf.{without_seated}
+use Rattle.lobby_shelf.specs.Shelf.{without_seated}
 use Rattle.lobby_state.specs.declared.member.Member.{Member}
 use Rattle.lobby_state.specs.Change.{holds}
 use Rattle.lobby_state.specs.Lobby.{LobbyState, gives, is_session}

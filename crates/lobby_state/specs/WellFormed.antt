@@ -5,8 +5,8 @@ use Rattle.fics_words.specs.Handle.{key_of}
 use Rattle.fics_words.specs.declared.account.Account.{Account}
 use Rattle.fics_words.specs.declared.player.Player.{Player}
 use Rattle.fics_words.specs.Seats.{seat_list}
-use Rattle.game_shelf.specs.Facts.{IsShelf}
-use Rattle.game_shelf.specs.Shelf.{ShelfState, most_stored}
+use Rattle.lobby_shelf.specs.Facts.{IsShelf}
+use Rattle.lobby_shelf.specs.Shelf.{ShelfState, most_stored}
 use Rattle.login_handles.specs.Accounts.{AreAccounts}
 use Rattle.lobby_state.specs.declared.game.Game.{Game}
 use Rattle.lobby_state.specs.declared.member.Member.{Member}

@@ -10,7 +10,7 @@ use crate::var::Var;
 use chess_model::Terms;
 use collections::Listed;
 use fics_words::{Digest, Handle, HandleKey, Line, Lines, Seats};
-use game_shelf::Order;
+use lobby_shelf::Order;
 use simul_control::{Place, Places};
 
 /// An act that needs the lobby alone.

@@ -2,7 +2,7 @@
 ghost use Rattle.std.specs.Prelude.{◌≡◌, ◌≤◌, IfOk, IfSome, IsOk, None, length, option_copied};
 ghost use Rattle.fics_words.specs.Effect.{Takes};
 ghost use Rattle.game_records.specs.Replays.{Replays};
-ghost use Rattle.game_shelf.specs.Numbers.{stored_game};
+ghost use Rattle.lobby_shelf.specs.Numbers.{stored_game};
 ghost use Rattle.lobby_state.specs.Acts.{FitsLobby, LobbyNeedsNoMemory, lobby_effect};
 ghost use Rattle.lobby_state.specs.Desks.{IsDesk};
 ghost use Rattle.lobby_state.specs.Lobby.{game_at, opening, places_of, waiting_of};
@@ -19,7 +19,7 @@ use crate::register::Register;
 use crate::reserve::Ready;
 use crate::told::ReplyLists;
 use fics_words::{Account, Fail, Line, NoMemory, Refusal};
-use game_shelf::{Shelved, StoredGame};
+use lobby_shelf::{Shelved, StoredGame};
 use simul_control::Places;
 use std::alloc::Global;
 use std::marker::Model;

@@ -1,14 +1,14 @@
 //! Orders: a steward asks for the first save orders.
 ghost use Rattle.std.specs.Prelude.{◌≡◌, IfOk};
 ghost use Rattle.fics_words.specs.Effect.{Takes};
-ghost use Rattle.game_shelf.specs.Shelf.{orders_told};
+ghost use Rattle.lobby_shelf.specs.Shelf.{orders_told};
 ghost use Rattle.lobby_state.specs.Orders.{orders_effect};
 
 use crate::acts::LobbyReply;
 use crate::register::Register;
 use collections::Listed;
 use fics_words::{Fail, NoMemory};
-use game_shelf::Order;
+use lobby_shelf::Order;
 
 impl Register {
     /// The first 16 save orders, or all where there are no more. It is never refused.

@@ -9,7 +9,7 @@ use crate::members::Members;
 use channel_feed::Channels;
 use collections::Listed;
 use fics_words::{HandleKey, Line, NoMemory};
-use game_shelf::GameShelf;
+use lobby_shelf::GameShelf;
 use login_handles::Accounts;
 use partner_link::Partners;
 use seek_match::{MatchBook, SeekBook};

@@ -13,7 +13,7 @@ use crate::inbox::Inbox;
 use crate::register::Register;
 use crate::said::joined;
 use fics_words::{Line, NoMemory};
-use game_shelf::{Asking, GameSaving, Saving, StoredGame};
+use lobby_shelf::{Asking, GameSaving, Saving, StoredGame};
 use std::alloc::Global;
 
 /// What a plan needs of memory, so that its share in the lobby takes none.

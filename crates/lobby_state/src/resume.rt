@@ -14,7 +14,7 @@ use crate::register::Register;
 use crate::starting::MOST_GAMES;
 use chess_model::Variant;
 use fics_words::{Handle, HandleKey, Opponents, Player, Refusal, Seats};
-use game_shelf::Shelved;
+use lobby_shelf::Shelved;
 
 impl Register {
     /// What a Resume is to do. The causes of a refusal, in order: the session isn't a member; nobody has the handle, or

@@ -1,8 +1,8 @@
 //! Resumed: the plans of a Resume are carried out, and the shelf's share of a Clear.
 ghost use Rattle.std.specs.Prelude.{◌≡◌, ◌+◌, ◌<◌, ◌^◌, IfSome, length, true};
 ghost use Rattle.game_records.specs.Replays.{Replays};
-ghost use Rattle.game_shelf.specs.Numbers.{is_used};
-ghost use Rattle.game_shelf.specs.Shelf.{most_stored, removal_order, taken_off};
+ghost use Rattle.lobby_shelf.specs.Numbers.{is_used};
+ghost use Rattle.lobby_shelf.specs.Shelf.{most_stored, removal_order, taken_off};
 ghost use Rattle.lobby_state.specs.declared.reserve.Ready.TheVariants.{Resuming};
 ghost use Rattle.lobby_state.specs.Desks.{IsDesk};
 ghost use Rattle.lobby_state.specs.Change.{change_first};

@@ -2,12 +2,12 @@
 ghost use Rattle.std.specs.Prelude.{◌≡◌, ◌≤◌, false};
 ghost use Rattle.fics_words.specs.Effect.{Takes};
 ghost use Rattle.game_records.specs.Replays.{Replays};
-ghost use Rattle.game_shelf.specs.Numbers.{is_used};
+ghost use Rattle.lobby_shelf.specs.Numbers.{is_used};
 ghost use Rattle.lobby_state.specs.ShelfRoom.{desks_used, is_shelf_full, storing_effect};
 
 use crate::register::Register;
 use fics_words::{Fail, Refusal};
-use game_shelf::StoredGame;
+use lobby_shelf::StoredGame;
 
 /// The most stored games and desks in use, together.
 const MOST_STORED: usize = 10_000;

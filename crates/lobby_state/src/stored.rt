@@ -9,7 +9,7 @@ use crate::register::Register;
 use crate::terms::put_terms;
 use chess_model::Terms;
 use fics_words::{Fail, Handle, HandleKey, Lines, NoMemory, Refusal, write_number};
-use game_shelf::has_player;
+use lobby_shelf::has_player;
 
 impl Register {
     /// The lines of the member's own games, in the order of their numbers. It is refused where the session isn't a

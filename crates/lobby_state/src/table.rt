@@ -15,7 +15,7 @@ use crate::reserve::Ready;
 use crate::told::ReplyLists;
 use collections::Listed;
 use fics_words::{Fail, Line, Lines, NoMemory, Refusal};
-use game_shelf::Order;
+use lobby_shelf::Order;
 
 impl Register {
     /// Carries out an act that needs the lobby alone.

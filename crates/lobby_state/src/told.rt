@@ -5,7 +5,7 @@ ghost use Rattle.lobby_state.specs.Told.{no_lists};
 use crate::desk_in_use::DeskInUse;
 use collections::Listed;
 use fics_words::{Line, Lines};
-use game_shelf::Order;
+use lobby_shelf::Order;
 use std::alloc::Global;
 
 /// The lists that a reply tells, one field for each kind of list; a list that it doesn't tell is empty. A copy of them

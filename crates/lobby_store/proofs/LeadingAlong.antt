@@ -10,12 +10,12 @@ use Rattle.fics_words.specs.declared.refusal.Refusal.{Refusal}
 use Rattle.game_records.specs.Keys.{account_key}
 use Rattle.fics_words.specs.declared.seats.Seats.{Seats}
 use Rattle.game_records.specs.declared.stored_game.StoredGame.{StoredGame}
-use Rattle.game_shelf.specs.Numbers.{RiseAbove, game_in as row_game, has_number, stored_game}
-use Rattle.game_shelf.specs.Shelf.{account_order, game_order, removal_order}
-use Rattle.game_shelf.specs.Wanted.{Table, is_account_at, table_with, wanted}
-use Rattle.game_shelf.specs.declared.order.Order.{Order}
-use Rattle.game_shelf.specs.declared.shelved.Shelved.{Shelved}
-use Rattle.game_shelf.proofs.Leading.{orders-lead}
+use Rattle.lobby_shelf.specs.Numbers.{RiseAbove, game_in as row_game, has_number, stored_game}
+use Rattle.lobby_shelf.specs.Shelf.{account_order, game_order, removal_order}
+use Rattle.lobby_shelf.specs.Wanted.{Table, is_account_at, table_with, wanted}
+use Rattle.lobby_shelf.specs.declared.order.Order.{Order}
+use Rattle.lobby_shelf.specs.declared.shelved.Shelved.{Shelved}
+use Rattle.lobby_shelf.proofs.Leading.{orders-lead}
 use Rattle.login_handles.specs.Accounts.{account_of}
 use Rattle.lobby_state.specs.declared.acts.LobbyAct.{LobbyAct}
 use Rattle.lobby_state.specs.declared.acts.LobbyAct.TheVariants.{Enter, Register, Match, Tell, Shout, Decline, Withdraw, Post, TellChannel, Partner, Ptell, Saved}

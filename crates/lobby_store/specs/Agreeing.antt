@@ -2,8 +2,8 @@
 -- the lobby's accounts and stored games. This server's own.
 use Rattle.std.specs.Prelude.{◌≡◌, ℕ, Bool, List, ◌++◌, Option}
 use Rattle.game_records.specs.declared.stored_game.StoredGame.{StoredGame}
-use Rattle.game_shelf.specs.Wanted.{Agrees, Table, wanted}
-use Rattle.game_shelf.specs.declared.order.Order.{Order}
+use Rattle.lobby_shelf.specs.Wanted.{Agrees, Table, wanted}
+use Rattle.lobby_shelf.specs.declared.order.Order.{Order}
 use Rattle.lobby_state.specs.declared.acts.LobbyAct.{LobbyAct}
 use Rattle.lobby_state.specs.declared.acts.LobbyAct.TheVariants.{Saved}
 use Rattle.lobby_state.specs.declared.acts.Plan.{Plan}

@@ -6,8 +6,8 @@ use Rattle.edge_traits.specs.Keeper.{Stays}
 use Rattle.edge_traits.specs.Pairs.{Table}
 use Rattle.edge_traits.specs.declared.keeper.Kept.{Kept}
 use Rattle.edge_traits.specs.declared.keeper.Kept.TheVariants.{Done, Failed, Memory}
-use Rattle.game_shelf.specs.Wanted.{table_with}
-use Rattle.game_shelf.specs.declared.order.Order.{Order}
+use Rattle.lobby_shelf.specs.Wanted.{table_with}
+use Rattle.lobby_shelf.specs.declared.order.Order.{Order}
 
 -- what a keeper's table holds under a key, if anything
 abbrev pub held : Table → List ℕ → Option (List ℕ)

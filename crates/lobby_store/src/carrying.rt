@@ -6,7 +6,7 @@ ghost use Rattle.edge_traits.specs.declared.keeper.Kept.{Kept};
 ghost use Rattle.lobby_store.specs.Carrying.{Carries, CarriesOne};
 
 use edge_traits::{Keeper, Kept};
-use game_shelf::Order;
+use lobby_shelf::Order;
 
 /// How far a keeper came with save orders.
 #[derive(Clone, Copy)]

@@ -4,10 +4,10 @@ ghost use Rattle.game_records.specs.Spelling.{IsSpelled};
 ghost use Rattle.game_records.specs.declared.records.Record.{Record};
 ghost use Rattle.lobby_store.specs.Rows.{IsNoRow, IsRow};
 
+use desk_boards::replays;
 use edge_traits::Pair;
 use fics_words::{Account, NoMemory};
 use game_records::{Record, StoredGame, account_key, game_number, read_record};
-use linked_boards::replays;
 use std::alloc::Global;
 
 /// A row of a store: a record under its own key.

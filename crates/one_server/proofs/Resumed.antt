@@ -17,14 +17,14 @@ use Rattle.game_board.specs.Board.{Board, position_of}
 use Rattle.game_records.specs.declared.stored_game.Half.{Half}
 use Rattle.game_records.specs.declared.stored_game.StoredGame.{StoredGame}
 use Rattle.game_records.specs.Replays.{half_moves, position_on}
-use Rattle.game_shelf.specs.declared.shelved.Shelved.{Shelved}
-use Rattle.game_shelf.proofs.Meaning.{games-found}
+use Rattle.lobby_shelf.specs.declared.shelved.Shelved.{Shelved}
+use Rattle.lobby_shelf.proofs.Meaning.{games-found}
 use Rattle.histories.specs.Core.{reply, after}
 use Rattle.histories.proofs.Parts.{get_set_same, get_set_else}
 use Rattle.histories.proofs.Steps.{after_together, reply_alone, reply_together}
-use Rattle.linked_boards.specs.Halves.{halves_of, list_on}
-use Rattle.linked_boards.specs.Sound.{AreSoundBoards}
-use Rattle.linked_boards.proofs.SoundHalves.{all_of, each_of}
+use Rattle.desk_boards.specs.Halves.{halves_of, list_on}
+use Rattle.desk_boards.specs.Sound.{AreSoundBoards}
+use Rattle.desk_boards.proofs.SoundHalves.{all_of, each_of}
 use Rattle.linked_desk.specs.Desk.{GameState, DeskState, Occupant, occupant, occupant_of}
 use Rattle.linked_desk.specs.ShelfLaws.{IsOnAgain}
 use Rattle.linked_desk.specs.Sound.{HasSoundGame, IsSound}

@@ -2,10 +2,10 @@
 use Rattle.std.specs.Prelude.{◌≡◌, ℕ, ◌-◌, List, All, None, Some, slice_get}
 use Rattle.game_board.specs.Scoresheet.{IsTrueScore}
 use Rattle.game_records.specs.Replays.{Replays}
-use Rattle.game_shelf.specs.declared.shelved.Shelved.{Shelved}
-use Rattle.game_shelf.specs.Facts.{OrdersRise}
+use Rattle.lobby_shelf.specs.declared.shelved.Shelved.{Shelved}
+use Rattle.lobby_shelf.specs.Facts.{OrdersRise}
 use Rattle.histories.specs.History.{state, Legal}
-use Rattle.linked_boards.specs.Sound.{GoOn}
+use Rattle.desk_boards.specs.Sound.{GoOn}
 use Rattle.linked_desk.specs.Desk.{GameState, DeskState}
 use Rattle.linked_desk.specs.Sound.{NamesWinner}
 use Rattle.linked_desk.specs.WholeSets.{HasWholeSets}

@@ -5,10 +5,10 @@ use Rattle.std.specs.Option.{option_map}
 use Rattle.game_board.specs.Board.{Board, position_of}
 use Rattle.game_records.specs.declared.stored_game.StoredGame.{StoredGame}
 use Rattle.game_records.specs.Replays.{position_on}
-use Rattle.game_shelf.specs.Numbers.{stored_game}
-use Rattle.game_shelf.specs.declared.shelved.Shelved.{Shelved}
+use Rattle.lobby_shelf.specs.Numbers.{stored_game}
+use Rattle.lobby_shelf.specs.declared.shelved.Shelved.{Shelved}
 use Rattle.histories.specs.Core.{reply, after}
-use Rattle.linked_boards.specs.Halves.{list_on}
+use Rattle.desk_boards.specs.Halves.{list_on}
 use Rattle.linked_desk.specs.Desk.{GameState, DeskState}
 use Rattle.linked_desk.specs.ShelfLaws.{IsOnAgain}
 use Rattle.lobby_state.specs.declared.acts.PairAct.TheVariants.{Resume}

@@ -10,7 +10,7 @@ use Rattle.fics_words.specs.declared.seats.Seats.{Seats}
 use Rattle.game_board.specs.Board.{Board}
 use Rattle.game_records.specs.declared.stored_game.StoredGame.{StoredGame}
 use Rattle.game_records.specs.Replays.{Replays}
-use Rattle.linked_boards.specs.Replaying.{replayed}
+use Rattle.desk_boards.specs.Replaying.{replayed}
 use Rattle.linked_desk.specs.Desk.{DeskState, GameState, occupant_of}
 use Rattle.linked_desk.specs.Restore.{restored, resumed}
 use Rattle.linked_desk.specs.Seating.{AllDiffer, HasPairsFor, names_of}

@@ -3,7 +3,7 @@ use Rattle.std.specs.Prelude.{◌≡◌, ℕ, Option, None, Some, unwrap_or}
 use Rattle.fics_words.specs.declared.seats.Seats.{Seats}
 use Rattle.game_records.specs.declared.stored_game.StoredGame.{StoredGame}
 use Rattle.game_records.specs.Replays.{Replays}
-use Rattle.game_shelf.specs.Numbers.{stored_game}
+use Rattle.lobby_shelf.specs.Numbers.{stored_game}
 use Rattle.linked_desk.specs.Desk.{DeskState}
 use Rattle.linked_desk.specs.Restore.{restored}
 use Rattle.linked_desk.specs.Seating.{AllDiffer, HasPairsFor, names_of, sessions_of}

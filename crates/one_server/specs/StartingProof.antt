@@ -8,7 +8,7 @@ use Rattle.fics_words.specs.declared.seats.Opponents.{Opponents}
 use Rattle.fics_words.specs.declared.seats.Seats.{Seats}
 use Rattle.fics_words.specs.Handle.{key_of}
 use Rattle.fics_words.specs.Seats.{seat_list}
-use Rattle.linked_boards.specs.Boards.{board_numbers}
+use Rattle.desk_boards.specs.Boards.{board_numbers}
 use Rattle.linked_desk.specs.Seating.{AllDiffer, MayPlay, NoneIs}
 use Rattle.lobby_state.specs.Planned.{AreApart, FitsVariant}
 use Rattle.lobby_state.specs.Terms.{AreTerms}

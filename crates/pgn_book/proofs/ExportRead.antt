@@ -14,8 +14,8 @@ use Rattle.chess_model.specs.Position.{Position}
 use Rattle.chess_model.specs.Allowed.{Allowed, IsLegal}
 use Rattle.move_writer.specs.Pretty.{pretty_of}
 use Rattle.variant_rules.specs.Showing.{shown_of}
-use Rattle.pretty_reading.specs.ReadsBack.{IsReadAs, pretty_in}
-use Rattle.pretty_reading.proofs.ReadBack.{reads_back}
+use Rattle.rules_reading.specs.ReadsBack.{IsReadAs, pretty_in}
+use Rattle.rules_reading.proofs.ReadBack.{reads_back}
 use Rattle.pgn_book.specs.declared.game.PgnResult.{PgnResult}
 use Rattle.pgn_book.specs.declared.game.PgnResult.TheVariants.{White, Black, Draw, Open}
 use Rattle.pgn_book.specs.declared.game.PgnGame.{PgnGame}

@@ -12,7 +12,7 @@ use Rattle.chess_model.specs.declared.moves.MoveWord.{MoveWord}
 use Rattle.chess_model.specs.declared.moves.Rejection.{Rejection}
 use Rattle.chess_model.specs.Position.{Position}
 use Rattle.chess_model.specs.WordAnswer.{word_answer}
-use Rattle.pretty_reading.specs.ReadsBack.{IsReadAs}
+use Rattle.rules_reading.specs.ReadsBack.{IsReadAs}
 use Rattle.pgn_book.specs.declared.game.PgnResult.TheVariants.{White, Black, Draw, Open}
 use Rattle.pgn_book.specs.declared.game.PgnGame.{PgnGame}
 use Rattle.pgn_book.specs.Bytes.{is_digit, is_name_byte}

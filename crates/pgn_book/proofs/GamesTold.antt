@@ -6,7 +6,7 @@ use Rattle.std.specs.Result.{result_ok}
 use Rattle.move_reader.proofs.ByteMeanings.{is_below}
 use Rattle.chess_model.specs.declared.moves.Move.{Move}
 use Rattle.chess_model.specs.Position.{Position}
-use Rattle.pretty_reading.specs.ReadsBack.{IsReadAs}
+use Rattle.rules_reading.specs.ReadsBack.{IsReadAs}
 use Rattle.pgn_book.specs.declared.game.PgnResult.{PgnResult}
 use Rattle.pgn_book.specs.declared.game.PgnResult.TheVariants.{White, Black, Draw, Open}
 use Rattle.pgn_book.specs.declared.game.TagRow.{TagRow}

@@ -8,7 +8,7 @@ use Rattle.chess_model.specs.declared.variant.Variant.TheVariants.{Chess}
 use Rattle.chess_model.specs.MoveList.{HalfMove}
 use Rattle.chess_model.specs.Position.{Position, position_after, Stands}
 use Rattle.chess_model.specs.Allowed.{Allowed, IsLegal}
-use Rattle.pretty_reading.specs.ReadsBack.{pretty_in}
+use Rattle.rules_reading.specs.ReadsBack.{pretty_in}
 use Rattle.pgn_book.specs.Games.{on_board, position_of}
 use Rattle.pgn_book.specs.Export.{number_at, move_tokens, laid}
 use Rattle.pgn_book.specs.Pages.{Page, Lays}

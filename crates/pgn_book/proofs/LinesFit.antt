@@ -9,7 +9,7 @@ use Rattle.chess_model.specs.declared.variant.Variant.TheVariants.{Chess}
 use Rattle.chess_model.specs.Position.{Position}
 use Rattle.chess_model.specs.Allowed.{Allowed, IsLegal}
 use Rattle.variant_rules.specs.Showing.{shown_of}
-use Rattle.pretty_reading.specs.ReadsBack.{pretty_in}
+use Rattle.rules_reading.specs.ReadsBack.{pretty_in}
 use Rattle.pgn_book.specs.declared.game.PgnResult.{PgnResult}
 use Rattle.pgn_book.specs.declared.game.PgnResult.TheVariants.{White, Black, Draw, Open}
 use Rattle.pgn_book.specs.Bytes.{is_word_byte}

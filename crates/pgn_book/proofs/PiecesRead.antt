@@ -12,7 +12,7 @@ use Rattle.pgn_book.specs.declared.stage.Stage.{Stage}
 use Rattle.pgn_book.specs.declared.stage.Stage.TheVariants.{Before, Tags, Opened, Named, Told, Moves}
 use Rattle.pgn_book.specs.declared.place.Place.TheVariants.{AfterOne, AfterTwo, Between, InLine, InBraces, InWord, InQuotes, InStroke}
 use Rattle.pgn_book.specs.Reading.{Book, no_book, Taken, opened, closed, passed_over, quoted, took, Outcome, adding, nothing_read, all_told, State, state_at, to_place, Step, silent, outside, opens, closes, nested, skipping, spaced, begun, begun_behind, piece_of, longer, word_ended, step, resting, read_from, first_state}
-use Rattle.pretty_reading.proofs.Answered.{cond-both, cond-second}
+use Rattle.rules_reading.proofs.Answered.{cond-both, cond-second}
 
 -- a property of each of some bytes
 abbrev pub EachOf : (ℕ → Type 0) → List ℕ → Type 0

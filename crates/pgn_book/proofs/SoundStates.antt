@@ -13,7 +13,7 @@ use Rattle.chess_model.specs.Allowed.{Allowed, IsLegal}
 use Rattle.chess_model.specs.Answer.{IsAnswer, IsRefusal}
 use Rattle.chess_model.proofs.LegalLists.{legal_lists}
 use Rattle.chess_model.proofs.WordsDecide.{word_answer-holds}
-use Rattle.pretty_reading.specs.ReadsBack.{IsReadAs}
+use Rattle.rules_reading.specs.ReadsBack.{IsReadAs}
 use Rattle.pgn_book.specs.declared.game.PgnGame.{PgnGame}
 use Rattle.pgn_book.specs.declared.book.Read.{Read}
 use Rattle.pgn_book.specs.declared.place.Place.{Place}

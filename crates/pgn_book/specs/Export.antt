@@ -3,7 +3,7 @@ use Rattle.std.specs.Prelude.{ℕ, ◌+◌, ◌/◌, ◌%◌, ◌≤◌, nat_le,
 use Rattle.chess_model.specs.declared.moves.Move.{Move}
 use Rattle.chess_model.specs.declared.variant.Variant.TheVariants.{Chess}
 use Rattle.chess_model.specs.Allowed.{IsLegal}
-use Rattle.pretty_reading.specs.ReadsBack.{pretty_in}
+use Rattle.rules_reading.specs.ReadsBack.{pretty_in}
 use Rattle.pgn_book.specs.declared.game.PgnGame.{PgnGame}
 use Rattle.pgn_book.specs.Lexing.{escaped, IsText}
 use Rattle.pgn_book.specs.Games.{result_text, on_board, position_of}

@@ -3,7 +3,7 @@ ghost use Rattle.std.specs.Prelude.{◌≡◌, ℕ, ◌≤◌, [], ◌∷◌, �
 ghost use Rattle.chess_model.specs.MoveList.{HalfMove};
 ghost use Rattle.chess_model.specs.Position.{Stands};
 ghost use Rattle.chess_model.specs.Allowed.{Allowed};
-ghost use Rattle.pretty_reading.specs.ReadsBack.{pretty_in};
+ghost use Rattle.rules_reading.specs.ReadsBack.{pretty_in};
 ghost use Rattle.pgn_book.specs.Lexing.{escaped, escaped_byte};
 ghost use Rattle.pgn_book.specs.Games.{result_text};
 ghost use Rattle.pgn_book.specs.Export.{tag_line, tag_lines, number_at, move_tokens, export_text, IsExportable};

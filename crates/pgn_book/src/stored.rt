@@ -9,9 +9,9 @@ use crate::game::{PgnGame, PgnResult, TagRow};
 use crate::row::copied;
 use chess_model::{Move, Variant};
 use collections::Listed;
+use desk_boards::replays;
 use fics_words::Handle;
 use game_records::{PackedHalf, StoredGame};
-use linked_boards::replays;
 use memory::NoMemory;
 use std::alloc::Global;
 

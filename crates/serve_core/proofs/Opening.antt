@@ -12,8 +12,8 @@ use Rattle.edge_traits.specs.Pairs.{Table}
 use Rattle.edge_traits.specs.Sink.{AppendsFront, OnWriteFailed, UnlessWriteFailed, Wrote}
 use Rattle.edge_traits.specs.declared.sink.Sent.{Sent}
 use Rattle.edge_traits.specs.declared.sink.Sent.TheVariants as sent
-use Rattle.game_shelf.specs.declared.order.Order.{Order}
-use Rattle.game_shelf.specs.Wanted.{table_with}
+use Rattle.lobby_shelf.specs.declared.order.Order.{Order}
+use Rattle.lobby_shelf.specs.Wanted.{table_with}
 use Rattle.histories.specs.History.{calls_of, state}
 use Rattle.lobby_load.specs.Loaded.{HasLoaded, IsAtOpening}
 use Rattle.lobby_state.specs.Lobby.{LobbyState}
@@ -35,7 +35,7 @@ use Rattle.serve_core.specs.Outside.{Sheet, Store}
 use Rattle.serve_core.specs.Stewarding.{MayEnd}
 use Rattle.serve_core.proofs.StewardLaws.{tended_as}
 use Rattle.serve_core.proofs.Turning.{may_end}
-use Rattle.line_answers.proofs.Rounds.{Rose-since}
+use Rattle.cmd_lines.proofs.Rounds.{Rose-since}
 
 -- ---- nothing was written at the load
 

@@ -2,9 +2,9 @@
 use Rattle.std.proofs.Common.{◌≡◌, ℕ, ◌*◌, ◌<◌, ◌⊎◌, inl, inr, List, [], ◌∷◌, ◌++◌, Some, filter, length, take, set, slice_get, refl, sym, ap, subst, ◌∙◌, append-nil, arith}
 use Rattle.std.specs.Prelude.{nat_lt}
 use Rattle.std.proofs.lemmas.List.{length-take, take_all}
-use Rattle.game_shelf.specs.Facts.{OrdersRise}
-use Rattle.game_shelf.specs.Shelf.{saved}
-use Rattle.game_shelf.specs.declared.order.Order.{Order}
+use Rattle.lobby_shelf.specs.Facts.{OrdersRise}
+use Rattle.lobby_shelf.specs.Shelf.{saved}
+use Rattle.lobby_shelf.specs.declared.order.Order.{Order}
 use Rattle.histories.specs.Core.{after, reply}
 use Rattle.histories.specs.History.{Legal, state}
 use Rattle.histories.proofs.Histories.{legal_front, stays_whole, state-append}

@@ -5,13 +5,13 @@ use Rattle.std.specs.declared.alloc.Global.{Global}
 use Rattle.std.specs.Io.KnownBytes.{Appends}
 use Rattle.std.proofs.Math.Seq.{take-length}
 use Rattle.edge_traits.specs.Sink.{AppendsFront}
-use Rattle.job_words.specs.Jobs as jobs
-use Rattle.job_words.specs.Jobs.{AsksToServe, OnUsage}
-use Rattle.job_words.specs.declared.job.Job.{Job}
-use Rattle.job_words.specs.declared.job.Job.TheVariants as TheJob
-use Rattle.job_words.specs.declared.job.JobFail.{JobFail}
-use Rattle.job_words.specs.declared.job.JobFail.TheVariants as TheFail
-use Rattle.job_words.specs.Usage.{UsageEnds, usage_line}
+use Rattle.cmd_job.specs.Jobs as jobs
+use Rattle.cmd_job.specs.Jobs.{AsksToServe, OnUsage}
+use Rattle.cmd_job.specs.declared.job.Job.{Job}
+use Rattle.cmd_job.specs.declared.job.Job.TheVariants as TheJob
+use Rattle.cmd_job.specs.declared.job.JobFail.{JobFail}
+use Rattle.cmd_job.specs.declared.job.JobFail.TheVariants as TheFail
+use Rattle.cmd_job.specs.Usage.{UsageEnds, usage_line}
 use Rattle.edge_traits.specs.Faults.{Rose}
 use Rattle.edge_traits.specs.Pairs.{Table}
 use Rattle.lobby_load.specs.BadRows.{IsGoodStore}

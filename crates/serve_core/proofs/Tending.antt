@@ -24,7 +24,7 @@ use Rattle.serve_core.specs.Turns.{MadeTurn, supply_then}
 use Rattle.serve_core.proofs.Keeping.{stays_short, then_short}
 use Rattle.serve_core.proofs.Telling.{goes_as, goes_same, goes_then}
 use Rattle.serve_core.proofs.Turning.{may_end, turn_is, turns_append, turns_as}
-use Rattle.line_answers.proofs.Rounds.{Rose-since}
+use Rattle.cmd_lines.proofs.Rounds.{Rose-since}
 
 -- ---- counts that never fall
 

@@ -9,7 +9,7 @@ use Rattle.edge_traits.specs.declared.sink.Sent.{Sent}
 use Rattle.edge_traits.specs.declared.sink.Sent.TheVariants as sent
 use Rattle.serve_core.specs.declared.end.DoorEnd.TheVariants as door_end
 use Rattle.serve_core.specs.Text.{closed_text, ready_text, whole_text}
-use Rattle.line_answers.proofs.Sending.{AppendsFront-behind}
+use Rattle.cmd_lines.proofs.Sending.{AppendsFront-behind}
 
 -- a front of the first half is one of the whole
 take_less : (n : ℕ) (xs ys : List ℕ) → (k : ℕ) × (take k (xs ++ ys) ≡ take n xs)

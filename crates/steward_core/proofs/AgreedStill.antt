@@ -4,11 +4,11 @@ use Rattle.std.specs.Prelude.{nat_lt}
 use Rattle.std.specs.List.{AllByRecursion}
 use Rattle.std.proofs.lemmas.Bool.{eqb-false, lt-ltb, le-ltb}
 use Rattle.edge_traits.specs.Pairs.{Table}
-use Rattle.game_shelf.specs.Facts.{IsShelf, OrdersRise}
-use Rattle.game_shelf.specs.Shelf.{saved}
-use Rattle.game_shelf.specs.Wanted.{Table as Records, table_with}
-use Rattle.game_shelf.specs.declared.order.Order.{Order}
-use Rattle.game_shelf.proofs.Leading.{orders-lead}
+use Rattle.lobby_shelf.specs.Facts.{IsShelf, OrdersRise}
+use Rattle.lobby_shelf.specs.Shelf.{saved}
+use Rattle.lobby_shelf.specs.Wanted.{Table as Records, table_with}
+use Rattle.lobby_shelf.specs.declared.order.Order.{Order}
+use Rattle.lobby_shelf.proofs.Leading.{orders-lead}
 use Rattle.histories.specs.declared.entry.Entry.{Entry}
 use Rattle.histories.specs.Core.{after}
 use Rattle.histories.specs.History.{IsPrefix, Legal, calls_of, entry, state}

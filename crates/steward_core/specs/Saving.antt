@@ -3,7 +3,7 @@ use Rattle.std.specs.Prelude.{◌≡◌, ℕ, ◌+◌, ◌-◌, ◌*◌, ◌<◌
 use Rattle.edge_traits.specs.Pairs.{Table}
 use Rattle.edge_traits.specs.declared.keeper.Kept.{Kept}
 use Rattle.edge_traits.specs.declared.keeper.Kept.TheVariants as kept
-use Rattle.game_shelf.specs.declared.order.Order.{Order}
+use Rattle.lobby_shelf.specs.declared.order.Order.{Order}
 use Rattle.histories.specs.declared.entry.Entry.{Entry}
 use Rattle.lobby_state.specs.declared.acts.LobbyAct.TheVariants.{Orders as AskOrders, Saved}
 use Rattle.lobby_state.specs.declared.acts.LobbyReply.TheVariants.{Orders}

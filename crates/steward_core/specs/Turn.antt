@@ -2,7 +2,7 @@
 use Rattle.std.specs.Prelude.{◌≡◌, ℕ, List, ◌++◌}
 use Rattle.std.specs.declared.option.Option.{Option}
 use Rattle.edge_traits.specs.Pairs.{Table}
-use Rattle.game_shelf.specs.declared.order.Order.{Order}
+use Rattle.lobby_shelf.specs.declared.order.Order.{Order}
 use Rattle.lobby_store.specs.Carrying.{Carries}
 use Rattle.one_server.specs.Running.{Log, Made, RunnerState}
 use Rattle.steward_core.specs.Clearing.{IsClearing}

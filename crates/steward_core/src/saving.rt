@@ -10,7 +10,7 @@ ghost use Rattle.steward_core.specs.declared.turn.StewardEnd.{StewardEnd};
 use crate::turn::StewardEnd;
 use collections::Listed;
 use edge_traits::{Keeper, Kept};
-use game_shelf::Order;
+use lobby_shelf::Order;
 use lobby_state::{LobbyAct, LobbyReply};
 use lobby_store::carry_out;
 use memory::NoMemory;

@@ -5,7 +5,7 @@ ghost use Rattle.chess_model.specs.WordAnswer.{word_answer};
 
 use crate::position::Position;
 use chess_model::{Colour, Kind, Man, Move, MoveWord, Rejection, Square, Variant};
-use word_answers::AskedBoard;
+use rules_answers::AskedBoard;
 
 impl AskedBoard for Position {
     ghost position = { λ p. p };
@@ -46,6 +46,6 @@ impl Position {
         ensures answered { IfOk result (IsAnswer self.now word.now) }
         ensures refused { IfErr result (IsRefusal self.now word.now) }
     {
-        word_answers::answer(self, word)
+        rules_answers::answer(self, word)
     }
 }

@@ -12,7 +12,7 @@ ghost use Rattle.chess_model.specs.Census.{men_in};
 use bitboard_core::{Bits, square_of};
 use chess_model::{Colour, Kind, Man, Move, Rights, Square, Variant};
 use holdings_drops::Holdings;
-use word_answers::{end_of_king, end_of_rook, home_of_king, home_of_rook};
+use rules_answers::{end_of_king, end_of_rook, home_of_king, home_of_rook};
 
 /// Whether a pawn stands there.
 pub(crate) fn is_a_pawn(man: Option<Man>) -> bool

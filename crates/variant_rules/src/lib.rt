@@ -1,7 +1,7 @@
 //! The referee of one board: a position that half-moves change and that takes them back.
 //!
 //! It stands over sets of squares, for chess, crazyhouse and bughouse at once. The contract: a `Position` stands for a
-//! list of half-moves, as `PlainBoard` of plain_board does; `allowed` is the rule for every move, `make` appends a
+//! list of half-moves, as `PlainBoard` of rules_plain does; `allowed` is the rule for every move, `make` appends a
 //! move to the list and `unmake` takes it back, `hand` is what a colour may drop, and in bughouse `receive` hands a man
 //! over from the other board.
 #![tactic(auto)]

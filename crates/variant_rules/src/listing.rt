@@ -18,8 +18,8 @@ use crate::position::Position;
 use bitboard_core::{Bits, has_square, next_square, pawn_squares, square_of};
 use chess_model::{Colour, Kind, Move, Square};
 use memory::NoMemory;
+use rules_answers::{has_drops, last_rank_of};
 use std::alloc::Global;
-use word_answers::{has_drops, last_rank_of};
 
 /// Room for the allowed half-moves of nearly all positions.
 const USUAL_ROOM: usize = 64;

@@ -14,7 +14,7 @@ use crate::position::Position;
 use bitboard_core::Bits;
 use chess_model::{Colour, Man, Move, Rights, Square, Variant};
 use holdings_drops::Holdings;
-use word_answers::{end_of_king, end_of_rook, home_of_king, home_of_rook};
+use rules_answers::{end_of_king, end_of_rook, home_of_king, home_of_rook};
 
 /// Four squares, which may repeat each other.
 #[derive(Clone, Copy)]

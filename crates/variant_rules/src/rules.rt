@@ -11,7 +11,7 @@ use crate::position::Position;
 use crate::sights::sights_after;
 use bitboard_core::{Bits, has_square, is_struck, pawn_squares};
 use chess_model::{Colour, Kind, Move, Rights, Square};
-use word_answers::{
+use rules_answers::{
     end_of_king, end_of_rook, has_drops, home_of_king, home_of_rook, last_rank_of, may_drop_on,
 };
 

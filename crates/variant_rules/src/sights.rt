@@ -12,7 +12,7 @@ ghost use Rattle.variant_rules.specs.Watches.{AreSightsOf};
 use crate::changes::{landed_man, takes_on, unpromoted_man};
 use bitboard_core::{Bits, Side, are_safe};
 use chess_model::{Colour, Kind, Man, Move, Square, Variant};
-use word_answers::{end_of_king, end_of_rook, home_of_king, home_of_rook};
+use rules_answers::{end_of_king, end_of_rook, home_of_king, home_of_rook};
 
 /// What tells whether the kings of a colour are safe in a placement: the men of the other colour, all occupied squares,
 /// and these kings. It follows half-moves while no placement is changed.

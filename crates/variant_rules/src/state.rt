@@ -13,7 +13,7 @@ use crate::position::Position;
 use crate::sights::sights_of;
 use bitboard_core::{has_square, next_square, square_of};
 use chess_model::{Kind, Man, Move, Square, State, Variant};
-use word_answers::has_drops;
+use rules_answers::has_drops;
 
 /// The state by the variant, whether the player is in check, and whether there is an answer.
 fn state_by(v: Variant, in_check: bool, has_answer: bool) -> State

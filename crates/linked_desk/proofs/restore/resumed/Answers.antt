@@ -4,7 +4,7 @@ use Rattle.std.specs.Prelude.{IsSome, IfSome}
 use Rattle.game_board.specs.Board.{Board}
 use Rattle.game_records.specs.declared.stored_game.StoredGame.{StoredGame}
 use Rattle.game_records.specs.Replays.{Replays}
-use Rattle.linked_boards.specs.Replaying.{replayed}
+use Rattle.desk_boards.specs.Replaying.{replayed}
 use Rattle.fics_words.specs.declared.seats.Seats.{Seats}
 use Rattle.style12_writer.specs.declared.item.Item.{Item}
 use Rattle.linked_desk.specs.declared.occasion.Occasion.TheVariants.{Resumption}

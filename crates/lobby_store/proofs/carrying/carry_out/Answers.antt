@@ -1,6 +1,6 @@
 use Rattle.std.proofs.Common.{List, take, sym, subst, ◌+◌, ◌++◌, ◌∙◌, ◌∷◌, [], ap, arith}
 use Rattle.std.proofs.lemmas.List.{take_more}
-use Rattle.game_shelf.specs.declared.order.Order.{Order}
+use Rattle.lobby_shelf.specs.declared.order.Order.{Order}
 use Rattle.edge_traits.specs.declared.keeper.Kept.{Kept}
 use Rattle.lobby_store.specs.Carrying.{Carries, CarriesOne}
 use Rattle.lobby_store.proofs.OrdersOut.{carries_then}

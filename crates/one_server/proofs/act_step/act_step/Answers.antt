@@ -13,7 +13,7 @@ use Rattle.one_server.specs.House.{house}
 use Rattle.one_server.specs.Whole.{parts_of}
 use Rattle.one_server.proofs.Stepping.{reply_lobby, after_lobby, desk_with, count_of_desks, reply_desk, after_desk, at_act, on_ok}
 use Rattle.one_server.proofs.act_step.act_step.Goals as goal
-use Rattle.linked_boards.proofs.StoredReplays.{if_ok}
+use Rattle.desk_boards.proofs.StoredReplays.{if_ok}
 
 pub lobby_step-requires : goal.lobby_step-requires
 lobby_step-requires c = subst FitsAct c.in-Lobby.is c.requires.event.act

@@ -10,7 +10,7 @@ use Rattle.one_server.specs.Plans.{plan_reply, plan_lobby, plan_desk}
 use Rattle.one_server.specs.Whole.{parts_of}
 use Rattle.one_server.proofs.Stepping.{reply_refused, after_refused, reply_nowhere, after_nowhere, can_carry, planned_number, desk_with, count_of_desks, reply_planned, after_planned, on_both}
 use Rattle.one_server.proofs.act_step.planned_step.Goals as goal
-use Rattle.linked_boards.proofs.StoredReplays.{if_ok}
+use Rattle.desk_boards.proofs.StoredReplays.{if_ok}
 
 pub returns-in-Err-clause-reply : goal.returns-in-Err-clause-reply
 returns-in-Err-clause-reply c = reply_refused c.args.lobby.now c.args.desks.now c.args.session c.args.moment c.args.act.now c.in-Err.cause c.in-Err.ensures.plan

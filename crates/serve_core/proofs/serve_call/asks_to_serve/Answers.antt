@@ -1,6 +1,6 @@
 use Rattle.std.proofs.Common.{subst}
-use Rattle.job_words.specs.Jobs.{Names}
-use Rattle.job_words.specs.declared.job.Job.{Job}
+use Rattle.cmd_job.specs.Jobs.{Names}
+use Rattle.cmd_job.specs.declared.job.Job.{Job}
 use Rattle.serve_core.proofs.ServeEnds.{no_serve}
 use Rattle.serve_core.proofs.serve_call.asks_to_serve.Goals as goal
 

@@ -6,7 +6,7 @@ use Rattle.serve_core.specs.Text.{whole_text}
 use Rattle.serve_core.proofs.Opening.{appends_from, front_from, served_from, some_as, table_agrees}
 use Rattle.serve_core.proofs.ServeEnds.{told_from}
 use Rattle.serve_core.proofs.serve_call.serve_players.Goals as goal
-use Rattle.line_answers.proofs.Rounds.{Rose-since}
+use Rattle.cmd_lines.proofs.Rounds.{Rose-since}
 
 pub returns-in-Ok-clause-served : goal.returns-in-Ok-clause-served
 returns-in-Ok-clause-served g c =

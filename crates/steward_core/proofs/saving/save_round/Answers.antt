@@ -1,5 +1,5 @@
 use Rattle.std.proofs.Common.{List, length, sym, subst, ◌∙◌, ◌≤◌}
-use Rattle.game_shelf.specs.declared.order.Order.{Order}
+use Rattle.lobby_shelf.specs.declared.order.Order.{Order}
 use Rattle.steward_core.specs.Agreement.{state_seen}
 use Rattle.steward_core.specs.Saving.{last_number}
 use Rattle.steward_core.proofs.AgreedStill.{agreed_then, agreed_unsaved, told_agrees}

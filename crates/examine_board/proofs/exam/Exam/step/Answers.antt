@@ -6,7 +6,7 @@ use Rattle.examine_board.specs.Exam.{ExamState, boards_after}
 use Rattle.examine_board.specs.Laid.{MayLie}
 use Rattle.examine_board.proofs.Stepping.{laid, lay_allowed, lay_board, lay_room, lay_short, next_first}
 use Rattle.examine_board.proofs.exam.Exam.step.Goals as goal
-use Rattle.linked_boards.proofs.Replayed.{chargeable}
+use Rattle.desk_boards.proofs.Replayed.{chargeable}
 
 pub lay-requires-clause-board : goal.lay-requires-clause-board
 lay-requires-clause-board c =

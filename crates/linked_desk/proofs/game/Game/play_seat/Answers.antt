@@ -6,7 +6,7 @@ use Rattle.fics_words.specs.Effect.{first_cause, refused_by}
 use Rattle.fics_words.specs.declared.refusal.Refusal.{Refusal}
 use Rattle.style12_writer.specs.declared.item.Item.{Item}
 use Rattle.style12_writer.specs.declared.item.Item.TheVariants as item
-use Rattle.linked_boards.specs.Boards.{boards_after, reply_at, word_at}
+use Rattle.desk_boards.specs.Boards.{boards_after, reply_at, word_at}
 use Rattle.linked_desk.specs.Desk.{GameState, moment_at}
 use Rattle.linked_desk.specs.Playing.{captured_by, seat_word, with_cleared}
 use Rattle.linked_desk.specs.Seats.{place_of}

@@ -1,5 +1,5 @@
 use Rattle.std.proofs.Common.{◌≡◌, None, sym, subst}
-use Rattle.game_shelf.specs.Numbers.{stored_game}
+use Rattle.lobby_shelf.specs.Numbers.{stored_game}
 use Rattle.lobby_state.specs.Lobby.{LobbyState}
 use Rattle.lobby_state.proofs.KeepsResumed.{unused-stored}
 use Rattle.lobby_state.proofs.KeepsStoring.{IsWellFormed-storing}

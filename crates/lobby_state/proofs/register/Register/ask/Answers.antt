@@ -1,7 +1,7 @@
 use Rattle.std.proofs.Common.{◌≡◌, ℕ, List, sym, ap, subst, ◌∙◌}
 use Rattle.channel_feed.specs.Waiting.{with_line as with_one_more}
-use Rattle.game_shelf.specs.Shelf.{ShelfState}
-use Rattle.game_shelf.specs.declared.request.Request.{Request}
+use Rattle.lobby_shelf.specs.Shelf.{ShelfState}
+use Rattle.lobby_shelf.specs.declared.request.Request.{Request}
 use Rattle.lobby_state.specs.declared.member.Member.{Member}
 use Rattle.lobby_state.specs.declared.reserve.Ready.TheVariants.{Asking}
 use Rattle.lobby_state.specs.Change.{change_first}

@@ -1,9 +1,0 @@
--- How the reading of the lines of `bot` ends: what was read and what was written by then.
-use Rattle.std.specs.Prelude.{ℕ, List, Option}
-use Rattle.line_answers.specs.ClosingCommandEnds.{ClosingCommandEnds}
-use Rattle.line_answers.specs.declared.end.End.{End}
-use Rattle.bot_command.specs.BotLines.{bot_answer, bot_lines}
-
-abbrev pub BotEnds : ℕ → Option (List ℕ) → Option (List ℕ) → Option (List ℕ) → Option (List ℕ) → End → Type 0
-BotEnds depth left left' written written' end =
-    ClosingCommandEnds (bot_lines depth) (bot_answer depth) left left' written written' end

@@ -1,0 +1,10 @@
+-- What the fields of a `Game` keep.
+use Rattle.std.specs.Prelude.{◌≡◌}
+use Rattle.cmd_board.specs.declared.game.Game.TheInside.{Inside}
+use Rattle.cmd_board.specs.Game.{has_ended}
+
+pub record HoldsGame (game : Inside) : Type 0 where
+  -- nobody's time runs
+  pub begin : game.board.begin ≡ 0
+  -- it is kept whether the game has ended
+  pub over : game.over ≡ has_ended game.board

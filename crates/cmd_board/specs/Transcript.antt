@@ -1,0 +1,17 @@
+-- What `board` writes for lines: the texts of their answers, in the position of the half-moves accepted before each.
+use Rattle.std.specs.Prelude.{ℕ, List, Option, codes}
+use Rattle.cmd_board.specs.Game.{GameState, new_game, answer_line}
+use Rattle.cmd_lines.specs.LineCommand.{LineCommand}
+use Rattle.cmd_lines.specs.LineCommand as lines
+
+-- `board` as a function of where its game stands and a line
+abbrev pub board_lines : LineCommand GameState
+board_lines = record { start = new_game; answer = answer_line; ending = codes "\n\r" }
+
+-- what is written for the lines of an input
+abbrev pub text_of : List (List ℕ) → List ℕ
+text_of = lines.text_of board_lines
+
+-- the number of the first line of an input that is outside the grammar
+abbrev pub bad_in : List (List ℕ) → Option ℕ
+bad_in = lines.bad_in board_lines

@@ -1,0 +1,50 @@
+//! How a game ends by itself, and the line that tells it.
+
+ghost use Rattle.std.specs.Prelude.{◌≡◌, ◌++◌, ◌↔◌, OnOk, IsSome, IsTrue, codes, true};
+ghost use Rattle.style12_writer.specs.EndLine.{is_decisive, end_text};
+ghost use Rattle.cmd_board.specs.Endings.{end_lines};
+
+use crate::game::END_OF_LINE;
+use chess_model::{Colour, State, Why};
+use fics_words::NoMemory;
+use style12_writer::{BoardView, end_line};
+
+/// Appends the line of the end, where the game has ended: the player to move is the one who is mated.
+pub fn put_end(
+    view: &BoardView,
+    to_move: Colour,
+    state: State,
+    out: &mut Vec<u8>,
+) -> Result<(), NoMemory>
+    ensures { OnOk result (out.new.items ≡ out.old.items ++ end_lines view.now to_move state) }
+{
+    match state {
+        State::Safe => Ok(()),
+        State::Check => Ok(()),
+        State::Mate => put_line(view, Why::Mate, Some(to_move.opposite()), out),
+        State::Stalemate => put_line(view, Why::Stalemate, None, out),
+    }
+}
+
+/// Appends the line that tells how the game ended.
+fn put_line(
+    view: &BoardView,
+    why: Why,
+    winner: Option<Colour>,
+    out: &mut Vec<u8>,
+) -> Result<(), NoMemory>
+    requires { IsSome winner ↔ IsTrue (is_decisive why) }
+    ensures { OnOk result (out.new.items ≡ out.old.items ++ (end_text view.now why winner true ++ codes "\n\r")) }
+{
+    let line = end_line(*out.allocator(), view, why, winner, true)?;
+    put_ended(line.bytes(), out)
+}
+
+/// Appends a line and what ends it.
+pub(crate) fn put_ended(line: &[u8], out: &mut Vec<u8>) -> Result<(), NoMemory>
+    ensures { OnOk result (out.new.items ≡ out.old.items ++ (line.now ++ codes "\n\r")) }
+{
+    out.extend_from_slice(line)?;
+    out.extend_from_slice(END_OF_LINE)?;
+    Ok(())
+}

@@ -1,0 +1,9 @@
+use Rattle.std.proofs.Common.{◌≡◌, ◌≤◌, count_by, take}
+use Rattle.cmd_demo.specs.Summary.{is_refused}
+use Rattle.cmd_demo.proofs.counts.refusals.Given as goal
+
+abbrev pub invariant-loop-entry : goal.invariant-loop-entry
+invariant-loop-entry l = record {
+  is : l.count ≡ count_by is_refused (take l.entry-index l.log);
+  few : l.count ≤ l.entry-index;
+}

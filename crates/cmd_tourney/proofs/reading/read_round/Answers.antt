@@ -1,0 +1,11 @@
+use Rattle.cmd_tourney.proofs.RoundNumbers.{round_found, round_missing, round_nought}
+use Rattle.cmd_tourney.proofs.reading.read_round.Goals as goal
+
+pub returns-in_default : goal.returns-in_default
+returns-in_default c = round_missing c.args.bytes.now (rw c.in_default.is at c.read_number.ensures.none)
+
+pub returns-then-number-eq0 : goal.returns-then-number-eq0
+returns-then-number-eq0 c = round_nought c.args.bytes.now c.in-Some.number c.in-Some.ensures.value c.if-number-eq0.true
+
+pub returns : goal.returns
+returns c = round_found c.args.bytes.now c.in-Some.number c.in-Some.ensures.value c.if-number-eq0.false

@@ -1,0 +1,300 @@
+-- Half-moves are played again exactly where they can be played, and the boards have these and no others.
+use Rattle.std.proofs.Common.{◌≡◌, ℕ, ◌-◌, ◌≤◌, ◌<◌, ◌&&◌, zero, suc, Bool, true, false, not, nat_lt, if◌then◌else◌, List, [], ◌∷◌, ◌++◌, length, length-append, All, Option, Some, None, ◌⊎◌, inl, inr, refl, sym, ap, subst, ◌∙◌, append_assoc, arith}
+use Rattle.std.specs.Prelude.{◌↔◌, IsSome, IsTrue, IfSome, is_some, slice_get}
+use Rattle.std.specs.Bool.{beq}
+use Rattle.std.specs.List.{AllByRecursion}
+use Rattle.std.proofs.lemmas.Bool.Decides.{Decides-ltb}
+use Rattle.std.proofs.lemmas.List.{append-nil}
+use Rattle.chess_model.specs.declared.variant.Terms.{Terms}
+use Rattle.chess_model.specs.declared.variant.Variant.{Variant}
+use Rattle.chess_model.specs.declared.variant.Variant.TheVariants.{Chess, Crazyhouse, Bughouse, Fischer}
+use Rattle.chess_model.specs.Allowed.{Allowed}
+use Rattle.chess_model.specs.Holdings.{other_board}
+use Rattle.chess_model.specs.Position.{Position}
+use Rattle.chess_model.specs.Result.{result, is_end}
+use Rattle.chess_model.specs.Tests.{is_allowed}
+use Rattle.chess_model.proofs.TestsDecide.{Decides-allowed}
+use Rattle.clock_ledger.specs.declared.charges.Charge.{Charge}
+use Rattle.clock_ledger.specs.Charges.{IsChargeable}
+use Rattle.game_board.specs.declared.played.Played.{Played}
+use Rattle.game_board.specs.Board.{Board, has_moved, position_of, to_move}
+use Rattle.game_board.specs.Charges.{is_timed}
+use Rattle.game_board.specs.Learn.{learnt}
+use Rattle.game_board.specs.Put.{is_next_charged, takes_played, with_put}
+use Rattle.game_board.specs.Scoresheet.{IsTrueScore}
+use Rattle.game_board.proofs.ScorePut.{IsTrueScore-with_put}
+use Rattle.game_board.proofs.Scoresheet.{has_moved-mover}
+use Rattle.game_board.proofs.Takes.{takes_played-parts}
+use Rattle.game_records.specs.declared.stored_game.Half.{Half}
+use Rattle.game_records.specs.Bounds as bounds
+use Rattle.game_records.specs.Bounds.{IsCharge, IsHalf}
+use Rattle.game_records.specs.Replays.{AreTimed, CanBePlayed, GoesOn, MayCome, OtherGoesOn, half_moves, made_on, position_on}
+use Rattle.desk_boards.specs.Boards.{board_numbers, changed_at, new_boards, numbered, other_place}
+use Rattle.desk_boards.specs.Halves.{halves_of, played_of}
+use Rattle.desk_boards.specs.Laws.{IsFresh}
+use Rattle.desk_boards.specs.Replaying.{boards_put, goes_on, other_goes_on, own_takes, played_on, replayed, takes_half}
+use Rattle.desk_boards.specs.Sound.{AreSoundBoards}
+use Rattle.desk_boards.proofs.BoardLists.{All-at, All-changed_at}
+use Rattle.desk_boards.proofs.Halved.{half_on}
+use Rattle.desk_boards.proofs.OneMore.{IsOneMore, made_is, position_is, timed_is}
+use Rattle.desk_boards.proofs.Pairs.{never_three, number_at, numbers_of_two}
+use Rattle.desk_boards.proofs.SoundHalves.{all_of, never_none, number_of_one}
+use Rattle.desk_boards.proofs.StaySound.{All-from, halves_of-from, sound_start}
+use Rattle.desk_boards.proofs.Stepped.{AreSoundWith, sound_step, stepped}
+use Rattle.std.proofs.lemmas.Bool.{and_parts}
+
+-- ---- tests and what they say
+
+going_is : (p : Position) → not (is_end (result p)) ≡ true → GoesOn p
+going_is p e = negated (is_end (result p)) e
+  where
+    negated : (b : Bool) → not b ≡ true → b ≡ false
+    negated true h = cc
+    negated false h = refl
+
+going_says : (p : Position) → GoesOn p → not (is_end (result p)) ≡ true
+going_says p e = ap not e
+
+four_true : (a b c d : Bool) → a ≡ true → b ≡ true → c ≡ true → d ≡ true → (a && b && c && d) ≡ true
+four_true true true true true h i j k = refl
+four_true true true true false h i j k = cc
+four_true true true false d h i j k = cc
+four_true true false c d h i j k = cc
+four_true false b c d h i j k = cc
+
+not_so : false ≡ true → ⊥
+not_so e = cc
+
+pub chargeable : (o : Option Charge) → IsCharge o → IfSome o IsChargeable
+chargeable None h = tt
+chargeable (Some c) h = h
+
+-- ---- one half-move
+
+-- the number of the board in a place
+number_is : (v : Variant) (k n : ℕ) → slice_get (board_numbers v) k ≡ Some n → (n ≡ suc k) × (k ≤ 1)
+number_is Chess zero n e = let one : 1 ≡ n = cc in (sym one, omega arith)
+number_is Chess (suc k) n e = absurd cc
+number_is Crazyhouse zero n e = let one : 1 ≡ n = cc in (sym one, omega arith)
+number_is Crazyhouse (suc k) n e = absurd cc
+number_is (Fischer number) zero n e = let one : 1 ≡ n = cc in (sym one, omega arith)
+number_is (Fischer number) (suc k) n e = absurd cc
+number_is Bughouse zero n e = let one : 1 ≡ n = cc in (sym one, omega arith)
+number_is Bughouse (suc zero) n e = let two : 2 ≡ n = cc in (sym two, omega arith)
+number_is Bughouse (suc (suc k)) n e = absurd cc
+
+other_is : (boards : List Board) (k : ℕ) → k ≤ 1 → numbered (other_board (suc k)) boards ≡ slice_get boards (other_place k)
+other_is boards zero few = refl
+other_is boards (suc zero) few = refl
+other_is boards (suc (suc k)) few = absurd (omega (arith, few))
+
+others_go : (o : Option Board) → other_goes_on o ≡ true → (other : Board) → o ≡ Some other → GoesOn (position_of other)
+others_go None e other there = cc
+others_go (Some b) e other there =
+    let same : b ≡ other = cc in
+    subst (λ (x : Board). GoesOn (position_of x)) same (going_is (position_of b) e)
+
+put_more : (own : Board) (p : Played) → IsTrueScore own → IsTrue (takes_played own p) → IsCharge p.charge → IsOneMore own p (with_put own p)
+put_more own p score takes charge =
+    let parts = takes_played-parts own p takes in
+    record {
+      number = refl;
+      terms = refl;
+      list = refl;
+      all = refl;
+      score = IsTrueScore-with_put own p score takes (chargeable p.charge charge);
+      few = let room = parts.room in omega (arith, room);
+      going = going_is (position_of own) parts.going;
+      allowed = parts.allowed;
+      charge = charge;
+    }
+
+fresh_put : (moment : ℕ) (b : Board) (p : Played) → IsFresh moment b → IsFresh moment (with_put b p)
+fresh_put moment b p f =
+    let many = length-append b.list (p ∷ []) in
+    let played = f.played in
+    record {
+      begin = f.begin;
+      kept = refl;
+      played = omega (arith, many, played);
+      resumed = omega (arith, many);
+    }
+
+-- boards that are sound and have these half-moves, and are new but for them
+record AreAt (t : Terms) (moment : ℕ) (halves : List Half) (boards : List Board) : Type 0 where
+  known : AreSoundWith t halves boards
+  fresh : All (IsFresh moment) boards
+
+-- what a board keeps where the other one learns
+fresh_learnt : (moment : ℕ) (boards : List Board) (k : ℕ) (p : Played) → All (IsFresh moment) boards → All (IsFresh moment) (stepped boards k (λ b. with_put b p) p.what)
+fresh_learnt moment boards k p f =
+    All-changed_at (IsFresh moment) (changed_at boards k (λ b. with_put b p)) (other_place k) (λ b. learnt b p.what)
+    (λ b there h. record { begin = h.begin; kept = h.kept; played = h.played; resumed = h.resumed })
+    (All-changed_at (IsFresh moment) boards k (λ b. with_put b p) (λ b there h. fresh_put moment b p h) f)
+
+step_at : (t : Terms) (moment : ℕ) (boards : List Board) (before : List Half) (k : ℕ) (own : Board) (p : Played) → AreAt t moment before boards → slice_get boards k ≡ Some own →
+    IsTrue (takes_played own p) → IsCharge p.charge → other_goes_on (numbered (other_board (suc k)) boards) ≡ true →
+    AreAt t moment (before ++ half_on (suc k) p ∷ []) (boards_put boards (suc k - 1) p)
+step_at t moment boards before k own p at there takes charge others =
+    let s : AreSoundBoards t boards = at.known.sound in
+    let number = number_is t.variant k own.number (number_at t.variant boards k own s.numbers there) in
+    let more = put_more own p (All-at IsTrueScore boards k own s.scores there) takes charge in
+    let step = sound_step t boards k own p (λ b. with_put b p) s there more
+    (λ other here. others_go (slice_get boards (other_place k)) (ap other_goes_on (sym (other_is boards k number.1)) ∙ others) other here) in
+    let place : k ≡ suc k - 1 = omega arith in
+    let halves : halves_of boards ++ half_on own.number p ∷ [] ≡ before ++ half_on (suc k) p ∷ [] =
+    (λ i. at.known.made i ++ half_on (number.0 i) p ∷ []) in
+    subst (λ (j : ℕ). AreAt t moment (before ++ half_on (suc k) p ∷ []) (boards_put boards j p)) place
+    (record {
+      known = subst (λ (hs : List Half). AreSoundWith t hs (stepped boards k (λ b. with_put b p) p.what)) halves step;
+      fresh = fresh_learnt moment boards k p at.fresh;
+    })
+
+-- a half-move that the boards take comes behind the others
+step_taken : (t : Terms) (moment : ℕ) (boards : List Board) (before : List Half) (n : ℕ) (p : Played) → AreAt t moment before boards → IsCharge p.charge →
+    takes_half boards (half_on n p) ≡ true → AreAt t moment (before ++ half_on n p ∷ []) (boards_put boards (n - 1) p)
+step_taken t moment boards before zero p at charge e = absurd (no e)
+  where
+    no : (false && other_goes_on (numbered (other_board 0) boards)) ≡ true → ⊥
+    no h = cc
+step_taken t moment boards before (suc k) p at charge e = on_board (slice_get boards k) refl (and_parts (own_takes (slice_get boards k) p) (other_goes_on (numbered (other_board (suc k)) boards)) e)
+  where
+    on_board : (o : Option Board) → slice_get boards k ≡ o → (own_takes (slice_get boards k) p ≡ true) × (other_goes_on (numbered (other_board (suc k)) boards) ≡ true) →
+        AreAt t moment (before ++ half_on (suc k) p ∷ []) (boards_put boards (suc k - 1) p)
+    on_board None there h = absurd (let none : own_takes None p ≡ true = ap (λ (o : Option Board). own_takes o p) (sym there) ∙ h.0 in cc)
+    on_board (Some own) there h =
+        step_at t moment boards before k own p at there (ap (λ (o : Option Board). own_takes o p) (sym there) ∙ h.0) charge h.1
+
+-- ---- the whole list
+
+run : (t : Terms) (moment : ℕ) (before halves : List Half) (boards after : List Board) → AreAt t moment before boards → AllByRecursion (IsHalf t.variant) halves →
+    played_on boards halves ≡ Some after → AreAt t moment (before ++ halves) after
+run t moment before [] boards after at each e =
+    let same : boards ≡ after = cc in
+    subst (λ (bs : List Board). AreAt t moment (before ++ []) bs) same (subst (λ (hs : List Half). AreAt t moment hs boards) (sym (append-nil before)) at)
+run t moment before (h ∷ halves) boards after at each e =
+    elim (takes_half boards h) as (λ b. takes_half boards h ≡ b → (if b then played_on (boards_put boards (h.board - 1) (played_of h)) halves else None) ≡ Some after →
+    AreAt t moment (before ++ h ∷ halves) after) [
+      | true ↦ λ is f.
+          subst (λ (hs : List Half). AreAt t moment hs after) (append_assoc before (h ∷ []) halves)
+          (run t moment (before ++ h ∷ []) halves (boards_put boards (h.board - 1) (played_of h)) after
+          (step_taken t moment boards before h.board (played_of h) at each.0.charge is) each.1 f)
+      | false ↦ λ is f. absurd cc
+    ] refl e
+
+begun : (t : Terms) (moment : ℕ) → AreAt t moment [] (new_boards t moment)
+begun t moment = record {
+  known = record { sound = sound_start t moment; made = halves_of-from (board_numbers t.variant) t moment };
+  fresh = All-from (IsFresh moment) (board_numbers t.variant) t moment (λ n. record { begin = refl; kept = refl; played = refl; resumed = refl });
+}
+
+pub replayed_at : (t : Terms) (halves : List Half) (moment : ℕ) (boards : List Board) → AllByRecursion (IsHalf t.variant) halves → replayed t halves moment ≡ Some boards →
+    AreSoundWith t halves boards
+replayed_at t halves moment boards each e = (run t moment [] halves (new_boards t moment) boards (begun t moment) each e).known
+
+pub replayed_fresh : (t : Terms) (halves : List Half) (moment : ℕ) (boards : List Board) → AllByRecursion (IsHalf t.variant) halves → replayed t halves moment ≡ Some boards →
+    All (IsFresh moment) boards
+replayed_fresh t halves moment boards each e = (run t moment [] halves (new_boards t moment) boards (begun t moment) each e).fresh
+
+-- ---- what can be played is taken
+
+charge_stands : (some timed moved : Bool) (long : Type 0) (clocks : Type 0) → (IsTrue some ↔ (clocks × long)) → (IsTrue timed ↔ clocks) → (IsTrue moved ↔ long) → beq some (timed && moved) ≡ true
+charge_stands true true true long clocks h i j = refl
+charge_stands true true false long clocks h i j = absurd (not_so (j.1 (h.0 refl).1))
+charge_stands true false moved long clocks h i j = absurd (not_so (i.1 (h.0 refl).0))
+charge_stands false true true long clocks h i j = absurd (not_so (h.1 (i.0 refl, j.0 refl)))
+charge_stands false true false long clocks h i j = refl
+charge_stands false false moved long clocks h i j = refl
+
+own_may : (t : Terms) (own : Board) (before : List Half) (h : Half) → IsTrueScore own → own.played ≡ length own.list → own.terms ≡ t → half_moves before ≡ own.all → own.number ≡ h.board →
+    MayCome t before h → takes_played own (played_of h) ≡ true
+unfolding takes_played
+own_may t own before h score played terms all number comes =
+    let there : position_on t.variant before h.board ≡ position_of own =
+    ap (position_on t.variant before) (sym number) ∙ position_is t before own terms all in
+    let made : made_on before h.board ≡ length own.list = ap (made_on before) (sym number) ∙ made_is before own score all in
+    let follows = comes.follows in
+    let room : own.played < 1200 = let few = follows.room in omega (arith, few, made, played) in
+    let timed : IsTrue (is_timed own.terms) ↔ AreTimed t = subst (λ (x : Terms). IsTrue (is_timed x) ↔ AreTimed t) (sym terms) (timed_is t) in
+    let charged : IsSome h.charge ↔ (AreTimed t × (2 ≤ length own.list)) = subst (λ (k : ℕ). IsSome h.charge ↔ (AreTimed t × (2 ≤ k))) made follows.charged in
+    four_true (not (is_end (result (position_of own)))) (nat_lt own.played 1200) (is_allowed (position_of own) h.what) (beq (is_some h.charge) (is_next_charged own))
+    (going_says (position_of own) (subst GoesOn there follows.going))
+    ((Decides-ltb own.played 1200).1 room)
+    ((Decides-allowed (position_of own) h.what).1 (subst (λ (q : Position). Allowed q h.what) there follows.allowed))
+    (charge_stands (is_some h.charge) (is_timed own.terms) (has_moved (to_move own) own.list) (2 ≤ length own.list) (AreTimed t) charged timed (has_moved-mover own.list))
+
+other_pair : (t : Terms) (before : List Half) (n : ℕ) (c : Board) → t.variant ≡ Bughouse → 3 - n ≡ c.number → c.terms ≡ t → half_moves before ≡ c.all →
+    OtherGoesOn t.variant before n → goes_on c ≡ true
+other_pair t before n c pair number terms all goes =
+    let there : position_on t.variant before c.number ≡ position_of c = position_is t before c terms all in
+    let here : GoesOn (position_on Bughouse before (3 - n)) = subst (λ (v : Variant). OtherGoesOn v before n) pair goes in
+    let at : position_on Bughouse before (3 - n) ≡ position_of c =
+    (λ i. position_on (sym pair i) before (number i)) ∙ there in
+    going_says (position_of c) (subst GoesOn at here)
+
+-- a half-move that may come is taken
+may_take : (t : Terms) (moment : ℕ) (boards : List Board) (before : List Half) (h : Half) → AreAt t moment before boards → IsHalf t.variant h → MayCome t before h → takes_half boards h ≡ true
+may_take t moment [] before h at half comes = absurd (never_none t.variant at.known.sound.numbers)
+may_take t moment (b ∷ []) before h at half comes =
+    let s = at.known.sound in
+    let one = number_of_one t.variant b s.numbers in
+    let number : h.board ≡ 1 = let first = half.first in let last = half.last in let boards = one.2 in omega (arith, first, last, boards) in
+    let P : Board → Type 0 = λ x. half_moves (halves_of (b ∷ [])) ≡ x.all in
+    let all : half_moves before ≡ b.all = ap half_moves (sym at.known.made) ∙ All-at P (b ∷ []) 0 b (all_of t (b ∷ []) s) refl in
+    let fresh = All-at (IsFresh moment) (b ∷ []) 0 b at.fresh refl in
+    let own = own_may t b before h (All-at IsTrueScore (b ∷ []) 0 b s.scores refl) fresh.played (All-at (λ (x : Board). x.terms ≡ t) (b ∷ []) 0 b s.terms refl) all (one.1 ∙ sym number) comes in
+    ap (λ (n : ℕ). own_takes (numbered n (b ∷ [])) (played_of h) && other_goes_on (numbered (other_board n) (b ∷ []))) number
+    ∙ ap (λ (t : Bool). t && true) own
+may_take t moment (b ∷ c ∷ []) before h at half comes =
+    let s = at.known.sound in
+    let two = numbers_of_two t.variant b c s.numbers in
+    let many : bounds.boards t.variant ≡ 2 = ap bounds.boards two.0 in
+    let P : Board → Type 0 = λ x. half_moves (halves_of (b ∷ c ∷ [])) ≡ x.all in
+    let all_b : half_moves before ≡ b.all = ap half_moves (sym at.known.made) ∙ All-at P (b ∷ c ∷ []) 0 b (all_of t (b ∷ c ∷ []) s) refl in
+    let all_c : half_moves before ≡ c.all = ap half_moves (sym at.known.made) ∙ All-at P (b ∷ c ∷ []) 1 c (all_of t (b ∷ c ∷ []) s) refl in
+    let terms_b = All-at (λ (x : Board). x.terms ≡ t) (b ∷ c ∷ []) 0 b s.terms refl in
+    let terms_c = All-at (λ (x : Board). x.terms ≡ t) (b ∷ c ∷ []) 1 c s.terms refl in
+    elim (of_two h.board half.first (let last = half.last in omega (arith, last, many))) [
+      | inl first ↦
+          let own = own_may t b before h (All-at IsTrueScore (b ∷ c ∷ []) 0 b s.scores refl) (All-at (IsFresh moment) (b ∷ c ∷ []) 0 b at.fresh refl).played terms_b all_b (two.1 ∙ sym first) comes in
+          let other = other_pair t before h.board c two.0 (omega (arith, first, two.2)) terms_c all_c comes.other in
+          ap (λ (n : ℕ). own_takes (numbered n (b ∷ c ∷ [])) (played_of h) && other_goes_on (numbered (other_board n) (b ∷ c ∷ []))) first
+          ∙ (λ i. own i && other i)
+      | inr second ↦
+          let own = own_may t c before h (All-at IsTrueScore (b ∷ c ∷ []) 1 c s.scores refl) (All-at (IsFresh moment) (b ∷ c ∷ []) 1 c at.fresh refl).played terms_c all_c (two.2 ∙ sym second) comes in
+          let other = other_pair t before h.board b two.0 (omega (arith, second, two.1)) terms_b all_b comes.other in
+          ap (λ (n : ℕ). own_takes (numbered n (b ∷ c ∷ [])) (played_of h) && other_goes_on (numbered (other_board n) (b ∷ c ∷ []))) second
+          ∙ (λ i. own i && other i)
+    ]
+  where
+    of_two : (n : ℕ) → 1 ≤ n → n ≤ 2 → (n ≡ 1) ⊎ (n ≡ 2)
+    of_two zero low high = absurd (omega (arith, low))
+    of_two (suc zero) low high = inl refl
+    of_two (suc (suc zero)) low high = inr refl
+    of_two (suc (suc (suc n))) low high = absurd (omega (arith, high))
+may_take t moment (b ∷ c ∷ d ∷ more) before h at half comes = absurd (never_three t.variant b c d more at.known.sound.numbers)
+
+takes_each : (t : Terms) (moment : ℕ) (before halves : List Half) (boards : List Board) → AreAt t moment before boards → AllByRecursion (IsHalf t.variant) halves → CanBePlayed t (before ++ halves) →
+    IsSome (played_on boards halves)
+takes_each t moment before [] boards at each played = refl
+takes_each t moment before (h ∷ halves) boards at each played =
+    let comes : MayCome t before h = played.each before halves h refl in
+    let takes : takes_half boards h ≡ true = may_take t moment boards before h at each.0 comes in
+    let rest : IsSome (played_on (boards_put boards (h.board - 1) (played_of h)) halves) =
+    takes_each t moment (before ++ h ∷ []) halves (boards_put boards (h.board - 1) (played_of h))
+    (step_taken t moment boards before h.board (played_of h) at each.0.charge takes) each.1
+    (subst (CanBePlayed t) (sym (append_assoc before (h ∷ []) halves)) played) in
+    subst (λ (b : Bool). IsSome (if b then played_on (boards_put boards (h.board - 1) (played_of h)) halves else None)) (sym takes) rest
+
+pub some_is : (o : Option (List Board)) → IsSome o → (boards : List Board) × (o ≡ Some boards)
+some_is None e = absurd cc
+some_is (Some boards) e = (boards, refl)
+
+pub replayed_exactly : (t : Terms) (halves : List Half) (moment : ℕ) → AllByRecursion (IsHalf t.variant) halves → IsSome (replayed t halves moment) ↔ CanBePlayed t halves
+replayed_exactly t halves moment each = (
+  λ some.
+      let found = some_is (replayed t halves moment) some in
+      let at = replayed_at t halves moment found.0 each found.1 in
+      subst (CanBePlayed t) at.made at.sound.played,
+  λ played. takes_each t moment [] halves (new_boards t moment) (begun t moment) each played,
+)

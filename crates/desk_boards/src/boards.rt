@@ -1,0 +1,233 @@
+//! The boards of a game.
+ghost use Rattle.std.specs.Prelude.{◌≡◌, ◌<◌, ◌≤◌, ◌^◌, [], ◌∷◌, IfOk, IfSome, IsTrue, OnErr, length, slice_get};
+ghost use Rattle.std.specs.Option.{option_copied, option_to_list};
+ghost use Rattle.clock_ledger.specs.Charges.{IsChargeable};
+ghost use Rattle.clock_ledger.specs.Span.{IsStamp};
+ghost use Rattle.fics_words.specs.Effect.{first_cause, refusal_of, refused_by};
+ghost use Rattle.game_board.specs.Board.{new_board};
+ghost use Rattle.desk_boards.specs.Claims.{claim_at};
+ghost use Rattle.desk_boards.specs.Replaying.{boards_put, own_takes};
+ghost use Rattle.desk_boards.specs.TakenBack.{boards_taken_back, lacks_half_moves};
+ghost use Rattle.desk_boards.specs.Boards.{boards_acked, boards_after, flag_at, latest, new_boards, numbered, other_place, reply_at, word_at};
+
+use crate::linked::play_linked;
+use chess_model::{Colour, Man, MoveWord, Terms, Variant, Why};
+use fics_words::{NoMemory, Refusal};
+use game_board::{GameBoard, Played};
+use std::alloc::Global;
+use std::marker::Model;
+
+/// The boards of a game: one, or two in bughouse, of which each has learnt what was played on the other. Contracts see
+/// them as their list.
+#[derive(Drop)]
+pub struct Boards {
+    pub(crate) first: GameBoard,
+    pub(crate) second: Option<GameBoard>,
+}
+
+impl Model for Boards {
+    ghost use Rattle.std.specs.Prelude.{◌∷◌, IfSome, List};
+    ghost use Rattle.std.specs.Option.{option_to_list};
+    ghost use Rattle.game_board.specs.Board.{Board};
+    ghost use Rattle.desk_boards.specs.Linked.{AreLinked};
+
+    ghost Value = { List Board };
+
+    ghost view = { λ b. b.first ∷ option_to_list b.second };
+
+    ghost invariant = { λ b. IfSome b.second (AreLinked b.first) };
+}
+
+impl Boards {
+    /// The boards at the start of a game: as many as the variant wants.
+    pub fn start(alloc: Global, terms: Terms, moment: u64) -> Result<Boards, NoMemory>
+        requires { moment ≤ 2 ^ 48 }
+        ensures boards { IfOk result (λ boards. boards ≡ new_boards terms moment) }
+        ensures order { IfOk result (λ boards. latest boards ≤ moment) }
+    {
+        let first = GameBoard::start(alloc, 1, terms, moment)?;
+        match terms.variant {
+            Variant::Bughouse => Boards::pair(alloc, first),
+            Variant::Chess => Ok(Boards::single(first)),
+            Variant::Crazyhouse => Ok(Boards::single(first)),
+            Variant::Fischer(_) => Ok(Boards::single(first)),
+        }
+    }
+
+    /// The one board of a game.
+    fn single(first: GameBoard) -> Boards
+        ensures { result ≡ first ∷ [] }
+    {
+        Boards {
+            first,
+            second: None,
+        }
+    }
+
+    /// The boards at the start of a game of bughouse, the first of which is there.
+    fn pair(alloc: Global, first: GameBoard) -> Result<Boards, NoMemory>
+        requires start { first ≡ new_board 1 first.terms first.begin }
+        requires variant { first.terms.variant ≡ Variant.Bughouse }
+        ensures { IfOk result (λ boards. boards ≡ first ∷ new_board 2 first.terms first.begin ∷ []) }
+    {
+        let second = GameBoard::start(alloc, 2, first.terms(), first.begin())?;
+        Ok(Boards {
+            first,
+            second: Some(second),
+        })
+    }
+
+    /// The first board, and the second if there is one.
+    pub fn both(&self) -> (&GameBoard, Option<&GameBoard>)
+        ensures { self.now ≡ result.0.now ∷ option_to_list (option_copied result.1) }
+    {
+        (&self.first, self.second.as_ref())
+    }
+
+    /// The board in that place, 0 or 1.
+    pub fn at(&self, place: u8) -> Option<&GameBoard>
+        ensures { option_copied result ≡ slice_get self.now place }
+    {
+        match place {
+            0 => Some(&self.first),
+            1 => self.second.as_ref(),
+            _ => None,
+        }
+    }
+
+    /// The board of that number, 1 or 2.
+    pub fn numbered(&self, number: u8) -> Option<&GameBoard>
+        ensures { option_copied result ≡ numbered number self.now }
+    {
+        match number {
+            1 => Some(&self.first),
+            2 => self.second.as_ref(),
+            _ => None,
+        }
+    }
+
+    /// Plays a word of a colour at the board in that place, with the stamp of its client if it has one, and gives the
+    /// man that the half-move captures. The other board of a pair learns of it. Takes no memory.
+    pub fn play(
+        &mut self,
+        place: u8,
+        colour: Colour,
+        word: &MoveWord,
+        moment: u64,
+        stamp: Option<u32>,
+    ) -> Result<Option<Man>, Refusal>
+        requires order { latest self.old ≤ moment }
+        requires moment { moment ≤ 2 ^ 48 }
+        requires stamp { IfSome stamp IsStamp }
+        ensures refused { first_cause (refused_by (word_at (slice_get self.old place) colour word.now))
+            ≡ refusal_of result }
+        ensures reply { result ≡ reply_at (slice_get self.old place)
+            (word_at (slice_get self.old place) colour word.now) }
+        ensures after { self.new ≡ boards_after self.old place moment stamp
+            (word_at (slice_get self.old place) colour word.now) }
+        ensures unchanged { OnErr result (self.new ≡ self.old) }
+        ensures order { latest self.new ≤ moment }
+    {
+        match place {
+            0 => match &mut self.second {
+                Some(second) => play_linked(&mut self.first, second, colour, word, moment, stamp),
+                None => self.first.play(colour, word, moment, stamp),
+            },
+            1 => match &mut self.second {
+                Some(second) => play_linked(second, &mut self.first, colour, word, moment, stamp),
+                None => Err(Refusal::NotPlaying),
+            },
+            _ => Err(Refusal::NotPlaying),
+        }
+    }
+
+    /// Puts a half-move on the board in that place, with the charge that it has. The other board of a pair learns of
+    /// it. Takes no memory.
+    pub(crate) fn put(&mut self, place: u8, half: &Played)
+        requires takes { IsTrue (own_takes (slice_get self.old place) half.now) }
+        requires short { IfSome (slice_get self.old place) (λ b. length b.list < 1200) }
+        requires sound { IfSome half.now.charge IsChargeable }
+        ensures after { self.new ≡ boards_put self.old place half.now }
+    {
+        self.lay(place, half);
+    }
+
+    /// The client of a colour acknowledges the board in that place.
+    pub fn acked(&mut self, place: u8, colour: Colour, stamp: u32)
+        requires { IsStamp stamp }
+        ensures after { self.new ≡ boards_acked self.old place colour stamp }
+        ensures order { latest self.new ≡ latest self.old }
+    {
+        match place {
+            0 => self.first.acked(colour, stamp),
+            1 => {
+                if let Some(board) = &mut self.second {
+                    board.acked(colour, stamp);
+                }
+            }
+            _ => {}
+        }
+    }
+
+    /// The draw that may be claimed at the board in that place, if there is one.
+    pub fn claim(&self, place: u8) -> Option<Why>
+        ensures { result ≡ claim_at (slice_get self.now place) }
+    {
+        let board = self.at(place)?;
+        match board.claim_draw() {
+            Ok(why) => Some(why),
+            Err(_) => None,
+        }
+    }
+
+    /// Whether the first board lacks half-moves to take `n` back.
+    pub fn lacks_half_moves(&self, n: u16) -> bool
+        ensures { result ≡ lacks_half_moves self.now n }
+    {
+        n == 0 || self.first.list().len() < usize::from(n)
+    }
+
+    /// Takes the last `n` half-moves of the first board back, unless it is one of a pair.
+    pub fn take_back(&mut self, n: u16, moment: u64)
+        requires order { latest self.old ≤ moment }
+        requires moment { moment ≤ 2 ^ 48 }
+        ensures after { self.new ≡ boards_taken_back self.old n moment }
+        ensures order { latest self.new ≤ moment }
+    {
+        match self.first.terms().variant {
+            Variant::Chess => {
+                let _ = self.first.take_back(n, moment);
+            }
+            Variant::Crazyhouse => {
+                let _ = self.first.take_back(n, moment);
+            }
+            Variant::Bughouse => {}
+            Variant::Fischer(_) => {
+                let _ = self.first.take_back(n, moment);
+            }
+        }
+    }
+
+    /// What the flag that a colour calls at the board in that place brings.
+    pub fn flag(&self, place: u8, caller: Colour, moment: u64) -> Result<Option<Colour>, Refusal>
+        requires order { latest self.now ≤ moment }
+        requires moment { moment ≤ 2 ^ 48 }
+        ensures { result ≡ flag_at (slice_get self.now place) caller moment }
+    {
+        match place {
+            0 => self.first.flag(caller, moment),
+            1 => match &self.second {
+                Some(board) => board.flag(caller, moment),
+                None => Err(Refusal::NotPlaying),
+            },
+            _ => Err(Refusal::NotPlaying),
+        }
+    }
+}
+
+/// The place of the other board of a pair.
+pub fn other_place(place: u8) -> u8
+    ensures { result ≡ other_place place }
+{
+    if place == 0 { 1 } else { 0 }
+}

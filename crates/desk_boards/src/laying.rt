@@ -1,0 +1,50 @@
+//! Going through a game that was played: back to its start, and from there half-move by half-move.
+ghost use Rattle.std.specs.Prelude.{◌≡◌, ◌<◌, IfSome, IsSome, length, map, slice_get};
+ghost use Rattle.chess_model.specs.Allowed.{Allowed};
+ghost use Rattle.clock_ledger.specs.Charges.{IsChargeable};
+ghost use Rattle.game_board.specs.Board.{position_of};
+ghost use Rattle.game_board.specs.Rewind.{rewound};
+ghost use Rattle.desk_boards.specs.Replaying.{boards_put};
+
+use crate::boards::Boards;
+use crate::linked::lay_linked;
+use game_board::Played;
+
+impl Boards {
+    /// Goes back to the start of the game: no half-move is on any of the boards, and none was played. They keep their
+    /// room.
+    pub fn rewind(&mut self)
+        ensures { self.new ≡ map rewound self.old }
+    {
+        self.first.rewind();
+        if let Some(second) = &mut self.second {
+            second.rewind();
+        }
+    }
+
+    /// Lays an allowed half-move on the board in that place, with the charge that it has, if it has one; whether a
+    /// charge belongs there isn't asked. The other board of a pair learns of it. Takes no memory.
+    pub fn lay(&mut self, place: u8, half: &Played)
+        requires board { IsSome (slice_get self.old place) }
+        requires allowed { IfSome (slice_get self.old place) (λ b. Allowed (position_of b) half.now.what) }
+        requires room { IfSome (slice_get self.old place) (λ b. b.played < 1200) }
+        requires short { IfSome (slice_get self.old place) (λ b. length b.list < 1200) }
+        requires sound { IfSome half.now.charge IsChargeable }
+        ensures after { self.new ≡ boards_put self.old place half.now }
+    {
+        match place {
+            0 => match &mut self.second {
+                Some(second) => lay_linked(&mut self.first, second, half),
+                None => {
+                    let _captured = self.first.lay(*half);
+                }
+            },
+            1 => {
+                if let Some(second) = &mut self.second {
+                    lay_linked(second, &mut self.first, half);
+                }
+            }
+            _ => {}
+        }
+    }
+}

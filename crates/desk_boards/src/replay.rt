@@ -1,0 +1,75 @@
+//! Games that are played again.
+ghost use Rattle.std.specs.Prelude.{◌≡◌, ◌<◌, ◌≤◌, ◌^◌, IfOk, IfSome, IsTrue, length};
+ghost use Rattle.std.specs.List.{AllByRecursion};
+ghost use Rattle.game_records.specs.Bounds.{IsCharge};
+ghost use Rattle.desk_boards.specs.Boards.{numbered};
+ghost use Rattle.desk_boards.specs.Halves.{played_of};
+ghost use Rattle.desk_boards.specs.Replaying.{goes_on, replayed, takes_half};
+
+use crate::boards::Boards;
+use chess_model::Terms;
+use fics_words::NoMemory;
+use game_board::{GameBoard, Played};
+use game_records::{Half, PackedHalf};
+use std::alloc::Global;
+
+impl Boards {
+    /// The boards of a game on these terms after these half-moves, each with the charge that it has, where the players
+    /// to move are thinking from `moment`, in milliseconds. None where a board doesn't take one of them in its turn: it
+    /// isn't allowed, comes after an end or as the 1,201st of its board, or has a charge where none belongs, or none
+    /// where one does.
+    pub fn replay(
+        alloc: Global,
+        terms: Terms,
+        halves: &[PackedHalf],
+        moment: u64,
+    ) -> Result<Option<Boards>, NoMemory>
+        requires moment { moment ≤ 2 ^ 48 }
+        requires charges { AllByRecursion (λ h. IsCharge h.charge) halves.now }
+        ensures { IfOk result (λ boards. boards ≡ replayed terms halves.now moment) }
+    {
+        let mut boards = Boards::start(alloc, terms, moment)?;
+        for half in halves {
+            let it = half.unpacked();
+            if !boards.takes(&it) {
+                return Ok(None);
+            }
+            boards.put(it.board - 1, &played_of(&it));
+        }
+        Ok(Some(boards))
+    }
+
+    /// Whether the boards take a half-move with the charge that it has.
+    fn takes(&self, half: &Half) -> bool
+        ensures value { result ≡ takes_half self.now half.now }
+        ensures short { IsTrue result → IfSome (numbered half.now.board self.now) (λ b. length b.list < 1200) }
+    {
+        let Some(own) = self.numbered(half.board) else {
+            return false;
+        };
+        if !own.takes(&played_of(half)) {
+            return false;
+        }
+        match self.numbered(3u8.saturating_sub(half.board)) {
+            Some(other) => goes_on(other),
+            None => true,
+        }
+    }
+}
+
+/// A half-move of a record, as a board has it.
+fn played_of(half: &Half) -> Played
+    ensures { result ≡ played_of half.now }
+{
+    Played {
+        what: half.what,
+        charge: half.charge,
+    }
+}
+
+/// Whether a board is at no end.
+fn goes_on(board: &GameBoard) -> bool
+    ensures { result ≡ goes_on board.now }
+{
+    !board.state().is_end()
+}

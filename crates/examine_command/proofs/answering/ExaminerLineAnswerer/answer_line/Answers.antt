@@ -1,4 +1,0 @@
-use Rattle.examine_command.proofs.answering.ExaminerLineAnswerer.answer_line.Goals as goal
-
-pub returns : goal.returns
-returns c = rw c.self.view_is at c.answer_line.ensures

@@ -1,5 +1,0 @@
-use Rattle.game_shelf.proofs.Leading.{orders-lead}
-use Rattle.game_shelf.proofs.laws.orders_lead.Goals as goal
-
-pub returns : goal.returns
-returns c = orders-lead

@@ -1,5 +1,0 @@
-use Rattle.game_shelf.proofs.Meaning.{requests-stand}
-use Rattle.game_shelf.proofs.laws.requests_stand.Goals as goal
-
-pub returns : goal.returns
-returns c = requests-stand c.args.shelf.now

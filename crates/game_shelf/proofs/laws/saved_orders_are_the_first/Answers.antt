@@ -1,7 +1,0 @@
-use Rattle.std.proofs.Common.{subst}
-use Rattle.game_shelf.specs.Facts.{IsShelf}
-use Rattle.game_shelf.proofs.Meaning.{saved-first}
-use Rattle.game_shelf.proofs.laws.saved_orders_are_the_first.Goals as goal
-
-pub returns : goal.returns
-returns c = saved-first c.args.shelf.now (subst IsShelf c.shelf.view_is c.shelf.invariant)

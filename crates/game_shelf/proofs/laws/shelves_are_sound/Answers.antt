@@ -1,6 +1,0 @@
-use Rattle.std.proofs.Common.{subst}
-use Rattle.game_shelf.specs.Facts.{IsShelf}
-use Rattle.game_shelf.proofs.laws.shelves_are_sound.Goals as goal
-
-pub returns : goal.returns
-returns c = subst IsShelf c.shelf.view_is c.shelf.invariant

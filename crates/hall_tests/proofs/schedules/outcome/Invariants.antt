@@ -1,4 +1,0 @@
-use Rattle.hall_tests.proofs.schedules.outcome.Given as goal
-
-abbrev pub ghosts-given_back : goal.ghosts-given_back
-ghosts-given_back g a = record { hall = a.hall }

@@ -1,4 +1,0 @@
-use Rattle.line_answers.proofs.by_function.answer_each.Goals as goal
-
-pub returns-clause-ends : goal.returns-clause-ends
-returns-clause-ends g c = rw c.requires at c.answer_from.ensures.ends

@@ -1,6 +1,0 @@
-use Rattle.linked_boards.proofs.Replayed.{replayed_exactly}
-use Rattle.linked_boards.proofs.Restored.{replayed_boards, restored_is}
-use Rattle.linked_boards.proofs.laws.boards_are_replayed.Goals as goal
-
-pub returns : goal.returns
-returns c = record { exactly = replayed_exactly; boards = replayed_boards; restores = restored_is }

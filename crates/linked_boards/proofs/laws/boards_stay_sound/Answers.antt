@@ -1,6 +1,0 @@
-use Rattle.linked_boards.proofs.BackSound.{sound_back}
-use Rattle.linked_boards.proofs.StaySound.{sound_acked, sound_play, sound_start}
-use Rattle.linked_boards.proofs.laws.boards_stay_sound.Goals as goal
-
-pub returns : goal.returns
-returns c = record { start = sound_start; play = sound_play; acked = sound_acked; take_back = sound_back }

@@ -1,0 +1,54 @@
+use Rattle.std.proofs.Common.{◌≡◌, ℕ, ◌+◌, ◌<◌, ◌≤◌, ◌++◌, ◌∷◌, true, false, cond, Result, Ok, Err, List, length, drop, sym, ap, subst, ◌∙◌, arith, rules}
+use Rattle.std.specs.List.{filter, insert}
+use Rattle.std.specs.Result.{IsOk, is_ok}
+use Rattle.std.specs.Vec.{vec_len}
+use Rattle.lobby_shelf.specs.declared.shelved.Shelved.{Shelved}
+use Rattle.lobby_shelf.specs.Numbers.{is_below, is_used, AreInOrder, with_game}
+use Rattle.lobby_shelf.proofs.Rising.{RiseAbove-with, take-place, drop-place}
+use Rattle.lobby_shelf.proofs.rack.Rack.insert.Goals as goal
+
+-- a game put at the place of its number
+at_place : (games : List Shelved) (new : Shelved) (place : ℕ) → AreInOrder games → is_used games new.number ≡ false
+    → place ≡ length (filter (is_below new.number) games) → insert games place new ≡ with_game new games
+at_place games new place rise unused is =
+    ap (λ k. insert games k new) is
+    ∙ ap (λ zs. zs ++ new ∷ drop (length (filter (is_below new.number) games)) games) (take-place new.number 0 games rise)
+    ∙ ap (λ zs. filter (is_below new.number) games ++ new ∷ zs) (drop-place new.number 0 games unused rise)
+
+went_in : {E X : Type 0} (r : Result (Unit {0}) E) (xs ys zs : List X) → IsOk r → zs ≡ cond (is_ok r) xs ys → zs ≡ xs
+went_in (Ok v) xs ys zs ok is = is
+went_in (Err e) xs ys zs ok is = let bad : false ≡ true = ok in cc
+
+grown : {E : Type 0} (r : Result (Unit {0}) E) (n m : ℕ) → n < 10000 → m ≡ cond (is_ok r) (n + 1) n → m ≤ 10000
+grown (Ok v) n m short is = omega (arith, short, is)
+grown (Err e) n m short is = omega (arith, short, is)
+
+pub returns : goal.returns
+returns c =
+    let new : Shelved = record { number = c.args.number; game = c.args.game } in
+    let len : length c.self.inside.games.items ≡ vec_len c.self.inside.games = search rules in
+    let short : length c.self.inside.games.items < 10000 = subst (λ (l : List Shelved). length l < 10000) (sym c.self.view_is) c.requires.room in
+    let room = c.self.invariant.room in
+    let ok = c.insert-room.ensures.succeeds (omega (arith, len, room, short)) in
+    let unused = subst (λ (l : List Shelved). is_used l c.args.number ≡ false) (sym c.self.view_is) c.requires.unused in
+    went_in c.insert-room.result _ _ _ ok c.insert-room.ensures.items
+    ∙ at_place c.self.inside.games.items new c.place-place.result c.self.invariant.order unused
+    (c.place-place.ensures.place ∙ ap (λ (l : List Shelved). length (filter (is_below c.args.number) l)) (sym c.self.view_is))
+    ∙ ap (with_game new) c.self.view_is
+
+pub invariant_of-self : goal.invariant_of-self
+invariant_of-self c =
+    let new : Shelved = record { number = c.args.number; game = c.args.game } in
+    let len : length c.self.inside.games.items ≡ vec_len c.self.inside.games = search rules in
+    let short : length c.self.inside.games.items < 10000 = subst (λ (l : List Shelved). length l < 10000) (sym c.self.view_is) c.requires.room in
+    let room = c.self.invariant.room in
+    let more = c.insert-room.ensures.capacity in
+    let unused = subst (λ (l : List Shelved). is_used l c.args.number ≡ false) (sym c.self.view_is) c.requires.unused in
+    let positive : 0 < c.args.number = c.requires.positive in
+    let fits = c.ranges.number.fits in
+    record {
+      within = grown c.insert-room.result (vec_len c.self.inside.games) _ (omega (arith, len, short)) c.insert-room.ensures.len;
+      room = omega (arith, room, more);
+      order = subst AreInOrder (sym (returns c ∙ ap (with_game new) (sym c.self.view_is)))
+          (RiseAbove-with new 0 c.self.inside.games.items positive fits unused c.self.invariant.order);
+    }

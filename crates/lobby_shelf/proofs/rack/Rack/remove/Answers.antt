@@ -1,0 +1,52 @@
+use Rattle.std.proofs.Common.{◌≡◌, ◌≤◌, ℕ, false, not, List, length, sym, ap, subst, ◌∙◌, arith, rules}
+use Rattle.std.specs.List.{filter, find, remove}
+use Rattle.std.specs.Vec.{vec_len}
+use Rattle.lobby_shelf.specs.declared.shelved.Shelved.{Shelved}
+use Rattle.lobby_shelf.specs.Numbers.{AreInOrder, has_number, is_below, without_game}
+use Rattle.lobby_shelf.proofs.Finding.{none_lent, removed_at}
+use Rattle.lobby_shelf.proofs.Rising.{RiseAbove-filter, without_game-absent}
+use Rattle.lobby_shelf.proofs.rack.Rack.remove.Goals as goal
+
+pub returns-then-is_none : goal.returns-then-is_none
+returns-then-is_none c =
+    sym (without_game-absent c.args.number c.args.self.now
+    (none_lent c.get.result _ c.get.ensures (ap not (c.is_none.ensures ∙ ap not c.if-is_none.true))))
+
+pub remove-requires : goal.remove-requires
+remove-requires c =
+    let games = c.self.inside.games.items in
+    let n = c.args.number in
+    let len : length games ≡ vec_len c.self.inside.games = search rules in
+    let at : c.place-place.result ≡ length (filter (is_below n) games) =
+    c.place-place.ensures.place ∙ ap (λ (l : List Shelved). length (filter (is_below n) l)) (sym c.self.view_is) in
+    let found = c.get.ensures ∙ ap (find (has_number n)) (sym c.self.view_is) in
+    let within = (removed_at games n c.place-place.result c.get.result c.self.invariant.order found (ap not (c.is_none.ensures ∙ ap not c.if-is_none.false)) at).0 in
+    omega (arith, len, within)
+
+pub returns : goal.returns
+returns c =
+    let games = c.self.inside.games.items in
+    let n = c.args.number in
+    let at : c.place-place.result ≡ length (filter (is_below n) games) =
+    c.place-place.ensures.place ∙ ap (λ (l : List Shelved). length (filter (is_below n) l)) (sym c.self.view_is) in
+    let found = c.get.ensures ∙ ap (find (has_number n)) (sym c.self.view_is) in
+    c.remove.ensures.items
+    ∙ (removed_at games n c.place-place.result c.get.result c.self.invariant.order found (ap not (c.is_none.ensures ∙ ap not c.if-is_none.false)) at).1
+    ∙ ap (without_game n) c.self.view_is
+
+pub invariant_of-self : goal.invariant_of-self
+invariant_of-self c =
+    let games = c.self.inside.games.items in
+    let n = c.args.number in
+    let at : c.place-place.result ≡ length (filter (is_below n) games) =
+    c.place-place.ensures.place ∙ ap (λ (l : List Shelved). length (filter (is_below n) l)) (sym c.self.view_is) in
+    let found = c.get.ensures ∙ ap (find (has_number n)) (sym c.self.view_is) in
+    let gone = c.remove.ensures.items
+    ∙ (removed_at games n c.place-place.result c.get.result c.self.invariant.order found (ap not (c.is_none.ensures ∙ ap not c.if-is_none.false)) at).1 in
+    let shorter = c.remove.ensures.len in
+    let within = c.self.invariant.within in
+    record {
+      within = omega (arith, shorter, within);
+      room = subst (λ (n : ℕ). 10000 ≤ n) (sym c.remove.ensures.capacity) c.self.invariant.room;
+      order = subst AreInOrder (sym gone) (RiseAbove-filter (λ row. not (has_number n row)) 0 games c.self.invariant.order);
+    }

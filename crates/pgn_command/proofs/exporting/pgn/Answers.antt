@@ -1,8 +1,0 @@
-use Rattle.pgn_command.proofs.Ending.{store_exported}
-use Rattle.pgn_command.proofs.exporting.pgn.Goals as goal
-
-pub returns-in-Ok-clause-ends : goal.returns-in-Ok-clause-ends
-returns-in-Ok-clause-ends g c =
-    store_exported (g.P.Keeper.table c.args.keeper.now) (g.K.Sink.written c.args.sink.now) (g.K.Sink.written c.open_store.new.sink) (g.K.Sink.written c.write_shelf.new.sink)
-    c.in-Ok.lobby c.write_shelf.result c.write_shelf.ensures.well_formed c.in-Ok.ensures.spelled c.in-Ok.ensures.loaded c.in-Ok.ensures.good c.in-Ok.ensures.tells
-    c.write_shelf.ensures.writes

@@ -1,6 +1,0 @@
-use Rattle.std.proofs.Common.{ℕ, ◌<◌}
-use Rattle.chess_model.specs.Attacked.{StrikesFrom}
-use Rattle.plain_board.proofs.attack.is_attacked.Given as goal
-
-abbrev pub invariant-loop-a : goal.invariant-loop-a
-invariant-loop-a l = (k : ℕ) → k < l.a → ¬ StrikesFrom l.men l.c k l.s
