@@ -11,6 +11,7 @@ pub mod Laws
 pub mod Material
 pub mod Men
 pub mod LegalPositions
+pub mod Limits
 pub mod MoveList
 pub mod MoveText
 pub mod MoveTextFields

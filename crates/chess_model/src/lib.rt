@@ -16,6 +16,7 @@ mod home_files;
 mod home_rank;
 mod homes;
 mod laws;
+mod limits;
 mod man;
 mod material;
 mod moves;
@@ -38,6 +39,7 @@ pub use laws::{
     rights_never_come_back, states_are_told, tests_say_the_rules, third_times_are_counted,
     words_are_answered, worked_claims, worked_examples, worked_moves, worked_results, worked_words,
 };
+pub use limits::{MOST_HALVES, MOST_TIME};
 pub use man::{Colour, Kind, Man};
 pub use material::material_of;
 pub use moves::{Move, MoveWord, Rejection};

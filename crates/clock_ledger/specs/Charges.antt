@@ -17,8 +17,12 @@ abbrev pub AreStamps : Option (ℕ × ℕ) → Type 0
 AreStamps None = Unit {0}
 AreStamps (Some stamps) = IsStamp stamps.0 × IsStamp stamps.1
 
+-- the last moment that a server knows, in milliseconds
+abbrev pub last_moment : ℕ
+last_moment = 2 ^ 48
+
 -- a charge that may be made: its moments follow one another and stay below the last moment that the server knows
 pub record IsChargeable (c : Charge) : Type 0 where
   pub ordered : c.begin ≤ c.end
-  pub timely : c.end ≤ 2 ^ 48
+  pub timely : c.end ≤ last_moment
   pub stamped : AreStamps c.client

@@ -4,9 +4,12 @@ ghost use Rattle.clock_ledger.specs.Charges.{amount};
 
 use crate::stamps::span;
 
+/// The last moment that a charge may end at, and that an act may have, in milliseconds: 2^48.
+pub const LAST_MOMENT: u64 = 1 << 48;
+
 /// Time that a player spent on one half-move, from `begin` to `end`, in milliseconds of the server.
 ///
-/// `begin` is not after `end`. A charge that is made to a ledger ends at 2^48 at the latest, and its stamps are below
+/// `begin` is not after `end`. A charge that is made to a ledger ends at `LAST_MOMENT` at the latest, and its stamps are below
 /// `STAMP_CYCLE`.
 ///
 /// `client` has the stamps that the player's own machine put on the board's acknowledgement and on the move, where it

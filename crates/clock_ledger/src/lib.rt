@@ -13,7 +13,7 @@ mod laws;
 mod ledger;
 mod stamps;
 
-pub use charges::Charge;
+pub use charges::{Charge, LAST_MOMENT};
 pub use laws::a_charge_moves_the_clock;
 pub use ledger::{ClockLedger, MAX_CHARGES};
 pub use stamps::{STAMP_CYCLE, span};

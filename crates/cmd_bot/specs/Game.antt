@@ -3,6 +3,7 @@ use Rattle.std.specs.Prelude.{ℕ, nat_le, Bool, ◌||◌, if◌then◌else◌, 
 use Rattle.std.specs.List.{find, range_with_len}
 use Rattle.std.specs.Option.{option_and_then}
 use Rattle.std.specs.Result.{result_ok}
+use Rattle.chess_model.specs.Limits.{most_halves}
 use Rattle.chess_model.specs.declared.moves.Move.{Move}
 use Rattle.chess_model.specs.declared.moves.MoveWord.{MoveWord}
 use Rattle.chess_model.specs.declared.variant.Variant.{Variant}
@@ -54,7 +55,7 @@ variant_named depth line =
 
 -- a game takes no further half-move: it has ended by mate or stalemate, or has 1,200 half-moves
 abbrev pub is_over : BotGame → Bool
-is_over game = is_end (result (position_of game)) || nat_le 1200 (length game.moves)
+is_over game = is_end (result (position_of game)) || nat_le most_halves (length game.moves)
 
 -- the half-move that answers a word, where the game goes on
 abbrev pub word_played : BotGame → MoveWord → Option Move

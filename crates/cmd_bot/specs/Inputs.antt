@@ -1,5 +1,7 @@
 -- What the lines of `bot` say, as a player reads them: a variant, and half-moves from its start.
 use Rattle.std.specs.Prelude.{◌≡◌, ◌≢◌, ℕ, ◌-◌, ◌<◌, ◌≤◌, Bool, true, false, List, [], ◌∷◌, length, filter, take, All, Some, None, ⊤}
+use Rattle.fics_words.specs.Line.{most_line_bytes}
+use Rattle.chess_model.specs.Limits.{most_halves}
 use Rattle.chess_model.specs.declared.moves.Move.{Move}
 use Rattle.chess_model.specs.declared.moves.MoveWord.{MoveWord}
 use Rattle.chess_model.specs.declared.variant.Variant.{Variant}
@@ -29,7 +31,7 @@ pub record IsNextMove (game : BotGame) (line : List ℕ) (m : Move) : Type 0 whe
   pub reads : IsReading line word
   pub answers : IsAnswer (position_of game) word m
   pub goes_on : is_end (result (position_of game)) ≡ false
-  pub few : length game.moves < 1200
+  pub few : length game.moves < most_halves
 
 -- these lines give these half-moves, each in the position of those before it
 abbrev pub Follow : BotGame → List (List ℕ) → List Move → Type 0
@@ -52,5 +54,5 @@ pub record IsFirstBad (depth : ℕ) (lines : List (List ℕ)) (number : ℕ) : T
   pub there : number ≤ length lines
   pub game : BotState
   pub before : Give depth (filter is_written (take (number - 1) lines)) game
-  pub none : All (λ line. length line ≤ 1023) lines → (state : BotState)
+  pub none : All (λ line. length line ≤ most_line_bytes) lines → (state : BotState)
       → Give depth (filter is_written (take number lines)) state → ⊥

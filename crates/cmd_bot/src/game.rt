@@ -5,7 +5,7 @@ ghost use Rattle.chess_model.specs.Allowed.{Allowed};
 ghost use Rattle.house_bot.specs.AnswerText.{answer_of};
 ghost use Rattle.cmd_bot.specs.Game.{is_over, move_named, new_game, position_of, with_move};
 
-use chess_model::{Move, Variant};
+use chess_model::{MOST_HALVES, Move, Variant};
 use collections::Listed;
 use house_bot::answer_text;
 use memory::NoMemory;
@@ -13,9 +13,6 @@ use move_reader::read_word;
 use std::alloc::Global;
 use std::marker::Model;
 use variant_rules::Position;
-
-/// The most half-moves of a game.
-const MOST_MOVES: usize = 1_200;
 
 /// A game of one board from its start on, with the position after its half-moves.
 #[derive(Drop)]
@@ -85,7 +82,7 @@ impl Game {
         if self.position.state().is_end() {
             return true;
         }
-        self.moves.len() >= MOST_MOVES
+        self.moves.len() >= MOST_HALVES
     }
 
     /// Makes an allowed half-move.

@@ -1,6 +1,7 @@
 //! The laws of `bot`, in a player's words.
 
 ghost use Rattle.std.specs.Prelude.{◌≡◌, ◌≤◌, ℕ, List, All, None, Option, Some, filter, length};
+ghost use Rattle.fics_words.specs.Line.{most_line_bytes};
 ghost use Rattle.cmd_lines.specs.LineCommand.{bad_in, last_state};
 ghost use Rattle.cmd_lines.specs.declared.end.End.{End};
 ghost use Rattle.cmd_bot.specs.BotEnds.{BotEnds};
@@ -13,9 +14,9 @@ ghost use Rattle.cmd_bot.specs.Inputs.{Give, IsFirstBad, is_written};
 pub fn inputs()
     ensures given { (depth : ℕ) (lines : List (List ℕ)) → bad_in (bot_lines depth) lines ≡ None
         → Give depth (filter is_written lines) (last_state (bot_lines depth) lines) }
-    ensures good { (depth : ℕ) (lines : List (List ℕ)) (state : BotState) → All (λ line. length line ≤ 1023) lines
+    ensures good { (depth : ℕ) (lines : List (List ℕ)) (state : BotState) → All (λ line. length line ≤ most_line_bytes) lines
         → Give depth (filter is_written lines) state → bad_in (bot_lines depth) lines ≡ None }
-    ensures state { (depth : ℕ) (lines : List (List ℕ)) (state : BotState) → All (λ line. length line ≤ 1023) lines
+    ensures state { (depth : ℕ) (lines : List (List ℕ)) (state : BotState) → All (λ line. length line ≤ most_line_bytes) lines
         → Give depth (filter is_written lines) state → last_state (bot_lines depth) lines ≡ state }
     ensures first { (depth : ℕ) (lines : List (List ℕ)) (number : ℕ) → bad_in (bot_lines depth) lines ≡ Some number
         → IsFirstBad depth lines number }

@@ -1,6 +1,7 @@
 //! A demo, step by step.
 
 ghost use Rattle.std.specs.Prelude.{◌≡◌, IfOk, replicate};
+ghost use Rattle.clock_ledger.specs.Charges.{last_moment};
 ghost use Rattle.session_core.specs.Memory.{newcomer};
 ghost use Rattle.cmd_demo.specs.Demo.{start};
 
@@ -57,7 +58,7 @@ impl Model for Demo {
 }
 
 impl Demo {
-    ghost use Rattle.std.specs.Prelude.{◌≡◌, ◌+◌, ◌≤◌, ◌^◌, ◌∷◌, [], IfOk, OnOk};
+    ghost use Rattle.std.specs.Prelude.{◌≡◌, ◌+◌, ◌≤◌, ◌∷◌, [], IfOk, OnOk};
     ghost use Rattle.replay_core.specs.Script.{IsScriptEvent};
     ghost use Rattle.replay_core.specs.declared.script.ScriptEvent.TheVariants.{Plain};
     ghost use Rattle.cmd_demo.specs.Demo.{Comes, Connects, Enters, Go, Goes, Turns};
@@ -111,7 +112,7 @@ impl Demo {
     fn enter(&mut self, session: u32) -> Result<(), NoMemory>
         requires first { 1 ≤ session }
         requires last { session ≤ 40 }
-        requires moment { self.old.moment ≤ 2 ^ 48 }
+        requires moment { self.old.moment ≤ last_moment }
         ensures gone { OnOk result (Go (Connects session ∷ Enters session ∷ []) self.old self.new) }
         ensures moment { OnOk result (self.new.moment ≡ self.old.moment) }
     {
@@ -160,7 +161,7 @@ impl Demo {
         requires words { AreWords words.now }
         requires first { 1 ≤ session }
         requires last { session ≤ 40 }
-        requires moment { self.old.moment ≤ 2 ^ 48 }
+        requires moment { self.old.moment ≤ last_moment }
         ensures { OnOk result (Comes session (Plain words.now) self.old self.new) }
     {
         let event = plain(self.alloc, words)?;
@@ -171,7 +172,7 @@ impl Demo {
     fn take(&mut self, session: u32, event: ScriptEvent) -> Result<(), NoMemory>
         requires first { 1 ≤ session }
         requires last { session ≤ 40 }
-        requires moment { self.old.moment ≤ 2 ^ 48 }
+        requires moment { self.old.moment ≤ last_moment }
         requires fits { IsScriptEvent event }
         ensures { OnOk result (Comes session event self.old self.new) }
     {

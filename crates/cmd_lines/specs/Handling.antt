@@ -1,6 +1,7 @@
 -- What the handler of a command makes of the lines of its input, as a relation between these lines, where they bring
 -- the handler, and the text that is due for them.
 use Rattle.std.specs.Prelude.{◌≡◌, ℕ, ◌+◌, ◌≤◌, ◌⊎◌, Bool, true, false, List, [], ◌∷◌, ◌++◌, length, decimal, codes}
+use Rattle.fics_words.specs.Line.{most_line_bytes}
 
 -- the lines bring the handler from its start to here, and this text is due for them
 abbrev pub Reaching : Type 0 → Type 1
@@ -33,7 +34,7 @@ pub record AreLines {S : Type 0} (reached : Reaching S) : Type 0 where
   pub fronts : (lines : List (List ℕ)) (line : List ℕ) (s : S) (due : List ℕ) → reached (lines ++ line ∷ []) s due
       → (before : S) × (text : List ℕ) × reached lines before text
   pub short : (lines : List (List ℕ)) (line : List ℕ) (s : S) (due : List ℕ) → reached (lines ++ line ∷ []) s due
-      → length line ≤ 1023
+      → length line ≤ most_line_bytes
 
 -- the line that tells of a line outside the grammar: its number, and the bytes that end a line
 abbrev pub bad_line : List ℕ → ℕ → List ℕ

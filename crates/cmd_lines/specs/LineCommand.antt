@@ -1,6 +1,7 @@
 -- A command that answers each line of its input by a function: what it writes, and where an input stops it.
 use Rattle.std.specs.Prelude.{◌≡◌, ℕ, ◌+◌, Bool, true, false, if◌then◌else◌, nat_lt, List, [], ◌∷◌, ◌++◌, length, Option, Some, None, MatchOption}
 use Rattle.std.specs.Option.{option_map_or}
+use Rattle.fics_words.specs.Line.{most_line_bytes}
 use Rattle.cmd_lines.specs.Handling.{bad_line}
 
 -- where it starts; what a line that isn't empty makes of where it stands, with the text that is written for the line,
@@ -18,7 +19,7 @@ begun_at command s = record command { start = s }
 -- more than 1,023 bytes is outside the grammar
 abbrev pub line_answer : {S : Type 0} → LineCommand S → S → List ℕ → Option (S × List ℕ)
 line_answer command s [] = Some (s, [])
-line_answer command s (b ∷ bytes) = if nat_lt 1023 (length (b ∷ bytes)) then None else command.answer s (b ∷ bytes)
+line_answer command s (b ∷ bytes) = if nat_lt most_line_bytes (length (b ∷ bytes)) then None else command.answer s (b ∷ bytes)
 
 -- what is written for lines that begin with number n: the texts of their answers, up to a line outside the grammar
 abbrev pub answers : {S : Type 0} → LineCommand S → ℕ → S → List (List ℕ) → List ℕ

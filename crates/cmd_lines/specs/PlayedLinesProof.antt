@@ -3,14 +3,15 @@ use Rattle.std.proofs.Common.{◌≡◌, ℕ, ◌+◌, ◌<◌, ◌≤◌, Bool,
 use Rattle.std.specs.Prelude.{Option, nat_lt}
 use Rattle.std.specs.Option.{option_map_or}
 use Rattle.std.proofs.lemmas.Bool.{lt-ltb, ltb-true, ltb-false}
+use Rattle.fics_words.specs.Line.{most_line_bytes}
 use Rattle.cmd_lines.specs.Handling.{AreLines, IsOutside, bad_line}
 use Rattle.cmd_lines.specs.LineCommand.{LineCommand, line_answer, answers, first_bad, state_after, last_state, text_of, bad_in, IsPlayed}
 
 module _ {S : Type 0} (command : LineCommand S) where
   -- a long line has no answer
-  line_answer-long : (state : S) (line : List ℕ) → 1023 < length line → line_answer command state line ≡ None
+  line_answer-long : (state : S) (line : List ℕ) → most_line_bytes < length line → line_answer command state line ≡ None
   line_answer-long state [] long = absurd (omega arith)
-  line_answer-long state (b ∷ bytes) long = ap (λ (t : Bool). cond t None (command.answer state (b ∷ bytes))) (lt-ltb 1023 (length (b ∷ bytes)) long)
+  line_answer-long state (b ∷ bytes) long = ap (λ (t : Bool). cond t None (command.answer state (b ∷ bytes))) (lt-ltb most_line_bytes (length (b ∷ bytes)) long)
 
   -- the text and the good lines behind a line, by its answer
   pub answers-answer_line : (n : ℕ) (state : S) (line : List ℕ) (lines : List (List ℕ)) (t : Option (S × List ℕ)) → line_answer command state line ≡ t
@@ -108,8 +109,8 @@ module _ {S : Type 0} (command : LineCommand S) where
     fronts = λ lines line s due p. IsPlayed-front lines (line ∷ []) (IsPlayed-good (lines ++ line ∷ []) s due p);
     short = λ lines line s due p.
         let front = IsPlayed-front lines (line ∷ []) (IsPlayed-good (lines ++ line ∷ []) s due p) in
-        elim (nat_lt 1023 (length line)) as (λ t. nat_lt 1023 (length line) ≡ t → length line ≤ 1023) [
-          | true ↦ λ e. absurd (IsOutside-refused lines front.0 front.1 line (line_answer-long front.0 line (ltb-true 1023 (length line) e)) front.2 s due p)
-          | false ↦ λ e. ltb-false 1023 (length line) e
+        elim (nat_lt most_line_bytes (length line)) as (λ t. nat_lt most_line_bytes (length line) ≡ t → length line ≤ most_line_bytes) [
+          | true ↦ λ e. absurd (IsOutside-refused lines front.0 front.1 line (line_answer-long front.0 line (ltb-true most_line_bytes (length line) e)) front.2 s due p)
+          | false ↦ λ e. ltb-false most_line_bytes (length line) e
         ] refl;
   }

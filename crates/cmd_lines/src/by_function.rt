@@ -2,6 +2,7 @@
 //! lines.
 
 ghost use Rattle.std.specs.Prelude.{◌≡◌};
+ghost use Rattle.fics_words.specs.Line.{most_line_bytes};
 ghost use Rattle.edge_traits.specs.Faults.{Rose};
 ghost use Rattle.cmd_lines.specs.Ends.{OnReadFault, OnWriteFault};
 ghost use Rattle.cmd_lines.specs.LineCommand.{begun_at};
@@ -29,7 +30,7 @@ pub trait LineAnswerer: Drop {
     /// After running out of memory nothing is known of the command and of what was appended.
     fn answer_line(&mut self, line: &[u8], out: &mut Vec<u8>) -> Result<bool, NoMemory>
         requires some { 0 < length line.now }
-        requires short { length line.now ≤ 1023 }
+        requires short { length line.now ≤ most_line_bytes }
         ensures { IfOk result
             (λ good. IsAnswer (command.answer self.old line.now) out.old.items self.new out.new.items good) };
 

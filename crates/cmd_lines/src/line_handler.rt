@@ -5,6 +5,7 @@ use fics_words::NoMemory;
 /// A command that answers the lines of its input, one after another.
 pub trait LineHandler: Drop {
     ghost use Rattle.std.specs.Prelude.{◌≡◌, ◌<◌, ◌≤◌, ℕ, List, length, IfOk, OnOk};
+    ghost use Rattle.fics_words.specs.Line.{most_line_bytes};
     ghost use Rattle.cmd_lines.specs.Handling.{AfterAnswering, AreLines};
 
     /// These lines have brought the handler from where it starts to where it stands, and this text is due for them.
@@ -20,7 +21,7 @@ pub trait LineHandler: Drop {
     /// After running out of memory nothing is known of the handler and of what was appended.
     fn answer_line(&mut self, line: &[u8], out: &mut Vec<u8>) -> Result<bool, NoMemory>
         requires some { 0 < length line.now }
-        requires short { length line.now ≤ 1023 }
+        requires short { length line.now ≤ most_line_bytes }
         ensures { IfOk result (λ good. (start : Self)
             → AfterAnswering (reached start) self.old line.now out.old.items self.new out.new.items good) };
 

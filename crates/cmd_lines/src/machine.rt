@@ -7,12 +7,9 @@ ghost use Rattle.cmd_lines.specs.Progress.{OnBadLine};
 use crate::feeder::Feeder;
 use crate::line_handler::LineHandler;
 use crate::stop::Stop;
-use fics_words::{NoMemory, write_number};
+use fics_words::{MOST_LINE_BYTES, NoMemory, write_number};
 use std::alloc::Global;
 use std::marker::Model;
-
-/// The most bytes of a line that may be answered.
-const MOST_BYTES: usize = 1_023;
 
 /// The machine: who answers the lines, the number of the next line, and the beginning of what has come of that line, of
 /// which it keeps one byte more than a line that is answered may have.
@@ -95,7 +92,7 @@ impl<T: LineHandler> Machine<T> {
             self.number += 1;
             return Ok(());
         }
-        if self.kept.len() > MOST_BYTES {
+        if self.kept.len() > MOST_LINE_BYTES {
             return Err(refuse_line(self.number, self.handler.ending(), out));
         }
         if !self.handler.answer_line(self.kept.as_slice(), out)? {
@@ -131,7 +128,7 @@ fn keep(byte: u8, kept: &mut Vec<u8>) -> Result<(), NoMemory>
     ensures kept { OnOk result (kept.new.items ≡ take 1024 (kept.old.items ++ byte ∷ [])) }
     ensures room { vec_len kept.new ≤ 1024 }
 {
-    if kept.len() <= MOST_BYTES {
+    if kept.len() <= MOST_LINE_BYTES {
         kept.push(byte)?;
     }
     Ok(())

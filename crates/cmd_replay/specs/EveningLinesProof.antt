@@ -4,6 +4,7 @@ use Rattle.std.specs.List.{AllByRecursion, range_with_len}
 use Rattle.std.proofs.lemmas.List.Elements.{All-from_recursion, recursion_from_All, filter-append}
 use Rattle.std.proofs.lemmas.List.FromFn.{get_or-map-range_with_len, length-map-range_with_len}
 use Rattle.std.proofs.lemmas.Option.{slice_get-get_or}
+use Rattle.fics_words.specs.Line.{most_line_bytes}
 use Rattle.replay_core.specs.declared.order.Attendance.{Attendance}
 use Rattle.replay_core.specs.Order.{Arrival}
 use Rattle.replay_core.specs.Attendance.{IsAfter, presence_of}
@@ -152,7 +153,7 @@ none_has lines evening due at line written none other text reached =
 
 -- ---- the laws of the lines
 
-row_short : (before : List Row) (row : Row) → MayFollow before row → length (line_of row) ≤ 1023
+row_short : (before : List Row) (row : Row) → MayFollow before row → length (line_of row) ≤ most_line_bytes
 row_short before (Seats seat made) h = h.short.0
 row_short before (Comes line made bytes memory) h = h.short.0
 
@@ -188,12 +189,12 @@ front_of lines (byte ∷ line) evening due at =
     let step = (evening_step ends.front ends.last).0 (subst IsEvening ends.parts at.follow) in
     (standing_of ends.front, transcript_of ends.front, reached_by lines ends.front step.0 ends.before)
 
-line_short : (lines : List (List ℕ)) (line : List ℕ) (evening : EveningState) (due : List ℕ) → Reached (lines ++ line ∷ []) evening due → length line ≤ 1023
+line_short : (lines : List (List ℕ)) (line : List ℕ) (evening : EveningState) (due : List ℕ) → Reached (lines ++ line ∷ []) evening due → length line ≤ most_line_bytes
 line_short lines [] evening due at = omega arith
 line_short lines (byte ∷ line) evening due at =
     let ends = ends_with (filter is_written lines) (byte ∷ line) at.rows (sym (written_push lines (byte ∷ line) refl) ∙ at.spelled) in
     let step = (evening_step ends.front ends.last).0 (subst IsEvening ends.parts at.follow) in
-    subst (λ (l : List ℕ). length l ≤ 1023) (sym ends.spelled) (row_short ends.front ends.last step.1)
+    subst (λ (l : List ℕ). length l ≤ most_line_bytes) (sym ends.spelled) (row_short ends.front ends.last step.1)
 
 pub reached_lines : AreLines Reached
 reached_lines = record { empty = empty_line; fronts = front_of; short = line_short }

@@ -1,6 +1,7 @@
 //! What an event of a script does: its session's part, at the one server.
 
-ghost use Rattle.std.specs.Prelude.{◌≡◌, ◌≤◌, ◌^◌, IfOk, OnOk, false};
+ghost use Rattle.std.specs.Prelude.{◌≡◌, ◌≤◌, IfOk, OnOk, false};
+ghost use Rattle.clock_ledger.specs.Charges.{last_moment};
 ghost use Rattle.replay_core.specs.Script.{IsScriptLine};
 ghost use Rattle.session_core.specs.Inputs.{FitsInput};
 ghost use Rattle.session_core.specs.Memory.{is_gone};
@@ -85,7 +86,7 @@ fn take_input(
     session: &mut Session,
     input: Input,
 ) -> Result<Wrote, NoMemory>
-    requires moment { moment ≤ 2 ^ 48 }
+    requires moment { moment ≤ last_moment }
     requires fits { FitsInput input }
     ensures taken { IfOk result (λ wrote. HasTaken input number moment server.old session.old server.new session.new
         wrote.bytes.items) }
@@ -101,7 +102,7 @@ pub(crate) fn leave_server(
     moment: u64,
     session: &mut Session,
 ) -> Result<(), NoMemory>
-    requires { moment ≤ 2 ^ 48 }
+    requires { moment ≤ last_moment }
     ensures { OnOk result (HasGone session.old number moment server.old server.new session.new) }
 {
     session.leave(&mut server.seat(number), moment)

@@ -1,6 +1,7 @@
 //! An evening: what the lines of a script make of one server.
 
-ghost use Rattle.std.specs.Prelude.{◌≡◌, ◌≢◌, ◌≤◌, ◌<◌, ◌^◌, [], IfOk, IfNone, IfSome, OnOk, length, replicate};
+ghost use Rattle.std.specs.Prelude.{◌≡◌, ◌≢◌, ◌≤◌, ◌<◌, [], IfOk, IfNone, IfSome, OnOk, length, replicate};
+ghost use Rattle.clock_ledger.specs.Charges.{last_moment};
 ghost use Rattle.session_core.specs.Memory.{newcomer};
 ghost use Rattle.cmd_replay.specs.Evening.{AfterLeaving, IsNext, IsNoNext, seated_from};
 
@@ -32,7 +33,8 @@ pub struct Evening {
 }
 
 impl Model for Evening {
-    ghost use Rattle.std.specs.Prelude.{◌≡◌, ◌≤◌, ◌^◌, length};
+    ghost use Rattle.clock_ledger.specs.Charges.{last_moment};
+    ghost use Rattle.std.specs.Prelude.{◌≡◌, ◌≤◌, length};
     ghost use Rattle.cmd_replay.specs.Evening.{EveningState};
 
     ghost Value = { EveningState };
@@ -45,7 +47,7 @@ impl Model for Evening {
     } };
 
     ghost invariant = { λ evening. record {
-      moment : evening.moment ≤ 2 ^ 48;
+      moment : evening.moment ≤ last_moment;
       sessions : length evening.sessions ≡ 64;
     } };
 }
@@ -200,7 +202,7 @@ fn close_sessions(
     order: &Attendance,
     moment: u64,
 ) -> Result<(), NoMemory>
-    requires moment { moment ≤ 2 ^ 48 }
+    requires moment { moment ≤ last_moment }
     requires sessions { length sessions.old ≡ 64 }
     ensures left { OnOk result (AfterLeaving order.now sessions.old moment 64 server.old server.new) }
     ensures count { length sessions.new ≡ 64 }

@@ -1,6 +1,7 @@
 -- What a line asks for. This server's own.
 use Rattle.std.specs.Prelude.{◌≡◌, ℕ, nat_lt, if◌then◌else◌, true, false, List, [], ◌∷◌, length, map, Option, Some, None, Result, Ok, Err, codes, refl}
 use Rattle.std.specs.Char.{to_ascii_lowercase}
+use Rattle.fics_words.specs.Line.{most_line_bytes}
 use Rattle.chess_model.specs.declared.moves.MoveWord.{MoveWord}
 use Rattle.chess_model.specs.declared.moves.MoveWord.TheVariants.{Coordinate}
 use Rattle.fics_words.specs.declared.refusal.Refusal.{Refusal}
@@ -64,7 +65,7 @@ command_of (b ∷ text) = move_or (move_in (b ∷ text)) (b ∷ text)
 
 -- the line after its alias, which may have become too long
 abbrev pub command_made : List ℕ → Result Command Refusal
-command_made made = if nat_lt 1023 (length made) then Err TooLong else command_of (trimmed made)
+command_made made = if nat_lt most_line_bytes (length made) then Err TooLong else command_of (trimmed made)
 
 abbrev pub command_after : Option Alias → List ℕ → Result Command Refusal
 command_after None text = command_of text

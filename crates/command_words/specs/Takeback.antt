@@ -1,5 +1,6 @@
 -- `takeback [N]`: offers to take so many half-moves back, 1 to 1,200, and 1 without a number.
 use Rattle.std.specs.Prelude.{◌≡◌, ℕ, ◌==◌, if◌then◌else◌, List, [], ◌∷◌, Option, Some, None, Result, Ok, Err, codes, refl}
+use Rattle.chess_model.specs.Limits.{most_halves}
 use Rattle.fics_words.specs.declared.refusal.Refusal.{Refusal}
 use Rattle.fics_words.specs.declared.refusal.Refusal.TheVariants.{BadArguments}
 use Rattle.command_words.specs.declared.command.Command.{Command}
@@ -12,7 +13,7 @@ takeback_from (Some number) = if number == 0 then Err BadArguments else Ok (comm
 
 abbrev pub takeback_of : List ℕ → Result Command Refusal
 takeback_of [] = Ok (command.Takeback 1)
-takeback_of (b ∷ rest) = takeback_from (number_of 1200 (b ∷ rest))
+takeback_of (b ∷ rest) = takeback_from (number_of most_halves (b ∷ rest))
 
 example_one : takeback_of [] ≡ Ok (command.Takeback 1)
 example_one = refl

@@ -1,6 +1,7 @@
 -- Reading the terms of a game from left to right, word by word. The words are those of `TermWords`, and the law below
 -- says that what is read is what they spell.
 use Rattle.std.specs.Prelude.{◌≡◌, ◌↔◌, ℕ, bytes_eq, if◌then◌else◌, List, [], ◌∷◌, Option, Some, None, option_map, codes}
+use Rattle.chess_model.specs.Limits.{most_time}
 use Rattle.chess_model.specs.declared.man.Colour.{Colour}
 use Rattle.chess_model.specs.declared.man.Colour.TheVariants.{White, Black}
 use Rattle.chess_model.specs.declared.variant.Terms.{Terms}
@@ -30,7 +31,7 @@ abbrev pub leading_time : Time → Words → Time × Words
 leading_time usual [] = (usual, [])
 leading_time usual (word ∷ []) = (usual, word ∷ [])
 leading_time usual (minutes ∷ increment ∷ words) =
-    timed usual (number_of 600 minutes) (number_of 600 increment) (minutes ∷ increment ∷ words) words
+    timed usual (number_of most_time minutes) (number_of most_time increment) (minutes ∷ increment ∷ words) words
 
 -- the words behind `unrated`, if it stands first
 abbrev pub behind_unrated : Words → Words

@@ -2,6 +2,7 @@
 -- [MINUTES INCREMENT] [unrated] [VARIANT] [COLOUR]. What stands in brackets may be left out. VARIANT is `chess`,
 -- `crazyhouse`, `bughouse` or `fischer N`, N from 0 to 959.
 use Rattle.std.specs.Prelude.{◌≡◌, ◌⊎◌, ◌≤◌, List, [], ◌∷◌, ◌++◌, Option, Some, None, codes, decimal}
+use Rattle.chess_model.specs.Limits.{most_time}
 use Rattle.chess_model.specs.declared.man.Colour.{Colour}
 use Rattle.chess_model.specs.declared.man.Colour.TheVariants.{White, Black}
 use Rattle.chess_model.specs.declared.variant.Terms.{Terms}
@@ -24,7 +25,7 @@ OneOf (choice ∷ choices) words = (words ≡ choice) ⊎ OneOf choices words
 -- the usual one
 abbrev pub SpellsTime : Time → Words → Time → Type 0
 SpellsTime usual words time =
-    ((time.minutes ≤ 600) × (time.increment ≤ 600) × (words ≡ decimal time.minutes ∷ decimal time.increment ∷ []))
+    ((time.minutes ≤ most_time) × (time.increment ≤ most_time) × (words ≡ decimal time.minutes ∷ decimal time.increment ∷ []))
     ⊎ ((words ≡ []) × (time ≡ usual))
 
 -- no game is rated, so `unrated` says nothing, and may be left out

@@ -16,12 +16,9 @@ use crate::naming::named_by;
 use crate::rows::Takes;
 use crate::shapes::{named, nothing, numbered, on_channel, perhaps, saying};
 use chess_model::MoveWord;
-use fics_words::{Fail, Line, NoMemory, Refusal};
+use fics_words::{Fail, Line, MOST_LINE_BYTES, NoMemory, Refusal};
 use move_reader::read_word;
 use std::alloc::Global;
-
-/// The most bytes of a line.
-const MOST: usize = 1_023;
 
 /// Reads what a line asks for: its first word is replaced by its alias, once; a line that is one move word is a move;
 /// any other begins with the name, the short form or a prefix of the name of a command. Refuses, in this order, with
@@ -56,7 +53,7 @@ fn read_aliased(alloc: Global, alias: &Alias, text: &[u8]) -> Result<Command, Fa
 fn read_made(alloc: Global, made: &[u8]) -> Result<Command, Fail>
     ensures { Gives (command_made made.now) result }
 {
-    if made.len() > MOST {
+    if made.len() > MOST_LINE_BYTES {
         return Err(Fail::Refused(Refusal::TooLong));
     }
     read_text(alloc, trimmed(made))

@@ -7,10 +7,7 @@ ghost use Rattle.command_words.specs.TermReading.{array_named, asked_colour, beh
 
 use crate::blanks::cut_word;
 use crate::numbers::number_of;
-use chess_model::{Colour, Terms, Variant, read_variant};
-
-/// The most minutes at the start of a game, and the most seconds of increment.
-const MOST_TIME: u16 = 600;
+use chess_model::{Colour, MOST_TIME, Terms, Variant, read_variant};
 
 /// The greatest number of an array of Fischer random.
 const LAST_ARRAY: u16 = 959;

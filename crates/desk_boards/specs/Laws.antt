@@ -1,6 +1,7 @@
 -- What the definitions mean for whoever keeps, adjourns and resumes games.
-use Rattle.std.specs.Prelude.{◌≡◌, ℕ, ◌≤◌, ◌^◌, ◌↔◌, IsSome, IfSome, All, List, map, length, Option, Some, None, slice_get}
+use Rattle.std.specs.Prelude.{◌≡◌, ℕ, ◌≤◌, ◌↔◌, IsSome, IfSome, All, List, map, length, Option, Some, None, slice_get}
 use Rattle.std.specs.List.{AllByRecursion}
+use Rattle.clock_ledger.specs.Charges.{last_moment}
 use Rattle.chess_model.specs.declared.man.Colour.{Colour}
 use Rattle.chess_model.specs.declared.moves.MoveWord.{MoveWord}
 use Rattle.chess_model.specs.declared.variant.Terms.{Terms}
@@ -54,7 +55,7 @@ pub record AreReplayed : Type 0 where
 pub record BoardsStaySound : Type 0 where
   pub start : (t : Terms) (moment : ℕ) → AreSoundBoards t (new_boards t moment)
   pub play : (t : Terms) (boards : List Board) (place moment : ℕ) (c : Colour) (word : MoveWord) (stamp : Option ℕ) →
-      AreSoundBoards t boards → GoOn boards → latest boards ≤ moment → moment ≤ 2 ^ 48 → IfSome stamp IsStamp →
+      AreSoundBoards t boards → GoOn boards → latest boards ≤ moment → moment ≤ last_moment → IfSome stamp IsStamp →
       AreSoundBoards t (boards_after boards place moment stamp (word_at (slice_get boards place) c word))
   pub acked : (t : Terms) (boards : List Board) (place : ℕ) (c : Colour) (stamp : ℕ) → AreSoundBoards t boards →
       IsStamp stamp → AreSoundBoards t (boards_acked boards place c stamp)

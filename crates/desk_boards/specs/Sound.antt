@@ -3,7 +3,7 @@ use Rattle.std.specs.Prelude.{◌≡◌, ◌≤◌, All, List, [], ◌∷◌, ma
 use Rattle.std.specs.List.{AllByRecursion}
 use Rattle.chess_model.specs.declared.variant.Terms.{Terms}
 use Rattle.game_board.specs.Board.{Board, position_of}
-use Rattle.game_board.specs.Play.{most_played}
+use Rattle.chess_model.specs.Limits.{most_halves}
 use Rattle.game_board.specs.Scoresheet.{IsTrueScore}
 use Rattle.game_records.specs.Bounds.{IsHalf}
 use Rattle.game_records.specs.Replays.{CanBePlayed, GoesOn}
@@ -26,7 +26,7 @@ pub record AreSoundBoards (t : Terms) (boards : List Board) : Type 0 where
   -- each is played by these terms, its list is a true score, and it has no more half-moves than may be played on it
   pub terms : All (λ (b : Board). b.terms ≡ t) boards
   pub scores : All IsTrueScore boards
-  pub few : All (λ (b : Board). b.played ≤ most_played) boards
+  pub few : All (λ (b : Board). b.played ≤ most_halves) boards
   -- those of a pair have one list of the half-moves of both, by which men come from one board to the other
   pub together : AreSame (map (λ (b : Board). b.all) boards)
   -- a record can have each half-move with its charge, and they can be played again: each was allowed, none came after

@@ -1,7 +1,8 @@
 //! The boards of a game.
-ghost use Rattle.std.specs.Prelude.{◌≡◌, ◌<◌, ◌≤◌, ◌^◌, [], ◌∷◌, IfOk, IfSome, IsTrue, OnErr, length, slice_get};
+ghost use Rattle.std.specs.Prelude.{◌≡◌, ◌<◌, ◌≤◌, [], ◌∷◌, IfOk, IfSome, IsTrue, OnErr, length, slice_get};
 ghost use Rattle.std.specs.Option.{option_copied, option_to_list};
-ghost use Rattle.clock_ledger.specs.Charges.{IsChargeable};
+ghost use Rattle.chess_model.specs.Limits.{most_halves};
+ghost use Rattle.clock_ledger.specs.Charges.{IsChargeable, last_moment};
 ghost use Rattle.clock_ledger.specs.Span.{IsStamp};
 ghost use Rattle.fics_words.specs.Effect.{first_cause, refusal_of, refused_by};
 ghost use Rattle.game_board.specs.Board.{new_board};
@@ -41,7 +42,7 @@ impl Model for Boards {
 impl Boards {
     /// The boards at the start of a game: as many as the variant wants.
     pub fn start(alloc: Global, terms: Terms, moment: u64) -> Result<Boards, NoMemory>
-        requires { moment ≤ 2 ^ 48 }
+        requires { moment ≤ last_moment }
         ensures boards { IfOk result (λ boards. boards ≡ new_boards terms moment) }
         ensures order { IfOk result (λ boards. latest boards ≤ moment) }
     {
@@ -117,7 +118,7 @@ impl Boards {
         stamp: Option<u32>,
     ) -> Result<Option<Man>, Refusal>
         requires order { latest self.old ≤ moment }
-        requires moment { moment ≤ 2 ^ 48 }
+        requires moment { moment ≤ last_moment }
         requires stamp { IfSome stamp IsStamp }
         ensures refused { first_cause (refused_by (word_at (slice_get self.old place) colour word.now))
             ≡ refusal_of result }
@@ -145,7 +146,7 @@ impl Boards {
     /// it. Takes no memory.
     pub(crate) fn put(&mut self, place: u8, half: &Played)
         requires takes { IsTrue (own_takes (slice_get self.old place) half.now) }
-        requires short { IfSome (slice_get self.old place) (λ b. length b.list < 1200) }
+        requires short { IfSome (slice_get self.old place) (λ b. length b.list < most_halves) }
         requires sound { IfSome half.now.charge IsChargeable }
         ensures after { self.new ≡ boards_put self.old place half.now }
     {
@@ -190,7 +191,7 @@ impl Boards {
     /// Takes the last `n` half-moves of the first board back, unless it is one of a pair.
     pub fn take_back(&mut self, n: u16, moment: u64)
         requires order { latest self.old ≤ moment }
-        requires moment { moment ≤ 2 ^ 48 }
+        requires moment { moment ≤ last_moment }
         ensures after { self.new ≡ boards_taken_back self.old n moment }
         ensures order { latest self.new ≤ moment }
     {
@@ -211,7 +212,7 @@ impl Boards {
     /// What the flag that a colour calls at the board in that place brings.
     pub fn flag(&self, place: u8, caller: Colour, moment: u64) -> Result<Option<Colour>, Refusal>
         requires order { latest self.now ≤ moment }
-        requires moment { moment ≤ 2 ^ 48 }
+        requires moment { moment ≤ last_moment }
         ensures { result ≡ flag_at (slice_get self.now place) caller moment }
     {
         match place {

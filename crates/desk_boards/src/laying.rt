@@ -1,5 +1,6 @@
 //! Going through a game that was played: back to its start, and from there half-move by half-move.
 ghost use Rattle.std.specs.Prelude.{◌≡◌, ◌<◌, IfSome, IsSome, length, map, slice_get};
+ghost use Rattle.chess_model.specs.Limits.{most_halves};
 ghost use Rattle.chess_model.specs.Allowed.{Allowed};
 ghost use Rattle.clock_ledger.specs.Charges.{IsChargeable};
 ghost use Rattle.game_board.specs.Board.{position_of};
@@ -27,8 +28,8 @@ impl Boards {
     pub fn lay(&mut self, place: u8, half: &Played)
         requires board { IsSome (slice_get self.old place) }
         requires allowed { IfSome (slice_get self.old place) (λ b. Allowed (position_of b) half.now.what) }
-        requires room { IfSome (slice_get self.old place) (λ b. b.played < 1200) }
-        requires short { IfSome (slice_get self.old place) (λ b. length b.list < 1200) }
+        requires room { IfSome (slice_get self.old place) (λ b. b.played < most_halves) }
+        requires short { IfSome (slice_get self.old place) (λ b. length b.list < most_halves) }
         requires sound { IfSome half.now.charge IsChargeable }
         ensures after { self.new ≡ boards_put self.old place half.now }
     {

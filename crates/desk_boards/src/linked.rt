@@ -1,7 +1,8 @@
 //! A half-move at one board of a pair, of which the other one learns.
-ghost use Rattle.std.specs.Prelude.{◌≡◌, ◌<◌, ◌≤◌, ◌^◌, IfSome, OnErr, length};
+ghost use Rattle.std.specs.Prelude.{◌≡◌, ◌<◌, ◌≤◌, IfSome, OnErr, length};
+ghost use Rattle.chess_model.specs.Limits.{most_halves};
 ghost use Rattle.chess_model.specs.Allowed.{Allowed};
-ghost use Rattle.clock_ledger.specs.Charges.{IsChargeable};
+ghost use Rattle.clock_ledger.specs.Charges.{IsChargeable, last_moment};
 ghost use Rattle.clock_ledger.specs.Span.{IsStamp};
 ghost use Rattle.game_board.specs.Board.{position_of};
 ghost use Rattle.game_board.specs.Learn.{learnt};
@@ -27,7 +28,7 @@ pub(crate) fn play_linked(
 ) -> Result<Option<Man>, Refusal>
     requires linked { AreLinked own.old other.old }
     requires order { own.old.begin ≤ moment }
-    requires moment { moment ≤ 2 ^ 48 }
+    requires moment { moment ≤ last_moment }
     requires stamp { IfSome stamp IsStamp }
     ensures reply { result ≡ play_reply own.old (move_answer own.old colour word.now) }
     ensures own { own.new ≡ play_after own.old moment stamp (move_answer own.old colour word.now) }
@@ -49,8 +50,8 @@ pub(crate) fn play_linked(
 pub(crate) fn lay_linked(own: &mut GameBoard, other: &mut GameBoard, half: &Played)
     requires linked { AreLinked own.old other.old }
     requires allowed { Allowed (position_of own.old) half.now.what }
-    requires room { own.old.played < 1200 }
-    requires short { length own.old.list < 1200 }
+    requires room { own.old.played < most_halves }
+    requires short { length own.old.list < most_halves }
     requires sound { IfSome half.now.charge IsChargeable }
     ensures own { own.new ≡ with_put own.old half.now }
     ensures other { other.new ≡ learnt other.old half.now.what }

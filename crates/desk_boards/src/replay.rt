@@ -1,6 +1,8 @@
 //! Games that are played again.
-ghost use Rattle.std.specs.Prelude.{◌≡◌, ◌<◌, ◌≤◌, ◌^◌, IfOk, IfSome, IsTrue, length};
+ghost use Rattle.std.specs.Prelude.{◌≡◌, ◌<◌, ◌≤◌, IfOk, IfSome, IsTrue, length};
 ghost use Rattle.std.specs.List.{AllByRecursion};
+ghost use Rattle.chess_model.specs.Limits.{most_halves};
+ghost use Rattle.clock_ledger.specs.Charges.{last_moment};
 ghost use Rattle.game_records.specs.Bounds.{IsCharge};
 ghost use Rattle.desk_boards.specs.Boards.{numbered};
 ghost use Rattle.desk_boards.specs.Halves.{played_of};
@@ -24,7 +26,7 @@ impl Boards {
         halves: &[PackedHalf],
         moment: u64,
     ) -> Result<Option<Boards>, NoMemory>
-        requires moment { moment ≤ 2 ^ 48 }
+        requires moment { moment ≤ last_moment }
         requires charges { AllByRecursion (λ h. IsCharge h.charge) halves.now }
         ensures { IfOk result (λ boards. boards ≡ replayed terms halves.now moment) }
     {
@@ -42,7 +44,7 @@ impl Boards {
     /// Whether the boards take a half-move with the charge that it has.
     fn takes(&self, half: &Half) -> bool
         ensures value { result ≡ takes_half self.now half.now }
-        ensures short { IsTrue result → IfSome (numbered half.now.board self.now) (λ b. length b.list < 1200) }
+        ensures short { IsTrue result → IfSome (numbered half.now.board self.now) (λ b. length b.list < most_halves) }
     {
         let Some(own) = self.numbered(half.board) else {
             return false;

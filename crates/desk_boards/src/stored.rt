@@ -1,6 +1,7 @@
 //! Stored games that replay.
-ghost use Rattle.std.specs.Prelude.{◌≡◌, ◌≤◌, ◌^◌, ◌↔◌, map, bytes_eq, IfOk, IfSome, IsSome, IsTrue, Some};
+ghost use Rattle.std.specs.Prelude.{◌≡◌, ◌≤◌, ◌↔◌, map, bytes_eq, IfOk, IfSome, IsSome, IsTrue, Some};
 ghost use Rattle.std.specs.List.{IsDistinct, list_any};
+ghost use Rattle.clock_ledger.specs.Charges.{last_moment};
 ghost use Rattle.fics_words.specs.Handle.{key_of};
 ghost use Rattle.game_records.specs.Replays.{AreFour, Replays};
 ghost use Rattle.desk_boards.specs.Replaying.{replayed};
@@ -27,7 +28,7 @@ impl Boards {
         game: &StoredGame,
         moment: u64,
     ) -> Result<Option<Boards>, NoMemory>
-        requires { moment ≤ 2 ^ 48 }
+        requires { moment ≤ last_moment }
         ensures replays { IfOk result (λ boards. IsSome boards ↔ Replays game.now) }
         ensures boards { IfOk result (λ found. IfSome found (λ boards.
             replayed game.now.terms game.now.halves moment ≡ Some boards)) }

@@ -3,6 +3,7 @@
 -- that 1,200 half-moves are the most on a board, is this server's own.
 use Rattle.std.specs.Prelude.{◌≡◌, ℕ, ◌<◌, List, [], ◌∷◌, ◌++◌, map, None, Some, slice_get}
 use Rattle.std.specs.declared.option.Option.{Option}
+use Rattle.chess_model.specs.Limits.{most_halves}
 use Rattle.chess_model.specs.declared.moves.Move.{Move}
 use Rattle.chess_model.specs.declared.moves.MoveWord.{MoveWord}
 use Rattle.chess_model.specs.Allowed.{Allowed, IsLegal}
@@ -31,7 +32,7 @@ pub record IsToMove (game : GameState) (session : ℕ) (b : Board) : Type 0 wher
   pub board : slice_get game.boards (place_of seat) ≡ Some b
   pub turn : to_move b ≡ colour_at seat
   pub runs : game.ended ≡ None
-  pub room : b.played < 1200
+  pub room : b.played < most_halves
 
 -- the act by which a session plays a word in this game at a desk, with its client's stamp if there is one
 abbrev pub playing : ℕ → GameState → MoveWord → Option ℕ → ℕ → Timed

@@ -1,6 +1,7 @@
 -- Half-moves that can be laid on the boards of a game one after another. Unlike those of a stored game they may go on
 -- without the charges that belong to them, as where somebody tries out another half-move.
 use Rattle.std.specs.Prelude.{◌≡◌, ℕ, ◌<◌, ◌≤◌, List, length, take, Some, slice_get}
+use Rattle.chess_model.specs.Limits.{most_halves}
 use Rattle.chess_model.specs.declared.variant.Terms.{Terms}
 use Rattle.chess_model.specs.Allowed.{Allowed}
 use Rattle.game_records.specs.declared.stored_game.Half.{Half}
@@ -14,7 +15,7 @@ pub record MayLie (t : Terms) (before : List Half) (h : Half) : Type 0 where
   pub first : 1 ≤ h.board
   pub last : h.board ≤ boards t.variant
   pub allowed : Allowed (position_on t.variant before h.board) h.what
-  pub room : length (list_on h.board before) < 1200
+  pub room : length (list_on h.board before) < most_halves
   pub charge : IsCharge h.charge
 
 -- each may be laid behind those before it

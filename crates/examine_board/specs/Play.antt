@@ -12,7 +12,7 @@ use Rattle.fics_words.specs.Effect.{first_cause}
 use Rattle.fics_words.specs.declared.refusal.Refusal.{Refusal}
 use Rattle.fics_words.specs.declared.refusal.Refusal.TheVariants.{NotInVariant, GameOver, TooManyMoves}
 use Rattle.game_board.specs.Causes.{in_words}
-use Rattle.game_board.specs.Play.{most_played}
+use Rattle.chess_model.specs.Limits.{most_halves}
 use Rattle.game_records.specs.declared.stored_game.Half.{Half}
 use Rattle.game_records.specs.Replays.{position_on}
 use Rattle.examine_board.specs.Exam.{ExamState, present}
@@ -34,7 +34,7 @@ abbrev pub play_refused : ExamState → Option Refusal
 play_refused e =
     first_cause
     ((is_pair e.terms.variant, NotInVariant) ∷ (is_end (result (position e)), GameOver)
-    ∷ (e.place == most_played, TooManyMoves) ∷ [])
+    ∷ (e.place == most_halves, TooManyMoves) ∷ [])
 
 -- the half-move that a word stands for, or the refusal
 unfoldable pub play_answer : ExamState → MoveWord → Result Move Refusal

@@ -4,7 +4,7 @@ ghost use Rattle.game_records.specs.Replays.{Replays};
 ghost use Rattle.examine_board.specs.Exam.{opened};
 ghost use Rattle.examine_board.specs.Laid.{MayLie};
 
-use chess_model::Terms;
+use chess_model::{MOST_HALVES, Terms};
 use collections::{Listed, Roomy};
 use desk_boards::{Boards, replays};
 use fics_words::{Handle, NoMemory};
@@ -21,7 +21,7 @@ pub struct Exam {
     /// How many half-moves of the stored game are looked at, the first ones; those of `branch` follow them.
     pub(crate) shared: usize,
     /// The half-moves that were played here, which are all on one board.
-    pub(crate) branch: Roomy<Half, 1200>,
+    pub(crate) branch: Roomy<Half, MOST_HALVES>,
     /// How many half-moves are on the boards.
     pub(crate) place: usize,
     pub(crate) boards: Boards,

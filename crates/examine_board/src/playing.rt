@@ -1,5 +1,6 @@
 //! Half-moves that are played on from where the exam is.
 ghost use Rattle.std.specs.Prelude.{◌≡◌, ◌∷◌, ◌++◌, [], ◌<◌, IfOk, OnOk, length};
+ghost use Rattle.chess_model.specs.Limits.{most_halves};
 ghost use Rattle.examine_board.specs.Answers.{answer, left_by};
 ghost use Rattle.examine_board.specs.Exam.{present};
 ghost use Rattle.examine_board.specs.Laid.{MayLie};
@@ -27,7 +28,7 @@ impl Exam {
     fn resolve(&self, word: &MoveWord) -> Result<Move, Refusal>
         ensures answer { result ≡ play_answer self.now word.now }
         ensures lies { IfOk result (λ what. MayLie self.now.terms (present self.now) (uncharged what)) }
-        ensures room { OnOk result (self.now.place < 1200) }
+        ensures room { OnOk result (self.now.place < most_halves) }
     {
         if is_pair(self.terms.variant) {
             return Err(Refusal::NotInVariant);
@@ -42,7 +43,7 @@ impl Exam {
     /// Plays a half-move that may be laid behind those on the boards.
     fn add(&mut self, what: Move)
         requires lies { MayLie self.old.terms (present self.old) (uncharged what) }
-        requires room { self.old.place < 1200 }
+        requires room { self.old.place < most_halves }
         ensures { self.new ≡ with_move self.old what }
     {
         self.cut();
@@ -66,7 +67,7 @@ impl Exam {
     /// Looks at one half-move more, behind the others.
     fn push(&mut self, what: Move)
         requires lies { MayLie self.old.terms self.old.list (uncharged what) }
-        requires room { length self.old.list < 1200 }
+        requires room { length self.old.list < most_halves }
         ensures { self.new ≡ record self.old { list = self.old.list ++ uncharged what ∷ [] } }
     {
         self.branch.push(Half {

@@ -5,6 +5,10 @@ use Rattle.std.specs.Prelude.{ℕ, ◌≤◌, List, length, All}
 abbrev pub IsPrintable : ℕ → Type 0
 IsPrintable byte = (0x20 ≤ byte) × (byte ≤ 0x7E)
 
+-- the most bytes that a line has
+abbrev pub most_line_bytes : ℕ
+most_line_bytes = 1023
+
 -- a line is at most 1,023 such bytes
 abbrev pub IsLine : List ℕ → Type 0
-IsLine bytes = (length bytes ≤ 1023) × All IsPrintable bytes
+IsLine bytes = (length bytes ≤ most_line_bytes) × All IsPrintable bytes

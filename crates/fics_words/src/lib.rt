@@ -19,7 +19,7 @@ mod seats;
 pub use account::{Account, Digest};
 pub use fail::Fail;
 pub use handle::{Handle, HandleKey};
-pub use line::Line;
+pub use line::{Line, MOST_LINE_BYTES};
 pub use lines::Lines;
 pub use memory::{Duplicate, NoMemory};
 pub use number::{read_number, write_number};

@@ -10,7 +10,7 @@ use std::alloc::Global;
 use std::marker::Model;
 
 /// The most bytes that a line has.
-const MOST_BYTES: usize = 1_023;
+pub const MOST_LINE_BYTES: usize = 1_023;
 
 /// A line: at most 1,023 bytes, each from 0x20 to 0x7E. Contracts see the list of its bytes.
 #[derive(Debug, Drop)]
@@ -34,7 +34,7 @@ impl Line {
     pub fn read(alloc: Global, bytes: &[u8]) -> Result<Option<Line>, NoMemory>
         ensures { IfOk result (λ read. SomeIff read (IsLine bytes.now) bytes.now) }
     {
-        if bytes.len() > MOST_BYTES || !bytes.iter().all(|byte| is_printable(*byte)) {
+        if bytes.len() > MOST_LINE_BYTES || !bytes.iter().all(|byte| is_printable(*byte)) {
             return Ok(None);
         }
         Ok(Some(Line {

@@ -1,6 +1,7 @@
 -- What the fields of every board keep: the position, the clocks and what is kept of each half-move follow the list.
-use Rattle.std.specs.Prelude.{◌≡◌, ◌≢◌, ◌+◌, ◌-◌, ◌≤◌, ◌^◌, length, map, IfSome, All, slice_get}
+use Rattle.std.specs.Prelude.{◌≡◌, ◌≢◌, ◌+◌, ◌-◌, ◌≤◌, length, map, IfSome, All, slice_get}
 use Rattle.std.specs.Option.{option_map}
+use Rattle.chess_model.specs.Limits.{most_halves}
 use Rattle.chess_model.specs.declared.man.Colour.TheVariants.{White, Black}
 use Rattle.chess_model.specs.declared.variant.Variant.TheVariants.{Bughouse}
 use Rattle.chess_model.specs.MoveList.{moves_of}
@@ -9,7 +10,7 @@ use Rattle.chess_model.specs.Allowed.{IsLegal}
 use Rattle.game_board.specs.declared.game_board.GameBoard.TheInside.{Inside}
 use Rattle.game_board.specs.Board.{half_moves, made}
 use Rattle.game_board.specs.BoardFace.{last_shown}
-use Rattle.clock_ledger.specs.Charges.{IsChargeable}
+use Rattle.clock_ledger.specs.Charges.{IsChargeable, last_moment}
 use Rattle.clock_ledger.specs.Span.{IsStamp}
 use Rattle.game_board.specs.Charges.{clock_of}
 use Rattle.game_board.specs.Steps.{AreSteps}
@@ -24,7 +25,7 @@ pub record HoldsBoard (g : Inside) : Type 0 where
   -- the list has those of this board, and but in bughouse there are no others
   pub own : moves_of g.number (made g.all) ≡ map (λ p. p.what) g.list
   pub alone : g.terms.variant ≢ Bughouse → made g.all ≡ half_moves g.number g.list
-  pub others : length g.all ≤ length g.list + 1200
+  pub others : length g.all ≤ length g.list + most_halves
   -- the clocks have the charges of the list
   pub white : g.white ≡ clock_of g.terms White g.list
   pub black : g.black ≡ clock_of g.terms Black g.list
@@ -36,6 +37,6 @@ pub record HoldsBoard (g : Inside) : Type 0 where
   -- half-moves are taken back where the board is the only one
   pub steps : g.terms.variant ≢ Bughouse → AreSteps g.terms.variant g.number g.list g.steps
   pub counted : length g.list ≤ g.played
-  pub most : g.played ≤ 1200
+  pub most : g.played ≤ most_halves
   pub resumed : g.resumed ≤ length g.list
-  pub moment : g.begin ≤ 2 ^ 48
+  pub moment : g.begin ≤ last_moment

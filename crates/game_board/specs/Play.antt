@@ -1,6 +1,7 @@
 -- What a move word does to a board.
 use Rattle.std.specs.Prelude.{ℕ, ◌+◌, ◌==◌, ◌&&◌, not, if◌then◌else◌, [], ◌∷◌, ◌++◌, Option, Some, None, Result, Ok, Err}
 use Rattle.std.specs.Option.{option_map_or, option_zip}
+use Rattle.chess_model.specs.Limits.{most_halves}
 use Rattle.chess_model.specs.declared.man.Colour.{Colour}
 use Rattle.chess_model.specs.declared.man.Man.{Man}
 use Rattle.chess_model.specs.declared.moves.Move.{Move}
@@ -16,14 +17,10 @@ use Rattle.game_board.specs.Causes.{in_words}
 use Rattle.game_board.specs.Charges.{is_timed}
 use Rattle.chess_model.specs.WordAnswer.{word_answer}
 
--- how many half-moves may be played on a board
-abbrev pub most_played : ℕ
-most_played = 1200
-
 -- why a colour may make no half-move now
 abbrev pub move_refused : Board → Colour → Option Refusal
 move_refused b c =
-    first_cause ((not (same_colour c (to_move b)), NotYourTurn) ∷ (b.played == most_played, TooManyMoves) ∷ [])
+    first_cause ((not (same_colour c (to_move b)), NotYourTurn) ∷ (b.played == most_halves, TooManyMoves) ∷ [])
 
 -- the half-move that a word of a colour stands for now, or the refusal: what refuses the colour comes before the
 -- rules' answer

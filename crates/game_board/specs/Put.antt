@@ -7,7 +7,7 @@ use Rattle.variant_rules.specs.States.{state_in}
 use Rattle.game_board.specs.declared.played.Played.{Played}
 use Rattle.game_board.specs.Board.{Board, half_move, to_move, position_of, has_moved}
 use Rattle.game_board.specs.Charges.{is_timed}
-use Rattle.game_board.specs.Play.{most_played}
+use Rattle.chess_model.specs.Limits.{most_halves}
 
 -- whether the next half-move is charged: the game is timed, and it isn't the first one of its colour
 abbrev pub is_next_charged : Board → Bool
@@ -18,7 +18,7 @@ is_next_charged b = is_timed b.terms && has_moved (to_move b) b.list
 -- exactly where one belongs
 unfoldable pub takes_played : Board → Played → Bool
 takes_played b p =
-    not (is_end (state_in (position_of b))) && nat_lt b.played most_played && is_allowed (position_of b) p.what
+    not (is_end (state_in (position_of b))) && nat_lt b.played most_halves && is_allowed (position_of b) p.what
     && beq (is_some p.charge) (is_next_charged b)
 
 -- the board with one half-move more, since when nobody has acknowledged it

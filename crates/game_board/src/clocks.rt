@@ -6,7 +6,7 @@ ghost use Rattle.game_board.specs.Charges.{charge_to};
 ghost use Rattle.game_board.specs.TakeBack.{without_end};
 
 use chess_model::Colour;
-use clock_ledger::{Charge, ClockLedger};
+use clock_ledger::{Charge, ClockLedger, MAX_CHARGES};
 
 /// Records a charge on the clock of the colour that moved, where there is one.
 pub(crate) fn charge_clocks(
@@ -15,8 +15,8 @@ pub(crate) fn charge_clocks(
     mover: Colour,
     charge: Option<Charge>,
 )
-    requires white_room { mover ≡ Colour.White → length white.old.charges < 600 }
-    requires black_room { mover ≡ Colour.Black → length black.old.charges < 600 }
+    requires white_room { mover ≡ Colour.White → length white.old.charges < MAX_CHARGES }
+    requires black_room { mover ≡ Colour.Black → length black.old.charges < MAX_CHARGES }
     requires sound { IfSome charge IsChargeable }
     ensures white { white.new ≡ record white.old
         { charges = white.old.charges ++ charge_to Colour.White mover charge } }
@@ -31,7 +31,7 @@ pub(crate) fn charge_clocks(
 
 /// Records a charge, where there is one.
 fn charge_clock(clock: &mut ClockLedger, charge: Option<Charge>)
-    requires room { length clock.old.charges < 600 }
+    requires room { length clock.old.charges < MAX_CHARGES }
     requires sound { IfSome charge IsChargeable }
     ensures { clock.new ≡ record clock.old { charges = clock.old.charges ++ option_to_list charge } }
 {

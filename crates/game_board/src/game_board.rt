@@ -1,7 +1,8 @@
 //! A game on one board with its clocks: playing, taking back, ending.
-ghost use Rattle.std.specs.Prelude.{◌≡◌, ◌≢◌, Option, ◌<◌, ◌≤◌, ◌^◌, IfOk, OnOk, OnErr, IfSome, length, option_and_then};
+ghost use Rattle.std.specs.Prelude.{◌≡◌, ◌≢◌, Option, ◌<◌, ◌≤◌, IfOk, OnOk, OnErr, IfSome, length, option_and_then};
+ghost use Rattle.chess_model.specs.Limits.{most_halves};
 ghost use Rattle.clock_ledger.specs.declared.charges.Charge.{Charge};
-ghost use Rattle.clock_ledger.specs.Charges.{IsChargeable};
+ghost use Rattle.clock_ledger.specs.Charges.{IsChargeable, last_moment};
 ghost use Rattle.clock_ledger.specs.Span.{IsStamp};
 ghost use Rattle.chess_model.specs.Holdings.{same_colour};
 ghost use Rattle.game_board.specs.Flag.{is_bare, has_only_king};
@@ -11,7 +12,9 @@ ghost use Rattle.variant_rules.specs.States.{state_in};
 use crate::board_face::face;
 use crate::causes::answer_of;
 use crate::played::{Made, Played, Step};
-use chess_model::{Colour, Face, Kind, Man, Move, MoveWord, Shown, State, Terms, Variant};
+use chess_model::{
+    Colour, Face, Kind, MOST_HALVES, Man, Move, MoveWord, Shown, State, Terms, Variant,
+};
 use clock_ledger::{Charge, ClockLedger};
 use collections::Roomy;
 use fics_words::Refusal;
@@ -20,9 +23,6 @@ use std::alloc::Global;
 use std::marker::Model;
 use variant_rules::Position;
 
-/// How many half-moves may be played on one board.
-pub const MOST_PLAYED: u16 = 1200;
-
 /// A game on one board with its clocks, from the start.
 #[derive(Drop)]
 pub struct GameBoard {
@@ -30,9 +30,9 @@ pub struct GameBoard {
     pub(crate) number: u8,
     pub(crate) terms: Terms,
     pub(crate) position: Position,
-    pub(crate) list: Roomy<Played, 1200>,
+    pub(crate) list: Roomy<Played, MOST_HALVES>,
     /// For each half-move of the list, what takes it back and what a printed board shows of it.
-    pub(crate) steps: Roomy<Step, 1200>,
+    pub(crate) steps: Roomy<Step, MOST_HALVES>,
     pub(crate) white: ClockLedger,
     pub(crate) black: ClockLedger,
     pub(crate) begin: u64,
@@ -84,7 +84,7 @@ impl GameBoard {
     ) -> Result<GameBoard, NoMemory>
         requires first { 1 ≤ number }
         requires last { number ≤ 2 }
-        requires moment { moment ≤ 2 ^ 48 }
+        requires moment { moment ≤ last_moment }
         ensures { IfOk result (λ b. b ≡ new_board number terms moment) }
     {
         Ok(GameBoard {
@@ -147,7 +147,7 @@ impl GameBoard {
     /// How many half-moves were played on the board.
     pub fn played(&self) -> u16
         ensures value { result ≡ self.now.played }
-        ensures most { self.now.played ≤ 1200 }
+        ensures most { self.now.played ≤ most_halves }
     {
         self.played
     }
@@ -163,7 +163,7 @@ impl GameBoard {
     /// The moment, in milliseconds, from which the player to move is thinking.
     pub fn begin(&self) -> u64
         ensures value { result ≡ self.now.begin }
-        ensures most { self.now.begin ≤ 2 ^ 48 }
+        ensures most { self.now.begin ≤ last_moment }
     {
         self.begin
     }
@@ -273,13 +273,13 @@ impl GameBoard {
     pub fn resolve(&self, colour: Colour, word: &MoveWord) -> Result<Move, Refusal>
         ensures answer { result ≡ move_answer self.now colour word.now }
         ensures allowed { IfOk result (Allowed (position_of self.now)) }
-        ensures room { OnOk result (self.now.played < 1200) }
-        ensures short { OnOk result (length self.now.list < 1200) }
+        ensures room { OnOk result (self.now.played < most_halves) }
+        ensures short { OnOk result (length self.now.list < most_halves) }
     {
         if !self.is_to_move(colour) {
             return Err(Refusal::NotYourTurn);
         }
-        if self.played == MOST_PLAYED {
+        if usize::from(self.played) == MOST_HALVES {
             return Err(Refusal::TooManyMoves);
         }
         answer_of(self.position(), word)
@@ -289,9 +289,9 @@ impl GameBoard {
     /// that its word stands for, and gives the man that it captures.
     pub fn make(&mut self, what: &Move, moment: u64, stamp: Option<u32>) -> Option<Man>
         requires allowed { Allowed (position_of self.old) what.now }
-        requires room { self.old.played < 1200 }
+        requires room { self.old.played < most_halves }
         requires order { self.old.begin ≤ moment }
-        requires moment { moment ≤ 2 ^ 48 }
+        requires moment { moment ≤ last_moment }
         requires stamp { IfSome stamp IsStamp }
         ensures captured { result ≡ captured self.old what.now }
         ensures after { self.new ≡ with_half_move self.old what.now moment stamp }
@@ -317,7 +317,7 @@ impl GameBoard {
         stamp: Option<u32>,
     ) -> Result<Option<Man>, Refusal>
         requires order { self.old.begin ≤ moment }
-        requires moment { moment ≤ 2 ^ 48 }
+        requires moment { moment ≤ last_moment }
         requires stamp { IfSome stamp IsStamp }
         ensures reply { result ≡ play_reply self.old (move_answer self.old colour word.now) }
         ensures after { self.new ≡ play_after self.old moment stamp (move_answer self.old colour word.now) }
@@ -343,7 +343,7 @@ impl GameBoard {
     #[tactic(auto, unfolding(crate::specs::Flag::flag_answer))]
     pub fn flag(&self, caller: Colour, moment: u64) -> Result<Option<Colour>, Refusal>
         requires order { self.now.begin ≤ moment }
-        requires moment { moment ≤ 2 ^ 48 }
+        requires moment { moment ≤ last_moment }
         ensures { result ≡ flag_answer self.now caller moment }
     {
         if !self.has_fallen(caller.opposite(), moment) {
@@ -371,7 +371,7 @@ impl GameBoard {
     /// Whether a colour's clock has fallen.
     fn has_fallen(&self, colour: Colour, moment: u64) -> bool
         requires order { self.now.begin ≤ moment }
-        requires moment { moment ≤ 2 ^ 48 }
+        requires moment { moment ≤ last_moment }
         ensures { result ≡ has_fallen self.now colour moment }
     {
         if !self.is_timed() {
@@ -383,7 +383,7 @@ impl GameBoard {
     /// Whether the caller of a flag can't win by it.
     fn cannot_win(&self, caller: Colour, moment: u64) -> bool
         requires order { self.now.begin ≤ moment }
-        requires moment { moment ≤ 2 ^ 48 }
+        requires moment { moment ≤ last_moment }
         ensures { result ≡ cannot_win self.now caller moment }
     {
         if self.has_fallen(caller, moment) {

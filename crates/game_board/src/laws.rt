@@ -1,6 +1,7 @@
 //! What the definitions mean for players, as calls that do nothing: what each ensures is the law.
 ghost use Rattle.std.specs.Prelude.{◌≡◌, ◌≢◌, ℕ, ◌+◌, ◌<◌, ◌≤◌, ◌++◌, ◌∷◌, [], ◌↔◌, List, Ok, Err, Option, None, Some, IfSome, IsTrue, slice_get};
 ghost use Rattle.std.specs.Option.{option_to_list};
+ghost use Rattle.chess_model.specs.Limits.{most_halves};
 ghost use Rattle.chess_model.specs.declared.man.Colour.{Colour};
 ghost use Rattle.chess_model.specs.declared.moves.Move.{Move};
 ghost use Rattle.chess_model.specs.declared.moves.MoveWord.{MoveWord};
@@ -40,10 +41,10 @@ pub fn charges_follow_the_list(list: &[Played], next: &Played)
 /// A board with room takes from the colour to move exactly the words that have an answer by the rules, and takes
 /// nothing from the other colour.
 pub fn play_takes_exactly_the_answers(board: &GameBoard, colour: Colour, word: &MoveWord)
-    ensures own { to_move board.now ≡ colour → board.now.played < 1200 →
+    ensures own { to_move board.now ≡ colour → board.now.played < most_halves →
         (m : Move) → (move_answer board.now colour word.now ≡ Ok m) ↔ IsAnswer (position_of board.now) word.now m }
     ensures other { to_move board.now ≢ colour → move_answer board.now colour word.now ≡ Err Refusal.NotYourTurn }
-    ensures full { to_move board.now ≡ colour → board.now.played ≡ 1200 → move_answer board.now colour word.now
+    ensures full { to_move board.now ≡ colour → board.now.played ≡ most_halves → move_answer board.now colour word.now
         ≡ Err Refusal.TooManyMoves }
 {}
 

@@ -1,5 +1,6 @@
 //! Half-moves that are laid on a board as they are, as where a game that was played is looked at again.
 ghost use Rattle.std.specs.Prelude.{◌≡◌, ◌<◌, IfSome};
+ghost use Rattle.chess_model.specs.Limits.{most_halves};
 ghost use Rattle.chess_model.specs.Allowed.{Allowed};
 ghost use Rattle.clock_ledger.specs.Charges.{IsChargeable};
 ghost use Rattle.game_board.specs.Board.{position_of};
@@ -16,7 +17,7 @@ impl GameBoard {
     /// belongs there isn't asked, so a half-move that is only tried out may have none. Takes no memory.
     pub fn lay(&mut self, half: Played) -> Option<Man>
         requires allowed { Allowed (position_of self.old) half.what }
-        requires room { self.old.played < 1200 }
+        requires room { self.old.played < most_halves }
         requires sound { IfSome half.charge IsChargeable }
         ensures captured { result ≡ captured self.old half.what }
         ensures after { self.new ≡ with_put self.old half }

@@ -1,5 +1,6 @@
 //! What a board learns of the other one of a pair.
 ghost use Rattle.std.specs.Prelude.{◌≡◌, ◌≢◌, ◌+◌, ◌<◌, IfSome, length};
+ghost use Rattle.chess_model.specs.Limits.{most_halves};
 ghost use Rattle.chess_model.specs.Allowed.{Allowed};
 ghost use Rattle.chess_model.specs.Holdings.{count_in, handed_kind};
 ghost use Rattle.chess_model.specs.Position.{hand_of_side};
@@ -17,7 +18,7 @@ impl GameBoard {
         requires variant { self.old.terms.variant ≡ Variant.Bughouse }
         requires allowed { Allowed (partner_position self.old) what }
         requires captured { man ≡ captured_there self.old what }
-        requires room { length self.old.all < length self.old.list + 1200 }
+        requires room { length self.old.all < length self.old.list + most_halves }
         ensures { self.new ≡ learnt self.old what }
     {
         give(&mut self.position, man);

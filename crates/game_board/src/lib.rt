@@ -24,7 +24,7 @@ mod take_back;
 
 pub use board_face::face;
 pub use clock_ledger::{Charge, ClockLedger};
-pub use game_board::{GameBoard, MOST_PLAYED};
+pub use game_board::GameBoard;
 pub use laws::{
     a_fallen_clock_stays_fallen, charges_follow_the_list, play_takes_exactly_the_answers,
     scores_are_true, the_last_acknowledgement_counts, the_last_own_half_move_is_shown,

@@ -1,5 +1,6 @@
 //! Half-moves that come to a board with the charges that they have.
 ghost use Rattle.std.specs.Prelude.{◌≡◌, ◌<◌, IsTrue, IfSome, Ok, length};
+ghost use Rattle.chess_model.specs.Limits.{most_halves};
 ghost use Rattle.chess_model.specs.Allowed.{Allowed};
 ghost use Rattle.clock_ledger.specs.Charges.{IsChargeable};
 ghost use Rattle.game_board.specs.Board.{position_of};
@@ -7,9 +8,9 @@ ghost use Rattle.game_board.specs.Play.{captured};
 ghost use Rattle.game_board.specs.Put.{is_next_charged, takes_played, with_played, with_put};
 
 use crate::clocks::charge_clocks;
-use crate::game_board::{GameBoard, MOST_PLAYED};
+use crate::game_board::GameBoard;
 use crate::played::{Made, Played, Step};
-use chess_model::Man;
+use chess_model::{MOST_HALVES, Man};
 use memory::NoMemory;
 
 impl GameBoard {
@@ -18,12 +19,12 @@ impl GameBoard {
     #[tactic(auto, unfolding(crate::specs::Put::takes_played))]
     pub fn takes(&self, half: &Played) -> bool
         ensures value { result ≡ takes_played self.now half.now }
-        ensures short { IsTrue result → length self.now.list < 1200 }
+        ensures short { IsTrue result → length self.now.list < most_halves }
     {
         if self.state().is_end() {
             return false;
         }
-        if self.played >= MOST_PLAYED {
+        if usize::from(self.played) >= MOST_HALVES {
             return false;
         }
         if !self.position().allowed(half.what) {
@@ -54,7 +55,7 @@ impl GameBoard {
     /// Adds an allowed half-move with its charge, and gives the man that it captures.
     pub(crate) fn add(&mut self, half: &Played) -> Option<Man>
         requires allowed { Allowed (position_of self.old) half.now.what }
-        requires room { self.old.played < 1200 }
+        requires room { self.old.played < most_halves }
         requires sound { IfSome half.now.charge IsChargeable }
         ensures captured { result ≡ captured self.old half.now.what }
         ensures after { self.new ≡ with_played self.old half.now }

@@ -1,5 +1,6 @@
 //! Taking half-moves back.
-ghost use Rattle.std.specs.Prelude.{◌≡◌, ◌≢◌, ◌<◌, ◌≤◌, ◌^◌, length};
+ghost use Rattle.std.specs.Prelude.{◌≡◌, ◌≢◌, ◌<◌, ◌≤◌, length};
+ghost use Rattle.clock_ledger.specs.Charges.{last_moment};
 ghost use Rattle.game_board.specs.TakeBack.{take_back_reply, take_back_after, without_last};
 
 use crate::clocks::take_charge_off;
@@ -14,7 +15,7 @@ impl GameBoard {
     pub fn take_back(&mut self, n: u16, moment: u64) -> Result<(), Refusal>
         requires variant { self.old.terms.variant ≢ Variant.Bughouse }
         requires order { self.old.begin ≤ moment }
-        requires moment { moment ≤ 2 ^ 48 }
+        requires moment { moment ≤ last_moment }
         ensures reply { result ≡ take_back_reply self.old n }
         ensures after { self.new ≡ take_back_after self.old n moment }
     {

@@ -1,6 +1,7 @@
 -- Which values a record can have.
 use Rattle.std.specs.Prelude.{◌≡◌, ℕ, ◌*◌, ◌<◌, ◌≤◌, nat_eq, List, length, Option, Some, None, ⊤}
 use Rattle.std.specs.List.{AllByRecursion, count_by}
+use Rattle.chess_model.specs.Limits.{most_time, most_halves}
 use Rattle.chess_model.specs.declared.moves.Move.{Move}
 use Rattle.chess_model.specs.declared.moves.Move.TheVariants.{Plain, Castle, Drop}
 use Rattle.chess_model.specs.declared.variant.Terms.{Terms}
@@ -29,8 +30,8 @@ seats v = 2 * boards v
 
 -- at most 600 minutes and 600 seconds, an array that there is, and no colour
 pub record AreStoredTerms (t : Terms) : Type 0 where
-  pub minutes : t.minutes ≤ 600
-  pub increment : t.increment ≤ 600
+  pub minutes : t.minutes ≤ most_time
+  pub increment : t.increment ≤ most_time
   pub array : IsNumbered t.variant
   pub colour : t.colour ≡ None
 
@@ -53,9 +54,9 @@ count_on board halves = count_by (λ h. nat_eq h.board board) halves
 -- at most 1,200 half-moves on each board
 pub record AreHalves (v : Variant) (halves : List Half) : Type 0 where
   pub each : AllByRecursion (IsHalf v) halves
-  pub few : length halves ≤ 1200 * boards v
-  pub first : count_on 1 halves ≤ 1200
-  pub second : count_on 2 halves ≤ 1200
+  pub few : length halves ≤ most_halves * boards v
+  pub first : count_on 1 halves ≤ most_halves
+  pub second : count_on 2 halves ≤ most_halves
 
 pub record IsGame (g : StoredGame) : Type 0 where
   pub terms : AreStoredTerms g.terms

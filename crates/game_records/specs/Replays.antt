@@ -1,6 +1,7 @@
 -- When a stored game replays: it could have been played as it is written.
 use Rattle.std.specs.Prelude.{◌≡◌, ℕ, ◌+◌, ◌-◌, ◌<◌, ◌≤◌, ◌↔◌, false, IsSome, List, ◌∷◌, ◌++◌, map, length, bytes_eq, ⊤}
 use Rattle.std.specs.List.{IsDistinct}
+use Rattle.chess_model.specs.Limits.{most_halves}
 use Rattle.chess_model.specs.declared.variant.Terms.{Terms}
 use Rattle.chess_model.specs.declared.variant.Variant.{Variant}
 use Rattle.chess_model.specs.declared.variant.Variant.TheVariants.{Chess, Crazyhouse, Bughouse, Fischer}
@@ -37,7 +38,7 @@ AreTimed t = 0 < t.minutes + t.increment
 -- the game is timed and the half-move isn't the first of its colour
 pub record MayFollow (at : Position) (t : Terms) (made : ℕ) (h : Half) : Type 0 where
   pub going : GoesOn at
-  pub room : made < 1200
+  pub room : made < most_halves
   pub allowed : Allowed at h.what
   pub charged : IsSome h.charge ↔ (AreTimed t × (2 ≤ made))
 

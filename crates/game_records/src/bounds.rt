@@ -8,16 +8,10 @@ use crate::charges::is_charge;
 use crate::codes::has_code;
 use crate::packed::PackedHalf;
 use crate::stored_game::{Half, StoredGame};
-use chess_model::{Terms, Variant};
-
-/// The most minutes at the start, and the most seconds of increment.
-const MOST_TIME: u16 = 600;
+use chess_model::{MOST_HALVES, MOST_TIME, Terms, Variant};
 
 /// How many arrays Fischer random has.
 const ARRAYS: u16 = 960;
-
-/// The most half-moves of a board.
-const MOST_HALVES: usize = 1_200;
 
 /// How many players a game of the variant has.
 pub(crate) fn seats(variant: Variant) -> usize

@@ -6,7 +6,7 @@ ghost use Rattle.game_records.specs.Reading.{charge_in, charge_behind, charge_le
 ghost use Rattle.game_records.specs.Spelling.{charge_mark, charge_text, stamps_text};
 
 use crate::numbers::{behind, byte_at, eight_in, four_in, write_eight, write_four};
-use clock_ledger::{Charge, STAMP_CYCLE};
+use clock_ledger::{Charge, LAST_MOMENT, STAMP_CYCLE};
 use fics_words::NoMemory;
 
 /// The mark of a half-move without a charge.
@@ -17,9 +17,6 @@ const PLAIN: u8 = 1;
 
 /// The mark of a charge with the client's stamps.
 const STAMPED: u8 = 2;
-
-/// The last moment of a charge, in milliseconds.
-const LAST_MOMENT: u64 = 1 << 48;
 
 /// Appends a charge, or that there is none.
 pub(crate) fn write_charge(out: &mut Vec<u8>, charge: &Option<Charge>) -> Result<(), NoMemory>

@@ -1,6 +1,7 @@
 -- What a line is: plain, stamped, too long or bad.
 use Rattle.std.specs.Prelude.{ℕ, ◌-◌, Bool, ◌==◌, nat_lt, if◌then◌else◌, List, [], ◌∷◌, length, slice_index, Option, Some, None}
 use Rattle.std.specs.List.{list_all}
+use Rattle.fics_words.specs.Line.{most_line_bytes}
 use Rattle.stamp_codec.specs.Message.{Message, Text as Said, Ack as Received, is_printable}
 use Rattle.stamp_codec.specs.Opening.{opened}
 use Rattle.line_reader.specs.declared.incoming.Incoming.{Incoming}
@@ -23,7 +24,7 @@ stamped_reading line = if nat_lt 1033 (length line) then TooLong else said (open
 -- another line has at most 1,023, and they are printable
 abbrev pub plain_reading : List ℕ → Incoming
 plain_reading line =
-    if nat_lt 1023 (length line) then TooLong else (if list_all is_printable line then Plain line else BadByte)
+    if nat_lt most_line_bytes (length line) then TooLong else (if list_all is_printable line then Plain line else BadByte)
 
 -- what a line is
 abbrev pub reading : List ℕ → Incoming

@@ -3,12 +3,9 @@ ghost use Rattle.std.specs.Prelude.{◌≡◌, IfOk};
 ghost use Rattle.line_reader.specs.Reading.{is_stamped, plain_reading, reading, rest_reading, said, stamped_reading};
 ghost use Rattle.stamp_codec.specs.Opening.{opened};
 
-use fics_words::{Line, NoMemory};
+use fics_words::{Line, MOST_LINE_BYTES, NoMemory};
 use stamp_codec::{Sealed, unseal};
 use std::alloc::Global;
-
-/// The most bytes of a line that isn't stamped.
-const MOST_PLAIN: usize = 1_023;
 
 /// The most bytes of a stamped line, with its closing 0x80.
 const MOST_STAMPED: usize = 1_033;
@@ -66,7 +63,7 @@ fn is_stamped(line: &[u8]) -> bool
 fn read_plain(alloc: Global, line: &[u8]) -> Result<Incoming, NoMemory>
     ensures { IfOk result (λ incoming. incoming ≡ plain_reading line.now) }
 {
-    if line.len() > MOST_PLAIN {
+    if line.len() > MOST_LINE_BYTES {
         return Ok(Incoming::TooLong);
     }
     match Line::read(alloc, line) {

@@ -1,5 +1,6 @@
 -- What a session makes and writes for one input after the other. This server's own.
-use Rattle.std.specs.Prelude.{◌≡◌, ℕ, ◌^◌, min, Bool, false, IsTrue, List, [], ◌∷◌, ◌++◌}
+use Rattle.std.specs.Prelude.{◌≡◌, ℕ, min, Bool, false, IsTrue, List, [], ◌∷◌, ◌++◌}
+use Rattle.clock_ledger.specs.Charges.{last_moment}
 use Rattle.one_server.specs.Running.{Log}
 use Rattle.session_core.specs.declared.input.Input.{Input}
 use Rattle.session_core.specs.Course.{Follows}
@@ -8,7 +9,7 @@ use Rattle.session_core.specs.Memory.{MemoryState, is_gone}
 
 -- a moment that the clock shows, cut to 2^48 milliseconds
 abbrev pub IsShown : (ℕ → Bool) → ℕ → Type 0
-IsShown shows moment = (m : ℕ) × IsTrue (shows m) × (moment ≡ min m (2 ^ 48))
+IsShown shows moment = (m : ℕ) × IsTrue (shows m) × (moment ≡ min m last_moment)
 
 -- the session, which hadn't left, answered an input: it followed its course at a moment that the clock shows, with
 -- these entries, and this is what it wrote and remembers

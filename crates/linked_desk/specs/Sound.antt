@@ -1,5 +1,6 @@
 -- What holds of the game at a desk in every state.
-use Rattle.std.specs.Prelude.{◌≡◌, ◌≤◌, ◌^◌, ◌↔◌, IsSome, IsTrue, IfSome, All, Option, None, Result, Ok, Err}
+use Rattle.std.specs.Prelude.{◌≡◌, ◌≤◌, ◌↔◌, IsSome, IsTrue, IfSome, All, Option, None, Result, Ok, Err}
+use Rattle.clock_ledger.specs.Charges.{last_moment}
 use Rattle.chess_model.specs.declared.man.Colour.{Colour}
 use Rattle.chess_model.specs.declared.why.Why.{Why}
 use Rattle.fics_words.specs.declared.refusal.Refusal.{Refusal}
@@ -32,7 +33,7 @@ pub record IsSound (g : GameState) : Type 0 where
   pub going : g.ended ≡ None → GoOn g.boards
   -- nobody is thinking from a moment later than that of the last act, which was no later than the server's last moment
   pub order : latest g.boards ≤ g.last
-  pub moment : g.last ≤ 2 ^ 48
+  pub moment : g.last ≤ last_moment
   -- each end in the feed names its winner
   pub winners : All NamesWinner g.feed
   pub ended : IfSome g.ended (λ e. Names e.why e.winner)

@@ -1,5 +1,6 @@
 //! The acceptance of an offer at a desk.
-ghost use Rattle.std.specs.Prelude.{◌≤◌, ◌^◌};
+ghost use Rattle.std.specs.Prelude.{◌≤◌};
+ghost use Rattle.clock_ledger.specs.Charges.{last_moment};
 ghost use Rattle.fics_words.specs.Effect.{Takes};
 ghost use Rattle.linked_desk.specs.AcceptOffer.{accept_effect};
 
@@ -18,7 +19,7 @@ impl Game {
     ) -> Result<DeskReply, Fail>
         requires low { 1 ≤ desk }
         requires high { desk ≤ 128 }
-        requires moment { moment ≤ 2 ^ 48 }
+        requires moment { moment ≤ last_moment }
         ensures { Takes (accept_effect desk self.old session moment) self.old self.new result }
     {
         let Some(seat) = self.seat_of(session) else {

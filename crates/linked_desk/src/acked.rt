@@ -1,5 +1,6 @@
 //! An acknowledgement of the board by a player's client.
-ghost use Rattle.std.specs.Prelude.{◌≤◌, ◌^◌};
+ghost use Rattle.std.specs.Prelude.{◌≤◌};
+ghost use Rattle.clock_ledger.specs.Charges.{last_moment};
 ghost use Rattle.fics_words.specs.Effect.{Takes};
 ghost use Rattle.clock_ledger.specs.Span.{IsStamp};
 ghost use Rattle.linked_desk.specs.Acked.{acked_effect};
@@ -13,7 +14,7 @@ impl Game {
     /// Keeps the stamp with which a session's client acknowledged its board, where the game runs and the session is to
     /// move. Takes no memory.
     pub(crate) fn acked(&mut self, session: u32, moment: u64, stamp: u32) -> Result<DeskReply, Fail>
-        requires moment { moment ≤ 2 ^ 48 }
+        requires moment { moment ≤ last_moment }
         requires stamp { IsStamp stamp }
         ensures { Takes (acked_effect self.old session moment stamp) self.old self.new result }
     {

@@ -1,5 +1,6 @@
 //! The acts at a desk, and which game answers them.
-ghost use Rattle.std.specs.Prelude.{◌≡◌, ◌≤◌, ◌^◌};
+ghost use Rattle.std.specs.Prelude.{◌≡◌, ◌≤◌};
+ghost use Rattle.clock_ledger.specs.Charges.{last_moment};
 ghost use Rattle.fics_words.specs.Effect.{Takes};
 ghost use Rattle.linked_desk.specs.Acts.{FitsDeskAct, game_effect, items_told};
 
@@ -86,7 +87,7 @@ impl Game {
     ) -> Result<DeskReply, Fail>
         requires low { 1 ≤ desk }
         requires high { desk ≤ 128 }
-        requires moment { moment ≤ 2 ^ 48 }
+        requires moment { moment ≤ last_moment }
         requires fits { FitsDeskAct act.now }
         ensures { Takes (game_effect desk self.old session moment act.now) self.old self.new result }
     {

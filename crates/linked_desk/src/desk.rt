@@ -1,6 +1,7 @@
 //! The desk.
-ghost use Rattle.std.specs.Prelude.{◌≡◌, ◌≤◌, ◌^◌, ◌↔◌, ℕ, None, Some, IfOk, IsSome, IsTrue, OnOk, OnErr};
+ghost use Rattle.std.specs.Prelude.{◌≡◌, ◌≤◌, ◌↔◌, ℕ, None, Some, IfOk, IsSome, IsTrue, OnOk, OnErr};
 ghost use Rattle.std.specs.Option.{option_copied};
+ghost use Rattle.clock_ledger.specs.Charges.{last_moment};
 ghost use Rattle.fics_words.specs.Effect.{Takes};
 ghost use Rattle.desk_boards.specs.Boards.{numbered};
 
@@ -79,7 +80,7 @@ impl Desk {
         requires sessions { AllDiffer (sessions_of seats.now) }
         requires names { AllDiffer (names_of seats.now) }
         requires pairs { HasPairsFor terms seats.now }
-        requires moment { moment ≤ 2 ^ 48 }
+        requires moment { moment ≤ last_moment }
         ensures ok { OnOk result (self.new ≡ started self.old serial terms seats.now moment) }
         ensures err { OnErr result (self.new ≡ self.old) }
     {
@@ -109,7 +110,7 @@ impl Desk {
         requires names { AllDiffer (names_of seats.now) }
         requires players { names_in seats.now ≡ game.now.names }
         requires pairs { HasPairsFor game.now.terms seats.now }
-        requires moment { moment ≤ 2 ^ 48 }
+        requires moment { moment ≤ last_moment }
         ensures replays { IfOk result (λ yes. IsTrue yes ↔ Replays game.now) }
         ensures restored { IfOk result (λ yes. IsTrue yes → Some self.new
             ≡ restored self.old serial game.now seats.now moment) }
@@ -146,7 +147,7 @@ impl Desk {
         serial: u64,
         act: &DeskAct,
     ) -> Result<DeskReply, Fail>
-        requires moment { moment ≤ 2 ^ 48 }
+        requires moment { moment ≤ last_moment }
         requires fits { FitsDeskAct act.now }
         ensures { Takes (desk_effect self.old session moment serial act.now) self.old self.new result }
     {

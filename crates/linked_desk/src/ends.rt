@@ -1,5 +1,6 @@
 //! The end of a game.
-ghost use Rattle.std.specs.Prelude.{◌≡◌, ◌≤◌, ◌^◌, None};
+ghost use Rattle.std.specs.Prelude.{◌≡◌, ◌≤◌, None};
+ghost use Rattle.clock_ledger.specs.Charges.{last_moment};
 ghost use Rattle.linked_desk.specs.Ends.{end_item, ended_by, winner_on};
 
 use crate::ended::Ended;
@@ -15,7 +16,7 @@ impl Game {
     pub(crate) fn end(&mut self, desk: u8, moment: u64, end: Ended)
         requires low { 1 ≤ desk }
         requires high { desk ≤ 128 }
-        requires moment { moment ≤ 2 ^ 48 }
+        requires moment { moment ≤ last_moment }
         requires running { self.old.ended ≡ None }
         ensures { self.new ≡ ended_by desk self.old moment end }
     {

@@ -1,5 +1,6 @@
 //! How a viewer is given the items of a game.
-ghost use Rattle.std.specs.Prelude.{◌≤◌, ◌^◌};
+ghost use Rattle.std.specs.Prelude.{◌≤◌};
+ghost use Rattle.clock_ledger.specs.Charges.{last_moment};
 ghost use Rattle.fics_words.specs.Effect.{Takes};
 ghost use Rattle.linked_desk.specs.Fetch.{fetch_effect};
 
@@ -12,7 +13,7 @@ impl Game {
     /// more.
     #[tactic(auto, using(observer_feed::proofs::Keeping::without_caught_up))]
     pub(crate) fn fetch(&mut self, session: u32, moment: u64) -> Result<DeskReply, Fail>
-        requires { moment ≤ 2 ^ 48 }
+        requires { moment ≤ last_moment }
         ensures { Takes (fetch_effect self.old session moment) self.old self.new result }
     {
         let items = self.feed.since(session)?;

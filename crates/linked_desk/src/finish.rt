@@ -1,5 +1,6 @@
 //! The end of a game by the position on a board.
-ghost use Rattle.std.specs.Prelude.{◌≡◌, ◌≤◌, ◌^◌, None};
+ghost use Rattle.std.specs.Prelude.{◌≡◌, ◌≤◌, None};
+ghost use Rattle.clock_ledger.specs.Charges.{last_moment};
 ghost use Rattle.linked_desk.specs.Finish.{end_at, end_on, finished};
 
 use crate::ended::Ended;
@@ -13,7 +14,7 @@ impl Game {
     pub(crate) fn finish(&mut self, desk: u8, moment: u64, place: u8)
         requires low { 1 ≤ desk }
         requires high { desk ≤ 128 }
-        requires moment { moment ≤ 2 ^ 48 }
+        requires moment { moment ≤ last_moment }
         requires running { self.old.ended ≡ None }
         ensures { self.new ≡ finished desk self.old moment place }
     {

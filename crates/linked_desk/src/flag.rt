@@ -1,5 +1,6 @@
 //! The call of a flag at a desk.
-ghost use Rattle.std.specs.Prelude.{◌≡◌, ◌≤◌, ◌^◌};
+ghost use Rattle.std.specs.Prelude.{◌≡◌, ◌≤◌};
+ghost use Rattle.clock_ledger.specs.Charges.{last_moment};
 ghost use Rattle.fics_words.specs.Effect.{Takes};
 ghost use Rattle.linked_desk.specs.Flag.{flag_effect, flag_end};
 
@@ -20,7 +21,7 @@ impl Game {
     ) -> Result<DeskReply, Fail>
         requires low { 1 ≤ desk }
         requires high { desk ≤ 128 }
-        requires moment { moment ≤ 2 ^ 48 }
+        requires moment { moment ≤ last_moment }
         ensures { Takes (flag_effect desk self.old session moment) self.old self.new result }
     {
         let Some(seat) = self.seat_of(session) else {

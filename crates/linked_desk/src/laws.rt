@@ -1,5 +1,6 @@
 //! What the table of acts keeps, as calls that do nothing: what they ensure are the laws.
-ghost use Rattle.std.specs.Prelude.{◌≡◌, ℕ, ◌≤◌, ◌^◌, IfSome, Some};
+ghost use Rattle.std.specs.Prelude.{◌≡◌, ℕ, ◌≤◌, IfSome, Some};
+ghost use Rattle.clock_ledger.specs.Charges.{last_moment};
 ghost use Rattle.chess_model.specs.declared.variant.Terms.{Terms};
 ghost use Rattle.fics_words.specs.declared.seats.Seats.{Seats};
 ghost use Rattle.linked_desk.specs.declared.acts.DeskAct.{DeskAct};
@@ -34,12 +35,12 @@ pub fn acts_keep_the_players()
 /// and each end that viewers are told names a winner exactly where somebody won.
 pub fn acts_keep_the_game()
     ensures started { (d : DeskState) (serial : ℕ) (terms : Terms) (seats : Seats) (moment : ℕ)
-        → MayPlay terms seats → moment ≤ 2 ^ 48 →
+        → MayPlay terms seats → moment ≤ last_moment →
         HasSoundGame (started d serial terms seats moment) }
     ensures restored { (d : DeskState) (serial : ℕ) (g : StoredGame) (seats : Seats) (moment : ℕ) → Replays g
-        → HasPairsFor g.terms seats → AllDiffer (names_of seats) → moment ≤ 2 ^ 48 →
+        → HasPairsFor g.terms seats → AllDiffer (names_of seats) → moment ≤ last_moment →
         IfSome (restored d serial g seats moment) HasSoundGame }
-    ensures game { (d : DeskState) (session moment serial : ℕ) (a : DeskAct) → moment ≤ 2 ^ 48 → FitsDeskAct a
+    ensures game { (d : DeskState) (session moment serial : ℕ) (a : DeskAct) → moment ≤ last_moment → FitsDeskAct a
         → HasSoundGame d → HasSoundGame (desk_after d session moment serial a) }
     ensures answers { (d : DeskState) (session moment serial : ℕ) (a : DeskAct) → HasSoundGame d
         → AnswersSoundly (desk_answer d session moment serial a) }

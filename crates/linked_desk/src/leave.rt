@@ -1,5 +1,6 @@
 //! Leaving a desk.
-ghost use Rattle.std.specs.Prelude.{◌≡◌, ◌≤◌, ◌^◌, Ok};
+ghost use Rattle.std.specs.Prelude.{◌≡◌, ◌≤◌, Ok};
+ghost use Rattle.clock_ledger.specs.Charges.{last_moment};
 ghost use Rattle.fics_words.specs.Effect.{Takes};
 ghost use Rattle.linked_desk.specs.Desk.{seat_of};
 ghost use Rattle.linked_desk.specs.Leave.{forfeit, leave_effect, leaving_end, left_by, waits};
@@ -17,7 +18,7 @@ impl Game {
     pub(crate) fn leave(&mut self, desk: u8, session: u32, moment: u64) -> DeskReply
         requires low { 1 ≤ desk }
         requires high { desk ≤ 128 }
-        requires moment { moment ≤ 2 ^ 48 }
+        requires moment { moment ≤ last_moment }
         ensures { Takes (leave_effect desk self.old session moment) self.old self.new (Ok result) }
     {
         self.end_by_leaving(desk, session, moment);
@@ -30,7 +31,7 @@ impl Game {
     fn end_by_leaving(&mut self, desk: u8, session: u32, moment: u64)
         requires low { 1 ≤ desk }
         requires high { desk ≤ 128 }
-        requires moment { moment ≤ 2 ^ 48 }
+        requires moment { moment ≤ last_moment }
         ensures { self.new ≡ left_by desk self.old moment (seat_of self.old session) }
     {
         let Some(seat) = self.seat_of(session) else {

@@ -1,5 +1,6 @@
 //! An offer at a desk.
-ghost use Rattle.std.specs.Prelude.{◌≡◌, ◌≤◌, ◌<◌, ◌^◌, None};
+ghost use Rattle.std.specs.Prelude.{◌≡◌, ◌≤◌, ◌<◌, None};
+ghost use Rattle.clock_ledger.specs.Charges.{last_moment};
 ghost use Rattle.fics_words.specs.Effect.{Takes, first_cause, refusal_of};
 ghost use Rattle.linked_desk.specs.Make.{claim_effect, claimed, make_effect, offer_effect, unfit_causes};
 
@@ -23,7 +24,7 @@ impl Game {
     ) -> Result<DeskReply, Fail>
         requires low { 1 ≤ desk }
         requires high { desk ≤ 128 }
-        requires moment { moment ≤ 2 ^ 48 }
+        requires moment { moment ≤ last_moment }
         ensures { Takes (make_effect desk self.old session moment offer) self.old self.new result }
     {
         let Some(seat) = self.seat_of(session) else {
@@ -93,7 +94,7 @@ impl Game {
     ) -> Result<DeskReply, Fail>
         requires low { 1 ≤ desk }
         requires high { desk ≤ 128 }
-        requires moment { moment ≤ 2 ^ 48 }
+        requires moment { moment ≤ last_moment }
         requires seated { seat < self.old.offers.seats }
         requires running { self.old.ended ≡ None }
         ensures { Takes (claim_effect desk self.old seat moment offer (claimed self.old.boards seat offer)) self.old
@@ -110,7 +111,7 @@ impl Game {
     fn offer(&mut self, desk: u8, seat: u8, moment: u64, offer: Offer) -> Result<DeskReply, Fail>
         requires low { 1 ≤ desk }
         requires high { desk ≤ 128 }
-        requires moment { moment ≤ 2 ^ 48 }
+        requires moment { moment ≤ last_moment }
         requires seated { seat < self.old.offers.seats }
         requires running { self.old.ended ≡ None }
         ensures { Takes (offer_effect desk self.old seat moment offer) self.old self.new result }

@@ -1,5 +1,6 @@
 //! What is told of offers, and what an offer does that every seat has made.
-ghost use Rattle.std.specs.Prelude.{◌≡◌, ◌≤◌, ◌^◌, IfOk, OnErr, OnOk, None, false, option_and_then, slice_get};
+ghost use Rattle.std.specs.Prelude.{◌≡◌, ◌≤◌, IfOk, OnErr, OnOk, None, false, option_and_then, slice_get};
+ghost use Rattle.clock_ledger.specs.Charges.{last_moment};
 ghost use Rattle.linked_desk.specs.Ends.{ended_by};
 ghost use Rattle.linked_desk.specs.Hands.{first_hands};
 ghost use Rattle.linked_desk.specs.Offering.{agreed, decline_item, end_without_winner, offer_item, offer_text, taken_back, told, with_offers};
@@ -48,7 +49,7 @@ impl Game {
         moment: u64,
         item: Option<Item>,
     ) -> Result<(), NoMemory>
-        requires moment { moment ≤ 2 ^ 48 }
+        requires moment { moment ≤ last_moment }
         requires seats { offers.seats ≡ self.old.offers.seats }
         requires room { is_told_out self.old.tally seat ≡ false }
         ensures ok { OnOk result (self.new ≡ told offers seat moment item self.old) }
@@ -76,7 +77,7 @@ impl Game {
     ) -> Result<(), NoMemory>
         requires low { 1 ≤ desk }
         requires high { desk ≤ 128 }
-        requires moment { moment ≤ 2 ^ 48 }
+        requires moment { moment ≤ last_moment }
         requires seats { offers.seats ≡ self.old.offers.seats }
         requires running { self.old.ended ≡ None }
         ensures ok { OnOk result (self.new ≡ agreed desk (with_offers offers moment self.old) moment seat offer) }
@@ -95,7 +96,7 @@ impl Game {
     pub(crate) fn settle(&mut self, desk: u8, offers: Offers, moment: u64, seat: u8, why: Why)
         requires low { 1 ≤ desk }
         requires high { desk ≤ 128 }
-        requires moment { moment ≤ 2 ^ 48 }
+        requires moment { moment ≤ last_moment }
         requires seats { offers.seats ≡ self.old.offers.seats }
         requires running { self.old.ended ≡ None }
         ensures { self.new ≡ ended_by desk (with_offers offers moment self.old) moment (end_without_winner seat why) }
@@ -109,7 +110,7 @@ impl Game {
     fn take_back(&mut self, desk: u8, offers: Offers, moment: u64, n: u16) -> Result<(), NoMemory>
         requires low { 1 ≤ desk }
         requires high { desk ≤ 128 }
-        requires moment { moment ≤ 2 ^ 48 }
+        requires moment { moment ≤ last_moment }
         requires seats { offers.seats ≡ self.old.offers.seats }
         ensures ok { OnOk result (self.new ≡ taken_back desk (with_offers offers moment self.old) moment n) }
         ensures err { OnErr result (self.new ≡ self.old) }

@@ -1,5 +1,6 @@
 //! A move at a desk.
-ghost use Rattle.std.specs.Prelude.{◌≡◌, ◌<◌, ◌≤◌, ◌^◌, IfSome, None};
+ghost use Rattle.std.specs.Prelude.{◌≡◌, ◌<◌, ◌≤◌, IfSome, None};
+ghost use Rattle.clock_ledger.specs.Charges.{last_moment};
 ghost use Rattle.clock_ledger.specs.Span.{IsStamp};
 ghost use Rattle.fics_words.specs.Effect.{Takes};
 ghost use Rattle.linked_desk.specs.Playing.{move_effect, seat_move_effect};
@@ -26,7 +27,7 @@ impl Game {
     ) -> Result<DeskReply, Fail>
         requires low { 1 ≤ desk }
         requires high { desk ≤ 128 }
-        requires moment { moment ≤ 2 ^ 48 }
+        requires moment { moment ≤ last_moment }
         requires stamp { IfSome stamp IsStamp }
         ensures { Takes (move_effect desk self.old session moment word.now stamp) self.old self.new result }
     {
@@ -51,7 +52,7 @@ impl Game {
         requires low { 1 ≤ desk }
         requires high { desk ≤ 128 }
         requires seat { seat < self.old.offers.seats }
-        requires moment { moment ≤ 2 ^ 48 }
+        requires moment { moment ≤ last_moment }
         requires stamp { IfSome stamp IsStamp }
         requires running { self.old.ended ≡ None }
         ensures { Takes (seat_move_effect desk self.old seat moment word.now stamp) self.old self.new result }

@@ -1,5 +1,6 @@
 //! A remark on a game.
-ghost use Rattle.std.specs.Prelude.{◌≤◌, ◌^◌};
+ghost use Rattle.std.specs.Prelude.{◌≤◌};
+ghost use Rattle.clock_ledger.specs.Charges.{last_moment};
 ghost use Rattle.fics_words.specs.Effect.{Takes};
 ghost use Rattle.linked_desk.specs.Remark.{remark_effect};
 
@@ -19,7 +20,7 @@ impl Game {
         moment: u64,
         text: &Line,
     ) -> Result<DeskReply, Fail>
-        requires { moment ≤ 2 ^ 48 }
+        requires { moment ≤ last_moment }
         ensures { Takes (remark_effect self.old session moment text.now) self.old self.new result }
     {
         if !self.is_watching(session) {

@@ -1,5 +1,6 @@
 //! Resigning at a desk.
-ghost use Rattle.std.specs.Prelude.{◌≡◌, ◌≤◌, ◌^◌};
+ghost use Rattle.std.specs.Prelude.{◌≡◌, ◌≤◌};
+ghost use Rattle.clock_ledger.specs.Charges.{last_moment};
 ghost use Rattle.fics_words.specs.Effect.{Takes};
 ghost use Rattle.linked_desk.specs.Resign.{resign_effect, resignation};
 
@@ -15,7 +16,7 @@ impl Game {
     pub(crate) fn resign(&mut self, desk: u8, session: u32, moment: u64) -> Result<DeskReply, Fail>
         requires low { 1 ≤ desk }
         requires high { desk ≤ 128 }
-        requires moment { moment ≤ 2 ^ 48 }
+        requires moment { moment ≤ last_moment }
         ensures { Takes (resign_effect desk self.old session moment) self.old self.new result }
     {
         let Some(seat) = self.seat_of(session) else {

@@ -1,6 +1,7 @@
 //! How a game that was adjourned goes on at a desk.
-ghost use Rattle.std.specs.Prelude.{◌≡◌, ◌≤◌, ◌^◌, ◌↔◌, IfOk, IsSome, None};
+ghost use Rattle.std.specs.Prelude.{◌≡◌, ◌≤◌, ◌↔◌, IfOk, IsSome, None};
 ghost use Rattle.std.specs.Option.{option_map};
+ghost use Rattle.clock_ledger.specs.Charges.{last_moment};
 ghost use Rattle.game_records.specs.Replays.{Replays};
 ghost use Rattle.desk_boards.specs.Replaying.{replayed};
 ghost use Rattle.linked_desk.specs.Restore.{finished_at, last_place, place_on, resumed};
@@ -25,7 +26,7 @@ pub(crate) fn resumed(
 ) -> Result<Option<Game>, NoMemory>
     requires low { 1 ≤ desk }
     requires high { desk ≤ 128 }
-    requires moment { moment ≤ 2 ^ 48 }
+    requires moment { moment ≤ last_moment }
     requires sessions { AllDiffer (sessions_of seats.now) }
     requires pairs { HasPairsFor stored.now.terms seats.now }
     ensures replays { IfOk result (λ found. IsSome found ↔ Replays stored.now) }
@@ -48,7 +49,7 @@ impl Game {
     fn finish_at(&mut self, desk: u8, moment: u64, place: Option<u8>)
         requires low { 1 ≤ desk }
         requires high { desk ≤ 128 }
-        requires moment { moment ≤ 2 ^ 48 }
+        requires moment { moment ≤ last_moment }
         requires running { self.old.ended ≡ None }
         ensures { self.new ≡ finished_at desk self.old moment place }
     {

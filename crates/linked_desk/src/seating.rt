@@ -1,5 +1,6 @@
 //! How a game begins.
-ghost use Rattle.std.specs.Prelude.{◌≡◌, ◌≢◌, ◌+◌, ◌≤◌, ◌^◌, [], ◌∷◌, ◌++◌, false, length, map, IfOk, OnOk};
+ghost use Rattle.std.specs.Prelude.{◌≡◌, ◌≢◌, ◌+◌, ◌≤◌, [], ◌∷◌, ◌++◌, false, length, map, IfOk, OnOk};
+ghost use Rattle.clock_ledger.specs.Charges.{last_moment};
 ghost use Rattle.fics_words.specs.Seats.{seat_list};
 ghost use Rattle.offer_book.specs.Offers.{no_offers};
 ghost use Rattle.observer_feed.specs.Feed.{empty_feed, is_viewer};
@@ -34,7 +35,7 @@ pub(crate) fn opened(
 ) -> Result<Game, NoMemory>
     requires low { 1 ≤ desk }
     requires high { desk ≤ 128 }
-    requires moment { moment ≤ 2 ^ 48 }
+    requires moment { moment ≤ last_moment }
     requires sessions { AllDiffer (sessions_of seats.now) }
     requires pairs { HasPairsFor terms seats.now }
     ensures { IfOk result (λ game. game ≡ opened desk serial terms seats.now moment) }
@@ -56,7 +57,7 @@ pub(crate) fn game_at(
     moment: u64,
 ) -> Game
     requires order { latest boards ≤ moment }
-    requires moment { moment ≤ 2 ^ 48 }
+    requires moment { moment ≤ last_moment }
     requires viewers { feed.viewers ≡ map from_start (seat_list seats.now) }
     requires room { 4 ≤ feed.room }
     ensures { result ≡ game_at serial terms seats.now boards feed.items moment }

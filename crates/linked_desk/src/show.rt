@@ -1,5 +1,6 @@
 //! How a game is shown to whoever asks.
-ghost use Rattle.std.specs.Prelude.{◌≤◌, ◌^◌};
+ghost use Rattle.std.specs.Prelude.{◌≤◌};
+ghost use Rattle.clock_ledger.specs.Charges.{last_moment};
 ghost use Rattle.fics_words.specs.Effect.{Takes};
 ghost use Rattle.linked_desk.specs.Show.{show_effect};
 
@@ -12,7 +13,7 @@ impl Game {
     pub(crate) fn show(&mut self, desk: u8, moment: u64) -> Result<DeskReply, Fail>
         requires low { 1 ≤ desk }
         requires high { desk ≤ 128 }
-        requires moment { moment ≤ 2 ^ 48 }
+        requires moment { moment ≤ last_moment }
         ensures { Takes (show_effect desk self.old moment) self.old self.new result }
     {
         let items = self.present_items(desk)?;

@@ -1,5 +1,6 @@
 //! How a session becomes a viewer of a game, and how an observer ceases to be one.
-ghost use Rattle.std.specs.Prelude.{◌≤◌, ◌^◌};
+ghost use Rattle.std.specs.Prelude.{◌≤◌};
+ghost use Rattle.clock_ledger.specs.Charges.{last_moment};
 ghost use Rattle.fics_words.specs.Effect.{Takes};
 ghost use Rattle.linked_desk.specs.Watch.{unwatch_effect, watch_effect};
 
@@ -14,7 +15,7 @@ impl Game {
     pub(crate) fn watch(&mut self, desk: u8, session: u32, moment: u64) -> Result<DeskReply, Fail>
         requires low { 1 ≤ desk }
         requires high { desk ≤ 128 }
-        requires moment { moment ≤ 2 ^ 48 }
+        requires moment { moment ≤ last_moment }
         ensures { Takes (watch_effect desk self.old session moment) self.old self.new result }
     {
         if self.is_watching(session) {
@@ -28,7 +29,7 @@ impl Game {
 
     /// An observer is no viewer any more. Refused with `NotWatching`, a player too. Takes no memory.
     pub(crate) fn unwatch(&mut self, session: u32, moment: u64) -> Result<DeskReply, Fail>
-        requires { moment ≤ 2 ^ 48 }
+        requires { moment ≤ last_moment }
         ensures { Takes (unwatch_effect self.old session moment) self.old self.new result }
     {
         if !self.is_watching(session) {

@@ -12,6 +12,7 @@ use collections::Listed;
 use fics_words::{Digest, Handle, HandleKey, Line, Lines, Seats};
 use lobby_shelf::Order;
 use simul_control::{Place, Places};
+use std::mem::size_of;
 
 /// An act that needs the lobby alone.
 #[derive(Drop)]
@@ -161,6 +162,9 @@ pub enum LobbyReply {
     /// The first 16 save orders, in the order in which they were made.
     Orders(Listed<Order>),
 }
+
+// A reply is copied on its way from the lobby to the line's end.
+const _: () = prove!(size_of::<LobbyReply>() <= 384);
 
 impl LobbyReply {
     /// A reply equal to this one, made of copies of the lists that it tells.

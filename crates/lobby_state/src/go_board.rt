@@ -4,12 +4,11 @@ ghost use Rattle.std.specs.List.{position};
 ghost use Rattle.fics_words.specs.Effect.{Takes};
 ghost use Rattle.lobby_state.specs.Desks.{IsDesk};
 ghost use Rattle.lobby_state.specs.GoBoard.{go_board_effect, is_against, opponent_of, other_seat};
-ghost use Rattle.lobby_state.specs.Places.{AreAtDesks};
 
 use crate::acts::LobbyReply;
 use crate::register::Register;
 use fics_words::{Fail, HandleKey, Player, Refusal, Seats};
-use simul_control::Place;
+use simul_control::{Place, Places};
 
 impl Register {
     /// The session's first place whose opponent, in the other seat of the same board, is the named player is its
@@ -29,7 +28,7 @@ impl Register {
         if places.gives_nowhere() {
             return Err(Fail::Refused(Refusal::NotGiving));
         }
-        let Some(at) = self.first_against(other.session, places.rows()) else {
+        let Some(at) = self.first_against(other.session, &places) else {
             return Err(Fail::Refused(Refusal::NotPlaying));
         };
         places.go(at);
@@ -38,13 +37,12 @@ impl Register {
     }
 
     /// The number, from 0, of the first of these places that is against the player of this session.
-    fn first_against(&self, player: u32, rows: &[Place]) -> Option<usize>
-        requires { AreAtDesks rows.now }
-        ensures first { result ≡ position (is_against self.now player) rows.now }
-        ensures within { IfSome result (λ at. at < length rows.now) }
+    fn first_against(&self, player: u32, places: &Places) -> Option<usize>
+        ensures first { result ≡ position (is_against self.now player) places.now.rows }
+        ensures within { IfSome result (λ at. at < length places.now.rows) }
     {
-        for at in 0..rows.len() {
-            if self.is_against(player, &rows[at]) {
+        for at in 0..places.len() {
+            if self.is_against(player, &places.place(at)) {
                 return Some(at);
             }
         }

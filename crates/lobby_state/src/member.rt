@@ -60,7 +60,7 @@ impl Member {
     pub(crate) fn has_place(&self) -> bool
         ensures { result ≡ has_place self.now }
     {
-        !self.places.rows().is_empty()
+        self.places.len() != 0
     }
 
     /// Whether the member gives a simul.

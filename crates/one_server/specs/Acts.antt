@@ -1,6 +1,7 @@
 -- What an act is: the parts that it needs, the conditions on its numbers, and how the answer of its part is replied.
 -- This server's own.
-use Rattle.std.specs.Prelude.{◌≡◌, ℕ, ◌≤◌, ◌^◌, false, Option, None, Result, Ok, Err}
+use Rattle.std.specs.Prelude.{◌≡◌, ℕ, ◌≤◌, false, Option, None, Result, Ok, Err}
+use Rattle.clock_ledger.specs.Charges.{last_moment}
 use Rattle.fics_words.specs.declared.refusal.Refusal.{Refusal}
 use Rattle.linked_desk.specs.declared.acts.DeskReply.{DeskReply}
 use Rattle.linked_desk.specs.Acts.{FitsDeskAct, needs_memory}
@@ -42,7 +43,7 @@ FitsAct (Pair act) = NamesDesk act
 
 -- and a moment is at most 2^48 milliseconds
 pub record IsEvent (timed : Timed) : Type 0 where
-  pub moment : timed.moment ≤ 2 ^ 48
+  pub moment : timed.moment ≤ last_moment
   pub act : FitsAct timed.act
 
 -- the reply to a lobby act

@@ -1,6 +1,6 @@
 -- The server of one lobby and 128 desks keeps the laws of a server of parts: each act finds its parts, and leaves a
 -- whole state.
-use Rattle.std.proofs.Common.{◌≡◌, ◌≢◌, ℕ, ◌-◌, ◌<◌, ◌≤◌, ◌^◌, Bool, true, false, cond, ◌&&◌, List, length, set, refl, ap, sym, subst, ◌∙◌, arith}
+use Rattle.std.proofs.Common.{◌≡◌, ◌≢◌, ℕ, ◌-◌, ◌<◌, ◌≤◌, Bool, true, false, cond, ◌&&◌, List, length, set, refl, ap, sym, subst, ◌∙◌, arith}
 use Rattle.std.specs.List.{slice_get}
 use Rattle.std.specs.Option.{option_map}
 use Rattle.std.specs.Prelude.{IfSome}
@@ -8,6 +8,7 @@ use Rattle.std.specs.declared.option.Option.{Option}
 use Rattle.std.specs.declared.option.Option.TheVariants.{None, Some}
 use Rattle.std.specs.declared.result.Result.{Result}
 use Rattle.std.specs.declared.result.Result.TheVariants.{Ok, Err}
+use Rattle.clock_ledger.specs.Charges.{last_moment}
 use Rattle.fics_words.specs.declared.refusal.Refusal.{Refusal}
 use Rattle.game_records.specs.declared.stored_game.StoredGame.{StoredGame}
 use Rattle.histories.specs.Core.{Lawful, after}
@@ -96,7 +97,7 @@ stays_cleared xs lobby session number serial desk w e d p kept can false is_alon
 
 -- what a plan leaves is whole
 stays_planned : (xs : List Part) (lobby : LobbyState) (plan : Plan) (number : ℕ) (desk : DeskState) (moment : ℕ) → IsWhole xs → slice_get xs 0 ≡ Some (TheLobby lobby)
-    → desk_of plan ≡ Some number → slice_get xs number ≡ Some (ADesk desk) → IsPlanned lobby plan → moment ≤ 2 ^ 48
+    → desk_of plan ≡ Some number → slice_get xs number ≡ Some (ADesk desk) → IsPlanned lobby plan → moment ≤ last_moment
     → IsWhole (set (set xs 0 (TheLobby (plan_lobby lobby plan desk))) number (ADesk (plan_desk lobby plan desk moment)))
 stays_planned xs lobby (Start own serial terms seats) number desk moment w e o d p timely =
     let plan : Plan = Start own serial terms seats in
@@ -127,7 +128,7 @@ stays_asked xs lobby (Ask from to stored) w e p =
 stays_asked xs lobby _ w e p = whole_lobby xs lobby lobby w e (formed_is xs lobby w e) refl
 
 -- what a pair act leaves is whole: nothing is done where there is no plan
-module _ (xs : List Part) (session moment : ℕ) (act : PairAct) (lobby : LobbyState) (w : IsWhole xs) (e : slice_get xs 0 ≡ Some (TheLobby lobby)) (f : NamesDesk act) (timely : moment ≤ 2 ^ 48) where
+module _ (xs : List Part) (session moment : ℕ) (act : PairAct) (lobby : LobbyState) (w : IsWhole xs) (e : slice_get xs 0 ≡ Some (TheLobby lobby)) (f : NamesDesk act) (timely : moment ≤ last_moment) where
   abbrev timed : Timed
   timed = record { moment = moment; act = Pair act }
 
@@ -162,7 +163,7 @@ module _ (xs : List Part) (session moment : ℕ) (act : PairAct) (lobby : LobbyS
   stays_pair (Err cause) is = stays_alone (Err cause) is refl
   stays_pair (Ok plan) is = stays_plan plan (desk_of plan) is refl
 
-stays_act : (xs : List Part) (session moment : ℕ) (act : Act) → IsWhole xs → FitsAct act → moment ≤ 2 ^ 48 → IsWhole (after house xs session (record { moment = moment; act = act }))
+stays_act : (xs : List Part) (session moment : ℕ) (act : Act) → IsWhole xs → FitsAct act → moment ≤ last_moment → IsWhole (after house xs session (record { moment = moment; act = act }))
 stays_act xs session moment (Lobby act) w f timely =
     let timed : Timed = record { moment = moment; act = Lobby act } in
     let alone : after house xs session timed ≡ set xs 0 (TheLobby (lobby_after w.lobby session act)) =

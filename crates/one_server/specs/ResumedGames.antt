@@ -1,7 +1,8 @@
 -- What a Resume makes of a stored game. This server's own; that an adjourned game goes on with the position and the times
 -- with which it was left is FIDE's (Laws, Guidelines I).
-use Rattle.std.specs.Prelude.{◌≡◌, ℕ, ◌+◌, ◌≤◌, ◌^◌, List, All, None, Some, slice_get}
+use Rattle.std.specs.Prelude.{◌≡◌, ℕ, ◌+◌, ◌≤◌, List, All, None, Some, slice_get}
 use Rattle.std.specs.Option.{option_map}
+use Rattle.clock_ledger.specs.Charges.{last_moment}
 use Rattle.game_board.specs.Board.{Board, position_of}
 use Rattle.game_records.specs.declared.stored_game.StoredGame.{StoredGame}
 use Rattle.game_records.specs.Replays.{position_on}
@@ -60,6 +61,6 @@ resuming name moment = record { moment = moment; act = Pair (Resume name) }
 -- each Resume that is answered Started in this state resumes a game
 abbrev pub ResumesAsLeft : List Part → Type 0
 ResumesAsLeft parts =
-    (session moment : ℕ) (name : List ℕ) → moment ≤ 2 ^ 48
+    (session moment : ℕ) (name : List ℕ) → moment ≤ last_moment
     → reply house parts session (resuming name moment) ≡ Some (reply.Pair Started)
     → IsResumed parts (after house parts session (resuming name moment)) session moment name

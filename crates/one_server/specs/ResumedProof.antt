@@ -1,10 +1,11 @@
 -- A whole state stays whole where a game leaves the shelf and goes on at a desk.
-use Rattle.std.proofs.Common.{◌≡◌, ℕ, ◌-◌, ◌≤◌, ◌^◌, true, List, set, refl, ap, sym, subst, ◌∙◌}
+use Rattle.std.proofs.Common.{◌≡◌, ℕ, ◌-◌, ◌≤◌, true, List, set, refl, ap, sym, subst, ◌∙◌}
 use Rattle.std.specs.List.{slice_get}
 use Rattle.std.specs.Option.{option_map}
 use Rattle.std.specs.Prelude.{IfSome, unwrap_or}
 use Rattle.std.specs.declared.option.Option.{Option}
 use Rattle.std.specs.declared.option.Option.TheVariants.{None, Some}
+use Rattle.clock_ledger.specs.Charges.{last_moment}
 use Rattle.chess_model.specs.declared.variant.Terms.{Terms}
 use Rattle.fics_words.specs.declared.seats.Seats.{Seats}
 use Rattle.game_board.specs.Board.{Board}
@@ -49,7 +50,7 @@ numbered_if desk make (Some boards) new is =
     ap (λ (d : DeskState). d.number) (sym same)
 
 has_resumed : (desk : DeskState) (serial : ℕ) (game : StoredGame) (seats : Seats) (moment : ℕ) → Replays game → names_in seats ≡ game.names → HasPairsFor game.terms seats
-    → AllDiffer (names_of seats) → moment ≤ 2 ^ 48 → HasResumed desk.number serial game.terms seats (unwrap_or (restored desk serial game seats moment) desk)
+    → AllDiffer (names_of seats) → moment ≤ last_moment → HasResumed desk.number serial game.terms seats (unwrap_or (restored desk serial game seats moment) desk)
 has_resumed desk serial game seats moment replays players pairs names timely =
     let found = resuming_restores.stored desk serial game seats moment replays players in
     let is : restored desk serial game seats moment ≡ Some found.0 = found.1 in
@@ -61,7 +62,7 @@ has_resumed desk serial game seats moment replays players pairs names timely =
       sound = subst (λ (o : Option DeskState). IfSome o HasSoundGame) is (sound_restored desk serial game seats moment replays pairs names timely);
     })
 
-resumed_at : (lobby : LobbyState) (desk : DeskState) (serial stored : ℕ) (seats : Seats) (moment : ℕ) (c : CanResumeAt lobby desk stored seats) → moment ≤ 2 ^ 48
+resumed_at : (lobby : LobbyState) (desk : DeskState) (serial stored : ℕ) (seats : Seats) (moment : ℕ) (c : CanResumeAt lobby desk stored seats) → moment ≤ last_moment
     → HasResumed desk.number serial c.game.terms seats (resume_desk lobby desk serial stored seats moment)
 resumed_at lobby desk serial stored seats moment c timely =
     subst (λ (o : Option StoredGame). HasResumed desk.number serial c.game.terms seats (with_game desk serial o seats moment)) (sym c.lies)
@@ -72,7 +73,7 @@ same_game one another e = cc
 
 -- what a Resume leaves is whole
 pub stays_resumed : (xs : List Part) (lobby : LobbyState) (number serial stored : ℕ) (terms : Terms) (seats : Seats) (desk : DeskState) (moment : ℕ) → IsWhole xs
-    → slice_get xs 0 ≡ Some (TheLobby lobby) → slice_get xs number ≡ Some (ADesk desk) → IsPlanned lobby (Resume number serial stored terms seats) → moment ≤ 2 ^ 48
+    → slice_get xs 0 ≡ Some (TheLobby lobby) → slice_get xs number ≡ Some (ADesk desk) → IsPlanned lobby (Resume number serial stored terms seats) → moment ≤ last_moment
     → IsWhole (set (set xs 0 (TheLobby (committed lobby (Resume number serial stored terms seats) None true))) number (ADesk (resume_desk lobby desk serial stored seats moment)))
 stays_resumed xs lobby number serial stored terms seats desk moment w e d p timely =
     let plan : Plan = Resume number serial stored terms seats in

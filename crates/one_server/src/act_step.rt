@@ -1,5 +1,6 @@
 //! The step of an act on the lobby and the desks: each act is lent its own parts alone.
-ghost use Rattle.std.specs.Prelude.{◌≡◌, ◌≤◌, ◌-◌, ◌^◌, IfOk, OnOk, OnErr, Some, length, slice_get, slice_set};
+ghost use Rattle.std.specs.Prelude.{◌≡◌, ◌≤◌, ◌-◌, IfOk, OnOk, OnErr, Some, length, slice_get, slice_set};
+ghost use Rattle.clock_ledger.specs.Charges.{last_moment};
 ghost use Rattle.histories.specs.Core.{reply, after};
 ghost use Rattle.linked_desk.specs.Acts.{FitsDeskAct, desk_answer, desk_after};
 ghost use Rattle.linked_desk.specs.Desk.{DeskState};
@@ -56,7 +57,7 @@ fn step_at_desk(
     serial: u64,
     act: &DeskAct,
 ) -> Result<Reply, NoMemory>
-    requires moment { moment ≤ 2 ^ 48 }
+    requires moment { moment ≤ last_moment }
     requires number { IsDesk number }
     requires fits { FitsDeskAct act.now }
     requires count { length desks.old ≡ desk_count }
@@ -79,7 +80,7 @@ fn planned_step(
     moment: u64,
     act: &PairAct,
 ) -> Result<Reply, NoMemory>
-    requires moment { moment ≤ 2 ^ 48 }
+    requires moment { moment ≤ last_moment }
     requires names { NamesDesk act.now }
     requires whole { IsWhole (parts_of lobby.old desks.old) }
     ensures reply { IfOk result
@@ -110,7 +111,7 @@ fn carry_out(
     number: u8,
     plan: &Plan,
 ) -> Result<Reply, NoMemory>
-    requires moment { moment ≤ 2 ^ 48 }
+    requires moment { moment ≤ last_moment }
     requires number { IsDesk number }
     requires planned { IsPlanned lobby.old plan.now }
     requires count { length desks.old ≡ desk_count }

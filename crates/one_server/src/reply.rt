@@ -3,6 +3,7 @@
 use fics_words::Refusal;
 use linked_desk::DeskReply;
 use lobby_state::LobbyReply;
+use std::mem::size_of;
 
 /// A reply, by the part of the server that gives it.
 #[derive(Drop)]
@@ -16,6 +17,9 @@ pub enum Reply {
     /// What the lobby and a desk answer together.
     Pair(PairReply),
 }
+
+// A reply is moved from the server to the session.
+const _: () = prove!(size_of::<Reply>() <= 400);
 
 /// What the lobby and a desk answer together.
 #[derive(Clone, Copy)]

@@ -1,5 +1,6 @@
 //! The three kinds of step: on the lobby alone, on a desk alone, and on both.
-ghost use Rattle.std.specs.Prelude.{◌≡◌, ◌≤◌, ◌^◌, IfOk, IsOk, OnOk, OnErr, true};
+ghost use Rattle.std.specs.Prelude.{◌≡◌, ◌≤◌, IfOk, IsOk, OnOk, OnErr, true};
+ghost use Rattle.clock_ledger.specs.Charges.{last_moment};
 ghost use Rattle.linked_desk.specs.Acts.{FitsDeskAct, desk_answer, desk_after, needs_memory};
 ghost use Rattle.lobby_state.specs.Acts.{FitsLobby, LobbyNeedsNoMemory, lobby_answer, lobby_after};
 ghost use Rattle.lobby_state.specs.Planned.{IsPlanned};
@@ -45,7 +46,7 @@ pub fn desk_step(
     serial: u64,
     act: &DeskAct,
 ) -> Result<Reply, NoMemory>
-    requires moment { moment ≤ 2 ^ 48 }
+    requires moment { moment ≤ last_moment }
     requires fits { FitsDeskAct act.now }
     ensures reply { IfOk result (λ reply. reply ≡ desk_reply (desk_answer desk.old session moment serial act.now)) }
     ensures after { OnOk result (desk.new ≡ desk_after desk.old session moment serial act.now) }
@@ -68,7 +69,7 @@ pub fn pair_step(
     moment: u64,
     plan: &Plan,
 ) -> Result<Reply, NoMemory>
-    requires moment { moment ≤ 2 ^ 48 }
+    requires moment { moment ≤ last_moment }
     requires planned { IsPlanned lobby.old plan.now }
     requires ready { CanCarry lobby.old plan.now desk.old }
     ensures reply { IfOk result (λ reply. reply ≡ Reply.Pair (plan_reply plan.now desk.old)) }

@@ -1,5 +1,6 @@
 -- The export form of a game: seven tags, an empty line, the moves in lines of at most 79 bytes, an empty line.
 use Rattle.std.specs.Prelude.{ℕ, ◌+◌, ◌/◌, ◌%◌, ◌≤◌, nat_le, nat_eq, if◌then◌else◌, List, [], ◌∷◌, ◌++◌, length, map, codes, decimal}
+use Rattle.chess_model.specs.Limits.{most_halves}
 use Rattle.chess_model.specs.declared.moves.Move.{Move}
 use Rattle.chess_model.specs.declared.variant.Variant.TheVariants.{Chess}
 use Rattle.chess_model.specs.Allowed.{IsLegal}
@@ -49,7 +50,7 @@ export_text g = tag_lines g ++ codes "\n" ++ movetext g ++ codes "\n\n"
 -- a game that can be exported: what the reading allows
 pub record IsExportable (g : PgnGame) : Type 0 where
   pub legal : IsLegal Chess (map on_board g.moves)
-  pub most : length g.moves ≤ 1200
+  pub most : length g.moves ≤ most_halves
   pub event : IsText g.tags.event
   pub site : IsText g.tags.site
   pub date : IsText g.tags.date

@@ -2,6 +2,7 @@
 -- project's profile).
 use Rattle.std.specs.Prelude.{◌≡◌, ◌≢◌, ◌⊎◌, ℕ, ◌≤◌, Bool, false, not, ◌||◌, if◌then◌else◌, List, [], ◌∷◌, ◌++◌, length, map, filter, Option, Some, None, unwrap_or, bytes_eq, codes, reverse}
 use Rattle.std.specs.List.{AllByRecursion, list_all}
+use Rattle.chess_model.specs.Limits.{most_halves}
 use Rattle.chess_model.specs.declared.moves.Move.{Move}
 use Rattle.chess_model.specs.declared.variant.Variant.TheVariants.{Chess}
 use Rattle.chess_model.specs.MoveList.{HalfMove}
@@ -122,7 +123,7 @@ pub record IsGame (pieces : List Piece) (g : PgnGame) : Type 0 where
   pub each_tag : AllByRecursion IsTag tags
   pub row : g.tags ≡ row_of tags
   pub moves : TellMoves [] body g.moves
-  pub most : length g.moves ≤ 1200
+  pub most : length g.moves ≤ most_halves
   pub whole : pieces ≡ all_tag_pieces tags ++ (body ++ Word (result_text g.result) ∷ [])
 
 -- the pieces of some games, one behind the other

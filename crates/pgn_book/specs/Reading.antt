@@ -2,6 +2,7 @@
 use Rattle.std.specs.Prelude.{ℕ, ◌+◌, ◌-◌, Bool, true, false, ◌==◌, ◌&&◌, nat_lt, nat_eq, not, if◌then◌else◌, List, [], ◌∷◌, ◌++◌, length, Option, Some, None, unwrap_or, bytes_eq, codes}
 use Rattle.std.specs.List.{list_all}
 use Rattle.std.specs.Result.{result_ok}
+use Rattle.chess_model.specs.Limits.{most_halves}
 use Rattle.chess_model.specs.declared.moves.Move.{Move}
 use Rattle.chess_model.specs.declared.moves.MoveWord.{MoveWord}
 use Rattle.chess_model.specs.Position.{Position}
@@ -132,7 +133,7 @@ with_move book (Some m) = goes (record { stage = Moves; row = book.row; moves = 
 
 abbrev pub moved : Book → List ℕ → Taken
 moved book word =
-    if nat_lt (length book.moves) 1200 then with_move book (move_read (position_of book.moves) (without_praise word))
+    if nat_lt (length book.moves) most_halves then with_move book (move_read (position_of book.moves) (without_praise word))
     else fails
 
 -- a number, a result or a move

@@ -1,5 +1,6 @@
 -- What holds of every state of the reader: what has come of a game may be exported, and variations stand in the moves.
 use Rattle.std.specs.Prelude.{◌≡◌, ◌⊎◌, ℕ, ◌≤◌, List, length, map, Option, Some, None}
+use Rattle.chess_model.specs.Limits.{most_halves}
 use Rattle.chess_model.specs.declared.variant.Variant.TheVariants.{Chess}
 use Rattle.chess_model.specs.Allowed.{IsLegal}
 use Rattle.pgn_book.specs.declared.place.Place.{Place}
@@ -18,7 +19,7 @@ IsTextIfTold (Some text) = IsText text
 -- the moves so far are legal and not too many, and the texts so far may stand in tags
 pub record IsSoundBook (book : Book) : Type 0 where
   pub legal : IsLegal Chess (map on_board book.moves)
-  pub most : length book.moves ≤ 1200
+  pub most : length book.moves ≤ most_halves
   pub event : IsTextIfTold book.row.event
   pub site : IsTextIfTold book.row.site
   pub date : IsTextIfTold book.row.date

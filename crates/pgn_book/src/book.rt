@@ -11,7 +11,7 @@ use crate::game::{PgnGame, PgnResult};
 use crate::row::Row;
 use crate::stage::Stage;
 use crate::text::Text;
-use chess_model::{Move, Variant};
+use chess_model::{MOST_HALVES, Move, Variant};
 use collections::Listed;
 use memory::NoMemory;
 use move_reader::read_word;
@@ -19,9 +19,6 @@ use std::alloc::Global;
 use std::marker::Model;
 use std::mem;
 use variant_rules::Position;
-
-/// The most half-moves of a game.
-const MOST_MOVES: usize = 1_200;
 
 /// What was read with a piece or a byte: maybe a game, and whether a text goes on behind it.
 #[derive(Drop)]
@@ -229,7 +226,7 @@ impl Book {
         ensures taken { IfOk result (λ on. IsTakenSilently on self.new (moved self.old word.now)) }
         ensures unchanged { OnErr result (self.new ≡ self.old) }
     {
-        if self.moves.len() >= MOST_MOVES {
+        if self.moves.len() >= MOST_HALVES {
             return Ok(false);
         }
         match self.resolve(without_praise(word)) {

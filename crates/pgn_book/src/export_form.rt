@@ -1,5 +1,6 @@
 //! The export form of a game.
 ghost use Rattle.std.specs.Prelude.{◌≡◌, ℕ, ◌≤◌, [], ◌∷◌, ◌++◌, List, length, codes, IfOk, OnOk};
+ghost use Rattle.chess_model.specs.Limits.{most_halves};
 ghost use Rattle.chess_model.specs.MoveList.{HalfMove};
 ghost use Rattle.chess_model.specs.Position.{Stands};
 ghost use Rattle.chess_model.specs.Allowed.{Allowed};
@@ -124,7 +125,7 @@ fn put_next(
     place: usize,
     m: &Move,
 ) -> Result<(), NoMemory>
-    requires place { place ≤ 1200 }
+    requires place { place ≤ most_halves }
     requires allowed { Allowed position.old m.now }
     ensures lays { OnOk result (Lays page.old page.new (number_at place ++ pretty_in position.old m.now ∷ [])) }
     ensures variant { position.new.variant ≡ position.old.variant }
@@ -144,7 +145,7 @@ fn put_shown(
     place: usize,
     m: &Move,
 ) -> Result<(), NoMemory>
-    requires place { place ≤ 1200 }
+    requires place { place ≤ most_halves }
     requires allowed { Allowed position.now m.now }
     ensures { OnOk result (Lays page.old page.new (number_at place ++ pretty_in position.now m.now ∷ [])) }
 {

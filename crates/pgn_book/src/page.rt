@@ -1,5 +1,6 @@
 //! The movetext while it is written.
 ghost use Rattle.std.specs.Prelude.{◌≡◌, ◌<◌, ◌≤◌, [], ◌∷◌, ◌++◌, length, IfOk, OnOk, decimal, codes};
+ghost use Rattle.chess_model.specs.Limits.{most_halves};
 ghost use Rattle.pgn_book.specs.Export.{number_at};
 
 use chess_model::MoveText;
@@ -77,7 +78,7 @@ impl Page {
         place: usize,
         text: &MoveText,
     ) -> Result<(), NoMemory>
-        requires { place ≤ 1200 }
+        requires { place ≤ most_halves }
         ensures { OnOk result (Lays self.old self.new (number_at place ++ text.now ∷ [])) }
     {
         if place % 2 == 0 {

@@ -1,6 +1,7 @@
 -- The lines of a replay script, which say what comes from whom and when: this server's own grammar.
-use Rattle.std.specs.Prelude.{ℕ, ◌^◌, ◌<◌, ◌≤◌, List, [], ◌∷◌, codes, decimal}
+use Rattle.std.specs.Prelude.{ℕ, ◌<◌, ◌≤◌, List, [], ◌∷◌, codes, decimal}
 use Rattle.std.specs.List.{join_with_byte}
+use Rattle.clock_ledger.specs.Charges.{last_moment}
 use Rattle.fics_words.specs.Line.{IsLine}
 use Rattle.replay_core.specs.Words.{blank}
 use Rattle.replay_core.specs.declared.script.ScriptEvent.{ScriptEvent}
@@ -22,7 +23,7 @@ IsScriptEvent (Ack stamp) = IsStamp stamp
 
 -- moments are milliseconds, and a script has up to 64 sessions
 pub record IsScriptLine (line : ScriptLine) : Type 0 where
-  pub moment : line.moment ≤ 2 ^ 48
+  pub moment : line.moment ≤ last_moment
   pub first : 1 ≤ line.session
   pub last : line.session ≤ 64
   pub event : IsScriptEvent line.event

@@ -1,6 +1,7 @@
 -- The seat line of a replay script, which says who plays what before the first event: this server's own grammar.
 use Rattle.std.specs.Prelude.{◌≡◌, ◌≢◌, ℕ, ◌≤◌, List, [], ◌∷◌, ◌++◌, length, All, AllPairs, Some, codes, decimal}
 use Rattle.std.specs.List.{join_with_byte}
+use Rattle.chess_model.specs.Limits.{most_time}
 use Rattle.chess_model.specs.declared.man.Colour.TheVariants.{White}
 use Rattle.chess_model.specs.declared.variant.Terms.{Terms}
 use Rattle.chess_model.specs.declared.variant.Variant.{Variant}
@@ -23,8 +24,8 @@ AreDifferent names = AllPairs (λ one other. key_of one ≢ key_of other) names
 
 -- minutes at the start and seconds for each move; the number of an array is from 0 to 959; the first player has White
 pub record AreSeatTerms (terms : Terms) : Type 0 where
-  pub minutes : terms.minutes ≤ 600
-  pub increment : terms.increment ≤ 600
+  pub minutes : terms.minutes ≤ most_time
+  pub increment : terms.increment ≤ most_time
   pub numbered : IsNumbered terms.variant
   pub white : terms.colour ≡ Some White
 

@@ -7,11 +7,9 @@ ghost use Rattle.replay_core.specs.Words.{blank};
 ghost use Rattle.replay_core.specs.declared.script.ScriptEvent.{ScriptEvent};
 
 use crate::words::cut_number;
+use clock_ledger::LAST_MOMENT;
 use fics_words::{Line, NoMemory, read_number};
 use std::alloc::Global;
-
-/// The last moment that a script may name, in milliseconds.
-const LAST_MOMENT: u64 = 1 << 48;
 
 /// The most sessions that a script may have.
 pub(crate) const MOST_SESSIONS: usize = 64;

@@ -8,13 +8,10 @@ ghost use Rattle.replay_core.specs.Words.{blank, words_before};
 ghost use Rattle.replay_core.specs.declared.seat_line.SeatLine.{SeatLine};
 
 use crate::words::{cut_handle, cut_number};
-use chess_model::{Colour, Terms, Variant, read_variant};
+use chess_model::{Colour, MOST_TIME, Terms, Variant, read_variant};
 use collections::Listed;
 use fics_words::{Handle, Line, NoMemory};
 use std::alloc::Global;
-
-/// The most minutes at the start of a game, and the most seconds for each move.
-const MOST_TIME: u64 = 600;
 
 /// Who plays what at the start of a script.
 #[derive(Drop)]
@@ -92,10 +89,10 @@ fn read_terms(bytes: &[u8]) -> Option<Terms>
     ensures in_range { IfSome result AreSeatTerms }
     ensures none { IfNone result ((terms : Terms) → AreSeatTerms terms → bytes.now ≢ terms_text terms) }
 {
-    let Some((minutes, rest)) = cut_number(bytes, MOST_TIME) else {
+    let Some((minutes, rest)) = cut_number(bytes, MOST_TIME.into()) else {
         return None;
     };
-    let Some((increment, rest)) = cut_number(rest, MOST_TIME) else {
+    let Some((increment, rest)) = cut_number(rest, MOST_TIME.into()) else {
         return None;
     };
     let Some(variant) = read_variant(rest) else {

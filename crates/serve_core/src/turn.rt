@@ -1,18 +1,17 @@
 //! A turn of the steward, with the hall's first pass.
 
-ghost use Rattle.std.specs.Prelude.{◌≡◌, ◌≤◌, ◌^◌};
+ghost use Rattle.std.specs.Prelude.{◌≡◌, ◌≤◌};
+ghost use Rattle.clock_ledger.specs.Charges.{last_moment};
 ghost use Rattle.edge_traits.specs.Faults.{Rose};
 ghost use Rattle.serve_core.specs.Turns.{MadeTurn};
 
 use crate::place::Place;
+use clock_ledger::LAST_MOMENT;
 use edge_traits::{Clock, Gate, Keeper};
 use hall_core::HallPass;
 use std::sync::Wait;
 use std::thread::Threads;
 use steward_core::{StewardEnd, steward_turn};
-
-/// The latest moment that an act may have, in milliseconds.
-const LATEST: u64 = 1 << 48;
 
 /// Makes a turn of the steward with the pass over the keeper, at the present moment.
 pub fn turn<T: Threads + Wait, C: Clock, G: Gate, P: Keeper>(
@@ -33,7 +32,7 @@ pub fn turn<T: Threads + Wait, C: Clock, G: Gate, P: Keeper>(
 
 /// The present moment, at most 2^48.
 fn present<C: Clock>(clock: &C) -> u64
-    ensures { result ≤ 2 ^ 48 }
+    ensures { result ≤ last_moment }
 {
-    clock.now().min(LATEST)
+    clock.now().min(LAST_MOMENT)
 }

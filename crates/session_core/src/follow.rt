@@ -1,5 +1,6 @@
 //! The loop that makes a session's acts.
-ghost use Rattle.std.specs.Prelude.{◌≡◌, ◌≤◌, ◌<◌, ◌^◌, IfOk, OnOk, OnErr};
+ghost use Rattle.std.specs.Prelude.{◌≡◌, ◌≤◌, ◌<◌, IfOk, OnOk, OnErr};
+ghost use Rattle.clock_ledger.specs.Charges.{last_moment};
 ghost use Rattle.one_server.specs.Acts.{FitsAct};
 ghost use Rattle.session_core.specs.Course.{Asks};
 ghost use Rattle.session_core.specs.Going.{Answered, BrokeOff, WentOn};
@@ -24,7 +25,7 @@ pub(crate) fn follow<R: Runner>(
     first: Next,
     out: &mut Vec<u8>,
 ) -> Result<(), NoMemory>
-    requires moment { moment ≤ 2 ^ 48 }
+    requires moment { moment ≤ last_moment }
     requires ready { IsPosed memory.old first }
     ensures home { R.home r.new ≡ R.home r.old }
     ensures followed { OnOk result (Answered (course_of first memory.old) (λ text. text) moment
@@ -54,7 +55,7 @@ fn ask<R: Runner>(
     stage: Stage,
     out: &mut Vec<u8>,
 ) -> Result<Next, NoMemory>
-    requires moment { moment ≤ 2 ^ 48 }
+    requires moment { moment ≤ last_moment }
     requires fits { FitsAct act }
     requires set { IsSet memory.old stage }
     requires suits { Suits act stage }

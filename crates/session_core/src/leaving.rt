@@ -1,5 +1,6 @@
 //! What a session does when it leaves.
-ghost use Rattle.std.specs.Prelude.{◌≡◌, ◌≤◌, ◌<◌, ◌^◌, [], true, OnOk};
+ghost use Rattle.std.specs.Prelude.{◌≡◌, ◌≤◌, ◌<◌, [], true, OnOk};
+ghost use Rattle.clock_ledger.specs.Charges.{last_moment};
 ghost use Rattle.one_server.specs.Acts.{FitsAct};
 ghost use Rattle.session_core.specs.Course.{Asks, nothing_told};
 ghost use Rattle.session_core.specs.Going.{Left, LeftInPart, Passed, Went};
@@ -26,7 +27,7 @@ pub(crate) fn leave<R: Runner>(
     moment: u64,
     memory: &mut Memory,
 ) -> Result<(), NoMemory>
-    requires { moment ≤ 2 ^ 48 }
+    requires { moment ≤ last_moment }
     ensures home { R.home r.new ≡ R.home r.old }
     ensures left { OnOk result (Left (leaving memory.old) moment (R.state r.old) (R.state r.new) memory.new) }
     ensures part { LeftInPart (leaving memory.old) moment (R.state r.old) (R.state r.new) }
@@ -57,7 +58,7 @@ fn ask_or_pass<R: Runner>(
     act: Act,
     stage: LeavingStage,
 ) -> (Result<(), NoMemory>, LeavingNext)
-    requires moment { moment ≤ 2 ^ 48 }
+    requires moment { moment ≤ last_moment }
     requires fits { FitsAct act }
     requires desk { LeavesDesk stage }
     ensures home { R.home r.new ≡ R.home r.old }

@@ -30,7 +30,7 @@ impl PlacesLeft {
         ensures places { result ≡ places.now.rows }
         ensures most { length places.now.rows ≤ 32 }
     {
-        let _rows = places.rows();
+        let _count = places.len();
         PlacesLeft {
             places: *places,
             taken: 0,
@@ -43,11 +43,10 @@ impl PlacesLeft {
         ensures same { IsNone result → self.new ≡ self.old }
         ensures desk { IfSome result (λ place. IsDesk place.desk) }
     {
-        let rows = self.places.rows();
-        if self.taken >= rows.len() {
+        if self.taken >= self.places.len() {
             return None;
         }
-        let place = rows[self.taken];
+        let place = self.places.place(self.taken);
         self.taken += 1;
         Some(place)
     }

@@ -7,6 +7,7 @@ use crate::places_left::PlacesLeft;
 use crate::visit::{Visit, looking, playing};
 use lobby_state::Places;
 use std::marker::Model;
+use std::mem::size_of;
 
 /// Games that come next, each at a desk from 1 to 128: those that the session plays, and then those at which it looks
 /// on. Contracts see their list.
@@ -15,6 +16,8 @@ pub(crate) struct Rest {
     places: PlacesLeft,
     observed: PlacesLeft,
 }
+
+const _: () = prove!(size_of::<Rest>() <= 704);
 
 impl Model for Rest {
     ghost use Rattle.std.specs.Prelude.{List};

@@ -1,5 +1,6 @@
 //! A session from its opening to its end.
 ghost use Rattle.std.specs.Prelude.{◌≡◌};
+ghost use Rattle.clock_ledger.specs.Charges.{last_moment};
 
 use crate::framing::{framed, framing_of};
 use crate::input::{Input, Wrote};
@@ -31,7 +32,7 @@ impl Model for Session {
 }
 
 impl Session {
-    ghost use Rattle.std.specs.Prelude.{◌≡◌, ◌≤◌, ◌^◌, [], false, IfOk, OnOk, OnErr};
+    ghost use Rattle.std.specs.Prelude.{◌≡◌, ◌≤◌, [], false, IfOk, OnOk, OnErr};
     ghost use Rattle.session_core.specs.Going.{Answered, Broke, Left, LeftInPart, departing};
     ghost use Rattle.session_core.specs.Inputs.{FitsInput, answer_text, input_course};
     ghost use Rattle.session_core.specs.Memory.{has_entered, is_gone, newcomer, seated};
@@ -76,7 +77,7 @@ impl Session {
         moment: u64,
         input: Input,
     ) -> Result<Wrote, NoMemory>
-        requires moment { moment ≤ 2 ^ 48 }
+        requires moment { moment ≤ last_moment }
         requires fits { FitsInput input }
         ensures home { R.home r.new ≡ R.home r.old }
         ensures answered { IfOk result (λ wrote. Answered (input_course input self.old)
@@ -102,7 +103,7 @@ impl Session {
     /// running out of memory. Where Going is passed over, the places are those that the session remembers. Where the
     /// runner's mark is true, nothing but the giving up of a place can be passed over.
     pub fn leave<R: Runner>(&mut self, r: &mut R, moment: u64) -> Result<(), NoMemory>
-        requires { moment ≤ 2 ^ 48 }
+        requires { moment ≤ last_moment }
         ensures home { R.home r.new ≡ R.home r.old }
         ensures left { OnOk result
             (Left (departing self.old) moment (R.state r.old) (R.state r.new) self.new) }

@@ -215,7 +215,7 @@ impl Memory {
     pub(crate) fn is_full(&self) -> bool
         ensures { result ≡ is_full self.now }
     {
-        self.observed.rows().len() >= MOST_OBSERVED
+        self.observed.len() >= MOST_OBSERVED
     }
 
     /// Looks on at the game of this place too.
@@ -239,11 +239,13 @@ impl Memory {
         ensures place { result ≡ observed_at desk self.now }
         ensures desk { IfSome result (λ place. IsDesk place.desk) }
     {
-        self.observed
-            .rows()
-            .iter()
-            .copied()
-            .find(|place| u32::from(place.desk) == desk)
+        for at in 0..self.observed.len() {
+            let place = self.observed.place(at);
+            if u32::from(place.desk) == desk {
+                return Some(place);
+            }
+        }
+        None
     }
 
     /// The first game at which the session looks on, if there is one.
@@ -251,7 +253,7 @@ impl Memory {
         ensures place { result ≡ slice_get self.now.observed.rows 0 }
         ensures desk { IfSome result (λ place. IsDesk place.desk) }
     {
-        self.observed.rows().get(0).copied()
+        self.observed.get(0)
     }
 
     /// Where the session can say something about a game: at its present place, or else at the first game at which it

@@ -1,5 +1,6 @@
 //! What a session does for an input.
-ghost use Rattle.std.specs.Prelude.{◌≡◌, ◌≤◌, ◌^◌, OnOk};
+ghost use Rattle.std.specs.Prelude.{◌≡◌, ◌≤◌, OnOk};
+ghost use Rattle.clock_ledger.specs.Charges.{last_moment};
 ghost use Rattle.session_core.specs.Going.{Answered, Broke};
 ghost use Rattle.session_core.specs.Inputs.{FitsInput, input_course};
 
@@ -22,7 +23,7 @@ pub(crate) fn take<R: Runner>(
     input: Input,
     out: &mut Vec<u8>,
 ) -> Result<(), NoMemory>
-    requires moment { moment ≤ 2 ^ 48 }
+    requires moment { moment ≤ last_moment }
     requires fits { FitsInput input }
     ensures home { R.home r.new ≡ R.home r.old }
     ensures answered { OnOk result (Answered (input_course input memory.old) (λ text. text) moment

@@ -1,5 +1,6 @@
 //! The visits of a round: each game of the session is asked for its news.
-ghost use Rattle.std.specs.Prelude.{◌≡◌, ◌≤◌, ◌^◌, ◌++◌, ℕ, List, ◌∷◌, IfOk, OnErr, OnOk, true};
+ghost use Rattle.std.specs.Prelude.{◌≡◌, ◌≤◌, ◌++◌, ℕ, List, ◌∷◌, IfOk, OnErr, OnOk, true};
+ghost use Rattle.clock_ledger.specs.Charges.{last_moment};
 ghost use Rattle.lobby_state.specs.Desks.{IsDesk};
 ghost use Rattle.one_server.specs.Replies.{IsReply};
 ghost use Rattle.session_core.specs.Course.{Course};
@@ -27,7 +28,7 @@ pub(crate) fn visit_all<R: Runner>(
     memory: &mut Memory,
     out: &mut Vec<u8>,
 ) -> Result<(), NoMemory>
-    requires moment { moment ≤ 2 ^ 48 }
+    requires moment { moment ≤ last_moment }
     requires inside { has_entered memory.old ≡ true }
     ensures home { R.home r.new ≡ R.home r.old }
     ensures followed { OnOk result (Answered (rounding memory.old) (λ text. text) moment
@@ -52,7 +53,7 @@ fn visit_game<R: Runner>(
     visit: &Visit,
     out: &mut Vec<u8>,
 ) -> Result<(), NoMemory>
-    requires moment { moment ≤ 2 ^ 48 }
+    requires moment { moment ≤ last_moment }
     requires inside { has_entered memory.old ≡ true }
     requires desk { IsDesk visit.now.desk }
     ensures home { R.home r.new ≡ R.home r.old }
@@ -79,7 +80,7 @@ fn ask_news<R: Runner>(
     visit: &Visit,
     out: &mut Vec<u8>,
 ) -> Result<bool, NoMemory>
-    requires moment { moment ≤ 2 ^ 48 }
+    requires moment { moment ≤ last_moment }
     requires inside { has_entered memory.old ≡ true }
     requires desk { IsDesk visit.now.desk }
     ensures home { R.home r.new ≡ R.home r.old }
@@ -96,7 +97,7 @@ fn ask_news<R: Runner>(
 
 /// Gives up a game from which nothing more will come.
 fn give_up<R: Runner>(alloc: Global, r: &mut R, moment: u64, visit: &Visit) -> Result<(), NoMemory>
-    requires moment { moment ≤ 2 ^ 48 }
+    requires moment { moment ≤ last_moment }
     requires desk { IsDesk visit.now.desk }
     ensures home { R.home r.new ≡ R.home r.old }
     ensures went { (rest : Course) (memory : MemoryState) (out : List ℕ) → has_entered memory ≡ true → OnOk result

@@ -52,9 +52,13 @@ adding place places = record {
 abbrev pub with_place : Place → PlaceList → PlaceList
 with_place place places = state_of places (adding place places)
 
+-- another desk than this one
+abbrev pub is_other : ℕ → ℕ → Bool
+is_other desk other = not (other == desk)
+
 -- the place isn't at this desk
 abbrev pub is_elsewhere : ℕ → Place → Bool
-is_elsewhere desk place = not (place.desk == desk)
+is_elsewhere desk place = is_other desk place.desk
 
 -- the number of the present place, which is the first place's where it would be behind the last
 abbrev pub within : ℕ → List Place → ℕ

@@ -7,12 +7,12 @@ use crate::places::Places;
 pub fn turns_come_round(places: &Places)
     ensures { ComeRound places.now }
 {
-    let _rows = places.rows();
+    let _count = places.len();
 }
 
 /// A turn to the previous place undoes a turn to the next one, and the other way round.
 pub fn ways_undo_each_other(places: &Places)
     ensures { UndoEachOther places.now }
 {
-    let _rows = places.rows();
+    let _count = places.len();
 }

@@ -1,32 +1,31 @@
-//! The places of a player, in a field of fixed room.
-ghost use Rattle.std.specs.Prelude.{◌≡◌, ◌-◌, ◌<◌, ◌≤◌, IfSome, count_by, filter, length, slice_get};
+//! The places of a player, in columns of fixed room.
+ghost use Rattle.std.specs.Prelude.{◌≡◌, ◌-◌, ◌<◌, ◌≤◌, IfSome, count_by, filter, get_or, length, slice_get, take};
 ghost use Rattle.simul_control.specs.Desks.{IsDesk};
-ghost use Rattle.simul_control.specs.Places.{AreAtDesks, is_elsewhere, most_at_switch, turned_from};
+ghost use Rattle.simul_control.specs.Places.{AreAtDesks, is_elsewhere, is_other, most_at_switch, turned_from};
 
 use crate::place::Place;
 use crate::way::Way;
 use fics_words::Refusal;
 use std::marker::Model;
+use std::mem::size_of;
 
 /// The most places that a player has.
 const MOST: usize = 32;
 
-/// What stands behind the places in their field.
-const NOWHERE: Place = Place {
-    desk: 0,
-    serial: 0,
-    seat: 0,
-};
-
 /// The places of a player in the order in which they came, which of them is the present one, and whether the player
-/// gives a simul. Contracts see whether it gives, the present place's number, and the list of the places.
+/// gives a simul. Contracts see whether it gives, the present place's number, and the list of the places. The desks, the
+/// seats and the serials stand in columns, which takes less than half the room of rows; behind the places they have 0.
 #[derive(Clone, Copy, PartialEq, Eq)]
 pub struct Places {
     giving: bool,
     at: usize,
     count: usize,
-    rows: [Place; 32],
+    desks: [u8; 32],
+    seats: [u8; 32],
+    serials: [u64; 32],
 }
+
+const _: () = prove!(size_of::<Places>() == 344);
 
 impl Model for Places {
     ghost use Rattle.simul_control.specs.Places.{PlaceList};
@@ -56,18 +55,44 @@ impl Places {
             giving: false,
             at: 0,
             count: 0,
-            rows: [NOWHERE; 32],
+            desks: [0; 32],
+            seats: [0; 32],
+            serials: [0; 32],
         }
     }
 
-    /// The places, in the order in which they came.
-    pub fn rows(&self) -> &[Place]
-        ensures rows { result.now ≡ self.now.rows }
+    /// How many places there are, at most 32.
+    pub fn len(&self) -> usize
+        ensures count { result ≡ length self.now.rows }
         ensures most { length self.now.rows ≤ MOST }
         ensures present { self.now.at ≤ length self.now.rows - 1 }
         ensures at_desks { AreAtDesks self.now.rows }
     {
-        &self.rows[..self.count]
+        self.count
+    }
+
+    /// The place of this number, from 0, in the order in which they came.
+    pub fn place(&self, at: usize) -> Place
+        requires { at < length self.now.rows }
+        ensures place { (other : Place) → result ≡ get_or self.now.rows at other }
+        ensures at_desk { IsDesk result.desk }
+    {
+        Place {
+            desk: self.desks[at],
+            serial: self.serials[at],
+            seat: self.seats[at],
+        }
+    }
+
+    /// The same, if there is a place of this number.
+    pub fn get(&self, at: usize) -> Option<Place>
+        ensures place { result ≡ slice_get self.now.rows at }
+        ensures at_desk { IfSome result (λ place. IsDesk place.desk) }
+    {
+        if at >= self.count {
+            return None;
+        }
+        Some(self.place(at))
     }
 
     /// The number of the present place among the places, from 0; 0 too where there is none.
@@ -82,7 +107,7 @@ impl Places {
         ensures present { result ≡ slice_get self.now.rows self.now.at }
         ensures at_desk { IfSome result (λ place. IsDesk place.desk) }
     {
-        self.rows().get(self.at).copied()
+        self.get(self.at)
     }
 
     /// Whether the player gives a simul.
@@ -115,7 +140,9 @@ impl Places {
         if self.count >= MOST {
             return Err(Refusal::SimulFull);
         }
-        self.rows[self.count] = place;
+        self.desks[self.count] = place.desk;
+        self.seats[self.count] = place.seat;
+        self.serials[self.count] = place.serial;
         self.count += 1;
         Ok(())
     }
@@ -125,9 +152,8 @@ impl Places {
     pub fn without(&self, desk: u8) -> Places
         ensures { result ≡ without_desk desk self.now }
     {
-        let rows = self.rows();
-        let mut kept = elsewhere(self.giving, rows, desk);
-        let before = count_elsewhere(&rows[..self.at], desk);
+        let mut kept = elsewhere(self, desk);
+        let before = count_elsewhere(self, self.at, desk);
         if before < kept.count {
             kept.at = before;
         }
@@ -167,29 +193,36 @@ impl Places {
     }
 }
 
-/// The places among `rows` that aren't at the desk, of a player that gives or not; the first of them is the present
-/// one.
-fn elsewhere(giving: bool, rows: &[Place], desk: u8) -> Places
-    requires most { length rows.now ≤ MOST }
-    requires at_desks { AreAtDesks rows.now }
-    ensures { result ≡ record { giving = giving; at = 0; rows = filter (is_elsewhere desk) rows.now } }
+/// The places that aren't at the desk, of a player that gives as before; the first of them is the present one.
+fn elsewhere(places: &Places, desk: u8) -> Places
+    ensures { result ≡ record
+        { giving = places.now.giving; at = 0; rows = filter (is_elsewhere desk) places.now.rows } }
 {
     let mut kept = Places::none();
-    kept.giving = giving;
-    for place in rows {
+    kept.giving = places.giving;
+    for at in 0..places.len() {
+        let place = places.place(at);
         if place.desk != desk {
             // no more than there were, so that there is room
-            let _room = kept.add(*place);
+            let _room = kept.add(place);
         }
     }
     kept
 }
 
-/// How many places among `rows` aren't at the desk.
-fn count_elsewhere(rows: &[Place], desk: u8) -> usize
-    ensures { result ≡ count_by (is_elsewhere desk) rows.now }
+/// How many of the first so many places aren't at the desk.
+fn count_elsewhere(places: &Places, first: usize, desk: u8) -> usize
+    requires { first ≤ length places.now.rows }
+    ensures { result ≡ count_by (is_elsewhere desk) (take first places.now.rows) }
 {
-    rows.iter().filter(|place| place.desk != desk).count()
+    count_others(&places.desks[..first], desk)
+}
+
+/// How many of these desks are other ones.
+fn count_others(desks: &[u8], desk: u8) -> usize
+    ensures { result ≡ count_by (is_other desk) desks.now }
+{
+    desks.iter().filter(|other| **other != desk).count()
 }
 
 /// How many places a player may have as it begins a simul, and as it ends one.

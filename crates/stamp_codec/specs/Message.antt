@@ -1,6 +1,7 @@
 -- What a stamped line says: a text or an acknowledgement, and the moment on the client's clock.
 use Rattle.std.specs.Prelude.{ℕ, Bool, ◌&&◌, nat_lt, nat_le, List, [], ◌∷◌, length, bytes_eq, if◌then◌else◌}
 use Rattle.std.specs.List.{list_all}
+use Rattle.fics_words.specs.Line.{most_line_bytes}
 use Rattle.clock_ledger.specs.Span.{stamp_cycle}
 
 -- a text or an acknowledgement, with its stamp in milliseconds
@@ -27,7 +28,7 @@ is_printable byte = nat_le 0x20 byte && nat_le byte 0x7E
 
 -- a text is at most 1,023 such bytes
 abbrev pub is_text : List ℕ → Bool
-is_text text = nat_le (length text) 1023 && list_all is_printable text
+is_text text = nat_le (length text) most_line_bytes && list_all is_printable text
 
 -- a message that a line can say
 abbrev pub is_message : Message → Bool

@@ -8,7 +8,7 @@ ghost use Rattle.stamp_codec.specs.Spelling.{pads, written};
 use crate::groups::GROUP;
 use crate::sealed::Sealed;
 use clock_ledger::STAMP_CYCLE;
-use fics_words::read_number;
+use fics_words::{MOST_LINE_BYTES, read_number};
 
 /// The byte behind the text.
 pub(crate) const TEXT_END: u8 = 0x18;
@@ -21,9 +21,6 @@ pub(crate) const PAD: u8 = b'1';
 
 /// What an acknowledgement has in the place of a text.
 const ACK_TEXT: &[u8; 2] = b"\x029";
-
-/// The most bytes of a text.
-const MOST_TEXT: usize = 1_023;
 
 /// Reads text, stamp and pads: the message exactly where the bytes are one.
 pub(crate) fn read_plain(plain: &[u8]) -> Option<Sealed<'_>>
@@ -66,7 +63,7 @@ fn say(text: &[u8], stamp: u32) -> Option<Sealed<'_>>
 pub(crate) fn is_text(text: &[u8]) -> bool
     ensures { result ≡ is_text text.now }
 {
-    if text.len() > MOST_TEXT {
+    if text.len() > MOST_LINE_BYTES {
         return false;
     }
     are_printable(text)

@@ -1,5 +1,6 @@
 //! The first half of a turn of the steward: the desks whose players are gone are freed.
-ghost use Rattle.std.specs.Prelude.{◌≡◌, ◌≤◌, ◌^◌, All};
+ghost use Rattle.std.specs.Prelude.{◌≡◌, ◌≤◌, All};
+ghost use Rattle.clock_ledger.specs.Charges.{last_moment};
 ghost use Rattle.lobby_state.specs.Desks.{IsDesk};
 ghost use Rattle.one_server.specs.Running.{IsKnown};
 ghost use Rattle.steward_core.specs.Clearing.{Cleared, ClearsOne, TakesClearing, end_of_both};
@@ -22,7 +23,7 @@ pub enum ClearingEnd {
 /// makes a Clear for each of them. An act that runs out of memory is passed over, and then the answer is `Memory`. It
 /// waits where the runner does.
 pub fn clearing_turn<R: Runner>(alloc: Global, runner: &mut R, moment: u64) -> ClearingEnd
-    requires { moment ≤ 2 ^ 48 }
+    requires { moment ≤ last_moment }
     ensures home { R.home runner.new ≡ R.home runner.old }
     ensures cleared { TakesClearing moment result (R.state runner.old) (R.state runner.new) }
 {
@@ -44,7 +45,7 @@ fn clear_each<R: Runner>(
     moment: u64,
     rows: &[DeskInUse],
 ) -> ClearingEnd
-    requires moment { moment ≤ 2 ^ 48 }
+    requires moment { moment ≤ last_moment }
     requires desks { All (λ row. IsDesk row.desk) rows.now }
     requires known { IsKnown (R.state runner.old) }
     ensures home { R.home runner.new ≡ R.home runner.old }
@@ -60,7 +61,7 @@ fn clear_each<R: Runner>(
 
 /// Makes a Clear for a desk, or passes over it.
 fn clear_one<R: Runner>(alloc: Global, runner: &mut R, moment: u64, row: &DeskInUse) -> ClearingEnd
-    requires moment { moment ≤ 2 ^ 48 }
+    requires moment { moment ≤ last_moment }
     requires desk { IsDesk row.now.desk }
     ensures home { R.home runner.new ≡ R.home runner.old }
     ensures cleared { ClearsOne moment result row.now (R.state runner.old) (R.state runner.new) }

@@ -1,5 +1,6 @@
 //! The second half of a turn of the steward: save orders are carried out and told as saved.
-ghost use Rattle.std.specs.Prelude.{◌≡◌, ◌≤◌, ◌^◌, length};
+ghost use Rattle.std.specs.Prelude.{◌≡◌, ◌≤◌, length};
+ghost use Rattle.clock_ledger.specs.Charges.{last_moment};
 ghost use Rattle.edge_traits.specs.Faults.{Rose};
 ghost use Rattle.one_server.specs.Running.{IsKnown};
 ghost use Rattle.steward_core.specs.Agreement.{StaysAgreed};
@@ -51,7 +52,7 @@ pub(crate) fn save_orders<R: Runner, P: Keeper>(
     keeper: &mut P,
     moment: u64,
 ) -> StewardEnd
-    requires { moment ≤ 2 ^ 48 }
+    requires { moment ≤ last_moment }
     ensures home { R.home runner.new ≡ R.home runner.old }
     ensures saving { TakesSaving moment result (P.table keeper.old) (P.table keeper.new) (R.state runner.old)
         (R.state runner.new) }
@@ -80,7 +81,7 @@ fn save_round<R: Runner, P: Keeper>(
     keeper: &mut P,
     moment: u64,
 ) -> Round
-    requires moment { moment ≤ 2 ^ 48 }
+    requires moment { moment ≤ last_moment }
     requires known { IsKnown (R.state runner.old) }
     ensures home { R.home runner.new ≡ R.home runner.old }
     ensures round { RunsRound moment result (P.table keeper.old) (P.table keeper.new) (R.state runner.old)
@@ -115,7 +116,7 @@ fn save_told<R: Runner, P: Keeper>(
     moment: u64,
     orders: &[Order],
 ) -> Round
-    requires moment { moment ≤ 2 ^ 48 }
+    requires moment { moment ≤ last_moment }
     requires known { IsKnown (R.state runner.old) }
     requires few { length orders.now ≤ 16 }
     ensures home { R.home runner.new ≡ R.home runner.old }
@@ -149,7 +150,7 @@ fn round_of(end: Kept, told: Told, count: usize) -> Round
 
 /// Tells these orders as saved: those up to the last of them. Nothing is told where there are none.
 fn tell_saved<R: Runner>(alloc: Global, runner: &mut R, moment: u64, orders: &[Order]) -> Told
-    requires moment { moment ≤ 2 ^ 48 }
+    requires moment { moment ≤ last_moment }
     ensures home { R.home runner.new ≡ R.home runner.old }
     ensures told { Tells moment orders.now result (R.state runner.old) (R.state runner.new) }
 {

@@ -1,5 +1,6 @@
 //! A whole turn of the steward.
-ghost use Rattle.std.specs.Prelude.{◌≡◌, ◌≤◌, ◌^◌};
+ghost use Rattle.std.specs.Prelude.{◌≡◌, ◌≤◌};
+ghost use Rattle.clock_ledger.specs.Charges.{last_moment};
 ghost use Rattle.edge_traits.specs.Faults.{Rose};
 ghost use Rattle.steward_core.specs.Agreement.{StaysAgreed};
 ghost use Rattle.steward_core.specs.Turn.{TakesTurn, end_of_turn};
@@ -33,7 +34,7 @@ pub fn steward_turn<R: Runner, P: Keeper>(
     keeper: &mut P,
     moment: u64,
 ) -> StewardEnd
-    requires { moment ≤ 2 ^ 48 }
+    requires { moment ≤ last_moment }
     ensures home { R.home runner.new ≡ R.home runner.old }
     ensures turn { TakesTurn moment result (P.table keeper.old) (P.table keeper.new) (R.state runner.old)
         (R.state runner.new) }

@@ -317,7 +317,7 @@ fn tells_seat(reply: &LobbyReply, count: usize, desk: u8, seat: u8) -> bool {
 }
 
 fn have_seat(places: &Places, count: usize, desk: u8, seat: u8) -> bool {
-    if places.rows().len() != count {
+    if places.len() != count {
         return false;
     }
     match places.present() {

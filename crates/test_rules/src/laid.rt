@@ -2,9 +2,9 @@
 
 use crate::playing::{STRANGE, play_next, terms};
 use crate::resumed::{Shown, half_move, shows};
-use chess_model::Variant;
+use chess_model::{MOST_HALVES, Variant};
 use fics_words::Refusal;
-use game_board::{GameBoard, MOST_PLAYED, Played};
+use game_board::{GameBoard, Played};
 use std::alloc::Global;
 use std::test::Fail;
 use test_steps::first_wrong;
@@ -99,7 +99,7 @@ const STEPS: &[Step] = &[
 
 /// Lays a half-move that is allowed on a board.
 fn lay(board: &mut GameBoard, half: &Played) -> Result<(), Refusal> {
-    if !board.position().allowed(half.what) || board.played() >= MOST_PLAYED {
+    if !board.position().allowed(half.what) || usize::from(board.played()) >= MOST_HALVES {
         return Err(STRANGE);
     }
     if let Some(charge) = &half.charge {

@@ -57,8 +57,8 @@ fn of_lobby(answer: &LobbyReply) -> Said {
         LobbyReply::Told(count) => Said::Told(*count),
         LobbyReply::Asked => Said::Asked,
         LobbyReply::Found(_) => Said::Found,
-        LobbyReply::Places(places) => Said::Places(places.rows().len()),
-        LobbyReply::Waiting { lines, places } => Said::Waiting(lines.len(), places.rows().len()),
+        LobbyReply::Places(places) => Said::Places(places.len()),
+        LobbyReply::Waiting { lines, places } => Said::Waiting(lines.len(), places.len()),
         LobbyReply::Desks(desks) => Said::Desks(desks.len()),
         LobbyReply::Orders(orders) => Said::Orders(orders.len()),
     }

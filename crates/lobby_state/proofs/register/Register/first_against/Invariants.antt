@@ -5,4 +5,4 @@ use Rattle.lobby_state.proofs.register.Register.first_against.Given as goal
 
 abbrev pub invariant-loop-at : goal.invariant-loop-at
 invariant-loop-at l =
-    (k : ℕ) (d : Place) → k < l.at → is_against l.self l.player (get_or l.rows k d) ≡ false
+    (k : ℕ) (d : Place) → k < l.at → is_against l.self l.player (get_or l.places.rows k d) ≡ false
