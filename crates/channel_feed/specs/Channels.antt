@@ -31,8 +31,8 @@ abbrev pub without_one : ℕ → ℕ → List Membership → List Membership
 without_one who channel rows = filter (λ row. not (is_row who channel row)) rows
 
 -- leaving is refused where the player isn't in the channel
-abbrev pub leaving : List Membership → ℕ → ℕ → Effect (List Membership) (Unit {0})
-leaving rows who channel = record {
+abbrev pub leaving_channel : List Membership → ℕ → ℕ → Effect (List Membership) (Unit {0})
+leaving_channel rows who channel = record {
   causes = (not (is_in rows who channel), NotInChannel) ∷ [];
   memory = false;
   reply = tt;

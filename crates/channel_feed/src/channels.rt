@@ -3,7 +3,8 @@ ghost use Rattle.std.specs.Prelude.{◌≡◌, ◌==◌, not};
 ghost use Rattle.channel_feed.specs.Channels.{channels_of, is_in};
 
 use collections::Predicate;
-use fics_words::{Duplicate, Fail, NoMemory, Refusal};
+use fics_words::{Fail, Refusal};
+use memory::{Duplicate, NoMemory};
 use std::alloc::Global;
 use std::marker::Model;
 use tables::{Keyed, Table};
@@ -67,7 +68,7 @@ impl Model for Channels {
 impl Channels {
     ghost use Rattle.std.specs.Prelude.{◌≡◌, []};
     ghost use Rattle.fics_words.specs.Effect.{Takes, answer_of, state_of};
-    ghost use Rattle.channel_feed.specs.Channels.{is_in, joining, leaving, without_player};
+    ghost use Rattle.channel_feed.specs.Channels.{is_in, joining, leaving_channel, without_player};
 
     /// Nobody is in a channel; takes no memory.
     pub fn new(alloc: Global) -> Channels
@@ -102,8 +103,8 @@ impl Channels {
 
     /// The player leaves the channel; takes no memory. Refuses with `NotInChannel` where it isn't in it.
     pub fn leave(&mut self, who: u32, channel: u8) -> Result<(), Refusal>
-        ensures answer { result ≡ answer_of (leaving self.old who channel) }
-        ensures after { self.new ≡ state_of self.old (leaving self.old who channel) }
+        ensures answer { result ≡ answer_of (leaving_channel self.old who channel) }
+        ensures after { self.new ≡ state_of self.old (leaving_channel self.old who channel) }
     {
         if !self.has(who, channel) {
             return Err(Refusal::NotInChannel);

@@ -2,7 +2,8 @@
 ghost use Rattle.std.specs.Prelude.{◌≡◌, bytes_eq, not};
 
 use collections::{Listed, Predicate};
-use fics_words::{Duplicate, Fail, HandleKey, NoMemory, Refusal};
+use fics_words::{Fail, HandleKey, Refusal};
+use memory::{Duplicate, NoMemory};
 use std::alloc::Global;
 use std::marker::Model;
 

@@ -3,7 +3,8 @@ ghost use Rattle.std.specs.Prelude.{◌≡◌, ◌<◌, IfOk, OnErr, OnOk, lengt
 ghost use Rattle.channel_feed.specs.Waiting.{is_full, nothing_waits, with_line_put, with_room, without_last};
 
 use collections::{Listed, Reserved};
-use fics_words::{Duplicate, Line, NoMemory};
+use fics_words::Line;
+use memory::{Duplicate, NoMemory};
 use std::alloc::Global;
 use std::marker::Model;
 

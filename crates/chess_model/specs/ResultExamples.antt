@@ -9,7 +9,7 @@ use Rattle.chess_model.specs.declared.variant.Variant.{Variant}
 use Rattle.chess_model.specs.declared.variant.Variant.TheVariants.{Chess, Crazyhouse, Bughouse}
 use Rattle.chess_model.specs.Position.{Position, position_after}
 use Rattle.chess_model.specs.Examples.{go, on_board}
-use Rattle.chess_model.specs.WordExamples.{Standing, white, black, board, start, empty_hand}
+use Rattle.chess_model.specs.WordExamples.{StandingMan, white, black, board, start, empty_hand}
 use Rattle.chess_model.specs.AllMoves.{allowed_moves}
 use Rattle.chess_model.specs.Result.{result}
 use Rattle.chess_model.specs.Claims.{same_position, is_threefold}
@@ -45,7 +45,7 @@ abbrev pub third_time : List Move
 third_time = go 6 21 ∷ go 62 45 ∷ go 21 6 ∷ go 45 62 ∷ go 6 21 ∷ go 62 45 ∷ go 21 6 ∷ go 45 62 ∷ []
 
 -- White: Kh1, Pe4; Black: Kh8, and some more men; the en passant square e3 or none
-abbrev pub pawn_on_e4 : Option ℕ → List Standing → Position
+abbrev pub pawn_on_e4 : Option ℕ → List StandingMan → Position
 pawn_on_e4 en_passant more =
     board Chess Black en_passant empty_hand (white King 7 ∷ white Pawn 28 ∷ black King 63 ∷ more)
 

@@ -18,19 +18,19 @@ use Rattle.chess_model.specs.Tests.{is_allowed}
 use Rattle.chess_model.specs.WordAnswer.{word_answer}
 
 -- a man on a square
-pub record Standing : Type 0 where
+pub record StandingMan : Type 0 where
   pub on : ℕ
   pub colour : Colour
   pub kind : Kind
 
-abbrev pub white : Kind → ℕ → Standing
+abbrev pub white : Kind → ℕ → StandingMan
 white k s = record { on = s; colour = White; kind = k }
 
-abbrev pub black : Kind → ℕ → Standing
+abbrev pub black : Kind → ℕ → StandingMan
 black k s = record { on = s; colour = Black; kind = k }
 
 -- the placement of some men
-abbrev pub placed_men : List Standing → Placement
+abbrev pub placed_men : List StandingMan → Placement
 placed_men [] = replicate 64 None
 placed_men (m ∷ ms) = slice_set (placed_men ms) m.on (unpromoted m.colour m.kind)
 
@@ -38,7 +38,7 @@ abbrev pub empty_hand : Hand
 empty_hand = record { pawns = 0; knights = 0; bishops = 0; rooks = 0; queens = 0 }
 
 -- a position of some men, with all castling rights
-abbrev pub board : Variant → Colour → Option ℕ → Hand → List Standing → Position
+abbrev pub board : Variant → Colour → Option ℕ → Hand → List StandingMan → Position
 board v c en_passant hand ms = record {
   variant = v;
   men = placed_men ms;
@@ -50,7 +50,7 @@ board v c en_passant hand ms = record {
   black = empty_hand;
 }
 
-abbrev pub chess : Colour → List Standing → Position
+abbrev pub chess : Colour → List StandingMan → Position
 chess c ms = board Chess c None empty_hand ms
 
 -- the start of a game of chess
@@ -70,7 +70,7 @@ abbrev pub pinned_knight : Position
 pinned_knight = chess White (white King 4 ∷ white Knight 12 ∷ black King 56 ∷ black Rook 60 ∷ [])
 
 -- White: Ka5, Pb5; Black: Kh8 and some more men, and Black has just played c7-c5
-abbrev pub passed_on_fifth : List Standing → Position
+abbrev pub passed_on_fifth : List StandingMan → Position
 passed_on_fifth more =
     board Chess White (Some 42) empty_hand (white King 32 ∷ white Pawn 33 ∷ black Pawn 34 ∷ black King 63 ∷ more)
 
@@ -87,7 +87,7 @@ abbrev pub king_on_g : Position
 king_on_g = board (Fischer 96) White None empty_hand (white King 6 ∷ white Rook 7 ∷ black King 56 ∷ [])
 
 -- array 681, where the king begins on c1 beside a rook on b1. White: Kc1, Rb1; Black: Kh8 and some more men
-abbrev pub rook_beside : List Standing → Position
+abbrev pub rook_beside : List StandingMan → Position
 rook_beside more = board (Fischer 681) White None empty_hand (white King 2 ∷ white Rook 1 ∷ black King 63 ∷ more)
 
 -- White: Kh1, Nc3, Ng1; Black: Kh8
@@ -99,7 +99,7 @@ abbrev pub about_to_promote : Position
 about_to_promote = chess White (white King 7 ∷ white Pawn 48 ∷ black King 63 ∷ [])
 
 -- crazyhouse, a white pawn in hand; White: Ka1; Black: Kh8 and some more men
-abbrev pub pawn_in_hand : List Standing → Position
+abbrev pub pawn_in_hand : List StandingMan → Position
 pawn_in_hand more =
     board Crazyhouse White None (record { pawns = 1; knights = 0; bishops = 0; rooks = 0; queens = 0 })
     (white King 0 ∷ black King 63 ∷ more)

@@ -6,7 +6,7 @@ ghost use Rattle.cmd_board.specs.Endings.{end_lines};
 
 use crate::game::END_OF_LINE;
 use chess_model::{Colour, State, Why};
-use fics_words::NoMemory;
+use memory::NoMemory;
 use style12_writer::{BoardView, end_line};
 
 /// Appends the line of the end, where the game has ended: the player to move is the one who is mated.

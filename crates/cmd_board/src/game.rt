@@ -6,8 +6,9 @@ ghost use Rattle.style12_writer.specs.Line12.{line12_text};
 
 use crate::endings::{put_end, put_ended};
 use chess_model::{MoveWord, State, Terms, Variant};
-use fics_words::{Handle, NoMemory, Refusal};
+use fics_words::{Handle, Refusal};
 use game_board::GameBoard;
+use memory::NoMemory;
 use move_reader::read_word;
 use session_core::put_refusal;
 use std::alloc::Global;

@@ -7,7 +7,7 @@ ghost use Rattle.cmd_lines.specs.Ends.{OnReadFault, OnWriteFault};
 use crate::game::{END_OF_LINE, Game};
 use cmd_lines::{End, LineAnswerer, answer_each};
 use edge_traits::{Sink, Source};
-use fics_words::NoMemory;
+use memory::NoMemory;
 use std::alloc::Global;
 
 impl LineAnswerer for Game {

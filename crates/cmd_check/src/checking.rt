@@ -11,8 +11,9 @@ ghost use Rattle.cmd_store.specs.Outcomes.{OnKeeperFault, OnWriteFault};
 use cmd_lines::{End, send};
 use cmd_store::{Outcome, outcome_of};
 use edge_traits::{Keeper, Sink};
-use fics_words::{NoMemory, write_number};
+use fics_words::write_number;
 use lobby_load::open_store;
+use memory::NoMemory;
 use std::alloc::Global;
 
 /// Loads what a keeper holds, and writes how many accounts and games that is: the line `ok: A accounts, G games`. Of a

@@ -53,12 +53,12 @@ pub record Comes (session : ℕ) (what : ScriptEvent) (old new : DemoState) : Ty
   pub moment : new.moment ≡ old.moment
 
 -- what a turn draws: how much later it is, whose turn it is, and what that session wants to do; then what its line needs
-pub record Turn : Type 0 where
+pub record DemoTurn : Type 0 where
   pub moment : ℕ
   pub session : ℕ
   pub said : Said
 
-abbrev pub turn_of : DemoState → Turn
+abbrev pub turn_of : DemoState → DemoTurn
 turn_of at =
     let one = drawn_on at.number in
     let two = drawn_on one in
@@ -70,7 +70,7 @@ turn_of at =
     }
 
 -- the demo once a turn is drawn
-abbrev pub with_turn : Turn → DemoState → DemoState
+abbrev pub with_turn : DemoTurn → DemoState → DemoState
 with_turn turn at = record at { number = turn.said.number; moment = turn.moment }
 
 -- a step takes the demo from where it stands

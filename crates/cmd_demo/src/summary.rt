@@ -5,8 +5,9 @@ ghost use Rattle.cmd_demo.specs.Summary.{count_line, summary_of};
 
 use crate::counts::{games, half_moves, refusals};
 use crate::steps::SESSIONS;
-use fics_words::{NoMemory, write_number};
+use fics_words::write_number;
 use histories::Entry;
+use memory::NoMemory;
 use one_server::{Reply, Timed};
 
 /// Appends the summary: six counts, a line each.

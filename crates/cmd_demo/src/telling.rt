@@ -10,7 +10,7 @@ use crate::steps::Demo;
 use crate::summary::put_summary;
 use cmd_lines::{End, send};
 use edge_traits::Sink;
-use fics_words::NoMemory;
+use memory::NoMemory;
 use std::alloc::Global;
 
 /// Makes the evening of the number, and writes its summary, in one write.

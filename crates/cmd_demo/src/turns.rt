@@ -5,9 +5,9 @@ ghost use Rattle.one_server.specs.Server.{parts_in};
 ghost use Rattle.cmd_demo.specs.Turns.{moves_at, moves_of, moves_on};
 
 use chess_model::{Colour, Move};
-use fics_words::NoMemory;
 use game_board::GameBoard;
 use linked_desk::{Desk, colour_at};
+use memory::NoMemory;
 use one_server::OneServer;
 use std::alloc::Global;
 

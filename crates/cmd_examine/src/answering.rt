@@ -14,7 +14,8 @@ use crate::texts::{LINE_END, put_exam, put_refusal};
 use cmd_lines::{End, LineAnswerer, answer_from, send};
 use edge_traits::{Sink, Source};
 use examine_board::Exam;
-use fics_words::{NoMemory, Refusal};
+use fics_words::Refusal;
+use memory::NoMemory;
 use std::alloc::Global;
 use std::marker::Model;
 

@@ -15,10 +15,10 @@ use cmd_lines::{End, send};
 use cmd_store::{Outcome, outcome_of};
 use edge_traits::{Keeper, Sink, Source};
 use examine_board::Exam;
-use fics_words::NoMemory;
 use game_records::StoredGame;
 use lobby_load::open_store;
 use lobby_state::{Lobby, lobbies_are_well_formed};
+use memory::NoMemory;
 use std::alloc::Global;
 
 /// What is written where the store has no game of the number.

@@ -4,7 +4,8 @@ ghost use Rattle.std.specs.Prelude.{◌≡◌, ◌++◌, OnOk, codes};
 ghost use Rattle.cmd_examine.specs.Texts.{lines_text, refusal_text, shown_text};
 
 use examine_board::Exam;
-use fics_words::{Line, NoMemory, Refusal, write_number};
+use fics_words::{Line, Refusal, write_number};
+use memory::NoMemory;
 
 /// The end of each line.
 pub(crate) const LINE_END: &[u8] = b"\n";

@@ -14,7 +14,7 @@ use Rattle.cmd_lines.specs.Handling.{IsDue}
 use Rattle.cmd_lines.specs.LineCommand.{IsPlayed, LineCommand, bad_in, last_state, text_of}
 use Rattle.cmd_lines.specs.Lines.{lines_come, lines_of}
 use Rattle.cmd_lines.specs.PlayedLinesProof.{IsPlayed-good}
-use Rattle.cmd_lines.specs.Standing.{Standing}
+use Rattle.cmd_lines.specs.HandlerStanding.{HandlerStanding}
 use Rattle.cmd_lines.specs.declared.end.End.{End}
 use Rattle.cmd_lines.specs.declared.end.End.TheVariants.{Done, ReadFault, WriteFault, Memory, BadLine, Spent}
 use Rattle.cmd_lines.proofs.LineCommandEnds.{AppendsFront-more, LineCommandEnds-played, front_of_due}
@@ -55,7 +55,7 @@ module _ {S : Type 0} (command : LineCommand S) (closing : S → List ℕ) where
       front_come ended (lines_come ended taken) written written'
       (front_of_due command (lines_come ended taken) written written' (lines_come whole before) grown.more due (ap (lines_come ended) parts ∙ grown.is) is_due front)
 
-  front_at_end : (taken due : List ℕ) (s : Standing S) (written written' : Option (List ℕ)) → IsClosedWith command closing taken s due → AppendsFront written written' due
+  front_at_end : (taken due : List ℕ) (s : HandlerStanding S) (written written' : Option (List ℕ)) → IsClosedWith command closing taken s due → AppendsFront written written' due
       → AppendsFront written written' (text_come command closing true (lines_of taken))
   front_at_end taken due s written written' h front =
       let lines = lines_of taken in

@@ -8,7 +8,7 @@ use Rattle.cmd_lines.specs.Handling.{Reaching, IsOutsideAt, HasBadLine, AreLines
 use Rattle.cmd_lines.specs.Feeding.{AfterFeeding}
 use Rattle.cmd_lines.specs.Lines.{is_kept, but_last, last_of, last_line, lines_of, whole_lines}
 use Rattle.cmd_lines.specs.MachineFeeding.{line_feeding}
-use Rattle.cmd_lines.specs.Standing.{Standing}
+use Rattle.cmd_lines.specs.HandlerStanding.{HandlerStanding}
 use Rattle.cmd_lines.specs.Progress.{Progress, IsLineAnswered, AfterLine, AfterFeed, AfterStop, OnBadLine}
 use Rattle.cmd_lines.specs.declared.stop.Stop.{Stop}
 use Rattle.cmd_lines.specs.declared.stop.Stop.TheVariants.{BadLine, Memory}
@@ -51,7 +51,7 @@ module _ {S : Type 0} (reached : Reaching S) where
   pub Progress-start : (handler : S) → reached [] handler [] → Progress reached [] (record { handler = handler; number = 1; kept = [] }) []
   Progress-start handler start = record { kept = refl; good = start; number = omega arith; count = omega arith }
 
-  Progress-same : (taken : List ℕ) (b : ℕ) (standing : Standing S) (kept written : List ℕ) → whole_lines (taken ++ b ∷ []) ≡ whole_lines taken
+  Progress-same : (taken : List ℕ) (b : ℕ) (standing : HandlerStanding S) (kept written : List ℕ) → whole_lines (taken ++ b ∷ []) ≡ whole_lines taken
       → kept ≡ take 1024 (last_line (taken ++ b ∷ [])) → Progress reached taken standing written
       → Progress reached (taken ++ b ∷ []) (record standing { kept = kept }) written
   Progress-same taken b standing kept written same last p =
@@ -63,21 +63,21 @@ module _ {S : Type 0} (reached : Reaching S) where
       }
 
   -- a byte that no line has
-  pub Progress-dropped : (taken : List ℕ) (b : ℕ) (standing : Standing S) (written : List ℕ) → is_kept b ≡ false
+  pub Progress-dropped : (taken : List ℕ) (b : ℕ) (standing : HandlerStanding S) (written : List ℕ) → is_kept b ≡ false
       → Progress reached taken standing written → Progress reached (taken ++ b ∷ []) standing written
   Progress-dropped taken b standing written e p =
       let same = lines_of-dropped taken b e in
       Progress-same taken b standing standing.kept written (ap but_last same) (p.kept ∙ ap (λ lines. take 1024 (last_of lines)) (sym same)) p
 
   -- a byte of a line
-  pub Progress-push : (taken : List ℕ) (b : ℕ) (standing : Standing S) (written : List ℕ) → is_kept b ≡ true → (b == 10) ≡ false
+  pub Progress-push : (taken : List ℕ) (b : ℕ) (standing : HandlerStanding S) (written : List ℕ) → is_kept b ≡ true → (b == 10) ≡ false
       → Progress reached taken standing written → Progress reached (taken ++ b ∷ []) (record standing { kept = take 1024 (standing.kept ++ b ∷ []) }) written
   Progress-push taken b standing written k e p =
       Progress-same taken b standing (take 1024 (standing.kept ++ b ∷ [])) written (whole_lines-push taken b k e)
       (ap (λ l. take 1024 (l ++ b ∷ [])) p.kept ∙ take-front 1024 (last_line taken) (b ∷ []) ∙ ap (take 1024) (sym (last_line-push taken b k e))) p
 
   -- a line feed behind a good line
-  pub Progress-feed : (taken : List ℕ) (b : ℕ) (old new : Standing S) (base out out' : List ℕ) → is_kept b ≡ true → (b == 10) ≡ true
+  pub Progress-feed : (taken : List ℕ) (b : ℕ) (old new : HandlerStanding S) (base out out' : List ℕ) → is_kept b ≡ true → (b == 10) ≡ true
       → Progress reached taken old (base ++ out) → IsLineAnswered reached old out new out' → Progress reached (taken ++ b ∷ []) new (base ++ out')
   Progress-feed taken b old new base out out' k e p h =
       let same = whole_lines-feed taken b k e in
@@ -93,29 +93,29 @@ module _ {S : Type 0} (reached : Reaching S) where
       }
 
 -- a byte of a line, kept by the machine
-pub Progress-pushed : {S : Type 0} (reached : Reaching S) (taken : List ℕ) (b : ℕ) (old : Standing S) (handler : S) (number : ℕ) (kept kept' written : List ℕ)
+pub Progress-pushed : {S : Type 0} (reached : Reaching S) (taken : List ℕ) (b : ℕ) (old : HandlerStanding S) (handler : S) (number : ℕ) (kept kept' written : List ℕ)
     → record { handler = handler; number = number; kept = kept } ≡ old → kept' ≡ take 1024 (kept ++ b ∷ []) → is_kept b ≡ true → (b == 10) ≡ false
     → Progress reached taken old written → Progress reached (taken ++ b ∷ []) (record { handler = handler; number = number; kept = kept' }) written
 Progress-pushed {S} reached taken b old handler number kept kept' written view is k e p =
     subst (λ (l : List ℕ). Progress reached (taken ++ b ∷ []) (record { handler = handler; number = number; kept = l }) written) (sym is)
-    (Progress-push reached taken b (record { handler = handler; number = number; kept = kept }) written k e (subst (λ (s : Standing S). Progress reached taken s written) (sym view) p))
+    (Progress-push reached taken b (record { handler = handler; number = number; kept = kept }) written k e (subst (λ (s : HandlerStanding S). Progress reached taken s written) (sym view) p))
 
 -- the end of a line, by what was kept of it
-module _ {S : Type 0} (reached : Reaching S) (ending : List ℕ) (old : Standing S) (handler : S) (number : ℕ) (kept : List ℕ)
+module _ {S : Type 0} (reached : Reaching S) (ending : List ℕ) (old : HandlerStanding S) (handler : S) (number : ℕ) (kept : List ℕ)
     (view : record { handler = handler; number = number; kept = kept } ≡ old) where
-  refused : (new : Standing S) (out out' : List ℕ) (stop : Stop) → OnBadLine stop (out' ≡ out ++ bad_line ending number)
+  refused : (new : HandlerStanding S) (out out' : List ℕ) (stop : Stop) → OnBadLine stop (out' ≡ out ++ bad_line ending number)
       → ((line : List ℕ) → kept ≡ take 1024 line → IsOutsideAt reached handler line) → AfterLine {A = Unit {0}} reached ending old out new out' (Err stop)
   refused new out out' BadLine told outside =
-      subst (λ (s : Standing S). AfterLine {A = Unit {0}} reached ending s out new out' (Err BadLine)) view (told, outside)
+      subst (λ (s : HandlerStanding S). AfterLine {A = Unit {0}} reached ending s out new out' (Err BadLine)) view (told, outside)
   refused new out out' Memory told outside = tt
 
   -- a line that is too long
-  pub AfterLine-long : AreLines reached → 1023 < length kept → (new : Standing S) (out out' : List ℕ) (stop : Stop) → OnBadLine stop (out' ≡ out ++ bad_line ending number)
+  pub AfterLine-long : AreLines reached → 1023 < length kept → (new : HandlerStanding S) (out out' : List ℕ) (stop : Stop) → OnBadLine stop (out' ≡ out ++ bad_line ending number)
       → AfterLine {A = Unit {0}} reached ending old out new out' (Err stop)
   AfterLine-long laws long new out out' stop told = refused new out out' stop told (λ line e. IsOutsideAt-long reached laws handler line (kept_long kept line e long))
 
   -- a line whose answer was refused
-  pub AfterLine-refused : length kept ≤ 1023 → (next : S) (new : Standing S) (out turned out' : List ℕ) (stop : Stop) → AfterAnswering reached handler kept out next turned false
+  pub AfterLine-refused : length kept ≤ 1023 → (next : S) (new : HandlerStanding S) (out turned out' : List ℕ) (stop : Stop) → AfterAnswering reached handler kept out next turned false
       → OnBadLine stop (out' ≡ turned ++ bad_line ending number) → AfterLine {A = Unit {0}} reached ending old out new out' (Err stop)
   AfterLine-refused few next new out turned out' stop answer_line told =
       refused new out out' stop (subst (λ (l : List ℕ). OnBadLine stop (out' ≡ l ++ bad_line ending number)) answer_line.0 told)
@@ -125,14 +125,14 @@ module _ {S : Type 0} (reached : Reaching S) (ending : List ℕ) (old : Standing
   pub IsLineAnswered-made : length kept ≤ 1023 → (next : S) (cleared out out' : List ℕ) → AfterAnswering reached handler kept out next out' true → cleared ≡ []
       → IsLineAnswered reached old out (record { handler = next; number = number + 1; kept = cleared }) out'
   IsLineAnswered-made few next cleared out out' answer_line none =
-      subst (λ (s : Standing S). IsLineAnswered reached s out (record { handler = next; number = number + 1; kept = cleared }) out') view (record {
+      subst (λ (s : HandlerStanding S). IsLineAnswered reached s out (record { handler = next; number = number + 1; kept = cleared }) out') view (record {
         answer_line = λ line e. subst (λ (l : List ℕ). AfterAnswering reached handler l out next out' true) (sym (kept_whole kept line e few)) answer_line;
         next = refl;
         cleared = none;
       })
 
 -- the last line that has come is outside the grammar
-module _ {S : Type 0} (reached : Reaching S) (ending taken : List ℕ) (old : Standing S) (base out out' : List ℕ) (p : Progress reached taken old (base ++ out))
+module _ {S : Type 0} (reached : Reaching S) (ending taken : List ℕ) (old : HandlerStanding S) (base out out' : List ℕ) (p : Progress reached taken old (base ++ out))
     (told : out' ≡ out ++ bad_line ending old.number) (outside : (line : List ℕ) → old.kept ≡ take 1024 line → IsOutsideAt reached old.handler line) where
   pub HasBadLine-last : (lines : List (List ℕ)) → lines ≡ whole_lines taken ++ last_line taken ∷ [] → HasBadLine reached ending lines (base ++ out')
   HasBadLine-last lines is = record {
@@ -162,7 +162,7 @@ HasBadLine-more reached ending lines more due h = record {
 }
 
 -- the machine after a line feed
-pub AfterFeed-line : {S A : Type 0} (reached : Reaching S) (ending taken : List ℕ) (b : ℕ) (old new : Standing S) (base out out' : List ℕ) (r : Result A Stop)
+pub AfterFeed-line : {S A : Type 0} (reached : Reaching S) (ending taken : List ℕ) (b : ℕ) (old new : HandlerStanding S) (base out out' : List ℕ) (r : Result A Stop)
     → is_kept b ≡ true → (b == 10) ≡ true → Progress reached taken old (base ++ out) → AfterLine reached ending old out new out' r
     → AfterFeed reached ending (taken ++ b ∷ []) new (base ++ out') r
 AfterFeed-line reached ending taken b old new base out out' (Ok u) k e p h = Progress-feed reached taken b old new base out out' k e p h
@@ -171,7 +171,7 @@ AfterFeed-line reached ending taken b old new base out out' (Err BadLine) k e p 
 AfterFeed-line reached ending taken b old new base out out' (Err Memory) k e p h = tt
 
 -- the machine after the input's end, which ends the last line
-pub AfterFeeding-last : {S A : Type 0} (reached : Reaching S) (closed : S → S → Type 0) (ending taken : List ℕ) (old new : Standing S) (base out out' : List ℕ) (r : Result A Stop)
+pub AfterFeeding-last : {S A : Type 0} (reached : Reaching S) (closed : S → S → Type 0) (ending taken : List ℕ) (old new : HandlerStanding S) (base out out' : List ℕ) (r : Result A Stop)
     → Progress reached taken old (base ++ out) → AfterLine reached ending old out new out' r → AfterFeeding (line_feeding reached closed ending) true taken new (base ++ out') r
 AfterFeeding-last reached closed ending taken old new base out out' (Ok u) p h =
     let turned = h.answer_line (last_line taken) p.kept in

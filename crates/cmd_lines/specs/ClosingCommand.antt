@@ -6,7 +6,7 @@ use Rattle.cmd_lines.specs.Handling.{HasBadLine}
 use Rattle.cmd_lines.specs.LineCommand.{LineCommand, IsPlayed, bad_in, last_state, text_of}
 use Rattle.cmd_lines.specs.Lines.{lines_come, lines_of}
 use Rattle.cmd_lines.specs.MachineFeeding.{HasAnswered}
-use Rattle.cmd_lines.specs.Standing.{Standing}
+use Rattle.cmd_lines.specs.HandlerStanding.{HandlerStanding}
 
 module _ {S : Type 0} (command : LineCommand S) (closing : S → List ℕ) where
   -- the text at the end of an input, by where its lines bring the command; none where a line is outside the grammar
@@ -19,12 +19,12 @@ module _ {S : Type 0} (command : LineCommand S) (closing : S → List ℕ) where
   text_come true lines = text_of command lines ++ closing_text lines
 
   -- all lines are good, and this text is due for them, with the text at the end
-  abbrev pub IsClosedWith : List ℕ → Standing S → List ℕ → Type 0
+  abbrev pub IsClosedWith : List ℕ → HandlerStanding S → List ℕ → Type 0
   IsClosedWith taken standing due =
       (stands : S) × (text : List ℕ) × IsPlayed command (lines_of taken) stands text × (due ≡ text ++ closing stands)
 
   -- what the machine makes of the bytes of the input of such a command
-  abbrev pub closing_feeding : Feeding (Standing S)
+  abbrev pub closing_feeding : Feeding (HandlerStanding S)
   closing_feeding = record {
     fed = HasAnswered (IsPlayed command);
     refused = λ ended taken due. HasBadLine (IsPlayed command) command.ending (lines_come ended taken) due;

@@ -13,4 +13,4 @@ pub mod MachineFeeding
 pub mod PlayedLinesProof
 pub mod Progress
 pub mod Reading
-pub mod Standing
+pub mod HandlerStanding

@@ -2,12 +2,12 @@
 use Rattle.std.specs.Prelude.{◌≡◌, ℕ, ◌+◌, ◌≤◌, true, List, [], ◌++◌, length, take, Ok, Err, Result, ⊤}
 use Rattle.cmd_lines.specs.Handling.{Reaching, AfterAnswering, IsOutsideAt, HasBadLine, bad_line}
 use Rattle.cmd_lines.specs.Lines.{last_line, whole_lines}
-use Rattle.cmd_lines.specs.Standing.{Standing}
+use Rattle.cmd_lines.specs.HandlerStanding.{HandlerStanding}
 use Rattle.cmd_lines.specs.declared.stop.Stop.{Stop}
 use Rattle.cmd_lines.specs.declared.stop.Stop.TheVariants.{BadLine, Memory}
 
 -- the machine was fed these bytes, and these were written for them; every line that ended was good
-pub record Progress {S : Type 0} (reached : Reaching S) (taken : List ℕ) (standing : Standing S)
+pub record Progress {S : Type 0} (reached : Reaching S) (taken : List ℕ) (standing : HandlerStanding S)
     (written : List ℕ) : Type 0 where
   pub kept : standing.kept ≡ take 1024 (last_line taken)
   pub good : reached (whole_lines taken) standing.handler written
@@ -20,12 +20,12 @@ AfterStop reached ending taken written BadLine = HasBadLine reached ending (whol
 AfterStop reached ending taken written Memory = ⊤
 
 -- what holds after bytes were fed
-abbrev pub AfterFeed : {S A : Type 0} → Reaching S → List ℕ → List ℕ → Standing S → List ℕ → Result A Stop → Type 0
+abbrev pub AfterFeed : {S A : Type 0} → Reaching S → List ℕ → List ℕ → HandlerStanding S → List ℕ → Result A Stop → Type 0
 AfterFeed reached ending taken standing written (Ok u) = Progress reached taken standing written
 AfterFeed reached ending taken standing written (Err stop) = AfterStop reached ending taken written stop
 
 -- a line ended, good: whatever the line is of which this front was kept, its answer was made
-pub record IsLineAnswered {S : Type 0} (reached : Reaching S) (old : Standing S) (out : List ℕ) (new : Standing S)
+pub record IsLineAnswered {S : Type 0} (reached : Reaching S) (old : HandlerStanding S) (out : List ℕ) (new : HandlerStanding S)
     (out' : List ℕ) : Type 0 where
   pub answer_line : (line : List ℕ) → old.kept ≡ take 1024 line
       → AfterAnswering reached old.handler line out new.handler out' true
@@ -33,7 +33,7 @@ pub record IsLineAnswered {S : Type 0} (reached : Reaching S) (old : Standing S)
   pub cleared : new.kept ≡ []
 
 -- a line ended: its answer was made and its text appended, or it is outside the grammar, and its number was appended
-abbrev pub AfterLine : {S A : Type 0} → Reaching S → List ℕ → Standing S → List ℕ → Standing S → List ℕ → Result A Stop
+abbrev pub AfterLine : {S A : Type 0} → Reaching S → List ℕ → HandlerStanding S → List ℕ → HandlerStanding S → List ℕ → Result A Stop
     → Type 0
 AfterLine reached ending old out new out' (Ok u) = IsLineAnswered reached old out new out'
 AfterLine reached ending old out new out' (Err BadLine) =

@@ -12,7 +12,7 @@ use crate::by_lines::answer_lines;
 use crate::end::End;
 use crate::line_handler::LineHandler;
 use edge_traits::{Sink, Source};
-use fics_words::NoMemory;
+use memory::NoMemory;
 use std::alloc::Global;
 use std::marker::Model;
 

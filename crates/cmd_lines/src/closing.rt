@@ -12,7 +12,7 @@ use crate::feeder::Feeder;
 use crate::machine::Machine;
 use crate::stop::Stop;
 use edge_traits::{Sink, Source};
-use fics_words::NoMemory;
+use memory::NoMemory;
 use std::alloc::Global;
 use std::marker::Model;
 
@@ -35,9 +35,9 @@ struct ClosingMachine<A: ClosingAnswerer> {
 }
 
 impl<A: ClosingAnswerer> Model for ClosingMachine<A> {
-    ghost use Rattle.cmd_lines.specs.Standing.{Standing};
+    ghost use Rattle.cmd_lines.specs.HandlerStanding.{HandlerStanding};
 
-    ghost Value = { Standing A };
+    ghost Value = { HandlerStanding A };
 
     ghost view = { λ closing. closing.machine };
 }

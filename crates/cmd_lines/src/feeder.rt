@@ -1,7 +1,7 @@
 //! What the commands that are fed the bytes of their input have in common.
 
 use crate::stop::Stop;
-use fics_words::NoMemory;
+use memory::NoMemory;
 
 /// A command that is fed the bytes of its input, in whatever pieces they come.
 pub trait Feeder: Drop {

@@ -1,6 +1,6 @@
 //! What the commands that answer lines have in common.
 
-use fics_words::NoMemory;
+use memory::NoMemory;
 
 /// A command that answers the lines of its input, one after another.
 pub trait LineHandler: Drop {

@@ -7,7 +7,8 @@ ghost use Rattle.cmd_lines.specs.Progress.{OnBadLine};
 use crate::feeder::Feeder;
 use crate::line_handler::LineHandler;
 use crate::stop::Stop;
-use fics_words::{MOST_LINE_BYTES, NoMemory, write_number};
+use fics_words::{MOST_LINE_BYTES, write_number};
+use memory::NoMemory;
 use std::alloc::Global;
 use std::marker::Model;
 
@@ -22,9 +23,9 @@ pub struct Machine<T: LineHandler> {
 
 impl<T: LineHandler> Model for Machine<T> {
     ghost use Rattle.std.specs.Prelude.{◌≤◌, vec_len};
-    ghost use Rattle.cmd_lines.specs.Standing.{Standing};
+    ghost use Rattle.cmd_lines.specs.HandlerStanding.{HandlerStanding};
 
-    ghost Value = { Standing T };
+    ghost Value = { HandlerStanding T };
 
     ghost view = { λ machine. record {
       handler = machine.handler;
@@ -37,7 +38,7 @@ impl<T: LineHandler> Model for Machine<T> {
 
 impl<T: LineHandler> Machine<T> {
     ghost use Rattle.std.specs.Prelude.{◌≡◌, ◌≤◌, ◌<◌, ◌+◌, ◌-◌, ◌^◌, [], ◌∷◌, ◌++◌, ℕ, List, length, take, OnOk};
-    ghost use Rattle.cmd_lines.specs.Standing.{Standing};
+    ghost use Rattle.cmd_lines.specs.HandlerStanding.{HandlerStanding};
     ghost use Rattle.cmd_lines.specs.Progress.{Progress, AfterFeed, AfterLine};
 
     /// A machine before the first byte.

@@ -3,7 +3,7 @@
 ghost use Rattle.std.specs.Prelude.{◌≡◌};
 ghost use Rattle.cmd_lines.specs.declared.stop.Stop.TheVariants.{Memory};
 
-use fics_words::NoMemory;
+use memory::NoMemory;
 
 /// Why the machine goes no further.
 #[derive(Clone, Copy)]

@@ -9,8 +9,8 @@ ghost use Rattle.cmd_pgn.specs.Exports.{exports, game_export};
 
 use cmd_lines::{End, send};
 use edge_traits::Sink;
-use fics_words::NoMemory;
 use lobby_shelf::{Shelved, StoredGame};
+use memory::NoMemory;
 use pgn_book::{export, of_stored};
 use std::alloc::Global;
 

@@ -8,8 +8,8 @@ ghost use Rattle.session_core.specs.Memory.{is_gone};
 ghost use Rattle.cmd_replay.specs.Evening.{HasAnswered, HasDone, HasGone, HasTaken, quit_of};
 
 use crate::tagged::put_tagged;
-use fics_words::NoMemory;
 use line_reader::Incoming;
+use memory::NoMemory;
 use one_server::OneServer;
 use replay_core::{ScriptEvent, ScriptLine};
 use session_core::{Input, Session, Wrote};

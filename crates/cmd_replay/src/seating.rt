@@ -8,8 +8,9 @@ ghost use Rattle.session_core.specs.Course.{timed};
 ghost use Rattle.cmd_replay.specs.Evening.{HasMade, accepting, asking, challenging, entering, fetching, seating_acts};
 
 use chess_model::{Terms, Variant};
-use fics_words::{Handle, NoMemory};
+use fics_words::Handle;
 use lobby_state::{LobbyAct, PairAct};
+use memory::NoMemory;
 use one_server::{Act, OneServer};
 use replay_core::SeatLine;
 

@@ -4,7 +4,8 @@ ghost use Rattle.std.specs.Prelude.{◌≡◌, ◌∷◌, ◌++◌, IfOk, IfNone
 ghost use Rattle.cmd_lines.specs.Lines.{HasNoLineFeed, is_kept, pieces};
 ghost use Rattle.cmd_replay.specs.Tagged.{shown, tagged, tagged_line, tagged_lines};
 
-use fics_words::{NoMemory, write_number};
+use fics_words::write_number;
+use memory::NoMemory;
 use std::alloc::Global;
 
 /// Appends what is shown of bytes that are written to a session: their lines, each behind the session's number.

@@ -10,7 +10,7 @@ ghost use Rattle.cmd_tidy.specs.Putting.{AfterLast, AfterPut, PutsStep};
 ghost use Rattle.cmd_tidy.specs.Tidying.{exports, tidying};
 
 use cmd_lines::{Stop, refuse_line};
-use fics_words::NoMemory;
+use memory::NoMemory;
 use pgn_book::{PgnGame, PgnReader, PgnStep, export};
 use std::alloc::Global;
 

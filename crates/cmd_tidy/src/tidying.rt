@@ -7,7 +7,7 @@ ghost use Rattle.cmd_tidy.specs.TidyEnds.{TidyEnds};
 use crate::putting::{put_games, put_last_games};
 use cmd_lines::{End, Feeder, Stop, answer_pieces};
 use edge_traits::{Sink, Source};
-use fics_words::NoMemory;
+use memory::NoMemory;
 use pgn_book::PgnReader;
 use std::alloc::Global;
 use std::marker::Model;

@@ -5,7 +5,8 @@ ghost use Rattle.std.specs.List.{flat_map};
 ghost use Rattle.tourney_desk.specs.Pairing.{IsOfPlayers};
 ghost use Rattle.cmd_tourney.specs.Texts.{name_at, pair_text, refusal_text, rounds_text, row_text, rows_text};
 
-use fics_words::{NoMemory, Refusal, write_number};
+use fics_words::{Refusal, write_number};
+use memory::NoMemory;
 use tourney_desk::{Row, Tourney};
 
 /// The end of each line.

@@ -6,7 +6,8 @@ ghost use Rattle.command_words.specs.Texts.{is_text};
 
 use crate::arguments::{are_within, is_text};
 use collections::Listed;
-use fics_words::{Duplicate, Fail, Line, NoMemory, Refusal};
+use fics_words::{Fail, Line, Refusal};
+use memory::{Duplicate, NoMemory};
 use std::alloc::Global;
 use std::marker::Model;
 

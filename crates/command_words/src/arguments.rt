@@ -5,7 +5,8 @@ ghost use Rattle.std.specs.List.{list_all};
 ghost use Rattle.fics_words.specs.HandleTest.{handle_of};
 ghost use Rattle.command_words.specs.Texts.{is_text};
 
-use fics_words::{Handle, Line, NoMemory};
+use fics_words::{Handle, Line};
+use memory::NoMemory;
 use std::alloc::Global;
 
 /// The most bytes that a text has.

@@ -5,7 +5,7 @@ ghost use Rattle.std.specs.List.{list_any};
 ghost use Rattle.command_words.specs.Aliases.{behind_blank, expanded, filled, placed, is_place};
 
 use crate::blanks::word_at;
-use fics_words::NoMemory;
+use memory::NoMemory;
 use std::alloc::Global;
 
 /// An alias's text with `$1` to `$9` replaced by the argument words and `$@` by the rest of the line; a text without

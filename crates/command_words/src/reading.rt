@@ -16,7 +16,8 @@ use crate::naming::named_by;
 use crate::rows::Takes;
 use crate::shapes::{named, nothing, numbered, on_channel, perhaps, saying};
 use chess_model::MoveWord;
-use fics_words::{Fail, Line, MOST_LINE_BYTES, NoMemory, Refusal};
+use fics_words::{Fail, Line, MOST_LINE_BYTES, Refusal};
+use memory::NoMemory;
 use move_reader::read_word;
 use std::alloc::Global;
 

@@ -13,8 +13,9 @@ ghost use Rattle.desk_boards.specs.Boards.{boards_acked, boards_after, flag_at, 
 
 use crate::linked::play_linked;
 use chess_model::{Colour, Man, MoveWord, Terms, Variant, Why};
-use fics_words::{NoMemory, Refusal};
+use fics_words::Refusal;
 use game_board::{GameBoard, Played};
+use memory::NoMemory;
 use std::alloc::Global;
 use std::marker::Model;
 

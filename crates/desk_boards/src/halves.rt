@@ -5,9 +5,9 @@ ghost use Rattle.desk_boards.specs.Halves.{first_charge, half_of, halves_from, h
 
 use crate::boards::Boards;
 use clock_ledger::Charge;
-use fics_words::NoMemory;
 use game_board::{Made, Played};
 use game_records::{Half, HalfList};
+use memory::NoMemory;
 use std::alloc::Global;
 
 impl Boards {

@@ -10,9 +10,9 @@ ghost use Rattle.desk_boards.specs.Replaying.{goes_on, replayed, takes_half};
 
 use crate::boards::Boards;
 use chess_model::Terms;
-use fics_words::NoMemory;
 use game_board::{GameBoard, Played};
 use game_records::{Half, PackedHalf};
+use memory::NoMemory;
 use std::alloc::Global;
 
 impl Boards {

@@ -8,8 +8,9 @@ ghost use Rattle.desk_boards.specs.Replaying.{replayed};
 
 use crate::boards::Boards;
 use chess_model::Variant;
-use fics_words::{Handle, NoMemory};
+use fics_words::Handle;
 use game_records::{StoredGame, is_game};
+use memory::NoMemory;
 use std::alloc::Global;
 
 /// Whether a stored game could have been played as it is written, so that it can be resumed.

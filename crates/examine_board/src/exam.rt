@@ -7,8 +7,9 @@ ghost use Rattle.examine_board.specs.Laid.{MayLie};
 use chess_model::{MOST_HALVES, Terms};
 use collections::{Listed, Roomy};
 use desk_boards::{Boards, replays};
-use fics_words::{Handle, NoMemory};
+use fics_words::Handle;
 use game_records::{Half, PackedHalf, StoredGame};
+use memory::NoMemory;
 use std::alloc::Global;
 use std::marker::Model;
 

@@ -7,8 +7,9 @@ ghost use Rattle.examine_board.specs.Lines.{exam_lines, hands_line, hands_lines,
 
 use crate::exam::Exam;
 use chess_model::{Colour, Variant};
-use fics_words::{Handle, Line, NoMemory};
+use fics_words::{Handle, Line};
 use game_board::GameBoard;
+use memory::NoMemory;
 use std::alloc::Global;
 use style12_writer::{BoardView, LineList, Viewer, line_b1, line12};
 

@@ -21,7 +21,6 @@ pub use fail::Fail;
 pub use handle::{Handle, HandleKey};
 pub use line::{Line, MOST_LINE_BYTES};
 pub use lines::Lines;
-pub use memory::{Duplicate, NoMemory};
 pub use number::{read_number, write_number};
 pub use player::Player;
 pub use refusal::Refusal;

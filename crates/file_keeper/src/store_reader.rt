@@ -110,7 +110,7 @@ fn open_copy(alloc: Global, files: Files<Copied>) -> Result<CopiedStore, KeeperF
 /// are the same, nothing was written to the log in between, and what was copied from it into the file stands in it
 /// still.
 fn copied_files(rt: &HostRuntime, path: &str) -> Result<Files<Copied>, KeeperFail> {
-    let place = Place::of(rt, path)?;
+    let place = StoreFiles::of(rt, path)?;
     if has_journal(rt, &place.journal)? {
         return Err(KeeperFail::Failed);
     }
@@ -130,26 +130,26 @@ fn copied_files(rt: &HostRuntime, path: &str) -> Result<Files<Copied>, KeeperFai
 
 /// The paths of a database's files.
 #[derive(Drop)]
-struct Place {
+struct StoreFiles {
     db: String,
     log: String,
     journal: String,
 }
 
-impl Place {
+impl StoreFiles {
     /// The files of the database at this path; they lie where a link leads.
-    fn of(rt: &HostRuntime, path: &str) -> Result<Place, KeeperFail> {
-        match Place::found(rt, path) {
+    fn of(rt: &HostRuntime, path: &str) -> Result<StoreFiles, KeeperFail> {
+        match StoreFiles::found(rt, path) {
             Ok(place) => Ok(place),
             Err(error) => Err(io_fail(&error)),
         }
     }
 
-    fn found(rt: &HostRuntime, path: &str) -> io::Result<Place> {
+    fn found(rt: &HostRuntime, path: &str) -> io::Result<StoreFiles> {
         let db = fs::canonicalize(rt, path)?.into_string();
         let log = format!(in rt.alloc(); "{db}-wal")?;
         let journal = format!(in rt.alloc(); "{db}-journal")?;
-        Ok(Place { db, log, journal })
+        Ok(StoreFiles { db, log, journal })
     }
 }
 

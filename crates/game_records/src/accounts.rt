@@ -6,7 +6,8 @@ ghost use Rattle.game_records.specs.Spelling.{account_text};
 
 use crate::names::{behind_name, name_in, write_name};
 use crate::numbers::behind;
-use fics_words::{Account, Digest, NoMemory};
+use fics_words::{Account, Digest};
+use memory::NoMemory;
 
 /// What an account's record begins with.
 const HEAD: &[u8; 2] = b"\x01\x41";

@@ -7,7 +7,7 @@ ghost use Rattle.game_records.specs.Spelling.{charge_mark, charge_text, stamps_t
 
 use crate::numbers::{behind, byte_at, eight_in, four_in, write_eight, write_four};
 use clock_ledger::{Charge, LAST_MOMENT, STAMP_CYCLE};
-use fics_words::NoMemory;
+use memory::NoMemory;
 
 /// The mark of a half-move without a charge.
 const NONE: u8 = 0;

@@ -12,7 +12,7 @@ use crate::names::{behind_names, names_in, write_names};
 use crate::numbers::{behind, byte_at, two_in, write_two};
 use crate::stored_game::StoredGame;
 use chess_model::{Terms, Variant};
-use fics_words::NoMemory;
+use memory::NoMemory;
 use std::alloc::Global;
 
 /// What the record of a game of a pair begins with.

@@ -12,7 +12,7 @@ use crate::numbers::{behind, byte_at, two_in, write_two};
 use crate::packed::PackedHalf;
 use crate::stored_game::Half;
 use chess_model::Variant;
-use fics_words::NoMemory;
+use memory::NoMemory;
 use std::alloc::Global;
 
 /// The most half-moves of a game, which are those of a pair.

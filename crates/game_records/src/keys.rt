@@ -4,7 +4,8 @@ ghost use Rattle.game_records.specs.Keys.{account_key, game_key};
 
 use crate::bytes::Bytes;
 use crate::numbers::{behind, byte_at, eight_in, write_eight};
-use fics_words::{HandleKey, NoMemory};
+use fics_words::HandleKey;
+use memory::NoMemory;
 use std::alloc::Global;
 
 /// What the key of an account begins with.

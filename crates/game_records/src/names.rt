@@ -7,7 +7,8 @@ ghost use Rattle.game_records.specs.Spelling.{name_text, names_text};
 
 use crate::numbers::{behind, byte_at, front};
 use collections::Listed;
-use fics_words::{Handle, NoMemory};
+use fics_words::Handle;
+use memory::NoMemory;
 use std::alloc::Global;
 
 /// Appends how many letters a name has, and the letters.

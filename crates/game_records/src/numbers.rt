@@ -3,7 +3,7 @@ ghost use Rattle.std.specs.Prelude.{◌≡◌, ◌++◌, OnOk, drop, take, slice
 ghost use Rattle.game_records.specs.Numbers.{two_bytes, four_bytes, eight_bytes};
 ghost use Rattle.game_records.specs.Reading.{two_in, four_in, eight_in};
 
-use fics_words::NoMemory;
+use memory::NoMemory;
 
 /// The byte at a place, and 0 behind the end.
 pub(crate) fn byte_at(bytes: &[u8], place: usize) -> u8

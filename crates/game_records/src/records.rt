@@ -11,7 +11,8 @@ use crate::bytes::Bytes;
 use crate::games::{game_in, write_game};
 use crate::numbers::byte_at;
 use crate::stored_game::StoredGame;
-use fics_words::{Account, NoMemory};
+use fics_words::Account;
+use memory::NoMemory;
 use std::alloc::Global;
 
 /// The second byte of an account's record.

@@ -15,8 +15,8 @@ use Rattle.one_server.specs.declared.reply.Reply.{Reply}
 use Rattle.one_server.specs.House.{house}
 use Rattle.one_server.specs.Running.{Log}
 use Rattle.turn_table.specs.declared.view.View.{View}
-use Rattle.turn_table.specs.Passes.{Standing}
-use Rattle.turn_table.specs.Views.{newcomer}
+use Rattle.turn_table.specs.Passes.{PassStanding}
+use Rattle.turn_table.specs.Views.{new_view}
 use Rattle.hall_core.specs.Passes.{IsHallPass}
 use Rattle.one_server.proofs.Serving.{vacant_push, whole_opening}
 
@@ -37,7 +37,7 @@ pub whole_parts : (lobby : LobbyState) (parts : List Part) → IsWellFormed lobb
 whole_parts lobby parts formed opening e = subst IsWhole (is_opened lobby ∙ sym e) (whole_opening lobby formed opening)
 
 -- its first pass
-pub opens_hall : (lobby : LobbyState) (parts : List Part) (p : Standing Part Timed Reply) → IsWellFormed lobby → IsOpening lobby → parts ≡ opened lobby → p.view ≡ newcomer parts → IsHallPass p
+pub opens_hall : (lobby : LobbyState) (parts : List Part) (p : PassStanding Part Timed Reply) → IsWellFormed lobby → IsOpening lobby → parts ≡ opened lobby → p.view ≡ new_view parts → IsHallPass p
 opens_hall lobby parts p formed opening e view =
     let opens : p.view.opening ≡ parts = ap (λ (x : View Part Timed Reply). x.opening) view in
     let seen : p.view.seen ≡ [] = ap (λ (x : View Part Timed Reply). x.seen) view in

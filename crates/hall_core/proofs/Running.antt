@@ -15,14 +15,14 @@ use Rattle.one_server.specs.Running.{IsKnown, Log, Made, Runs, Ran as IsAnswered
 use Rattle.one_server.specs.Whole.{IsWhole}
 use Rattle.one_server.proofs.Replies.{last_reply}
 use Rattle.turn_table.specs.declared.view.View.{View}
-use Rattle.turn_table.specs.Passes.{Standing}
+use Rattle.turn_table.specs.Passes.{PassStanding}
 use Rattle.turn_chain.specs.declared.tried.Tried.{Tried}
 use Rattle.turn_chain.specs.declared.tried.Tried.TheVariants as tried
 use Rattle.turn_chain.specs.Chain.{fixed, CameTo as ViewCameTo, FoundBusy as ViewBusy, HasRun, HasNotRun}
 use Rattle.hall_core.specs.Acts.{CameTo, FoundBusy, ran_of}
 use Rattle.hall_core.specs.Passes.{IsHallPass, pass_state, runs_of}
 
-module _ (v w : Standing Part Timed Reply) (same : fixed w.view ≡ fixed v.view) where
+module _ (v w : PassStanding Part Timed Reply) (same : fixed w.view ≡ fixed v.view) where
   number_is : w.view.number ≡ v.view.number
   number_is = ap (λ (x : View Part Timed Reply). x.number) same
 

@@ -9,11 +9,11 @@ use Rattle.one_server.specs.declared.reply.Reply.{Reply}
 use Rattle.one_server.specs.Running.{IsKnown, RunnerState}
 use Rattle.one_server.specs.Whole.{IsOpening, IsWhole, opened}
 use Rattle.turn_table.specs.declared.view.Joined.{Joined}
-use Rattle.turn_table.specs.Passes.{Standing}
+use Rattle.turn_table.specs.Passes.{PassStanding}
 use Rattle.turn_table.specs.Views.{In}
 pub use Rattle.hall_core.specs.Pass.{EveryoneJoined, PassState}
 
-abbrev pub pass_state : Standing Part Timed Reply → PassState
+abbrev pub pass_state : PassStanding Part Timed Reply → PassState
 pass_state p = record {
   home = p.home;
   number = p.view.number;
@@ -43,7 +43,7 @@ IsOpened parts = (lobby : LobbyState) × IsOpening lobby × (parts ≡ opened lo
 
 -- the pass holds no part; its hall opened with such a lobby, in a whole state; what it has seen is legal, and what it
 -- made are its own entries there
-pub record IsHallPass (p : Standing Part Timed Reply) : Type 0 where
+pub record IsHallPass (p : PassStanding Part Timed Reply) : Type 0 where
   pub idle : p.view.held ≡ []
   pub opens : IsOpened p.view.opening
   pub whole : IsWhole p.view.opening
@@ -100,10 +100,10 @@ pub record HasLooked (old new : PassState) : Type 0 where
 
 -- what no act changes of a pass beside its number and its opening state: its hall, and the passes that were split from
 -- it and joined into it
-pub record Place : Type 0 where
+pub record Fixed : Type 0 where
   pub hall : TableId
   pub splits : ℕ
   pub joined : List (Joined Timed Reply)
 
-abbrev pub place_of : PassState → Place
-place_of pass = record { hall = pass.home; splits = pass.splits; joined = pass.joined }
+abbrev pub fixed_of : PassState → Fixed
+fixed_of pass = record { hall = pass.home; splits = pass.splits; joined = pass.joined }

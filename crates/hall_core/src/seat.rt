@@ -79,11 +79,11 @@ impl<G: Gate, R: Wait> HallSeat<'_, G, R> {
 }
 
 impl<G: Gate, R: Wait> Runner for HallSeat<'_, G, R> {
-    ghost use Rattle.hall_core.specs.Passes.{Place, place_of};
+    ghost use Rattle.hall_core.specs.Passes.{Fixed, fixed_of};
 
-    ghost Home = { Place };
+    ghost Home = { Fixed };
 
-    ghost home = { λ s. place_of s };
+    ghost home = { λ s. fixed_of s };
 
     ghost state = { λ s. runs_of s };
 

@@ -3,7 +3,8 @@ ghost use Rattle.std.specs.Prelude.{◌≡◌, IfOk};
 ghost use Rattle.line_reader.specs.Reading.{is_stamped, plain_reading, reading, rest_reading, said, stamped_reading};
 ghost use Rattle.stamp_codec.specs.Opening.{opened};
 
-use fics_words::{Line, MOST_LINE_BYTES, NoMemory};
+use fics_words::{Line, MOST_LINE_BYTES};
+use memory::NoMemory;
 use stamp_codec::{Sealed, unseal};
 use std::alloc::Global;
 

@@ -4,7 +4,7 @@ ghost use Rattle.line_reader.specs.Reader.{rest_of, at_place};
 
 use crate::cutter::Cutter;
 use crate::incoming::{Incoming, read_line, read_rest};
-use fics_words::NoMemory;
+use memory::NoMemory;
 use std::alloc::Global;
 use std::marker::Model;
 

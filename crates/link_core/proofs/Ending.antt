@@ -12,7 +12,7 @@ use Rattle.session_core.specs.declared.standing.Standing.TheVariants as standing
 use Rattle.session_core.specs.Course.{Course, Done, Asks, Writes as Puts, Follows, Passes}
 use Rattle.session_core.specs.Going.{Left, LeftInPart, departing}
 use Rattle.session_core.specs.Memory.{MemoryState, has_entered, is_gone, is_in, is_out}
-use Rattle.session_core.specs.Session.{leaving}
+use Rattle.session_core.specs.Session.{leaving_course}
 use Rattle.session_core.proofs.Going.{made_then, same_mark, same_number}
 use Rattle.link_core.specs.declared.link_end.LinkEnd.{LinkEnd}
 use Rattle.link_core.specs.declared.link_end.LinkEnd.TheVariants as end
@@ -46,7 +46,7 @@ none_left_in false mark course memory session moment es h p = p
 
 none_left : (mark : Bool) (memory : MemoryState) (session moment : ℕ) (es : Log) → is_gone memory ≡ true → Passes mark (departing memory) session moment es → es ≡ []
 none_left mark memory session moment es gone p =
-    none_left_in (has_entered memory) mark (leaving memory) memory session moment es (out_not_in memory.standing gone) p
+    none_left_in (has_entered memory) mark (leaving_course memory) memory session moment es (out_not_in memory.standing gone) p
 
 -- the link's count says why the reading ended, where that was a fault
 ended : (end : LinkEnd) (talk : Dialogue) (before after : ℕ) → EndsReading end talk.taken talk.is_ended talk.memory → OnFault (Err end) (Rose before after) → HasEnded end talk before after

@@ -16,7 +16,7 @@ use Rattle.session_core.specs.Course.{Begins, Passes}
 use Rattle.session_core.specs.Going.{Broke}
 use Rattle.session_core.specs.Inputs.{input_course}
 use Rattle.session_core.specs.Memory.{MemoryState, newcomer}
-use Rattle.session_core.specs.Session.{leaving}
+use Rattle.session_core.specs.Session.{leaving_course}
 use Rattle.session_core.specs.Texts.{opening_text}
 use Rattle.session_core.proofs.Going.{made_none, made_then, same_mark, same_number}
 use Rattle.link_core.specs.declared.link_end.LinkEnd.{LinkEnd}
@@ -219,8 +219,8 @@ module _ (shows : ℕ → Bool) (start : Stand) where
           moment = moment;
           shown = shown;
           passes =
-              subst (λ (n : ℕ). Passes start.state.mark (leaving l.memory) n moment l.part.entries) (same_number start.state now.state h.made h.grew)
-              (subst (λ (m : Bool). Passes m (leaving l.memory) now.state.number moment l.part.entries) (same_mark start.state now.state h.made h.grew) l.part.passes);
+              subst (λ (n : ℕ). Passes start.state.mark (leaving_course l.memory) n moment l.part.entries) (same_number start.state now.state h.made h.grew)
+              (subst (λ (m : Bool). Passes m (leaving_course l.memory) now.state.number moment l.part.entries) (same_mark start.state now.state h.made h.grew) l.part.passes);
         },
         l.gone,
       ))

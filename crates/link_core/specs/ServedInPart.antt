@@ -9,7 +9,7 @@ use Rattle.session_core.specs.Going.{departing}
 use Rattle.session_core.specs.Inputs.{input_course}
 use Rattle.session_core.specs.Memory.{MemoryState, newcomer}
 use Rattle.session_core.specs.Remembering.{Remembers}
-use Rattle.session_core.specs.Session.{leaving}
+use Rattle.session_core.specs.Session.{leaving_course}
 use Rattle.session_core.specs.Stages.{settled}
 use Rattle.link_core.specs.declared.link_end.LinkEnd.{LinkEnd}
 use Rattle.link_core.specs.declared.link_end.LinkEnd.TheVariants.{Quit, End, ReadFault, WriteFault, Spent, Memory}
@@ -66,9 +66,9 @@ pub record QuitsShort (shows : ℕ → Bool) (mark : Bool) (session : ℕ) (inpu
   pub moment : ℕ
   -- such that
   pub come_is : come ≡ inputs ++ next ∷ more
-  pub quits : settled (input_course next memory) ≡ leaving there
+  pub quits : settled (input_course next memory) ≡ leaving_course there
   pub shown : IsShown shows moment
-  pub passes : Passes mark (leaving there) session moment made
+  pub passes : Passes mark (leaving_course there) session moment made
 
 -- what the session makes behind the inputs that it answered: acts of leaving alone, from what it remembered; or, where
 -- memory ran out before the reading came to its end, perhaps the first acts of one input more

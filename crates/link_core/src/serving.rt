@@ -7,7 +7,7 @@ use crate::converse::converse;
 use crate::link_end::LinkEnd;
 use crate::moment::moment_of;
 use edge_traits::{Clock, Link};
-use fics_words::NoMemory;
+use memory::NoMemory;
 use one_server::Runner;
 use session_core::Session;
 use std::alloc::Global;

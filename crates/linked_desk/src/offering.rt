@@ -11,7 +11,8 @@ use crate::game::{Game, ROOM_TO_END};
 use crate::hands::first_hands;
 use crate::seats::board_of;
 use chess_model::Why;
-use fics_words::{Handle, Line, NoMemory};
+use fics_words::{Handle, Line};
+use memory::NoMemory;
 use offer_book::{Offer, Offers};
 use std::alloc::Global;
 use style12_writer::{

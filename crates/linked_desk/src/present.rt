@@ -6,8 +6,9 @@ ghost use Rattle.linked_desk.specs.Seating.{first_items};
 use crate::game::Game;
 use crate::hands::first_hands;
 use crate::views::view_of;
-use fics_words::{NoMemory, Opponents};
+use fics_words::Opponents;
 use game_board::GameBoard;
+use memory::NoMemory;
 use style12_writer::{Item, ItemList};
 
 impl Game {

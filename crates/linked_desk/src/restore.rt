@@ -11,8 +11,9 @@ use crate::game::Game;
 use crate::occasion::Occasion;
 use crate::seating::{announced, game_at, show_each};
 use desk_boards::Boards;
-use fics_words::{NoMemory, Seats};
+use fics_words::Seats;
 use game_records::{Half, PackedHalf, StoredGame};
+use memory::NoMemory;
 use std::alloc::Global;
 
 /// A stored game that goes on at a desk, or None where it doesn't replay.

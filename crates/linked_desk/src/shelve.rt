@@ -6,8 +6,9 @@ ghost use Rattle.linked_desk.specs.Shelve.{names_in, shelved};
 use crate::game::Game;
 use chess_model::Terms;
 use collections::Listed;
-use fics_words::{Handle, NoMemory, Opponents, Seats};
+use fics_words::{Handle, Opponents, Seats};
 use game_records::StoredGame;
+use memory::NoMemory;
 use std::alloc::Global;
 
 impl Game {

@@ -13,8 +13,8 @@ use crate::refusals::LoadRefusal;
 use crate::rows::{Taken, add_row};
 use collections::Listed;
 use edge_traits::{Keeper, KeeperFail, Pair};
-use fics_words::NoMemory;
 use lobby_state::Lobby;
+use memory::NoMemory;
 use std::alloc::Global;
 
 /// Loads what a keeper holds: a lobby at its opening that has the accounts and the stored games of the keeper's table,

@@ -10,8 +10,8 @@ ghost use Rattle.lobby_load.specs.Telling.{Tells, TellsKey, bad_record_line};
 use crate::loading::load;
 use crate::refusals::{LoadRefusal, StoreFault};
 use edge_traits::{Keeper, Sent, Sink};
-use fics_words::NoMemory;
 use lobby_state::Lobby;
+use memory::NoMemory;
 use std::alloc::Global;
 
 /// Loads what a keeper holds, as `load` does, and tells the sink of a bad record by the line `bad record K` and a line

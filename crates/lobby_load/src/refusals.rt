@@ -3,7 +3,7 @@ ghost use Rattle.std.specs.Prelude.{◌≡◌};
 ghost use Rattle.lobby_load.specs.declared.refusals.LoadRefusal.TheVariants.{Memory};
 
 use collections::Listed;
-use fics_words::NoMemory;
+use memory::NoMemory;
 
 /// Why no lobby was loaded.
 #[derive(Drop)]

@@ -9,10 +9,11 @@ ghost use Rattle.lobby_store.specs.Agreeing.{wanted_by};
 ghost use Rattle.lobby_load.specs.Filling.{AddsAccount, AddsGame, AddsRow, CannotTake, OnTaken};
 
 use edge_traits::Pair;
-use fics_words::{Account, Fail, NoMemory};
+use fics_words::{Account, Fail};
 use game_records::StoredGame;
 use lobby_state::Lobby;
 use lobby_store::{StoreRow, read_row};
+use memory::NoMemory;
 use std::alloc::Global;
 
 /// What became of a row.

@@ -17,24 +17,24 @@ use Rattle.lobby_shelf.specs.declared.shelved.Shelved.{Shelved}
 use Rattle.lobby_shelf.specs.Facts.{IsShelf}
 use Rattle.lobby_shelf.specs.Numbers.{RiseAbove, next_number, with_game, without_game}
 use Rattle.lobby_shelf.specs.Shelf.{ShelfState, account_order, game_order, most_stored, ordered, removal_order, saved, shelved, taken_off}
-use Rattle.lobby_shelf.specs.Wanted.{Agrees, OrdersLead, Table, account_record, either_record, game_record, is_account_at, is_game_at, table_with, told_up_to, wanted, with_order}
+use Rattle.lobby_shelf.specs.Wanted.{Agrees, OrdersLead, StoreMap, account_record, either_record, game_record, is_account_at, is_game_at, table_with, told_up_to, wanted, with_order}
 use Rattle.lobby_shelf.proofs.Finding.{find-with_new, find-with_other, find-without_other, find-without_this, unused-all}
 use Rattle.lobby_shelf.proofs.Keeping.{next_number-fits}
 use Rattle.lobby_shelf.proofs.Meaning.{saved-first}
 use Rattle.lobby_shelf.proofs.Rising.{next_number-least}
 
 -- orders one after another
-table_with-append : (table : Table) (first rest : List Order) → table_with table (first ++ rest) ≡ table_with (table_with table first) rest
+table_with-append : (table : StoreMap) (first rest : List Order) → table_with table (first ++ rest) ≡ table_with (table_with table first) rest
 table_with-append table [] rest = refl
 table_with-append table (order ∷ orders) rest = table_with-append (with_order table order) orders rest
 
 -- the last order decides where it has the key, and else nothing changes
-table_with-push : (table : Table) (orders : List Order) (new : Order) (key : List ℕ)
+table_with-push : (table : StoreMap) (orders : List Order) (new : Order) (key : List ℕ)
     → table_with table (orders ++ new ∷ []) key ≡ cond (bytes_eq new.key key) new.bytes (table_with table orders key)
-table_with-push table orders new key = ap (λ (t : Table). t key) (table_with-append table orders (new ∷ []))
+table_with-push table orders new key = ap (λ (t : StoreMap). t key) (table_with-append table orders (new ∷ []))
 
 -- what the order is to lead to under each key: its own record under its own key, and what was under every other
-push_agrees : (table : Table) (orders : List Order) (new : Order) (key : List ℕ) (before after : Option (List ℕ))
+push_agrees : (table : StoreMap) (orders : List Order) (new : Order) (key : List ℕ) (before after : Option (List ℕ))
     → table_with table orders key ≡ before → (bytes_eq new.key key ≡ true → after ≡ new.bytes) → (bytes_eq new.key key ≡ false → after ≡ before)
     → table_with table (orders ++ new ∷ []) key ≡ after
 push_agrees table orders new key before after agreed own others =
@@ -88,7 +88,7 @@ find-push_other q [] new other = ap (λ t. cond t (Some new) None) other
 find-push_other q (account ∷ accounts) new other = ap (λ r. cond (q account) (Some account) r) (find-push_other q accounts new other)
 
 -- a new account
-account_leads : (table : Table) (accounts : List Account) (shelf : ShelfState) (account : Account)
+account_leads : (table : StoreMap) (accounts : List Account) (shelf : ShelfState) (account : Account)
     → find (is_account_at (account_key (key_of account.name))) accounts ≡ None → Agrees table accounts shelf
     → Agrees table (accounts ++ account ∷ []) (ordered shelf (account_order shelf account))
 account_leads table accounts shelf account new agreed key =
@@ -112,7 +112,7 @@ small_numbers low [] rise = All-nil (λ row. row.number < 2 ^ 64)
 small_numbers low (row ∷ games) rise = All-cons (λ z. z.number < 2 ^ 64) row games rise.1 (small_numbers row.number games rise.2)
 
 -- a game that goes on the shelf
-shelved_leads : (table : Table) (accounts : List Account) (shelf : ShelfState) (game : StoredGame) → IsShelf shelf
+shelved_leads : (table : StoreMap) (accounts : List Account) (shelf : ShelfState) (game : StoredGame) → IsShelf shelf
     → length shelf.games < most_stored → Agrees table accounts shelf → Agrees table accounts (shelved shelf game)
 shelved_leads table accounts shelf game is room agreed key =
     let number = next_number shelf.games in
@@ -133,7 +133,7 @@ shelved_leads table accounts shelf game is room agreed key =
     (find-with_other (is_game_at key) new 0 shelf.games least.unused is.numbers differs))
 
 -- a game that is taken off
-taken_leads : (table : Table) (accounts : List Account) (shelf : ShelfState) (number : ℕ) → IsShelf shelf → number < 2 ^ 64
+taken_leads : (table : StoreMap) (accounts : List Account) (shelf : ShelfState) (number : ℕ) → IsShelf shelf → number < 2 ^ 64
     → Agrees table accounts shelf → Agrees table accounts (taken_off shelf number)
 taken_leads table accounts shelf number is fits agreed key =
     push_agrees table shelf.orders (removal_order shelf number) key (wanted accounts shelf.games key) (wanted accounts (without_game number shelf.games) key) (agreed key)
@@ -149,28 +149,28 @@ taken_leads table accounts shelf number is fits agreed key =
     (λ k d h. λ e. ap (λ n. bytes_eq (game_key n) key) e ∙ differs)))
 
 -- what a store does again: under a key of one of the orders the table doesn't matter, and under others they don't
-once : (orders : List Order) (key : List ℕ) → ((one other : Table) → table_with one orders key ≡ table_with other orders key)
-    ⊎ ((table : Table) → table_with table orders key ≡ table key)
+once : (orders : List Order) (key : List ℕ) → ((one other : StoreMap) → table_with one orders key ≡ table_with other orders key)
+    ⊎ ((table : StoreMap) → table_with table orders key ≡ table key)
 once [] key = inr (λ table. refl)
 once (order ∷ orders) key = elim (once orders key) [
   | inl f ↦ inl (λ one other. f (with_order one order) (with_order other order))
   | inr g ↦ elim (bytes_eq order.key key) as (λ t. bytes_eq order.key key ≡ t
-      → ((one other : Table) → table_with one (order ∷ orders) key ≡ table_with other (order ∷ orders) key)
-      ⊎ ((table : Table) → table_with table (order ∷ orders) key ≡ table key)) [
+      → ((one other : StoreMap) → table_with one (order ∷ orders) key ≡ table_with other (order ∷ orders) key)
+      ⊎ ((table : StoreMap) → table_with table (order ∷ orders) key ≡ table key)) [
         | true ↦ λ same. inl (λ one other. g (with_order one order)
             ∙ ap (λ t. cond t order.bytes (one key)) same ∙ sym (ap (λ t. cond t order.bytes (other key)) same) ∙ sym (g (with_order other order)))
         | false ↦ λ differs. inr (λ table. g (with_order table order) ∙ ap (λ t. cond t order.bytes (table key)) differs)
       ] refl
 ]
 
-twice : (table : Table) (orders : List Order) (key : List ℕ) → table_with (table_with table orders) orders key ≡ table_with table orders key
+twice : (table : StoreMap) (orders : List Order) (key : List ℕ) → table_with (table_with table orders) orders key ≡ table_with table orders key
 twice table orders key = elim (once orders key) [
   | inl f ↦ f (table_with table orders) table
   | inr g ↦ g (table_with table orders)
 ]
 
 -- tables that hold the same under a key still do after the same orders
-same_table : (one other : Table) (orders : List Order) (key : List ℕ) → one key ≡ other key → table_with one orders key ≡ table_with other orders key
+same_table : (one other : StoreMap) (orders : List Order) (key : List ℕ) → one key ≡ other key → table_with one orders key ≡ table_with other orders key
 same_table one other [] key same = same
 same_table one other (order ∷ orders) key same =
     same_table (with_order one order) (with_order other order) orders key (ap (λ r. cond (bytes_eq order.key key) order.bytes r) same)
@@ -181,10 +181,10 @@ orders-lead = record {
   goes_on = shelved_leads;
   comes_off = taken_leads;
   saved = λ table accounts shelf upto is agreed key.
-      ap (λ (t : Table). t key) (sym (table_with-append table (told_up_to shelf upto) (saved shelf upto).orders))
+      ap (λ (t : StoreMap). t key) (sym (table_with-append table (told_up_to shelf upto) (saved shelf upto).orders))
       ∙ ap (λ (orders : List Order). table_with table orders key) (sym ((saved-first shelf is).first upto)) ∙ agreed key;
   again = λ table first rest key.
-      ap (λ (t : Table). t key) (table_with-append (table_with table first) first rest)
+      ap (λ (t : StoreMap). t key) (table_with-append (table_with table first) first rest)
       ∙ same_table (table_with (table_with table first) first) (table_with table first) rest key (twice table first key)
-      ∙ sym (ap (λ (t : Table). t key) (table_with-append table first rest));
+      ∙ sym (ap (λ (t : StoreMap). t key) (table_with-append table first rest));
 }

@@ -13,8 +13,8 @@ use Rattle.lobby_shelf.specs.Facts.{IsShelf}
 use Rattle.lobby_shelf.specs.Shelf.{ShelfState, account_order, most_stored, ordered, saved, shelved, taken_off}
 
 -- what a store holds under each key, if anything
-abbrev pub Table : Type 0
-Table = List ℕ → Option (List ℕ)
+abbrev pub StoreMap : Type 0
+StoreMap = List ℕ → Option (List ℕ)
 
 -- the account that the store knows by this key
 abbrev pub is_account_at : List ℕ → Account → Bool
@@ -40,21 +40,21 @@ either_record None other = other
 either_record (Some bytes) other = Some bytes
 
 -- what a store is to hold for these accounts and stored games: each under its own key, and nothing else
-abbrev pub wanted : List Account → List Shelved → Table
+abbrev pub wanted : List Account → List Shelved → StoreMap
 wanted accounts games key = either_record (account_record (find (is_account_at key) accounts)) (game_record (find (is_game_at key) games))
 
 -- the table once an order is carried out: under the order's key stands its record, or nothing where it has none
-abbrev pub with_order : Table → Order → Table
+abbrev pub with_order : StoreMap → Order → StoreMap
 with_order table order key = if bytes_eq order.key key then order.bytes else table key
 
 -- the table once these orders are carried out, one after another
-abbrev pub table_with : Table → List Order → Table
+abbrev pub table_with : StoreMap → List Order → StoreMap
 table_with table [] = table
 table_with table (order ∷ orders) = table_with (with_order table order) orders
 
 -- the table agrees with these accounts and this shelf: once the orders that stand are carried out it holds what it is to
 -- hold
-abbrev pub Agrees : Table → List Account → ShelfState → Type 0
+abbrev pub Agrees : StoreMap → List Account → ShelfState → Type 0
 Agrees table accounts shelf = (key : List ℕ) → table_with table shelf.orders key ≡ wanted accounts shelf.games key
 
 -- the orders that stand and have a number up to this one
@@ -66,14 +66,14 @@ told_up_to shelf upto = filter (λ order. nat_le order.number upto) shelf.orders
 -- store has carried out the orders up to a number, and they are told as saved, it still agrees; and to carry some of the
 -- first orders out twice, as after a failure, leads to the same
 pub record OrdersLead : Type 0 where
-  pub account : (table : Table) (accounts : List Account) (shelf : ShelfState) (account : Account)
+  pub account : (table : StoreMap) (accounts : List Account) (shelf : ShelfState) (account : Account)
       → find (is_account_at (account_key (key_of account.name))) accounts ≡ None → Agrees table accounts shelf
       → Agrees table (accounts ++ account ∷ []) (ordered shelf (account_order shelf account))
-  pub goes_on : (table : Table) (accounts : List Account) (shelf : ShelfState) (game : StoredGame) → IsShelf shelf
+  pub goes_on : (table : StoreMap) (accounts : List Account) (shelf : ShelfState) (game : StoredGame) → IsShelf shelf
       → length shelf.games < most_stored → Agrees table accounts shelf → Agrees table accounts (shelved shelf game)
-  pub comes_off : (table : Table) (accounts : List Account) (shelf : ShelfState) (number : ℕ) → IsShelf shelf
+  pub comes_off : (table : StoreMap) (accounts : List Account) (shelf : ShelfState) (number : ℕ) → IsShelf shelf
       → number < 2 ^ 64 → Agrees table accounts shelf → Agrees table accounts (taken_off shelf number)
-  pub saved : (table : Table) (accounts : List Account) (shelf : ShelfState) (upto : ℕ) → IsShelf shelf
+  pub saved : (table : StoreMap) (accounts : List Account) (shelf : ShelfState) (upto : ℕ) → IsShelf shelf
       → Agrees table accounts shelf → Agrees (table_with table (told_up_to shelf upto)) accounts (saved shelf upto)
-  pub again : (table : Table) (first rest : List Order) (key : List ℕ)
+  pub again : (table : StoreMap) (first rest : List Order) (key : List ℕ)
       → table_with (table_with table first) (first ++ rest) key ≡ table_with table (first ++ rest) key

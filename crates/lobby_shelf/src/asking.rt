@@ -8,7 +8,8 @@ use crate::cells::Cells;
 use crate::game_shelf::GameShelf;
 use crate::request::Request;
 use collections::Predicate;
-use fics_words::{NoMemory, Seats};
+use fics_words::Seats;
+use memory::NoMemory;
 use std::marker::Model;
 
 /// The request that an act makes, in a cell of its own. Contracts see the request.

@@ -10,8 +10,8 @@ use crate::game_shelf::GameShelf;
 use crate::order::{Order, Unsaved};
 use crate::saving::{GameSaving, Saving};
 use collections::Listed;
-use fics_words::NoMemory;
 use game_records::StoredGame;
+use memory::NoMemory;
 
 /// How many orders are told at once.
 const ORDERS_AT_ONCE: usize = 16;

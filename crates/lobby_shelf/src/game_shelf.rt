@@ -11,8 +11,9 @@ use crate::rack::Rack;
 use crate::request::Request;
 use crate::shelved::Shelved;
 use collections::{Predicate, find};
-use fics_words::{Handle, HandleKey, NoMemory};
+use fics_words::{Handle, HandleKey};
 use game_records::StoredGame;
+use memory::NoMemory;
 use std::alloc::Global;
 use std::marker::Model;
 

@@ -8,8 +8,9 @@ use crate::cells::Cells;
 use crate::game_shelf::GameShelf;
 use crate::order::Order;
 use crate::written::Written;
-use fics_words::{Account, NoMemory};
+use fics_words::Account;
 use game_records::{Record, StoredGame, account_key, game_key, write_record};
+use memory::NoMemory;
 use std::marker::Model;
 
 /// The save order that a change makes, in a cell of its own. Contracts see the order.

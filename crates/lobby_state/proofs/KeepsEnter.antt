@@ -12,7 +12,7 @@ use Rattle.login_handles.specs.Guests.{IsLeastFree}
 use Rattle.login_handles.proofs.GuestNames.{guests_are_least}
 use Rattle.login_handles.specs.declared.check.Check.{Check}
 use Rattle.login_handles.specs.declared.check.Check.TheVariants.{NeedPassword as MissesPassword}
-use Rattle.lobby_state.specs.Enter.{enter_effect, entrant_of, guest_in, names_taken, newcomer, welcome, welcomed, with_newcomer}
+use Rattle.lobby_state.specs.Enter.{enter_effect, entrant_of, guest_in, names_taken, new_member, welcome, welcomed, with_new_member}
 use Rattle.lobby_state.specs.Keeps.{Keeps, TellsDesks}
 use Rattle.lobby_state.specs.Lobby.{LobbyState, has_handle, holder_of, is_session, member_of}
 use Rattle.lobby_state.specs.WellFormed.{IsWellFormed, AreChallengesOf, AreSeeksOf, ArePartnersOf, IsSeatOf, IsShelfOf, HasSeats, sessions_of}
@@ -32,34 +32,34 @@ same_key a b e same =
     let bad : true ≡ false = sym yes ∙ ap (bytes_eq a) same ∙ e in cc
 
 with_one_more : (lobby : LobbyState) (session : ℕ) (name : List ℕ) → length lobby.members < 256 → member_of lobby session ≡ None
-    → holder_of lobby (key_of name) ≡ None → IsWellFormed lobby → IsWellFormed (with_newcomer lobby session name)
+    → holder_of lobby (key_of name) ≡ None → IsWellFormed lobby → IsWellFormed (with_new_member lobby session name)
 with_one_more lobby session name few alone free h = record {
   accounts = h.accounts;
-  hall = omega (arith, few, length-append lobby.members (newcomer session name ∷ []));
-  sessions = all_pairs_push (λ a b. a.session ≢ b.session) lobby.members (newcomer session name) h.sessions
+  hall = omega (arith, few, length-append lobby.members (new_member session name ∷ []));
+  sessions = all_pairs_push (λ a b. a.session ≢ b.session) lobby.members (new_member session name) h.sessions
       (λ k d inside. eqb-false _ session (find-none (is_session session) lobby.members alone k d inside));
-  handles = all_pairs_push (λ a b. key_of a.name ≢ key_of b.name) lobby.members (newcomer session name) h.handles
+  handles = all_pairs_push (λ a b. key_of a.name ≢ key_of b.name) lobby.members (new_member session name) h.handles
       (λ k d inside. same_key _ (key_of name) (find-none (has_handle (key_of name)) lobby.members free k d inside));
   challenges =
-      let more = map-append (λ (m : Member). m.session) lobby.members (newcomer session name ∷ []) in
+      let more = map-append (λ (m : Member). m.session) lobby.members (new_member session name ∷ []) in
       subst (λ (ss : List ℕ). AreChallengesOf ss lobby.challenges) (sym more)
       (AreChallengesOf-more (sessions_of lobby.members) (sessions_of lobby.members ++ session ∷ []) lobby.challenges
       (Contains-append_left (sessions_of lobby.members) (session ∷ [])) h.challenges);
   seeks =
-      let more = map-append (λ (m : Member). m.session) lobby.members (newcomer session name ∷ []) in
+      let more = map-append (λ (m : Member). m.session) lobby.members (new_member session name ∷ []) in
       subst (λ (ss : List ℕ). AreSeeksOf ss lobby.seeks) (sym more)
       (AreSeeksOf-more (sessions_of lobby.members) (sessions_of lobby.members ++ session ∷ []) lobby.seeks
       (Contains-append_left (sessions_of lobby.members) (session ∷ [])) h.seeks);
   partners =
-      let more = map-append (λ (m : Member). m.session) lobby.members (newcomer session name ∷ []) in
+      let more = map-append (λ (m : Member). m.session) lobby.members (new_member session name ∷ []) in
       subst (λ (ss : List ℕ). ArePartnersOf ss lobby.partners) (sym more)
       (ArePartnersOf-more (sessions_of lobby.members) (sessions_of lobby.members ++ session ∷ []) lobby.partners
       (Contains-append_left (sessions_of lobby.members) (session ∷ [])) h.partners);
   games = h.games;
   serials = h.serials;
-  places = All-push (HasSeats lobby.games) lobby.members (newcomer session name) h.places (All-nil (IsSeatOf lobby.games session));
+  places = All-push (HasSeats lobby.games) lobby.members (new_member session name) h.places (All-nil (IsSeatOf lobby.games session));
   shelf =
-      let more = map-append (λ (m : Member). m.session) lobby.members (newcomer session name ∷ []) in
+      let more = map-append (λ (m : Member). m.session) lobby.members (new_member session name ∷ []) in
       subst (λ (ss : List ℕ). IsShelfOf ss lobby.shelf) (sym more)
       (IsShelfOf-more (sessions_of lobby.members) (sessions_of lobby.members ++ session ∷ []) lobby.shelf
       (Contains-append_left (sessions_of lobby.members) (session ∷ [])) h.shelf);

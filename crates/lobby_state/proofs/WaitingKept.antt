@@ -27,9 +27,9 @@ use Rattle.lobby_state.specs.Broadcast.{broadcast, hearing, hears}
 use Rattle.lobby_state.specs.Change.{change_first}
 use Rattle.lobby_state.specs.Clear.{off_desk}
 use Rattle.lobby_state.specs.Decline.{declined}
-use Rattle.lobby_state.specs.Enter.{entrant_of, newcomer, welcomed}
+use Rattle.lobby_state.specs.Enter.{entrant_of, new_member, welcomed}
 use Rattle.lobby_state.specs.Fetch.{emptied}
-use Rattle.lobby_state.specs.Going.{leaving}
+use Rattle.lobby_state.specs.Going.{leaving_member}
 use Rattle.lobby_state.specs.Lobby.{LobbyState, is_named, is_session, lines_in, member_of, named, partner_in, waiting_of}
 use Rattle.lobby_state.specs.Match.{challenge_words, challenged, with_line}
 use Rattle.lobby_state.specs.NameList.{listing, with_names_on}
@@ -153,9 +153,9 @@ kept_registered lobby session None digest = kept_same session lobby.members
 kept_registered lobby session (Some member) digest = kept_same session lobby.members
 
 kept_entered : (check : Check) (lobby : LobbyState) (by session : ℕ) (name : List ℕ) → Kept session lobby.members (welcomed check lobby by name).members
-kept_entered Free lobby by session name = kept_behind session lobby.members (newcomer by name)
-kept_entered Right lobby by session name = kept_behind session lobby.members (newcomer by name)
-kept_entered Wrong lobby by session name = kept_behind session lobby.members (newcomer by name)
+kept_entered Free lobby by session name = kept_behind session lobby.members (new_member by name)
+kept_entered Right lobby by session name = kept_behind session lobby.members (new_member by name)
+kept_entered Wrong lobby by session name = kept_behind session lobby.members (new_member by name)
 kept_entered NeedPassword lobby by session name = kept_same session lobby.members
 
 kept_challenged : (lobby : LobbyState) (session : ℕ) (caller other : Option Member) (to : List ℕ) (terms : Terms)
@@ -271,7 +271,7 @@ kept_act lobby by session (Find name) f b = kept_same session lobby.members
 kept_act lobby by session (FindGame number) f b = kept_same session lobby.members
 kept_act lobby by session Where f b = kept_same session lobby.members
 kept_act lobby by session Fetch f b = kept_fetched by session lobby.members (f refl)
-kept_act lobby by session Going f b = kept_change (is_session by) leaving (λ m. same_lines m (leaving m) refl refl) session lobby.members
+kept_act lobby by session Going f b = kept_change (is_session by) leaving_member (λ m. same_lines m (leaving_member m) refl refl) session lobby.members
 kept_act lobby by session Bye f b = kept_gone by session lobby.members (b refl)
 kept_act lobby by session InUse f b = kept_same session lobby.members
 kept_act lobby by session Stored f b = kept_same session lobby.members

@@ -1,7 +1,7 @@
 -- Channel: a member joins or leaves a channel. This server's own.
 use Rattle.std.specs.Prelude.{ℕ, Bool, true, false, List, ◌∷◌, is_none}
 use Rattle.channel_feed.specs.declared.channels.Membership.{Membership}
-use Rattle.channel_feed.specs.Channels.{joining, leaving}
+use Rattle.channel_feed.specs.Channels.{joining, leaving_channel}
 use Rattle.fics_words.specs.Effect.{Effect}
 use Rattle.fics_words.specs.declared.refusal.Refusal.TheVariants.{NotIn}
 use Rattle.lobby_state.specs.declared.acts.LobbyReply.{LobbyReply}
@@ -11,7 +11,7 @@ use Rattle.lobby_state.specs.Lobby.{LobbyState, member_of}
 -- who is in the channels afterwards: the member joins where it says on, and else leaves
 abbrev pub change_of : List Membership → ℕ → ℕ → Bool → Effect (List Membership) (Unit {0})
 change_of rows session channel true = joining rows session channel
-change_of rows session channel false = leaving rows session channel
+change_of rows session channel false = leaving_channel rows session channel
 
 -- a Channel is refused where the session isn't a member; a joining where it is in the channel, and where it is in 20;
 -- a leaving where it isn't in the channel

@@ -43,8 +43,8 @@ abbrev pub all_wanted : Wants
 all_wanted = record { matches = true; shouts = true; seeks = true }
 
 -- one who comes in
-abbrev pub newcomer : ℕ → List ℕ → Member
-newcomer session name = record {
+abbrev pub new_member : ℕ → List ℕ → Member
+new_member session name = record {
   session = session;
   name = name;
   going = false;
@@ -56,9 +56,9 @@ newcomer session name = record {
 }
 
 -- the newcomer stands behind the other members
-abbrev pub with_newcomer : LobbyState → ℕ → List ℕ → LobbyState
-with_newcomer lobby session name =
-    record lobby { members = lobby.members ++ newcomer session name ∷ [] }
+abbrev pub with_new_member : LobbyState → ℕ → List ℕ → LobbyState
+with_new_member lobby session name =
+    record lobby { members = lobby.members ++ new_member session name ∷ [] }
 
 -- the account has another password
 abbrev pub is_wrong : Check → Bool
@@ -73,7 +73,7 @@ welcome _ name = Entered name
 -- and what stands afterwards: nothing else where the password is missing
 abbrev pub welcomed : Check → LobbyState → ℕ → List ℕ → LobbyState
 welcomed MissesPassword lobby session name = lobby
-welcomed _ lobby session name = with_newcomer lobby session name
+welcomed _ lobby session name = with_new_member lobby session name
 
 -- an Enter is refused where there are 256 members; where this session has entered or a member has the handle; and where
 -- the password isn't the account's
@@ -93,4 +93,4 @@ enter_effect lobby session name digest =
 -- coming in, where nothing stands against it
 abbrev pub entering : LobbyState → ℕ → List ℕ → Effect LobbyState LobbyReply
 entering lobby session name =
-    record { causes = []; memory = true; reply = Entered name; after = with_newcomer lobby session name }
+    record { causes = []; memory = true; reply = Entered name; after = with_new_member lobby session name }

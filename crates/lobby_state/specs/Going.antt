@@ -8,8 +8,8 @@ use Rattle.lobby_state.specs.Change.{change_first}
 use Rattle.lobby_state.specs.Lobby.{LobbyState, is_session, places_of, without_challenges, without_partner, without_resumes, without_seeks}
 
 -- the member that leaves, and can't be named from then on
-abbrev pub leaving : Member → Member
-leaving member = record member { going = true }
+abbrev pub leaving_member : Member → Member
+leaving_member member = record member { going = true }
 
 -- a Going is never refused: the member leaves, and its challenges, its seeks, its requests and its link are gone
 abbrev pub going_effect : LobbyState → ℕ → Effect LobbyState LobbyReply
@@ -18,5 +18,5 @@ going_effect lobby session = record {
   memory = false;
   reply = Places (places_of lobby session);
   after = without_resumes session (without_partner session (without_seeks session (without_challenges session
-      (record lobby { members = change_first (is_session session) leaving lobby.members }))));
+      (record lobby { members = change_first (is_session session) leaving_member lobby.members }))));
 }

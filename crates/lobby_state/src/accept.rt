@@ -5,11 +5,11 @@ ghost use Rattle.lobby_state.specs.Accept.{accept_effect, offer_of};
 
 use crate::acts::Plan;
 use crate::pairing::is_simul_of_four;
-use crate::register::Register;
+use crate::roster::Roster;
 use fics_words::{HandleKey, Refusal};
 use seek_match::Challenge;
 
-impl Register {
+impl Roster {
     /// What an acceptance is to do. The causes of a refusal, in order: the session isn't a member; there is no such
     /// challenge; in bughouse the two are partners by now, one of them gives a simul, or one has no partner; one of
     /// those who would be seated has a place and gives no simul; one of them has 32 places; all desks are in use, or

@@ -8,13 +8,14 @@ ghost use Rattle.tables.specs.Rows.{change_at};
 
 use crate::member::Member;
 use crate::members::{MOST_MEMBERS, Members};
-use crate::register::Register;
+use crate::roster::Roster;
 use crate::said::said_line;
 use collections::Predicate;
-use fics_words::{Handle, Line, NoMemory};
+use fics_words::{Handle, Line};
+use memory::NoMemory;
 use std::alloc::Global;
 
-impl Register {
+impl Roster {
     /// Says something to each member whom the test names and for whom fewer than 512 lines wait: who says it, how it is
     /// said, and its text. It answers how many members that are. Running out of memory changes nothing.
     pub(crate) fn say<P: Predicate<Member>>(

@@ -4,9 +4,9 @@ ghost use Rattle.fics_words.specs.Effect.{Takes};
 ghost use Rattle.lobby_state.specs.Bye.{bye_effect};
 
 use crate::acts::LobbyReply;
-use crate::register::Register;
+use crate::roster::Roster;
 
-impl Register {
+impl Roster {
     /// The session is gone, with every challenge, every seek, every request and the link that still names it, and is in
     /// no channel. It takes no memory and is never refused.
     pub(crate) fn bye(&mut self, session: u32) -> LobbyReply

@@ -4,10 +4,10 @@ ghost use Rattle.fics_words.specs.Effect.{Takes};
 ghost use Rattle.lobby_state.specs.Channel.{channel_effect};
 
 use crate::acts::LobbyReply;
-use crate::register::Register;
+use crate::roster::Roster;
 use fics_words::{Fail, Refusal};
 
-impl Register {
+impl Roster {
     /// The member joins the channel, or leaves it where `on` is false.
     pub(crate) fn channel(
         &mut self,

@@ -4,7 +4,7 @@ ghost use Rattle.lobby_state.specs.Clear.{cleared, freed, off_desk};
 ghost use Rattle.lobby_state.specs.Desks.{IsDesk};
 
 use crate::member::Member;
-use crate::register::Register;
+use crate::roster::Roster;
 use collections::Change;
 
 /// The end of a member's place at this desk.
@@ -19,7 +19,7 @@ impl Change<Member> for GetUp {
     }
 }
 
-impl Register {
+impl Roster {
     /// The session has no place at the desk any more, which is still in use.
     pub(crate) fn free(&mut self, session: u32, desk: u8)
         ensures { self.new ≡ freed self.old session desk }

@@ -3,10 +3,10 @@ ghost use Rattle.fics_words.specs.Effect.{Takes};
 ghost use Rattle.lobby_state.specs.Decline.{decline_effect};
 
 use crate::acts::LobbyReply;
-use crate::register::Register;
+use crate::roster::Roster;
 use fics_words::{Fail, HandleKey, Refusal};
 
-impl Register {
+impl Roster {
     /// The challenge by the named player to the session, or without a name the oldest one to it, goes, and its
     /// challenger is told, where fewer than 512 lines wait there. The causes of a refusal, in order: the session isn't
     /// a member; there is no such challenge.

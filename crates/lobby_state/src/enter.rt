@@ -8,9 +8,10 @@ ghost use Rattle.lobby_state.specs.Lobby.{holder_of, member_of, most_members};
 use crate::acts::LobbyReply;
 use crate::member::Member;
 use crate::members::MOST_MEMBERS;
-use crate::register::Register;
-use fics_words::{Account, Digest, Fail, Handle, HandleKey, NoMemory, Refusal};
+use crate::roster::Roster;
+use fics_words::{Account, Digest, Fail, Handle, HandleKey, Refusal};
 use login_handles::{Check, guest_name};
+use memory::NoMemory;
 
 /// Who asks to come in: under which handle, and what its account says of the password.
 #[derive(Clone, Copy)]
@@ -19,7 +20,7 @@ pub(crate) struct Entrant {
     pub(crate) check: Check,
 }
 
-impl Register {
+impl Roster {
     /// The session becomes a member, where no password is missing. The causes of a refusal, in order: there are 256
     /// members; this session has entered, or a member has the handle; the digest isn't that of the handle's account.
     pub(crate) fn enter(
@@ -52,8 +53,8 @@ impl Register {
         requires handle { holder_of self.old (key_of name) ≡ None }
         ensures { Takes (entering self.old session name) self.old self.new result }
     {
-        let newcomer = Member::newcomer(self.alloc, session, name);
-        self.members.push(newcomer)?;
+        let member = Member::new(self.alloc, session, name);
+        self.members.push(member)?;
         Ok(LobbyReply::Entered(name))
     }
 

@@ -5,9 +5,9 @@ ghost use Rattle.lobby_state.specs.Fetch.{fetch_effect};
 
 use crate::acts::LobbyReply;
 use crate::member::take_lines;
-use crate::register::Register;
+use crate::roster::Roster;
 
-impl Register {
+impl Roster {
     /// The lines that wait for the session, which are taken, and its places. It takes no memory and is never refused.
     pub(crate) fn fetch(&mut self, session: u32) -> LobbyReply
         ensures { Takes (fetch_effect self.old session) self.old self.new (Ok result) }

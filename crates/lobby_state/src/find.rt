@@ -3,10 +3,10 @@ ghost use Rattle.fics_words.specs.Effect.{Takes};
 ghost use Rattle.lobby_state.specs.Find.{find_effect};
 
 use crate::acts::LobbyReply;
-use crate::register::Register;
+use crate::roster::Roster;
 use fics_words::{Fail, HandleKey, Refusal};
 
-impl Register {
+impl Roster {
     /// The present place of the named player. The causes of a refusal, in order: the session isn't a member; nobody
     /// has the handle, or that member is going; it has no place. It takes no memory.
     pub(crate) fn find(&self, session: u32, name: HandleKey) -> Result<LobbyReply, Fail>

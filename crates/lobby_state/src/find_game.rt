@@ -6,12 +6,12 @@ ghost use Rattle.lobby_state.specs.FindGame.{board_seat, find_game_effect, first
 ghost use Rattle.lobby_state.specs.Lobby.{game_at};
 
 use crate::acts::LobbyReply;
-use crate::register::Register;
+use crate::roster::Roster;
 use chess_model::Variant;
 use fics_words::{Fail, Refusal};
 use simul_control::Place;
 
-impl Register {
+impl Roster {
     /// The first seat of the game of that number. The causes of a refusal, in order: the session isn't a member; no
     /// desk is in use for such a game. It takes no memory.
     pub(crate) fn find_game(&self, session: u32, number: u16) -> Result<LobbyReply, Fail>

@@ -4,7 +4,8 @@ ghost use Rattle.lobby_state.specs.Desks.{desks};
 
 use chess_model::Terms;
 use collections::Listed;
-use fics_words::{NoMemory, Seats};
+use fics_words::Seats;
+use memory::NoMemory;
 use std::alloc::Global;
 
 /// The number of desks.

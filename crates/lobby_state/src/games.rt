@@ -6,12 +6,13 @@ ghost use Rattle.lobby_state.specs.Games.{board_line, board_words, game_number, 
 
 use crate::acts::LobbyReply;
 use crate::game::{DESKS, Game};
-use crate::register::Register;
+use crate::roster::Roster;
 use crate::terms::put_terms;
 use chess_model::Terms;
-use fics_words::{Fail, Lines, NoMemory, Opponents, Refusal, write_number};
+use fics_words::{Fail, Lines, Opponents, Refusal, write_number};
+use memory::NoMemory;
 
-impl Register {
+impl Roster {
     /// The lines of all games, in the order of their numbers, one a board. It is refused where the session isn't a
     /// member.
     pub(crate) fn games(&self, session: u32) -> Result<LobbyReply, Fail>

@@ -6,11 +6,11 @@ ghost use Rattle.lobby_state.specs.Desks.{IsDesk};
 ghost use Rattle.lobby_state.specs.GoBoard.{go_board_effect, is_against, opponent_of, other_seat};
 
 use crate::acts::LobbyReply;
-use crate::register::Register;
+use crate::roster::Roster;
 use fics_words::{Fail, HandleKey, Player, Refusal, Seats};
 use simul_control::{Place, Places};
 
-impl Register {
+impl Roster {
     /// The session's first place whose opponent, in the other seat of the same board, is the named player is its
     /// present one. The causes of a refusal, in order: the session isn't a member; nobody has the handle, or that
     /// member is going; the session gives no simul, or has no place; it has none against that player. It takes no

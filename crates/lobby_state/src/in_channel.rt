@@ -6,13 +6,14 @@ ghost use Rattle.lobby_state.specs.InChannel.{in_channel_effect, in_channel_line
 
 use crate::acts::LobbyReply;
 use crate::name_row::NameRow;
-use crate::register::Register;
+use crate::roster::Roster;
 use crate::who::push_name;
 use channel_feed::Channels;
-use fics_words::{Fail, Lines, NoMemory, Refusal};
+use fics_words::{Fail, Lines, Refusal};
+use memory::NoMemory;
 use std::alloc::Global;
 
-impl Register {
+impl Roster {
     /// The handles of the members that are in the channel, in the order of their keys. It is refused where the session
     /// isn't a member.
     pub(crate) fn in_channel(&self, session: u32, channel: u8) -> Result<LobbyReply, Fail>

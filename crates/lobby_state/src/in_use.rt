@@ -6,11 +6,12 @@ ghost use Rattle.lobby_state.specs.InUse.{desks_in_use, in_use_effect};
 use crate::acts::LobbyReply;
 use crate::desk_in_use::DeskInUse;
 use crate::game::DESKS;
-use crate::register::Register;
+use crate::roster::Roster;
 use collections::Listed;
-use fics_words::{Fail, NoMemory};
+use fics_words::Fail;
+use memory::NoMemory;
 
-impl Register {
+impl Roster {
     /// The desks in use with their serials. It is never refused.
     pub(crate) fn in_use(&self) -> Result<LobbyReply, Fail>
         ensures { Takes (in_use_effect self.now) self.now self.now result }

@@ -4,7 +4,8 @@ ghost use Rattle.channel_feed.specs.Waiting.{is_full, with_line, without_last};
 
 use channel_feed::Waiting;
 use collections::Listed;
-use fics_words::{Duplicate, Line, NoMemory};
+use fics_words::Line;
+use memory::{Duplicate, NoMemory};
 use std::alloc::Global;
 use std::marker::Model;
 

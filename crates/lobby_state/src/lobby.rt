@@ -15,11 +15,12 @@ ghost use Rattle.lobby_state.specs.ShelfRoom.{numbers_of, storing_effect};
 
 use crate::acts::{LobbyAct, LobbyReply, PairAct, Plan};
 use crate::game::Game;
-use crate::register::Register;
 use crate::reserve::Ready;
+use crate::roster::Roster;
 use crate::told::ReplyLists;
-use fics_words::{Account, Fail, Line, NoMemory, Refusal};
+use fics_words::{Account, Fail, Line, Refusal};
 use lobby_shelf::{Shelved, StoredGame};
+use memory::NoMemory;
 use simul_control::Places;
 use std::alloc::Global;
 use std::marker::Model;
@@ -27,7 +28,7 @@ use std::marker::Model;
 /// Who is registered and who is in the hall, which challenges stand, and which desks are in use. Every lobby is
 /// well-formed.
 pub struct Lobby {
-    pub(crate) register: Register,
+    pub(crate) register: Roster,
 }
 
 // One call for who drops a lobby: a derived destructor is proved again in each crate above, with those of its parts.
@@ -55,7 +56,7 @@ impl Lobby {
         ensures { IfOk result (λ lobby. lobby ≡ opening) }
     {
         Ok(Lobby {
-            register: Register::new(alloc)?,
+            register: Roster::new(alloc)?,
         })
     }
 

@@ -12,14 +12,15 @@ use crate::inbox::Inbox;
 use crate::member::Member;
 use crate::members::Members;
 use crate::pairing::is_simul_of_four;
-use crate::register::Register;
+use crate::roster::Roster;
 use crate::terms::with_terms;
 use chess_model::Terms;
-use fics_words::{Fail, Handle, HandleKey, Line, NoMemory, Refusal};
+use fics_words::{Fail, Handle, HandleKey, Line, Refusal};
+use memory::NoMemory;
 use seek_match::{Challenge, MatchBook};
 use std::alloc::Global;
 
-impl Register {
+impl Roster {
     /// The session challenges the named player. The causes of a refusal, in order: the session isn't a member; nobody
     /// has the handle, or that member is going; it is the session itself, or in bughouse its partner; one of the two
     /// has a place and gives no simul; the other has `open` off, or has the member on one of its lists; in bughouse

@@ -2,7 +2,7 @@
 ghost use Rattle.std.specs.Prelude.{◌≡◌, OnOk, OnErr};
 ghost use Rattle.std.specs.List.{find};
 ghost use Rattle.lobby_state.specs.Change.{change_first};
-ghost use Rattle.lobby_state.specs.Enter.{newcomer};
+ghost use Rattle.lobby_state.specs.Enter.{new_member};
 ghost use Rattle.lobby_state.specs.Fetch.{emptied};
 ghost use Rattle.lobby_state.specs.Lobby.{is_session, is_named, gives, has_place, is_busy, lines_in};
 ghost use Rattle.lobby_state.specs.Match.{is_full, with_line};
@@ -13,7 +13,8 @@ use crate::members::Members;
 use crate::wants::Wants;
 use channel_feed::NameList;
 use collections::Listed;
-use fics_words::{Handle, HandleKey, Line, NoMemory};
+use fics_words::{Handle, HandleKey, Line};
+use memory::NoMemory;
 use simul_control::Places;
 use std::alloc::Global;
 
@@ -37,8 +38,8 @@ pub struct Member {
 
 impl Member {
     /// One who comes in.
-    pub(crate) fn newcomer(alloc: Global, session: u32, name: Handle) -> Member
-        ensures { result ≡ newcomer session name }
+    pub(crate) fn new(alloc: Global, session: u32, name: Handle) -> Member
+        ensures { result ≡ new_member session name }
     {
         Member {
             session,

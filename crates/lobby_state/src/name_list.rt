@@ -6,7 +6,7 @@ ghost use Rattle.lobby_state.specs.NameList.{avoids, censors, change_among, list
 use crate::acts::LobbyReply;
 use crate::member::Member;
 use crate::members::Members;
-use crate::register::Register;
+use crate::roster::Roster;
 use channel_feed::NameList;
 use fics_words::{Fail, HandleKey, Refusal};
 
@@ -36,7 +36,7 @@ impl Member {
     }
 }
 
-impl Register {
+impl Roster {
     /// The member puts the name on that list, or takes it off where `on` is false, which takes no memory. The causes of
     /// a refusal, in order: the session isn't a member; the name is on the list, and 100 names are; or, where it is
     /// taken off, it isn't on the list.

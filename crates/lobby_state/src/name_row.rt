@@ -8,7 +8,8 @@ ghost use Rattle.lobby_state.specs.Names.{AreRowsInOrder, with_row};
 ghost use Rattle.tables.specs.Rows.{has_key};
 
 use collections::Predicate;
-use fics_words::{Handle, HandleKey, NoMemory};
+use fics_words::{Handle, HandleKey};
+use memory::NoMemory;
 use tables::{Keyed, Table};
 
 /// Whose name it is.

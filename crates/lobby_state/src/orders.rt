@@ -5,12 +5,13 @@ ghost use Rattle.lobby_shelf.specs.Shelf.{orders_told};
 ghost use Rattle.lobby_state.specs.Orders.{orders_effect};
 
 use crate::acts::LobbyReply;
-use crate::register::Register;
+use crate::roster::Roster;
 use collections::Listed;
-use fics_words::{Fail, NoMemory};
+use fics_words::Fail;
 use lobby_shelf::Order;
+use memory::NoMemory;
 
-impl Register {
+impl Roster {
     /// The first 16 save orders, or all where there are no more. It is never refused.
     pub(crate) fn orders(&self) -> Result<LobbyReply, Fail>
         ensures { Takes (orders_effect self.now) self.now self.now result }

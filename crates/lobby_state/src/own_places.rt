@@ -3,7 +3,7 @@ ghost use Rattle.std.specs.Prelude.{◌≡◌};
 ghost use Rattle.lobby_state.specs.OwnPlaces.{placed, with_places};
 
 use crate::member::Member;
-use crate::register::Register;
+use crate::roster::Roster;
 use collections::Change;
 use simul_control::Places;
 
@@ -19,7 +19,7 @@ impl Change<Member> for Moved {
     }
 }
 
-impl Register {
+impl Roster {
     /// The member of the session has these places from now on.
     pub(crate) fn put_places(&mut self, session: u32, places: Places)
         ensures { self.new ≡ placed self.old session places }

@@ -6,10 +6,10 @@ ghost use Rattle.lobby_state.specs.Pairing.{are_crowded, are_partners, are_playi
 ghost use Rattle.lobby_state.specs.Pairing.{lack_partner, paired};
 
 use crate::member::Member;
-use crate::register::Register;
+use crate::roster::Roster;
 use chess_model::{Terms, Variant};
 
-impl Register {
+impl Roster {
     /// Who sits beside the member at the other board of a game of this variant: in bughouse its partner, if it has one,
     /// and else nobody.
     pub(crate) fn beside(&self, variant: Variant, member: &Member) -> Option<&Member>

@@ -10,12 +10,13 @@ use crate::acts::LobbyReply;
 use crate::broadcast::tell_session;
 use crate::member::Member;
 use crate::members::Members;
-use crate::register::Register;
+use crate::roster::Roster;
 use crate::said::{joined, said_line};
-use fics_words::{Fail, Handle, HandleKey, Line, NoMemory, Refusal};
+use fics_words::{Fail, Handle, HandleKey, Line, Refusal};
+use memory::NoMemory;
 use std::alloc::Global;
 
-impl Register {
+impl Roster {
     /// With a name the session asks, and without one it parts.
     pub(crate) fn partner(
         &mut self,

@@ -4,10 +4,11 @@ ghost use Rattle.fics_words.specs.Effect.{Takes};
 ghost use Rattle.lobby_state.specs.Pending.{is_on_side, other_of, pending_effect, pending_line, pending_lines, pending_words, side_lines, side_words};
 
 use crate::acts::LobbyReply;
-use crate::register::Register;
+use crate::roster::Roster;
 use crate::terms::put_terms;
 use chess_model::Terms;
-use fics_words::{Fail, Lines, NoMemory, Refusal};
+use fics_words::{Fail, Lines, Refusal};
+use memory::NoMemory;
 use seek_match::Challenge;
 
 /// On which side of a challenge the member stands that asks.
@@ -19,7 +20,7 @@ pub(crate) enum Side {
     ToOthers,
 }
 
-impl Register {
+impl Roster {
     /// The lines of the challenges to the member and then of those by it, both in the order in which they were made. It
     /// is refused where the session isn't a member.
     pub(crate) fn pending(&self, session: u32) -> Result<LobbyReply, Fail>

@@ -4,10 +4,10 @@ ghost use Rattle.fics_words.specs.Effect.{answer_of};
 ghost use Rattle.lobby_state.specs.Play.{play_effect};
 
 use crate::acts::Plan;
-use crate::register::Register;
+use crate::roster::Roster;
 use fics_words::Refusal;
 
-impl Register {
+impl Roster {
     /// What the taking of a seek is to do. The causes of a refusal, in order: the session isn't a member; no seek has
     /// the number; it is the session's own; one of the two has a place and gives no simul; the seek's player has the
     /// member on one of its lists; and then those of a game of the two.

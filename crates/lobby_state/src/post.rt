@@ -8,12 +8,13 @@ use crate::acts::LobbyReply;
 use crate::broadcast::broadcast;
 use crate::member::Member;
 use crate::members::Members;
-use crate::register::Register;
+use crate::roster::Roster;
 use crate::said::{joined, put_numbered};
 use crate::terms::words_of_terms;
 use chess_model::{Terms, Variant};
 use collections::Predicate;
-use fics_words::{Duplicate, Fail, Handle, Line, NoMemory, Refusal};
+use fics_words::{Fail, Handle, Line, Refusal};
+use memory::{Duplicate, NoMemory};
 use std::alloc::Global;
 
 /// A member of another session who wants to hear of seeks.
@@ -28,7 +29,7 @@ impl Predicate<Member> for HearsSeeks {
     }
 }
 
-impl Register {
+impl Roster {
     /// The session offers a game on these terms, and all others who want to hear of seeks are told. The causes of a
     /// refusal, in order: the session isn't a member; the game is bughouse; the member has a place, or gives a simul;
     /// it has three seeks.

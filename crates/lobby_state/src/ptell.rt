@@ -4,10 +4,10 @@ ghost use Rattle.fics_words.specs.Effect.{Takes};
 ghost use Rattle.lobby_state.specs.Ptell.{is_partner_full, ptell_effect};
 
 use crate::acts::LobbyReply;
-use crate::register::Register;
+use crate::roster::Roster;
 use fics_words::{Fail, Line, Refusal};
 
-impl Register {
+impl Roster {
     /// The member says the text to its partner. The causes of a refusal, in order: the session isn't a member; it has
     /// no partner; 512 lines wait for the partner.
     pub(crate) fn ptell(&mut self, session: u32, text: &Line) -> Result<LobbyReply, Fail>

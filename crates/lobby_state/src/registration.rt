@@ -4,10 +4,10 @@ ghost use Rattle.fics_words.specs.Effect.{Takes};
 ghost use Rattle.lobby_state.specs.Registration.{loading_effect, registration_effect};
 
 use crate::acts::LobbyReply;
-use crate::register::Register;
+use crate::roster::Roster;
 use fics_words::{Account, Digest, Fail, Refusal};
 
-impl Register {
+impl Roster {
     /// The member's handle has an account from now on, and a save order puts it into the store. The causes of a
     /// refusal, in order: the session isn't a member; the handle has an account; there are 4,096 accounts.
     pub(crate) fn register(&mut self, session: u32, digest: Digest) -> Result<LobbyReply, Fail>

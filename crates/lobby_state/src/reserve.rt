@@ -10,10 +10,11 @@ ghost use Rattle.lobby_state.specs.WellFormed.{IsWellFormed};
 
 use crate::acts::Plan;
 use crate::inbox::Inbox;
-use crate::register::Register;
+use crate::roster::Roster;
 use crate::said::joined;
-use fics_words::{Line, NoMemory};
+use fics_words::Line;
 use lobby_shelf::{Asking, GameSaving, Saving, StoredGame};
+use memory::NoMemory;
 use std::alloc::Global;
 
 /// What a plan needs of memory, so that its share in the lobby takes none.
@@ -29,7 +30,7 @@ pub enum Ready {
     Asking { request: Asking, lines: Inbox },
 }
 
-impl Register {
+impl Roster {
     /// Makes ready what the plan needs. It fails only when out of memory.
     pub(crate) fn reserve(
         &self,

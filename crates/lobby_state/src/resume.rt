@@ -10,13 +10,13 @@ ghost use Rattle.lobby_state.specs.Resume.{resume_effect, resuming, seated_as, w
 
 use crate::acts::Plan;
 use crate::member::Member;
-use crate::register::Register;
+use crate::roster::Roster;
 use crate::starting::MOST_GAMES;
 use chess_model::Variant;
 use fics_words::{Handle, HandleKey, Opponents, Player, Refusal, Seats};
 use lobby_shelf::Shelved;
 
-impl Register {
+impl Roster {
     /// What a Resume is to do. The causes of a refusal, in order: the session isn't a member; nobody has the handle, or
     /// that member is going; it is the session itself; no stored game has both among its players; a player whom it
     /// concerns has a place and gives no simul, or gives one where four play; where the game would start, one of its

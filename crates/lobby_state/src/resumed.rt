@@ -13,10 +13,10 @@ ghost use Rattle.lobby_state.specs.Resumed.{asked_of, with_lines};
 
 use crate::inbox::Inbox;
 use crate::members::Members;
-use crate::register::Register;
 use crate::reserve::Ready;
+use crate::roster::Roster;
 
-impl Register {
+impl Roster {
     /// The desk is free, nobody has a place there any more, and its game is on the shelf where it was adjourned.
     pub(crate) fn put_away(&mut self, desk: u8, ready: Ready)
         requires desk { IsDesk desk }

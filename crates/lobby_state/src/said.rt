@@ -2,7 +2,8 @@
 ghost use Rattle.std.specs.Prelude.{◌≡◌, ◌++◌, IfOk, OnOk, decimal};
 ghost use Rattle.lobby_state.specs.Said.{IsText, IsWording, said};
 
-use fics_words::{Handle, Line, NoMemory, write_number};
+use fics_words::{Handle, Line, write_number};
+use memory::NoMemory;
 use std::alloc::Global;
 
 /// The line of what a member says: its name, how it says it, and its text.

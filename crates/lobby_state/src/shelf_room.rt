@@ -5,14 +5,14 @@ ghost use Rattle.game_records.specs.Replays.{Replays};
 ghost use Rattle.lobby_shelf.specs.Numbers.{is_used};
 ghost use Rattle.lobby_state.specs.ShelfRoom.{desks_used, is_shelf_full, storing_effect};
 
-use crate::register::Register;
+use crate::roster::Roster;
 use fics_words::{Fail, Refusal};
 use lobby_shelf::StoredGame;
 
 /// The most stored games and desks in use, together.
 const MOST_STORED: usize = 10_000;
 
-impl Register {
+impl Roster {
     /// Whether stored games and desks in use are 10,000 together, so that one game more that starts couldn't be
     /// adjourned.
     pub(crate) fn is_shelf_full(&self) -> bool

@@ -5,7 +5,7 @@ ghost use Rattle.lobby_state.specs.Shout.{hears_shouts, shout_effect};
 
 use crate::acts::LobbyReply;
 use crate::member::Member;
-use crate::register::Register;
+use crate::roster::Roster;
 use collections::Predicate;
 use fics_words::{Fail, Line, Refusal};
 
@@ -21,7 +21,7 @@ impl Predicate<Member> for HearsShouts {
     }
 }
 
-impl Register {
+impl Roster {
     /// The member says the text to all others who want to hear it. It is refused where the session isn't a member.
     pub(crate) fn shout(&mut self, session: u32, text: &Line) -> Result<LobbyReply, Fail>
         requires { length text.now ≤ 800 }

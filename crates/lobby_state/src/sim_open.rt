@@ -3,10 +3,10 @@ ghost use Rattle.fics_words.specs.Effect.{Takes};
 ghost use Rattle.lobby_state.specs.SimOpen.{sim_open_effect};
 
 use crate::acts::LobbyReply;
-use crate::register::Register;
+use crate::roster::Roster;
 use fics_words::{Fail, Refusal};
 
-impl Register {
+impl Roster {
     /// The session begins to give a simul, or ends it. The causes of a refusal, in order: the session isn't a member;
     /// it has a place as it would begin, or two or more as it would end. It takes no memory.
     pub(crate) fn sim_open(&mut self, session: u32) -> Result<LobbyReply, Fail>

@@ -3,11 +3,11 @@ ghost use Rattle.fics_words.specs.Effect.{Takes};
 ghost use Rattle.lobby_state.specs.SimPrev.{sim_prev_effect};
 
 use crate::acts::LobbyReply;
-use crate::register::Register;
+use crate::roster::Roster;
 use fics_words::{Fail, Refusal};
 use simul_control::Way;
 
-impl Register {
+impl Roster {
     /// The previous place of the session is its present one. The causes of a refusal, in order: the session isn't a
     /// member; it gives no simul, or has no place. It takes no memory.
     pub(crate) fn sim_prev(&mut self, session: u32) -> Result<LobbyReply, Fail>

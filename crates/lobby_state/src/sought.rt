@@ -6,12 +6,13 @@ ghost use Rattle.lobby_state.specs.Lobby.{member_of};
 ghost use Rattle.lobby_state.specs.Sought.{name_in, sought_effect, sought_line, sought_lines, sought_words};
 
 use crate::acts::LobbyReply;
-use crate::register::Register;
+use crate::roster::Roster;
 use crate::terms::put_terms;
-use fics_words::{Fail, Lines, NoMemory, Refusal, write_number};
+use fics_words::{Fail, Lines, Refusal, write_number};
+use memory::NoMemory;
 use seek_match::Seek;
 
-impl Register {
+impl Roster {
     /// The lines of the seeks, in the order of their numbers. It is refused where the session isn't a member.
     pub(crate) fn sought(&self, session: u32) -> Result<LobbyReply, Fail>
         ensures { Takes (sought_effect self.now session) self.now self.now result }

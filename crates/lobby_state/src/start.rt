@@ -8,7 +8,7 @@ use crate::challenges::Stays;
 use crate::game::Game;
 use crate::member::Member;
 use crate::members::Members;
-use crate::register::Register;
+use crate::roster::Roster;
 use crate::seeks::ByUnseated;
 use chess_model::Terms;
 use collections::Change;
@@ -52,7 +52,7 @@ impl Change<Member> for Sit {
     }
 }
 
-impl Register {
+impl Roster {
     /// The game starts: the desk is in use, the players have their places, and their challenges go, but for a giver's
     /// with others, and their seeks and requests to resume. It takes no memory.
     pub(crate) fn start(&mut self, desk: u8, serial: u64, terms: Terms, seats: &Seats)

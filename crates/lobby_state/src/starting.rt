@@ -7,7 +7,7 @@ ghost use Rattle.lobby_state.specs.Starting.{has_white, offers_white, opponents_
 
 use crate::acts::Plan;
 use crate::member::Member;
-use crate::register::Register;
+use crate::roster::Roster;
 use chess_model::{Colour, Terms, Variant};
 use fics_words::{Opponents, Player, Refusal, Seats};
 use login_handles::Accounts;
@@ -15,7 +15,7 @@ use login_handles::Accounts;
 /// The most games that are ever started, which keeps serials below 2^64.
 pub(crate) const MOST_GAMES: u64 = 1 << 62;
 
-impl Register {
+impl Roster {
     /// The plan of a game of the two on these terms. The causes of a refusal, in order: one of those who would be
     /// seated has a place and gives no simul; one of them has 32 places; all desks are in use, or 2^62 games were
     /// started; stored games and desks in use are 10,000 together.

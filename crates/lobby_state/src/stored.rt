@@ -5,13 +5,14 @@ ghost use Rattle.fics_words.specs.Line.{IsLine, IsPrintable};
 ghost use Rattle.lobby_state.specs.Stored.{names_words, stored_effect, stored_lines, stored_words, lines_for};
 
 use crate::acts::LobbyReply;
-use crate::register::Register;
+use crate::roster::Roster;
 use crate::terms::put_terms;
 use chess_model::Terms;
-use fics_words::{Fail, Handle, HandleKey, Lines, NoMemory, Refusal, write_number};
+use fics_words::{Fail, Handle, HandleKey, Lines, Refusal, write_number};
 use lobby_shelf::has_player;
+use memory::NoMemory;
 
-impl Register {
+impl Roster {
     /// The lines of the member's own games, in the order of their numbers. It is refused where the session isn't a
     /// member.
     pub(crate) fn stored(&self, session: u32) -> Result<LobbyReply, Fail>

@@ -10,14 +10,15 @@ ghost use Rattle.lobby_state.specs.WellFormed.{IsWellFormed};
 
 use crate::acts::{LobbyAct, LobbyReply, PairAct, Plan};
 use crate::desk_in_use::DeskInUse;
-use crate::register::Register;
 use crate::reserve::Ready;
+use crate::roster::Roster;
 use crate::told::ReplyLists;
 use collections::Listed;
-use fics_words::{Fail, Line, Lines, NoMemory, Refusal};
+use fics_words::{Fail, Line, Lines, Refusal};
 use lobby_shelf::Order;
+use memory::NoMemory;
 
-impl Register {
+impl Roster {
     /// Carries out an act that needs the lobby alone.
     pub(crate) fn act(&mut self, session: u32, act: &LobbyAct) -> Result<LobbyReply, Fail>
         requires fits { FitsLobby act.now }

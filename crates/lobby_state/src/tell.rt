@@ -5,11 +5,11 @@ ghost use Rattle.lobby_state.specs.Tell.{tell_effect};
 
 use crate::acts::LobbyReply;
 use crate::member::add_line;
-use crate::register::Register;
+use crate::roster::Roster;
 use crate::said::said_line;
 use fics_words::{Fail, HandleKey, Line, Refusal};
 
-impl Register {
+impl Roster {
     /// The member says the text to the named player. The causes of a refusal, in order: the session isn't a member;
     /// nobody has the handle, or that member is going; the other has the member on its censor list; 512 lines wait for
     /// the other.

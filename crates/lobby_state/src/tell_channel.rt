@@ -6,10 +6,11 @@ ghost use Rattle.lobby_state.specs.TellChannel.{channel_words, hears_channel, te
 use crate::acts::LobbyReply;
 use crate::broadcast::say;
 use crate::member::Member;
-use crate::register::Register;
+use crate::roster::Roster;
 use channel_feed::Channels;
 use collections::Predicate;
-use fics_words::{Fail, Line, NoMemory, Refusal, write_number};
+use fics_words::{Fail, Line, Refusal, write_number};
+use memory::NoMemory;
 use std::alloc::Global;
 
 /// A member of another session who is in the channel.
@@ -28,7 +29,7 @@ impl<'a> Predicate<Member> for HearsChannel<'a> {
     }
 }
 
-impl Register {
+impl Roster {
     /// The member says the text to all others in the channel. The causes of a refusal, in order: the session isn't a
     /// member; it isn't in the channel.
     pub(crate) fn tell_channel(

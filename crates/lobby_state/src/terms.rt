@@ -4,7 +4,8 @@ ghost use Rattle.lobby_state.specs.TermsText.{colour_words, terms_words};
 
 use crate::said::joined;
 use chess_model::{Colour, Terms, variant_word};
-use fics_words::{NoMemory, write_number};
+use fics_words::write_number;
+use memory::NoMemory;
 use std::alloc::Global;
 
 /// Two texts, one behind the other, and behind a blank the terms.

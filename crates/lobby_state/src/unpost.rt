@@ -3,10 +3,10 @@ ghost use Rattle.fics_words.specs.Effect.{Takes};
 ghost use Rattle.lobby_state.specs.Unpost.{unpost_effect};
 
 use crate::acts::LobbyReply;
-use crate::register::Register;
+use crate::roster::Roster;
 use fics_words::{Fail, Refusal};
 
-impl Register {
+impl Roster {
     /// The session's seek of that number goes, or without a number all its seeks. The causes of a refusal, in order:
     /// the session isn't a member; it has no such seek. It takes no memory.
     pub(crate) fn unpost(&mut self, session: u32, number: Option<u16>) -> Result<LobbyReply, Fail>

@@ -4,7 +4,7 @@ ghost use Rattle.lobby_state.specs.Var.{var_effect, with_var};
 
 use crate::acts::LobbyReply;
 use crate::member::Member;
-use crate::register::Register;
+use crate::roster::Roster;
 use collections::Change;
 use fics_words::{Fail, Refusal};
 
@@ -38,7 +38,7 @@ impl Change<Member> for Setting {
     }
 }
 
-impl Register {
+impl Roster {
     /// The member's variable is on or off from now on. It takes no memory, and is refused where the session isn't a
     /// member.
     pub(crate) fn set_var(&mut self, session: u32, which: Var, on: bool) -> Result<LobbyReply, Fail>

@@ -5,11 +5,12 @@ ghost use Rattle.lobby_state.specs.Who.{who_effect, who_lines};
 
 use crate::acts::LobbyReply;
 use crate::name_row::NameRow;
-use crate::register::Register;
-use fics_words::{Fail, Handle, Lines, NoMemory, Refusal};
+use crate::roster::Roster;
+use fics_words::{Fail, Handle, Lines, Refusal};
+use memory::NoMemory;
 use std::alloc::Global;
 
-impl Register {
+impl Roster {
     /// The handles of the members, in the order of their keys. It is refused where the session isn't a member.
     pub(crate) fn who(&self, session: u32) -> Result<LobbyReply, Fail>
         ensures { Takes (who_effect self.now session) self.now self.now result }

@@ -4,11 +4,11 @@ ghost use Rattle.fics_words.specs.Effect.{Takes};
 ghost use Rattle.lobby_state.specs.Withdraw.{own_of, withdraw_effect};
 
 use crate::acts::LobbyReply;
-use crate::register::Register;
+use crate::roster::Roster;
 use fics_words::{Fail, HandleKey, Refusal};
 use seek_match::Challenge;
 
-impl Register {
+impl Roster {
     /// The session's challenge to the named player, or without a name its oldest one, goes. It takes no memory. The
     /// causes of a refusal, in order: the session isn't a member; there is no such challenge.
     pub(crate) fn withdraw(

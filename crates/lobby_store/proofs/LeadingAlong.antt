@@ -12,7 +12,7 @@ use Rattle.fics_words.specs.declared.seats.Seats.{Seats}
 use Rattle.game_records.specs.declared.stored_game.StoredGame.{StoredGame}
 use Rattle.lobby_shelf.specs.Numbers.{RiseAbove, game_in as row_game, has_number, stored_game}
 use Rattle.lobby_shelf.specs.Shelf.{account_order, game_order, removal_order}
-use Rattle.lobby_shelf.specs.Wanted.{Table, is_account_at, table_with, wanted}
+use Rattle.lobby_shelf.specs.Wanted.{StoreMap, is_account_at, table_with, wanted}
 use Rattle.lobby_shelf.specs.declared.order.Order.{Order}
 use Rattle.lobby_shelf.specs.declared.shelved.Shelved.{Shelved}
 use Rattle.lobby_shelf.proofs.Leading.{orders-lead}
@@ -60,7 +60,7 @@ pub record IsSameStore (old new : LobbyState) : Type 0 where
 pub same_store : (lobby : LobbyState) → IsSameStore lobby lobby
 same_store lobby = record { accounts = refl; games = refl; orders = refl }
 
-agrees_same : (old new : LobbyState) → IsSameStore old new → (table : Table) → AgreesWith table old → AgreesWith table new
+agrees_same : (old new : LobbyState) → IsSameStore old new → (table : StoreMap) → AgreesWith table old → AgreesWith table new
 agrees_same old new same table agreed key =
     ap (λ (orders : List Order). table_with table orders key) same.orders ∙ agreed key
     ∙ ap (λ (accounts : List Account). wanted accounts old.shelf.games key) (sym same.accounts)

@@ -13,7 +13,7 @@ use Rattle.edge_traits.specs.Keeper.{HasPut, HasRemoved}
 use Rattle.edge_traits.specs.Pairs.{Table, keys_order}
 use Rattle.edge_traits.specs.declared.keeper.Kept.{Kept}
 use Rattle.edge_traits.specs.declared.keeper.Kept.TheVariants.{Done, Failed, Memory}
-use Rattle.lobby_shelf.specs.Wanted.{Table as Records, table_with, with_order}
+use Rattle.lobby_shelf.specs.Wanted.{StoreMap as Records, table_with, with_order}
 use Rattle.lobby_shelf.specs.declared.order.Order.{Order}
 use Rattle.lobby_store.specs.Carrying.{Carries, CarriesOne, held}
 

@@ -2,7 +2,7 @@
 -- the lobby's accounts and stored games. This server's own.
 use Rattle.std.specs.Prelude.{◌≡◌, ℕ, Bool, List, ◌++◌, Option}
 use Rattle.game_records.specs.declared.stored_game.StoredGame.{StoredGame}
-use Rattle.lobby_shelf.specs.Wanted.{Agrees, Table, wanted}
+use Rattle.lobby_shelf.specs.Wanted.{Agrees, StoreMap, wanted}
 use Rattle.lobby_shelf.specs.declared.order.Order.{Order}
 use Rattle.lobby_state.specs.declared.acts.LobbyAct.{LobbyAct}
 use Rattle.lobby_state.specs.declared.acts.LobbyAct.TheVariants.{Saved}
@@ -15,17 +15,17 @@ use Rattle.lobby_state.specs.Reserve.{CanShelve}
 use Rattle.lobby_state.specs.WellFormed.{IsWellFormed}
 
 -- what a store is to hold for the lobby
-abbrev pub wanted_by : LobbyState → Table
+abbrev pub wanted_by : LobbyState → StoreMap
 wanted_by lobby = wanted lobby.accounts lobby.shelf.games
 
 -- the table agrees with the lobby
-abbrev pub AgreesWith : Table → LobbyState → Type 0
+abbrev pub AgreesWith : StoreMap → LobbyState → Type 0
 AgreesWith table lobby = Agrees table lobby.accounts lobby.shelf
 
 -- from the one lobby to the other a store is led along: a table that agrees with the one agrees with the other, and the
 -- save orders that stood are the first of those that stand
 pub record LeadsAlong (old new : LobbyState) : Type 0 where
-  pub agrees : (table : Table) → AgreesWith table old → AgreesWith table new
+  pub agrees : (table : StoreMap) → AgreesWith table old → AgreesWith table new
   pub more : List Order
   pub orders : new.shelf.orders ≡ old.shelf.orders ++ more
 

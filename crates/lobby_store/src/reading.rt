@@ -6,8 +6,9 @@ ghost use Rattle.lobby_store.specs.Rows.{IsNoRow, IsRow};
 
 use desk_boards::replays;
 use edge_traits::Pair;
-use fics_words::{Account, NoMemory};
+use fics_words::Account;
 use game_records::{Record, StoredGame, account_key, game_number, read_record};
+use memory::NoMemory;
 use std::alloc::Global;
 
 /// A row of a store: a record under its own key.

@@ -3,7 +3,8 @@
 ghost use Rattle.fics_words.specs.Handle.{key_of};
 
 use crate::check::Check;
-use fics_words::{Account, Digest, Duplicate, Fail, Handle, HandleKey, NoMemory, Refusal};
+use fics_words::{Account, Digest, Fail, Handle, HandleKey, Refusal};
+use memory::{Duplicate, NoMemory};
 use std::alloc::Global;
 use std::marker::Model;
 use tables::{Keyed, Table};

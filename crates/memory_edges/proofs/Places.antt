@@ -10,7 +10,7 @@ use Rattle.std.proofs.Math.Seq.{drop-cons, take-suc, take-suc-set}
 use Rattle.std.proofs.lemmas.List.{drop-set-lt}
 use Rattle.edge_traits.specs.Pairs.{Pairs, IsAscending, keys_order}
 use Rattle.memory_edges.specs.Shelf.{IsPlace, without}
-use Rattle.memory_edges.specs.declared.mem_keeper.Place.TheVariants.{At, Gap}
+use Rattle.memory_edges.specs.declared.mem_keeper.KeyPlace.TheVariants.{At, Gap}
 use Rattle.std.proofs.lemmas.Bool.{and_from}
 use Rattle.std.specs.Cmp.{first_so, second_so}
 

@@ -4,8 +4,8 @@ use Rattle.std.specs.Ordering.{eq_by_cmp}
 use Rattle.std.specs.FinMap.{put}
 use Rattle.edge_traits.specs.Pairs.{Pairs, keys_order}
 use Rattle.memory_edges.specs.Plan.{Plan}
-use Rattle.memory_edges.specs.declared.mem_keeper.Place.{Place}
-use Rattle.memory_edges.specs.declared.mem_keeper.Place.TheVariants.{At, Gap}
+use Rattle.memory_edges.specs.declared.mem_keeper.KeyPlace.{KeyPlace}
+use Rattle.memory_edges.specs.declared.mem_keeper.KeyPlace.TheVariants.{At, Gap}
 
 -- a keeper in memory: its pairs in ascending order of key, and its plan of faults
 pub record Shelf : Type 0 where
@@ -17,7 +17,7 @@ abbrev pub without : List ℕ → Pairs → Pairs
 without key = filter (λ pair. not (eq_by_cmp keys_order key pair.0))
 
 -- where a key stands among the pairs, or would stand
-abbrev pub IsPlace : Pairs → List ℕ → Place → Type 0
+abbrev pub IsPlace : Pairs → List ℕ → KeyPlace → Type 0
 IsPlace pairs key (At i) =
     (i < length pairs) × ((bytes : List ℕ) → put keys_order key bytes pairs ≡ slice_set pairs i (key, bytes))
     × (without key pairs ≡ remove pairs i)

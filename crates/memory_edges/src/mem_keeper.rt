@@ -32,7 +32,7 @@ impl Model for MemKeeper {
 
 /// Where a key stands among sorted pairs, or would stand.
 #[derive(Clone, Copy)]
-pub enum Place {
+pub enum KeyPlace {
     /// At this index.
     At(usize),
     /// Nowhere; the pairs from this index on have greater keys.
@@ -138,8 +138,8 @@ fn put_pair(pairs: &mut Vec<Pair>, key: &[u8], bytes: &[u8]) -> Result<(), NoMem
 {
     let pair = Pair::of(*pairs.allocator(), key, bytes)?;
     match find_place(pairs, key) {
-        Place::At(i) => pairs[i] = pair,
-        Place::Gap(i) => pairs.insert(i, pair)?,
+        KeyPlace::At(i) => pairs[i] = pair,
+        KeyPlace::Gap(i) => pairs.insert(i, pair)?,
     }
     Ok(())
 }
@@ -149,24 +149,24 @@ fn remove_pair(pairs: &mut Vec<Pair>, key: &[u8])
     requires { IsAscending pairs.old.items }
     ensures { pairs.new.items ≡ without key.now pairs.old.items }
 {
-    if let Place::At(i) = find_place(pairs, key) {
+    if let KeyPlace::At(i) = find_place(pairs, key) {
         pairs.remove(i);
     }
 }
 
 /// Finds the place of a key among pairs in ascending order.
-fn find_place(pairs: &[Pair], key: &[u8]) -> Place
+fn find_place(pairs: &[Pair], key: &[u8]) -> KeyPlace
     requires { IsAscending pairs.now }
     ensures { IsPlace pairs.now key.now result }
 {
     for (i, pair) in pairs.iter().enumerate() {
         match key_order(key, pair) {
-            Ordering::Less => return Place::Gap(i),
-            Ordering::Equal => return Place::At(i),
+            Ordering::Less => return KeyPlace::Gap(i),
+            Ordering::Equal => return KeyPlace::At(i),
             Ordering::Greater => {}
         }
     }
-    Place::Gap(pairs.len())
+    KeyPlace::Gap(pairs.len())
 }
 
 /// How the key compares with that of the pair.

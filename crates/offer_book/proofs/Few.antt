@@ -8,12 +8,12 @@ use Rattle.std.specs.List.{filter}
 use Rattle.std.proofs.lemmas.List.Elements.{All-head, All-tail}
 use Rattle.offer_book.specs.declared.offer.Offer.{Offer}
 use Rattle.offer_book.specs.declared.offer.Offer.TheVariants.{Draw, Abort, Adjourn, Takeback}
-use Rattle.offer_book.specs.declared.offer.Standing.{Standing}
+use Rattle.offer_book.specs.declared.offer.StandingOffer.{StandingOffer}
 use Rattle.offer_book.specs.Offers.{AreOffers, HasOneEach, OfferBook, kind_of, stands_alike}
 use Rattle.offer_book.proofs.Keeping.{is_alike}
 
 -- a number for each seat and kind
-abbrev cell : Standing → ℕ
+abbrev cell : StandingOffer → ℕ
 cell row = 4 * row.seat + kind_of row.offer
 
 kind_small : (offer : Offer) → kind_of offer < 4
@@ -28,7 +28,7 @@ same_seat s t k l p q e = omega arith
 same_kind : (s t k l : ℕ) → k < 4 → l < 4 → 4 * s + k ≡ 4 * t + l → k ≡ l
 same_kind s t k l p q e = omega arith
 
-other_cell : (a b : Standing) → is_alike a.seat (kind_of a.offer) b ≡ false → cell b ≡ cell a → ⊥
+other_cell : (a b : StandingOffer) → is_alike a.seat (kind_of a.offer) b ≡ false → cell b ≡ cell a → ⊥
 other_cell a b h e =
     elim (and_cases (b.seat == a.seat) (kind_of b.offer == kind_of a.offer) h) as (λ _. ⊥) [
       | inl seat ↦ eqb-false b.seat a.seat seat (same_seat b.seat a.seat (kind_of b.offer) (kind_of a.offer) (kind_small b.offer) (kind_small a.offer) e)
@@ -40,11 +40,11 @@ one_if true = 1
 one_if false = 0
 
 -- how many offers have this number
-abbrev in_cell : ℕ → List Standing → ℕ
+abbrev in_cell : ℕ → List StandingOffer → ℕ
 in_cell n [] = 0
 in_cell n (row ∷ rows) = one_if (cell row == n) + in_cell n rows
 
-in_cell-none : (n : ℕ) (row : Standing) (rows : List Standing) → cell row ≡ n → stands_alike rows row.seat (kind_of row.offer) ≡ false → in_cell n rows ≡ 0
+in_cell-none : (n : ℕ) (row : StandingOffer) (rows : List StandingOffer) → cell row ≡ n → stands_alike rows row.seat (kind_of row.offer) ≡ false → in_cell n rows ≡ 0
 in_cell-none n row [] e h = refl
 in_cell-none n row (next ∷ rows) e h =
     let both = or_parts (is_alike row.seat (kind_of row.offer) next) (stands_alike rows row.seat (kind_of row.offer)) h in
@@ -52,7 +52,7 @@ in_cell-none n row (next ∷ rows) e h =
     let rest : in_cell n rows ≡ 0 = in_cell-none n row rows e both.1 in
     omega (arith, first, rest)
 
-in_cell-le : (n : ℕ) (rows : List Standing) → HasOneEach rows → in_cell n rows ≤ 1
+in_cell-le : (n : ℕ) (rows : List StandingOffer) → HasOneEach rows → in_cell n rows ≤ 1
 in_cell-le n [] h = omega arith
 in_cell-le n (row ∷ rows) h =
     elim (cases_Bool (cell row == n)) as (λ _. in_cell n (row ∷ rows) ≤ 1) [
@@ -67,19 +67,19 @@ in_cell-le n (row ∷ rows) h =
     ]
 
 -- how many offers have a number below n
-abbrev below : ℕ → List Standing → ℕ
+abbrev below : ℕ → List StandingOffer → ℕ
 below zero rows = 0
 below (suc n) rows = below n rows + in_cell n rows
 
-below-le : (n : ℕ) (rows : List Standing) → HasOneEach rows → below n rows ≤ n
+below-le : (n : ℕ) (rows : List StandingOffer) → HasOneEach rows → below n rows ≤ n
 below-le zero rows h = omega arith
 below-le (suc n) rows h = let rest = below-le n rows h in let one = in_cell-le n rows h in omega (arith, rest, one)
 
-below-cons : (n : ℕ) (row : Standing) (rows : List Standing) → below n rows ≤ below n (row ∷ rows)
+below-cons : (n : ℕ) (row : StandingOffer) (rows : List StandingOffer) → below n rows ≤ below n (row ∷ rows)
 below-cons zero row rows = omega arith
 below-cons (suc n) row rows = let rest = below-cons n row rows in omega (arith, rest)
 
-below-more : (n : ℕ) (row : Standing) (rows : List Standing) → cell row < n → below n rows + 1 ≤ below n (row ∷ rows)
+below-more : (n : ℕ) (row : StandingOffer) (rows : List StandingOffer) → cell row < n → below n rows + 1 ≤ below n (row ∷ rows)
 below-more zero row rows h = absurd (omega (arith, h))
 below-more (suc n) row rows h =
     elim (cases_Bool (cell row == n)) as (λ _. below (suc n) rows + 1 ≤ below (suc n) (row ∷ rows)) [
@@ -96,7 +96,7 @@ below-more (suc n) row rows h =
     less : (k n : ℕ) → k < suc n → (k ≡ n → ⊥) → k < n
     less k n h other = grind arith
 
-length-le-below : (n : ℕ) (rows : List Standing) → All (λ row. cell row < n) rows → length rows ≤ below n rows
+length-le-below : (n : ℕ) (rows : List StandingOffer) → All (λ row. cell row < n) rows → length rows ≤ below n rows
 length-le-below n [] h = omega arith
 length-le-below n (row ∷ rows) h =
     let first = below-more n row rows (All-head (λ row. cell row < n) row rows h) in
@@ -104,14 +104,14 @@ length-le-below n (row ∷ rows) h =
     omega (arith, first, rest)
 
 -- a row of a desk of at most four seats
-row_small : (seats : ℕ) → (seats ≡ 2) ⊎ (seats ≡ 4) → (row : Standing) → row.seat < seats → cell row < 16
+row_small : (seats : ℕ) → (seats ≡ 2) ⊎ (seats ≡ 4) → (row : StandingOffer) → row.seat < seats → cell row < 16
 row_small seats (inl two) row h = let small = kind_small row.offer in omega (arith, two, h, small)
 row_small seats (inr four) row h = let small = kind_small row.offer in omega (arith, four, h, small)
 
-rows_small : (seats : ℕ) → (seats ≡ 2) ⊎ (seats ≡ 4) → (rows : List Standing) → All (λ row. row.seat < seats) rows → All (λ row. cell row < 16) rows
+rows_small : (seats : ℕ) → (seats ≡ 2) ⊎ (seats ≡ 4) → (rows : List StandingOffer) → All (λ row. row.seat < seats) rows → All (λ row. cell row < 16) rows
 rows_small seats desk rows h = λ k d inside. row_small seats desk _ (h k d inside)
 
-few : (n : ℕ) (rows : List Standing) → All (λ row. cell row < n) rows → HasOneEach rows → length rows ≤ n
+few : (n : ℕ) (rows : List StandingOffer) → All (λ row. cell row < n) rows → HasOneEach rows → length rows ≤ n
 few n rows small once = let a = length-le-below n rows small in let b = below-le n rows once in omega (arith, a, b)
 
 -- at most 16 offers stand
@@ -119,11 +119,11 @@ pub AreOffers-few : (book : OfferBook) → AreOffers book → length book.standi
 AreOffers-few book h = few 16 book.standing (rows_small book.seats h.desk book.standing h.seated) h.once
 
 -- there is room for the last one
-pub room_for_last : (rows : List Standing) (last : Standing) → length (rows ++ last ∷ []) ≤ 16 → length rows < 16
+pub room_for_last : (rows : List StandingOffer) (last : StandingOffer) → length (rows ++ last ∷ []) ≤ 16 → length rows < 16
 room_for_last rows last h = let long = length_push rows last in omega (arith, long, h)
 
 -- there is room for what is kept of the first rows, and for one more
-pub room_for_kept : (p : Standing → Bool) (rows kept : List Standing) (i : ℕ) → i < length rows → length rows ≤ 16
+pub room_for_kept : (p : StandingOffer → Bool) (rows kept : List StandingOffer) (i : ℕ) → i < length rows → length rows ≤ 16
     → kept ≡ filter p (take i rows) → length kept < 16
 room_for_kept p rows kept i inside most so_far =
     let same : length kept ≡ length (filter p (take i rows)) = ap length so_far in

@@ -7,7 +7,7 @@ use Rattle.std.proofs.lemmas.List.Elements.{All-filter, All-push, All-weaker, fi
 use Rattle.std.proofs.lemmas.List.Folds.{list_any-append}
 use Rattle.offer_book.specs.declared.offer.Offer.{Offer}
 use Rattle.offer_book.specs.declared.offer.Offer.TheVariants.{Draw, Abort, Adjourn, Takeback}
-use Rattle.offer_book.specs.declared.offer.Standing.{Standing}
+use Rattle.offer_book.specs.declared.offer.StandingOffer.{StandingOffer}
 use Rattle.offer_book.specs.Offers.{AreOffers, HasOneEach, OfferBook, earliest, is_other_takeback, kind_of, same_offer, settled, stands, stands_alike, stands_for_all, where_stand, with_offer, without}
 use Rattle.std.specs.Cmp.{second_so}
 
@@ -20,10 +20,10 @@ any-filter p q (x ∷ xs) h =
     (λ _. any-filter p q xs both.1)
 
 -- a row is of this seat and kind
-abbrev pub is_alike : ℕ → ℕ → Standing → Bool
+abbrev pub is_alike : ℕ → ℕ → StandingOffer → Bool
 is_alike seat kind row = (row.seat == seat) && (kind_of row.offer == kind)
 
-HasOneEach-filter : (q : Standing → Bool) (rows : List Standing) → HasOneEach rows → HasOneEach (filter q rows)
+HasOneEach-filter : (q : StandingOffer → Bool) (rows : List StandingOffer) → HasOneEach rows → HasOneEach (filter q rows)
 HasOneEach-filter q [] h = tt
 HasOneEach-filter q (row ∷ rows) h =
     cond_both (q row) (row ∷ filter q rows) (filter q rows) HasOneEach
@@ -39,7 +39,7 @@ alike_other_way s t k l h = elim (and_cases (s == t) (k == l) h) as (λ _. ((t =
   | inr e ↦ and_right (t == s) (l == k) (other_way k l e)
 ]
 
-HasOneEach-push : (rows : List Standing) (last : Standing) → HasOneEach rows
+HasOneEach-push : (rows : List StandingOffer) (last : StandingOffer) → HasOneEach rows
     → stands_alike rows last.seat (kind_of last.offer) ≡ false → HasOneEach (rows ++ last ∷ [])
 HasOneEach-push [] last h none = (refl, tt)
 HasOneEach-push (row ∷ rows) last h none =
@@ -71,12 +71,12 @@ alike true (Takeback n) Abort h k = refl
 alike true (Takeback n) Adjourn h k = refl
 alike true (Takeback n) (Takeback m) h k = sym k ∙ ap (λ (t : Bool). not (not t)) h
 
-none_alike : (rows : List Standing) (seat : ℕ) (offer : Offer) → stands rows seat offer ≡ false
+none_alike : (rows : List StandingOffer) (seat : ℕ) (offer : Offer) → stands rows seat offer ≡ false
     → stands_alike (filter (λ row. not (is_other_takeback offer row.offer)) rows) seat (kind_of offer) ≡ false
 none_alike [] seat offer h = refl
 none_alike (row ∷ rows) seat offer h =
     let both = or_parts ((row.seat == seat) && same_offer row.offer offer) (stands rows seat offer) h in
-    let kept = filter (λ (row : Standing). not (is_other_takeback offer row.offer)) rows in
+    let kept = filter (λ (row : StandingOffer). not (is_other_takeback offer row.offer)) rows in
     let rest : stands_alike kept seat (kind_of offer) ≡ false = none_alike rows seat offer both.1 in
     cond_both (not (is_other_takeback offer row.offer)) (row ∷ kept) kept (λ zs. stands_alike zs seat (kind_of offer) ≡ false)
     (λ k. or_from (is_alike seat (kind_of offer) row) (stands_alike kept seat (kind_of offer)) (alike (row.seat == seat) offer row.offer both.0 k) rest)
@@ -87,7 +87,7 @@ number_after : Offer → ℕ → ℕ
 number_after (Takeback n) m = n
 number_after _ m = m
 
-one_number_left : (offer : Offer) (m : ℕ) (rows : List Standing) → All (λ row. is_other_takeback (Takeback m) row.offer ≡ false) rows
+one_number_left : (offer : Offer) (m : ℕ) (rows : List StandingOffer) → All (λ row. is_other_takeback (Takeback m) row.offer ≡ false) rows
     → All (λ row. is_other_takeback (Takeback (number_after offer m)) row.offer ≡ false) (filter (λ row. not (is_other_takeback offer row.offer)) rows)
 unfolding number_after
 one_number_left (Takeback n) m rows h =
@@ -109,7 +109,7 @@ one_number_last Abort m = refl
 one_number_last Adjourn m = refl
 
 -- some offers are cleared
-pub AreOffers-filter : (q : Standing → Bool) (book : OfferBook) → AreOffers book → AreOffers (where_stand (filter q book.standing) book)
+pub AreOffers-filter : (q : StandingOffer → Bool) (book : OfferBook) → AreOffers book → AreOffers (where_stand (filter q book.standing) book)
 AreOffers-filter q book h = record {
   desk = h.desk;
   seated = All-filter q (λ row. row.seat < book.seats) book.standing h.seated;
@@ -122,8 +122,8 @@ AreOffers-filter q book h = record {
 pub AreOffers-with_offer : (seat : ℕ) (offer : Offer) (book : OfferBook) → AreOffers book → seat < book.seats
     → stands book.standing seat offer ≡ false → AreOffers (where_stand (with_offer seat offer book.standing) book)
 AreOffers-with_offer seat offer book h seated lacking =
-    let kept = filter (λ (row : Standing). not (is_other_takeback offer row.offer)) book.standing in
-    let last : Standing = record { seat = seat; offer = offer } in
+    let kept = filter (λ (row : StandingOffer). not (is_other_takeback offer row.offer)) book.standing in
+    let last : StandingOffer = record { seat = seat; offer = offer } in
     record {
       desk = h.desk;
       seated = All-push (λ row. row.seat < book.seats) kept last (All-filter (λ row. not (is_other_takeback offer row.offer)) (λ row. row.seat < book.seats) book.standing h.seated) seated;
@@ -133,14 +133,14 @@ AreOffers-with_offer seat offer book h seated lacking =
           (one_number_left offer h.number book.standing h.one_number) (one_number_last offer h.number);
     }
 
-first_lacking : (b : Bool) (row : Standing) (found : Option Standing) (offer : Offer) (fact : Offer → Type 0) → (b ≡ true → fact row.offer)
-    → (option_map (λ (r : Standing). r.offer) found ≡ Some offer → fact offer)
-    → option_map (λ (r : Standing). r.offer) (cond b (Some row) found) ≡ Some offer → fact offer
+first_lacking : (b : Bool) (row : StandingOffer) (found : Option StandingOffer) (offer : Offer) (fact : Offer → Type 0) → (b ≡ true → fact row.offer)
+    → (option_map (λ (r : StandingOffer). r.offer) found ≡ Some offer → fact offer)
+    → option_map (λ (r : StandingOffer). r.offer) (cond b (Some row) found) ≡ Some offer → fact offer
 first_lacking true row found offer fact here later e = let same : row.offer ≡ offer = cc in rw (← same) (here refl)
 first_lacking false row found offer fact here later e = later e
 
-lacks : (all rows : List Standing) (seat : ℕ) (offer : Offer)
-    → option_map (λ (row : Standing). row.offer) (find (λ row. not (row.seat == seat) && not (stands all seat row.offer)) rows) ≡ Some offer
+lacks : (all rows : List StandingOffer) (seat : ℕ) (offer : Offer)
+    → option_map (λ (row : StandingOffer). row.offer) (find (λ row. not (row.seat == seat) && not (stands all seat row.offer)) rows) ≡ Some offer
     → stands all seat offer ≡ false
 lacks all [] seat offer e = absurd (let bad : None ≡ Some offer = e in cc)
 lacks all (row ∷ rows) seat offer e =
@@ -150,7 +150,7 @@ lacks all (row ∷ rows) seat offer e =
     (lacks all rows seat offer) e
 
 -- the earliest offer of another seat is one that the seat doesn't have
-pub earliest_lacking : (rows : List Standing) (seat : ℕ) (offer : Offer) → earliest rows seat ≡ Some offer → stands rows seat offer ≡ false
+pub earliest_lacking : (rows : List StandingOffer) (seat : ℕ) (offer : Offer) → earliest rows seat ≡ Some offer → stands rows seat offer ≡ false
 earliest_lacking rows seat offer e = lacks rows rows seat offer e
 
 -- and it is cleared where it takes effect
@@ -160,9 +160,9 @@ pub AreOffers-settled : (seat : ℕ) (offer : Offer) (book : OfferBook) → AreO
 AreOffers-settled seat offer book h seated lacking =
     let rows = with_offer seat offer book.standing in
     let made : AreOffers (where_stand rows book) = AreOffers-with_offer seat offer book h seated lacking in
-    cond_both (stands_for_all book.seats rows offer) (without offer rows) rows (λ (zs : List Standing). AreOffers (where_stand zs book))
-    (λ _. AreOffers-filter (λ (row : Standing). not (same_offer row.offer offer)) (where_stand rows book) made) (λ _. made)
+    cond_both (stands_for_all book.seats rows offer) (without offer rows) rows (λ (zs : List StandingOffer). AreOffers (where_stand zs book))
+    (λ _. AreOffers-filter (λ (row : StandingOffer). not (same_offer row.offer offer)) (where_stand rows book) made) (λ _. made)
 
-pub one_seat_more : (n : ℕ) (rows : List Standing) (offer : Offer)
+pub one_seat_more : (n : ℕ) (rows : List StandingOffer) (offer : Offer)
     → stands_for_all (n + 1) rows offer ≡ (stands_for_all n rows offer && stands rows n offer)
 one_seat_more n rows offer = ap (λ k. stands_for_all k rows offer) (add-one n)

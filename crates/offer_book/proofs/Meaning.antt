@@ -11,7 +11,7 @@ use Rattle.fics_words.specs.declared.refusal.Refusal.{Refusal}
 use Rattle.fics_words.specs.declared.refusal.Refusal.TheVariants.{NoSuchOffer}
 use Rattle.offer_book.specs.declared.offer.Offer.{Offer}
 use Rattle.offer_book.specs.declared.offer.Offer.TheVariants.{Draw, Abort, Adjourn, Takeback}
-use Rattle.offer_book.specs.declared.offer.Standing.{Standing}
+use Rattle.offer_book.specs.declared.offer.StandingOffer.{StandingOffer}
 use Rattle.offer_book.specs.Offers.{AreOffers, OfferBook, earliest, is_other_takeback, is_takeback, opponent_of, same_offer, stands, stands_for_all, with_offer}
 use Rattle.offer_book.specs.Laws.{AcceptsTheEarliest, ClearsForTheMove, ClearsOne, TakebacksAgree, TakesEffectWithTheLast}
 use Rattle.std.specs.Cmp.{first_so, second_so}
@@ -42,16 +42,16 @@ same_itself Adjourn = refl
 same_itself (Takeback n) = eq-eqb n n refl
 
 -- the row is of this seat, and this very offer
-abbrev is_row : ℕ → Offer → Standing → Bool
+abbrev is_row : ℕ → Offer → StandingOffer → Bool
 is_row seat offer row = (row.seat == seat) && same_offer row.offer offer
 
-row_seat : (seat : ℕ) (offer : Offer) (row : Standing) → is_row seat offer row ≡ true → row.seat ≡ seat
+row_seat : (seat : ℕ) (offer : Offer) (row : StandingOffer) → is_row seat offer row ≡ true → row.seat ≡ seat
 row_seat seat offer row h = eqb-true row.seat seat (first_so (row.seat == seat) (same_offer row.offer offer) h)
 
-row_offer : (seat : ℕ) (offer : Offer) (row : Standing) → is_row seat offer row ≡ true → row.offer ≡ offer
+row_offer : (seat : ℕ) (offer : Offer) (row : StandingOffer) → is_row seat offer row ≡ true → row.offer ≡ offer
 row_offer seat offer row h = same_is row.offer offer (second_so (row.seat == seat) (same_offer row.offer offer) h)
 
-pub clears_one : (rows : List Standing) (offer : Offer) → ClearsOne rows offer
+pub clears_one : (rows : List StandingOffer) (offer : Offer) → ClearsOne rows offer
 clears_one rows offer = record {
   cleared = λ seat. any-filter_same (is_row seat offer) (λ row. not (same_offer row.offer offer)) false
       (λ row h. not_from_true (same_offer row.offer offer) (second_so (row.seat == seat) (same_offer row.offer offer) h)) rows;
@@ -59,7 +59,7 @@ clears_one rows offer = record {
       (λ row h. not_from_false (same_offer row.offer offer) (ap (λ o. same_offer o offer) (row_offer seat other row h) ∙ differs)) rows;
 }
 
-pub clears_for_the_move : (rows : List Standing) (seat : ℕ) → ClearsForTheMove rows seat
+pub clears_for_the_move : (rows : List StandingOffer) (seat : ℕ) → ClearsForTheMove rows seat
 clears_for_the_move rows seat = record {
   takebacks = λ number other. any-filter_same (is_row other (Takeback number)) stays false
       (λ row h. and_left (not (is_takeback row.offer)) (not (row.seat == opponent_of seat)) (ap (λ o. not (is_takeback o)) (row_offer other (Takeback number) row h))) rows;
@@ -72,22 +72,22 @@ clears_for_the_move rows seat = record {
       (ap (λ s. not (s == opponent_of seat)) (row_seat other offer row h) ∙ ap not (ne_eqb other (opponent_of seat) differs))) rows;
 }
   where
-    stays : Standing → Bool
+    stays : StandingOffer → Bool
     stays row = not (is_takeback row.offer) && not (row.seat == opponent_of seat)
 
 -- who has an offer once a seat has made it
-has_after : (rows : List Standing) (seat other : ℕ) (offer : Offer)
+has_after : (rows : List StandingOffer) (seat other : ℕ) (offer : Offer)
     → stands (with_offer seat offer rows) other offer ≡ (stands rows other offer || ((seat == other) && same_offer offer offer || false))
 has_after rows seat other offer =
-    let last : Standing = record { seat = seat; offer = offer } in
-    let kept = filter (λ (row : Standing). not (is_other_takeback offer row.offer)) rows in
+    let last : StandingOffer = record { seat = seat; offer = offer } in
+    let kept = filter (λ (row : StandingOffer). not (is_other_takeback offer row.offer)) rows in
     list_any-append (is_row other offer) kept (last ∷ [])
     ∙ ap (λ b. b || ((seat == other) && same_offer offer offer || false))
     (any-filter_same (is_row other offer) (λ row. not (is_other_takeback offer row.offer)) true
     (λ row h. not_from_false (is_other_takeback offer row.offer)
     (and_right (is_takeback offer && is_takeback row.offer) (not (same_offer row.offer offer)) (not_from_true (same_offer row.offer offer) (second_so (row.seat == other) (same_offer row.offer offer) h)))) rows)
 
-others_before : (rows : List Standing) (seat other : ℕ) (offer : Offer) → (seat == other) ≡ false
+others_before : (rows : List StandingOffer) (seat other : ℕ) (offer : Offer) → (seat == other) ≡ false
     → stands (with_offer seat offer rows) other offer ≡ true → stands rows other offer ≡ true
 others_before rows seat other offer differs h =
     or_false (stands rows other offer) ((seat == other) && same_offer offer offer) (and_left (seat == other) (same_offer offer offer) differs)
@@ -98,18 +98,18 @@ others_before rows seat other offer differs h =
     or_false false true e h = sym e
     or_false false false e h = h
 
-has_still : (rows : List Standing) (seat other : ℕ) (offer : Offer) → stands rows other offer ≡ true
+has_still : (rows : List StandingOffer) (seat other : ℕ) (offer : Offer) → stands rows other offer ≡ true
     → stands (with_offer seat offer rows) other offer ≡ true
 has_still rows seat other offer h =
     has_after rows seat other offer ∙ or_left (stands rows other offer) ((seat == other) && same_offer offer offer || false) h
 
-pub has_made : (rows : List Standing) (seat : ℕ) (offer : Offer) → stands (with_offer seat offer rows) seat offer ≡ true
+pub has_made : (rows : List StandingOffer) (seat : ℕ) (offer : Offer) → stands (with_offer seat offer rows) seat offer ≡ true
 has_made rows seat offer =
     has_after rows seat seat offer
     ∙ or_right (stands rows seat offer) ((seat == seat) && same_offer offer offer || false)
     (or_left ((seat == seat) && same_offer offer offer) false (and_from (seat == seat) (same_offer offer offer) (eq-eqb seat seat refl) (same_itself offer)))
 
-all_have : (n : ℕ) (rows : List Standing) (offer : Offer) → stands_for_all n rows offer ≡ true → (seat : ℕ) → seat < n → stands rows seat offer ≡ true
+all_have : (n : ℕ) (rows : List StandingOffer) (offer : Offer) → stands_for_all n rows offer ≡ true → (seat : ℕ) → seat < n → stands rows seat offer ≡ true
 all_have zero rows offer h seat below = absurd (omega (arith, below))
 all_have (suc n) rows offer h seat below =
     elim (cases_eq seat n) as (λ _. stands rows seat offer ≡ true) [
@@ -120,7 +120,7 @@ all_have (suc n) rows offer h seat below =
     less : (k n : ℕ) → k < suc n → (k ≡ n → ⊥) → k < n
     less k n h other = grind arith
 
-have_all : (n : ℕ) (rows : List Standing) (offer : Offer) → ((seat : ℕ) → seat < n → stands rows seat offer ≡ true) → stands_for_all n rows offer ≡ true
+have_all : (n : ℕ) (rows : List StandingOffer) (offer : Offer) → ((seat : ℕ) → seat < n → stands rows seat offer ≡ true) → stands_for_all n rows offer ≡ true
 have_all zero rows offer h = refl
 have_all (suc n) rows offer h =
     and_from (stands_for_all n rows offer) (stands rows n offer) (have_all n rows offer (λ seat below. h seat (more seat n below))) (h n (itself n))
@@ -142,7 +142,7 @@ with_the_last book seat offer = (
       ]),
 )
 
-number_is : (rows : List Standing) (number seat m : ℕ) → All (λ row. is_other_takeback (Takeback number) row.offer ≡ false) rows
+number_is : (rows : List StandingOffer) (number seat m : ℕ) → All (λ row. is_other_takeback (Takeback number) row.offer ≡ false) rows
     → stands rows seat (Takeback m) ≡ true → m ≡ number
 number_is [] number seat m all h = absurd (let bad : false ≡ true = h in cc)
 number_is (row ∷ rows) number seat m all h =

@@ -4,15 +4,15 @@ use Rattle.fics_words.specs.Effect.{answer_of, refusal_of}
 use Rattle.fics_words.specs.declared.refusal.Refusal.TheVariants.{NoSuchOffer}
 use Rattle.offer_book.specs.declared.offer.Offer.{Offer}
 use Rattle.offer_book.specs.declared.offer.Offer.TheVariants.{Takeback}
-use Rattle.offer_book.specs.declared.offer.Standing.{Standing}
+use Rattle.offer_book.specs.declared.offer.StandingOffer.{StandingOffer}
 use Rattle.offer_book.specs.Offers.{OfferBook, accepting, after_half_move, earliest, is_takeback, opponent_of, same_offer, stands, stands_for_all, with_offer, without}
 
 -- no seat has the offer
-abbrev pub NobodyHas : List Standing → Offer → Type 0
+abbrev pub NobodyHas : List StandingOffer → Offer → Type 0
 NobodyHas rows offer = (seat : ℕ) → stands rows seat offer ≡ false
 
 -- a seat that makes an offer has it standing
-abbrev pub Stands : List Standing → ℕ → Offer → Type 0
+abbrev pub Stands : List StandingOffer → ℕ → Offer → Type 0
 Stands rows seat offer = stands (with_offer seat offer rows) seat offer ≡ true
 
 -- an offer takes effect exactly when the last seat agrees: when every other seat has it standing
@@ -22,20 +22,20 @@ TakesEffectWithTheLast book seat offer =
     ↔ ((other : ℕ) → other < book.seats → other ≢ seat → stands book.standing other offer ≡ true)
 
 -- where an offer is cleared no seat has it, and every other offer stands as before
-pub record ClearsOne (rows : List Standing) (offer : Offer) : Type 0 where
+pub record ClearsOne (rows : List StandingOffer) (offer : Offer) : Type 0 where
   pub cleared : NobodyHas (without offer rows) offer
   pub others : (seat : ℕ) (other : Offer) → same_offer other offer ≡ false
       → stands (without offer rows) seat other ≡ stands rows seat other
 
 -- after a half-move no takeback stands, the opponent has no offer, and every other offer stands as before
-pub record ClearsForTheMove (rows : List Standing) (seat : ℕ) : Type 0 where
+pub record ClearsForTheMove (rows : List StandingOffer) (seat : ℕ) : Type 0 where
   pub takebacks : (number : ℕ) → NobodyHas (after_half_move seat rows) (Takeback number)
   pub opponent : (offer : Offer) → stands (after_half_move seat rows) (opponent_of seat) offer ≡ false
   pub others : (other : ℕ) (offer : Offer) → other ≢ opponent_of seat → is_takeback offer ≡ false
       → stands (after_half_move seat rows) other offer ≡ stands rows other offer
 
 -- the takebacks that stand at a desk have one number
-abbrev pub TakebacksAgree : List Standing → Type 0
+abbrev pub TakebacksAgree : List StandingOffer → Type 0
 TakebacksAgree rows = (seat other m n : ℕ)
     → stands rows seat (Takeback m) ≡ true → stands rows other (Takeback n) ≡ true → m ≡ n
 

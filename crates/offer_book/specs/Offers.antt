@@ -5,12 +5,12 @@ use Rattle.fics_words.specs.Effect.{Effect}
 use Rattle.fics_words.specs.declared.refusal.Refusal.TheVariants.{AlreadyOffered, NoSuchOffer}
 use Rattle.offer_book.specs.declared.offer.Offer.{Offer}
 use Rattle.offer_book.specs.declared.offer.Offer.TheVariants.{Draw, Abort, Adjourn, Takeback}
-use Rattle.offer_book.specs.declared.offer.Standing.{Standing}
+use Rattle.offer_book.specs.declared.offer.StandingOffer.{StandingOffer}
 
 -- the number of seats of the desk, and the offers that stand there with the seats that made them, the oldest first
 pub record OfferBook : Type 0 where
   pub seats : ℕ
-  pub standing : List Standing
+  pub standing : List StandingOffer
 
 -- the two offers are one; takebacks are where they have one number
 abbrev pub same_offer : Offer → Offer → Bool
@@ -30,29 +30,29 @@ abbrev pub is_other_takeback : Offer → Offer → Bool
 is_other_takeback offer other = is_takeback offer && is_takeback other && not (same_offer other offer)
 
 -- the seat has this very offer standing
-abbrev pub stands : List Standing → ℕ → Offer → Bool
+abbrev pub stands : List StandingOffer → ℕ → Offer → Bool
 stands rows seat offer = list_any (λ row. (row.seat == seat) && same_offer row.offer offer) rows
 
 -- each of the first so many seats has this very offer standing
-abbrev pub stands_for_all : ℕ → List Standing → Offer → Bool
+abbrev pub stands_for_all : ℕ → List StandingOffer → Offer → Bool
 stands_for_all zero rows offer = true
 stands_for_all (suc seat) rows offer = stands_for_all seat rows offer && stands rows seat offer
 
 -- what stands without this offer, whose seat ever made it
-abbrev pub without : Offer → List Standing → List Standing
+abbrev pub without : Offer → List StandingOffer → List StandingOffer
 without offer rows = filter (λ row. not (same_offer row.offer offer)) rows
 
 -- the seat makes an offer: it stands behind the others, and a takeback clears those of another number
-abbrev pub with_offer : ℕ → Offer → List Standing → List Standing
+abbrev pub with_offer : ℕ → Offer → List StandingOffer → List StandingOffer
 with_offer seat offer rows =
     filter (λ row. not (is_other_takeback offer row.offer)) rows ++ record { seat = seat; offer = offer } ∷ []
 
 -- an offer takes effect where now every seat has it standing, and is cleared then
-abbrev pub settled : ℕ → Offer → List Standing → List Standing
+abbrev pub settled : ℕ → Offer → List StandingOffer → List StandingOffer
 settled seats offer rows = cond (stands_for_all seats rows offer) (without offer rows) rows
 
 -- the earliest offer of another seat that this seat lacks
-abbrev pub earliest : List Standing → ℕ → Option Offer
+abbrev pub earliest : List StandingOffer → ℕ → Option Offer
 earliest rows seat =
     option_map (λ row. row.offer) (find (λ row. not (row.seat == seat) && not (stands rows seat row.offer)) rows)
 
@@ -61,7 +61,7 @@ abbrev pub opponent_of : ℕ → ℕ
 opponent_of seat = cond (seat % 2 == 0) (seat + 1) (seat - 1)
 
 -- what a half-move of the seat leaves: no takeback, and no offer of its opponent
-abbrev pub after_half_move : ℕ → List Standing → List Standing
+abbrev pub after_half_move : ℕ → List StandingOffer → List StandingOffer
 after_half_move seat rows = filter (λ row. not (is_takeback row.offer) && not (row.seat == opponent_of seat)) rows
 
 -- a desk of so many seats where nothing is offered
@@ -69,7 +69,7 @@ abbrev pub no_offers : ℕ → OfferBook
 no_offers seats = record { seats = seats; standing = [] }
 
 -- the desk where other offers stand
-abbrev pub where_stand : List Standing → OfferBook → OfferBook
+abbrev pub where_stand : List StandingOffer → OfferBook → OfferBook
 where_stand rows book = record book { standing = rows }
 
 -- an offer is refused where the seat has it standing; the reply is whether it takes effect
@@ -119,11 +119,11 @@ kind_of Adjourn = 2
 kind_of (Takeback n) = 3
 
 -- the seat has an offer of this kind standing
-abbrev pub stands_alike : List Standing → ℕ → ℕ → Bool
+abbrev pub stands_alike : List StandingOffer → ℕ → ℕ → Bool
 stands_alike rows seat kind = list_any (λ row. (row.seat == seat) && (kind_of row.offer == kind)) rows
 
 -- each seat has at most one offer of each kind
-abbrev pub HasOneEach : List Standing → Type 0
+abbrev pub HasOneEach : List StandingOffer → Type 0
 HasOneEach [] = Unit {0}
 HasOneEach (row ∷ rows) = (stands_alike rows row.seat (kind_of row.offer) ≡ false) × HasOneEach rows
 

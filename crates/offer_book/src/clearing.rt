@@ -2,17 +2,17 @@
 ghost use Rattle.std.specs.Prelude.{◌≡◌, ◌==◌, ◌&&◌, not};
 ghost use Rattle.offer_book.specs.Offers.{is_other_takeback, is_takeback, opponent_of, same_offer};
 
-use crate::offer::{Offer, Standing};
+use crate::offer::{Offer, StandingOffer};
 use collections::Predicate;
 
 /// Every offer but this one.
 #[derive(Clone, Copy)]
 pub(crate) struct Without(pub(crate) Offer);
 
-impl Predicate<Standing> for Without {
+impl Predicate<StandingOffer> for Without {
     ghost passes = { λ test row. not (same_offer row.offer test.0) };
 
-    fn passes(&self, row: &Standing) -> bool {
+    fn passes(&self, row: &StandingOffer) -> bool {
         row.offer != self.0
     }
 }
@@ -21,10 +21,10 @@ impl Predicate<Standing> for Without {
 #[derive(Clone, Copy)]
 pub(crate) struct Beside(pub(crate) Offer);
 
-impl Predicate<Standing> for Beside {
+impl Predicate<StandingOffer> for Beside {
     ghost passes = { λ test row. not (is_other_takeback test.0 row.offer) };
 
-    fn passes(&self, row: &Standing) -> bool {
+    fn passes(&self, row: &StandingOffer) -> bool {
         !self.0.is_other_takeback(row.offer)
     }
 }
@@ -33,10 +33,10 @@ impl Predicate<Standing> for Beside {
 #[derive(Clone, Copy)]
 pub(crate) struct AfterHalfMove(pub(crate) u8);
 
-impl Predicate<Standing> for AfterHalfMove {
+impl Predicate<StandingOffer> for AfterHalfMove {
     ghost passes = { λ test row. not (is_takeback row.offer) && not (row.seat == opponent_of test.0) };
 
-    fn passes(&self, row: &Standing) -> bool {
+    fn passes(&self, row: &StandingOffer) -> bool {
         !row.offer.is_takeback() && row.seat != opponent_of(self.0)
     }
 }

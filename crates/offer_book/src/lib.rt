@@ -14,5 +14,5 @@ pub use laws::{
     cleared_offers_are_gone, half_moves_clear, offers_need_all, takebacks_agree,
     the_earliest_is_accepted,
 };
-pub use offer::{Offer, Standing};
+pub use offer::{Offer, StandingOffer};
 pub use offers::Offers;

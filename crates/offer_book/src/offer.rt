@@ -17,7 +17,7 @@ pub enum Offer {
 
 /// An offer that stands, and the seat that made it.
 #[derive(Clone, Copy)]
-pub struct Standing {
+pub struct StandingOffer {
     pub seat: u8,
     pub offer: Offer,
 }

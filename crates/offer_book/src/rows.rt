@@ -4,7 +4,7 @@ ghost use Rattle.std.specs.List.{filter};
 ghost use Rattle.offer_book.specs.Offers.{settled, stands, stands_for_all, with_offer};
 
 use crate::clearing::{Beside, Without};
-use crate::offer::{Offer, Standing};
+use crate::offer::{Offer, StandingOffer};
 use collections::Predicate;
 use std::marker::Model;
 
@@ -12,7 +12,7 @@ use std::marker::Model;
 const MOST: usize = 16;
 
 /// What stands behind the offers in their field.
-const NOTHING: Standing = Standing {
+const NOTHING: StandingOffer = StandingOffer {
     seat: 0,
     offer: Offer::Draw,
 };
@@ -21,14 +21,14 @@ const NOTHING: Standing = Standing {
 #[derive(Drop)]
 pub(crate) struct Rows {
     count: usize,
-    field: [Standing; 16],
+    field: [StandingOffer; 16],
 }
 
 impl Model for Rows {
     ghost use Rattle.std.specs.Prelude.{List, ◌≤◌, take};
-    ghost use Rattle.offer_book.specs.declared.offer.Standing.{Standing};
+    ghost use Rattle.offer_book.specs.declared.offer.StandingOffer.{StandingOffer};
 
-    ghost Value = { List Standing };
+    ghost Value = { List StandingOffer };
 
     ghost view = { λ rows. take rows.count rows.field };
 
@@ -47,7 +47,7 @@ impl Rows {
     }
 
     /// The offers, in order.
-    pub(crate) fn as_slice(&self) -> &[Standing]
+    pub(crate) fn as_slice(&self) -> &[StandingOffer]
         ensures rows { result.now ≡ self.now }
         ensures most { length self.now ≤ MOST }
     {
@@ -55,7 +55,7 @@ impl Rows {
     }
 
     /// Puts an offer behind the others.
-    pub(crate) fn push(&mut self, row: Standing)
+    pub(crate) fn push(&mut self, row: StandingOffer)
         requires { length self.old < MOST }
         ensures { self.new ≡ self.old ++ row ∷ [] }
     {
@@ -64,7 +64,7 @@ impl Rows {
     }
 
     /// Keeps the offers that pass `test`, in their order.
-    pub(crate) fn retain<P: Predicate<Standing>>(&mut self, test: &P)
+    pub(crate) fn retain<P: Predicate<StandingOffer>>(&mut self, test: &P)
         ensures { self.new ≡ filter (P.passes test.now) self.old }
     {
         let mut kept = Rows::none();
@@ -76,7 +76,7 @@ impl Rows {
     }
 
     /// Puts an offer behind the others, where it is to be kept.
-    fn push_if(&mut self, keep: bool, row: Standing)
+    fn push_if(&mut self, keep: bool, row: StandingOffer)
         requires { length self.old < MOST }
         ensures { self.new ≡ self.old ++ cond keep (row ∷ []) [] }
     {
@@ -91,7 +91,7 @@ impl Rows {
         ensures { self.new ≡ with_offer seat offer self.old }
     {
         self.retain(&Beside(offer));
-        self.push(Standing { seat, offer });
+        self.push(StandingOffer { seat, offer });
     }
 
     /// Clears the offer where each of the first so many seats has it standing, and says whether that is so.
@@ -118,7 +118,7 @@ impl Rows {
 }
 
 /// Whether the seat has this very offer standing.
-pub(crate) fn stands(rows: &[Standing], seat: u8, offer: Offer) -> bool
+pub(crate) fn stands(rows: &[StandingOffer], seat: u8, offer: Offer) -> bool
     ensures { result ≡ stands rows.now seat offer }
 {
     rows.iter()
@@ -127,7 +127,7 @@ pub(crate) fn stands(rows: &[Standing], seat: u8, offer: Offer) -> bool
 
 /// Whether each of the first so many seats has this very offer standing.
 #[tactic(auto, using(crate::proofs::Keeping::one_seat_more))]
-fn stands_for_all(rows: &[Standing], seats: u8, offer: Offer) -> bool
+fn stands_for_all(rows: &[StandingOffer], seats: u8, offer: Offer) -> bool
     ensures { result ≡ stands_for_all seats rows.now offer }
 {
     let mut all = true;

@@ -3,7 +3,7 @@ ghost use Rattle.std.specs.Prelude.{◌≡◌, Ok, not, ◌||◌};
 ghost use Rattle.partner_link.specs.Partners.{is_of, names, other_of};
 
 use collections::Predicate;
-use fics_words::{Duplicate, NoMemory};
+use memory::{Duplicate, NoMemory};
 use tables::Keyed;
 
 /// A request that stands: which player has asked which to be its partner.

@@ -5,7 +5,8 @@ ghost use Rattle.partner_link.specs.Partners.{is_of, partner_of, stands};
 
 use crate::pairs::{LinkOfOthers, PartnerLink, PartnerRequest, RequestOfNeither, RequestOfOthers};
 use collections::{Listed, Predicate};
-use fics_words::{Duplicate, Fail, NoMemory, Refusal};
+use fics_words::{Fail, Refusal};
+use memory::{Duplicate, NoMemory};
 use std::alloc::Global;
 use std::marker::Model;
 use tables::Table;

@@ -21,7 +21,7 @@ use Rattle.pgn_book.specs.Games.{result_text, is_result, position_of, Tag, IsTag
 use Rattle.pgn_book.specs.declared.stage.Stage.{Stage}
 use Rattle.pgn_book.specs.declared.stage.Stage.TheVariants.{Before, Tags, Opened, Named, Told, Moves}
 use Rattle.pgn_book.specs.declared.row.Row.{Row}
-use Rattle.pgn_book.specs.declared.place.Place.TheVariants.{Between}
+use Rattle.pgn_book.specs.declared.place.PlaceInText.TheVariants.{Between}
 use Rattle.pgn_book.specs.Reading.{Book, empty_row, no_book, noted, result_of, game_of, Taken, goes, fails, gives, staged, opened, closed, passed_over, quoted, named, from_word, move_read, with_move, moved, told, worded, signed, glyphed, took, Outcome, adding, is_before, all_told, state_at, read_from, first_state}
 use Rattle.pgn_book.specs.Laws.{ReaderReads}
 use Rattle.pgn_book.proofs.PiecesRead.{telling, lexed_read, start_read}

@@ -5,8 +5,8 @@ use Rattle.std.proofs.lemmas.Bool.{eqb-true, ltb-false, false_from_ne_true}
 use Rattle.move_reader.proofs.ByteMeanings.{below}
 use Rattle.chess_model.specs.declared.moves.Move.{Move}
 use Rattle.pgn_book.specs.declared.game.PgnGame.{PgnGame}
-use Rattle.pgn_book.specs.declared.place.Place.{Place}
-use Rattle.pgn_book.specs.declared.place.Place.TheVariants.{Start, AfterOne, AfterTwo, Between, InLine, InBraces, InWord, InQuotes, InStroke}
+use Rattle.pgn_book.specs.declared.place.PlaceInText.{PlaceInText}
+use Rattle.pgn_book.specs.declared.place.PlaceInText.TheVariants.{Start, AfterOne, AfterTwo, Between, InLine, InBraces, InWord, InQuotes, InStroke}
 use Rattle.pgn_book.specs.declared.row.Row.{Row}
 use Rattle.pgn_book.specs.declared.stage.Stage.{Stage}
 use Rattle.pgn_book.specs.declared.stage.Stage.TheVariants.{Before, Tags, Opened, Named, Told, Moves}
@@ -170,7 +170,7 @@ end_between depth fresh stage row moves (inr e) =
     subst (λ (t : Stage). CanEnd (state_at (Between fresh) depth (book_at t row moves))) (sym e) (end_inside depth fresh row moves)
 
 -- where a line may begin
-abbrev IsLineStart : Place → Type 0
+abbrev IsLineStart : PlaceInText → Type 0
 IsLineStart (Between fresh) = Unit {0}
 IsLineStart InBraces = Unit {0}
 IsLineStart _ = ⊥
@@ -179,7 +179,7 @@ end_line : (s : State) → IsLineStart s.place → IsSound s → CanEnd s
 unfolding step
 end_line s start h = by s.place s.depth s.book start h.place
   where
-    by : (place : Place) (depth : ℕ) (book : Book) → IsLineStart place → IsSoundPlace place depth book.stage → CanEnd (state_at place depth book)
+    by : (place : PlaceInText) (depth : ℕ) (book : Book) → IsLineStart place → IsSoundPlace place depth book.stage → CanEnd (state_at place depth book)
     by (Between fresh) depth book l at = end_between depth fresh book.stage book.row book.moves at
     by InBraces depth book l at =
         led (state_at InBraces depth book) (state_at (Between false) depth book) 125 refl (end_between depth false book.stage book.row book.moves at)
@@ -206,7 +206,7 @@ line_start s t e = by s.place s.depth s.book e
     behind depth None h = no_state t h
     behind depth (Some book) h = started_at (state_at (Between true) depth book) t h tt
 
-    by : (place : Place) (depth : ℕ) (book : Book) → (step (state_at place depth book) 10).on ≡ Some t → IsLineStart t.place
+    by : (place : PlaceInText) (depth : ℕ) (book : Book) → (step (state_at place depth book) 10).on ≡ Some t → IsLineStart t.place
     by Start depth book h = started_at (state_at (Between true) depth book) t h tt
     by AfterOne depth book h = no_state t h
     by AfterTwo depth book h = no_state t h

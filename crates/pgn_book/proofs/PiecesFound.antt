@@ -7,8 +7,8 @@ use Rattle.move_reader.proofs.ByteMeanings.{below}
 use Rattle.pgn_book.specs.declared.game.PgnGame.{PgnGame}
 use Rattle.pgn_book.specs.Bytes.{is_among, is_space, is_word_byte, Every, StopsBefore}
 use Rattle.pgn_book.specs.Lexing.{Piece, Blank, Escape, Braces, Comment, Word, Glyph, Quoted, Sign, Opening, Closing, Within, escaped, escaped_byte, spelling, is_of_line, is_of_braces, is_of_text, is_sign, is_reserved, IsRestOfLine, IsWord, IsText, At, MayStand, behind, Lexes}
-use Rattle.pgn_book.specs.declared.place.Place.{Place}
-use Rattle.pgn_book.specs.declared.place.Place.TheVariants.{Start, AfterOne, AfterTwo, Between, InLine, InBraces, InWord, InQuotes, InStroke}
+use Rattle.pgn_book.specs.declared.place.PlaceInText.{PlaceInText}
+use Rattle.pgn_book.specs.declared.place.PlaceInText.TheVariants.{Start, AfterOne, AfterTwo, Between, InLine, InBraces, InWord, InQuotes, InStroke}
 use Rattle.pgn_book.specs.Reading.{Book, Taken, took, Outcome, adding, State, state_at, to_place, Step, silent, outside, opens, closes, nested, skipping, spaced, begun, begun_behind, piece_of, longer, word_ended, step, is_before, is_at_rest, resting, read_from}
 use Rattle.pgn_book.proofs.PiecesRead.{each_among}
 
@@ -36,7 +36,7 @@ which true p q text h = inl (refl, h)
 which false p q text h = inr (refl, h)
 
 -- the book with which it goes on
-with_book : (place : Place) (depth : ℕ) (on : Option Book) (text : List ℕ) → Whole (to_place place depth on) text →
+with_book : (place : PlaceInText) (depth : ℕ) (on : Option Book) (text : List ℕ) → Whole (to_place place depth on) text →
     (book : Book) × Whole (Some (state_at place depth book)) text
 with_book place depth None text h = never h
 with_book place depth (Some book) text h = (book, h)
@@ -88,7 +88,7 @@ record FoundStroke (depth : ℕ) (done text : List ℕ) : Type 0 where
   most : length done + (1 + length more) ≤ 255
   on : FoundAt (record { depth = depth; fresh = false }) rest
 
-abbrev Found : Place → ℕ → List ℕ → Type 0
+abbrev Found : PlaceInText → ℕ → List ℕ → Type 0
 Found Start depth text = Unit {0}
 Found AfterOne depth text = Unit {0}
 Found AfterTwo depth text = Unit {0}
@@ -101,7 +101,7 @@ Found (InStroke done) depth text = length done ≤ 255 → FoundStroke depth don
 
 -- what is found in a text from each place on
 abbrev FoundAll : List ℕ → Type 0
-FoundAll text = (place : Place) (depth : ℕ) (book : Book) → Whole (Some (state_at place depth book)) text → Found place depth text
+FoundAll text = (place : PlaceInText) (depth : ℕ) (book : Book) → Whole (Some (state_at place depth book)) text → Found place depth text
 
 piece_found : (at : At) (piece : Piece) (rest : List ℕ) → MayStand at piece rest → FoundAt (behind at piece) rest → FoundAt at (spelling piece ++ rest)
 piece_found at piece rest h f = record { pieces = piece ∷ f.pieces; lexed = (rest, refl, h, f.lexed) }

@@ -4,8 +4,8 @@ use Rattle.std.specs.Prelude.{is_some}
 use Rattle.std.proofs.lemmas.List.{drop-drop, length-drop}
 use Rattle.pgn_book.specs.declared.game.PgnGame.{PgnGame}
 use Rattle.pgn_book.specs.declared.book.Read.{Read}
-use Rattle.pgn_book.specs.declared.place.Place.{Place}
-use Rattle.pgn_book.specs.declared.place.Place.TheVariants.{Start, AfterOne, AfterTwo, Between, InLine, InBraces, InWord, InQuotes, InStroke}
+use Rattle.pgn_book.specs.declared.place.PlaceInText.{PlaceInText}
+use Rattle.pgn_book.specs.declared.place.PlaceInText.TheVariants.{Start, AfterOne, AfterTwo, Between, InLine, InBraces, InWord, InQuotes, InStroke}
 use Rattle.pgn_book.specs.declared.reader.PgnStep.{PgnStep}
 use Rattle.pgn_book.specs.declared.reader.PgnStep.TheVariants.{Game, More, Bad}
 use Rattle.pgn_book.specs.Reading.{State, Step, step, gone, with_given, read_from, adding}
@@ -105,7 +105,7 @@ fewer_last now mid new (Bad line) h last = tt
 
 -- ---- where memory was wanting
 
-begun_at_most : (place : Place) → words_begun place ≤ 1
+begun_at_most : (place : PlaceInText) → words_begun place ≤ 1
 begun_at_most Start = omega arith
 begun_at_most AfterOne = omega arith
 begun_at_most AfterTwo = omega arith

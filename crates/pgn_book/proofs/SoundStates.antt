@@ -16,8 +16,8 @@ use Rattle.chess_model.proofs.WordsDecide.{word_answer-holds}
 use Rattle.rules_reading.specs.ReadsBack.{IsReadAs}
 use Rattle.pgn_book.specs.declared.game.PgnGame.{PgnGame}
 use Rattle.pgn_book.specs.declared.book.Read.{Read}
-use Rattle.pgn_book.specs.declared.place.Place.{Place}
-use Rattle.pgn_book.specs.declared.place.Place.TheVariants.{Start, AfterOne, AfterTwo, Between, InLine, InBraces, InWord, InQuotes, InStroke}
+use Rattle.pgn_book.specs.declared.place.PlaceInText.{PlaceInText}
+use Rattle.pgn_book.specs.declared.place.PlaceInText.TheVariants.{Start, AfterOne, AfterTwo, Between, InLine, InBraces, InWord, InQuotes, InStroke}
 use Rattle.pgn_book.specs.declared.stage.Stage.{Stage}
 use Rattle.pgn_book.specs.declared.stage.Stage.TheVariants.{Before, Tags, Opened, Named, Told, Moves}
 use Rattle.pgn_book.specs.Bytes.{is_among, is_space, is_digit, is_name_byte, is_word_byte}
@@ -222,7 +222,7 @@ signing book b h =
 
 -- ---- states
 
-abbrev here : Place → ℕ → Book → Option State
+abbrev here : PlaceInText → ℕ → Book → Option State
 here place depth book = Some (state_at place depth book)
 
 pub record IsSoundStep (t : Step) : Type 0 where
@@ -234,7 +234,7 @@ on_either true p q h g = h refl
 on_either false p q h g = g refl
 
 -- outside of variations any piece may follow
-behind_piece : (place : Place) (depth : ℕ) (on : Option Book) → ((stage : Stage) → IsSoundPlace place depth stage) → IsSoundBookIf on → IsSoundIf (to_place place depth on)
+behind_piece : (place : PlaceInText) (depth : ℕ) (on : Option Book) → ((stage : Stage) → IsSoundPlace place depth stage) → IsSoundBookIf on → IsSoundIf (to_place place depth on)
 behind_piece place depth None is h = tt
 behind_piece place depth (Some book) is h = record { place = is book.stage; book = h }
 
@@ -350,7 +350,7 @@ unfolding took
 took_word true book word h = glyphing book word h
 took_word false book word h = wording book.stage book word h
 
-sound_step_in : (place : Place) (depth : ℕ) (book : Book) (b : ℕ) → IsSoundPlace place depth book.stage → IsSoundBook book → IsSoundStep (step_in place depth book b)
+sound_step_in : (place : PlaceInText) (depth : ℕ) (book : Book) (b : ℕ) → IsSoundPlace place depth book.stage → IsSoundBook book → IsSoundStep (step_in place depth book b)
 sound_step_in Start depth book b at h =
     quietly (started depth book b)
     (on_either (b == 239) (here AfterOne depth book) (begun true depth book b) (λ e. record { place = at; book = h }) (λ e. sound_begun true depth book b at h))
@@ -390,7 +390,7 @@ at_end s = ended_in s.place s.depth s.book
 pub end_sound : (s : State) → IsSound s → IsSoundStep (at_end s)
 end_sound s h = by s.place s.depth s.book h.place h.book
   where
-    by : (place : Place) (depth : ℕ) (book : Book) → IsSoundPlace place depth book.stage → IsSoundBook book → IsSoundStep (ended_in place depth book)
+    by : (place : PlaceInText) (depth : ℕ) (book : Book) → IsSoundPlace place depth book.stage → IsSoundBook book → IsSoundStep (ended_in place depth book)
     by Start depth book at h = quietly (here (Between false) depth book) (record { place = at; book = h })
     by AfterOne depth book at h = quietly None tt
     by AfterTwo depth book at h = quietly None tt
@@ -442,7 +442,7 @@ more_given : (given : Option PgnGame) (o : Outcome) → IsExportableIf given →
 more_given None o h all = all
 more_given (Some g) o h all = (h, all)
 
-finished_exportable : (place : Place) (depth : ℕ) (book : Book) → IsSoundBook book → EachExportable (finished_in place depth book).games
+finished_exportable : (place : PlaceInText) (depth : ℕ) (book : Book) → IsSoundBook book → EachExportable (finished_in place depth book).games
 finished_exportable Start depth book h = tt
 finished_exportable AfterOne depth book h = tt
 finished_exportable AfterTwo depth book h = tt

@@ -4,8 +4,8 @@ use Rattle.std.specs.Prelude.{bytes_eq, codes}
 use Rattle.std.specs.List.{list_all}
 use Rattle.chess_model.specs.declared.moves.Move.{Move}
 use Rattle.pgn_book.specs.declared.game.PgnGame.{PgnGame}
-use Rattle.pgn_book.specs.declared.place.Place.{Place}
-use Rattle.pgn_book.specs.declared.place.Place.TheVariants.{Start, AfterOne, AfterTwo, Between, InLine, InBraces, InWord, InQuotes, InStroke}
+use Rattle.pgn_book.specs.declared.place.PlaceInText.{PlaceInText}
+use Rattle.pgn_book.specs.declared.place.PlaceInText.TheVariants.{Start, AfterOne, AfterTwo, Between, InLine, InBraces, InWord, InQuotes, InStroke}
 use Rattle.pgn_book.specs.declared.stage.Stage.{Stage}
 use Rattle.pgn_book.specs.declared.stage.Stage.TheVariants.{Before, Tags, Opened, Named, Told, Moves}
 use Rattle.pgn_book.specs.Bytes.{is_space, spaces, is_digit, is_name_byte, is_word_byte}
@@ -105,7 +105,7 @@ given_whole : (s : State) (b : ℕ) (g : PgnGame) → IsSound s → (step s b).g
 unfolding step
 given_whole s b g h e = by s.place s.depth s.book h.place e
   where
-    by : (place : Place) (depth : ℕ) (book : Book) → IsSoundPlace place depth book.stage → (step (state_at place depth book) b).given ≡ Some g → EndsWhole (state_at place depth book) g
+    by : (place : PlaceInText) (depth : ℕ) (book : Book) → IsSoundPlace place depth book.stage → (step (state_at place depth book) b).given ≡ Some g → EndsWhole (state_at place depth book) g
     by Start depth book at f = no_game g f
     by AfterOne depth book at f = no_game g f
     by AfterTwo depth book at f = no_game g f
@@ -217,7 +217,7 @@ word_ends depth taken deep (inr empty) =
     inr (adding_whole taken.given (resting depth taken.on) ∙ ap (λ (on : Option Book). (resting depth on).whole) empty
     ∙ ap (λ (d : ℕ). (resting d (Some no_book)).whole) deep)
 
-place_ends : (place : Place) (depth : ℕ) (book : Book) → IsSoundPlace place depth book.stage → Ends (finished_in place depth book)
+place_ends : (place : PlaceInText) (depth : ℕ) (book : Book) → IsSoundPlace place depth book.stage → Ends (finished_in place depth book)
 place_ends Start depth book at = inl refl
 place_ends AfterOne depth book at = inl refl
 place_ends AfterTwo depth book at = inl refl
@@ -261,7 +261,7 @@ space_ends : (s : State) (b : ℕ) → is_space b ≡ true → listed (step s b)
 unfolding step
 space_ends s b e = by s.place s.depth s.book
   where
-    by : (place : Place) (depth : ℕ) (book : Book) → listed (step_in place depth book b).given ≡ (finished_in place depth book).games
+    by : (place : PlaceInText) (depth : ℕ) (book : Book) → listed (step_in place depth book b).given ≡ (finished_in place depth book).games
     by Start depth book = refl
     by AfterOne depth book = refl
     by AfterTwo depth book = refl

@@ -1,8 +1,8 @@
 -- The reader of PGN text: what is kept between calls, and what each call gives.
 use Rattle.std.specs.Prelude.{◌≡◌, ◌≢◌, ℕ, ◌+◌, ◌*◌, ◌<◌, ◌≤◌, Bool, true, false, ◌==◌, ◌&&◌, nat_lt, if◌then◌else◌, List, [], ◌∷◌, ◌++◌, length, Option, Some, None, is_some}
 use Rattle.pgn_book.specs.declared.game.PgnGame.{PgnGame}
-use Rattle.pgn_book.specs.declared.place.Place.{Place}
-use Rattle.pgn_book.specs.declared.place.Place.TheVariants.{InWord}
+use Rattle.pgn_book.specs.declared.place.PlaceInText.{PlaceInText}
+use Rattle.pgn_book.specs.declared.place.PlaceInText.TheVariants.{InWord}
 use Rattle.pgn_book.specs.declared.reader.PgnStep.{PgnStep}
 use Rattle.pgn_book.specs.declared.reader.PgnStep.TheVariants.{Game, More, Bad}
 use Rattle.pgn_book.specs.Export.{IsExportable}
@@ -46,7 +46,7 @@ pub record GoesOn (old : Reader) (given : Option PgnGame) (new : Reader) : Type 
       ≡ line_from new.line new.on (new.rest ++ more)
 
 -- 1 where a word has begun, which may be the result of a game
-abbrev pub words_begun : Place → ℕ
+abbrev pub words_begun : PlaceInText → ℕ
 words_begun (InWord glyph word) = 1
 words_begun place = 0
 

@@ -15,8 +15,8 @@ use Rattle.pgn_book.specs.declared.game.TagRow.{TagRow}
 use Rattle.pgn_book.specs.declared.stage.Stage.{Stage}
 use Rattle.pgn_book.specs.declared.stage.Stage.TheVariants.{Before, Tags, Opened, Named, Told, Moves}
 use Rattle.pgn_book.specs.declared.row.Row.{Row}
-use Rattle.pgn_book.specs.declared.place.Place.{Place}
-use Rattle.pgn_book.specs.declared.place.Place.TheVariants.{Start, AfterOne, AfterTwo, Between, InLine, InBraces, InWord, InQuotes, InStroke}
+use Rattle.pgn_book.specs.declared.place.PlaceInText.{PlaceInText}
+use Rattle.pgn_book.specs.declared.place.PlaceInText.TheVariants.{Start, AfterOne, AfterTwo, Between, InLine, InBraces, InWord, InQuotes, InStroke}
 use Rattle.pgn_book.specs.Bytes.{is_among, is_space, is_digit, is_name_byte, is_word_byte}
 use Rattle.pgn_book.specs.Lexing.{Piece, Word, Glyph, Quoted, Sign, Opening, Closing, Within, is_sign, is_of_line, is_of_braces, is_of_text}
 use Rattle.pgn_book.specs.Games.{is_result, position_of, without_praise}
@@ -203,7 +203,7 @@ all_told (Some book) (piece ∷ pieces) = adding (took book piece).given (all_to
 -- ---- pieces from bytes
 
 pub record State : Type 0 where
-  pub place : Place
+  pub place : PlaceInText
   pub depth : ℕ
   pub book : Book
 
@@ -212,10 +212,10 @@ pub record Step : Type 0 where
   pub given : Option PgnGame
   pub on : Option State
 
-abbrev pub state_at : Place → ℕ → Book → State
+abbrev pub state_at : PlaceInText → ℕ → Book → State
 state_at place depth book = record { place = place; depth = depth; book = book }
 
-abbrev pub to_place : Place → ℕ → Option Book → Option State
+abbrev pub to_place : PlaceInText → ℕ → Option Book → Option State
 to_place place depth None = None
 to_place place depth (Some book) = Some (state_at place depth book)
 
@@ -268,7 +268,7 @@ piece_of true word = Glyph word
 piece_of false word = Word word
 
 -- a byte more in a text of at most 255
-abbrev pub longer : Place → List ℕ → ℕ → Book → Option State
+abbrev pub longer : PlaceInText → List ℕ → ℕ → Book → Option State
 longer place text depth book = if nat_lt (length text) 255 then Some (state_at place depth book) else None
 
 abbrev pub silent : Option State → Step
@@ -302,7 +302,7 @@ abbrev pub in_stroke : List ℕ → ℕ → Book → ℕ → Option State
 in_stroke text depth book b =
     if is_among (34 ∷ 92 ∷ []) b then longer (InQuotes (text ++ b ∷ [])) text depth book else None
 
-abbrev pub step_in : Place → ℕ → Book → ℕ → Step
+abbrev pub step_in : PlaceInText → ℕ → Book → ℕ → Step
 step_in Start depth book b = silent (started depth book b)
 step_in AfterOne depth book b = silent (if b == 187 then Some (state_at AfterTwo depth book) else None)
 step_in AfterTwo depth book b = silent (if b == 191 then Some (state_at (Between true) depth book) else None)
@@ -327,7 +327,7 @@ abbrev pub resting : ℕ → Option Book → Outcome
 resting depth book = record { games = []; whole = is_at_rest depth book }
 
 -- the end of the text
-abbrev pub finished_in : Place → ℕ → Book → Outcome
+abbrev pub finished_in : PlaceInText → ℕ → Book → Outcome
 finished_in Start depth book = resting depth (Some book)
 finished_in (Between fresh) depth book = resting depth (Some book)
 finished_in InLine depth book = resting depth (Some book)
@@ -336,7 +336,7 @@ finished_in (InWord glyph word) depth book =
 finished_in _ depth book = nothing_read
 
 -- what the end of the text makes of a state: maybe a game, and the state behind it, unless the text may not end there
-abbrev pub ended_in : Place → ℕ → Book → Step
+abbrev pub ended_in : PlaceInText → ℕ → Book → Step
 ended_in Start depth book = silent (Some (state_at (Between false) depth book))
 ended_in (Between fresh) depth book = silent (Some (state_at (Between false) depth book))
 ended_in InLine depth book = silent (Some (state_at (Between false) depth book))

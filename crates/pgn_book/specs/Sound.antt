@@ -3,8 +3,8 @@ use Rattle.std.specs.Prelude.{◌≡◌, ◌⊎◌, ℕ, ◌≤◌, List, length
 use Rattle.chess_model.specs.Limits.{most_halves}
 use Rattle.chess_model.specs.declared.variant.Variant.TheVariants.{Chess}
 use Rattle.chess_model.specs.Allowed.{IsLegal}
-use Rattle.pgn_book.specs.declared.place.Place.{Place}
-use Rattle.pgn_book.specs.declared.place.Place.TheVariants.{InWord, InQuotes, InStroke}
+use Rattle.pgn_book.specs.declared.place.PlaceInText.{PlaceInText}
+use Rattle.pgn_book.specs.declared.place.PlaceInText.TheVariants.{InWord, InQuotes, InStroke}
 use Rattle.pgn_book.specs.declared.stage.Stage.{Stage}
 use Rattle.pgn_book.specs.declared.stage.Stage.TheVariants.{Moves}
 use Rattle.pgn_book.specs.Lexing.{IsText}
@@ -28,7 +28,7 @@ pub record IsSoundBook (book : Book) : Type 0 where
   pub black : IsTextIfTold book.row.black
 
 -- words and texts stand outside of variations, and these stand in the moves; a text that has begun may stand in a tag
-abbrev pub IsSoundPlace : Place → ℕ → Stage → Type 0
+abbrev pub IsSoundPlace : PlaceInText → ℕ → Stage → Type 0
 IsSoundPlace (InWord glyph word) depth stage = depth ≡ 0
 IsSoundPlace (InQuotes text) depth stage = (depth ≡ 0) × IsText text
 IsSoundPlace (InStroke text) depth stage = (depth ≡ 0) × IsText text

@@ -1,7 +1,7 @@
 -- What the calls of the reader say of pieces and bytes.
 use Rattle.std.specs.Prelude.{◌≡◌, Bool, true, false, Option, Some, None}
 use Rattle.pgn_book.specs.declared.book.Read.{Read}
-use Rattle.pgn_book.specs.declared.place.Place.TheVariants.{Between}
+use Rattle.pgn_book.specs.declared.place.PlaceInText.TheVariants.{Between}
 use Rattle.pgn_book.specs.Reading.{Book, Taken, State, Step}
 
 -- it goes on, or it doesn't

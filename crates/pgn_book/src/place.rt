@@ -3,7 +3,7 @@ use crate::text::Text;
 
 /// Where the next byte stands among the pieces of a text.
 #[derive(Drop)]
-pub(crate) enum Place {
+pub(crate) enum PlaceInText {
     /// Before the first byte.
     Start,
     /// Behind the first byte of the mark of UTF-8.

@@ -1,12 +1,12 @@
 //! Reading PGN text a byte at a time.
 ghost use Rattle.std.specs.Prelude.{◌≡◌, ◌==◌, ◌∷◌, ◌++◌, [], if◌then◌else◌, IfOk, OnErr, OnOk, Some, None};
 ghost use Rattle.pgn_book.specs.Reading.{State, adding, begun, closes, ended_in, first_state, in_braces, in_line, in_quotes, in_stroke, is_at_rest, longer, nested, opens, outside, piece_of, read_from, skipping, started, state_at, step, step_in, took};
-ghost use Rattle.pgn_book.specs.declared.place.Place.TheVariants.{InWord, InQuotes};
+ghost use Rattle.pgn_book.specs.declared.place.PlaceInText.TheVariants.{InWord, InQuotes};
 ghost use Rattle.pgn_book.specs.Taking.{IsStep, IsTaken, between, on_if};
 
 use crate::book::{Book, Read, silent};
 use crate::bytes::{is_among, is_sign, is_space, is_word_byte};
-use crate::place::Place;
+use crate::place::PlaceInText;
 use crate::text::Text;
 use memory::NoMemory;
 use std::alloc::Global;
@@ -19,7 +19,7 @@ const MOST_DEPTH: usize = 100;
 /// Where the next byte stands, how deep inside variations, and what has come of the game.
 #[derive(Drop)]
 pub(crate) struct Walk {
-    place: Place,
+    place: PlaceInText,
     depth: usize,
     book: Book,
 }
@@ -38,7 +38,7 @@ impl Walk {
         ensures { result ≡ first_state }
     {
         Walk {
-            place: Place::Start,
+            place: PlaceInText::Start,
             depth: 0,
             book: Book::new(alloc),
         }
@@ -49,16 +49,20 @@ impl Walk {
         ensures taken { IfOk result (λ read. IsStep read self.new (step self.old byte)) }
         ensures unchanged { OnErr result (self.new ≡ self.old) }
     {
-        match mem::replace(&mut self.place, Place::InLine) {
-            Place::Start => Ok(silent(self.start(byte))),
-            Place::AfterOne => Ok(silent(self.mark(byte, 0xBB, Place::AfterTwo))),
-            Place::AfterTwo => Ok(silent(self.mark(byte, 0xBF, Place::Between { fresh: true }))),
-            Place::Between { fresh } => Ok(silent(self.begin(fresh, byte))),
-            Place::InLine => Ok(silent(self.pass_line(byte))),
-            Place::InBraces => Ok(silent(self.pass_braces(byte))),
-            Place::InWord { glyph, word } => self.go_on(alloc, glyph, word, byte),
-            Place::InQuotes(text) => Ok(silent(self.quote(text, byte))),
-            Place::InStroke(text) => Ok(silent(self.stroke(text, byte))),
+        match mem::replace(&mut self.place, PlaceInText::InLine) {
+            PlaceInText::Start => Ok(silent(self.start(byte))),
+            PlaceInText::AfterOne => Ok(silent(self.mark(byte, 0xBB, PlaceInText::AfterTwo))),
+            PlaceInText::AfterTwo => Ok(silent(self.mark(
+                byte,
+                0xBF,
+                PlaceInText::Between { fresh: true },
+            ))),
+            PlaceInText::Between { fresh } => Ok(silent(self.begin(fresh, byte))),
+            PlaceInText::InLine => Ok(silent(self.pass_line(byte))),
+            PlaceInText::InBraces => Ok(silent(self.pass_braces(byte))),
+            PlaceInText::InWord { glyph, word } => self.go_on(alloc, glyph, word, byte),
+            PlaceInText::InQuotes(text) => Ok(silent(self.quote(text, byte))),
+            PlaceInText::InStroke(text) => Ok(silent(self.stroke(text, byte))),
         }
     }
 
@@ -70,11 +74,11 @@ impl Walk {
             (ended_in self.old.place self.old.depth self.old.book)) }
         ensures unchanged { OnErr result (self.new ≡ self.old) }
     {
-        match mem::replace(&mut self.place, Place::Between { fresh: false }) {
-            Place::Start => Ok(silent(true)),
-            Place::Between { fresh: _ } => Ok(silent(true)),
-            Place::InLine => Ok(silent(true)),
-            Place::InWord { glyph, word } => self.take_word(alloc, glyph, word),
+        match mem::replace(&mut self.place, PlaceInText::Between { fresh: false }) {
+            PlaceInText::Start => Ok(silent(true)),
+            PlaceInText::Between { fresh: _ } => Ok(silent(true)),
+            PlaceInText::InLine => Ok(silent(true)),
+            PlaceInText::InWord { glyph, word } => self.take_word(alloc, glyph, word),
             _ => Ok(silent(false)),
         }
     }
@@ -83,7 +87,7 @@ impl Walk {
     pub(crate) fn rest(&mut self)
         ensures { self.new ≡ between self.old }
     {
-        self.place = Place::Between { fresh: false };
+        self.place = PlaceInText::Between { fresh: false };
     }
 
     /// Whether nothing of a game is left, at the end of a text.
@@ -98,14 +102,14 @@ impl Walk {
         ensures { on_if result self.new ≡ started self.old.depth self.old.book byte }
     {
         if byte == 0xEF {
-            self.place = Place::AfterOne;
+            self.place = PlaceInText::AfterOne;
             return true;
         }
         self.begin(true, byte)
     }
 
     /// Takes a byte of the mark of UTF-8.
-    fn mark(&mut self, byte: u8, wanted: u8, behind: Place) -> bool
+    fn mark(&mut self, byte: u8, wanted: u8, behind: PlaceInText) -> bool
         ensures { on_if result self.new
             ≡ (if byte == wanted then Some (state_at behind self.old.depth self.old.book) else None) }
     {
@@ -123,11 +127,11 @@ impl Walk {
         if is_word_byte(byte) && self.depth == 0 {
             let mut word = Text::new();
             word.push(byte);
-            self.place = Place::InWord { glyph: false, word };
+            self.place = PlaceInText::InWord { glyph: false, word };
             return true;
         }
         if is_space(byte) {
-            self.place = Place::Between {
+            self.place = PlaceInText::Between {
                 fresh: byte == b'\n',
             };
             return true;
@@ -140,15 +144,15 @@ impl Walk {
         ensures { on_if result self.new ≡ skipping fresh self.old.depth self.old.book byte }
     {
         if byte == b'%' && fresh {
-            self.place = Place::InLine;
+            self.place = PlaceInText::InLine;
             return true;
         }
         if byte == b';' {
-            self.place = Place::InLine;
+            self.place = PlaceInText::InLine;
             return true;
         }
         if byte == b'{' {
-            self.place = Place::InBraces;
+            self.place = PlaceInText::InBraces;
             return true;
         }
         self.nest(byte)
@@ -167,7 +171,7 @@ impl Walk {
         if self.depth == 0 {
             return self.outside(byte);
         }
-        self.place = Place::Between { fresh: false };
+        self.place = PlaceInText::Between { fresh: false };
         self.book.pass_over()
     }
 
@@ -178,7 +182,7 @@ impl Walk {
             return false;
         }
         self.depth += 1;
-        self.place = Place::Between { fresh: false };
+        self.place = PlaceInText::Between { fresh: false };
         self.book.pass_over()
     }
 
@@ -189,7 +193,7 @@ impl Walk {
             return false;
         }
         self.depth -= 1;
-        self.place = Place::Between { fresh: false };
+        self.place = PlaceInText::Between { fresh: false };
         self.book.pass_over()
     }
 
@@ -199,18 +203,18 @@ impl Walk {
         ensures { on_if result self.new ≡ outside self.old.book byte }
     {
         if byte == b'$' {
-            self.place = Place::InWord {
+            self.place = PlaceInText::InWord {
                 glyph: true,
                 word: Text::new(),
             };
             return true;
         }
         if byte == b'"' {
-            self.place = Place::InQuotes(Text::new());
+            self.place = PlaceInText::InQuotes(Text::new());
             return true;
         }
         if is_sign(byte) {
-            self.place = Place::Between { fresh: false };
+            self.place = PlaceInText::Between { fresh: false };
             return self.book.sign(byte);
         }
         false
@@ -220,10 +224,10 @@ impl Walk {
         ensures { on_if result self.new ≡ in_line self.old.depth self.old.book byte }
     {
         if byte == b'\n' {
-            self.place = Place::Between { fresh: true };
+            self.place = PlaceInText::Between { fresh: true };
             return true;
         }
-        self.place = Place::InLine;
+        self.place = PlaceInText::InLine;
         true
     }
 
@@ -231,10 +235,10 @@ impl Walk {
         ensures { on_if result self.new ≡ in_braces self.old.depth self.old.book byte }
     {
         if byte == b'}' {
-            self.place = Place::Between { fresh: false };
+            self.place = PlaceInText::Between { fresh: false };
             return true;
         }
-        self.place = Place::InBraces;
+        self.place = PlaceInText::InBraces;
         true
     }
 
@@ -270,7 +274,7 @@ impl Walk {
         match self.book.word(alloc, &word) {
             Ok(read) => Ok(read),
             Err(lacking) => {
-                self.place = Place::InWord { glyph, word };
+                self.place = PlaceInText::InWord { glyph, word };
                 Err(lacking)
             },
         }
@@ -284,7 +288,7 @@ impl Walk {
             return false;
         }
         word.push(byte);
-        self.place = Place::InWord { glyph, word };
+        self.place = PlaceInText::InWord { glyph, word };
         true
     }
 
@@ -293,11 +297,11 @@ impl Walk {
         ensures { on_if result self.new ≡ in_quotes text self.old.depth self.old.book byte }
     {
         if byte == b'"' {
-            self.place = Place::Between { fresh: false };
+            self.place = PlaceInText::Between { fresh: false };
             return self.book.quote(&text);
         }
         if byte == b'\\' {
-            self.place = Place::InStroke(text);
+            self.place = PlaceInText::InStroke(text);
             return true;
         }
         if byte < 32 {
@@ -324,7 +328,7 @@ impl Walk {
             return false;
         }
         text.push(byte);
-        self.place = Place::InQuotes(text);
+        self.place = PlaceInText::InQuotes(text);
         true
     }
 }

@@ -22,7 +22,6 @@ mod seat_line;
 mod words;
 
 pub use draws::{Draws, draws_begin};
-pub use fics_words::{Duplicate, NoMemory};
 pub use laws::{one_reading, order_by_steps, order_of_two};
 pub use order::Attendance;
 pub use script::{ScriptEvent, ScriptLine, read_script};

@@ -8,7 +8,8 @@ ghost use Rattle.replay_core.specs.declared.script.ScriptEvent.{ScriptEvent};
 
 use crate::words::cut_number;
 use clock_ledger::LAST_MOMENT;
-use fics_words::{Line, NoMemory, read_number};
+use fics_words::{Line, read_number};
+use memory::NoMemory;
 use std::alloc::Global;
 
 /// The most sessions that a script may have.

@@ -10,7 +10,8 @@ ghost use Rattle.replay_core.specs.declared.seat_line.SeatLine.{SeatLine};
 use crate::words::{cut_handle, cut_number};
 use chess_model::{Colour, MOST_TIME, Terms, Variant, read_variant};
 use collections::Listed;
-use fics_words::{Handle, Line, NoMemory};
+use fics_words::{Handle, Line};
+use memory::NoMemory;
 use std::alloc::Global;
 
 /// Who plays what at the start of a script.

@@ -4,7 +4,7 @@ ghost use Rattle.seek_match.specs.Matches.{concerns, is_between, is_to};
 
 use chess_model::Terms;
 use collections::Predicate;
-use fics_words::{Duplicate, NoMemory};
+use memory::{Duplicate, NoMemory};
 
 /// A game that a player offers to one other: by which session, to which, and on which terms.
 #[derive(Clone, Copy)]

@@ -5,7 +5,7 @@ ghost use Rattle.seek_match.specs.Matches.{is_between};
 
 use crate::challenge::{ByPlayer, Challenge, NotBetween, ToPlayer, WithoutPlayer};
 use collections::{Predicate, Reserved, find};
-use fics_words::{Duplicate, NoMemory};
+use memory::{Duplicate, NoMemory};
 use std::alloc::Global;
 use std::marker::Model;
 

@@ -4,7 +4,7 @@ ghost use Rattle.seek_match.specs.Seeks.{is_by};
 
 use chess_model::Terms;
 use collections::Predicate;
-use fics_words::{Duplicate, NoMemory};
+use memory::{Duplicate, NoMemory};
 use tables::Keyed;
 
 /// A game that a player offers to whoever takes it: under which number, by which session, and on which terms.

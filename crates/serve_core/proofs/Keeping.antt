@@ -136,7 +136,7 @@ module _ {C : Type 0} (shows : C → ℕ → Bool) (hall : TableId) (clock : C) 
       → Goes door door' (λ before after. after ≡ record before { quiets = before.quiets + 1 }) → MadeTurn end before after pass new → Underway shows hall clock (supply_then end supply) door' new waiting
   kept_quiet supply end before after door door' pass new waiting k goes turn =
       let R : DoorTale → DoorTale → Type 0 = λ before after. after ≡ record before { quiets = before.quiets + 1 } in
-      let joined : new.joined ≡ pass.joined = ap (λ p. p.joined) turn.place in
+      let joined : new.joined ≡ pass.joined = ap (λ p. p.joined) turn.shared in
       let splits = turn_splits end before after pass new turn in
       let came : (m : ℕ) (link : Option Tale) (a b : DoorTale) → R a b → CameAs m link a → CameAs m link b = λ m link a b e p. subst (λ (xs : List (Option Tale)). CameAs m link (record a { came = xs })) (sym (ap (λ (t : DoorTale). t.came) e)) p in
       let back : (m : ℕ) (link : Handed) (a b : DoorTale) → R a b → CameBack m link a → CameBack m link b = λ m link a b e p. subst (λ (xs : List (ℕ × Handed)). CameBack m link (record a { back = xs })) (sym (ap (λ (t : DoorTale). t.back) e)) p in

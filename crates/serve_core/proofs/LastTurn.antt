@@ -76,7 +76,7 @@ module _ (end : StewardEnd) (before after : Option Table) (old new : PassState) 
   first_joined = ap (λ (p : PassState). p.joined) t.looked.same
 
   pub last_joined : new.joined ≡ old.joined
-  last_joined = ap (λ (p : PassState). p.joined) t.looked_again.same ∙ ap (λ p. p.joined) t.made.place ∙ first_joined
+  last_joined = ap (λ (p : PassState). p.joined) t.looked_again.same ∙ ap (λ p. p.joined) t.made.shared ∙ first_joined
 
   pub last_made : new.made ≡ t.first.made ++ t.made.turn.entries
   last_made = ap (λ (p : PassState). p.made) t.looked_again.same ∙ turn_made end before after t.first t.mid t.made

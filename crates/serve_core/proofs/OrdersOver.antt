@@ -26,8 +26,8 @@ use Rattle.steward_core.specs.declared.clearing.ClearingEnd.TheVariants as clear
 use Rattle.steward_core.specs.declared.turn.StewardEnd.{StewardEnd}
 use Rattle.steward_core.specs.declared.turn.StewardEnd.TheVariants.{Done, KeeperFault, Memory}
 use Rattle.steward_core.specs.Clearing.{acts_of}
-use Rattle.steward_core.specs.Saving.{EndsSaving, IsRound, IsSaving, asks_orders, last_number, most_answers, orders_in, says_saved, tells_upto}
-use Rattle.steward_core.specs.Turn.{IsTurn, end_of_turn}
+use Rattle.steward_core.specs.Saving.{EndsSaving, IsSaveRound, IsSaving, asks_orders, last_number, most_answers, orders_in, says_saved, tells_upto}
+use Rattle.steward_core.specs.Turn.{IsStewardTurn, end_of_turn}
 use Rattle.steward_core.proofs.AgreedStill.{kept_behind, legal_back}
 use Rattle.steward_core.proofs.StatesLead.{one_lobby, put_lobby}
 use Rattle.serve_core.specs.Stewarding.{LeavesNoOrders, NoOrders}
@@ -91,7 +91,7 @@ module _ (ys : List Part) (w : IsWhole ys) (moment : ℕ) where
 
 -- ---- rounds
 
-round_over : (xs : List Part) (moment : ℕ) (entries : Log) (orders : List Order) → IsWhole xs → Legal house xs entries → IsRound moment entries orders → length orders < 16 → NoOrders (state house xs entries)
+round_over : (xs : List Part) (moment : ℕ) (entries : Log) (orders : List Order) → IsWhole xs → Legal house xs entries → IsSaveRound moment entries orders → length orders < 16 → NoOrders (state house xs entries)
 round_over xs moment entries orders w legal r few =
     let now : Legal house xs (r.first ∷ r.rest) = subst (Legal house xs) r.all legal in
     let k = r.first.session in
@@ -131,12 +131,12 @@ saved_so clearing.Memory (Done n) count e = absurd cc
 saved_so clearing.Memory KeeperFault count e = absurd cc
 saved_so clearing.Memory Memory count e = absurd cc
 
-turn_over : (xs : List Part) (moment count : ℕ) (entries : Log) (carried : List Order) → IsWhole xs → Legal house xs entries → IsTurn moment (Done count) entries carried → NoOrders (state house xs entries) ⊎ (count ≡ most_answers * 16)
+turn_over : (xs : List Part) (moment count : ℕ) (entries : Log) (carried : List Order) → IsWhole xs → Legal house xs entries → IsStewardTurn moment (Done count) entries carried → NoOrders (state house xs entries) ⊎ (count ≡ most_answers * 16)
 turn_over xs moment count entries carried w legal t =
     behind xs count t.first t.rest entries t.all w legal
     (λ whole now. saving_over (state house xs t.first) moment count t.rest carried whole now (subst (λ (e : StewardEnd). IsSaving moment e t.rest carried) (saved_so t.cleared t.saved count t.ends) t.saving))
 
-pub leaves_none : (end : StewardEnd) (xs : List Part) (moment : ℕ) (entries : Log) (carried : List Order) → IsWhole xs → Legal house xs entries → IsTurn moment end entries carried → LeavesNoOrders end (state house xs entries)
+pub leaves_none : (end : StewardEnd) (xs : List Part) (moment : ℕ) (entries : Log) (carried : List Order) → IsWhole xs → Legal house xs entries → IsStewardTurn moment end entries carried → LeavesNoOrders end (state house xs entries)
 leaves_none (Done count) xs moment entries carried w legal t = turn_over xs moment count entries carried w legal t
 leaves_none KeeperFault xs moment entries carried w legal t = tt
 leaves_none Memory xs moment entries carried w legal t = tt

@@ -7,13 +7,13 @@ use Rattle.lobby_shelf.specs.declared.order.Order.{Order}
 use Rattle.lobby_state.specs.declared.desk_in_use.DeskInUse.{DeskInUse}
 use Rattle.one_server.specs.declared.act.Timed.{Timed}
 use Rattle.one_server.specs.Running.{Log, RunnerState}
-use Rattle.hall_core.specs.Passes.{PassState, Place}
+use Rattle.hall_core.specs.Passes.{PassState, Fixed}
 use Rattle.steward_core.specs.declared.clearing.ClearingEnd.{ClearingEnd}
 use Rattle.steward_core.specs.declared.clearing.ClearingEnd.TheVariants as clearing
 use Rattle.steward_core.specs.declared.turn.StewardEnd.{StewardEnd}
 use Rattle.steward_core.specs.declared.turn.StewardEnd.TheVariants.{Done, KeeperFault, Memory}
 use Rattle.steward_core.specs.Clearing.{AreClears, AsksAndClears, IsPartOf, IsClearing, acts_of, clears, rows_told}
-use Rattle.steward_core.specs.Saving.{AreFullRounds, EndsSaving, IsCutShort, IsRound, IsSaving, last_number, says_saved, tells_upto}
+use Rattle.steward_core.specs.Saving.{AreFullRounds, EndsSaving, IsCutShort, IsSaveRound, IsSaving, last_number, says_saved, tells_upto}
 use Rattle.steward_core.specs.Turn.{end_of_turn}
 use Rattle.serve_core.specs.StewardLaws.{AreStewards, IsDone, IsStewards, times_asked, asks_once}
 use Rattle.serve_core.specs.Stewarding.{AreTurns, MayEnd, StewardTurn}
@@ -81,7 +81,7 @@ asks_told moment (Some upto) (e ∷ []) is =
     )
 asks_told moment (Some upto) (e ∷ (f ∷ es)) is = absurd cc
 
-asks_round : (moment : ℕ) (es : Log) (orders : List Order) → IsRound moment es orders → Asks 0 es
+asks_round : (moment : ℕ) (es : Log) (orders : List Order) → IsSaveRound moment es orders → Asks 0 es
 asks_round moment es orders p =
     let rest = asks_told moment (last_number orders) p.rest p.saved in
     let both : Asks 0 (p.first ∷ p.rest) = (
@@ -187,10 +187,10 @@ turns_as Ends Ends' h (suc n) made (before, last, turns, ends, is) = (before, la
 
 module _ (end : StewardEnd) (before after : Option Table) (old new : PassState) (turn : MadeTurn end before after old new) where
   pub turn_home : new.home ≡ old.home
-  turn_home = ap (λ (p : Place). p.hall) turn.place
+  turn_home = ap (λ (p : Fixed). p.hall) turn.shared
 
   pub turn_splits : new.splits ≡ old.splits
-  turn_splits = ap (λ (p : Place). p.splits) turn.place
+  turn_splits = ap (λ (p : Fixed). p.splits) turn.shared
 
   pub turn_number : new.number ≡ old.number
   turn_number = ap (λ (s : RunnerState). s.number) turn.turn.grew.same

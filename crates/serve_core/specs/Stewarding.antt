@@ -11,7 +11,7 @@ use Rattle.one_server.specs.Running.{Log}
 use Rattle.steward_core.specs.declared.turn.StewardEnd.{StewardEnd}
 use Rattle.steward_core.specs.declared.turn.StewardEnd.TheVariants.{Done, KeeperFault, Memory}
 use Rattle.steward_core.specs.Saving.{most_answers}
-use Rattle.steward_core.specs.Turn.{IsTurn}
+use Rattle.steward_core.specs.Turn.{IsStewardTurn}
 use Rattle.serve_core.specs.declared.end.ServeEnd.{ServeEnd}
 use Rattle.serve_core.specs.Stopping.{MayBeShort}
 
@@ -23,7 +23,7 @@ pub record StewardTurn : Type 0 where
   pub moment : ℕ
   pub carried : List Order
   -- such that
-  pub turn : IsTurn moment end entries carried
+  pub turn : IsStewardTurn moment end entries carried
 
 -- the turn was done; or it ended with a keeper fault, where there was one, or for want of memory, where it ran short
 abbrev pub MayEnd : Type 0 → Type 0 → StewardEnd → Type 0

@@ -2,7 +2,7 @@
 use Rattle.std.specs.Prelude.{◌≡◌, ℕ}
 use Rattle.std.specs.declared.option.Option.{Option}
 use Rattle.edge_traits.specs.Pairs.{Table}
-use Rattle.hall_core.specs.Passes.{HasLooked, PassState, place_of, runs_of}
+use Rattle.hall_core.specs.Passes.{HasLooked, PassState, fixed_of, runs_of}
 use Rattle.steward_core.specs.Agreement.{StaysAgreed}
 use Rattle.steward_core.specs.Turn.{TakesTurn}
 use Rattle.steward_core.specs.declared.turn.StewardEnd.{StewardEnd}
@@ -14,7 +14,7 @@ use Rattle.serve_core.specs.declared.settle.Supply.TheVariants.{Short}
 -- after
 pub record MadeTurn (end : StewardEnd) (before after : Option Table) (old new : PassState) : Type 0 where
   pub moment : ℕ
-  pub place : place_of new ≡ place_of old
+  pub shared : fixed_of new ≡ fixed_of old
   pub turn : TakesTurn moment end before after (runs_of old) (runs_of new)
   pub agrees : StaysAgreed before after (runs_of old) (runs_of new)
 

@@ -7,8 +7,8 @@ ghost use Rattle.serve_core.specs.Keeping.{Comes, KeepsLeft, Underway};
 ghost use Rattle.serve_core.specs.Outside.{Store};
 ghost use Rattle.serve_core.specs.Tending.{Tended, stand};
 
-use crate::place::Place;
 use crate::settle::Host;
+use crate::shared::Shared;
 use crate::worker::{start, work};
 use edge_traits::{Clock, Doorway, Gate};
 use std::alloc::Global;
@@ -20,7 +20,7 @@ use std::thread::{Scope, Threads};
 /// and else here.
 pub fn attend<'s, 'a: 's, E, T, C, G, D>(
     scope: &Scope<'s, E>,
-    place: &'s Place<'a, T, C, G>,
+    shared: &'s Shared<'a, T, C, G>,
     host: &mut Host<D::Link, C>,
     door: &mut D,
     ended: Option<Arc<AtomicBool, Global>>,
@@ -35,11 +35,11 @@ where
     requires fresh { IsNew (D.Link.faults link) (D.Link.tale link) }
     requires few { host.old.pass.splits < 2 ^ 31 }
     requires kept { (before : Option DoorTale)
-        × Underway C.shows place.now.hall.now place.now.clock.now host.old.supply before host.old.pass
+        × Underway C.shows shared.now.hall.now shared.now.clock.now host.old.supply before host.old.pass
         host.old.waiting.items
         × Goes before (D.tale door.old) (Comes (D.Link.tale link)) }
     requires room { OnSome ended (vec_len host.old.waiting < vec_capacity host.old.waiting) }
-    ensures kept { Underway C.shows place.now.hall.now place.now.clock.now host.new.supply (D.tale door.new)
+    ensures kept { Underway C.shows shared.now.hall.now shared.now.clock.now host.new.supply (D.tale door.new)
         host.new.pass host.new.waiting.items }
     ensures counted { host.new.pass.splits ≡ host.old.pass.splits + 1 }
     ensures opening { host.new.pass.opening ≡ host.old.pass.opening }
@@ -49,14 +49,14 @@ where
     ensures left { Goes (D.tale door.old) (D.tale door.new) KeepsLeft }
     ensures faults { D.faults door.new ≡ D.faults door.old }
 {
-    let pass = place.hall.split(&mut host.pass);
+    let pass = shared.hall.split(&mut host.pass);
     let Some(ended) = ended else {
-        let returned = work(place, pass, link);
-        host.settle(place.hall, door, returned);
+        let returned = work(shared, pass, link);
+        host.settle(shared.hall, door, returned);
         return;
     };
-    match start(scope, place, pass, link, ended) {
+    match start(scope, shared, pass, link, ended) {
         Ok(worker) => host.waiting.push_reserved(worker),
-        Err(returned) => host.settle(place.hall, door, returned),
+        Err(returned) => host.settle(shared.hall, door, returned),
     }
 }

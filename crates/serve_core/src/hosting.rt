@@ -8,9 +8,9 @@ ghost use Rattle.serve_core.specs.Tending.{Tended, stand};
 ghost use Rattle.serve_core.specs.declared.settle.Supply.TheVariants.{Enough};
 
 use crate::end::DoorEnd;
-use crate::place::Place;
 use crate::round::round;
 use crate::settle::{Host, Supply};
+use crate::shared::Shared;
 use edge_traits::{Clock, Doorway, Gate, Keeper};
 use hall_core::HallPass;
 use std::sync::Wait;
@@ -28,7 +28,7 @@ pub struct Hosted {
 /// Takes links until no more come, and serves each, and makes a turn of the steward over the keeper at each Quiet. The
 /// pass is the first one, from which none was split, and the door is unused.
 pub fn host_links<T, C, G, D, P>(
-    place: &Place<'_, T, C, G>,
+    shared: &Shared<'_, T, C, G>,
     pass: HallPass,
     door: &mut D,
     keeper: &mut P,
@@ -39,9 +39,9 @@ where
     G: Gate + Sync,
     D: Doorway,
     P: Keeper,
-    requires kept { Underway C.shows place.now.hall.now place.now.clock.now Enough (D.tale door.old) pass [] }
+    requires kept { Underway C.shows shared.now.hall.now shared.now.clock.now Enough (D.tale door.old) pass [] }
     requires none { pass.splits ≡ 0 }
-    ensures kept { Underway C.shows place.now.hall.now place.now.clock.now result.supply (D.tale door.new)
+    ensures kept { Underway C.shows shared.now.hall.now shared.now.clock.now result.supply (D.tale door.new)
         result.pass [] }
     ensures tended { Tended
         (stand pass Enough (D.tale door.old)
@@ -55,13 +55,13 @@ where
 {
     let (hosted, lent, lent_keeper) = thread::scope(
         thread::scope_env(),
-        place.rt,
+        shared.rt,
         |scope| -> (Hosted, &mut D, &mut P)
-            requires kept { Underway C.shows place.now.hall.now place.now.clock.now Enough (D.tale door.now) pass [] }
+            requires kept { Underway C.shows shared.now.hall.now shared.now.clock.now Enough (D.tale door.now) pass [] }
             requires none { pass.splits ≡ 0 }
             ensures lent { result.1.ghost_name ≡ door.entry.ghost_name }
             ensures lent_keeper { result.2.ghost_name ≡ keeper.entry.ghost_name }
-            ensures kept { Underway C.shows place.entry.now.hall.now place.entry.now.clock.now result.0.supply
+            ensures kept { Underway C.shows shared.entry.now.hall.now shared.entry.now.clock.now result.0.supply
                 (D.tale result.1.now) result.0.pass [] }
             ensures tended { Tended
                 (stand pass Enough (D.tale door.entry.now)
@@ -74,7 +74,7 @@ where
                 (D.faults door.entry.now) (D.faults result.1.now) }
             ensures counted { D.faults door.entry.now ≤ D.faults result.1.now }
         {
-            let hosted = take_links(scope, place, pass, door, keeper);
+            let hosted = take_links(scope, shared, pass, door, keeper);
             (hosted, door, keeper)
         },
     );
@@ -86,7 +86,7 @@ where
 /// Takes links until no more come, and waits for the workers.
 fn take_links<'s, 'a: 's, E, T, C, G, D, P>(
     scope: &Scope<'s, E>,
-    place: &'s Place<'a, T, C, G>,
+    shared: &'s Shared<'a, T, C, G>,
     pass: HallPass,
     door: &mut D,
     keeper: &mut P,
@@ -98,9 +98,9 @@ where
     D: Doorway,
     D::Link: 's,
     P: Keeper,
-    requires kept { Underway C.shows place.now.hall.now place.now.clock.now Enough (D.tale door.old) pass [] }
+    requires kept { Underway C.shows shared.now.hall.now shared.now.clock.now Enough (D.tale door.old) pass [] }
     requires none { pass.splits ≡ 0 }
-    ensures kept { Underway C.shows place.now.hall.now place.now.clock.now result.supply (D.tale door.new)
+    ensures kept { Underway C.shows shared.now.hall.now shared.now.clock.now result.supply (D.tale door.new)
         result.pass [] }
     ensures tended { Tended
         (stand pass Enough (D.tale door.old)
@@ -114,16 +114,16 @@ where
 {
     let mut host = Host {
         pass,
-        waiting: Vec::new(place.alloc),
+        waiting: Vec::new(shared.alloc),
         supply: Supply::Enough,
     };
     let mut count = 0;
-    for _ in place.rt.forever() {
-        let (after, so_far, end) = round(scope, place, host, door, keeper, count);
+    for _ in shared.rt.forever() {
+        let (after, so_far, end) = round(scope, shared, host, door, keeper, count);
         host = after;
         count = so_far;
         if let Some(end) = end {
-            return at_end(place, host, door, end);
+            return at_end(shared, host, door, end);
         }
     }
     unreachable!()
@@ -131,7 +131,7 @@ where
 
 /// Waits for all workers, once no more links are taken.
 fn at_end<T, C, G, D>(
-    place: &Place<'_, T, C, G>,
+    shared: &Shared<'_, T, C, G>,
     host: Host<D::Link, C>,
     door: &mut D,
     end: DoorEnd,
@@ -141,9 +141,9 @@ where
     C: Clock,
     G: Gate,
     D: Doorway,
-    requires kept { Underway C.shows place.now.hall.now place.now.clock.now host.supply (D.tale door.old)
+    requires kept { Underway C.shows shared.now.hall.now shared.now.clock.now host.supply (D.tale door.old)
         host.pass host.waiting.items }
-    ensures kept { Underway C.shows place.now.hall.now place.now.clock.now result.supply (D.tale door.new)
+    ensures kept { Underway C.shows shared.now.hall.now shared.now.clock.now result.supply (D.tale door.new)
         result.pass [] }
     ensures same { SameHall host.pass result.pass }
     ensures tended { (store : Store) → Tended
@@ -154,7 +154,7 @@ where
     ensures faults { D.faults door.new ≡ D.faults door.old }
 {
     let mut host = host;
-    host.settle_all(place, door);
+    host.settle_all(shared, door);
     let Host { pass, supply, .. } = host;
     Hosted { pass, supply, end }
 }

@@ -13,11 +13,11 @@ mod attend;
 mod end;
 mod hosting;
 mod laws;
-mod place;
 mod round;
 mod serve_call;
 mod serving;
 mod settle;
+mod shared;
 mod turn;
 mod worker;
 

@@ -13,8 +13,8 @@ ghost use Rattle.steward_core.specs.declared.turn.StewardEnd.TheVariants.{Keeper
 
 use crate::attend::attend;
 use crate::end::DoorEnd;
-use crate::place::Place;
 use crate::settle::{Host, Supply};
+use crate::shared::Shared;
 use crate::turn::turn;
 use edge_traits::{Came, Clock, Doorway, Gate, Keeper, Link};
 use hall_core::HallPass;
@@ -29,7 +29,7 @@ const MOST_LINKS: u32 = 1 << 31;
 /// of the steward is made. The answer says why no further link is taken, if none is.
 pub fn round<'s, 'a: 's, E, T, C, G, D, P>(
     scope: &Scope<'s, E>,
-    place: &'s Place<'a, T, C, G>,
+    shared: &'s Shared<'a, T, C, G>,
     host: Host<D::Link, C>,
     door: &mut D,
     keeper: &mut P,
@@ -44,10 +44,10 @@ where
     P: Keeper,
     requires few { count < 2 ^ 31 }
     requires count { host.pass.splits ≡ count }
-    requires kept { Underway C.shows place.now.hall.now place.now.clock.now host.supply (D.tale door.old)
+    requires kept { Underway C.shows shared.now.hall.now shared.now.clock.now host.supply (D.tale door.old)
         host.pass host.waiting.items }
     ensures count { result.0.pass.splits ≡ result.1 }
-    ensures kept { Underway C.shows place.now.hall.now place.now.clock.now result.0.supply (D.tale door.new)
+    ensures kept { Underway C.shows shared.now.hall.now shared.now.clock.now result.0.supply (D.tale door.new)
         result.0.pass result.0.waiting.items }
     ensures tended { Tended
         (stand host.pass host.supply (D.tale door.old)
@@ -61,15 +61,15 @@ where
         (D.faults door.old) (D.faults door.new)) }
 {
     let mut host = host;
-    host.settle_ended(place, door);
-    let ended = host.room_ahead(place.alloc);
+    host.settle_ended(shared, door);
+    let ended = host.room_ahead(shared.alloc);
     match door.next() {
         Came::Link(link) => {
-            attend(scope, place, &mut host, door, ended, link);
+            attend(scope, shared, &mut host, door, ended, link);
             let count = count + 1;
             (host, count, spent(count))
         }
-        Came::Quiet => (at_quiet(place, host, keeper), count, None),
+        Came::Quiet => (at_quiet(shared, host, keeper), count, None),
         Came::Closed => (host, count, Some(DoorEnd::Closed)),
         Came::Failed => (host, count, Some(DoorEnd::Failed)),
     }
@@ -77,11 +77,11 @@ where
 
 /// Makes a turn of the steward, as at a Quiet.
 fn at_quiet<T: Threads + Wait, C: Clock, G: Gate, L: Link + Drop, P: Keeper>(
-    place: &Place<'_, T, C, G>,
+    shared: &Shared<'_, T, C, G>,
     host: Host<L, C>,
     keeper: &mut P,
 ) -> Host<L, C>
-    requires here { host.pass.home ≡ place.now.hall.now }
+    requires here { host.pass.home ≡ shared.now.hall.now }
     ensures turn { (end : StewardEnd) × MadeTurn end (P.table keeper.old) (P.table keeper.new) host.pass result.pass
         × (result.supply ≡ supply_then end host.supply)
         × (end ≡ KeeperFault → Rose (P.faults keeper.old) (P.faults keeper.new)) }
@@ -93,7 +93,7 @@ fn at_quiet<T: Threads + Wait, C: Clock, G: Gate, L: Link + Drop, P: Keeper>(
         waiting,
         supply,
     } = host;
-    let (pass, end) = turn(place, pass, keeper);
+    let (pass, end) = turn(shared, pass, keeper);
     Host {
         pass,
         waiting,

@@ -17,8 +17,8 @@ ghost use Rattle.serve_core.specs.declared.end.ServeEnd.{ServeEnd};
 
 use crate::end::{DoorEnd, ServeEnd};
 use crate::hosting::host_links;
-use crate::place::Place;
 use crate::settle::Supply;
+use crate::shared::Shared;
 use crate::turn::turn;
 use edge_traits::{Clock, Doorway, Gate, Keeper, Sent, Sink};
 use hall_core::{Hall, HallPass};
@@ -86,20 +86,20 @@ where
     let Ok((hall, pass)) = Hall::open(alloc, lobby) else {
         return (ServeEnd::Memory, None);
     };
-    let place = Place {
+    let shared = Shared {
         rt,
         alloc,
         hall: &hall,
         clock,
         gate,
     };
-    let (pass, end) = serve_hall(&place, pass, door, keeper, sink);
+    let (pass, end) = serve_hall(&shared, pass, door, keeper, sink);
     (end, Some((hall, pass)))
 }
 
 /// Serves at a hall that was opened just now, and looks at the history at the end.
 fn serve_hall<T, D, C, P, K, G>(
-    place: &Place<'_, T, C, G>,
+    shared: &Shared<'_, T, C, G>,
     pass: HallPass,
     door: &mut D,
     keeper: &mut P,
@@ -112,11 +112,11 @@ where
     P: Keeper,
     K: Sink,
     G: Gate + Sync,
-    requires first { (opening : List Part) × (pass ≡ first_pass place.now.hall.now opening) }
+    requires first { (opening : List Part) × (pass ≡ first_pass shared.now.hall.now opening) }
     requires whole { IsWhole pass.opening }
     requires door { IfSome (D.tale door.old) IsUnused }
-    ensures hall { result.0.home ≡ place.now.hall.now }
-    ensures served { HasServedAll (C.shows place.now.clock.now) pass.opening result.1 (D.tale door.new)
+    ensures hall { result.0.home ≡ shared.now.hall.now }
+    ensures served { HasServedAll (C.shows shared.now.clock.now) pass.opening result.1 (D.tale door.new)
         (record { written = K.written sink.old; faults = K.faults sink.old })
         (record { written = K.written sink.new; faults = K.faults sink.new })
         (record { table = P.table keeper.old; faults = P.faults keeper.old })
@@ -133,14 +133,14 @@ where
 {
     match say_ready(sink) {
         Sent::All => {
-            let hosted = host_links(place, pass, door, keeper);
-            let (pass, last) = last_turn(place, hosted.pass, keeper);
+            let hosted = host_links(shared, pass, door, keeper);
+            let (pass, last) = last_turn(shared, hosted.pass, keeper);
             let sent = say_closed(sink);
             (pass, end_of(hosted.end, sent, last, hosted.supply))
         }
-        Sent::Failed => (last_turn(place, pass, keeper).0, ServeEnd::WriteFault),
+        Sent::Failed => (last_turn(shared, pass, keeper).0, ServeEnd::WriteFault),
         Sent::Memory => {
-            let (pass, last) = last_turn(place, pass, keeper);
+            let (pass, last) = last_turn(shared, pass, keeper);
             (
                 pass,
                 end_of(DoorEnd::Closed, Sent::Memory, last, Supply::Enough),
@@ -151,19 +151,19 @@ where
 
 /// The last turn of the steward. The pass looks at the whole history before it and behind it.
 fn last_turn<T: Threads + Wait, C: Clock, G: Gate, P: Keeper>(
-    place: &Place<'_, T, C, G>,
+    shared: &Shared<'_, T, C, G>,
     pass: HallPass,
     keeper: &mut P,
 ) -> (HallPass, StewardEnd)
-    requires here { pass.home ≡ place.now.hall.now }
+    requires here { pass.home ≡ shared.now.hall.now }
     ensures turn { TurnsLast result.1 (P.table keeper.old) (P.table keeper.new) pass result.0 }
     ensures fault { result.1 ≡ StewardEnd.KeeperFault → Rose (P.faults keeper.old) (P.faults keeper.new) }
     ensures counted { P.faults keeper.old ≤ P.faults keeper.new }
 {
     let mut pass = pass;
-    place.hall.look(&mut pass);
-    let (mut pass, end) = turn(place, pass, keeper);
-    place.hall.look(&mut pass);
+    shared.hall.look(&mut pass);
+    let (mut pass, end) = turn(shared, pass, keeper);
+    shared.hall.look(&mut pass);
     (pass, end)
 }
 

@@ -7,7 +7,7 @@ ghost use Rattle.serve_core.specs.Keeping.{KeepsLeft, SameHall, Underway, supply
 ghost use Rattle.serve_core.specs.Outside.{Store};
 ghost use Rattle.serve_core.specs.Tending.{Tended, stand};
 
-use crate::place::Place;
+use crate::shared::Shared;
 use crate::worker::{Returned, Worker};
 use edge_traits::{Clock, Doorway, Gate, Link};
 use hall_core::{Hall, HallPass};
@@ -69,14 +69,14 @@ impl<L: Link + Drop, C: Clock> Host<L, C> {
     }
 
     /// Settles with each worker that has ended.
-    pub fn settle_ended<T, G, D>(&mut self, place: &Place<'_, T, C, G>, door: &mut D)
+    pub fn settle_ended<T, G, D>(&mut self, shared: &Shared<'_, T, C, G>, door: &mut D)
     where
         T: Threads + Wait,
         G: Gate,
         D: Doorway<Link = L>,
-        requires { Underway C.shows place.now.hall.now place.now.clock.now self.old.supply (D.tale door.old)
+        requires { Underway C.shows shared.now.hall.now shared.now.clock.now self.old.supply (D.tale door.old)
             self.old.pass self.old.waiting.items }
-        ensures kept { Underway C.shows place.now.hall.now place.now.clock.now self.new.supply (D.tale door.new)
+        ensures kept { Underway C.shows shared.now.hall.now shared.now.clock.now self.new.supply (D.tale door.new)
             self.new.pass self.new.waiting.items }
         ensures same { SameHall self.old.pass self.new.pass }
         ensures tended { (store : Store) → Tended
@@ -89,8 +89,8 @@ impl<L: Link + Drop, C: Clock> Host<L, C> {
         while next < self.waiting.len() {
             if self.waiting[next].has_ended() {
                 let worker = self.waiting.remove(next);
-                let returned = worker.join(place.rt);
-                self.settle(place.hall, door, returned);
+                let returned = worker.join(shared.rt);
+                self.settle(shared.hall, door, returned);
             } else {
                 next += 1;
             }
@@ -98,14 +98,14 @@ impl<L: Link + Drop, C: Clock> Host<L, C> {
     }
 
     /// Waits for all workers, and settles with each.
-    pub fn settle_all<T, G, D>(&mut self, place: &Place<'_, T, C, G>, door: &mut D)
+    pub fn settle_all<T, G, D>(&mut self, shared: &Shared<'_, T, C, G>, door: &mut D)
     where
         T: Threads + Wait,
         G: Gate,
         D: Doorway<Link = L>,
-        requires { Underway C.shows place.now.hall.now place.now.clock.now self.old.supply (D.tale door.old)
+        requires { Underway C.shows shared.now.hall.now shared.now.clock.now self.old.supply (D.tale door.old)
             self.old.pass self.old.waiting.items }
-        ensures kept { Underway C.shows place.now.hall.now place.now.clock.now self.new.supply (D.tale door.new)
+        ensures kept { Underway C.shows shared.now.hall.now shared.now.clock.now self.new.supply (D.tale door.new)
             self.new.pass [] }
         ensures same { SameHall self.old.pass self.new.pass }
         ensures tended { (store : Store) → Tended
@@ -115,8 +115,8 @@ impl<L: Link + Drop, C: Clock> Host<L, C> {
         ensures faults { D.faults door.new ≡ D.faults door.old }
     {
         while let Some(worker) = self.waiting.pop() {
-            let returned = worker.join(place.rt);
-            self.settle(place.hall, door, returned);
+            let returned = worker.join(shared.rt);
+            self.settle(shared.hall, door, returned);
         }
     }
 }

@@ -3,7 +3,7 @@
 ghost use Rattle.std.specs.Prelude.{◌≡◌, [], IfOk, IfErr};
 ghost use Rattle.serve_core.specs.Working.{Due, IsPaid};
 
-use crate::place::Place;
+use crate::shared::Shared;
 use core::thread::Stack;
 use edge_traits::{Clock, Gate, Link};
 use hall_core::HallPass;
@@ -80,19 +80,19 @@ impl<L: Link + Drop, C: Clock> Worker<L, C> {
 
 /// Serves a link, which has counted no fault, with a pass, to its end.
 pub fn work<T: Threads + Wait, C: Clock, G: Gate, L: Link + Drop>(
-    place: &Place<'_, T, C, G>,
+    shared: &Shared<'_, T, C, G>,
     pass: HallPass,
     link: L,
 ) -> Returned<L>
-    requires here { pass.home ≡ place.now.hall.now }
+    requires here { pass.home ≡ shared.now.hall.now }
     requires new { (pass.made ≡ []) × (pass.joined ≡ []) }
     requires faults { L.faults link ≡ 0 }
-    ensures { IsPaid C.shows (record { pass = pass; link = L.tale link; clock = place.now.clock.now })
+    ensures { IsPaid C.shows (record { pass = pass; link = L.tale link; clock = shared.now.clock.now })
         result.end result.pass (record { tale = L.tale result.link; faults = L.faults result.link }) }
 {
-    let mut seat = place.hall.seat(pass, place.gate, place.rt);
+    let mut seat = shared.hall.seat(pass, shared.gate, shared.rt);
     let mut link = link;
-    let end = serve_link(place.alloc, &mut seat, &mut link, place.clock);
+    let end = serve_link(shared.alloc, &mut seat, &mut link, shared.clock);
     Returned {
         pass: seat.into_pass(),
         link,
@@ -104,7 +104,7 @@ pub fn work<T: Threads + Wait, C: Clock, G: Gate, L: Link + Drop>(
 /// what the worker would have given up is the answer.
 pub fn start<'s, 'a: 's, E, T, C, G, L>(
     scope: &Scope<'s, E>,
-    place: &'s Place<'a, T, C, G>,
+    shared: &'s Shared<'a, T, C, G>,
     pass: HallPass,
     link: L,
     ended: Arc<AtomicBool, Global>,
@@ -114,34 +114,34 @@ where
     C: Clock + Sync,
     G: Gate + Sync,
     L: Link + Send + Drop + 's,
-    requires here { pass.home ≡ place.now.hall.now }
+    requires here { pass.home ≡ shared.now.hall.now }
     requires new { (pass.made ≡ []) × (pass.joined ≡ []) }
     requires faults { L.faults link ≡ 0 }
     ensures started { IfOk result (λ w. w ≡ record {
       pass = pass;
       link = L.tale link;
-      clock = place.now.clock.now;
+      clock = shared.now.clock.now;
     }) }
     ensures served { IfErr result (λ r. IsPaid C.shows
-        (record { pass = pass; link = L.tale link; clock = place.now.clock.now }) r.end r.pass
+        (record { pass = pass; link = L.tale link; clock = shared.now.clock.now }) r.end r.pass
         (record { tale = L.tale r.link; faults = L.faults r.link })) }
 {
     let promise = Worked {
         pass: Snapshot::of(&pass),
         link: Snapshot::of(&link),
-        clock: Snapshot::of(place.clock),
+        clock: Snapshot::of(shared.clock),
     };
     let Ok(flag) = Arc::try_clone(&ended) else {
-        return Err(work(place, pass, link));
+        return Err(work(shared, pass, link));
     };
     let job = move || -> Returned<L>
-        requires here { pass.home ≡ place.now.hall.now }
+        requires here { pass.home ≡ shared.now.hall.now }
         requires new { (pass.made ≡ []) × (pass.joined ≡ []) }
         requires faults { L.faults link ≡ 0 }
-        ensures { IsPaid C.shows (record { pass = pass; link = L.tale link; clock = place.entry.now.clock.now })
+        ensures { IsPaid C.shows (record { pass = pass; link = L.tale link; clock = shared.entry.now.clock.now })
             result.end result.pass (record { tale = L.tale result.link; faults = L.faults result.link }) }
     {
-        let returned = work(place, pass, link);
+        let returned = work(shared, pass, link);
         flag.store(true, Ordering::SeqCst);
         returned
     };

@@ -7,7 +7,7 @@ use Rattle.session_core.specs.Course.{Course}
 use Rattle.session_core.specs.Going.{Answered, Broke, BrokeOff, Left, LeftInPart}
 use Rattle.session_core.specs.Memory.{MemoryState, is_gone}
 use Rattle.session_core.specs.Remembering.{Remembers}
-use Rattle.session_core.specs.Session.{leaving}
+use Rattle.session_core.specs.Session.{leaving_course}
 use Rattle.session_core.specs.Stages.{Settles}
 use Rattle.session_core.proofs.Going.{answered_after, answered_left, broke_next, broke_unmade, made_none, on_begun}
 
@@ -23,8 +23,8 @@ module _ (moment : ℕ) where
       inl (broke_next moment course coming old before out old there out' new after (on_begun moment course coming old before there out out' known s is) b)
 
   -- it left
-  pub broke_leaving : (course : Course) (old : RunnerState) (before there : MemoryState) (out out' : List ℕ) (new : RunnerState) (after : MemoryState) → Settles course (leaving there) out out'
-      → LeftInPart (leaving there) moment old new → is_gone after ≡ true → Broke course moment old before new after
+  pub broke_leaving : (course : Course) (old : RunnerState) (before there : MemoryState) (out out' : List ℕ) (new : RunnerState) (after : MemoryState) → Settles course (leaving_course there) out out'
+      → LeftInPart (leaving_course there) moment old new → is_gone after ≡ true → Broke course moment old before new after
   broke_leaving course old before there out out' new after s part gone = inr (record { memory = there; quits = sym s.goes; part = part; gone = gone })
 
   pub answered_going : (result : Result (Unit {0}) NoMemory) (course coming : Course) (old new : RunnerState) (out out' out'' : List ℕ) (after : MemoryState) → IsKnown old → Settles course coming out out'

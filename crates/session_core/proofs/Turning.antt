@@ -30,7 +30,7 @@ use Rattle.session_core.specs.Inputs.{ack_course, asked_course, input_course, is
 use Rattle.session_core.specs.Laws.{IsOfLogin, TurnsBehind, asks_to_enter, first_act, is_move, places_after, places_by}
 use Rattle.session_core.specs.Login.{entering, entering_named, is_guest, naming, proving}
 use Rattle.session_core.specs.Memory.{MemoryState, has_entered, is_in, present_in, told}
-use Rattle.session_core.specs.Session.{acked_at, behind, given_up, is_accepted, leave_games, leaving, round, says_over, visits}
+use Rattle.session_core.specs.Session.{acked_at, behind, given_up, is_accepted, leave_games, leaving_course, round, says_over, visits}
 use Rattle.session_core.specs.Visits.{visits_in}
 use Rattle.session_core.proofs.Rounds.{Same, ToRound, at_round, by_asked, written}
 use Rattle.sha2.specs.Sha256.{sha256}
@@ -111,7 +111,7 @@ unfolding NoMoves
 still_leave [] memory = (refl, λ r. tt)
 still_leave (visit ∷ rest) memory = (refl, λ r. (refl, λ q. still_leave rest memory))
 
-still_leaving : (memory : MemoryState) → NoMoves (leaving memory)
+still_leaving : (memory : MemoryState) → NoMoves (leaving_course memory)
 unfolding NoMoves
 still_leaving memory = (refl, λ r. still_leave (visits_in (told memory r)) (told memory r))
 

@@ -4,7 +4,7 @@ use Rattle.one_server.specs.Running.{Log, Made, RunnerState}
 use Rattle.session_core.specs.Course.{Course, Done, Follows, Begins, Passes}
 use Rattle.session_core.specs.Memory.{MemoryState, has_entered, is_gone}
 use Rattle.session_core.specs.Remembering.{Remembers}
-use Rattle.session_core.specs.Session.{leaving}
+use Rattle.session_core.specs.Session.{leaving_course}
 use Rattle.session_core.specs.Stages.{settled}
 
 -- whoever follows the rest of a course from here, to its end or so far, has followed the whole one, with these entries
@@ -70,8 +70,8 @@ pub record BrokeOff (course : Course) (moment : ℕ) (old : RunnerState) (before
 -- that ran out of memory, and is gone
 pub record LeftShort (course : Course) (moment : ℕ) (old new : RunnerState) (after : MemoryState) : Type 0 where
   pub memory : MemoryState
-  pub quits : settled course ≡ leaving memory
-  pub part : LeftInPart (leaving memory) moment old new
+  pub quits : settled course ≡ leaving_course memory
+  pub part : LeftInPart (leaving_course memory) moment old new
   pub gone : is_gone after ≡ true
 
 -- an input ran out of memory
@@ -81,4 +81,4 @@ Broke course moment old before new after =
 
 -- the acts of leaving, where the session has entered
 abbrev pub departing : MemoryState → Course
-departing memory = if has_entered memory then leaving memory else Done memory
+departing memory = if has_entered memory then leaving_course memory else Done memory

@@ -1,4 +1,4 @@
-pub mod Memory
+pub mod SessionMemory
 pub mod Visits
 pub mod Course
 pub mod Texts

@@ -223,8 +223,8 @@ leave_games (visit ∷ rest) memory =
 
 -- the acts of leaving: the places and then the games at which the session looks on. Where Going is passed over, the
 -- places are those that it remembers
-abbrev pub leaving : MemoryState → Course
-leaving memory = Asks (Lobby lobby_act.Going) (λ reply. leave_games (visits_in (told memory reply)) (told memory reply))
+abbrev pub leaving_course : MemoryState → Course
+leaving_course memory = Asks (Lobby lobby_act.Going) (λ reply. leave_games (visits_in (told memory reply)) (told memory reply))
 
 -- the setting of a variable
 abbrev pub setting : Var → Bool → Act
@@ -286,7 +286,7 @@ command_course (command.Register password) stamp memory =
     to_server (Lobby (lobby_act.Register (sha256 password))) memory
 command_course (command.Alias name text) stamp memory = by_itself (set_alias name text memory)
 command_course (command.Unalias name) stamp memory = by_itself (unset_alias name memory)
-command_course command.Quit stamp memory = leaving memory
+command_course command.Quit stamp memory = leaving_course memory
 
 -- an acknowledgement reaches the present place, if there is any; it prints nothing, and no round follows
 abbrev pub acked_at : ℕ → Option Place → MemoryState → Course

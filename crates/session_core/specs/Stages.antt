@@ -27,7 +27,7 @@ use Rattle.session_core.specs.Course.{Course, Done, Asks, Writes}
 use Rattle.session_core.specs.Memory.{MemoryState, departed, has_entered, is_gone, stands_at, told, without_observed}
 use Rattle.session_core.specs.Login.{admitted, entered_as}
 use Rattle.session_core.specs.Remembering.{asks_places}
-use Rattle.session_core.specs.Session.{acking, answered, at_place, behind, clear_at, finding, leave_games, leaving, placing, reacted, reacting, remarking}
+use Rattle.session_core.specs.Session.{acking, answered, at_place, behind, clear_at, finding, leave_games, leaving_course, placing, reacted, reacting, remarking}
 use Rattle.session_core.specs.Session.{moved, moving, round, rounding, says_over, shown, watched, watching}
 use Rattle.session_core.specs.Texts.{waiting_text}
 use Rattle.session_core.specs.Visits.{visits_in}
@@ -183,7 +183,7 @@ MayLeave leaving_next.End = Unit {0}
 
 -- the course of what comes first
 abbrev pub first_course : First → MemoryState → Course
-first_course first.Leaving memory = leaving memory
+first_course first.Leaving memory = leaving_course memory
 first_course (first.Going next) memory = course_of next memory
 
 -- and it may be made, by a session that has entered where it leaves

@@ -17,8 +17,9 @@ use crate::stage::{ask_place, ask_round};
 use crate::standing::{LinkMark, Standing};
 use crate::texts::put_refusal;
 use command_words::read_command;
-use fics_words::{Fail, Line, NoMemory, Refusal};
+use fics_words::{Fail, Line, Refusal};
 use line_reader::Incoming;
+use memory::NoMemory;
 use std::alloc::Global;
 
 /// How the first line of a client begins that stamps its lines.
@@ -27,7 +28,7 @@ const GREETING: &[u8] = b"TIMESTAMP|";
 /// Begins to answer an input: writes what stands before its first act.
 pub(crate) fn begin(
     alloc: Global,
-    memory: &mut Memory,
+    memory: &mut SessionMemory,
     input: Input,
     out: &mut Vec<u8>,
 ) -> Result<First, NoMemory>
@@ -46,7 +47,7 @@ pub(crate) fn begin(
 }
 
 /// A Quiet makes the round, once the session has entered.
-fn begin_quiet(memory: &Memory) -> First
+fn begin_quiet(memory: &SessionMemory) -> First
     ensures goes { first_course result memory.now ≡ quiet_course memory.now.standing memory.now }
     ensures ready { IsPrepared memory.now result }
 {
@@ -59,7 +60,7 @@ fn begin_quiet(memory: &Memory) -> First
 /// A line: the first one may be the greeting, which marks the link.
 fn begin_line(
     alloc: Global,
-    memory: &mut Memory,
+    memory: &mut SessionMemory,
     line: Incoming,
     out: &mut Vec<u8>,
 ) -> Result<First, NoMemory>
@@ -82,7 +83,7 @@ fn begin_line(
 /// A line that is no greeting.
 fn answer_line(
     alloc: Global,
-    memory: &mut Memory,
+    memory: &mut SessionMemory,
     line: Incoming,
     out: &mut Vec<u8>,
 ) -> Result<First, NoMemory>
@@ -109,7 +110,7 @@ fn answer_line(
 /// A text, by where the session stands.
 fn answer_text(
     alloc: Global,
-    memory: &mut Memory,
+    memory: &mut SessionMemory,
     text: &Line,
     stamp: Option<u32>,
     out: &mut Vec<u8>,
@@ -133,7 +134,7 @@ fn answer_text(
 /// A text once the session has entered: a command, or the cause why it is none and the round.
 fn read_text(
     alloc: Global,
-    memory: &mut Memory,
+    memory: &mut SessionMemory,
     text: &Line,
     stamp: Option<u32>,
     out: &mut Vec<u8>,
@@ -159,7 +160,7 @@ fn read_text(
 }
 
 /// An acknowledgement counts once the session has entered.
-fn begin_ack(memory: &Memory, stamp: u32) -> First
+fn begin_ack(memory: &SessionMemory, stamp: u32) -> First
     requires { IsStamp stamp }
     ensures goes { first_course result memory.now ≡ ack_course stamp memory.now.standing memory.now }
     ensures ready { IsPrepared memory.now result }
@@ -171,7 +172,7 @@ fn begin_ack(memory: &Memory, stamp: u32) -> First
 }
 
 /// Refuses a line by the session itself.
-fn refuse(cause: Refusal, memory: &mut Memory, out: &mut Vec<u8>) -> Result<First, NoMemory>
+fn refuse(cause: Refusal, memory: &mut SessionMemory, out: &mut Vec<u8>) -> Result<First, NoMemory>
     ensures settles { IfOk result (λ first. Settles (refusing cause memory.old.standing memory.old)
         (first_course first memory.new) out.old.items out.new.items) }
     ensures ready { IfOk result (IsPrepared memory.new) }

@@ -16,15 +16,16 @@ use crate::session_memory::Memory;
 use crate::stage::{Stage, ask_round};
 use crate::watching::{observe, remark, unobserve};
 use command_words::Command;
-use fics_words::{Handle, HandleKey, NoMemory};
+use fics_words::{Handle, HandleKey};
 use linked_desk::{DeskAct, Offer};
 use lobby_state::{LobbyAct, PairAct, Var, WhichList};
 use login_handles::digest_of;
+use memory::NoMemory;
 use one_server::Act;
 
 /// Begins to carry out a command, and writes what stands before its first act; a move carries the stamp of its line.
 pub(crate) fn begin_command(
-    memory: &mut Memory,
+    memory: &mut SessionMemory,
     command: Command,
     stamp: Option<u32>,
     out: &mut Vec<u8>,

@@ -10,7 +10,7 @@ use crate::next::Next;
 use crate::session_memory::Memory;
 use crate::stage::Stage;
 use crate::visiting::visit_all;
-use fics_words::NoMemory;
+use memory::NoMemory;
 use one_server::{Act, Runner};
 use std::alloc::Global;
 
@@ -21,7 +21,7 @@ pub(crate) fn follow<R: Runner>(
     alloc: Global,
     r: &mut R,
     moment: u64,
-    memory: &mut Memory,
+    memory: &mut SessionMemory,
     first: Next,
     out: &mut Vec<u8>,
 ) -> Result<(), NoMemory>
@@ -50,7 +50,7 @@ fn ask<R: Runner>(
     alloc: Global,
     r: &mut R,
     moment: u64,
-    memory: &mut Memory,
+    memory: &mut SessionMemory,
     act: Act,
     stage: Stage,
     out: &mut Vec<u8>,

@@ -7,8 +7,8 @@ use crate::input::Input;
 use crate::session_memory::Memory;
 use crate::standing::Standing;
 use crate::texts::{LINE_END, prompt_of, put_between};
-use fics_words::NoMemory;
 use line_reader::Incoming;
+use memory::NoMemory;
 use std::alloc::Global;
 
 /// How a text stands in an answer.
@@ -23,7 +23,7 @@ pub enum Framing {
 }
 
 /// How the text of an input stands in the answer.
-pub(crate) fn framing_of(input: &Input, memory: &Memory) -> Framing
+pub(crate) fn framing_of(input: &Input, memory: &SessionMemory) -> Framing
     ensures { result ≡ framing_of input.now memory.now }
 {
     match input {
@@ -71,7 +71,7 @@ fn unasked(alloc: Global, news: &[u8], standing: Standing) -> Result<Vec<u8>, No
 }
 
 /// Whether a line isn't answered.
-fn is_unanswered(memory: &Memory, line: &Incoming) -> bool
+fn is_unanswered(memory: &SessionMemory, line: &Incoming) -> bool
     ensures { result ≡ is_unanswered memory.now line.now }
 {
     is_greeting(memory.link(), line) || is_ack(line) || memory.is_gone()

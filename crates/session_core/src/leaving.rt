@@ -5,14 +5,14 @@ ghost use Rattle.one_server.specs.Acts.{FitsAct};
 ghost use Rattle.session_core.specs.Course.{Asks, nothing_told};
 ghost use Rattle.session_core.specs.Going.{Left, LeftInPart, Passed, Went};
 ghost use Rattle.session_core.specs.Memory.{is_gone};
-ghost use Rattle.session_core.specs.Session.{leaving};
+ghost use Rattle.session_core.specs.Session.{leaving_course};
 ghost use Rattle.session_core.specs.Stages.{HasGone, LeavesDesk, MayLeave, acts_of_leaving, acts_to_leave};
 ghost use Rattle.session_core.specs.Stages.{leaves, leaving_of};
 
 use crate::leaving_stage::{LeavingNext, LeavingStage, ask_going};
 use crate::session_memory::Memory;
-use fics_words::NoMemory;
 use lobby_state::LobbyReply;
+use memory::NoMemory;
 use one_server::{Act, Reply, Runner};
 use std::alloc::Global;
 
@@ -25,12 +25,12 @@ pub(crate) fn leave<R: Runner>(
     alloc: Global,
     r: &mut R,
     moment: u64,
-    memory: &mut Memory,
+    memory: &mut SessionMemory,
 ) -> Result<(), NoMemory>
     requires { moment ≤ last_moment }
     ensures home { R.home r.new ≡ R.home r.old }
-    ensures left { OnOk result (Left (leaving memory.old) moment (R.state r.old) (R.state r.new) memory.new) }
-    ensures part { LeftInPart (leaving memory.old) moment (R.state r.old) (R.state r.new) }
+    ensures left { OnOk result (Left (leaving_course memory.old) moment (R.state r.old) (R.state r.new) memory.new) }
+    ensures part { LeftInPart (leaving_course memory.old) moment (R.state r.old) (R.state r.new) }
     ensures gone { is_gone memory.new ≡ true }
 {
     // What is known of every runner is known from here on.
@@ -54,7 +54,7 @@ fn ask_or_pass<R: Runner>(
     alloc: Global,
     r: &mut R,
     moment: u64,
-    memory: &mut Memory,
+    memory: &mut SessionMemory,
     act: Act,
     stage: LeavingStage,
 ) -> (Result<(), NoMemory>, LeavingNext)

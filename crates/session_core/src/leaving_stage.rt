@@ -34,7 +34,7 @@ pub(crate) enum LeavingNext {
 
 impl LeavingStage {
     /// Goes on by the reply to the next act or the end.
-    pub(crate) fn next(self, memory: &mut Memory, reply: &Reply) -> LeavingNext
+    pub(crate) fn next(self, memory: &mut SessionMemory, reply: &Reply) -> LeavingNext
         requires { LeavesDesk self }
         ensures goes { leaving_of result memory.new ≡ leaves self memory.old reply.now }
         ensures ready { MayLeave result }

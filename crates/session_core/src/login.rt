@@ -13,14 +13,15 @@ use crate::session_memory::Memory;
 use crate::stage::Stage;
 use crate::standing::Standing;
 use crate::texts::{put_refusal, put_reply};
-use fics_words::{Digest, Handle, NoMemory, Refusal};
+use fics_words::{Digest, Handle, Refusal};
 use lobby_state::{LobbyAct, LobbyReply};
 use login_handles::digest_of;
+use memory::NoMemory;
 use one_server::{Act, Reply};
 
 /// A line where a name is asked for.
 pub(crate) fn take_name(
-    memory: &mut Memory,
+    memory: &mut SessionMemory,
     text: &[u8],
     out: &mut Vec<u8>,
 ) -> Result<First, NoMemory>
@@ -44,7 +45,7 @@ pub(crate) fn take_name(
 /// The handle that a line is, where it is one.
 fn take_handle(
     name: Option<Handle>,
-    memory: &mut Memory,
+    memory: &mut SessionMemory,
     out: &mut Vec<u8>,
 ) -> Result<First, NoMemory>
     requires outside { has_entered memory.old ≡ false }
@@ -69,7 +70,7 @@ fn handle_of(bytes: &[u8]) -> Option<Handle>
 }
 
 /// A line where the password of a name is asked for.
-pub(crate) fn take_password(memory: &Memory, name: Handle, text: &[u8]) -> First
+pub(crate) fn take_password(memory: &SessionMemory, name: Handle, text: &[u8]) -> First
     requires outside { has_entered memory.now ≡ false }
     ensures goes { first_course result memory.now ≡ proving name text.now memory.now }
     ensures ready { IsPrepared memory.now result }
@@ -94,7 +95,7 @@ fn ask_to_enter(name: &Option<Handle>, digest: Option<Digest>) -> Next
 /// The session refuses a line by itself, and begins anew.
 pub(crate) fn turn_away(
     cause: Refusal,
-    memory: &mut Memory,
+    memory: &mut SessionMemory,
     out: &mut Vec<u8>,
 ) -> Result<First, NoMemory>
     requires outside { has_entered memory.old ≡ false }
@@ -113,7 +114,7 @@ pub(crate) fn turn_away(
 /// The lobby has answered: the session is in, is asked for the password, or begins anew.
 pub(crate) fn entered(
     name: Option<Handle>,
-    memory: &mut Memory,
+    memory: &mut SessionMemory,
     reply: &Reply,
     out: &mut Vec<u8>,
 ) -> Result<Next, NoMemory>

@@ -12,9 +12,10 @@ use crate::session_memory::Memory;
 use crate::stage::{Stage, ask_round, at_place};
 use crate::texts::{put_refusal, put_shown};
 use chess_model::MoveWord;
-use fics_words::{NoMemory, Refusal};
+use fics_words::Refusal;
 use linked_desk::{DeskAct, DeskReply};
 use lobby_state::LobbyAct;
+use memory::NoMemory;
 use one_server::{Act, Reply};
 
 /// A half-move at the present place, for which the lobby is asked. `stamp` is the client's own, below 10,000,000, where
@@ -31,7 +32,7 @@ pub(crate) fn to_move(word: MoveWord, stamp: Option<u32>) -> First
 pub(crate) fn moving(
     word: MoveWord,
     stamp: Option<u32>,
-    memory: &mut Memory,
+    memory: &mut SessionMemory,
     reply: &Reply,
     out: &mut Vec<u8>,
 ) -> Result<Next, NoMemory>
@@ -57,7 +58,7 @@ pub(crate) fn moving(
 /// accepted half-move of who gives a simul the next place comes first.
 pub(crate) fn moved(
     seat: u8,
-    memory: &mut Memory,
+    memory: &mut SessionMemory,
     reply: &Reply,
     out: &mut Vec<u8>,
 ) -> Result<Next, NoMemory>
@@ -78,7 +79,7 @@ pub(crate) fn moved(
 }
 
 /// Whether the session goes to its next place: it gives a simul, and the desk has accepted its half-move.
-fn turns(memory: &Memory, reply: &Reply) -> bool
+fn turns(memory: &SessionMemory, reply: &Reply) -> bool
     ensures { result ≡ turns reply.now memory.now }
 {
     is_accepted(reply) && memory.is_giving()

@@ -5,11 +5,12 @@ ghost use Rattle.session_core.specs.OwnCommands.{own_line, set_alias, set_style,
 use crate::session_memory::Memory;
 use crate::texts::{put_done, put_refusal};
 use command_words::Style;
-use fics_words::{Fail, Line, NoMemory, Refusal};
+use fics_words::{Fail, Line, Refusal};
+use memory::NoMemory;
 
 /// Makes a name stand for a text, and tells whether that was done.
 pub(crate) fn set_alias(
-    memory: &mut Memory,
+    memory: &mut SessionMemory,
     name: &Line,
     text: &Line,
     out: &mut Vec<u8>,
@@ -30,7 +31,7 @@ pub(crate) fn set_alias(
 
 /// Makes a name stand for nothing any more, and tells whether that was done.
 pub(crate) fn unset_alias(
-    memory: &mut Memory,
+    memory: &mut SessionMemory,
     name: &Line,
     out: &mut Vec<u8>,
 ) -> Result<(), NoMemory>
@@ -45,7 +46,7 @@ pub(crate) fn unset_alias(
 
 /// Has boards printed so, and tells that this was done.
 pub(crate) fn set_style(
-    memory: &mut Memory,
+    memory: &mut SessionMemory,
     style: Style,
     out: &mut Vec<u8>,
 ) -> Result<(), NoMemory>

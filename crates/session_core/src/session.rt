@@ -8,7 +8,8 @@ use crate::leaving::leave;
 use crate::session_memory::Memory;
 use crate::standing::Standing;
 use crate::taking::take;
-use fics_words::{Handle, NoMemory};
+use fics_words::Handle;
+use memory::NoMemory;
 use one_server::Runner;
 use std::alloc::Global;
 use std::marker::Model;
@@ -20,7 +21,7 @@ const OPENING: &[u8] = b"Free Internet Chess Server profile\n\rlogin: ";
 #[derive(Drop)]
 pub struct Session {
     alloc: Global,
-    memory: Memory,
+    memory: SessionMemory,
 }
 
 impl Model for Session {
@@ -44,7 +45,7 @@ impl Session {
     {
         Session {
             alloc,
-            memory: Memory::new(alloc),
+            memory: SessionMemory::new(alloc),
         }
     }
 
@@ -54,7 +55,7 @@ impl Session {
     {
         Session {
             alloc,
-            memory: Memory::seated(alloc, name),
+            memory: SessionMemory::seated(alloc, name),
         }
     }
 

@@ -24,7 +24,7 @@ const MOST_OBSERVED: usize = 32;
 /// What a session remembers: where it stands, what its link is, its aliases, how boards are printed, its places as the
 /// lobby told them last, and where it looks on, in the order in which it began to.
 #[derive(Drop)]
-pub(crate) struct Memory {
+pub(crate) struct SessionMemory {
     standing: Standing,
     link: LinkMark,
     aliases: Aliases,
@@ -33,7 +33,7 @@ pub(crate) struct Memory {
     observed: Places,
 }
 
-impl Model for Memory {
+impl Model for SessionMemory {
     ghost use Rattle.session_core.specs.Memory.{MemoryState};
 
     ghost Value = { MemoryState };
@@ -48,12 +48,12 @@ impl Model for Memory {
     } };
 }
 
-impl Memory {
+impl SessionMemory {
     /// The memory of a session before its first input.
-    pub(crate) fn new(alloc: Global) -> Memory
+    pub(crate) fn new(alloc: Global) -> SessionMemory
         ensures { result ≡ newcomer }
     {
-        Memory {
+        SessionMemory {
             standing: Standing::Login,
             link: LinkMark::Fresh,
             aliases: Aliases::new(alloc),
@@ -64,10 +64,10 @@ impl Memory {
     }
 
     /// The memory of a session that has entered under a name, before its first input.
-    pub(crate) fn seated(alloc: Global, name: Handle) -> Memory
+    pub(crate) fn seated(alloc: Global, name: Handle) -> SessionMemory
         ensures { result ≡ seated name }
     {
-        Memory {
+        SessionMemory {
             standing: Standing::In(name),
             link: LinkMark::Fresh,
             aliases: Aliases::new(alloc),

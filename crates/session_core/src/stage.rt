@@ -20,9 +20,10 @@ use crate::session_memory::Memory;
 use crate::texts::{put_refusal, put_reply, put_shown, put_waiting};
 use crate::watching::{found, watched};
 use chess_model::MoveWord;
-use fics_words::{Handle, NoMemory, Refusal};
+use fics_words::{Handle, Refusal};
 use linked_desk::DeskAct;
 use lobby_state::{LobbyAct, Place};
+use memory::NoMemory;
 use one_server::{Act, Reply};
 use std::mem::size_of;
 
@@ -70,7 +71,7 @@ impl Stage {
     /// Goes on by the reply: what follows it is written, up to the next act or the end.
     pub(crate) fn next(
         self,
-        memory: &mut Memory,
+        memory: &mut SessionMemory,
         reply: &Reply,
         out: &mut Vec<u8>,
     ) -> Result<Next, NoMemory>
@@ -107,7 +108,7 @@ impl Stage {
 /// The lobby has told the places: the act is made at the present one; without a place the session itself answers.
 fn placed(
     act: DeskAct,
-    memory: &mut Memory,
+    memory: &mut SessionMemory,
     reply: &Reply,
     out: &mut Vec<u8>,
 ) -> Result<Next, NoMemory>
@@ -132,7 +133,7 @@ fn placed(
 /// looks on; without either the session itself answers.
 fn remarked(
     act: DeskAct,
-    memory: &mut Memory,
+    memory: &mut SessionMemory,
     reply: &Reply,
     out: &mut Vec<u8>,
 ) -> Result<Next, NoMemory>
@@ -154,7 +155,12 @@ fn remarked(
 }
 
 /// An act was made at a desk: its reply is printed for the player of this seat, and the round comes.
-fn shown(seat: u8, memory: &mut Memory, reply: &Reply, out: &mut Vec<u8>) -> Result<Next, NoMemory>
+fn shown(
+    seat: u8,
+    memory: &mut SessionMemory,
+    reply: &Reply,
+    out: &mut Vec<u8>,
+) -> Result<Next, NoMemory>
     requires inside { has_entered memory.old ≡ true }
     requires fits { IsReply reply.now }
     ensures settles { IfOk result (λ next. Settles (shown (Some seat) reply.now memory.old)
@@ -171,7 +177,7 @@ fn shown(seat: u8, memory: &mut Memory, reply: &Reply, out: &mut Vec<u8>) -> Res
 /// The session looks on no longer at the game of this desk: the reply is printed, and the round comes.
 fn unwatched(
     desk: u8,
-    memory: &mut Memory,
+    memory: &mut SessionMemory,
     reply: &Reply,
     out: &mut Vec<u8>,
 ) -> Result<Next, NoMemory>
@@ -188,7 +194,7 @@ fn unwatched(
 }
 
 /// The lobby has told the places: the desk of the present one is asked first, and without a place the lobby alone.
-fn reacting(reaction: Reaction, memory: &mut Memory, reply: &Reply) -> Next
+fn reacting(reaction: Reaction, memory: &mut SessionMemory, reply: &Reply) -> Next
     requires inside { has_entered memory.old ≡ true }
     ensures goes { course_of result memory.new ≡ reacting reaction (told memory.old reply.now) }
     ensures ready { IsPosed memory.new result }
@@ -210,7 +216,7 @@ fn reacting(reaction: Reaction, memory: &mut Memory, reply: &Reply) -> Next
 /// comes.
 fn reacted(
     reaction: Reaction,
-    memory: &mut Memory,
+    memory: &mut SessionMemory,
     reply: &Reply,
     out: &mut Vec<u8>,
 ) -> Result<Next, NoMemory>
@@ -230,7 +236,7 @@ fn reacted(
 
 /// The act of a command was made: its reply is printed, and the round comes.
 pub(crate) fn answered(
-    memory: &mut Memory,
+    memory: &mut SessionMemory,
     reply: &Reply,
     out: &mut Vec<u8>,
 ) -> Result<Next, NoMemory>
@@ -247,7 +253,7 @@ pub(crate) fn answered(
 }
 
 /// The lobby has told what waits there, and the places: the games are visited.
-fn rounded(memory: &mut Memory, reply: &Reply, out: &mut Vec<u8>) -> Result<Next, NoMemory>
+fn rounded(memory: &mut SessionMemory, reply: &Reply, out: &mut Vec<u8>) -> Result<Next, NoMemory>
     requires inside { has_entered memory.old ≡ true }
     ensures settles { IfOk result
         (λ next. Settles (Writes (waiting_text reply.now) (rounding (told memory.old reply.now)))
@@ -263,7 +269,7 @@ fn rounded(memory: &mut Memory, reply: &Reply, out: &mut Vec<u8>) -> Result<Next
 }
 
 /// The lobby has told the places: the acknowledgement is made at the present one, if there is any.
-fn acking(stamp: u32, memory: &mut Memory, reply: &Reply) -> Next
+fn acking(stamp: u32, memory: &mut SessionMemory, reply: &Reply) -> Next
     requires inside { has_entered memory.old ≡ true }
     requires stamp { IsStamp stamp }
     ensures goes { course_of result memory.new ≡ acking stamp (told memory.old reply.now) }

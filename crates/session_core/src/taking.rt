@@ -10,7 +10,7 @@ use crate::follow::follow;
 use crate::input::Input;
 use crate::leaving::leave;
 use crate::session_memory::Memory;
-use fics_words::NoMemory;
+use memory::NoMemory;
 use one_server::Runner;
 use std::alloc::Global;
 
@@ -19,7 +19,7 @@ pub(crate) fn take<R: Runner>(
     alloc: Global,
     r: &mut R,
     moment: u64,
-    memory: &mut Memory,
+    memory: &mut SessionMemory,
     input: Input,
     out: &mut Vec<u8>,
 ) -> Result<(), NoMemory>

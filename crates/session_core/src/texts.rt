@@ -9,9 +9,10 @@ ghost use Rattle.session_core.specs.Texts.{prompt_of, refusal_line, reply_text, 
 use crate::reader::Reader;
 use crate::standing::{LinkMark, Standing};
 use command_words::Style;
-use fics_words::{Handle, Line, Lines, NoMemory, Refusal, write_number};
+use fics_words::{Handle, Line, Lines, Refusal, write_number};
 use linked_desk::{DeskReply, viewer_of};
 use lobby_state::LobbyReply;
+use memory::NoMemory;
 use one_server::{PairReply, Reply};
 use style12_writer::{BoardView, Item, board1, end_line, line_b1, line12};
 

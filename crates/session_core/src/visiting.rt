@@ -14,8 +14,8 @@ ghost use Rattle.session_core.specs.declared.visit.Visit.{Visit};
 use crate::session_memory::Memory;
 use crate::texts::put_news;
 use crate::visit::{Visit, at_game, clear_at};
-use fics_words::NoMemory;
 use linked_desk::{DeskAct, DeskReply};
+use memory::NoMemory;
 use one_server::{Reply, Runner};
 use std::alloc::Global;
 
@@ -25,7 +25,7 @@ pub(crate) fn visit_all<R: Runner>(
     alloc: Global,
     r: &mut R,
     moment: u64,
-    memory: &mut Memory,
+    memory: &mut SessionMemory,
     out: &mut Vec<u8>,
 ) -> Result<(), NoMemory>
     requires moment { moment ≤ last_moment }
@@ -49,7 +49,7 @@ fn visit_game<R: Runner>(
     alloc: Global,
     r: &mut R,
     moment: u64,
-    memory: &mut Memory,
+    memory: &mut SessionMemory,
     visit: &Visit,
     out: &mut Vec<u8>,
 ) -> Result<(), NoMemory>
@@ -76,7 +76,7 @@ fn ask_news<R: Runner>(
     alloc: Global,
     r: &mut R,
     moment: u64,
-    memory: &mut Memory,
+    memory: &mut SessionMemory,
     visit: &Visit,
     out: &mut Vec<u8>,
 ) -> Result<bool, NoMemory>
@@ -112,7 +112,7 @@ fn give_up<R: Runner>(alloc: Global, r: &mut R, moment: u64, visit: &Visit) -> R
 /// Appends the news of a game, and says whether nothing more will come: then the session looks on there no longer.
 fn tell_news(
     visit: &Visit,
-    memory: &mut Memory,
+    memory: &mut SessionMemory,
     reply: &Reply,
     out: &mut Vec<u8>,
 ) -> Result<bool, NoMemory>
@@ -133,7 +133,7 @@ fn tell_news(
 
 /// Of a game that is given up the session remembers nothing: it looks on there no longer; of its places the lobby
 /// tells.
-fn forget(memory: &mut Memory, visit: &Visit)
+fn forget(memory: &mut SessionMemory, visit: &Visit)
     ensures after { memory.new ≡ forgets visit.now.seat visit.now.desk memory.old }
     ensures stands { memory.new.standing ≡ memory.old.standing }
 {

@@ -16,14 +16,19 @@ use crate::session_memory::Memory;
 use crate::stage::{Stage, answered, ask_round, at_place};
 use crate::standing::Standing;
 use crate::texts::{put_refusal, put_shown};
-use fics_words::{Line, NoMemory, Refusal};
+use fics_words::{Line, Refusal};
 use linked_desk::{DeskAct, DeskReply};
 use lobby_state::{LobbyAct, LobbyReply, Place, said_line};
+use memory::NoMemory;
 use one_server::{Act, Reply};
 
 /// Begins to look on at a game, for which the lobby is asked by this act; the session itself refuses with `ListFull`
 /// where it looks on at 32 games.
-pub(crate) fn observe(memory: &Memory, act: LobbyAct, out: &mut Vec<u8>) -> Result<First, NoMemory>
+pub(crate) fn observe(
+    memory: &SessionMemory,
+    act: LobbyAct,
+    out: &mut Vec<u8>,
+) -> Result<First, NoMemory>
     requires fits { FitsLobby act }
     requires asks { asks_places (Act.Lobby act) ≡ false }
     requires inside { has_entered memory.now ≡ true }
@@ -40,7 +45,11 @@ pub(crate) fn observe(memory: &Memory, act: LobbyAct, out: &mut Vec<u8>) -> Resu
 
 /// Begins to look on no longer at the game of this number; the session itself refuses with `NotWatching` where it
 /// doesn't look on at that desk.
-pub(crate) fn unobserve(memory: &Memory, number: u16, out: &mut Vec<u8>) -> Result<First, NoMemory>
+pub(crate) fn unobserve(
+    memory: &SessionMemory,
+    number: u16,
+    out: &mut Vec<u8>,
+) -> Result<First, NoMemory>
     requires inside { has_entered memory.now ≡ true }
     ensures settles { IfOk result (λ first. Settles (to_unobserve number memory.now)
         (first_course first memory.now) out.old.items out.new.items) }
@@ -56,7 +65,11 @@ pub(crate) fn unobserve(memory: &Memory, number: u16, out: &mut Vec<u8>) -> Resu
 }
 
 /// Begins to say something about a game, at the present place or else where the session looks on.
-pub(crate) fn remark(memory: &Memory, text: &Line, out: &mut Vec<u8>) -> Result<First, NoMemory>
+pub(crate) fn remark(
+    memory: &SessionMemory,
+    text: &Line,
+    out: &mut Vec<u8>,
+) -> Result<First, NoMemory>
     requires text { length text.now ≤ 800 }
     requires inside { has_entered memory.now ≡ true }
     ensures settles { IfOk result (λ first. Settles (to_remark (remark_of text.now memory.now) memory.now)
@@ -70,7 +83,7 @@ pub(crate) fn remark(memory: &Memory, text: &Line, out: &mut Vec<u8>) -> Result<
 }
 
 /// The line of a remark: the session's own name, and what it says.
-fn remark_line(memory: &Memory, text: &Line, out: &Vec<u8>) -> Result<Line, NoMemory>
+fn remark_line(memory: &SessionMemory, text: &Line, out: &Vec<u8>) -> Result<Line, NoMemory>
     requires { length text.now ≤ 800 }
     ensures { IfOk result (λ line. line ≡ remark_text memory.now.standing text.now) }
 {
@@ -83,7 +96,11 @@ fn remark_line(memory: &Memory, text: &Line, out: &Vec<u8>) -> Result<Line, NoMe
 
 /// The lobby has answered where a game is played: there the session asks to look on. Any other reply is printed, and
 /// the round comes.
-pub(crate) fn found(memory: &mut Memory, reply: &Reply, out: &mut Vec<u8>) -> Result<Next, NoMemory>
+pub(crate) fn found(
+    memory: &mut SessionMemory,
+    reply: &Reply,
+    out: &mut Vec<u8>,
+) -> Result<Next, NoMemory>
     requires inside { has_entered memory.old ≡ true }
     requires fits { IsReply reply.now }
     ensures settles { IfOk result (λ next. Settles (finding reply.now memory.old)
@@ -105,7 +122,7 @@ pub(crate) fn found(memory: &mut Memory, reply: &Reply, out: &mut Vec<u8>) -> Re
 /// that is printed, and the round comes.
 pub(crate) fn watched(
     place: Place,
-    memory: &mut Memory,
+    memory: &mut SessionMemory,
     reply: &Reply,
     out: &mut Vec<u8>,
 ) -> Result<Next, NoMemory>
@@ -126,7 +143,7 @@ pub(crate) fn watched(
 }
 
 /// The session looks on where it is shown boards.
-fn look_on(place: Place, memory: &mut Memory, reply: &Reply)
+fn look_on(place: Place, memory: &mut SessionMemory, reply: &Reply)
     requires { IsDesk place.desk }
     ensures after { memory.new ≡ watched place reply.now memory.old }
     ensures stands { memory.new.standing ≡ memory.old.standing }

@@ -26,7 +26,7 @@ use Rattle.session_core.specs.Memory.{without_observed}
 use Rattle.session_core.specs.OwnCommands.{set_alias, set_style, unset_alias}
 use Rattle.session_core.specs.Reactions.{says_no_offer}
 use Rattle.session_core.specs.Session.{answered, at_place, at_present, behind, command_course, finding, given_up}
-use Rattle.session_core.specs.Session.{leave_games, leaving, moving_at, remark_of, round, says_over, to_desk, to_move}
+use Rattle.session_core.specs.Session.{leave_games, leaving_course, moving_at, remark_of, round, says_over, to_desk, to_move}
 use Rattle.session_core.specs.Session.{to_observe, to_remark, to_server, turns, unobserved, visits, watched}
 use Rattle.session_core.specs.Texts.{refusal_line}
 use Rattle.session_core.specs.Visits.{visits_in}
@@ -56,7 +56,7 @@ never_leave_games : (games : List _) (memory : MemoryState) → NeverSaves (leav
 never_leave_games [] memory = (λ is. is, λ r. tt)
 never_leave_games (visit ∷ rest) memory = (λ is. is, λ r. (λ is. is, λ q. never_leave_games rest memory))
 
-pub never_leaving : (memory : MemoryState) → NeverSaves (leaving memory)
+pub never_leaving : (memory : MemoryState) → NeverSaves (leaving_course memory)
 never_leaving memory = (λ is. is, λ r. never_leave_games (visits_in (told memory r)) (told memory r))
 
 -- 3. What commands are made of.

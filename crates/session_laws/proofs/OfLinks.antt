@@ -12,14 +12,14 @@ use Rattle.session_core.specs.Course.{Done}
 use Rattle.session_core.specs.Going.{departing}
 use Rattle.session_core.specs.Inputs.{input_course}
 use Rattle.session_core.specs.Memory.{MemoryState, has_entered, newcomer}
-use Rattle.session_core.specs.Session.{leaving}
+use Rattle.session_core.specs.Session.{leaving_course}
 use Rattle.session_laws.proofs.NeverSaving.{NeverSaves, never_either, none_begun, none_followed, none_joined, none_passed}
 use Rattle.session_laws.proofs.OfCommands.{never_leaving}
 use Rattle.session_laws.proofs.OfInputs.{never_input}
 use Rattle.session_laws.specs.WhoSaves.{LinksNeverSave, NoneSaves}
 
 never_departing : (memory : MemoryState) → NeverSaves (departing memory)
-never_departing memory = never_either (has_entered memory) (leaving memory) (Done memory) (never_leaving memory) tt
+never_departing memory = never_either (has_entered memory) (leaving_course memory) (Done memory) (never_leaving memory) tt
 
 module _ (shows : ℕ → Bool) (mark : Bool) (session : ℕ) where
   -- the entries for inputs that were answered
@@ -50,7 +50,7 @@ module _ (shows : ℕ → Bool) (mark : Bool) (session : ℕ) where
       subst NoneSaves (sym b.made_is) (none_joined b.begun b.left
       (none_midway inputs come memory b.there b.begun b.midway) (none_left b.there b.left b.leaves))
   none_broken inputs come memory made (inr q) =
-      none_passed session q.moment mark (leaving q.there) made (never_leaving q.there) q.passes
+      none_passed session q.moment mark (leaving_course q.there) made (never_leaving q.there) q.passes
 
   none_later : (end : LinkEnd) (talk : Dialogue) → LeavesInPart end shows mark session talk → NoneSaves talk.later
   none_later link_end.Quit talk l = none_left talk.memory talk.later l

@@ -8,7 +8,8 @@ use crate::groups::swap_groups;
 use crate::plain::{PAD, STAMP_END, TEXT_END, pads};
 use crate::reading::CLOSING;
 use clock_ledger::STAMP_CYCLE;
-use fics_words::{NoMemory, write_number};
+use fics_words::write_number;
+use memory::NoMemory;
 use std::alloc::Global;
 
 /// Writes the one line of a text and a stamp, closing 0x80 and LF included. The text is one of at most 1,023 bytes

@@ -6,7 +6,7 @@ use Rattle.std.proofs.lemmas.Bool.{eqb-false, lt-ltb, le-ltb}
 use Rattle.edge_traits.specs.Pairs.{Table}
 use Rattle.lobby_shelf.specs.Facts.{IsShelf, OrdersRise}
 use Rattle.lobby_shelf.specs.Shelf.{saved}
-use Rattle.lobby_shelf.specs.Wanted.{Table as Records, table_with}
+use Rattle.lobby_shelf.specs.Wanted.{StoreMap as Records, table_with}
 use Rattle.lobby_shelf.specs.declared.order.Order.{Order}
 use Rattle.lobby_shelf.proofs.Leading.{orders-lead}
 use Rattle.histories.specs.declared.entry.Entry.{Entry}
@@ -33,7 +33,7 @@ use Rattle.steward_core.specs.declared.clearing.ClearingEnd.{ClearingEnd}
 use Rattle.steward_core.specs.declared.clearing.ClearingEnd.TheVariants as clearing
 use Rattle.steward_core.proofs.DesksCleared.{some_cleared}
 use Rattle.steward_core.specs.Saving.{SavesTold, TellsUpTo, last_number, says_saved}
-use Rattle.steward_core.specs.declared.saving.Round.{Round}
+use Rattle.steward_core.specs.declared.saving.SaveRound.{SaveRound}
 use Rattle.steward_core.specs.declared.saving.Told.{Told}
 use Rattle.steward_core.specs.declared.saving.Told.TheVariants as told
 use Rattle.steward_core.proofs.OrdersTold.{StandFirst}
@@ -243,7 +243,7 @@ module _ (moment : ℕ) (orders carried left : List Order) (before after_all : T
   agreed_tells (Some upto) told.Memory last t none = agrees_gained after_all old new [] whole known t tt none agreed_put
 
 -- orders that were told are carried out and told as saved
-pub told_agrees : (moment : ℕ) (end : Round) (orders : List Order) (before after_all : Option Table) (old new : RunnerState) → IsKnown old
+pub told_agrees : (moment : ℕ) (end : SaveRound) (orders : List Order) (before after_all : Option Table) (old new : RunnerState) → IsKnown old
     → SavesTold moment end orders before after_all old new → StandFirst orders (state_seen old) → StaysAgreed before after_all old new
 told_agrees moment end orders None after_all old new known s first = tt
 told_agrees moment end orders (Some before) None old new known s first = absurd s.table

@@ -13,9 +13,9 @@ use Rattle.one_server.specs.declared.act.Timed.{Timed}
 use Rattle.one_server.specs.declared.reply.Reply.{Reply}
 use Rattle.one_server.specs.Running.{IsKnown, Log, Made, Ran, RunnerState}
 use Rattle.steward_core.specs.Clearing.{acts_of}
-use Rattle.steward_core.specs.Saving.{AreFullRounds, EndsRound, EndsSaving, IsCutShort, IsRound, LeavesOne, RunsRound, SavesTold, TakesSaving, TellsUpTo, asks_orders, last_number, orders_in, round_of, says_saved, tells_upto}
-use Rattle.steward_core.specs.declared.saving.Round.{Round}
-use Rattle.steward_core.specs.declared.saving.Round.TheVariants as round
+use Rattle.steward_core.specs.Saving.{AreFullRounds, EndsRound, EndsSaving, IsCutShort, IsSaveRound, LeavesOne, RunsRound, SavesTold, TakesSaving, TellsUpTo, asks_orders, last_number, orders_in, round_of, says_saved, tells_upto}
+use Rattle.steward_core.specs.declared.saving.SaveRound.{SaveRound}
+use Rattle.steward_core.specs.declared.saving.SaveRound.TheVariants as round
 use Rattle.steward_core.specs.declared.saving.Told.{Told}
 use Rattle.steward_core.specs.declared.saving.Told.TheVariants as told
 use Rattle.steward_core.specs.declared.turn.StewardEnd.{StewardEnd}
@@ -102,7 +102,7 @@ module _ (moment : ℕ) (orders : List Order) (before after : Option Table) (ans
   unfolding asked
   round_made said made = made_then old mid new (asked ∷ []) said ran.grew made
 
-  whole_round : (carried left : List Order) (said : Log) → orders ≡ carried ++ left → left ≡ [] → acts_of said ≡ tells_upto moment (last_number carried) → IsRound moment (asked ∷ said) carried
+  whole_round : (carried left : List Order) (said : Log) → orders ≡ carried ++ left → left ≡ [] → acts_of said ≡ tells_upto moment (last_number carried) → IsSaveRound moment (asked ∷ said) carried
   unfolding asked
   whole_round carried left said all none acts = record { first = asked; rest = said; all = refl; asks = refl; told = tells ∙ all ∙ ap (λ l. carried ++ l) none ∙ append-nil carried; saved = acts }
 
@@ -142,14 +142,14 @@ module _ (moment : ℕ) (orders : List Order) (before after : Option Table) (ans
   ends_by kept.Done told.Memory carried left entries all whole only acts none = inl (cut_round carried left entries all (inr (none refl)))
   ends_by kept.Done told.Done carried left entries all whole only acts none = ends_whole carried left entries all (whole refl) (acts refl) (length orders == 16) refl
 
-  pub round_run : (end : Round) → SavesTold moment end orders before after mid new → RunsRound moment end before after old new
+  pub round_run : (end : SaveRound) → SavesTold moment end orders before after mid new → RunsRound moment end before after old new
   round_run end s =
       let said = said_made moment (last_number s.carried) s.said mid new known s.tells in
       record {
         entries = asked ∷ said.0;
         carried = s.carried;
         grew = round_made said.0 said.1;
-        ends = subst (λ (r : Round). EndsRound moment r (asked ∷ said.0) s.carried) (sym s.ends)
+        ends = subst (λ (r : SaveRound). EndsRound moment r (asked ∷ said.0) s.carried) (sym s.ends)
             (ends_by s.outcome s.said s.carried s.left said.0 s.all s.whole s.only_whole said.2.0 said.2.1);
         kept = s.table;
       }

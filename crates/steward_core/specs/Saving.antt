@@ -14,8 +14,8 @@ use Rattle.one_server.specs.declared.reply.Reply.{Reply}
 use Rattle.one_server.specs.declared.reply.Reply.TheVariants as reply
 use Rattle.one_server.specs.Running.{Log, Made, Ran, RunnerState}
 use Rattle.steward_core.specs.Clearing.{acts_of}
-use Rattle.steward_core.specs.declared.saving.Round.{Round}
-use Rattle.steward_core.specs.declared.saving.Round.TheVariants as round
+use Rattle.steward_core.specs.declared.saving.SaveRound.{SaveRound}
+use Rattle.steward_core.specs.declared.saving.SaveRound.TheVariants as round
 use Rattle.steward_core.specs.declared.saving.Told.{Told}
 use Rattle.steward_core.specs.declared.saving.Told.TheVariants as told
 use Rattle.steward_core.specs.declared.turn.StewardEnd.{StewardEnd}
@@ -51,7 +51,7 @@ tells_upto moment None = []
 tells_upto moment (Some upto) = says_saved moment upto ∷ []
 
 -- a whole round: the steward asks for orders, and tells all that it is told as saved
-pub record IsRound (moment : ℕ) (entries : Log) (orders : List Order) : Type 0 where
+pub record IsSaveRound (moment : ℕ) (entries : Log) (orders : List Order) : Type 0 where
   pub first : Entry Timed Reply
   pub rest : Log
   pub all : entries ≡ first ∷ rest
@@ -76,7 +76,7 @@ abbrev pub AreFullRounds : ℕ → ℕ → Log → List Order → Type 0
 AreFullRounds moment zero entries orders = (entries ≡ []) × (orders ≡ [])
 AreFullRounds moment (suc n) entries orders =
     (before : Log) × (after : Log) × (first : List Order) × (last : List Order) × AreFullRounds moment n before first
-    × IsRound moment after last × (length last ≡ 16) × (entries ≡ before ++ after) × (orders ≡ first ++ last)
+    × IsSaveRound moment after last × (length last ≡ 16) × (entries ≡ before ++ after) × (orders ≡ first ++ last)
 
 -- how many answers a turn asks for at most
 abbrev pub most_answers : ℕ
@@ -86,7 +86,7 @@ most_answers = 2 ^ 28 - 1
 -- were the most answers; or a round was cut short; or the question ran out of memory
 abbrev pub EndsSaving : ℕ → StewardEnd → ℕ → Log → List Order → Type 0
 EndsSaving moment (Done count) rounds entries orders =
-    (IsRound moment entries orders × (length orders < 16) × (count ≡ rounds * 16 + length orders))
+    (IsSaveRound moment entries orders × (length orders < 16) × (count ≡ rounds * 16 + length orders))
     ⊎ ((rounds ≡ most_answers) × (entries ≡ []) × (orders ≡ []) × (count ≡ rounds * 16))
 EndsSaving moment KeeperFault rounds entries orders = IsCutShort moment entries orders
 EndsSaving moment Memory rounds entries orders = IsCutShort moment entries orders ⊎ ((entries ≡ []) × (orders ≡ []))
@@ -130,7 +130,7 @@ abbrev pub Tells : ℕ → List Order → Told → RunnerState → RunnerState �
 Tells moment orders end old new = TellsUpTo moment (last_number orders) end old new
 
 -- how a round ended in which so many orders were told
-abbrev pub round_of : Kept → Told → ℕ → Round
+abbrev pub round_of : Kept → Told → ℕ → SaveRound
 round_of kept.Failed end count = round.KeeperFault
 round_of kept.Memory end count = round.Memory
 round_of kept.Done told.Memory count = round.Memory
@@ -138,7 +138,7 @@ round_of kept.Done told.Done count = if count == 16 then round.Full else round.L
 
 -- the orders that were told were handed to a keeper: some were carried out, from the first one on, all exactly where
 -- that ended well, and then told as saved
-pub record SavesTold (moment : ℕ) (end : Round) (orders : List Order) (before after : Option Table)
+pub record SavesTold (moment : ℕ) (end : SaveRound) (orders : List Order) (before after : Option Table)
     (old new : RunnerState) : Type 0 where
   pub carried : List Order
   pub left : List Order
@@ -152,16 +152,16 @@ pub record SavesTold (moment : ℕ) (end : Round) (orders : List Order) (before 
   pub ends : end ≡ round_of outcome said (length orders)
 
 -- what a round carried out, by how it ended
-abbrev pub EndsRound : ℕ → Round → Log → List Order → Type 0
-EndsRound moment round.Full entries orders = IsRound moment entries orders × (length orders ≡ 16)
+abbrev pub EndsRound : ℕ → SaveRound → Log → List Order → Type 0
+EndsRound moment round.Full entries orders = IsSaveRound moment entries orders × (length orders ≡ 16)
 EndsRound moment (round.Last count) entries orders =
-    IsRound moment entries orders × (length orders < 16) × (count ≡ length orders)
+    IsSaveRound moment entries orders × (length orders < 16) × (count ≡ length orders)
 EndsRound moment round.KeeperFault entries orders =
     IsCutShort moment entries orders × (length orders < length (orders_told entries))
 EndsRound moment round.Memory entries orders = IsCutShort moment entries orders ⊎ ((entries ≡ []) × (orders ≡ []))
 
 -- a session ran a round, in which a keeper carried orders out
-pub record RunsRound (moment : ℕ) (end : Round) (before after : Option Table) (old new : RunnerState) : Type 0 where
+pub record RunsRound (moment : ℕ) (end : SaveRound) (before after : Option Table) (old new : RunnerState) : Type 0 where
   pub entries : Log
   pub carried : List Order
   pub grew : Made old entries new

@@ -18,7 +18,7 @@ end_of_turn clearing.Memory (Done count) = Memory
 end_of_turn _ saved = saved
 
 -- the entries of a turn, in which these orders were carried out: desks are cleared, and then orders are saved
-pub record IsTurn (moment : ℕ) (end : StewardEnd) (entries : Log) (carried : List Order) : Type 0 where
+pub record IsStewardTurn (moment : ℕ) (end : StewardEnd) (entries : Log) (carried : List Order) : Type 0 where
   pub cleared : ClearingEnd
   pub saved : StewardEnd
   pub first : Log
@@ -34,5 +34,5 @@ pub record TakesTurn (moment : ℕ) (end : StewardEnd) (before after : Option Ta
     pub entries : Log
     pub carried : List Order
     pub grew : Made old entries new
-    pub turn : IsTurn moment end entries carried
+    pub turn : IsStewardTurn moment end entries carried
     pub kept : Carries before after carried

@@ -5,7 +5,7 @@ ghost use Rattle.edge_traits.specs.Faults.{Rose};
 ghost use Rattle.one_server.specs.Running.{IsKnown};
 ghost use Rattle.steward_core.specs.Agreement.{StaysAgreed};
 ghost use Rattle.steward_core.specs.Saving.{RunsRound, SavesTold, TakesSaving, Tells, orders_in, round_of};
-ghost use Rattle.steward_core.specs.declared.saving.Round.{Round};
+ghost use Rattle.steward_core.specs.declared.saving.SaveRound.{SaveRound};
 ghost use Rattle.steward_core.specs.declared.turn.StewardEnd.{StewardEnd};
 
 use crate::turn::StewardEnd;
@@ -26,7 +26,7 @@ const ORDERS_AT_ONCE: usize = 16;
 
 /// How a round of saving ended.
 #[derive(Clone, Copy)]
-pub(crate) enum Round {
+pub(crate) enum SaveRound {
     /// 16 orders were told, and all were carried out and told as saved.
     Full,
     /// So many orders were told, fewer than 16, and all were carried out and told as saved.
@@ -65,10 +65,10 @@ pub(crate) fn save_orders<R: Runner, P: Keeper>(
     let mut count = 0;
     for answer in 0..MOST_ANSWERS {
         match save_round(alloc, runner, keeper, moment) {
-            Round::Full => count += 16,
-            Round::Last(few) => return StewardEnd::Done(count + few),
-            Round::KeeperFault => return StewardEnd::KeeperFault,
-            Round::Memory => return StewardEnd::Memory,
+            SaveRound::Full => count += 16,
+            SaveRound::Last(few) => return StewardEnd::Done(count + few),
+            SaveRound::KeeperFault => return StewardEnd::KeeperFault,
+            SaveRound::Memory => return StewardEnd::Memory,
         }
     }
     StewardEnd::Done(count)
@@ -80,19 +80,19 @@ fn save_round<R: Runner, P: Keeper>(
     runner: &mut R,
     keeper: &mut P,
     moment: u64,
-) -> Round
+) -> SaveRound
     requires moment { moment ≤ last_moment }
     requires known { IsKnown (R.state runner.old) }
     ensures home { R.home runner.new ≡ R.home runner.old }
     ensures round { RunsRound moment result (P.table keeper.old) (P.table keeper.new) (R.state runner.old)
         (R.state runner.new) }
     ensures agrees { StaysAgreed (P.table keeper.old) (P.table keeper.new) (R.state runner.old) (R.state runner.new) }
-    ensures fault { result ≡ Round.KeeperFault → Rose (P.faults keeper.old) (P.faults keeper.new) }
+    ensures fault { result ≡ SaveRound.KeeperFault → Rose (P.faults keeper.old) (P.faults keeper.new) }
     ensures counted { P.faults keeper.old ≤ P.faults keeper.new }
 {
     let reply = match runner.run(alloc, moment, Act::Lobby(LobbyAct::Orders)) {
         Ok(reply) => reply,
-        Err(NoMemory) => return Round::Memory,
+        Err(NoMemory) => return SaveRound::Memory,
     };
     let orders = orders_in(alloc, reply);
     save_told(alloc, runner, keeper, moment, orders.as_slice())
@@ -115,14 +115,14 @@ fn save_told<R: Runner, P: Keeper>(
     keeper: &mut P,
     moment: u64,
     orders: &[Order],
-) -> Round
+) -> SaveRound
     requires moment { moment ≤ last_moment }
     requires known { IsKnown (R.state runner.old) }
     requires few { length orders.now ≤ 16 }
     ensures home { R.home runner.new ≡ R.home runner.old }
     ensures saves { SavesTold moment result orders.now (P.table keeper.old) (P.table keeper.new) (R.state runner.old)
         (R.state runner.new) }
-    ensures fault { result ≡ Round.KeeperFault → Rose (P.faults keeper.old) (P.faults keeper.new) }
+    ensures fault { result ≡ SaveRound.KeeperFault → Rose (P.faults keeper.old) (P.faults keeper.new) }
     ensures counted { P.faults keeper.old ≤ P.faults keeper.new }
 {
     let carried = carry_out(keeper, orders);
@@ -131,18 +131,18 @@ fn save_told<R: Runner, P: Keeper>(
 }
 
 /// How a round ended in which so many orders were told.
-fn round_of(end: Kept, told: Told, count: usize) -> Round
+fn round_of(end: Kept, told: Told, count: usize) -> SaveRound
     requires { count ≤ 16 }
     ensures { result ≡ round_of end told count }
 {
     match (end, told) {
-        (Kept::Failed, _) => Round::KeeperFault,
-        (Kept::Memory, _) | (_, Told::Memory) => Round::Memory,
+        (Kept::Failed, _) => SaveRound::KeeperFault,
+        (Kept::Memory, _) | (_, Told::Memory) => SaveRound::Memory,
         (Kept::Done, Told::Done) => {
             if count == ORDERS_AT_ONCE {
-                Round::Full
+                SaveRound::Full
             } else {
-                Round::Last(count as u32)
+                SaveRound::Last(count as u32)
             }
         }
     }

@@ -1,8 +1,9 @@
+use memory::{Duplicate, NoMemory};
 //! What waits for the viewers of a game.
 use crate::view::BoardView;
 use chess_model::{Colour, Kind, Why};
 use collections::Listed;
-use fics_words::{Duplicate, Line, NoMemory};
+use fics_words::Line;
 use holdings_drops::Holdings;
 
 /// Lines, seen as their list.

@@ -2,7 +2,7 @@
 
 use chess_model::Variant::{self, Bughouse, Chess, Fischer};
 use desk_boards::replays;
-use fics_words::NoMemory;
+use memory::NoMemory;
 use std::alloc::Global;
 use std::process::Abort;
 use std::test::Fail;

@@ -3,7 +3,7 @@
 use crate::games::{Game, game_of};
 use chess_model::Variant::{Bughouse, Chess, Crazyhouse};
 use desk_boards::replays;
-use fics_words::NoMemory;
+use memory::NoMemory;
 use std::alloc::Global;
 use std::process::Abort;
 use std::test::Fail;

@@ -1,7 +1,8 @@
 //! Lines that wait for a player.
 
 use channel_feed::Waiting;
-use fics_words::{Line, NoMemory};
+use fics_words::Line;
+use memory::NoMemory;
 use std::alloc::Global;
 use std::test::Fail;
 

@@ -6,9 +6,10 @@ ghost use Rattle.linked_desk.specs.Shelve.{names_in};
 use crate::table::{SERIAL, Sitting};
 use chess_model::Terms;
 use collections::Listed;
-use fics_words::{Handle, NoMemory, Opponents, Seats};
+use fics_words::{Handle, Opponents, Seats};
 use game_records::{HalfList, StoredGame};
 use linked_desk::{Desk, Why};
+use memory::NoMemory;
 use std::alloc::Global;
 
 /// Shelves the adjourned game of a desk and restores it, at the same desk, from that moment. Says whether it did, and

@@ -1,8 +1,8 @@
 //! What the items that a session hasn't been given say when they are printed.
 
 use crate::table::{Opening, SERIAL, Step, desk_of, first_failing};
-use fics_words::NoMemory;
 use linked_desk::{Desk, Item};
+use memory::NoMemory;
 use std::alloc::Global;
 use std::process::Abort;
 use style12_writer::{BoardView, Viewer, end_line, is_decisive, line_b1, line12};

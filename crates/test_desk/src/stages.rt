@@ -7,8 +7,8 @@ use crate::table::{
     ANN, BEN, Does, Given, Opening, SERIAL, Step, cleared, desk_of, first_failing, is_given,
     outcome,
 };
-use fics_words::NoMemory;
 use linked_desk::{Desk, Ended};
+use memory::NoMemory;
 use std::alloc::Global;
 use std::process::Abort;
 use std::test::Fail;

@@ -2,7 +2,7 @@
 ghost use Rattle.std.specs.Prelude.{◌<◌, length};
 
 use edge_traits::{Got, Kept, Sent, Sink, Source};
-use fics_words::NoMemory;
+use memory::NoMemory;
 use memory_edges::{MemKeeper, MemSink, MemSource};
 use std::alloc::Global;
 use std::test::Fail;

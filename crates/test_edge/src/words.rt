@@ -1,9 +1,7 @@
 //! Handles, lines, decimals and refusals, at values chosen by hand.
 
-use fics_words::{
-    Account, Duplicate, Fail, Handle, Line, Lines, NoMemory, Player, Refusal, read_number,
-    write_number,
-};
+use fics_words::{Account, Fail, Handle, Line, Lines, Player, Refusal, read_number, write_number};
+use memory::{Duplicate, NoMemory};
 use std::alloc::Global;
 use std::test::Fail as TestFail;
 use test_steps::assert_rows;

@@ -1,8 +1,8 @@
 //! Stored games from rows.
 
 use chess_model::Variant;
-use fics_words::NoMemory;
 use game_records::StoredGame;
+use memory::NoMemory;
 use std::alloc::Global;
 use test_game_steps::{Halves, halves_of, players, stored};
 

@@ -4,8 +4,8 @@ use crate::games::{Game, game_of};
 use cmd_examine::examine;
 use cmd_store::status_of_outcome;
 use edge_traits::{Keeper, Kept};
-use fics_words::NoMemory;
 use game_records::{Record, StoredGame, game_key, is_game, write_record};
+use memory::NoMemory;
 use memory_edges::{MemKeeper, MemSink, MemSource};
 use std::alloc::Global;
 

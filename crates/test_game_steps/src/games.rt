@@ -3,8 +3,9 @@
 use chess_model::{Kind, Move, Square, Terms, Variant};
 use clock_ledger::Charge;
 use collections::Listed;
-use fics_words::{Handle, NoMemory};
+use fics_words::Handle;
 use game_records::{Half, HalfList, StoredGame};
+use memory::NoMemory;
 use std::alloc::Global;
 
 /// Half-moves as rows write them: the number of the board and two squares, or a pawn that is dropped, as `1e2e4` and

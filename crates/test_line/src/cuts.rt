@@ -2,7 +2,7 @@
 //! inputs that end in the middle of something.
 
 use crate::telling::{told, told_by_bytes};
-use fics_words::NoMemory;
+use memory::NoMemory;
 use std::alloc::Global;
 use std::test::Fail;
 use test_steps::assert_rows;

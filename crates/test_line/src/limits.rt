@@ -1,8 +1,8 @@
 //! Long lines, and blocks and lines that never end.
 
 use crate::telling::{drain, told};
-use fics_words::NoMemory;
 use line_reader::LineReader;
+use memory::NoMemory;
 use std::alloc::Global;
 use std::test::Fail;
 use test_steps::assert_rows;

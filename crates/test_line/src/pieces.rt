@@ -1,7 +1,7 @@
 //! The same lines, however the bytes are cut.
 
 use crate::telling::{lines_by_bytes, told, whole_lines};
-use fics_words::NoMemory;
+use memory::NoMemory;
 use std::alloc::Global;
 use std::test::Fail;
 use test_steps::{assert_rows, least_wrong};

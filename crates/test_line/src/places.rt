@@ -1,7 +1,7 @@
 //! Each byte at each place of a line.
 
 use crate::telling::told;
-use fics_words::NoMemory;
+use memory::NoMemory;
 use std::alloc::Global;
 use std::test::Fail;
 

@@ -1,6 +1,6 @@
 //! Stamped lines that another program has worked out.
 
-use fics_words::NoMemory;
+use memory::NoMemory;
 use stamp_codec::{Sealed, seal, span, unseal};
 use std::alloc::Global;
 use std::test::Fail;

@@ -1,7 +1,8 @@
 //! What a reader gives, told as text: a letter for the kind of line, its stamp and its text, and a line feed.
 
-use fics_words::{NoMemory, write_number};
+use fics_words::write_number;
 use line_reader::{Incoming, LineReader};
+use memory::NoMemory;
 use std::alloc::Global;
 
 /// The lines of `text`, which is fed in two pieces, and then the rest behind a `>`.

@@ -2,8 +2,9 @@
 ghost use Rattle.lobby_state.specs.Acts.{FitsLobby};
 
 use crate::steps::{CHESS, DONE, HOUSE, STRANGE, Step, hall, is_as_expected};
-use fics_words::{Fail as Refused, Handle, NoMemory};
+use fics_words::{Fail as Refused, Handle};
 use lobby_state::{Lobby, LobbyAct, LobbyReply};
+use memory::NoMemory;
 use std::alloc::Global;
 use std::test::Fail;
 use test_steps::first_wrong;

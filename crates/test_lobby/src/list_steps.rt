@@ -4,8 +4,8 @@ use crate::seek_steps::{playing, posts, tells};
 use crate::steps::{DONE, STRANGE, acted, hall, key_of, number_if_done, number_of, numbered};
 use crate::talk_steps::{Talk, answers as talks};
 use chess_model::Terms;
-use fics_words::NoMemory;
 use lobby_state::{Lobby, LobbyAct, WhichList};
+use memory::NoMemory;
 use std::alloc::Global;
 use test_steps::first_wrong;
 

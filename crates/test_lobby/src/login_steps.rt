@@ -1,8 +1,9 @@
 //! Steps of logins and accounts, each with its expected answer.
 
 use crate::steps::{DONE, acted, hall, number_if_done};
-use fics_words::{Account, Digest, Fail, Handle, NoMemory};
+use fics_words::{Account, Digest, Fail, Handle};
 use lobby_state::{Lobby, LobbyAct, LobbyReply};
+use memory::NoMemory;
 use std::alloc::Global;
 use test_steps::first_wrong;
 

@@ -2,8 +2,8 @@
 
 use crate::login_steps::{Login, Met, first_failing_login, first_failing_login_anew};
 use crate::steps::{CHESS, DONE, Step, first_failing, hall, registered_seats};
-use fics_words::NoMemory;
 use lobby_state::Lobby;
+use memory::NoMemory;
 use std::alloc::Global;
 use std::test::Fail;
 

@@ -2,8 +2,9 @@
 
 use crate::steps::{DONE, Step, acted, hall, is_as_expected, number_of};
 use crate::talk_steps::{number_if_told_one, said};
-use fics_words::{Fail, Handle, NoMemory};
+use fics_words::{Fail, Handle};
 use lobby_state::{Lobby, LobbyAct, LobbyReply};
+use memory::NoMemory;
 use std::alloc::Global;
 use test_steps::first_wrong;
 

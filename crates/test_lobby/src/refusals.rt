@@ -8,8 +8,8 @@ use crate::steps::{
     CHESS, DONE, PAIRS, Step, asking, challenging, entering, first_failing, first_failing_anew,
     hall, numbered, starts,
 };
-use fics_words::NoMemory;
 use lobby_state::Lobby;
+use memory::NoMemory;
 use std::alloc::Global;
 use std::test::Fail;
 

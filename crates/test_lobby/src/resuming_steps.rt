@@ -11,10 +11,11 @@ use crate::steps::{
     lists_ahead, numbered,
 };
 use collections::Listed;
-use fics_words::{Fail, Handle, NoMemory};
+use fics_words::{Fail, Handle};
 use game_records::{HalfList, StoredGame, played_by_steps};
 use lobby_shelf::Order;
 use lobby_state::{Lobby, LobbyAct, LobbyReply, PairAct, Plan};
+use memory::NoMemory;
 use std::alloc::Global;
 use test_steps::first_wrong;
 

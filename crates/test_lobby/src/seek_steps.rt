@@ -7,8 +7,9 @@ use crate::steps::{
     number_of,
 };
 use chess_model::{Colour, Terms, Variant};
-use fics_words::{Fail, Lines, NoMemory, Refusal};
+use fics_words::{Fail, Lines, Refusal};
 use lobby_state::{Lobby, LobbyAct, LobbyReply, PairAct, Plan, Var};
+use memory::NoMemory;
 use std::alloc::Global;
 use test_steps::first_wrong;
 

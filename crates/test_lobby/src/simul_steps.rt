@@ -7,8 +7,9 @@ use crate::steps::{
     number_if_done, numbered, starts,
 };
 use chess_model::Terms;
-use fics_words::{Fail, NoMemory};
+use fics_words::Fail;
 use lobby_state::{Lobby, LobbyAct, LobbyReply};
+use memory::NoMemory;
 use std::alloc::Global;
 use test_steps::first_wrong;
 

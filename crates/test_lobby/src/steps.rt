@@ -5,8 +5,9 @@ ghost use Rattle.lobby_state.specs.Acts.{FitsLobby};
 ghost use Rattle.lobby_state.specs.Terms.{AreTerms};
 
 use chess_model::{Colour, Terms, Variant};
-use fics_words::{Fail, Handle, HandleKey, Line, NoMemory, Refusal};
+use fics_words::{Fail, Handle, HandleKey, Line, Refusal};
 use lobby_state::{DeskInUse, Lobby, LobbyAct, LobbyReply, PairAct, Places, Plan, ReplyLists};
+use memory::NoMemory;
 use std::alloc::Global;
 use test_steps::first_wrong;
 

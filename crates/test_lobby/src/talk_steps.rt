@@ -5,8 +5,9 @@ ghost use Rattle.std.specs.Prelude.{◌≤◌, IfSome, length};
 use crate::steps::{
     DONE, STRANGE, Step, acted, hall, is_as_expected, key_of, number_if_done, number_of,
 };
-use fics_words::{Fail, HandleKey, Line, Lines, NoMemory};
+use fics_words::{Fail, HandleKey, Line, Lines};
 use lobby_state::{Lobby, LobbyAct, LobbyReply, Var};
+use memory::NoMemory;
 use std::alloc::Global;
 use test_steps::first_wrong;
 

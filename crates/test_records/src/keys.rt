@@ -1,7 +1,8 @@
 //! The keys of the store.
 
-use fics_words::{Handle, NoMemory};
+use fics_words::Handle;
 use game_records::{account_key, game_key, game_number};
+use memory::NoMemory;
 use std::alloc::Global;
 use std::test::Fail;
 use test_steps::assert_rows;

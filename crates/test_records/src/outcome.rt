@@ -1,8 +1,8 @@
 //! What reading a text comes to.
 ghost use Rattle.game_records.specs.Bounds.{IsSpellable};
 
-use fics_words::NoMemory;
 use game_records::{Record, read_record, write_record};
+use memory::NoMemory;
 use std::alloc::Global;
 
 /// What reading a text, and writing what was read, comes to.

@@ -2,7 +2,7 @@
 
 use crate::outcome::{Outcome, is_nothing, is_same, reading};
 use crate::texts::{ANN, CHESS, CRAZYHOUSE, FISCHER, PAIR};
-use fics_words::NoMemory;
+use memory::NoMemory;
 use std::alloc::Global;
 use std::test::Fail;
 use test_steps::limits::HALF_MOVES;

@@ -3,8 +3,9 @@
 use crate::texts::{ANN, CHESS, CRAZYHOUSE, FISCHER, PAIR};
 use chess_model::{Kind, Move, Square, Terms, Variant};
 use clock_ledger::Charge;
-use fics_words::{Account, Handle, NoMemory};
+use fics_words::{Account, Handle};
 use game_records::{Half, PackedHalf, Record, StoredGame, read_record};
+use memory::NoMemory;
 use std::alloc::Global;
 use std::test::Fail;
 use test_steps::assert_rows;

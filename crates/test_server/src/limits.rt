@@ -1,7 +1,7 @@
 //! Refusals that come where a list is at its end: half-moves, desks, lines, sessions, and men in hand.
 
 use chess_model::Variant;
-use fics_words::NoMemory;
+use memory::NoMemory;
 use one_server::OneServer;
 use std::alloc::Global;
 use std::process::Abort;

@@ -1,8 +1,9 @@
 //! What steps of a server are made of.
 
 use chess_model::Square;
-use fics_words::{Fail, Handle, NoMemory, Refusal};
+use fics_words::{Fail, Handle, Refusal};
 use lobby_state::Lobby;
+use memory::NoMemory;
 use one_server::OneServer;
 use std::alloc::Global;
 

@@ -1,8 +1,8 @@
 //! The calls of a player's link on one evening. A link is greeted first, and then each input is read, and is answered
 //! before the link is read again: its calls write and read in turns.
 
-use fics_words::NoMemory;
 use link_core::LinkEnd;
+use memory::NoMemory;
 use std::alloc::Global;
 
 /// A call of a link: one that reads, or one that writes this.

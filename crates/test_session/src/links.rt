@@ -1,8 +1,9 @@
 //! Links in memory: how they end, what is written to them, and how often the clock is asked.
 
 use edge_traits::{Clock, StillClock};
-use fics_words::{Fail as Failure, NoMemory};
+use fics_words::Fail as Failure;
 use link_core::{LinkEnd, serve_link};
+use memory::NoMemory;
 use memory_edges::{LinkStep, MemLink};
 use std::alloc::Global;
 use std::cell::Cell;

@@ -3,7 +3,7 @@
 ghost use Rattle.session_core.specs.Inputs.{FitsInput};
 ghost use Rattle.test_session.specs.Beside.{Beside};
 
-use fics_words::NoMemory;
+use memory::NoMemory;
 use one_server::{Act, OneServer, Reply, Runner};
 use session_core::{Input, Session, Wrote};
 use std::alloc::Global;

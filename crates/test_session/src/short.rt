@@ -1,6 +1,6 @@
 //! A session at a server that is short of memory.
 
-use fics_words::NoMemory;
+use memory::NoMemory;
 use one_server::{Act, OneServer, Reply, Runner};
 use std::alloc::Global;
 

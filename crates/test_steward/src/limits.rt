@@ -1,8 +1,8 @@
 //! Stores with as many accounts or games as a server holds, and with one more.
 
 use edge_traits::{Keeper, Kept};
-use fics_words::NoMemory;
 use lobby_load::{StoreFault, open_store};
+use memory::NoMemory;
 use memory_edges::{MemKeeper, MemSink};
 use std::alloc::Global;
 

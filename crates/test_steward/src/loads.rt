@@ -1,9 +1,9 @@
 //! Stores that are opened, each with what comes of it and with what is written of it.
 
 use edge_traits::{Keeper, Kept};
-use fics_words::NoMemory;
 use lobby_load::{StoreFault, open_store};
 use lobby_state::Lobby;
+use memory::NoMemory;
 use memory_edges::{MemKeeper, MemSink};
 use std::alloc::Global;
 use test_steps::assert_rows;

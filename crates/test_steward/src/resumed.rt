@@ -2,9 +2,9 @@
 
 ghost use Rattle.one_server.specs.Whole.{IsOpening};
 
-use fics_words::NoMemory;
 use lobby_load::load;
 use lobby_state::Lobby;
+use memory::NoMemory;
 use memory_edges::MemKeeper;
 use one_server::OneServer;
 use std::alloc::Global;

@@ -2,8 +2,9 @@
 
 ghost use Rattle.lobby_state.specs.Acts.{FitsLobby};
 
-use fics_words::{Handle, NoMemory};
+use fics_words::Handle;
 use lobby_state::{Lobby, LobbyAct};
+use memory::NoMemory;
 use memory_edges::MemKeeper;
 use one_server::{Act, OneServer};
 use std::alloc::Global;

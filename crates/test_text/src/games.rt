@@ -1,8 +1,9 @@
 //! Games that the tests play, and what is shown of them.
 
 use chess_model::{Face, Kind, Move, Shown, Square, Variant};
-use fics_words::{Handle, Line, NoMemory};
+use fics_words::{Handle, Line};
 use game_board::face;
+use memory::NoMemory;
 use std::alloc::Global;
 use style12_writer::{BoardView, Viewer, line12};
 use variant_rules::Position;

@@ -2,8 +2,9 @@
 
 use crate::games::{played, untimed};
 use chess_model::{Kind, Variant, Why};
-use fics_words::{Duplicate, Line};
+use fics_words::Line;
 use holdings_drops::Holdings;
+use memory::Duplicate;
 use std::alloc::Global;
 use std::test::Fail;
 use style12_writer::{BoardView, Item, ItemList, LineList};

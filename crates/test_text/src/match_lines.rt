@@ -1,7 +1,8 @@
 //! The lines of a game that begins, and of an adjourned one that goes on.
 
 use chess_model::{Terms, Variant};
-use fics_words::{Handle, Line, NoMemory};
+use fics_words::{Handle, Line};
+use memory::NoMemory;
 use std::alloc::Global;
 use std::test::Fail;
 use style12_writer::{continued_line, created_line};

@@ -4,7 +4,7 @@ use Rattle.histories.specs.declared.entry.Entry.{Entry}
 use Rattle.histories.specs.History.{calls_of, state}
 use Rattle.turn_table.specs.declared.view.Joined.{Joined}
 use Rattle.turn_table.specs.declared.view.View.{View}
-use Rattle.turn_table.specs.Views.{In, newcomer, divided, split_from, joined_with, as_joined, joined_number}
+use Rattle.turn_table.specs.Views.{In, new_view, divided, split_from, joined_with, as_joined, joined_number}
 use Rattle.turn_table.specs.Passes.{AllJoined}
 use Rattle.turn_table.proofs.Among.{split_on, in_front, in_back, map_in}
 use Rattle.test_turn.specs.declared.bump.Bump.{Bump}
@@ -30,9 +30,9 @@ worker_calls : (v w : W) (k : ℕ) → Closed v → In (as_joined w) v.joined �
 worker_calls v w k closed there is = ap (λ m. calls_of m v.seen) (sym is) ∙ closed.joined (as_joined w) there
 
 abbrev pub first_two : W
-first_two = divided (divided (newcomer zeros))
+first_two = divided (divided (new_view zeros))
 
-module _ (n : ℕ) (w1 w2 : W) (s1 s2 : List (Entry Bump ℕ)) (m1 : MadeMany First n (split_from (newcomer zeros)) w1) (m2 : MadeMany Both n (split_from (divided (newcomer zeros))) w2) where
+module _ (n : ℕ) (w1 w2 : W) (s1 s2 : List (Entry Bump ℕ)) (m1 : MadeMany First n (split_from (new_view zeros)) w1) (m2 : MadeMany Both n (split_from (divided (new_view zeros))) w2) where
   abbrev both_joined : W
   both_joined = joined_with (joined_with first_two w1 s1) w2 s2
 
@@ -67,7 +67,7 @@ module _ (n : ℕ) (w1 w2 : W) (s1 s2 : List (Entry Bump ℕ)) (m1 : MadeMany Fi
 abbrev pub first_three : W
 first_three = divided first_two
 
-module _ (n : ℕ) (w1 w2 w3 : W) (s1 s2 s3 : List (Entry Bump ℕ)) (m1 : MadeMany First n (split_from (newcomer zeros)) w1) (m2 : MadeMany Both n (split_from (divided (newcomer zeros))) w2) (m3 : MadeMany Both n (split_from first_two) w3) where
+module _ (n : ℕ) (w1 w2 w3 : W) (s1 s2 s3 : List (Entry Bump ℕ)) (m1 : MadeMany First n (split_from (new_view zeros)) w1) (m2 : MadeMany Both n (split_from (divided (new_view zeros))) w2) (m3 : MadeMany Both n (split_from first_two) w3) where
   abbrev all_joined : W
   all_joined = joined_with (joined_with (joined_with first_three w1 s1) w2 s2) w3 s3
 
@@ -110,29 +110,29 @@ module _ (n : ℕ) (w1 w2 w3 : W) (s1 s2 s3 : List (Entry Bump ℕ)) (m1 : MadeM
 
 -- the whole run of two workers
 pub two_end : (n : ℕ) (v0 v1 v2 v3 v4 u1 u2 w1 w2 : W) (items : List ℕ) → n < 2 ^ 32
-    → v0 ≡ newcomer zeros → v1 ≡ divided v0 → u1 ≡ split_from v0 → v2 ≡ divided v1 → u2 ≡ split_from v1
+    → v0 ≡ new_view zeros → v1 ≡ divided v0 → u1 ≡ split_from v0 → v2 ≡ divided v1 → u2 ≡ split_from v1
     → MadeMany First n u1 w1 → MadeMany Both n u2 w2 → v3 ≡ joined_with v2 w1 v3.seen → v4 ≡ joined_with v3 w2 v4.seen
     → Closed v4 → items ≡ state counters v4.opening v4.seen → items ≡ 2 * n ∷ n ∷ []
 two_end n v0 v1 v2 v3 v4 u1 u2 w1 w2 items small e0 e1 d1 e2 d2 m1 m2 e3 e4 closed parts =
-    let f1 : v1 ≡ divided (newcomer zeros) = e1 ∙ ap divided e0 in
+    let f1 : v1 ≡ divided (new_view zeros) = e1 ∙ ap divided e0 in
     let f2 : v2 ≡ first_two = e2 ∙ ap divided f1 in
     let f4 : v4 ≡ joined_with (joined_with first_two w1 v3.seen) w2 v4.seen = e4 ∙ ap (λ v. joined_with v w2 v4.seen) (e3 ∙ ap (λ v. joined_with v w1 v3.seen) f2) in
-    let n1 : MadeMany First n (split_from (newcomer zeros)) w1 = subst (λ u. MadeMany First n u w1) (d1 ∙ ap split_from e0) m1 in
-    let n2 : MadeMany Both n (split_from (divided (newcomer zeros))) w2 = subst (λ u. MadeMany Both n u w2) (d2 ∙ ap split_from f1) m2 in
+    let n1 : MadeMany First n (split_from (new_view zeros)) w1 = subst (λ u. MadeMany First n u w1) (d1 ∙ ap split_from e0) m1 in
+    let n2 : MadeMany Both n (split_from (divided (new_view zeros))) w2 = subst (λ u. MadeMany Both n u w2) (d2 ∙ ap split_from f1) m2 in
     parts ∙ (ap (λ v. state counters v.opening v.seen) f4 ∙ two_counts n w1 w2 v3.seen v4.seen n1 n2 small (subst Closed f4 closed))
 
 -- the whole run of three workers
 pub three_end : (n : ℕ) (v0 v1 v2 v3 v4 v5 v6 u1 u2 u3 w1 w2 w3 : W) (items : List ℕ) → n < 2 ^ 32
-    → v0 ≡ newcomer zeros → v1 ≡ divided v0 → u1 ≡ split_from v0 → v2 ≡ divided v1 → u2 ≡ split_from v1 → v3 ≡ divided v2 → u3 ≡ split_from v2
+    → v0 ≡ new_view zeros → v1 ≡ divided v0 → u1 ≡ split_from v0 → v2 ≡ divided v1 → u2 ≡ split_from v1 → v3 ≡ divided v2 → u3 ≡ split_from v2
     → MadeMany First n u1 w1 → MadeMany Both n u2 w2 → MadeMany Both n u3 w3 → v4 ≡ joined_with v3 w1 v4.seen → v5 ≡ joined_with v4 w2 v5.seen → v6 ≡ joined_with v5 w3 v6.seen
     → Closed v6 → items ≡ state counters v6.opening v6.seen → items ≡ 3 * n ∷ 2 * n ∷ []
 three_end n v0 v1 v2 v3 v4 v5 v6 u1 u2 u3 w1 w2 w3 items small e0 e1 d1 e2 d2 e3 d3 m1 m2 m3 e4 e5 e6 closed parts =
-    let f1 : v1 ≡ divided (newcomer zeros) = e1 ∙ ap divided e0 in
+    let f1 : v1 ≡ divided (new_view zeros) = e1 ∙ ap divided e0 in
     let f2 : v2 ≡ first_two = e2 ∙ ap divided f1 in
     let f3 : v3 ≡ first_three = e3 ∙ ap divided f2 in
     let f6 : v6 ≡ joined_with (joined_with (joined_with first_three w1 v4.seen) w2 v5.seen) w3 v6.seen =
     e6 ∙ ap (λ v. joined_with v w3 v6.seen) (e5 ∙ ap (λ v. joined_with v w2 v5.seen) (e4 ∙ ap (λ v. joined_with v w1 v4.seen) f3)) in
-    let n1 : MadeMany First n (split_from (newcomer zeros)) w1 = subst (λ u. MadeMany First n u w1) (d1 ∙ ap split_from e0) m1 in
-    let n2 : MadeMany Both n (split_from (divided (newcomer zeros))) w2 = subst (λ u. MadeMany Both n u w2) (d2 ∙ ap split_from f1) m2 in
+    let n1 : MadeMany First n (split_from (new_view zeros)) w1 = subst (λ u. MadeMany First n u w1) (d1 ∙ ap split_from e0) m1 in
+    let n2 : MadeMany Both n (split_from (divided (new_view zeros))) w2 = subst (λ u. MadeMany Both n u w2) (d2 ∙ ap split_from f1) m2 in
     let n3 : MadeMany Both n (split_from first_two) w3 = subst (λ u. MadeMany Both n u w3) (d3 ∙ ap split_from f2) m3 in
     parts ∙ (ap (λ v. state counters v.opening v.seen) f6 ∙ three_counts n w1 w2 w3 v4.seen v5.seen v6.seen n1 n2 n3 small (subst Closed f6 closed))

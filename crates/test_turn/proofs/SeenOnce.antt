@@ -4,7 +4,7 @@ use Rattle.std.specs.declared.option.Option.TheVariants.{Some}
 use Rattle.histories.specs.declared.entry.Entry.{Entry}
 use Rattle.histories.specs.History.{calls_of, entry, Legal}
 use Rattle.turn_table.specs.declared.view.View.{View}
-use Rattle.turn_table.specs.Views.{In, Looks, newcomer, divided, split_from, joined_with, looked, as_joined}
+use Rattle.turn_table.specs.Views.{In, Looks, new_view, divided, split_from, joined_with, looked, as_joined}
 use Rattle.turn_table.proofs.Among.{split_on}
 use Rattle.test_turn.specs.declared.bump.Bump.{Bump}
 use Rattle.test_turn.specs.declared.bump.Bump.TheVariants.{First}
@@ -26,10 +26,10 @@ only_calls (e ∷ es) none = split_on e.session 1
 first_reply : (r : ℕ) → Legal counters (0 ∷ 0 ∷ []) (entry 1 First r ∷ []) → r ≡ 1
 first_reply r legal = let e : Some 1 ≡ Some r = legal.1 in let d : 1 ≡ r = cc in sym d
 
-pub seen_is : (v0 v1 v2 v3 u w : W) → v0 ≡ newcomer (0 ∷ 0 ∷ []) → v1 ≡ divided v0 → u ≡ split_from v0 → MadeOne First u w → v2 ≡ joined_with v1 w v2.seen → v3 ≡ looked v2 v3.seen → Looks counters v2 v3.seen → v3.seen ≡ entry 1 First 1 ∷ []
+pub seen_is : (v0 v1 v2 v3 u w : W) → v0 ≡ new_view (0 ∷ 0 ∷ []) → v1 ≡ divided v0 → u ≡ split_from v0 → MadeOne First u w → v2 ≡ joined_with v1 w v2.seen → v3 ≡ looked v2 v3.seen → Looks counters v2 v3.seen → v3.seen ≡ entry 1 First 1 ∷ []
 seen_is v0 v1 v2 v3 u w e0 e1 d made e2 e3 looks =
-    let f1 : v1 ≡ divided (newcomer (0 ∷ 0 ∷ [])) = e1 ∙ ap divided e0 in
-    let f2 : v2 ≡ joined_with (divided (newcomer (0 ∷ 0 ∷ []))) w v2.seen = e2 ∙ ap (λ v. joined_with v w v2.seen) f1 in
+    let f1 : v1 ≡ divided (new_view (0 ∷ 0 ∷ [])) = e1 ∙ ap divided e0 in
+    let f2 : v2 ≡ joined_with (divided (new_view (0 ∷ 0 ∷ []))) w v2.seen = e2 ∙ ap (λ v. joined_with v w v2.seen) f1 in
     let number : w.number ≡ 1 = made.keeps.number ∙ ap (λ (v : W). v.number) (d ∙ ap split_from e0) in
     let calls : w.made ≡ entry 1 First made.reply ∷ [] = made.made ∙ (λ i. ((d ∙ ap split_from e0) i).made ++ entry ((d ∙ ap split_from e0) i).number First made.reply ∷ []) in
     let there : In (as_joined w) v2.joined = subst (λ (v : W). In (as_joined w) v.joined) (sym f2) (inl refl) in

@@ -3,7 +3,8 @@
 use crate::{lists, offers, resuming, simuls, watching};
 use chess_model::{Colour, Terms, variant_word};
 use command_words::{Aliases, Command, Style, read_command};
-use fics_words::{Fail as Failed, Handle, Line, NoMemory, write_number};
+use fics_words::{Fail as Failed, Handle, Line, write_number};
+use memory::NoMemory;
 use std::alloc::Global;
 use std::process::Abort;
 use std::test::Fail;

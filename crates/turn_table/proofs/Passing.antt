@@ -15,7 +15,7 @@ use Rattle.histories.proofs.Parts.{slice_get_length}
 use Rattle.histories.proofs.Histories.{prefix_refl, prefix_whole, prefix_length, length_state}
 use Rattle.turn_table.specs.declared.view.Joined.{Joined}
 use Rattle.turn_table.specs.declared.view.View.{View}
-use Rattle.turn_table.specs.Views.{In, Distinct, Holds, numbers_of, joined_number, divided, split_from, as_joined, merged, spent, newcomer}
+use Rattle.turn_table.specs.Views.{In, Distinct, Holds, numbers_of, joined_number, divided, split_from, as_joined, merged, spent, new_view}
 use Rattle.turn_table.specs.Rule.{Names, Fits, Rule, Ruled}
 use Rattle.turn_table.proofs.Among.{in_append, split_on, at_one, at_one_same, at_one_else, at_length}
 use Rattle.turn_table.proofs.Beginning.{some_or_none, none_held}
@@ -364,10 +364,10 @@ module _ {P A R : Type 0} (c : Core P A R) (law : Lawful c) (opening : List P) w
   only_view v u zero e = (refl, some-injective v u e)
   only_view v u (suc j) e = absurd (some-ne-none u (sym e))
 
-  pub opens : (words : List ℕ) (slots : List (Option P)) → c.whole opening → length words ≡ length opening + 1 → ((k : ℕ) → slice_index words k ≡ 0) → slots ≡ map Some opening → Ruled c opening (table_opening words slots (newcomer opening))
+  pub opens : (words : List ℕ) (slots : List (Option P)) → c.whole opening → length words ≡ length opening + 1 → ((k : ℕ) → slice_index words k ≡ 0) → slots ≡ map Some opening → Ruled c opening (table_opening words slots (new_view opening))
   opens words slots whole long zeros is =
       let n : Names A R = record { log = []; holder = λ k. None; owner = λ m. Some 0; drawn = 0 } in
-      let first : Fits c opening n 0 (newcomer opening) = record {
+      let first : Fits c opening n 0 (new_view opening) = record {
         same_opening = refl;
         seen_begins = prefix_refl [];
         shorter_begins = prefix_refl [];
@@ -397,9 +397,9 @@ module _ {P A R : Type 0} (c : Core P A R) (law : Lawful c) (opening : List P) w
           free = λ k r e. (zeros k, λ p h. ap (λ (xs : List (Option P)). get_elem? (map some xs) k) is ∙ homes_of opening k p h);
           held = λ k id r e. absurd cc;
           out = λ k id r e. absurd cc;
-          fits = λ j u there alive. let t = only_view (newcomer opening) u j there in subst (λ (x : View P A R). Fits c opening n j x) t.1 (subst (λ i. Fits c opening n i (newcomer opening)) (sym t.0) first);
-          spent_holds_none = λ j u there dead. ap (λ (x : View P A R). x.held) (sym (only_view (newcomer opening) u j there).1);
-          newest = (0, newcomer opening, refl, refl, refl);
+          fits = λ j u there alive. let t = only_view (new_view opening) u j there in subst (λ (x : View P A R). Fits c opening n j x) t.1 (subst (λ i. Fits c opening n i (new_view opening)) (sym t.0) first);
+          spent_holds_none = λ j u there dead. ap (λ (x : View P A R). x.held) (sym (only_view (new_view opening) u j there).1);
+          newest = (0, new_view opening, refl, refl, refl);
           undrawn = λ m far. refl;
         },
       )

@@ -15,7 +15,7 @@ use Rattle.turn_table.specs.Views.{In, HoldsState, Knows, joined_number, done, e
 use Rattle.turn_table.specs.Plays.{TakesPart}
 
 -- which table the pass is of, and what it knows
-pub record Standing (P A R : Type 0) : Type 0 where
+pub record PassStanding (P A R : Type 0) : Type 0 where
   pub home : TableId
   pub view : View P A R
 

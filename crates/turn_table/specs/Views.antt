@@ -191,8 +191,8 @@ module _ {P A R : Type 0} where
       }
 
   -- the first pass, when the table opens
-  abbrev pub newcomer : List P → View P A R
-  newcomer opening =
+  abbrev pub new_view : List P → View P A R
+  new_view opening =
       record {
         live = true;
         number = 0;

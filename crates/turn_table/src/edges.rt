@@ -3,7 +3,7 @@
 ghost use Rattle.std.specs.Prelude.{◌≡◌, ℕ, ◌+◌, ◌≤◌, [], Some, map, length, slice_index, vec_capacity, IfOk};
 ghost use Rattle.std.specs.Mem.Slots.{slots_items, slots_len, IsFull};
 ghost use Rattle.turn_table.specs.Passes.{AllThere};
-ghost use Rattle.turn_table.specs.Views.{newcomer};
+ghost use Rattle.turn_table.specs.Views.{new_view};
 
 use crate::law::{Law, Opening, Slot, Token};
 use crate::view::View;
@@ -46,7 +46,7 @@ pub fn opened<S: Served>(
     ensures table { IfOk result (λ t. (t.0.shared.table_id.words ≡ length words.now)
         × (t.0.shared.table_id.slots ≡ length told.now.value.items) × (t.0.shared.key ≡ told.now)) }
     ensures seat { IfOk result (λ t. (t.1.table_id ≡ t.0.shared.table_id)
-        × (t.1.me ≡ (newcomer told.now.value.items, []))) }
+        × (t.1.me ≡ (new_view told.now.value.items, []))) }
 {
     let made = Table::new(alloc, words, slots, told);
     let Ok(made) = made else {

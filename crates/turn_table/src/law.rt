@@ -29,11 +29,11 @@ pub struct Law<S> {
 impl<S: Served> TableRule<Option<S::Part>, View<S::Part, S::Act, S::Reply>, Snapshot<Vec<S::Part>>>
     for Law<S> {
     ghost use Rattle.turn_table.specs.Rule.{Ruled};
-    ghost use Rattle.turn_table.specs.Views.{newcomer};
+    ghost use Rattle.turn_table.specs.Views.{new_view};
 
     ghost holds = { λ told. Ruled S.core told.value.items };
 
-    ghost first = { λ told. newcomer told.value.items };
+    ghost first = { λ told. new_view told.value.items };
 }
 
 /// The history is looked at.

@@ -17,9 +17,9 @@ pub struct Pass<S: Served> {
 }
 
 impl<S: Served> Model for Pass<S> {
-    ghost use Rattle.turn_table.specs.Passes.{Standing, Sound};
+    ghost use Rattle.turn_table.specs.Passes.{PassStanding, Sound};
 
-    ghost Value = { Standing S.Part S.Act S.Reply };
+    ghost Value = { PassStanding S.Part S.Act S.Reply };
 
     ghost view = { λ p. record { home = p.seat.table_id; view = p.seat.me.0 } };
 

@@ -4,7 +4,7 @@ ghost use Rattle.std.specs.Prelude.{◌≡◌, ◌≢◌, ℕ, ◌-◌, ◌^◌,
 ghost use Rattle.std.specs.declared.option.Option.{Option};
 ghost use Rattle.histories.specs.History.{IsPrefix, calls_of, state, Legal};
 ghost use Rattle.turn_table.specs.declared.view.Joined.{Joined};
-ghost use Rattle.turn_table.specs.Views.{In, Holds, HoldsState, Looks, Knows, looked, begun, taken, tried, AllOut, done, given, divided, split_from, joined_with, newcomer};
+ghost use Rattle.turn_table.specs.Views.{In, Holds, HoldsState, Looks, Knows, looked, begun, taken, tried, AllOut, done, given, divided, split_from, joined_with, new_view};
 ghost use Rattle.turn_table.specs.Passes.{busy_more, with_busy, AllJoined, Committed};
 
 use crate::law::{Joining, Law, Opening, Slot, Splitting};
@@ -54,7 +54,7 @@ impl<S: Served> Turns<S> {
         requires few { vec_len parts ≤ 255 }
         requires whole { S.core.whole parts.items }
         ensures here { IfOk result (λ t. t.1.home ≡ t.0) }
-        ensures opens { IfOk result (λ t. t.1.view ≡ newcomer parts.items) }
+        ensures opens { IfOk result (λ t. t.1.view ≡ new_view parts.items) }
     {
         let told = Snapshot::of(&parts);
         let count = parts.len();

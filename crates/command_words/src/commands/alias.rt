@@ -9,7 +9,8 @@ use crate::aliases::is_alias_name;
 use crate::arguments::text_of;
 use crate::blanks::{first_word, rest_of};
 use crate::command::Command;
-use fics_words::{Fail, Line, NoMemory, Refusal};
+use fics_words::{Fail, Line, Refusal};
+use memory::NoMemory;
 use std::alloc::Global;
 
 /// Reads the arguments of `alias`, a name of 1 to 15 lower-case letters and a text of 1 to 800 bytes; refuses others

@@ -10,7 +10,7 @@ invariant-loop g l = record {
   forever : (goal.iterator-loop g).can_next l.iterator' × (goal.iterator-loop g).is_finite l.iterator';
   count : l.host.pass.splits ≡ l.count;
   few : l.count < 2 ^ 31;
-  kept : Underway g.C.Clock.shows l.place.hall.now l.place.clock.now l.host.supply (g.D.Doorway.tale l.door) l.host.pass l.host.waiting.items;
+  kept : Underway g.C.Clock.shows l.shared.hall.now l.shared.clock.now l.host.supply (g.D.Doorway.tale l.door) l.host.pass l.host.waiting.items;
   tended : Tended (stand l.fn.pass Enough (g.D.Doorway.tale l.fn.door) (record { table = g.P.Keeper.table l.fn.keeper; faults = g.P.Keeper.faults l.fn.keeper })) (stand l.host.pass l.host.supply (g.D.Doorway.tale l.door) (record { table = g.P.Keeper.table l.keeper; faults = g.P.Keeper.faults l.keeper }));
   opening : l.host.pass.opening ≡ l.fn.pass.opening;
   links : Goes (g.D.Doorway.tale l.fn.door) (g.D.Doorway.tale l.door) KeepsLinks;

@@ -16,9 +16,9 @@ returns-in-Quiet-clause-kept g c =
     let room = c.room_ahead-ended.ensures in
     let door = g.D.Doorway.tale c.settle_ended.new.door in
     let turn = c.at_quiet.ensures.turn in
-    let k : Underway g.C.Clock.shows c.args.place.now.hall.now c.args.place.now.clock.now host.supply door host.pass host.waiting.items = rw (room.supply, room.pass, room.waiting) c.settle_ended.ensures.kept in
+    let k : Underway g.C.Clock.shows c.args.shared.now.hall.now c.args.shared.now.clock.now host.supply door host.pass host.waiting.items = rw (room.supply, room.pass, room.waiting) c.settle_ended.ensures.kept in
     rw (turn.2, ap (λ w. w.items) c.at_quiet.ensures.waiting)
-    (kept_quiet g.C.Clock.shows c.args.place.now.hall.now c.args.place.now.clock.now host.supply turn.0 (g.P.Keeper.table c.args.keeper.now) (g.P.Keeper.table c.at_quiet.new.keeper) door (g.D.Doorway.tale c.next.new.self) host.pass c.at_quiet.result.pass host.waiting.items k c.in-Quiet.ensures.gives turn.1)
+    (kept_quiet g.C.Clock.shows c.args.shared.now.hall.now c.args.shared.now.clock.now host.supply turn.0 (g.P.Keeper.table c.args.keeper.now) (g.P.Keeper.table c.at_quiet.new.keeper) door (g.D.Doorway.tale c.next.new.self) host.pass c.at_quiet.result.pass host.waiting.items k c.in-Quiet.ensures.gives turn.1)
 
 pub returns-in-Quiet-clause-tended : goal.returns-in-Quiet-clause-tended
 returns-in-Quiet-clause-tended g c =

@@ -21,8 +21,8 @@ pub returns-in-All-clause-served : goal.returns-in-All-clause-served
 returns-in-All-clause-served g c =
     let h = c.host_links-hosted.result in
     let t = c.last_turn-pass.result in
-    let hall = c.args.place.now.hall.now in
-    let clock = c.args.place.now.clock.now in
+    let hall = c.args.shared.now.hall.now in
+    let clock = c.args.shared.now.clock.now in
     let opens = g.D.Doorway.tale c.args.door.now in
     let door = g.D.Doorway.tale c.host_links-hosted.new.door in
     let sent = c.say_closed-sent.result in
@@ -57,8 +57,8 @@ returns-in-All-clause-text_part g c =
 pub returns-in-Failed-clause-served : goal.returns-in-Failed-clause-served
 returns-in-Failed-clause-served g c =
     let t = c.last_turn.result in
-    let hall = c.args.place.now.hall.now in
-    let clock = c.args.place.now.clock.now in
+    let hall = c.args.shared.now.hall.now in
+    let clock = c.args.shared.now.clock.now in
     let door = g.D.Doorway.tale c.args.door.now in
     let first = c.requires.first in
     let before : Sheet = record { written = g.K.Sink.written c.args.sink.now; faults = g.K.Sink.faults c.args.sink.now } in
@@ -76,8 +76,8 @@ returns-in-Failed-clause-text_part g c = front_of_half (g.K.Sink.written c.args.
 pub returns-in-Memory-clause-served : goal.returns-in-Memory-clause-served
 returns-in-Memory-clause-served g c =
     let t = c.last_turn-pass-in-Memory.result in
-    let hall = c.args.place.now.hall.now in
-    let clock = c.args.place.now.clock.now in
+    let hall = c.args.shared.now.hall.now in
+    let clock = c.args.shared.now.clock.now in
     let door = g.D.Doorway.tale c.args.door.now in
     let first = c.requires.first in
     let before : Sheet = record { written = g.K.Sink.written c.args.sink.now; faults = g.K.Sink.faults c.args.sink.now } in

@@ -1,5 +1,5 @@
 use Rattle.session_core.specs.Inputs.{input_course}
-use Rattle.session_core.specs.Session.{leaving}
+use Rattle.session_core.specs.Session.{leaving_course}
 use Rattle.session_core.specs.Stages.{Settles, course_of, first_course}
 use Rattle.session_core.specs.declared.first.First.{First}
 use Rattle.session_core.proofs.Beginning.{answered_going, answered_leaving, broke_begun, broke_going, broke_leaving}
@@ -14,7 +14,7 @@ returns-in_err-first-clause-so_far g c =
 
 pub returns-in-Leaving-clause-answered : goal.returns-in-Leaving-clause-answered
 returns-in-Leaving-clause-answered g c =
-    answered_leaving c.args.moment c.leave.result (input_course c.args.input c.args.memory.now) (leaving c.begin.new.memory) (g.R.Runner.state c.args.r.now) (g.R.Runner.state c.leave.new.r)
+    answered_leaving c.args.moment c.leave.result (input_course c.args.input c.args.memory.now) (leaving_course c.begin.new.memory) (g.R.Runner.state c.args.r.now) (g.R.Runner.state c.leave.new.r)
     c.args.out.now.items c.begin.new.out.items c.leave.new.memory c.session-session.ensures.known
     (subst (λ (f : First). Settles (input_course c.args.input c.args.memory.now) (first_course f c.begin.new.memory) c.args.out.now.items c.begin.new.out.items) c.in-Leaving.is c.in_ok-first.ensures.settles)
     c.leave.ensures.left

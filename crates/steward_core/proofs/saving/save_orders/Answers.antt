@@ -1,6 +1,6 @@
 use Rattle.std.proofs.Common.{ℕ, ◌+◌, suc, sym, subst, ◌∙◌, refl, arith, add-one}
 use Rattle.steward_core.specs.Saving.{RunsRound, TakesSaving}
-use Rattle.steward_core.specs.declared.saving.Round.{Round}
+use Rattle.steward_core.specs.declared.saving.SaveRound.{SaveRound}
 use Rattle.steward_core.specs.declared.turn.StewardEnd.TheVariants.{Done}
 use Rattle.steward_core.proofs.AgreedStill.{agreed_still, agreed_then}
 use Rattle.steward_core.proofs.OrdersSaved.{HasSaved, ended_fault, ended_last, ended_most, ended_short, none_saved, saved_next}
@@ -25,7 +25,7 @@ loop-answer-preserved g c =
     let s1 = g.R.Runner.state c.loop-answer.runner in
     let s2 = g.R.Runner.state c.save_round.new.runner in
     let i = c.loop-answer.answer in
-    let round = subst (λ (r : Round). RunsRound c.args.moment r t1 t2 s1 s2) c.in-Full.is c.save_round.ensures.round in
+    let round = subst (λ (r : SaveRound). RunsRound c.args.moment r t1 t2 s1 s2) c.in-Full.is c.save_round.ensures.round in
     let counted = c.loop-answer.invariant.counted in
     let more = c.save_round.ensures.counted in
     let count = c.loop-answer.invariant.count in
@@ -49,7 +49,7 @@ returns-in-Last-clause-saving g c =
     let few = c.in-Last.few in
     subst (λ n. TakesSaving c.args.moment (Done (n + few)) t0 t2 s0 s2) (sym c.loop-answer.invariant.count)
     (ended_last c.args.moment c.loop-answer.answer t0 t1 t2 s0 s1 s2 c.loop-answer.invariant.saved few
-    (subst (λ (r : Round). RunsRound c.args.moment r t1 t2 s1 s2) c.in-Last.is c.save_round.ensures.round))
+    (subst (λ (r : SaveRound). RunsRound c.args.moment r t1 t2 s1 s2) c.in-Last.is c.save_round.ensures.round))
 
 pub returns-in-KeeperFault-clause-saving : goal.returns-in-KeeperFault-clause-saving
 returns-in-KeeperFault-clause-saving g c =
@@ -60,7 +60,7 @@ returns-in-KeeperFault-clause-saving g c =
     let s1 = g.R.Runner.state c.loop-answer.runner in
     let s2 = g.R.Runner.state c.save_round.new.runner in
     ended_fault c.args.moment c.loop-answer.answer t0 t1 t2 s0 s1 s2 c.loop-answer.invariant.saved
-    (subst (λ (r : Round). RunsRound c.args.moment r t1 t2 s1 s2) c.in-KeeperFault.is c.save_round.ensures.round)
+    (subst (λ (r : SaveRound). RunsRound c.args.moment r t1 t2 s1 s2) c.in-KeeperFault.is c.save_round.ensures.round)
 
 pub returns-in-Memory-clause-saving : goal.returns-in-Memory-clause-saving
 returns-in-Memory-clause-saving g c =
@@ -71,7 +71,7 @@ returns-in-Memory-clause-saving g c =
     let s1 = g.R.Runner.state c.loop-answer.runner in
     let s2 = g.R.Runner.state c.save_round.new.runner in
     ended_short c.args.moment c.loop-answer.answer t0 t1 t2 s0 s1 s2 c.loop-answer.invariant.saved
-    (subst (λ (r : Round). RunsRound c.args.moment r t1 t2 s1 s2) c.in-Memory.is c.save_round.ensures.round)
+    (subst (λ (r : SaveRound). RunsRound c.args.moment r t1 t2 s1 s2) c.in-Memory.is c.save_round.ensures.round)
 
 pub returns-clause-saving : goal.returns-clause-saving
 returns-clause-saving g c =

@@ -1,6 +1,6 @@
 use Rattle.std.proofs.Common.{◌≡◌, true, Some, None, cond, refl}
 use Rattle.std.specs.Prelude.{◌==◌}
-use Rattle.pgn_book.specs.declared.place.Place.TheVariants.{Start, AfterOne, AfterTwo, Between, InLine, InBraces, InWord, InQuotes, InStroke}
+use Rattle.pgn_book.specs.declared.place.PlaceInText.TheVariants.{Start, AfterOne, AfterTwo, Between, InLine, InBraces, InWord, InQuotes, InStroke}
 use Rattle.pgn_book.specs.Reading.{started, state_at, begun, in_line, in_braces, in_quotes, in_stroke, step, step_in}
 use Rattle.pgn_book.specs.Taking.{IsStep}
 use Rattle.pgn_book.proofs.Walking.{ok_from, err_from, step_silent, step_loud, step_back}

@@ -1,6 +1,0 @@
-use Rattle.std.proofs.Common.{◌≡◌, take}
-use Rattle.lobby_state.specs.Stored.{lines_for}
-use Rattle.lobby_state.proofs.register.Register.lines_for.Given as goal
-
-abbrev pub invariant-loop-row : goal.invariant-loop-row
-invariant-loop-row l = l.lines ≡ lines_for (take l.row-index l.self.shelf.games) l.key

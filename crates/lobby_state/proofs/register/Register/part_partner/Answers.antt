@@ -1,5 +1,0 @@
-use Rattle.lobby_state.proofs.Words.{IsWording-parts}
-use Rattle.lobby_state.proofs.register.Register.part_partner.Goals as goal
-
-pub say_to-requires-clause-wording : goal.say_to-requires-clause-wording
-say_to-requires-clause-wording c = IsWording-parts

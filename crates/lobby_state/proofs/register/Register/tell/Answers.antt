@@ -1,5 +1,0 @@
-use Rattle.lobby_state.proofs.Words.{IsWording-tells}
-use Rattle.lobby_state.proofs.register.Register.tell.Goals as goal
-
-pub said_line-requires-clause-wording : goal.said_line-requires-clause-wording
-said_line-requires-clause-wording c = IsWording-tells
