@@ -17,6 +17,21 @@ pub fn material_of(colour: Colour, men: &[Option<Man>; 64]) -> u64
     total
 }
 
+/// The material strengths of White and of Black, found by one look at the board.
+pub fn materials(men: &[Option<Man>; 64]) -> (u64, u64)
+    ensures white { result.0 ≡ material_of Colour.White men.now }
+    ensures black { result.1 ≡ material_of Colour.Black men.now }
+    ensures most { (result.0 ≤ 576) × (result.1 ≤ 576) }
+{
+    let mut white = 0;
+    let mut black = 0;
+    for square in men {
+        white += square_worth(Colour::White, *square);
+        black += square_worth(Colour::Black, *square);
+    }
+    (white, black)
+}
+
 /// What a square adds to a colour's material.
 fn square_worth(colour: Colour, square: Option<Man>) -> u64
     ensures worth { result ≡ square_worth colour square }
