@@ -41,7 +41,7 @@ pub use laws::{
 };
 pub use limits::{MOST_HALVES, MOST_TIME};
 pub use man::{Colour, Kind, Man};
-pub use material::material_of;
+pub use material::{material_of, materials};
 pub use moves::{Move, MoveWord, Rejection};
 pub use rights::Rights;
 pub use square::Square;

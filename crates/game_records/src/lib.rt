@@ -27,7 +27,7 @@ pub use bounds::is_game;
 pub use bytes::Bytes;
 pub use chess_model::{Move, Terms, Variant};
 pub use clock_ledger::Charge;
-pub use fics_words::{Account, Handle, HandleKey, NoMemory};
+pub use fics_words::{Account, Handle, HandleKey};
 pub use half_list::HalfList;
 pub use keys::{account_key, game_key, game_number};
 pub use laws::{one_record, played_by_steps};

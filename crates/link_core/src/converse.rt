@@ -48,8 +48,9 @@ pub(crate) fn converse<R: Runner, L: Link, C: Clock>(
         Ok(()) => {}
         Err(end) => return end,
     }
+    let mut buf = [0; PIECE];
     for _turn in 0..MOST_READS {
-        match take_turn(r, link, clock, session, &mut reader) {
+        match take_turn(r, link, clock, session, &mut reader, &mut buf) {
             Ok(()) => {}
             Err(end) => return end,
         }
@@ -69,13 +70,14 @@ fn greet<L: Link>(session: &Session, link: &mut L) -> Result<(), LinkEnd>
     write(link, opening.as_slice())
 }
 
-/// Reads once, and answers what came.
+/// Reads once, into `buf`, and answers what came.
 fn take_turn<R: Runner, L: Link, C: Clock>(
     r: &mut R,
     link: &mut L,
     clock: &C,
     session: &mut Session,
     reader: &mut LineReader,
+    buf: &mut [u8; PIECE],
 ) -> Result<(), LinkEnd>
     requires drained { IsDrained reader.old }
     requires here { is_gone session.old ≡ false }
@@ -89,8 +91,7 @@ fn take_turn<R: Runner, L: Link, C: Clock>(
     ensures cause { OnFault result (Rose (L.faults link.old) (L.faults link.new)) }
     ensures counted { L.faults link.old ≤ L.faults link.new }
 {
-    let mut buf = [0; PIECE];
-    match link.read(&mut buf) {
+    match link.read(buf) {
         Heard::Bytes(n) => take_piece(r, link, clock, session, reader, &buf[..n]),
         Heard::Quiet => answer(r, link, clock, session, Input::Quiet),
         Heard::End => Err(take_rest(r, link, clock, session, reader)),

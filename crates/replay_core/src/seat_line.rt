@@ -14,6 +14,9 @@ use fics_words::{Handle, Line};
 use memory::NoMemory;
 use std::alloc::Global;
 
+/// The most minutes, and the most seconds of increment, that a line gives.
+const MOST: u64 = MOST_TIME as u64;
+
 /// Who plays what at the start of a script.
 #[derive(Drop)]
 pub struct SeatLine {
@@ -90,10 +93,10 @@ fn read_terms(bytes: &[u8]) -> Option<Terms>
     ensures in_range { IfSome result AreSeatTerms }
     ensures none { IfNone result ((terms : Terms) → AreSeatTerms terms → bytes.now ≢ terms_text terms) }
 {
-    let Some((minutes, rest)) = cut_number(bytes, MOST_TIME.into()) else {
+    let Some((minutes, rest)) = cut_number(bytes, MOST) else {
         return None;
     };
-    let Some((increment, rest)) = cut_number(rest, MOST_TIME.into()) else {
+    let Some((increment, rest)) = cut_number(rest, MOST) else {
         return None;
     };
     let Some(variant) = read_variant(rest) else {

@@ -12,7 +12,7 @@ use crate::first::First;
 use crate::input::Input;
 use crate::login::{take_name, take_password, turn_away};
 use crate::next::Next;
-use crate::session_memory::Memory;
+use crate::session_memory::SessionMemory;
 use crate::stage::{ask_place, ask_round};
 use crate::standing::{LinkMark, Standing};
 use crate::texts::put_refusal;

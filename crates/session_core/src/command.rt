@@ -12,7 +12,7 @@ use crate::moves::to_move;
 use crate::next::Next;
 use crate::own_commands::{set_alias, set_style, unset_alias};
 use crate::reaction::{Reaction, in_lobby};
-use crate::session_memory::Memory;
+use crate::session_memory::SessionMemory;
 use crate::stage::{Stage, ask_round};
 use crate::watching::{observe, remark, unobserve};
 use command_words::Command;

@@ -7,7 +7,7 @@ ghost use Rattle.session_core.specs.Going.{Answered, BrokeOff, WentOn};
 ghost use Rattle.session_core.specs.Stages.{IsPosed, IsSet, Suits, acts_after, acts_left, continues, course_of};
 
 use crate::next::Next;
-use crate::session_memory::Memory;
+use crate::session_memory::SessionMemory;
 use crate::stage::Stage;
 use crate::visiting::visit_all;
 use memory::NoMemory;

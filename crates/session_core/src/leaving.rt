@@ -10,7 +10,7 @@ ghost use Rattle.session_core.specs.Stages.{HasGone, LeavesDesk, MayLeave, acts_
 ghost use Rattle.session_core.specs.Stages.{leaves, leaving_of};
 
 use crate::leaving_stage::{LeavingNext, LeavingStage, ask_going};
-use crate::session_memory::Memory;
+use crate::session_memory::SessionMemory;
 use lobby_state::LobbyReply;
 use memory::NoMemory;
 use one_server::{Act, Reply, Runner};

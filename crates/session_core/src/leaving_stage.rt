@@ -6,7 +6,7 @@ ghost use Rattle.session_core.specs.Stages.{HasGone, LeavesDesk, MayLeave, acts_
 ghost use Rattle.session_core.specs.Stages.{leaves, leaving_of};
 
 use crate::rest::Rest;
-use crate::session_memory::Memory;
+use crate::session_memory::SessionMemory;
 use crate::visit::{Visit, at_game, clear_at};
 use linked_desk::DeskAct;
 use lobby_state::LobbyAct;

@@ -9,7 +9,7 @@ ghost use Rattle.session_core.specs.Stages.{IsPrepared, Settles, course_of, firs
 
 use crate::first::First;
 use crate::next::Next;
-use crate::session_memory::Memory;
+use crate::session_memory::SessionMemory;
 use crate::stage::Stage;
 use crate::standing::Standing;
 use crate::texts::{put_refusal, put_reply};

@@ -2,7 +2,7 @@
 ghost use Rattle.std.specs.Prelude.{◌≡◌, ◌++◌, OnOk};
 ghost use Rattle.session_core.specs.OwnCommands.{own_line, set_alias, set_style, unset_alias};
 
-use crate::session_memory::Memory;
+use crate::session_memory::SessionMemory;
 use crate::texts::{put_done, put_refusal};
 use command_words::Style;
 use fics_words::{Fail, Line, Refusal};

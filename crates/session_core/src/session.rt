@@ -5,7 +5,7 @@ ghost use Rattle.clock_ledger.specs.Charges.{last_moment};
 use crate::framing::{framed, framing_of};
 use crate::input::{Input, Wrote};
 use crate::leaving::leave;
-use crate::session_memory::Memory;
+use crate::session_memory::SessionMemory;
 use crate::standing::Standing;
 use crate::taking::take;
 use fics_words::Handle;

@@ -16,7 +16,7 @@ use crate::login::entered;
 use crate::moves::{moved, moving};
 use crate::next::Next;
 use crate::reaction::{Reaction, in_lobby, of_desk, says_no_offer};
-use crate::session_memory::Memory;
+use crate::session_memory::SessionMemory;
 use crate::texts::{put_refusal, put_reply, put_shown, put_waiting};
 use crate::watching::{found, watched};
 use chess_model::MoveWord;

@@ -9,7 +9,7 @@ use crate::first::First;
 use crate::follow::follow;
 use crate::input::Input;
 use crate::leaving::leave;
-use crate::session_memory::Memory;
+use crate::session_memory::SessionMemory;
 use memory::NoMemory;
 use one_server::Runner;
 use std::alloc::Global;

@@ -11,7 +11,7 @@ ghost use Rattle.session_core.specs.Stages.{kept_behind};
 ghost use Rattle.session_core.specs.Texts.{news_text};
 ghost use Rattle.session_core.specs.declared.visit.Visit.{Visit};
 
-use crate::session_memory::Memory;
+use crate::session_memory::SessionMemory;
 use crate::texts::put_news;
 use crate::visit::{Visit, at_game, clear_at};
 use linked_desk::{DeskAct, DeskReply};

@@ -12,7 +12,7 @@ ghost use Rattle.session_core.specs.Stages.{course_of, first_course};
 
 use crate::first::First;
 use crate::next::Next;
-use crate::session_memory::Memory;
+use crate::session_memory::SessionMemory;
 use crate::stage::{Stage, answered, ask_round, at_place};
 use crate::standing::Standing;
 use crate::texts::{put_refusal, put_shown};

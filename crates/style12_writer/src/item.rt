@@ -1,10 +1,10 @@
-use memory::{Duplicate, NoMemory};
 //! What waits for the viewers of a game.
 use crate::view::BoardView;
 use chess_model::{Colour, Kind, Why};
 use collections::Listed;
 use fics_words::Line;
 use holdings_drops::Holdings;
+use memory::{Duplicate, NoMemory};
 
 /// Lines, seen as their list.
 pub type LineList = Listed<Line>;

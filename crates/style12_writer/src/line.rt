@@ -12,7 +12,7 @@ ghost use Rattle.style12_writer.specs.Spaced.{spaced};
 use crate::board::{flag, put_position};
 use crate::draft::Draft;
 use crate::view::{BoardView, Viewer};
-use chess_model::{Colour, material_of};
+use chess_model::materials;
 use fics_words::Line;
 use memory::NoMemory;
 use std::alloc::Global;
@@ -63,8 +63,9 @@ fn put_strengths(line: &mut Draft, v: &BoardView)
     ensures text { line.new ≡ line.old ++ spaced (strength_fields v.now) }
     ensures most { length line.new ≤ length line.old + 84 }
 {
-    line.number_field(material_of(Colour::White, &v.face.men));
-    line.number_field(material_of(Colour::Black, &v.face.men));
+    let (white, black) = materials(&v.face.men);
+    line.number_field(white);
+    line.number_field(black);
     put_seconds(line, v.remaining[0]);
     put_seconds(line, v.remaining[1]);
 }
