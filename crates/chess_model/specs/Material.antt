@@ -1,5 +1,5 @@
 -- What the men of a colour count for: a pawn 1, a knight or a bishop 3, a rook 5, a queen 9.
-use Rattle.std.specs.Prelude.{◌≡◌, ℕ, if◌then◌else◌, List, [], ◌∷◌, sum_by, Option, Some, None, refl}
+use Rattle.std.specs.Prelude.{◌≡◌, ℕ, if◌then◌else◌, [], ◌∷◌, sum_by, Option, Some, None, refl}
 use Rattle.chess_model.specs.declared.man.Colour.{Colour}
 use Rattle.chess_model.specs.declared.man.Colour.TheVariants.{White, Black}
 use Rattle.chess_model.specs.declared.man.Kind.{Kind}

@@ -26,10 +26,27 @@ pub fn materials(men: &[Option<Man>; 64]) -> (u64, u64)
     let mut white = 0;
     let mut black = 0;
     for square in men {
-        white += square_worth(Colour::White, *square);
-        black += square_worth(Colour::Black, *square);
+        let (whites, blacks) = worths(*square);
+        white += whites;
+        black += blacks;
     }
     (white, black)
+}
+
+/// What a square adds to White's material and to Black's.
+fn worths(square: Option<Man>) -> (u64, u64)
+    ensures white { result.0 ≡ square_worth Colour.White square }
+    ensures black { result.1 ≡ square_worth Colour.Black square }
+    ensures most { (result.0 ≤ 9) × (result.1 ≤ 9) }
+{
+    let Some(man) = square else {
+        return (0, 0);
+    };
+    let worth = worth_of(man.kind);
+    match man.colour {
+        Colour::White => (worth, 0),
+        Colour::Black => (0, worth),
+    }
 }
 
 /// What a square adds to a colour's material.

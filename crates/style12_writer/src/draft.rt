@@ -62,7 +62,8 @@ impl Draft {
         ensures text { self.new ≡ self.old ++ byte ∷ [] }
         ensures len { length self.new ≡ length self.old + 1 }
     {
-        self.text(&[byte]);
+        self.bytes[self.len] = byte;
+        self.len += 1;
     }
 
     /// Appends a player's name.
