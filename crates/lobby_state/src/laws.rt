@@ -31,7 +31,7 @@ use fics_words::HandleKey;
 pub fn lobbies_are_well_formed(lobby: &Lobby)
     ensures { IsWellFormed lobby.now }
 {
-    let _ = &lobby.register;
+    let _ = &lobby.roster;
 }
 
 /// Each lobby act whose numbers and texts are within their bounds leaves a lobby well-formed, made or refused; and no
@@ -53,7 +53,7 @@ pub fn plans_keep(lobby: &Lobby, session: u32, act: &PairAct, plan: &Plan)
 pub fn guests_have_the_least_name(lobby: &Lobby)
     ensures { length lobby.now.members < most_members → IsLeastFree (names_taken lobby.now) (guest_in lobby.now) }
 {
-    let _ = &lobby.register;
+    let _ = &lobby.roster;
 }
 
 /// Who is on another's list doesn't reach it: a Tell of one that the other censors is refused, and nothing changes; a
@@ -76,14 +76,14 @@ pub fn who_lists_each_member_once(lobby: &Lobby)
     ensures channel { (channel : ℕ) → ListsEach (filter (is_there lobby.now.channels channel) lobby.now.members)
         (in_channel_lines lobby.now channel) }
 {
-    let _ = &lobby.register;
+    let _ = &lobby.roster;
 }
 
 /// A Games lists the games that a FindGame finds, each of them once, in the order of their numbers.
 pub fn games_lists_what_is_found(lobby: &Lobby)
     ensures { ListWhatIsFound lobby.now (games_lines lobby.now) }
 {
-    let _ = &lobby.register;
+    let _ = &lobby.roster;
 }
 
 /// As a game starts the seeks and challenges of its players go, but for a giver's challenges with those who don't play

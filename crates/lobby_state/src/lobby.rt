@@ -28,14 +28,14 @@ use std::marker::Model;
 /// Who is registered and who is in the hall, which challenges stand, and which desks are in use. Every lobby is
 /// well-formed.
 pub struct Lobby {
-    pub(crate) register: Roster,
+    pub(crate) roster: Roster,
 }
 
 // One call for who drops a lobby: a derived destructor is proved again in each crate above, with those of its parts.
 impl Drop for Lobby {
     fn drop(self) {
-        let Lobby { register } = self;
-        drop(register);
+        let Lobby { roster } = self;
+        drop(roster);
     }
 }
 
@@ -45,9 +45,9 @@ impl Model for Lobby {
 
     ghost Value = { LobbyState };
 
-    ghost view = { λ lobby. lobby.register };
+    ghost view = { λ lobby. lobby.roster };
 
-    ghost invariant = { λ lobby. IsWellFormed lobby.register };
+    ghost invariant = { λ lobby. IsWellFormed lobby.roster };
 }
 
 impl Lobby {
@@ -56,7 +56,7 @@ impl Lobby {
         ensures { IfOk result (λ lobby. lobby ≡ opening) }
     {
         Ok(Lobby {
-            register: Roster::new(alloc)?,
+            roster: Roster::new(alloc)?,
         })
     }
 
@@ -65,7 +65,7 @@ impl Lobby {
     pub fn add_account(&mut self, account: Account) -> Result<(), Fail>
         ensures { Takes (loading_effect self.old account) self.old self.new result }
     {
-        self.register.add_account(account)
+        self.roster.add_account(account)
     }
 
     /// Puts a game that was kept elsewhere on the shelf, under its number there, and makes no save order. Refuses with
@@ -76,7 +76,7 @@ impl Lobby {
         requires replays { Replays game }
         ensures { Takes (storing_effect self.old number game) self.old self.new result }
     {
-        self.register.add_stored(number, game)
+        self.roster.add_stored(number, game)
     }
 
     /// How many accounts there are, and how many stored games.
@@ -84,8 +84,8 @@ impl Lobby {
         ensures accounts { result.0 ≡ length self.now.accounts }
         ensures games { result.1 ≡ length self.now.shelf.games }
     {
-        let accounts = self.register.accounts.rows().len();
-        let games = self.register.shelf.games().len();
+        let accounts = self.roster.accounts.rows().len();
+        let games = self.roster.shelf.games().len();
         (accounts as u32, games as u32)
     }
 
@@ -93,14 +93,14 @@ impl Lobby {
     pub fn stored(&self, number: u64) -> Option<&StoredGame>
         ensures { option_copied result ≡ stored_game self.now.shelf.games number }
     {
-        self.register.shelf.stored(number)
+        self.roster.shelf.stored(number)
     }
 
     /// The adjourned games on the shelf, in the order of their numbers.
     pub fn shelf(&self) -> &[Shelved]
         ensures { result.now ≡ self.now.shelf.games }
     {
-        self.register.shelf.games()
+        self.roster.shelf.games()
     }
 
     /// The numbers of the adjourned games on the shelf, from the least on. It fails only when out of memory.
@@ -108,7 +108,7 @@ impl Lobby {
         ensures { IfOk result (λ numbers. numbers.items ≡ numbers_of self.now.shelf.games) }
     {
         let mut numbers = Vec::new(alloc);
-        for row in self.register.shelf.games() {
+        for row in self.roster.shelf.games() {
             numbers.push(row.number)?;
         }
         Ok(numbers)
@@ -118,21 +118,21 @@ impl Lobby {
     pub fn accounts(&self) -> &[Account]
         ensures { result.now ≡ self.now.accounts }
     {
-        self.register.accounts.rows()
+        self.roster.accounts.rows()
     }
 
     /// The places of the session: none where it isn't a member.
     pub fn places(&self, session: u32) -> Places
         ensures { result ≡ places_of self.now session }
     {
-        self.register.places(session)
+        self.roster.places(session)
     }
 
     /// The lines that wait for the session, the oldest first: none where it isn't a member.
     pub fn waiting(&self, session: u32) -> &[Line]
         ensures { result.now ≡ waiting_of self.now session }
     {
-        self.register.waiting(session)
+        self.roster.waiting(session)
     }
 
     /// The game for which the desk, 1 to 128, is in use, if it is.
@@ -140,7 +140,7 @@ impl Lobby {
         requires { IsDesk desk }
         ensures { result ≡ game_at self.now desk }
     {
-        self.register.game(desk)
+        self.roster.game(desk)
     }
 
     /// Carries out an act that needs the lobby alone. A refusal and running out of memory leave everything as it was.
@@ -149,7 +149,7 @@ impl Lobby {
         requires { FitsLobby act.now }
         ensures { Takes (lobby_effect self.old session act.now) self.old self.new result }
     {
-        self.register.act(session, act)
+        self.roster.act(session, act)
     }
 
     /// A copy of the lists that an act will answer, made before the act; it fails only when out of memory.
@@ -157,7 +157,7 @@ impl Lobby {
         ensures lists { IfOk result (λ lists. lists ≡ lists_told (lobby_effect self.now session act.now).reply) }
         ensures sure { LobbyNeedsNoMemory act.now → IsOk result }
     {
-        self.register.lists_ahead(session, act)
+        self.roster.lists_ahead(session, act)
     }
 
     /// What an act that needs the lobby and a desk is to do, by the lobby alone.
@@ -167,7 +167,7 @@ impl Lobby {
         ensures planned { IfOk result (IsPlanned self.now) }
         ensures desk { IfOk result (λ plan. IfSome (desk_of plan) IsDesk) }
     {
-        self.register.plan(session, act)
+        self.roster.plan(session, act)
     }
 
     /// Makes ready what a plan needs of memory, and changes nothing; it fails only when out of memory. A game is given
@@ -178,7 +178,7 @@ impl Lobby {
         ensures ready { IfOk result (IsReady self.now plan.now) }
         ensures game { IfOk result (λ ready. shelved_in ready ≡ shelved) }
     {
-        self.register.reserve(plan, shelved)
+        self.roster.reserve(plan, shelved)
     }
 
     /// Carries out the lobby's share of a plan, and takes no memory. `cleared` says of a Clear whether the desk is
@@ -188,6 +188,6 @@ impl Lobby {
         requires ready { IsReady self.old plan.now ready }
         ensures { self.new ≡ committed self.old plan.now (shelved_in ready) cleared }
     {
-        self.register.commit(plan, ready, cleared);
+        self.roster.commit(plan, ready, cleared);
     }
 }

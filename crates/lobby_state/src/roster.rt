@@ -44,25 +44,25 @@ impl Model for Roster {
 
     ghost Value = { LobbyState };
 
-    ghost view = { λ register. record {
-      accounts = register.accounts;
-      members = register.members;
-      challenges = register.challenges;
-      seeks = register.seeks;
-      channels = register.channels;
-      partners = register.partners;
-      shelf = register.shelf;
-      games = register.games;
-      started = register.started;
+    ghost view = { λ roster. record {
+      accounts = roster.accounts;
+      members = roster.members;
+      challenges = roster.challenges;
+      seeks = roster.seeks;
+      channels = roster.channels;
+      partners = roster.partners;
+      shelf = roster.shelf;
+      games = roster.games;
+      started = roster.started;
     } };
 
-    ghost invariant = { λ register. length register.games ≡ desks };
+    ghost invariant = { λ roster. length roster.games ≡ desks };
 }
 
 impl Roster {
     /// Nobody is registered or there, and each desk is free. It fails only when out of memory.
     pub(crate) fn new(alloc: Global) -> Result<Roster, NoMemory>
-        ensures { IfOk result (λ register. register ≡ opening) }
+        ensures { IfOk result (λ roster. roster ≡ opening) }
     {
         let members = Members::new(alloc)?;
         let games = no_games(alloc)?;

@@ -8,4 +8,4 @@ use Rattle.lobby_state.proofs.laws.guests_have_the_least_name.Goals as goal
 pub returns : goal.returns
 returns c =
     subst (λ (l : LobbyState). length l.members < 256 → IsLeastFree (names_taken l) (guest_in l)) c.lobby.view_is
-    (guest_is_least c.lobby.inside.register c.lobby.invariant)
+    (guest_is_least c.lobby.inside.roster c.lobby.invariant)

@@ -5,12 +5,12 @@ use Rattle.lobby_state.proofs.lobby.Lobby.act.Goals as goal
 
 pub invariant_of-self : goal.invariant_of-self
 invariant_of-self c =
-    let lobby = c.self.inside.register in
+    let lobby = c.self.inside.roster in
     IsWellFormed-taken lobby (lobby_effect lobby c.args.session c.args.act.now) c.act.new.self c.act.result
     ((keeps_act lobby c.args.session c.args.act.now).formed c.requires) c.self.invariant c.act.ensures
 
 pub act-requires-clause-numbers : goal.act-requires-clause-numbers
-act-requires-clause-numbers c = has_number_left c.self.inside.register c.self.invariant
+act-requires-clause-numbers c = has_number_left c.self.inside.roster c.self.invariant
 
 pub act-requires-clause-count : goal.act-requires-clause-count
-act-requires-clause-count c = one_more_order c.self.inside.register c.self.invariant
+act-requires-clause-count c = one_more_order c.self.inside.roster c.self.invariant

@@ -8,7 +8,7 @@ use Rattle.lobby_state.proofs.lobby.Lobby.commit.Goals as goal
 
 pub invariant_of-self : goal.invariant_of-self
 invariant_of-self c =
-    let lobby = c.self.inside.register in
+    let lobby = c.self.inside.roster in
     let can = subst (λ (l : LobbyState). IsPlanned l c.args.plan.now) (sym c.self.view_is) c.requires.planned in
     let ready = subst (λ (l : LobbyState). IsReady l c.args.plan.now c.args.ready) (sym c.self.view_is) c.requires.ready in
     subst IsWellFormed (sym c.commit.ensures)
