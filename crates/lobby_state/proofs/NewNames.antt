@@ -1,4 +1,4 @@
--- A newcomer: that no row has its name where no member has its handle, and that it is taken back.
+-- A new member: that no row has its name where no member has its handle, and that it is taken back.
 use Rattle.std.proofs.Common.{◌≡◌, ℕ, Bool, true, false, not, cond, List, [], ◌∷◌, ◌++◌, None, Some, refl, sym, ap, ◌∙◌}
 use Rattle.std.specs.Prelude.{◌==◌, bytes_eq, if◌then◌else◌}
 use Rattle.std.specs.Cmp.Lexicographic.{nat_list_eq_equiv}
@@ -31,7 +31,7 @@ filter-none p (y ∷ ys) x none there =
       | false ↦ λ h. ap (λ l. y ∷ l) (filter-none p ys x h there)
     ] none
 
--- a newcomer that is taken back
+-- a new member that is taken back
 pub taken_back : (members : List Member) (member : Member) → find (is_session member.session) members ≡ None
     → filter (λ other. not (member.session == other.session)) (members ++ member ∷ []) ≡ members
 taken_back members member none = filter-none (λ other. member.session == other.session) members member (by_session member.session members ∙ none) (eq-eqb member.session member.session refl)

@@ -55,7 +55,7 @@ new_member session name = record {
   waiting = [];
 }
 
--- the newcomer stands behind the other members
+-- the new member stands behind the other members
 abbrev pub with_new_member : LobbyState → ℕ → List ℕ → LobbyState
 with_new_member lobby session name =
     record lobby { members = lobby.members ++ new_member session name ∷ [] }

@@ -1,6 +1,6 @@
 //! What a member wants to hear.
 
-/// What a member wants others to send; a newcomer wants all of it.
+/// What a member wants others to send; a new member wants all of it.
 #[derive(Clone, Copy)]
 pub struct Wants {
     /// To be challenged: FICS's variable `open`.
