@@ -1,4 +1,4 @@
-pub mod SessionMemory
+pub mod Memory
 pub mod Visits
 pub mod Course
 pub mod Texts
