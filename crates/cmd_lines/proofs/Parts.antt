@@ -6,7 +6,7 @@ use Rattle.std.proofs.lemmas.Bool.Decides.{nat_tests}
 use Rattle.std.proofs.lemmas.List.Splits.{slice_split_none, slice_split_at, join_with_byte-slice_split}
 use Rattle.std.proofs.lemmas.List.Elements.{All-nil, All-cons}
 use Rattle.cmd_lines.specs.Lines.{HasNoLineFeed, pieces, AreParts}
-use Rattle.cmd_lines.proofs.Pieces.{Begins, Begins-pieces}
+use Rattle.fics_words.proofs.Pieces.{Begins, Begins-pieces}
 
 onto-all : (b : ℕ) (parts : List (List ℕ)) → (b == 10) ≡ false → Begins parts → All HasNoLineFeed parts → All HasNoLineFeed (onto_first b parts)
 onto-all b [] e h all = absurd (let bad = h.is in cc)

@@ -5,21 +5,7 @@ use Rattle.std.specs.List.{onto_first}
 use Rattle.std.proofs.lemmas.List.Splits.{slice_split_none, slice_split_at, slice_split-cons_no}
 use Rattle.std.proofs.lemmas.List.Elements.{All-nil, All-cons, All-append, filter-append}
 use Rattle.cmd_lines.specs.Lines.{HasNoLineFeed, is_kept, pieces, lines_of, but_last, last_of, last_line, whole_lines}
-
--- a list with a first element
-pub record Begins (parts : List (List ℕ)) : Type 0 where
-  pub first : List ℕ
-  pub others : List (List ℕ)
-  pub is : parts ≡ first ∷ others
-
-pub Begins-pieces : (text : List ℕ) → Begins (pieces text)
-Begins-pieces [] = record { first = []; others = []; is = refl }
-Begins-pieces (b ∷ text) =
-    let rest = Begins-pieces text in
-    elim (b == 10) as (λ t. Begins (cond t ([] ∷ pieces text) (onto_first b (pieces text)))) [
-      | true ↦ record { first = []; others = pieces text; is = refl }
-      | false ↦ record { first = b ∷ rest.first; others = rest.others; is = ap (onto_first b) rest.is }
-    ]
+use Rattle.fics_words.proofs.Pieces.{Begins, Begins-pieces}
 
 but_last-cons : (x : List ℕ) (parts : List (List ℕ)) → Begins parts → but_last (x ∷ parts) ≡ x ∷ but_last parts
 but_last-cons x [] h = absurd (let bad = h.is in cc)

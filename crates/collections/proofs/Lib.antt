@@ -1,3 +1,5 @@
 -- Lemmas of this crate.
 pub mod EachStep
+pub mod Numbers
 pub mod Places
+pub mod Tests

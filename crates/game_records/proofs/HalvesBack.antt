@@ -12,10 +12,10 @@ use Rattle.game_records.specs.Codes.{move_code}
 use Rattle.game_records.specs.Bounds.{IsHalf, AreSquares}
 use Rattle.game_records.specs.Spelling.{charge_text, half_text, halves_text}
 use Rattle.game_records.specs.Reading.{two_in, move_of, charge_in, behind_charge, behind_board, half_in, behind_half, halves_in}
-use Rattle.game_records.proofs.Each.{each-front}
 use Rattle.game_records.proofs.NumbersBack.{two-read, two-behind}
 use Rattle.game_records.proofs.MovesBack.{move-read, code_small, squares_of}
 use Rattle.game_records.proofs.ChargesBack.{charge-read, charge-behind}
+use Rattle.fics_words.proofs.Each.{each-front}
 
 -- a half-move without its board
 abbrev inner : Half → List ℕ → List ℕ

@@ -1,4 +1,3 @@
-pub mod Each
 pub mod Counts
 pub mod Played
 pub mod NumbersBack

@@ -5,7 +5,7 @@ use Rattle.std.proofs.Math.Seq.{take-append_seam, drop-append_seam}
 use Rattle.fics_words.specs.Handle.{IsHandle}
 use Rattle.game_records.specs.Spelling.{name_text, names_text}
 use Rattle.game_records.specs.Reading.{name_in, behind_name, names_in, behind_names}
-use Rattle.game_records.proofs.Each.{each-back}
+use Rattle.fics_words.proofs.Each.{each-back}
 
 pub name-read : (name rest : List ℕ) → name_in (name_text name ++ rest) ≡ name
 name-read name rest = take-append_seam name rest

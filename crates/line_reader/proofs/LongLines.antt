@@ -1,27 +1,13 @@
 -- The prefix of a text that is a line, and lines that are too long whatever follows.
-use Rattle.std.proofs.Common.{◌≡◌, ℕ, ◌≤◌, Bool, true, false, cond, List, [], ◌∷◌, ◌++◌, length, refl, ap, ◌∙◌, arith}
-use Rattle.std.specs.Prelude.{◌==◌, nat_lt, Some}
+use Rattle.std.proofs.Common.{◌≡◌, ℕ, ◌≤◌, Bool, true, false, cond, List, [], ◌∷◌, ◌++◌, length, ap, ◌∙◌, arith}
+use Rattle.std.specs.Prelude.{nat_lt, Some}
 use Rattle.std.specs.List.{onto_first}
 use Rattle.std.proofs.lemmas.Bool.Decides.{nat_tests}
 use Rattle.line_reader.specs.declared.incoming.Incoming.{Incoming}
 use Rattle.line_reader.specs.declared.incoming.Incoming.TheVariants.{TooLong}
 use Rattle.line_reader.specs.Pieces.{pieces, IsUnbroken}
 use Rattle.line_reader.specs.Reading.{is_stamped, stamped_reading, plain_reading, reading, rest_reading}
-
--- a list with a first element
-pub record Begins (parts : List (List ℕ)) : Type 0 where
-  pub first : List ℕ
-  pub others : List (List ℕ)
-  pub is : parts ≡ first ∷ others
-
-pub Begins-pieces : (text : List ℕ) → Begins (pieces text)
-Begins-pieces [] = record { first = []; others = []; is = refl }
-Begins-pieces (b ∷ text) =
-    let rest = Begins-pieces text in
-    elim (b == 10) as (λ t. Begins (cond t ([] ∷ pieces text) (onto_first b (pieces text)))) [
-      | true ↦ record { first = []; others = pieces text; is = refl }
-      | false ↦ record { first = b ∷ rest.first; others = rest.others; is = ap (onto_first b) rest.is }
-    ]
+pub use Rattle.fics_words.proofs.Pieces.{Begins, Begins-pieces}
 
 -- an unbroken line in front belongs to the first piece
 pub pieces_front : (line text : List ℕ) (first : List ℕ) (others : List (List ℕ)) → IsUnbroken line → pieces text ≡ first ∷ others → pieces (line ++ text) ≡ (line ++ first) ∷ others

@@ -1,6 +1,6 @@
 -- What a reader gives before and after a byte.
 use Rattle.std.proofs.Common.{◌≡◌, ℕ, ◌<◌, ◌≤◌, Bool, true, false, cond, List, [], ◌∷◌, ◌++◌, length, take, map, filter, refl, sym, ap, subst, ◌∙◌, arith, append_assoc, append-nil, length-append}
-use Rattle.std.specs.Prelude.{◌==◌, ◌&&◌, Option, Result, Ok, Err, IfOk}
+use Rattle.std.specs.Prelude.{◌==◌, ◌&&◌, Option}
 use Rattle.std.proofs.Common.{◌+◌, ◌-◌, get_or, drop, add-one, length-drop}
 use Rattle.std.proofs.Math.Seq.{drop-cons}
 use Rattle.std.proofs.lemmas.List.{drop-drop, take_all}
@@ -16,8 +16,9 @@ use Rattle.line_reader.specs.Telnet.{after, is_data, data_from}
 use Rattle.line_reader.specs.Cutting.{Cutting, ends_line, grown, passed}
 use Rattle.line_reader.specs.Reading.{reading, rest_reading}
 use Rattle.line_reader.specs.Reader.{Reader, at_place, kept_from, lines_of, rest_of, GiveSame, Gives, IsKept}
-use Rattle.line_reader.proofs.LongLines.{Begins, Begins-pieces, pieces_front, too_long, rest_too_long}
+use Rattle.line_reader.proofs.LongLines.{pieces_front, too_long, rest_too_long}
 use Rattle.line_reader.proofs.OpenLines.{take_short, full_stays}
+use Rattle.fics_words.proofs.Pieces.{Begins, Begins-pieces}
 
 -- two texts with the same lines and the same rest
 abbrev SameText : List ℕ → List ℕ → Type 0
@@ -59,9 +60,6 @@ joins line b text kept e (inr long) =
     let full : length line ≡ 1034 = omega (arith, kept.short) in
     subst (λ (l : List ℕ). SameText (line ++ b ∷ text) (l ++ text)) (full_stays line b full) (over_long line b text kept.unbroken long e)
 
-room_or_not : (n : ℕ) → (n < 1034) ⊎ (1034 ≤ n)
-room_or_not n = cases_lt n 1034
-
 passes : (d k : Bool) (line : List ℕ) (b : ℕ) (text : List ℕ) → IsKept line → (d && b == 10) ≡ false → is_kept b ≡ k
     → SameText (line ++ filter is_kept (cond d (b ∷ text) text)) (cond (d && k) (take 1034 (line ++ b ∷ [])) line ++ filter is_kept text)
 passes false k line b text kept e is = (refl, refl)
@@ -70,7 +68,7 @@ passes true false line b text kept e is =
 passes true true line b text kept e is =
     subst (λ (l : List ℕ). SameText (line ++ l) (take 1034 (line ++ b ∷ []) ++ filter is_kept text))
     (sym (ap (λ (t : Bool). cond t (b ∷ filter is_kept text) (filter is_kept text)) is))
-    (joins line b (filter is_kept text) kept e (room_or_not (length line)))
+    (joins line b (filter is_kept text) kept e (cases_lt (length line) 1034))
 
 -- a byte that doesn't end the line
 pub pass_same : (place : Telnet) (line : List ℕ) (b : ℕ) (fed : List ℕ) → IsKept line → ends_line place b ≡ false
@@ -191,11 +189,6 @@ rest_all cutting dup new looked_at items slice line now view same bytes passed_a
     ∙ ap (λ (l : List ℕ). rest_of (at_place dup l) []) all
     ∙ ap (λ (c : Cutting). rest_of (at_place c (drop looked_at items)) []) same
     ∙ ap (λ (r : Reader). rest_of r []) view
-
--- what holds of a value, if there is one
-pub ok_from : {A E : Type 0} (P Q : A → Type 0) → ((x : A) → P x → Q x) → (r : Result A E) → IfOk r P → IfOk r Q
-ok_from P Q h (Ok x) p = h x p
-ok_from P Q h (Err e) p = tt
 
 -- the reader behind an LF that ended the line
 pub view_ended : (cutting new : Cutting) (looked_at : ℕ) (items : List ℕ) (now : Reader)

@@ -7,6 +7,7 @@ use Rattle.std.proofs.lemmas.Bool.Decides.{nat_tests}
 use Rattle.line_reader.specs.declared.telnet.Telnet.TheVariants.{Data, Command, Choice, Block, BlockCommand}
 use Rattle.line_reader.specs.Telnet.{is_choice, after, data_from}
 use Rattle.line_reader.specs.Grammar.{Part, Inside, Pair, Sent, DataByte, Order, Request, Section, Begun, Nothing, AfterIac, AfterVerb, InSection, InSectionIac, IsPart, part_bytes, IsSent, sent_bytes, sent_data, all_bytes, all_data, IsBegun, begun_bytes, AreUnits}
+use Rattle.fics_words.proofs.Each.{each-push}
 
 -- parts of a block are skipped
 parts_data : (parts : List Part) → AllByRecursion IsPart parts → (more : List ℕ) → data_from Block (part_bytes parts ++ more) ≡ data_from Block more
@@ -70,10 +71,6 @@ pub record HasUnits (text : List ℕ) : Type 0 where
   pub begun : Begun
   pub are : AreUnits text units begun
 
-parts_push : (parts : List Part) (part : Part) → AllByRecursion IsPart parts → IsPart part → AllByRecursion IsPart (parts ++ part ∷ [])
-parts_push [] part all h = (h, tt)
-parts_push (p ∷ parts) part all h = (all.0, parts_push parts part all.1 h)
-
 part_bytes-append : (parts more : List Part) → part_bytes (parts ++ more) ≡ part_bytes parts ++ part_bytes more
 part_bytes-append [] more = refl
 part_bytes-append (Inside byte ∷ parts) more = ap (λ (l : List ℕ). byte ∷ l) (part_bytes-append parts more)
@@ -122,7 +119,7 @@ has_units (byte ∷ text) (InSection parts) h =
           subst (λ (l : List ℕ). HasUnits (255 ∷ 250 ∷ l)) (append_assoc (part_bytes parts) (255 ∷ []) text ∙ ap (λ (b : ℕ). part_bytes parts ++ b ∷ text) is) (has_units text (InSectionIac parts) h)
       | false ↦ λ e.
           subst (λ (l : List ℕ). HasUnits (255 ∷ 250 ∷ l)) (ap (λ (l : List ℕ). l ++ text) (part_bytes-append parts (Inside byte ∷ [])) ∙ append_assoc (part_bytes parts) (byte ∷ []) text)
-          (has_units text (InSection (parts ++ Inside byte ∷ [])) (parts_push parts (Inside byte) h e))
+          (has_units text (InSection (parts ++ Inside byte ∷ [])) (each-push IsPart parts (Inside byte) h e))
     ] refl
 has_units (byte ∷ text) (InSectionIac parts) h =
     let front : (part_bytes parts ++ 255 ∷ []) ++ byte ∷ text ≡ part_bytes parts ++ 255 ∷ byte ∷ text = append_assoc (part_bytes parts) (255 ∷ []) (byte ∷ text) in
@@ -135,7 +132,7 @@ has_units (byte ∷ text) (InSectionIac parts) h =
           (has_units text Nothing tt)
       | false ↦ λ e.
           subst (λ (l : List ℕ). HasUnits (255 ∷ 250 ∷ l)) (ap (λ (l : List ℕ). l ++ text) (part_bytes-append parts (Pair byte ∷ [])) ∙ append_assoc (part_bytes parts) (255 ∷ byte ∷ []) text)
-          (has_units text (InSection (parts ++ Pair byte ∷ [])) (parts_push parts (Pair byte) h e))
+          (has_units text (InSection (parts ++ Pair byte ∷ [])) (each-push IsPart parts (Pair byte) h e))
     ] refl)
 
 pub units_of : (text : List ℕ) → HasUnits text

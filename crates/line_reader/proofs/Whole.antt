@@ -10,8 +10,9 @@ use Rattle.line_reader.specs.Telnet.{data_from}
 use Rattle.line_reader.specs.Reading.{reading, rest_reading}
 use Rattle.line_reader.specs.Reader.{fresh, lines_of, rest_of}
 use Rattle.line_reader.specs.Grammar.{AreLines}
-use Rattle.line_reader.proofs.LongLines.{Begins, Begins-pieces, pieces_front}
+use Rattle.line_reader.proofs.LongLines.{pieces_front}
 use Rattle.line_reader.proofs.Units.{units_data, units_of}
+use Rattle.fics_words.proofs.Pieces.{Begins, Begins-pieces}
 
 -- parts without line feeds are the pieces of their join
 parts_only : (whole : List (List ℕ)) (left : List ℕ) → AllByRecursion IsUnbroken (whole ++ left ∷ []) → pieces (join_with_byte 10 (whole ++ left ∷ [])) ≡ whole ++ left ∷ []

@@ -6,24 +6,20 @@ use Rattle.std.specs.Cmp.Lexicographic.{nat_list_eq_equiv}
 use Rattle.fics_words.specs.Handle.{key_of}
 use Rattle.fics_words.specs.declared.account.Account.{Account}
 use Rattle.login_handles.specs.Accounts.{account_of, HasOneEach}
-
--- none was found, so neither the first is one nor any other
-neither : (b : Bool) (first : Account) (rest : Option Account) → cond b (Some first) rest ≡ None → (b ≡ false) × (rest ≡ None)
-neither true first rest e = absurd (let bad : Some first ≡ None = e in cc)
-neither false first rest e = (refl, e)
+use Rattle.fics_words.proofs.Causes.{first_none}
 
 account_of-append : (accounts : List Account) (last : Account) (key : List ℕ) → account_of accounts key ≡ None → bytes_eq (key_of last.name) key ≡ false
     → account_of (accounts ++ last ∷ []) key ≡ None
 account_of-append [] last key none other = ap (λ (t : Bool). cond t (Some last) None) other
 account_of-append (first ∷ accounts) last key none other =
-    let both = neither (bytes_eq (key_of first.name) key) first (account_of accounts key) none in
+    let both = first_none (bytes_eq (key_of first.name) key) first (account_of accounts key) none in
     ap (λ (t : Bool). cond t (Some first) (account_of (accounts ++ last ∷ []) key)) both.0 ∙ account_of-append accounts last key both.1 other
 
 pub HasOneEach-append : (accounts : List Account) (last : Account) → HasOneEach accounts → account_of accounts (key_of last.name) ≡ None
     → HasOneEach (accounts ++ last ∷ [])
 HasOneEach-append [] last each none = (refl, tt)
 HasOneEach-append (first ∷ accounts) last each none =
-    let both = neither (bytes_eq (key_of first.name) (key_of last.name)) first (account_of accounts (key_of last.name)) none in (
+    let both = first_none (bytes_eq (key_of first.name) (key_of last.name)) first (account_of accounts (key_of last.name)) none in (
       account_of-append accounts last (key_of first.name) each.0 (nat_list_eq_equiv.symm (key_of last.name) (key_of first.name) ∙ both.0),
       HasOneEach-append accounts last each.1 both.1,
     )

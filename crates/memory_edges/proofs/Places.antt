@@ -1,11 +1,10 @@
 -- The scan for a key's place among pairs in ascending order.
-use Rattle.std.proofs.Common.{◌≡◌, ℕ, ◌+◌, ◌<◌, zero, suc, Bool, true, false, cond, not, List, [], ◌∷◌, ◌++◌, length, take, drop, get_or, set, refl, sym, ap, subst, ◌∙◌, arith, append_assoc, add-one, take-append-drop}
+use Rattle.std.proofs.Common.{◌≡◌, ℕ, ◌+◌, ◌<◌, zero, suc, cond, not, List, [], ◌∷◌, ◌++◌, length, take, drop, get_or, set, refl, sym, ap, subst, ◌∙◌, arith, append_assoc, add-one, take-append-drop}
 use Rattle.std.specs.Ordering.{is_eq, is_lt}
 use Rattle.std.specs.declared.cmp.Ordering.{Ordering}
 use Rattle.std.specs.declared.cmp.Ordering.TheVariants.{Less, Equal, Greater}
-use Rattle.std.specs.Cmp.Lexicographic.{nat_list_cmp_total}
 use Rattle.std.specs.FinMap.{put, nat_cmp-IsAntisymmetric, slice_cmp-IsAntisymmetric}
-use Rattle.std.specs.FinMap.Entries.{below_all, by_order}
+use Rattle.std.specs.FinMap.Entries.{by_order}
 use Rattle.std.proofs.Math.Seq.{drop-cons, take-suc, take-suc-set}
 use Rattle.std.proofs.lemmas.List.{drop-set-lt}
 use Rattle.edge_traits.specs.Pairs.{Pairs, IsAscending, keys_order}
@@ -13,31 +12,15 @@ use Rattle.memory_edges.specs.Shelf.{IsPlace, without}
 use Rattle.memory_edges.specs.declared.mem_keeper.KeyPlace.TheVariants.{At, Gap}
 use Rattle.std.proofs.lemmas.Bool.{and_from}
 use Rattle.std.specs.Cmp.{first_so, second_so}
-
--- the key stands below all of these
-IsBelow : List ℕ → Pairs → Type 0
-IsBelow key pairs = below_all keys_order key pairs ≡ true
-
-is_less : (o : Ordering) → is_lt o ≡ true → o ≡ Less
-is_less Less p = refl
-is_less Equal p = absurd (let bad : false ≡ true = p in cc)
-is_less Greater p = absurd (let bad : false ≡ true = p in cc)
+use Rattle.edge_traits.proofs.Rising.{IsBelow, IsBelow-less, is_less}
 
 -- nothing goes where the key stands below all
 without-below : (key : List ℕ) (pairs : Pairs) → IsBelow key pairs → without key pairs ≡ pairs
-unfolding IsBelow
 without-below key [] h = refl
 without-below key (e ∷ es) h =
     let less = is_less (keys_order key e.0) (first_so _ _ h) in
     let rest = without-below key es (second_so _ _ h) in
     ap (λ o. cond (not (is_eq o)) (e ∷ without key es) (without key es)) less ∙ ap (λ l. e ∷ l) rest
-
-IsBelow-less : (key other : List ℕ) (pairs : Pairs) → keys_order key other ≡ Less → IsBelow other pairs → IsBelow key pairs
-unfolding IsBelow
-IsBelow-less key other [] p h = refl
-IsBelow-less key other (e ∷ es) p h =
-    let less = nat_list_cmp_total.trans key other e.0 p (is_less _ (first_so _ _ h)) in
-    and_from _ _ (ap is_lt less) (IsBelow-less key other es p (second_so _ _ h))
 
 sorted-drop : (i : ℕ) (pairs : Pairs) → IsAscending pairs → IsAscending (drop i pairs)
 sorted-drop zero pairs h = h
@@ -97,7 +80,6 @@ module _ (pairs : Pairs) (key : List ℕ) (i : ℕ) (e : List ℕ × List ℕ) (
   sorted_next sorted = subst IsAscending next (sorted-drop i pairs sorted)
 
   pub IsPlace-gap : IsAscending pairs → keys_order key e.0 ≡ Less → IsPlace pairs key (Gap i)
-  unfolding IsBelow
   IsPlace-gap sorted less =
       let h = sorted_next sorted in
       let below : IsBelow key (e ∷ rest) = and_from _ _ (ap is_lt less) (IsBelow-less key e.0 rest less (first_so _ _ h)) in
@@ -108,7 +90,7 @@ module _ (pairs : Pairs) (key : List ℕ) (i : ℕ) (e : List ℕ × List ℕ) (
       )
 
   pub IsPlace-at : IsAscending pairs → keys_order key e.0 ≡ Equal → IsPlace pairs key (At i)
-  unfolding IsBelow rest
+  unfolding rest
   IsPlace-at sorted equal =
       let same : key ≡ e.0 = slice_cmp-IsAntisymmetric nat_cmp-IsAntisymmetric key e.0 equal in
       let below : IsBelow key rest = subst (λ k. IsBelow k rest) (sym same) (first_so _ _ (sorted_next sorted)) in (

@@ -2,13 +2,14 @@
 use Rattle.std.proofs.Common.{◌≡◌, ℕ, ◌≤◌, Bool, true, false, not, cond, List, [], ◌∷◌, ◌++◌, length, map, Option, None, Some, refl, sym, ap, ◌∙◌, arith}
 use Rattle.std.specs.Prelude.{◌==◌, is_some}
 use Rattle.std.specs.List.{filter}
-use Rattle.std.proofs.lemmas.Bool.{cond-false, cond_both, eqb-false, ne_eqb, not_from_true}
+use Rattle.std.proofs.lemmas.Bool.{cond-false, cond_both, not_from_true}
 use Rattle.std.proofs.lemmas.List.{length-append}
 use Rattle.std.proofs.lemmas.List.Elements.{All-filter, All-map, All-push, All-weaker}
 use Rattle.observer_feed.specs.declared.cursor.Cursor.{Cursor}
 use Rattle.observer_feed.specs.declared.cursor.Told.{Told}
 use Rattle.observer_feed.specs.declared.cursor.Told.TheVariants.{FromStart, FromNow}
 use Rattle.observer_feed.specs.Feed.{AreOnce, ArePlaces, caught_up, cursor_of, first_place, is_viewer, without}
+use Rattle.collections.proofs.Numbers.{differ_turned}
 
 -- where nobody is found, the first cursor isn't the session's, and nobody is found behind it
 pub skipped : (b : Bool) (c : Cursor) (found : Option Cursor) → is_some (cond b (Some c) found) ≡ false → (b ≡ false) × (is_some found ≡ false)
@@ -35,14 +36,11 @@ none-push (c ∷ viewers) last session h apart =
     let both = skipped (c.session == session) c (cursor_of viewers session) h in
     unfound (c.session == session) c (cursor_of (viewers ++ last ∷ []) session) both.0 (none-push viewers last session both.1 apart)
 
-other_way : (a b : ℕ) → (a == b) ≡ false → (b == a) ≡ false
-other_way a b h = ne_eqb b a (λ e. eqb-false a b h (sym e))
-
 AreOnce-push : (viewers : List Cursor) (last : Cursor) → AreOnce viewers → is_viewer viewers last.session ≡ false → AreOnce (viewers ++ last ∷ [])
 AreOnce-push [] last h none = (refl, tt)
 AreOnce-push (c ∷ viewers) last h none =
     let both = skipped (c.session == last.session) c (cursor_of viewers last.session) none in (
-      none-push viewers last c.session h.0 (other_way c.session last.session both.0),
+      none-push viewers last c.session h.0 (differ_turned c.session last.session both.0),
       AreOnce-push viewers last h.1 both.1,
     )
 

@@ -2,7 +2,7 @@
 use Rattle.std.proofs.Common.{◌≡◌, ℕ, ◌<◌, Bool, true, false, not, cond, List, [], ◌∷◌, ◌++◌, add-one, ◌+◌, refl, sym, ap, ◌∙◌, inl, inr, Some, None}
 use Rattle.std.specs.Prelude.{◌==◌, ◌&&◌, ◌||◌, Option, option_map, All}
 use Rattle.std.specs.List.{filter, find, list_any}
-use Rattle.std.proofs.lemmas.Bool.{eqb-false, eq-eqb, ne_eqb, and_cases, and_left, and_right, or_parts, or_from, cond_both, not-true}
+use Rattle.std.proofs.lemmas.Bool.{eq-eqb, and_cases, and_left, and_right, or_parts, or_from, cond_both, not-true}
 use Rattle.std.proofs.lemmas.List.Elements.{All-filter, All-push, All-weaker, filter_passes}
 use Rattle.std.proofs.lemmas.List.Folds.{list_any-append}
 use Rattle.offer_book.specs.declared.offer.Offer.{Offer}
@@ -10,14 +10,8 @@ use Rattle.offer_book.specs.declared.offer.Offer.TheVariants.{Draw, Abort, Adjou
 use Rattle.offer_book.specs.declared.offer.StandingOffer.{StandingOffer}
 use Rattle.offer_book.specs.Offers.{AreOffers, HasOneEach, OfferBook, earliest, is_other_takeback, kind_of, same_offer, settled, stands, stands_alike, stands_for_all, where_stand, with_offer, without}
 use Rattle.std.specs.Cmp.{second_so}
-
-any-filter : {X : Type 0} (p q : X → Bool) (xs : List X) → list_any p xs ≡ false → list_any p (filter q xs) ≡ false
-any-filter p q [] h = refl
-any-filter p q (x ∷ xs) h =
-    let both = or_parts (p x) (list_any p xs) h in
-    cond_both (q x) (x ∷ filter q xs) (filter q xs) (λ zs. list_any p zs ≡ false)
-    (λ _. or_from (p x) (list_any p (filter q xs)) both.0 (any-filter p q xs both.1))
-    (λ _. any-filter p q xs both.1)
+use Rattle.collections.proofs.Tests.{list_any-filter}
+use Rattle.collections.proofs.Numbers.{differ_turned}
 
 -- a row is of this seat and kind
 abbrev pub is_alike : ℕ → ℕ → StandingOffer → Bool
@@ -27,16 +21,13 @@ HasOneEach-filter : (q : StandingOffer → Bool) (rows : List StandingOffer) →
 HasOneEach-filter q [] h = tt
 HasOneEach-filter q (row ∷ rows) h =
     cond_both (q row) (row ∷ filter q rows) (filter q rows) HasOneEach
-    (λ _. (any-filter (is_alike row.seat (kind_of row.offer)) q rows h.0, HasOneEach-filter q rows h.1))
+    (λ _. (list_any-filter (is_alike row.seat (kind_of row.offer)) q rows h.0, HasOneEach-filter q rows h.1))
     (λ _. HasOneEach-filter q rows h.1)
-
-other_way : (a b : ℕ) → (a == b) ≡ false → (b == a) ≡ false
-other_way a b h = ne_eqb b a (λ e. eqb-false a b h (sym e))
 
 alike_other_way : (s t k l : ℕ) → ((s == t) && (k == l)) ≡ false → ((t == s) && (l == k)) ≡ false
 alike_other_way s t k l h = elim (and_cases (s == t) (k == l) h) as (λ _. ((t == s) && (l == k)) ≡ false) [
-  | inl e ↦ and_left (t == s) (l == k) (other_way s t e)
-  | inr e ↦ and_right (t == s) (l == k) (other_way k l e)
+  | inl e ↦ and_left (t == s) (l == k) (differ_turned s t e)
+  | inr e ↦ and_right (t == s) (l == k) (differ_turned k l e)
 ]
 
 HasOneEach-push : (rows : List StandingOffer) (last : StandingOffer) → HasOneEach rows

@@ -1,3 +1,2 @@
 -- Lemmas of this crate.
 pub mod Links
-pub mod Requests

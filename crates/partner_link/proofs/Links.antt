@@ -1,17 +1,16 @@
 -- Links: what stays when some go and when one comes, and that they hold both ways.
 use Rattle.std.proofs.Common.{◌≡◌, ℕ, Bool, true, false, not, cond, List, [], ◌∷◌, ◌++◌, Option, None, Some, refl, sym, ap, subst, ◌∙◌}
-use Rattle.std.specs.Prelude.{◌==◌, ◌||◌, is_some, option_map}
+use Rattle.std.specs.Prelude.{◌==◌, ◌||◌, option_map}
 use Rattle.std.specs.List.{filter, find}
 use Rattle.std.proofs.lemmas.Bool.{eqb-true, eqb-false, eq-eqb, ne_eqb, or_right, or_from, or_parts}
 use Rattle.partner_link.specs.declared.pairs.PartnerLink.{PartnerLink}
 use Rattle.partner_link.specs.Partners.{AreLinks, is_of, other_of, partner_of}
-use Rattle.std.proofs.lemmas.Option.{same_Some}
+use Rattle.std.proofs.lemmas.Option.{same_Some, none-some}
+pub use Rattle.collections.proofs.Numbers.{differ_turned as flipped}
+pub use Rattle.collections.proofs.Tests.{none_found as no_partner}
 
 same : (a : ℕ) → (a == a) ≡ true
 same a = eq-eqb a a refl
-
-pub flipped : (a b : ℕ) → (a == b) ≡ false → (b == a) ≡ false
-flipped a b differ = ne_eqb b a (λ e. eqb-false a b differ (sym e))
 
 -- a player without a partner isn't in the first link, and has no partner in the others
 without_partner : (t : Bool) (who : ℕ) (link : PartnerLink) (rest : Option PartnerLink) → option_map (other_of who) (cond t (Some link) rest) ≡ None
@@ -48,11 +47,6 @@ kept_links : (t : Bool) (link : PartnerLink) (rest : List PartnerLink) → (link
     → partner_of rest link.first ≡ None → partner_of rest link.second ≡ None → AreLinks rest → AreLinks (cond t (link ∷ rest) rest)
 kept_links true link rest differ first second more = (differ, first, second, more)
 kept_links false link rest differ first second more = more
-
--- a search that found no partner
-pub no_partner : (found partner : Option ℕ) → found ≡ partner → is_some found ≡ false → partner ≡ None
-no_partner None partner e none = sym e
-no_partner (Some there) partner e none = absurd (let bad : true ≡ false = none in cc)
 
 -- links of which some are gone are links
 pub AreLinks-filter : (p : PartnerLink → Bool) (links : List PartnerLink) → AreLinks links → AreLinks (filter p links)
@@ -99,9 +93,6 @@ back link a false first is differ = (
   ap (λ (t : Bool). cond t link.second link.first) (same link.first) ∙ eqb-true link.second a is,
 )
 
-no_some : (a : ℕ) → None ≡ Some a → ⊥
-no_some a e = cc
-
 in_first : (link : PartnerLink) (links : List PartnerLink) (a b : ℕ) → is_of a link ≡ true → (link.first == link.second) ≡ false
     → Some (other_of a link) ≡ Some b → partner_of (link ∷ links) b ≡ Some a
 in_first link links a b is differ found =
@@ -112,11 +103,11 @@ in_first link links a b is differ found =
 
 -- a player without a partner isn't the one who has this partner
 differs : (links : List PartnerLink) (x b a : ℕ) → partner_of links x ≡ None → partner_of links b ≡ Some a → (x == b) ≡ false
-differs links x b a none some = ne_eqb x b (λ e. no_some a (sym none ∙ ap (partner_of links) e ∙ some))
+differs links x b a none some = ne_eqb x b (λ e. none-some a (sym none ∙ ap (partner_of links) e ∙ some))
 
 -- whoever is my partner has me as its partner
 pub partner_of-partner_of : (links : List PartnerLink) → AreLinks links → (a b : ℕ) → partner_of links a ≡ Some b → partner_of links b ≡ Some a
-partner_of-partner_of [] all a b found = absurd (no_some b found)
+partner_of-partner_of [] all a b found = absurd (none-some b found)
 partner_of-partner_of (link ∷ links) all a b found =
     elim (is_of a link) as (λ t. is_of a link ≡ t → option_map (other_of a) (cond t (Some link) (find (is_of a) links)) ≡ Some b → partner_of (link ∷ links) b ≡ Some a) [
       | true ↦ λ is here. in_first link links a b is all.0 here
@@ -134,7 +125,7 @@ not_itself link a false first is differ own = eqb-false link.first link.second d
 
 -- nobody is its own partner
 pub partner_of-other : (links : List PartnerLink) → AreLinks links → (a : ℕ) → partner_of links a ≡ Some a → ⊥
-partner_of-other [] all a found = no_some a found
+partner_of-other [] all a found = none-some a found
 partner_of-other (link ∷ links) all a found =
     elim (is_of a link) as (λ t. is_of a link ≡ t → option_map (other_of a) (cond t (Some link) (find (is_of a) links)) ≡ Some a → ⊥) [
       | true ↦ λ is here. not_itself link a (link.first == a) refl is all.0 (same_Some (other_of a link) a here)

@@ -1,11 +1,12 @@
 -- What follows where each line may come after those before it.
-use Rattle.std.proofs.Common.{◌≡◌, ◌↔◌, Bool, true, false, not, ◌&&◌, ◌||◌, eqb, leb, ℕ, ◌≤◌, List, [], ◌∷◌, ◌++◌, append_assoc, refl, sym, ◌∙◌, ap, subst}
-use Rattle.std.specs.List.{AllByRecursion, list_any}
+use Rattle.std.proofs.Common.{◌||◌, ◌≡◌, ◌↔◌, Bool, true, false, not, ◌&&◌, eqb, leb, ℕ, ◌≤◌, List, [], ◌∷◌, ◌++◌, append_assoc, refl, sym, ◌∙◌, ap, subst}
+use Rattle.std.specs.List.{list_any}
 use Rattle.std.proofs.lemmas.Bool.{eq-eqb, or_left, and_from}
 use Rattle.std.proofs.lemmas.List.{append-nil}
 use Rattle.std.proofs.lemmas.List.Elements.{recursion_from_All}
 use Rattle.std.proofs.lemmas.List.Folds.{list_any-append}
 use Rattle.replay_core.specs.Order.{Arrival, MayCome, FollowInOrder, IsInOrder, KeepOrder, is_connect, is_connected, leaves}
+use Rattle.fics_words.proofs.Each.{each-back}
 
 -- ---- by steps
 
@@ -34,10 +35,6 @@ follows_at seats lines (first ∷ before) next after h =
 
 -- ---- of two
 
-in_midst : {A : Type 0} (P : A → Type 0) (xs : List A) (y : A) (ys : List A) → AllByRecursion P (xs ++ y ∷ ys) → P y
-in_midst P [] y ys h = h.0
-in_midst P (x ∷ xs) y ys h = in_midst P xs y ys h.1
-
 -- a session that did anything is connected
 found : (seated earlier same connects later : Bool) → same ≡ true → connects ≡ not (seated || earlier) → (seated || (earlier || ((same && connects) || later))) ≡ true
 found true earlier same connects later s c = refl
@@ -58,7 +55,7 @@ order_of_two seats before between after one other h =
     let regrouped : before ++ one ∷ (between ++ other ∷ after) ≡ before ++ (one ∷ between) ++ other ∷ after = sym (append_assoc before (one ∷ between) (other ∷ after)) in
     let second : MayCome seats (before ++ one ∷ between) other.line = follows_at seats [] (before ++ one ∷ between) other after (subst (IsInOrder seats) regrouped h) in
     record {
-      moment = in_midst (λ came. came.line.moment ≤ other.line.moment) before one between (recursion_from_All (λ came. came.line.moment ≤ other.line.moment) (before ++ one ∷ between) second.moment);
+      moment = (each-back (λ came. came.line.moment ≤ other.line.moment) before (one ∷ between) (recursion_from_All (λ came. came.line.moment ≤ other.line.moment) (before ++ one ∷ between) second.moment)).0;
       stays = λ same.
           let test = λ (came : Arrival). eqb came.line.session session && leaves came in
           let all : (list_any test before || list_any test (one ∷ between)) ≡ false = sym (list_any-append test before (one ∷ between)) ∙ second.stays in

@@ -17,7 +17,8 @@ use Rattle.replay_core.specs.declared.seat_line.SeatLine.{SeatLine}
 use Rattle.replay_core.specs.Script.{IsScriptLine, event_text, script_text}
 use Rattle.replay_core.specs.SeatLine.{AreSeatTerms, IsSeatLine, terms_text, seat_text}
 use Rattle.replay_core.specs.Words.{blank, IsWord, words_before}
-use Rattle.replay_core.proofs.Cuts.{IsDigit, one_cut, one_number, digits_of_decimal, decimal_is_word, handle_is_word}
+use Rattle.replay_core.proofs.Cuts.{one_cut, one_number, decimal_is_word, handle_is_word}
+use Rattle.fics_words.proofs.Digits.{IsDigit, digits_of_decimal}
 
 -- one word more
 pub words_before-push : (words : List (List ℕ)) (word rest : List ℕ) → words_before (words ++ word ∷ []) rest ≡ words_before words (word ++ blank ∷ rest)

@@ -1,35 +1,18 @@
 -- Challenges of which each pair of players has one: some go, and one comes.
-use Rattle.std.proofs.Common.{◌≡◌, ℕ, Bool, true, false, not, cond, List, [], ◌∷◌, ◌++◌, refl, sym, ap, ◌∙◌}
+use Rattle.std.proofs.Common.{◌≡◌, Bool, true, false, not, cond, List, [], ◌∷◌, ◌++◌, refl, ap, ◌∙◌}
 use Rattle.std.specs.Prelude.{◌==◌, ◌&&◌}
 use Rattle.std.specs.List.{filter, list_any}
-use Rattle.std.proofs.lemmas.Bool.{eqb-true, eqb-false, eq-eqb, ne_eqb, or_from, or_parts}
+use Rattle.std.proofs.lemmas.Bool.{or_from}
 use Rattle.std.proofs.lemmas.List.Folds.{list_any-append}
 use Rattle.seek_match.specs.declared.challenge.Challenge.{Challenge}
 use Rattle.seek_match.specs.Matches.{AreChallenges, is_same_pair, with_challenge}
-
--- equality of numbers, seen from the other one
-pub turned : (a b : ℕ) → (a == b) ≡ (b == a)
-turned a b =
-    elim (b == a) as (λ t. (b == a) ≡ t → (a == b) ≡ t) [
-      | true ↦ λ same. eq-eqb a b (sym (eqb-true b a same))
-      | false ↦ λ differ. ne_eqb a b (λ e. eqb-false b a differ (sym e))
-    ] refl
+use Rattle.collections.proofs.Numbers.{turned}
+use Rattle.collections.proofs.Tests.{list_any-filter}
 
 is_same_pair-turned : (one other : Challenge) → is_same_pair one other ≡ is_same_pair other one
 is_same_pair-turned one other =
     ap (λ (t : Bool). t && (other.to == one.to)) (turned other.from one.from)
     ∙ ap (λ (t : Bool). (one.from == other.from) && t) (turned other.to one.to)
-
-kept_none : (q : Challenge → Bool) (t : Bool) (x : Challenge) (rest : List Challenge) → q x ≡ false → list_any q rest ≡ false
-    → list_any q (cond t (x ∷ rest) rest) ≡ false
-kept_none q true x rest fails none = or_from (q x) (list_any q rest) fails none
-kept_none q false x rest fails none = none
-
-list_any-filter : (q p : Challenge → Bool) (xs : List Challenge) → list_any q xs ≡ false → list_any q (filter p xs) ≡ false
-list_any-filter q p [] none = refl
-list_any-filter q p (x ∷ xs) none =
-    let both = or_parts (q x) (list_any q xs) none in
-    kept_none q (p x) x (filter p xs) both.0 (list_any-filter q p xs both.1)
 
 kept : (t : Bool) (x : Challenge) (rest : List Challenge) → list_any (is_same_pair x) rest ≡ false → AreChallenges rest → AreChallenges (cond t (x ∷ rest) rest)
 kept true x rest none more = (none, more)

@@ -4,18 +4,8 @@ use Rattle.std.specs.Prelude.{◌==◌, ◌||◌}
 use Rattle.std.specs.List.{filter, find, insert}
 use Rattle.std.proofs.lemmas.Bool.{eqb-true, eqb-false, ne_eqb, or_from}
 use Rattle.seek_match.specs.declared.seek.Seek.{Seek}
-use Rattle.seek_match.proofs.Pairs.{turned}
 use Rattle.seek_match.specs.Seeks.{AreSeeks, IsLeastUnused, RiseAbove, first_gap, is_used, next_number}
-
--- a number above another one that isn't the next
-past : (a b : ℕ) → a < b → (b ≡ a + 1 → ⊥) → a + 1 < b
-past a b above other = grind arith
-
-not_same : (a b : ℕ) → a < b → b ≡ a → ⊥
-not_same a b h e = omega arith
-
-not_same_above : (a b : ℕ) → a < b → a ≡ b → ⊥
-not_same_above a b h e = omega arith
+use Rattle.collections.proofs.Numbers.{turned, past, not_same, not_same_above}
 
 rise_on : (low : ℕ) (seek : Seek) (seeks : List Seek) → low < seek.number → seek.number < 65536 → RiseAbove seek.number seeks → RiseAbove low (seek ∷ seeks)
 rise_on low seek seeks above fits rise = (above, fits, rise)

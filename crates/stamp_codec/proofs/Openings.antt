@@ -11,11 +11,11 @@ use Rattle.stamp_codec.specs.Spelling.{body, pads, written, swapped, by_place, c
 use Rattle.stamp_codec.specs.Opening.{decipher, before, behind, number, plain, candidate, if_spelled, opened}
 use Rattle.stamp_codec.specs.declared.sealed.Sealed.{Sealed}
 use Rattle.stamp_codec.specs.Sealed.{message as message_in, option_message}
-use Rattle.stamp_codec.proofs.Each.{each-front}
 use Rattle.stamp_codec.proofs.Swaps.{swapped-swapped, AllByRecursion-swapped}
 use Rattle.stamp_codec.proofs.Places.{decipher-cipher_each, cipher-decipher_each}
 use Rattle.stamp_codec.proofs.Marks.{before-mark, behind-mark}
 use Rattle.stamp_codec.proofs.Written.{letters_of, letters_unmarked, stamp_small, message_of-own, number-decimal, decimal_unmarked, written_parts, written_small}
+use Rattle.fics_words.proofs.Each.{each-front}
 
 take-front : (xs : List ℕ) (x : ℕ) → take (length (xs ++ x ∷ []) - 1) (xs ++ x ∷ []) ≡ xs
 take-front xs x =

@@ -10,9 +10,10 @@ use Rattle.std.proofs.lemmas.Slice.Eq.{bytes_eq-Decides}
 use Rattle.stamp_codec.specs.Message.{Message, Text, Ack, text_of, stamp_of, ack_text, is_printable, is_text, is_message, message_of}
 use Rattle.stamp_codec.specs.Spelling.{body, pads, padded, written}
 use Rattle.stamp_codec.specs.Opening.{number}
-use Rattle.stamp_codec.proofs.Each.{each-append, each-weaker}
 use Rattle.stamp_codec.proofs.Marks.{mark_within, one_cut}
 use Rattle.fics_words.proofs.HandleTests.{each}
+use Rattle.fics_words.proofs.Each.{each-append, each-weaker}
+use Rattle.fics_words.proofs.Digits.{IsDigit, digits_of_decimal}
 
 -- a byte of a text or of an acknowledgement
 abbrev pub IsLetter : ℕ → Type 0
@@ -53,16 +54,6 @@ message_of-own (Text text stamp) h =
 message_of-own (Ack stamp) h = refl
 
 -- ---- decimals
-
-abbrev pub IsDigit : ℕ → Type 0
-IsDigit byte = (48 ≤ byte) × (byte ≤ 57)
-
-pub digits_of_decimal : (n : ℕ) → n < 2 ^ 64 → AllByRecursion IsDigit (decimal n)
-digits_of_decimal n small =
-    decimal_by_steps (λ (n : ℕ) (ds : List ℕ). AllByRecursion IsDigit ds)
-    (λ n lt. ((omega arith, omega arith), tt))
-    (λ n ds le h. each-append IsDigit ds ((48 + n % 10) ∷ []) h ((omega arith, omega arith), tt))
-    n small
 
 pub number-decimal : (n : ℕ) → n < 2 ^ 64 → number (decimal n) ≡ n
 number-decimal n small =

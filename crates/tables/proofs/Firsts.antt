@@ -1,7 +1,8 @@
 -- For callers: the first item that passes a test, whether there is one, and a change of it.
-use Rattle.std.proofs.Common.{◌≡◌, ◌||◌, Bool, true, false, cond, List, [], ◌∷◌, Option, None, Some, Result, Ok, Err, OnErr, length, suc, is_some, true≢false, refl, ap, ◌∙◌}
+use Rattle.std.proofs.Common.{◌≡◌, ◌||◌, Bool, true, false, cond, List, [], ◌∷◌, None, Some, Result, Ok, Err, OnErr, length, suc, is_some, refl, ap, ◌∙◌}
 use Rattle.std.specs.List.{find, list_any}
 use Rattle.tables.specs.Rows.{change_first}
+use Rattle.collections.proofs.Tests.{none_found}
 
 pub on_err : {T E Y : Type 0} (r : Result T E) → Y → OnErr r Y
 on_err (Ok x) y = tt
@@ -18,11 +19,7 @@ is_some-find p (x ∷ xs) =
 
 -- and where none passes there is none
 pub find-absent : {X : Type 0} (p : X → Bool) (xs : List X) → list_any p xs ≡ false → find p xs ≡ None
-find-absent p xs absent = none (find p xs) (is_some-find p xs ∙ absent)
-  where
-    none : {X : Type 0} (o : Option X) → is_some o ≡ false → o ≡ None
-    none None e = refl
-    none (Some x) e = absurd (true≢false e)
+find-absent p xs absent = none_found (find p xs) (find p xs) refl (is_some-find p xs ∙ absent)
 
 -- as many items as before
 pub length-change_first : {X : Type 0} (p : X → Bool) (f : X → X) (xs : List X) → length (change_first p f xs) ≡ length xs

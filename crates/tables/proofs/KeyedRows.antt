@@ -9,11 +9,8 @@ use Rattle.std.proofs.lemmas.Option.{none-some}
 use Rattle.indexmap.specs.IndexMap.{IndexMap, get, insert_entry, insert_index, move_index, set_value_at}
 use Rattle.indexmap.proofs.CallerLemmas.{insert_entry-new}
 use Rattle.tables.specs.Rows.{change_at, change_first, keyed}
-
--- lists alone: an item behind the others is found there, taken out, and put in elsewhere
-last_is : {X : Type 0} (xs : List X) (x : X) → slice_get (xs ++ x ∷ []) (length xs) ≡ Some x
-last_is [] x = refl
-last_is (y ∷ ys) x = last_is ys x
+use Rattle.collections.proofs.Places.{slice_get-append_end}
+use Rattle.std.proofs.lemmas.List.{map-append, length-map}
 
 remove_last : {X : Type 0} (xs : List X) (x : X) → remove (xs ++ x ∷ []) (length xs) ≡ xs
 remove_last [] x = refl
@@ -23,7 +20,7 @@ moved : {X : Type 0} (xs : List X) (x : X) (i : ℕ) → move_index (xs ++ x ∷
 moved {X} xs x i =
     let go : (r : Option X) → r ≡ Some x → option_map_or (λ y. insert (remove (xs ++ x ∷ []) (length xs)) i y) r (xs ++ x ∷ []) ≡ insert (remove (xs ++ x ∷ []) (length xs)) i x =
     λ r e. ap (λ o. option_map_or (λ y. insert (remove (xs ++ x ∷ []) (length xs)) i y) o (xs ++ x ∷ [])) e in
-    go _ (last_is xs x) ∙ ap (λ l. insert l i x) (remove_last xs x)
+    go _ (slice_get-append_end xs x) ∙ ap (λ l. insert l i x) (remove_last xs x)
 
 -- a key that no entry has would stand behind them all
 absent_place : {K X : Type 0} (test : K → Bool) (es : List (K × X)) → lookup test es ≡ None → position_or_len test (keys_of es) ≡ length es
@@ -40,20 +37,12 @@ insert-map f [] (suc i) x = refl
 insert-map f (y ∷ ys) zero x = refl
 insert-map f (y ∷ ys) (suc i) x = ap (λ l. f y ∷ l) (insert-map f ys i x)
 
-push-map : {A B : Type 0} (f : A → B) (xs : List A) (x : A) → map f xs ++ f x ∷ [] ≡ map f (xs ++ x ∷ [])
-push-map f [] x = refl
-push-map f (y ∷ ys) x = ap (λ l. f y ∷ l) (push-map f ys x)
-
 position_or_len-map : {A B : Type 0} (f : A → B) (test : B → Bool) (xs : List A) → position_or_len test (map f xs) ≡ position_or_len (λ x. test (f x)) xs
 position_or_len-map f test [] = refl
 position_or_len-map f test (x ∷ xs) = ap (λ n. cond (not (test (f x))) (1 + n) 0) (position_or_len-map f test xs)
 
-length-map-all : {A B : Type 0} (f : A → B) (xs : List A) → length (map f xs) ≡ length xs
-length-map-all f [] = refl
-length-map-all f (x ∷ xs) = ap suc (length-map-all f xs)
-
 position-map : {A B : Type 0} (f : A → B) (test : B → Bool) (xs : List A) → position test (map f xs) ≡ position (λ x. test (f x)) xs
-position-map f test xs = λ i. cond (ltb (position_or_len-map f test xs i) (length-map-all f xs i)) (Some (position_or_len-map f test xs i)) None
+position-map f test xs = λ i. cond (ltb (position_or_len-map f test xs i) (length-map xs f i)) (Some (position_or_len-map f test xs i)) None
 
 -- what is left without the first entry that passes is all that fails, where nothing passes any more
 all_fail : {K X : Type 0} (test : K → Bool) (es : List (K × X)) → lookup test es ≡ None → filter (λ e. not (test e.0)) es ≡ es
@@ -129,7 +118,7 @@ module _ {K T : Type 0} (key_of : T → K) where
   pub pushed-keyed : {S : Type 0} (eq : K → K → Bool) (m : IndexMap K T S) (rows : List T) (row : T) (k : K) → k ≡ key_of row → keyed key_of rows ≡ m.entries → get eq m (key_of row) ≡ None
       → insert_entry eq m.entries k row ≡ keyed key_of (rows ++ row ∷ [])
   pushed-keyed eq m rows row k is same new =
-      ap (λ k. insert_entry eq m.entries k row) is ∙ insert_entry-new eq m (key_of row) row new ∙ ap (λ es. es ++ (key_of row, row) ∷ []) (sym same) ∙ push-map (λ row. (key_of row, row)) rows row
+      ap (λ k. insert_entry eq m.entries k row) is ∙ insert_entry-new eq m (key_of row) row new ∙ ap (λ es. es ++ (key_of row, row) ∷ []) (sym same) ∙ sym (map-append (λ row. (key_of row, row)) rows (row ∷ []))
 
   -- no row has the key, seen from the entries
   pub is_new : (test : K → Bool) (es : List (K × T)) (rows now : List T) → keyed key_of rows ≡ es → rows ≡ now → find (λ row. test (key_of row)) now ≡ None → lookup test es ≡ None

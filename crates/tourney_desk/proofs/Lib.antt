@@ -6,7 +6,6 @@ pub mod Joined
 pub mod Keeping
 pub mod Opponents
 pub mod Paired
-pub mod Positions
 pub mod Rounds
 pub mod Rows
 pub mod Sums

@@ -1,6 +1,6 @@
 -- The two ends of a table: words that are all 0, and slots that give their parts back.
-use Rattle.std.proofs.Common.{◌≡◌, ℕ, zero, suc, ◌+◌, ◌<◌, ◌≤◌, Bool, true, false, List, [], ◌∷◌, ◌++◌, map, length, take, set, get_or, replicate, refl, ap, sym, subst, ◌∙◌, arith, add-one}
-use Rattle.std.proofs.lemmas.List.{get_or-replicate, get_or_past, length-replicate}
+use Rattle.std.proofs.Common.{◌≡◌, ℕ, zero, suc, ◌+◌, ◌<◌, Bool, true, false, List, [], ◌∷◌, ◌++◌, map, length, take, set, get_or, replicate, refl, ap, sym, subst, ◌∙◌, arith, add-one}
+use Rattle.std.proofs.lemmas.List.{get_or-replicate, get_or_past, length-replicate, map-append, length-map}
 use Rattle.std.specs.List.{slice_get}
 use Rattle.std.specs.declared.option.Option.{Option}
 use Rattle.std.specs.declared.option.Option.TheVariants.{Some}
@@ -34,23 +34,9 @@ take_more (y ∷ ys) zero x e = ap (λ z. z ∷ []) (some-injective y x e)
 take_more (y ∷ ys) (suc k) x e = ap (λ zs. y ∷ zs) (take_more ys k x e)
 
 module _ {T : Type 0} where
-  pub take_whole : (xs : List T) (n : ℕ) → length xs ≤ n → take n xs ≡ xs
-  take_whole [] zero h = refl
-  take_whole [] (suc n) h = refl
-  take_whole (x ∷ xs) zero h = absurd (omega arith)
-  take_whole (x ∷ xs) (suc n) h = ap (λ zs. x ∷ zs) (take_whole xs n (omega arith))
-
-  pub map_snoc : (xs : List T) (x : T) → map Some (xs ++ x ∷ []) ≡ map Some xs ++ Some x ∷ []
-  map_snoc [] x = refl
-  map_snoc (y ∷ ys) x = ap (λ zs. Some y ∷ zs) (map_snoc ys x)
-
   -- one part more is taken out
   pub room_grows : (room : List T) (items : List (Option T)) (k : ℕ) (x : T) → map Some room ≡ take k items → get_elem? items k ≡ some (Some x) → map Some (room ++ x ∷ []) ≡ take (k + 1) items
-  room_grows room items k x e h = map_snoc room x ∙ (ap (λ zs. zs ++ Some x ∷ []) e ∙ (sym (take_more items k (Some x) h) ∙ ap (λ n. take n items) (sym (add-one k))))
-
-  length_some : (xs : List T) → length (map Some xs) ≡ length xs
-  length_some [] = refl
-  length_some (x ∷ xs) = ap suc (length_some xs)
+  room_grows room items k x e h = map-append Some room (x ∷ []) ∙ (ap (λ zs. zs ++ Some x ∷ []) e ∙ (sym (take_more items k (Some x) h) ∙ ap (λ n. take n items) (sym (add-one k))))
 
   -- lists of the same length with the same parts
   same_all : (ys xs : List T) → length ys ≡ length xs → ((k : ℕ) (p : T) → slice_get xs k ≡ Some p → get_elem? (map Some ys) k ≡ some (Some p)) → ys ≡ xs
@@ -79,7 +65,7 @@ module _ {P A R : Type 0} (c : Core P A R) (law : Lawful c) (opening : List P) (
   -- what is taken out of the slots is the state of the history
   pub parts_back : (ys : List P) → map Some ys ≡ slots → ys ≡ state c v.opening v.seen
   parts_back ys e =
-      let n : length ys ≡ length (state c opening v.seen) = sym (length_some ys) ∙ (ap length e ∙ sym long_state) in
+      let n : length ys ≡ length (state c opening v.seen) = sym (length-map ys Some) ∙ (ap length e ∙ sym long_state) in
       same_all ys (state c opening v.seen) n (λ k p g. ap (λ zs. get_elem? zs k) e ∙ closed.parts k p g) ∙ ap (λ xs. state c xs v.seen) (sym closed.same_opening)
 
   pub legal_back : Legal c v.opening v.seen

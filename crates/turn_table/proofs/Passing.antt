@@ -19,6 +19,7 @@ use Rattle.turn_table.specs.Views.{In, Distinct, Holds, numbers_of, joined_numbe
 use Rattle.turn_table.specs.Rule.{Names, Fits, Rule, Ruled}
 use Rattle.turn_table.proofs.Among.{in_append, split_on, at_one, at_one_same, at_one_else, at_length}
 use Rattle.turn_table.proofs.Beginning.{some_or_none, none_held}
+use Rattle.std.proofs.lemmas.List.{map-append, length-map}
 
 pub split_lt : (m n : ℕ) {X : Type 0} → (m < n → X) → (n ≤ m → X) → X
 split_lt m n below else = ⊎_elim (λ e. below (ltb-true m n e)) (λ e. else (ltb-false m n e)) (cases_Bool (ltb m n))
@@ -28,10 +29,6 @@ at_end [] a b zero e = inr (refl, some-injective a b e)
 at_end [] a b (suc j) e = inl e
 at_end (x ∷ xs) a b zero e = inl e
 at_end (x ∷ xs) a b (suc j) e = ⊎_elim inl (λ t. inr (ap suc t.0, t.1)) (at_end xs a b j e)
-
-map_append : {X Y : Type 0} (f : X → Y) (xs ys : List X) → map f (xs ++ ys) ≡ map f xs ++ map f ys
-map_append f [] ys = refl
-map_append f (x ∷ xs) ys = ap (λ zs. f x ∷ zs) (map_append f xs ys)
 
 distinct_append : (xs ys : List ℕ) → Distinct xs → Distinct ys → ((m : ℕ) → In m xs → In m ys → ⊥) → Distinct (xs ++ ys)
 distinct_append [] ys d e n = e
@@ -218,7 +215,7 @@ module _ {P A R : Type 0} (c : Core P A R) (law : Lawful c) (opening : List P) w
     new_owner m e = ap moved_to e ∙ ap (λ b. cond b (Some id) (Some other)) (eq-eqb other other refl)
 
     numbers_both : numbers_of both ≡ numbers_of v ++ numbers_of w
-    numbers_both = ap (λ ks. v.number ∷ ks) (map_append joined_number v.joined (as_joined w ∷ w.joined))
+    numbers_both = ap (λ ks. v.number ∷ ks) (map-append joined_number v.joined (as_joined w ∷ w.joined))
 
     number_cases : (m : ℕ) → In m (numbers_of both) → In m (numbers_of v) ⊎ In m (numbers_of w)
     number_cases m h = in_append m (numbers_of v) (numbers_of w) (subst (In m) numbers_both h)
@@ -356,10 +353,6 @@ module _ {P A R : Type 0} (c : Core P A R) (law : Lawful c) (opening : List P) w
   homes_of (x ∷ xs) zero p e = ap (λ (y : Option P). some (some y)) e
   homes_of (x ∷ xs) (suc k) p e = homes_of xs k p e
 
-  length_map : {X Y : Type 0} (g : X → Y) (xs : List X) → length (map g xs) ≡ length xs
-  length_map g [] = refl
-  length_map g (x ∷ xs) = ap suc (length_map g xs)
-
   only_view : (v u : View P A R) (j : ℕ) → get_elem? (v ∷ []) j ≡ some u → (j ≡ 0) × (v ≡ u)
   only_view v u zero e = (refl, some-injective v u e)
   only_view v u (suc j) e = absurd (some-ne-none u (sym e))
@@ -390,7 +383,7 @@ module _ {P A R : Type 0} (c : Core P A R) (law : Lawful c) (opening : List P) w
         n,
         record {
           words_there = long;
-          slots_there = ap (λ (xs : List (Option P)). length (map some xs)) is ∙ (length_map some (map Some opening) ∙ length_map Some opening);
+          slots_there = ap (λ (xs : List (Option P)). length (map some xs)) is ∙ (length-map (map Some opening) some ∙ length-map opening Some);
           opens_whole = whole;
           counted = zeros (length opening);
           legal = tt;

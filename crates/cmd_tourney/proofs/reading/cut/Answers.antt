@@ -1,5 +1,5 @@
 use Rattle.std.proofs.Common.{take, sym, ap, ◌∙◌}
-use Rattle.tourney_desk.proofs.Positions.{place-found, place-missing}
+use Rattle.fics_words.proofs.Positions.{place-found, place-missing}
 use Rattle.cmd_tourney.specs.Lines.{is_blank}
 use Rattle.cmd_lines.proofs.Cuts.{after_is, after_none, before_none}
 use Rattle.cmd_tourney.proofs.reading.cut.Goals as goal

@@ -1,14 +1,14 @@
 use Rattle.std.proofs.Common.{◌≡◌, Bool, true, false, not, cond, [], ◌∷◌, None, Some, refl, sym, subst, ◌∙◌}
 use Rattle.std.specs.Prelude.{ℕ, ◌==◌, ◌||◌, is_some}
-use Rattle.std.proofs.lemmas.Bool.{and_parts, not-true, or_parts}
+use Rattle.std.proofs.lemmas.Bool.{and_parts, not-true, or_parts, not_from_true, or_left, or_right}
 use Rattle.fics_words.specs.declared.refusal.Refusal.{Refusal}
 use Rattle.fics_words.specs.declared.refusal.Refusal.TheVariants.{HasPartner}
 use Rattle.partner_link.specs.declared.pairs.PartnerLink.{PartnerLink}
 use Rattle.partner_link.specs.Laws.{ArePartnersAlone}
 use Rattle.partner_link.specs.Partners.{PartnerLists, asked, has_asked, linked, names, partner_of, stands}
 use Rattle.partner_link.proofs.Links.{flipped, linked_first, linked_second, no_partner, partner_of-append}
-use Rattle.partner_link.proofs.Requests.{list_any-filter}
 use Rattle.partner_link.proofs.laws.asked_back_are_partners.Goals as goal
+use Rattle.std.proofs.lemmas.Map.Views.{any-filter_same}
 
 -- nothing refuses it
 allowed : (t : Bool) (cause : Refusal) → cond t (Some cause) None ≡ None → t ≡ false
@@ -29,11 +29,11 @@ partners lists from to alone asks =
           partner_of-append lists.links (link ∷ []) to (no_partner _ _ refl free.1)
           ∙ linked_first to from;
       first_unasked =
-          list_any-filter (names from) (λ request. not (names from request || names to request))
-          (λ request kept. (or_parts (names from request) (names to request) (not-true (names from request || names to request) kept)).0) lists.requests;
+          any-filter_same (names from) (λ request. not (names from request || names to request)) false
+          (λ request named. not_from_true (names from request || names to request) (or_left (names from request) (names to request) named)) lists.requests;
       second_unasked =
-          list_any-filter (names to) (λ request. not (names from request || names to request))
-          (λ request kept. (or_parts (names from request) (names to request) (not-true (names from request || names to request) kept)).1) lists.requests;
+          any-filter_same (names to) (λ request. not (names from request || names to request)) false
+          (λ request named. not_from_true (names from request || names to request) (or_right (names from request) (names to request) named)) lists.requests;
     }
 
 pub returns : goal.returns

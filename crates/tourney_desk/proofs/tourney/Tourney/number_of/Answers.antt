@@ -1,6 +1,6 @@
 use Rattle.std.proofs.Common.{length, sym, ap, ◌∙◌}
 use Rattle.tourney_desk.specs.Tourney.{TourneyState, has_key}
-use Rattle.tourney_desk.proofs.Positions.{place-found, place-missing}
+use Rattle.fics_words.proofs.Positions.{place-found, place-missing}
 use Rattle.tourney_desk.proofs.tourney.Tourney.number_of.Goals as goal
 
 pub returns-in-Some : goal.returns-in-Some

@@ -1,0 +1,2 @@
+-- Lemmas for the crates that keep tables.
+pub mod Rising
