@@ -1,12 +1,12 @@
 /** The words of the server's commands, which may be shortened. */
 
 const NAMES = [
-  "abort", "accept", "adjourn", "alias", "decline", "draw", "flag", "games", "goboard", "inchannel", "kibitz", "match",
-  "observe", "partner", "pending", "play", "ptell", "quit", "refresh", "register", "resign", "resume", "seek", "set",
-  "shout", "simnext", "simopen", "simprev", "sought", "stored", "style", "takeback", "tell", "unalias", "unobserve",
-  "unseek", "who", "withdraw", "+censor", "+channel", "+noplay", "-censor", "-channel", "-noplay",
+  "abort", "accept", "adjourn", "alias", "+censor", "-censor", "+channel", "-channel", "decline", "draw", "flag",
+  "games", "goboard", "inchannel", "kibitz", "match", "+noplay", "-noplay", "observe", "partner", "pending", "play",
+  "ptell", "quit", "refresh", "register", "resign", "resume", "seek", "set", "shout", "simnext", "simopen", "simprev",
+  "sought", "stored", "style", "takeback", "tell", "unalias", "unobserve", "unseek", "who", "withdraw",
 ];
-const SHORT = { a: "accept", k: "kibitz", m: "match", o: "observe", q: "quit", t: "tell" };
+const SHORT = { a: "accept", k: "kibitz", m: "match", o: "observe", t: "tell" };
 
 /** The whole name of the command that a line begins with, or nothing where it is none. */
 export function commandOf(line) {

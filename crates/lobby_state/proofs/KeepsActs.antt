@@ -6,7 +6,7 @@ use Rattle.fics_words.specs.declared.fail.Fail.{Fail}
 use Rattle.fics_words.specs.declared.fail.Fail.TheVariants.{Refused, Memory}
 use Rattle.fics_words.specs.declared.refusal.Refusal.{Refusal}
 use Rattle.lobby_state.specs.declared.acts.LobbyAct.{LobbyAct}
-use Rattle.lobby_state.specs.declared.acts.LobbyAct.TheVariants.{Enter, Register, Match, Unpost, Sought, Who, Where, Fetch, Going, Bye, InUse, Var, Tell, Shout, Decline, Withdraw, Post, Channel, TellChannel, InChannel, Partner, Ptell, List, Pending, Games, Find, FindGame, SimOpen, SimNext, SimPrev, GoBoard, Stored, Orders, Saved}
+use Rattle.lobby_state.specs.declared.acts.LobbyAct.TheVariants.{Enter, Register, Match, Unpost, Where, Fetch, Going, Bye, InUse, Var, Tell, Shout, Decline, Withdraw, Post, Channel, TellChannel, Partner, Ptell, List, Find, FindGame, SimOpen, SimNext, SimPrev, GoBoard, Saved}
 use Rattle.lobby_state.specs.declared.acts.LobbyReply.{LobbyReply}
 use Rattle.lobby_state.specs.Acts.{FitsLobby, lobby_after, lobby_answer, lobby_effect}
 use Rattle.lobby_state.specs.Keeps.{Keeps, KeepsWhere, TellsDesks}
@@ -15,12 +15,10 @@ use Rattle.lobby_state.specs.WellFormed.{IsWellFormed}
 use Rattle.lobby_state.proofs.Causes.{none_holds}
 use Rattle.lobby_state.proofs.KeepsBye.{keeps_bye}
 use Rattle.lobby_state.proofs.KeepsChannel.{keeps_channel}
-use Rattle.lobby_state.proofs.KeepsInChannel.{keeps_in_channel}
 use Rattle.lobby_state.proofs.KeepsTellChannel.{keeps_tell_channel}
 use Rattle.lobby_state.proofs.KeepsDecline.{keeps_decline}
 use Rattle.lobby_state.proofs.KeepsEnter.{keeps_enter}
 use Rattle.lobby_state.proofs.KeepsFetch.{keeps_fetch}
-use Rattle.lobby_state.proofs.KeepsGames.{keeps_games}
 use Rattle.lobby_state.proofs.KeepsFind.{keeps_find}
 use Rattle.lobby_state.proofs.KeepsFindGame.{keeps_find_game}
 use Rattle.lobby_state.proofs.KeepsGoBoard.{keeps_go_board}
@@ -28,19 +26,14 @@ use Rattle.lobby_state.proofs.KeepsGoing.{keeps_going}
 use Rattle.lobby_state.proofs.KeepsInUse.{keeps_in_use}
 use Rattle.lobby_state.proofs.KeepsMatch.{keeps_match}
 use Rattle.lobby_state.proofs.KeepsNameList.{keeps_list}
-use Rattle.lobby_state.proofs.KeepsOrders.{keeps_orders}
-use Rattle.lobby_state.proofs.KeepsPending.{keeps_pending}
 use Rattle.lobby_state.proofs.KeepsSaved.{keeps_saved}
-use Rattle.lobby_state.proofs.KeepsStored.{keeps_stored}
 use Rattle.lobby_state.proofs.KeepsPost.{keeps_post}
 use Rattle.lobby_state.proofs.KeepsRegistration.{keeps_registration}
 use Rattle.lobby_state.proofs.KeepsSimNext.{keeps_sim_next}
 use Rattle.lobby_state.proofs.KeepsSimOpen.{keeps_sim_open}
 use Rattle.lobby_state.proofs.KeepsSimPrev.{keeps_sim_prev}
-use Rattle.lobby_state.proofs.KeepsSought.{keeps_sought}
 use Rattle.lobby_state.proofs.KeepsUnpost.{keeps_unpost}
 use Rattle.lobby_state.proofs.KeepsWhere.{keeps_where}
-use Rattle.lobby_state.proofs.KeepsWho.{keeps_who}
 use Rattle.lobby_state.proofs.KeepsShout.{keeps_shout}
 use Rattle.lobby_state.proofs.KeepsTell.{keeps_tell}
 use Rattle.lobby_state.proofs.KeepsVar.{keeps_var}
@@ -52,24 +45,19 @@ use Rattle.lobby_state.proofs.KeepsPtell.{keeps_ptell}
 always : {conditions : Type 0} {lobby : LobbyState} {effect : Effect LobbyState LobbyReply} → Keeps lobby effect → KeepsWhere conditions lobby effect
 always keeps = record { formed = λ _. keeps.formed; games = keeps.games; tells = keeps.tells }
 
--- the table: what each act keeps
+-- the table: what each act keeps. An act that leaves the lobby as it is and tells of no desk has no row of its own
 pub keeps_act : (lobby : LobbyState) (session : ℕ) (act : LobbyAct) → KeepsWhere (FitsLobby act) lobby (lobby_effect lobby session act)
 keeps_act lobby session (Enter name digest) = always (keeps_enter lobby session name digest)
 keeps_act lobby session (Register digest) = always (keeps_registration lobby session digest)
 keeps_act lobby session (Match to terms) = keeps_match lobby session to terms
 keeps_act lobby session (Post terms) = keeps_post lobby session terms
 keeps_act lobby session (Unpost number) = always (keeps_unpost lobby session number)
-keeps_act lobby session Sought = always (keeps_sought lobby session)
-keeps_act lobby session Who = always (keeps_who lobby session)
-keeps_act lobby session Pending = always (keeps_pending lobby session)
-keeps_act lobby session Games = always (keeps_games lobby session)
 keeps_act lobby session (Var which on) = always (keeps_var lobby session which on)
 keeps_act lobby session (List which name on) = always (keeps_list lobby session which name on)
 keeps_act lobby session (Tell to text) = always (keeps_tell lobby session to text)
 keeps_act lobby session (Shout text) = always (keeps_shout lobby session text)
 keeps_act lobby session (Channel channel on) = always (keeps_channel lobby session channel on)
 keeps_act lobby session (TellChannel channel text) = always (keeps_tell_channel lobby session channel text)
-keeps_act lobby session (InChannel channel) = always (keeps_in_channel lobby session channel)
 keeps_act lobby session (Decline name) = always (keeps_decline lobby session name)
 keeps_act lobby session (Withdraw name) = always (keeps_withdraw lobby session name)
 keeps_act lobby session (Partner name) = always (keeps_partner lobby session name)
@@ -85,9 +73,8 @@ keeps_act lobby session Fetch = always (keeps_fetch lobby session)
 keeps_act lobby session Going = always (keeps_going lobby session)
 keeps_act lobby session Bye = always (keeps_bye lobby session)
 keeps_act lobby session InUse = always (keeps_in_use lobby)
-keeps_act lobby session Stored = always (keeps_stored lobby session)
-keeps_act lobby session Orders = always (keeps_orders lobby)
 keeps_act lobby session (Saved upto) = always (keeps_saved lobby upto)
+keeps_act lobby session _ = record { formed = λ _ _ h. h; games = refl; tells = λ _. tt }
 
 formed_unless : (refused : Option Refusal) (old new : LobbyState) → (refused ≡ None → IsWellFormed new) → IsWellFormed old
     → IsWellFormed (unless refused old new)

@@ -18,8 +18,6 @@ pub mod KeepsRegistration
 pub mod KeepsMatch
 pub mod KeepsPost
 pub mod KeepsUnpost
-pub mod KeepsSought
-pub mod KeepsWho
 pub mod Broadcasting
 pub mod InOrder
 pub mod EachOnce
@@ -32,15 +30,12 @@ pub mod KeepsShout
 pub mod KeepsTell
 pub mod KeepsChannel
 pub mod KeepsTellChannel
-pub mod KeepsInChannel
 pub mod KeepsDecline
 pub mod KeepsWithdraw
 pub mod KeepsPartner
 pub mod KeepsPtell
 pub mod KeepsVar
 pub mod KeepsNameList
-pub mod KeepsPending
-pub mod KeepsGames
 pub mod KeepsWhere
 pub mod KeepsFetch
 pub mod KeepsFind
@@ -54,8 +49,6 @@ pub mod KeepsGoing
 pub mod KeepsBye
 pub mod RowsInUse
 pub mod KeepsInUse
-pub mod KeepsStored
-pub mod KeepsOrders
 pub mod KeepsSaved
 pub mod Listing
 pub mod KeepsActs

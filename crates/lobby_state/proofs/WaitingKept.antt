@@ -14,7 +14,7 @@ use Rattle.fics_words.specs.declared.refusal.Refusal.{Refusal}
 use Rattle.login_handles.specs.declared.check.Check.{Check}
 use Rattle.login_handles.specs.declared.check.Check.TheVariants.{Free, Right, Wrong, NeedPassword}
 use Rattle.lobby_state.specs.declared.acts.LobbyAct.{LobbyAct}
-use Rattle.lobby_state.specs.declared.acts.LobbyAct.TheVariants.{Enter, Register, Match, Unpost, Sought, Who, Where, Fetch, Going, Bye, InUse, Var, Tell, Shout, Decline, Withdraw, Post, Channel, TellChannel, InChannel, Partner, Ptell, List as OnList, Pending, Games, Find, FindGame, SimOpen, SimNext, SimPrev, GoBoard, Stored, Orders, Saved}
+use Rattle.lobby_state.specs.declared.acts.LobbyAct.TheVariants.{Enter, Register, Match, Fetch, Going, Bye, Var, Tell, Shout, Decline, Withdraw, Post, TellChannel, Partner, Ptell, List as OnList, SimOpen, SimNext, SimPrev, GoBoard}
 use Rattle.lobby_state.specs.declared.acts.Plan.{Plan}
 use Rattle.lobby_state.specs.declared.acts.Plan.TheVariants.{Start, Clear, Resume, Ask}
 use Rattle.seek_match.specs.declared.challenge.Challenge.{Challenge}
@@ -237,7 +237,8 @@ kept_fetched : (by session : ℕ) (xs : List Member) → by ≢ session → Kept
 kept_fetched by session [] differ = begins_same []
 kept_fetched by session (x ∷ xs) differ = fetch_by (is_session by x) by session x xs refl differ (kept_fetched by session xs differ)
 
--- the table: the lines that wait for a session, after an act that is no Fetch and no Bye of its own
+-- the table: the lines that wait for a session, after an act that is no Fetch and no Bye of its own. An act
+-- whose effect has the members as they are has no row of its own
 kept_act : (lobby : LobbyState) (by session : ℕ) (act : LobbyAct) → (act ≡ Fetch → by ≢ session) → (act ≡ Bye → by ≢ session)
     → Kept session lobby.members (lobby_effect lobby by act).after.members
 kept_act lobby by session (Enter name digest) f b =
@@ -245,20 +246,13 @@ kept_act lobby by session (Enter name digest) f b =
 kept_act lobby by session (Register digest) f b = kept_registered lobby session (member_of lobby by) digest
 kept_act lobby by session (Match to terms) f b = kept_challenged lobby session (member_of lobby by) (named lobby to) to terms
 kept_act lobby by session (Post terms) f b = kept_posted lobby by session (member_of lobby by) terms
-kept_act lobby by session (Unpost number) f b = kept_same session lobby.members
-kept_act lobby by session Sought f b = kept_same session lobby.members
-kept_act lobby by session Who f b = kept_same session lobby.members
-kept_act lobby by session Pending f b = kept_same session lobby.members
-kept_act lobby by session Games f b = kept_same session lobby.members
 kept_act lobby by session (Var which on) f b =
     kept_change (is_session by) (with_var which on) (λ m. same_lines m (with_var which on m) refl refl) session lobby.members
 kept_act lobby by session (OnList which name on) f b =
     kept_change (is_session by) (λ m. (listing which name on m).after) (λ m. listed_lines which _ m) session lobby.members
 kept_act lobby by session (Tell to text) f b = kept_told lobby session (member_of lobby by) to text
 kept_act lobby by session (Shout text) f b = kept_shouted lobby by session (member_of lobby by) text
-kept_act lobby by session (Channel channel on) f b = kept_same session lobby.members
 kept_act lobby by session (TellChannel channel text) f b = kept_channel_told lobby by channel session (member_of lobby by) text
-kept_act lobby by session (InChannel channel) f b = kept_same session lobby.members
 kept_act lobby by session (Decline name) f b = kept_declined lobby session (member_of lobby by) (offer_of lobby by name)
 kept_act lobby by session (Withdraw name) f b = kept_withdrawn lobby session (own_of lobby by name)
 kept_act lobby by session (Partner name) f b = kept_partner lobby by session name
@@ -267,16 +261,10 @@ kept_act lobby by session SimOpen f b = kept_placed lobby by session _
 kept_act lobby by session SimNext f b = kept_placed lobby by session _
 kept_act lobby by session SimPrev f b = kept_placed lobby by session _
 kept_act lobby by session (GoBoard name) f b = kept_placed lobby by session _
-kept_act lobby by session (Find name) f b = kept_same session lobby.members
-kept_act lobby by session (FindGame number) f b = kept_same session lobby.members
-kept_act lobby by session Where f b = kept_same session lobby.members
 kept_act lobby by session Fetch f b = kept_fetched by session lobby.members (f refl)
 kept_act lobby by session Going f b = kept_change (is_session by) leaving_member (λ m. same_lines m (leaving_member m) refl refl) session lobby.members
 kept_act lobby by session Bye f b = kept_gone by session lobby.members (b refl)
-kept_act lobby by session InUse f b = kept_same session lobby.members
-kept_act lobby by session Stored f b = kept_same session lobby.members
-kept_act lobby by session Orders f b = kept_same session lobby.members
-kept_act lobby by session (Saved upto) f b = kept_same session lobby.members
+kept_act lobby by session _ f b = kept_same session lobby.members
 
 kept_unless : (refused : Option Refusal) (session : ℕ) (lobby after : LobbyState) → Kept session lobby.members after.members
     → BeginsWith (waiting_of lobby session) (waiting_of (unless refused lobby after) session)
