@@ -1,7 +1,7 @@
 -- Boards from which half-moves were taken back are sound, and none of them is at an end.
 use Rattle.std.proofs.Common.{◌≡◌, ◌≢◌, ℕ, ◌-◌, ◌≤◌, ◌<◌, zero, suc, Bool, true, false, if◌then◌else◌, List, [], ◌∷◌, ◌++◌, map, length, drop, take, refl, sym, ap, subst, ◌∙◌, append_assoc, arith}
 use Rattle.std.specs.List.{AllByRecursion}
-use Rattle.std.proofs.lemmas.List.{length-map, map-append}
+use Rattle.std.proofs.lemmas.List.{length-map, map-append, take-map}
 use Rattle.std.proofs.lemmas.List.Elements.{All-nil, All-cons, All-head}
 use Rattle.chess_model.specs.declared.variant.Terms.{Terms}
 use Rattle.chess_model.specs.declared.variant.Variant.{Variant}
@@ -36,11 +36,6 @@ halves_of-one b score single one =
     ap (halves_from b.list []) (score.alone single ∙ ap (λ (n : ℕ). half_moves n b.list) one) ∙ halves_alone b.list
 
 -- ---- the first half-moves of a list
-
-map-take : {X Y : Type 0} (f : X → Y) (n : ℕ) (xs : List X) → map f (take n xs) ≡ take n (map f xs)
-map-take f zero xs = refl
-map-take f (suc n) [] = refl
-map-take f (suc n) (x ∷ xs) = ap (λ ys. f x ∷ ys) (map-take f n xs)
 
 each-take : {X : Type 0} (P : X → Type 0) (n : ℕ) (xs : List X) → AllByRecursion P xs → AllByRecursion P (take n xs)
 each-take P zero xs h = tt
@@ -97,7 +92,7 @@ sound_cut t b c s cut =
     let before = halves_of-one b (All-head IsTrueScore b [] s.scores) single one.1 in
     let halves : halves_of (c ∷ []) ≡ take cut.left (halves_of (b ∷ [])) =
     halves_of-one c cut.score (λ e. single (sym (ap (λ (x : Terms). x.variant) cut.terms) ∙ e)) (cut.number ∙ one.1)
-    ∙ ap (map (half_on 1)) cut.list ∙ map-take (half_on 1) cut.left b.list ∙ ap (take cut.left) (sym before) in
+    ∙ ap (map (half_on 1)) cut.list ∙ sym (take-map (half_on 1) cut.left b.list) ∙ ap (take cut.left) (sym before) in
     record {
       numbers = ap (λ n. n ∷ []) cut.number ∙ s.numbers;
       terms = All-cons (λ (x : Board). x.terms ≡ t) c [] (cut.terms ∙ terms) (All-nil (λ (x : Board). x.terms ≡ t));
@@ -118,12 +113,12 @@ goes_cut t b c s cut less =
     let before = halves_of-one b (All-head IsTrueScore b [] s.scores) single one.1 in
     let halves : halves_of (c ∷ []) ≡ take cut.left (map (half_on 1) b.list) =
     halves_of-one c cut.score (λ e. single (sym (ap (λ (x : Terms). x.variant) cut.terms) ∙ e)) (cut.number ∙ one.1)
-    ∙ ap (map (half_on 1)) cut.list ∙ map-take (half_on 1) cut.left b.list in
+    ∙ ap (map (half_on 1)) cut.list ∙ sym (take-map (half_on 1) cut.left b.list) in
     let many = length-map b.list (half_on 1) in
     let next = next_of cut.left b.list less in
     let split : map (half_on 1) b.list ≡ take cut.left (map (half_on 1) b.list) ++ half_on 1 next.0 ∷ map (half_on 1) next.1 =
     ap (map (half_on 1)) next.2 ∙ map-append (half_on 1) (take cut.left b.list) (next.0 ∷ next.1)
-    ∙ ap (λ (hs : List Half). hs ++ half_on 1 next.0 ∷ map (half_on 1) next.1) (map-take (half_on 1) cut.left b.list) in
+    ∙ ap (λ (hs : List Half). hs ++ half_on 1 next.0 ∷ map (half_on 1) next.1) (sym (take-map (half_on 1) cut.left b.list)) in
     let comes : MayCome t (take cut.left (map (half_on 1) b.list)) (half_on 1 next.0) =
     s.played.each (take cut.left (map (half_on 1) b.list)) (map (half_on 1) next.1) (half_on 1 next.0) (before ∙ split) in
     let sound = sound_cut t b c s cut in

@@ -21,7 +21,6 @@ use Rattle.game_board.specs.declared.played.Played.{Played}
 use Rattle.game_board.specs.Board.{Board, position_of}
 use Rattle.game_board.specs.Charges.{is_timed}
 use Rattle.game_board.specs.Scoresheet.{IsTrueScore}
-use Rattle.game_board.proofs.LastPlayed.{slice_get-append_end}
 use Rattle.game_records.specs.declared.stored_game.Half.{Half}
 use Rattle.game_records.specs.Bounds as bounds
 use Rattle.game_records.specs.Bounds.{IsCharge, IsHalf}
@@ -35,6 +34,9 @@ use Rattle.desk_boards.proofs.BoardLists.{All-at}
 use Rattle.desk_boards.proofs.Halved.{half_on, on}
 use Rattle.desk_boards.proofs.Pairs.{never_three, number_at, numbers_of_two}
 use Rattle.desk_boards.proofs.SoundHalves.{all_of, never_none, number_of_one}
+use Rattle.fics_words.proofs.Each.{each-push}
+use Rattle.collections.proofs.Places.{slice_get-append_end}
+use Rattle.std.proofs.lemmas.Option.{same_Some}
 
 -- ---- an allowed half-move has a code
 
@@ -139,22 +141,19 @@ other_of_two t halves n c pair number terms all goes =
     let here : GoesOn (position_on t.variant halves (3 - n)) = subst (λ (k : ℕ). GoesOn (position_on t.variant halves k)) (sym number) (subst GoesOn (sym there) goes) in
     subst (λ (v : Variant). OtherGoesOn v halves n) (sym pair) (subst (λ (v : Variant). GoesOn (position_on v halves (3 - n))) pair here)
 
-pub same_board : (b c : Board) → Some b ≡ Some c → b ≡ c
-same_board b c e = cc
-
 pub other_goes : (t : Terms) (boards : List Board) (k : ℕ) (own : Board) → AreSoundBoards t boards → slice_get boards k ≡ Some own →
     ((other : Board) → slice_get boards (other_place k) ≡ Some other → GoesOn (position_of other)) → OtherGoesOn t.variant (halves_of boards) own.number
 other_goes t [] k own s there goes = absurd (never_none t.variant s.numbers)
 other_goes t (b ∷ []) k own s there goes = other_none t.variant (halves_of (b ∷ [])) own.number (number_of_one t.variant b s.numbers).0
 other_goes t (b ∷ c ∷ []) zero own s there goes =
     let two = numbers_of_two t.variant b c s.numbers in
-    let same : b.number ≡ own.number = ap (λ (x : Board). x.number) (same_board b own there) in
+    let same : b.number ≡ own.number = ap (λ (x : Board). x.number) (same_Some b own there) in
     other_of_two t (halves_of (b ∷ c ∷ [])) own.number c two.0 (omega (arith, two.1, two.2, same))
     (All-head (λ (x : Board). x.terms ≡ t) c [] (All-tail (λ (x : Board). x.terms ≡ t) b (c ∷ []) s.terms))
     (All-at (λ (x : Board). half_moves (halves_of (b ∷ c ∷ [])) ≡ x.all) (b ∷ c ∷ []) 1 c (all_of t (b ∷ c ∷ []) s) refl) (goes c refl)
 other_goes t (b ∷ c ∷ []) (suc zero) own s there goes =
     let two = numbers_of_two t.variant b c s.numbers in
-    let same : c.number ≡ own.number = ap (λ (x : Board). x.number) (same_board c own there) in
+    let same : c.number ≡ own.number = ap (λ (x : Board). x.number) (same_Some c own there) in
     other_of_two t (halves_of (b ∷ c ∷ [])) own.number b two.0 (omega (arith, two.1, two.2, same))
     (All-head (λ (x : Board). x.terms ≡ t) b (c ∷ []) s.terms)
     (All-at (λ (x : Board). half_moves (halves_of (b ∷ c ∷ [])) ≡ x.all) (b ∷ c ∷ []) 0 b (all_of t (b ∷ c ∷ []) s) refl) (goes b refl)
@@ -172,10 +171,6 @@ number_in (Fischer number) (suc k) n e = absurd cc
 number_in Bughouse zero n e = let one : 1 ≡ n = cc in (omega (arith, one), omega (arith, one))
 number_in Bughouse (suc zero) n e = let two : 2 ≡ n = cc in (omega (arith, two), omega (arith, two))
 number_in Bughouse (suc (suc k)) n e = absurd cc
-
-pub each_more : {X : Type 0} (P : X → Type 0) (xs : List X) (x : X) → AllByRecursion P xs → P x → AllByRecursion P (xs ++ x ∷ [])
-each_more P [] x h p = (p, tt)
-each_more P (y ∷ xs) x h p = (h.0, each_more P xs x h.1 p)
 
 -- half-moves with one more that a record can have, and that can be played
 pub record MayGrow (t : Terms) (halves : List Half) (h : Half) : Type 0 where
@@ -202,6 +197,6 @@ may_grow t boards k own new p s there more goes =
       charge = more.charge;
     } in
     record {
-      each = each_more (IsHalf t.variant) halves (half_on own.number p) s.halves half;
+      each = each-push (IsHalf t.variant) halves (half_on own.number p) s.halves half;
       played = by_steps.grows t halves (half_on own.number p) s.played comes;
     }

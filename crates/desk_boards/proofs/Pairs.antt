@@ -1,5 +1,5 @@
 -- The boards of a game after a word at one of them: what the other one learns of it was allowed, and they have one list.
-use Rattle.std.proofs.Common.{◌≡◌, ℕ, zero, suc, true, false, List, [], ◌∷◌, ◌++◌, map, Option, Some, None, Result, Ok, Err, refl, sym, ap, subst, ◌∙◌, arith}
+use Rattle.std.proofs.Common.{◌≡◌, ℕ, List, [], ◌∷◌, ◌++◌, map, Option, Some, None, Result, Ok, Err, refl, sym, ap, subst, ◌∙◌}
 use Rattle.std.specs.Prelude.{slice_get}
 use Rattle.std.specs.Option.{option_map}
 use Rattle.std.proofs.lemmas.List.Elements.{All-nil, All-cons, All-head}
@@ -80,6 +80,3 @@ same_two T U m here there same number =
     let is : U ≡ T = All-head (λ (x : List HalfMove). x ≡ T) U [] same in
     let P : List HalfMove → Type 0 = λ x. x ≡ T ++ on here m ∷ [] in
     All-cons P (U ++ on there m ∷ []) [] (λ i. is i ++ on (number i) m ∷ []) (All-nil P)
-
-not_some : false ≡ true → ⊥
-not_some e = cc

@@ -41,7 +41,7 @@ use Rattle.desk_boards.proofs.Pairs.{never_three, number_at, numbers_of_two}
 use Rattle.desk_boards.proofs.SoundHalves.{all_of, never_none, number_of_one}
 use Rattle.desk_boards.proofs.StaySound.{All-from, halves_of-from, sound_start}
 use Rattle.desk_boards.proofs.Stepped.{AreSoundWith, sound_step, stepped}
-use Rattle.std.proofs.lemmas.Bool.{and_parts}
+use Rattle.std.proofs.lemmas.Bool.{and_parts, false≢true}
 
 -- ---- tests and what they say
 
@@ -61,9 +61,6 @@ four_true true true true false h i j k = cc
 four_true true true false d h i j k = cc
 four_true true false c d h i j k = cc
 four_true false b c d h i j k = cc
-
-not_so : false ≡ true → ⊥
-not_so e = cc
 
 pub chargeable : (o : Option Charge) → IsCharge o → IfSome o IsChargeable
 chargeable None h = tt
@@ -200,9 +197,9 @@ replayed_fresh t halves moment boards each e = (run t moment [] halves (new_boar
 
 charge_stands : (some timed moved : Bool) (long : Type 0) (clocks : Type 0) → (IsTrue some ↔ (clocks × long)) → (IsTrue timed ↔ clocks) → (IsTrue moved ↔ long) → beq some (timed && moved) ≡ true
 charge_stands true true true long clocks h i j = refl
-charge_stands true true false long clocks h i j = absurd (not_so (j.1 (h.0 refl).1))
-charge_stands true false moved long clocks h i j = absurd (not_so (i.1 (h.0 refl).0))
-charge_stands false true true long clocks h i j = absurd (not_so (h.1 (i.0 refl, j.0 refl)))
+charge_stands true true false long clocks h i j = absurd (false≢true (j.1 (h.0 refl).1))
+charge_stands true false moved long clocks h i j = absurd (false≢true (i.1 (h.0 refl).0))
+charge_stands false true true long clocks h i j = absurd (false≢true (h.1 (i.0 refl, j.0 refl)))
 charge_stands false true false long clocks h i j = refl
 charge_stands false false moved long clocks h i j = refl
 
@@ -286,9 +283,9 @@ takes_each t moment before (h ∷ halves) boards at each played =
     (subst (CanBePlayed t) (sym (append_assoc before (h ∷ []) halves)) played) in
     subst (λ (b : Bool). IsSome (if b then played_on (boards_put boards (h.board - 1) (played_of h)) halves else None)) (sym takes) rest
 
-pub some_is : (o : Option (List Board)) → IsSome o → (boards : List Board) × (o ≡ Some boards)
+pub some_is : {X : Type 0} (o : Option X) → IsSome o → (x : X) × (o ≡ Some x)
 some_is None e = absurd cc
-some_is (Some boards) e = (boards, refl)
+some_is (Some x) e = (x, refl)
 
 pub replayed_exactly : (t : Terms) (halves : List Half) (moment : ℕ) → AllByRecursion (IsHalf t.variant) halves → IsSome (replayed t halves moment) ↔ CanBePlayed t halves
 replayed_exactly t halves moment each = (

@@ -1,5 +1,5 @@
 -- No board is at an end at the start of a game: White may push the pawn on file a, whatever stands on the home ranks.
-use Rattle.std.proofs.Common.{◌≡◌, ℕ, ◌+◌, ◌-◌, ◌<◌, ◌≤◌, zero, suc, inl, inr, Bool, true, false, ◌||◌, not, nat_le, nat_lt, List, [], ◌∷◌, length, Option, Some, None, refl, sym, ap, subst, ◌∙◌, arith}
+use Rattle.std.proofs.Common.{◌≡◌, ℕ, ◌+◌, ◌-◌, ◌<◌, ◌≤◌, inl, inr, Bool, true, false, ◌||◌, not, nat_le, nat_lt, List, [], ◌∷◌, length, Option, Some, None, refl, sym, ap, subst, ◌∙◌, arith}
 use Rattle.std.specs.Int.{abs_diff}
 use Rattle.std.specs.List.{list_all}
 use Rattle.std.proofs.lemmas.Bool.{ltb-true, leb-true, cases_lt}
@@ -27,6 +27,7 @@ use Rattle.chess_model.proofs.HomeRanks.{home_rank_of}
 use Rattle.chess_model.proofs.StatesTold.{state_told}
 use Rattle.chess_model.proofs.TestsDecide.{Decides-held_by, Decides-held_as}
 use Rattle.game_records.specs.Replays.{GoesOn}
+use Rattle.variant_rules.proofs.CheckLemmas.{strikes-held}
 
 -- ---- who has an answer is at no end
 
@@ -126,10 +127,6 @@ pawn_on P placed a h l =
     let behind : 48 + (a - 48) ≡ a = omega arith in
     ap (man_at P) (sym behind) ∙ placed.pawns (a - 48) (omega arith)
 
-colour_of : (P : Placement) (a s : ℕ) (man : Option Man) → StrikesAs P Black a s man → IsHeldBy Black man
-colour_of P a s None h = h
-colour_of P a s (Some m) h = h.0
-
 struck_by : (P : Placement) → ArePlaced P → (a s : ℕ) → 56 ≤ a → a < 64 → s < 8 → (man : Option Man) → ¬ StrikesAs P Black a s man
 struck_by P placed a s h l m None strikes = strikes
 struck_by P placed a s h l m (Some x) strikes = from_home P placed x.kind a s h l m strikes.1
@@ -137,7 +134,7 @@ struck_by P placed a s h l m (Some x) strikes = from_home P placed x.kind a s h 
 no_attack : (P : Placement) → ArePlaced P → (a s : ℕ) → a < 64 → s < 8 → ¬ StrikesAs P Black a s (man_at P a)
 no_attack P placed a s h m strikes = elim (cases_lt a 56) [
   | inl ahead ↦
-      let low : 48 ≤ a = placed.black a h (colour_of P a s (man_at P a) strikes) in
+      let low : 48 ≤ a = placed.black a h (strikes-held P Black a s (man_at P a) strikes) in
       let pawn : StrikesAs P Black a s (unpromoted Black Pawn) = subst (StrikesAs P Black a s) (pawn_on P placed a low ahead) strikes in
       from_pawns P a s low ahead m pawn.1
   | inr home ↦ struck_by P placed a s home h m (man_at P a) strikes

@@ -21,9 +21,10 @@ use Rattle.desk_boards.specs.Boards.{board_numbers, changed_at, other_place}
 use Rattle.desk_boards.specs.Halves.{halves_from, halves_of}
 use Rattle.desk_boards.specs.Sound.{AreSame, AreSoundBoards}
 use Rattle.desk_boards.proofs.Halved.{half_on, halves_from-one, halves_from-two, on}
-use Rattle.desk_boards.proofs.OneMore.{IsOneMore, MayGrow, may_grow, same_board}
+use Rattle.desk_boards.proofs.OneMore.{IsOneMore, MayGrow, may_grow}
 use Rattle.desk_boards.proofs.Pairs.{allowed_there, never_three, numbers_of_two, same_two}
 use Rattle.desk_boards.proofs.SoundHalves.{never_none, number_of_one, on_two, own_at}
+use Rattle.std.proofs.lemmas.Option.{same_Some}
 
 -- the boards with a change of the one in that place, of which the other one learns that it was this half-move
 abbrev pub stepped : List Board → ℕ → (Board → Board) → Move → List Board
@@ -143,17 +144,17 @@ sound_step t (b ∷ []) zero own p change s there more goes =
     let grows = may_grow t (b ∷ []) zero own (change own) p s there more goes in
     let P : Board → Type 0 = λ x. IsOneMore x p (change x) → MayGrow t (halves_of (b ∷ [])) (half_on x.number p) →
     AreSoundWith t (halves_of (b ∷ []) ++ half_on x.number p ∷ []) (change b ∷ []) in
-    subst P (same_board b own there) (λ m g. step_alone t b (change b) p s m g) more grows
+    subst P (same_Some b own there) (λ m g. step_alone t b (change b) p s m g) more grows
 sound_step t (b ∷ []) (suc k) own p change s there more goes = absurd cc
 sound_step t (b ∷ c ∷ []) zero own p change s there more goes =
     let grows = may_grow t (b ∷ c ∷ []) zero own (change own) p s there more goes in
     let P : Board → Type 0 = λ x. IsOneMore x p (change x) → MayGrow t (halves_of (b ∷ c ∷ [])) (half_on x.number p) →
     AreSoundWith t (halves_of (b ∷ c ∷ []) ++ half_on x.number p ∷ []) (change b ∷ learnt c p.what ∷ []) in
-    subst P (same_board b own there) (λ m g. step_first t b c (change b) p s m g) more grows
+    subst P (same_Some b own there) (λ m g. step_first t b c (change b) p s m g) more grows
 sound_step t (b ∷ c ∷ []) (suc zero) own p change s there more goes =
     let grows = may_grow t (b ∷ c ∷ []) 1 own (change own) p s there more goes in
     let P : Board → Type 0 = λ x. IsOneMore x p (change x) → MayGrow t (halves_of (b ∷ c ∷ [])) (half_on x.number p) →
     AreSoundWith t (halves_of (b ∷ c ∷ []) ++ half_on x.number p ∷ []) (learnt b p.what ∷ change c ∷ []) in
-    subst P (same_board c own there) (λ m g. step_second t b c (change c) p s m g) more grows
+    subst P (same_Some c own there) (λ m g. step_second t b c (change c) p s m g) more grows
 sound_step t (b ∷ c ∷ []) (suc (suc k)) own p change s there more goes = absurd cc
 sound_step t (b ∷ c ∷ d ∷ more) k own p change s there new goes = absurd (never_three t.variant b c d more s.numbers)

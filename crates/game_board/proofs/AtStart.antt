@@ -10,8 +10,8 @@ use Rattle.game_board.specs.declared.played.Played.{Played}
 use Rattle.game_board.specs.declared.played.Step.{Step}
 use Rattle.game_board.specs.Charges.{clock_of}
 use Rattle.game_board.specs.Holds.{HoldsBoard}
-use Rattle.game_board.proofs.Legal.{IsLegal-empty}
 use Rattle.game_board.proofs.Steps.{AreSteps-empty}
+use Rattle.chess_model.proofs.LegalLists.{legal_lists}
 
 -- the fields of a board without half-moves
 abbrev empty_board : ℕ → Terms → Position → ℕ → Inside
@@ -37,7 +37,7 @@ HoldsBoard-empty number terms position begin first second variant stands moment 
   first = first;
   second = second;
   variant = variant;
-  legal = IsLegal-empty terms.variant;
+  legal = legal_lists.none terms.variant;
   own = refl;
   alone = λ h. refl;
   others = omega arith;

@@ -8,10 +8,6 @@ use Rattle.game_board.specs.Board.{Board, to_move, has_moved}
 use Rattle.game_board.specs.Charges.{is_timed}
 use Rattle.game_board.specs.Play.{next_charge}
 
-pub slice_get-append_end : {X : Type 0} (xs : List X) (x : X) → slice_get (xs ++ x ∷ []) (length xs) ≡ Some x
-slice_get-append_end [] x = refl
-slice_get-append_end (y ∷ ys) x = slice_get-append_end ys x
-
 -- an item of a list with one item more is one of the list, or that item
 pub at_or_last : {X : Type 0} (xs : List X) (x y : X) (k : ℕ) → slice_get (xs ++ x ∷ []) k ≡ Some y →
     (slice_get xs k ≡ Some y) ⊎ ((k ≡ length xs) × (x ≡ y))

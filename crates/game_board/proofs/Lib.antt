@@ -4,7 +4,6 @@ pub mod Charged
 pub mod Fallen
 pub mod Grown
 pub mod LastPlayed
-pub mod Legal
 pub mod ScorePut
 pub mod ScoreTakenBack
 pub mod Scoresheet

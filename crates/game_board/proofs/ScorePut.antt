@@ -2,15 +2,15 @@
 use Rattle.std.proofs.Common.{◌≡◌, ℕ, ◌+◌, ◌≤◌, ◌&&◌, Bool, true, false, List, [], ◌∷◌, ◌++◌, length, refl, arith}
 use Rattle.std.specs.Prelude.{◌↔◌, IsTrue, IfSome, is_some}
 use Rattle.std.specs.Bool.{beq}
-use Rattle.clock_ledger.specs.declared.charges.Charge.{Charge}
-use Rattle.clock_ledger.specs.Charges.{AreStamps, IsChargeable}
+use Rattle.clock_ledger.specs.Charges.{IsChargeable}
 use Rattle.game_board.specs.declared.played.Played.{Played}
 use Rattle.game_board.specs.Board.{Board, to_move, has_moved}
 use Rattle.game_board.specs.Charges.{is_timed}
 use Rattle.game_board.specs.Put.{takes_played, with_put}
 use Rattle.game_board.specs.Scoresheet.{IsCharged, IsTrueScore}
-use Rattle.game_board.proofs.Scoresheet.{IsTrueScore-one_more, has_moved-mover, if_some}
+use Rattle.game_board.proofs.Scoresheet.{IsTrueScore-one_more, has_moved-mover}
 use Rattle.game_board.proofs.Takes.{takes_played-parts}
+use Rattle.std.proofs.lemmas.Option.{IfSome_then}
 
 -- where a charge is there exactly where one belongs, it stands as charges do
 stands_so : (some timed moved : Bool) (k : ℕ) → beq some (timed && moved) ≡ true → (IsTrue moved ↔ (2 ≤ k)) → IsTrue some ↔ (IsTrue timed × (2 ≤ k))
@@ -26,10 +26,10 @@ IsCharged-put : (b : Board) (p : Played) (since moments : List ℕ) → IsTrue (
     IsCharged b.terms (length b.list + 1) since moments (length b.list) p
 IsCharged-put b p since moments takes sound = record {
   stands = stands_so (is_some p.charge) (is_timed b.terms) (has_moved (to_move b) b.list) (length b.list) (takes_played-parts b p takes).charge (has_moved-mover b.list);
-  ordered = if_some IsChargeable (λ (x : Charge). x.begin ≤ x.end) p.charge (λ x h. h.ordered) sound;
+  ordered = IfSome_then p.charge sound (λ x h. h.ordered);
   begins = λ own. absurd (omega (arith, own));
   ends = λ own. absurd (omega (arith, own));
-  stamped = if_some IsChargeable (λ (x : Charge). AreStamps x.client) p.charge (λ x h. h.stamped) sound;
+  stamped = IfSome_then p.charge sound (λ x h. h.stamped);
 }
 
 pub IsTrueScore-with_put : (b : Board) (p : Played) → IsTrueScore b → IsTrue (takes_played b p) → IfSome p.charge IsChargeable → IsTrueScore (with_put b p)

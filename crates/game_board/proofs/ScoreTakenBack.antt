@@ -14,9 +14,10 @@ use Rattle.game_board.specs.Scoresheet.{DontFall, IsTrueScore}
 use Rattle.game_board.specs.TakeBack.{has_too_few, taken_back, take_back_after}
 use Rattle.game_board.proofs.Movers.{moves_of-half_moves}
 use Rattle.game_board.proofs.TakenBack.{half_moves_shorter}
-use Rattle.game_board.proofs.LastPlayed.{slice_get-append_end, at_or_last}
+use Rattle.game_board.proofs.LastPlayed.{at_or_last}
 use Rattle.game_board.proofs.Scoresheet.{stays_at, last_moment, IsCharged-changed, clocks-sum}
 use Rattle.chess_model.proofs.SoundPositions.{legal_front}
+use Rattle.collections.proofs.Places.{slice_get-append_end}
 
 pub take_and_drop : {X : Type 0} (n : ℕ) (xs : List X) → take n xs ++ drop n xs ≡ xs
 take_and_drop zero xs = refl

@@ -3,7 +3,7 @@ use Rattle.std.proofs.Common.{◌≡◌, ℕ, ◌+◌, ◌*◌, ◌≤◌, ◌<�
 use Rattle.std.specs.Prelude.{ℤ, pos, ◌-ℤ◌, ◌↔◌, IsTrue, IfSome, slice_get, nat_lt}
 use Rattle.std.specs.List.{sum_by}
 use Rattle.std.proofs.lemmas.Bool.Decides.{nat_tests}
-use Rattle.std.proofs.lemmas.Option.{slice_get_cases, slice_get_within, same_Some}
+use Rattle.std.proofs.lemmas.Option.{slice_get_cases, slice_get_within, same_Some, IfSome_then}
 use Rattle.chess_model.specs.declared.man.Colour.{Colour}
 use Rattle.chess_model.specs.declared.man.Colour.TheVariants.{White, Black}
 use Rattle.chess_model.specs.declared.moves.Move.{Move}
@@ -37,9 +37,10 @@ use Rattle.game_board.specs.Learn.{partner_position, learnt}
 use Rattle.game_board.proofs.Received.{boards_differ}
 use Rattle.game_board.specs.Scoresheet.{DontFall, IsCharged, IsTrueScore}
 use Rattle.game_board.proofs.Grown.{half_moves-append}
-use Rattle.game_board.proofs.LastPlayed.{slice_get-append_end, at_or_last, AreStamps-zip}
-use Rattle.game_board.proofs.Legal.{IsLegal-empty}
-use Rattle.chess_model.proofs.LegalLists.{IsLegal-append}
+use Rattle.game_board.proofs.LastPlayed.{at_or_last, AreStamps-zip}
+use Rattle.chess_model.proofs.LegalLists.{IsLegal-append, legal_lists}
+use Rattle.collections.proofs.Places.{slice_get-append_end}
+use Rattle.std.proofs.lemmas.Bool.{false≢true}
 
 -- each item of the list stands where it stood, in a list with one item more
 pub stays_at : {X : Type 0} (xs : List X) (x y : X) (k : ℕ) → slice_get xs k ≡ Some y → slice_get (xs ++ x ∷ []) k ≡ Some y
@@ -85,9 +86,6 @@ has_moved-mover (p ∷ q ∷ more) = (λ h. omega arith, λ h. has_moved-two (mo
 abbrev charge_if : Bool → Bool → ℕ → ℕ → Option (ℕ × ℕ) → Option Charge
 charge_if timed moved begin end client = if timed && moved then Some (record { begin = begin; end = end; client = client }) else None
 
-no : false ≡ true → ⊥
-no e = cc
-
 -- so the charge of the next half-move is a true one
 IsCharged-if : (timed moved : Bool) (terms : Terms) (resumed : ℕ) (since moments : List ℕ) (k begin end : ℕ) (client : Option (ℕ × ℕ)) (m : Move) → is_timed terms ≡ timed →
     (IsTrue moved ↔ (2 ≤ k)) → begin ≤ end → slice_get since k ≡ Some begin → slice_get moments (k + 1) ≡ Some end → AreStamps client →
@@ -100,31 +98,26 @@ IsCharged-if true true terms resumed since moments k begin end client m t h orde
   stamped = stamps;
 }
 IsCharged-if true false terms resumed since moments k begin end client m t h order from to stamps = record {
-  stands = (λ s. absurd (no s), λ s. absurd (no (h.1 s.1)));
+  stands = (λ s. absurd (false≢true s), λ s. absurd (false≢true (h.1 s.1)));
   ordered = tt;
   begins = λ own. tt;
   ends = λ own. tt;
   stamped = tt;
 }
 IsCharged-if false true terms resumed since moments k begin end client m t h order from to stamps = record {
-  stands = (λ s. absurd (no s), λ s. absurd (no (sym t ∙ s.0)));
+  stands = (λ s. absurd (false≢true s), λ s. absurd (false≢true (sym t ∙ s.0)));
   ordered = tt;
   begins = λ own. tt;
   ends = λ own. tt;
   stamped = tt;
 }
 IsCharged-if false false terms resumed since moments k begin end client m t h order from to stamps = record {
-  stands = (λ s. absurd (no s), λ s. absurd (no (sym t ∙ s.0)));
+  stands = (λ s. absurd (false≢true s), λ s. absurd (false≢true (sym t ∙ s.0)));
   ordered = tt;
   begins = λ own. tt;
   ends = λ own. tt;
   stamped = tt;
 }
-
--- a charge stays a true one where its two moments stand where they stood
-pub if_some : {X : Type 0} (P Q : X → Type 0) (o : Option X) → ((x : X) → P x → Q x) → IfSome o P → IfSome o Q
-if_some P Q None step h = tt
-if_some P Q (Some x) step h = step x h
 
 pub IsCharged-changed : (terms : Terms) (resumed resumed' : ℕ) (since since' moments moments' : List ℕ) (k : ℕ) (p : Played) → (resumed' ≤ k → resumed ≤ k) →
     ((x : ℕ) → slice_get since k ≡ Some x → slice_get since' k ≡ Some x) → ((x : ℕ) → slice_get moments (k + 1) ≡ Some x → slice_get moments' (k + 1) ≡ Some x) →
@@ -132,8 +125,8 @@ pub IsCharged-changed : (terms : Terms) (resumed resumed' : ℕ) (since since' m
 IsCharged-changed terms resumed resumed' since since' moments moments' k p here from to c = record {
   stands = c.stands;
   ordered = c.ordered;
-  begins = λ own. if_some (λ (x : Charge). slice_get since k ≡ Some x.begin) (λ (x : Charge). slice_get since' k ≡ Some x.begin) p.charge (λ x h. from x.begin h) (c.begins (here own));
-  ends = λ own. if_some (λ (x : Charge). slice_get moments (k + 1) ≡ Some x.end) (λ (x : Charge). slice_get moments' (k + 1) ≡ Some x.end) p.charge (λ x h. to x.end h) (c.ends (here own));
+  begins = λ own. IfSome_then p.charge (c.begins (here own)) (λ x h. from x.begin h);
+  ends = λ own. IfSome_then p.charge (c.ends (here own)) (λ x h. to x.end h);
   stamped = c.stamped;
 }
 
@@ -173,7 +166,7 @@ IsTrueScore-new_board number terms moment = record {
   resumed = omega arith;
   kept = tt;
   charged = λ k p e. absurd (let within : k < 0 = slice_get_within [] k p e in omega (arith, within));
-  legal = IsLegal-empty terms.variant;
+  legal = legal_lists.none terms.variant;
   own = refl;
   alone = λ h. refl;
   clocks = λ c timed. clocks-sum (new_board number terms moment) c timed;

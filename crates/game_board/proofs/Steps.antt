@@ -16,7 +16,8 @@ use Rattle.game_board.specs.Board.{half_move, half_moves}
 use Rattle.game_board.specs.BoardFace.{before_own, last_shown}
 use Rattle.game_board.specs.Steps.{position_at, shown_at, IsStep, AreSteps}
 use Rattle.game_board.proofs.OwnMoves.{before_own-own, before_own-all}
-use Rattle.game_board.proofs.LastPlayed.{slice_get-append_end, at_or_last}
+use Rattle.game_board.proofs.LastPlayed.{at_or_last}
+use Rattle.collections.proofs.Places.{slice_get-append_end}
 
 -- a position that stands for a list of a variant is the position after it
 pub position_after-stands : (q : Position) (v : Variant) (number : ℕ) (list : List Played) → Stands q (half_moves number list) number → q.variant ≡ v →

@@ -1,5 +1,5 @@
 -- What a board keeps is kept without the last half-move.
-use Rattle.std.proofs.Common.{◌≡◌, ℕ, ◌+◌, ◌-◌, ◌<◌, ◌≤◌, zero, suc, List, [], ◌∷◌, ◌++◌, length, length-append, take, map, refl, sym, ap, subst, ◌∙◌, append_assoc, arith}
+use Rattle.std.proofs.Common.{◌≡◌, ℕ, ◌+◌, ◌-◌, ◌<◌, ◌≤◌, List, [], ◌∷◌, ◌++◌, length, length-append, take, map, refl, sym, ap, subst, ◌∙◌, append_assoc, arith}
 use Rattle.std.proofs.Math.Seq.{take-append_seam}
 use Rattle.std.proofs.lemmas.List.{append-nil, map-append, length-map, take-map}
 use Rattle.std.proofs.lemmas.Option.{slice_get_within}
@@ -26,10 +26,10 @@ use Rattle.game_board.specs.Steps.{position_at, IsStep, AreSteps}
 use Rattle.game_board.specs.TakeBack.{without_end}
 use Rattle.game_board.proofs.Charged.{charges_from-append}
 use Rattle.game_board.proofs.Grown.{half_moves-append}
-use Rattle.game_board.proofs.LastPlayed.{slice_get-append_end}
 use Rattle.game_board.proofs.Steps.{before_end, at_end, position_at-append, shown_at-append, slice_get-append_left}
 use Rattle.chess_model.proofs.ChessLaws.{opposite-opposite}
 use Rattle.chess_model.proofs.MoreMoves.{side_from-append}
+use Rattle.collections.proofs.Places.{slice_get-append_end}
 
 -- each legal list has a position that stands for it
 stands_on : (v : Variant) (number : ℕ) (done todo : List Played) → Stands (position_after v (half_moves number done) number) (half_moves number done) number →

@@ -13,6 +13,8 @@ use Rattle.game_board.specs.declared.played.Played.{Played}
 use Rattle.game_board.specs.Board.{half_moves}
 use Rattle.game_board.specs.Steps.{position_at}
 use Rattle.game_board.proofs.Movers.{moves_of-half_moves}
+use Rattle.chess_model.specs.declared.variant.Variant.TheVariants.{Chess, Crazyhouse, Bughouse, Fischer}
+use Rattle.game_board.specs.Claim.{has_claims}
 
 alone_on-first : (b n : ℕ) (list : List Played) → alone_on b (take n (map (λ p. p.what) list)) ≡ half_moves b (take n list)
 alone_on-first b zero [] = refl
@@ -72,3 +74,10 @@ third_by v number list second before same last None past found none =
         | inr more ↦ last b more within two
       ]
     ]))
+
+-- claims are of games of one board
+pub not_pair : (v : Variant) → has_claims v ≡ true → v ≡ Bughouse → ⊥
+not_pair Chess h e = cc
+not_pair Crazyhouse h e = cc
+not_pair Bughouse h e = cc
+not_pair (Fischer number) h e = cc

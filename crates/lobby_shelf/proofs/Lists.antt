@@ -1,5 +1,5 @@
 -- One step on in a list.
-use Rattle.std.proofs.Common.{◌≡◌, ℕ, ◌+◌, ◌<◌, zero, suc, List, [], ◌∷◌, ◌++◌, None, Some, length, take, drop, get_or, slice_get, refl, sym, ap, ◌∙◌, add-one, arith}
+use Rattle.std.proofs.Common.{◌≡◌, ℕ, ◌+◌, zero, suc, List, [], ◌∷◌, ◌++◌, take, drop, ap, ◌∙◌, add-one, arith}
 
 take_suc : {X : Type 0} (i : ℕ) (xs : List X) (x : X) (rest : List X) → drop i xs ≡ x ∷ rest → take (suc i) xs ≡ take i xs ++ x ∷ []
 take_suc zero [] x rest h = cc
@@ -18,9 +18,3 @@ take_step i xs x rest h = ap (λ n. take n xs) (add-one i) ∙ take_suc i xs x r
 
 pub drop_step : {X : Type 0} (i : ℕ) (xs : List X) (x : X) (rest : List X) → drop i xs ≡ x ∷ rest → drop (i + 1) xs ≡ rest
 drop_step i xs x rest h = ap (λ n. drop n xs) (add-one i) ∙ drop_suc i xs x rest h
-
--- what stands at a place of a list, and behind its end
-pub get_inside : {X : Type 0} (xs : List X) (k : ℕ) (x : X) → k < length xs → x ≡ get_or xs k x → slice_get xs k ≡ Some x
-get_inside [] k x h e = absurd (omega arith)
-get_inside (y ∷ ys) zero x h e = ap (λ z. Some z) (sym e)
-get_inside (y ∷ ys) (suc k) x h e = get_inside ys k x (omega arith) e

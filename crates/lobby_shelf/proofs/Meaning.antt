@@ -2,7 +2,7 @@
 use Rattle.std.proofs.Common.{◌≡◌, ℕ, zero, suc, ◌<◌, ◌≤◌, Bool, true, false, not, cond, List, [], ◌∷◌, ◌++◌, Option, None, Some, length, get_or, refl, sym, ap, subst, ◌∙◌, inl, inr, arith}
 use Rattle.std.specs.Prelude.{◌==◌, ◌&&◌, ◌||◌, nat_le, nat_lt, All, Contains, IfNone, IfSome}
 use Rattle.std.specs.List.{filter, find, list_any}
-use Rattle.std.proofs.lemmas.Bool.{cases_lt, eqb-true, eq-eqb, ne_eqb, leb-true, ltb-true, le-leb, lt-leb, lt-ltb, le-ltb, not-true, not-false, and_left, and_right, or_right}
+use Rattle.std.proofs.lemmas.Bool.{cases_lt, eqb-true, eq-eqb, ne_eqb, leb-true, ltb-true, le-leb, lt-leb, lt-ltb, le-ltb, or_right, not_from_true, not_from_false, and_parts}
 use Rattle.std.proofs.lemmas.List.Elements.{All-nil, All-cons, All-weaker, filter_passes}
 use Rattle.std.proofs.lemmas.List.Folds.{list_any-append}
 use Rattle.lobby_shelf.specs.declared.order.Order.{Order}
@@ -16,6 +16,7 @@ use Rattle.lobby_shelf.specs.Shelf.{ShelfState, asks, is_request, saved, with_re
 use Rattle.lobby_shelf.specs.Wanted.{told_up_to}
 use Rattle.lobby_shelf.proofs.Finding.{find-with_new, find-with_other, find-without_other, find-without_this, unused-all}
 use Rattle.lobby_shelf.proofs.Rising.{next_number-least, rises_at}
+use Rattle.std.proofs.lemmas.Map.Views.{any-filter_same}
 
 pub games-found : (shelf : ShelfState) → IsShelf shelf → GamesAreFound shelf
 games-found shelf is = record {
@@ -139,23 +140,6 @@ saved-first shelf is = record {
       (λ order h. ltb-true upto order.number h) (saved shelf upto).orders (filter_passes (λ order. nat_lt upto order.number) shelf.orders);
 }
 
--- requests that are left out by a test aren't among those that pass it, and the others are as they were
-any-filter_none : (q p : Request → Bool) → ((x : Request) → p x ≡ true → q x ≡ false) → (xs : List Request) → list_any q (filter p xs) ≡ false
-any-filter_none q p apart [] = refl
-any-filter_none q p apart (x ∷ xs) =
-    elim (p x) as (λ t. p x ≡ t → list_any q (cond t (x ∷ filter p xs) (filter p xs)) ≡ false) [
-      | true ↦ λ passes. ap (λ t. t || list_any q (filter p xs)) (apart x passes) ∙ any-filter_none q p apart xs
-      | false ↦ λ _. any-filter_none q p apart xs
-    ] refl
-
-any-filter_same : (q p : Request → Bool) → ((x : Request) → p x ≡ false → q x ≡ false) → (xs : List Request) → list_any q (filter p xs) ≡ list_any q xs
-any-filter_same q p apart [] = refl
-any-filter_same q p apart (x ∷ xs) =
-    elim (p x) as (λ t. p x ≡ t → list_any q (cond t (x ∷ filter p xs) (filter p xs)) ≡ list_any q (x ∷ xs)) [
-      | true ↦ λ _. ap (λ t. q x || t) (any-filter_same q p apart xs)
-      | false ↦ λ fails. any-filter_same q p apart xs ∙ sym (ap (λ t. t || list_any q xs) (apart x fails))
-    ] refl
-
 or_none : (a b : Bool) → b ≡ false → a || b ≡ a
 or_none true b h = refl
 or_none false b h = h
@@ -188,14 +172,14 @@ requests-stand shelf = record {
             ∙ or_none (list_any (is_request other number) shelf.requests) (list_any (is_request other number) (new ∷ []))
             (ap (λ t. t || false) (is_request-other by game other number differs))
       ];
-  off = λ by number. any-filter_none (is_request by number) (λ request. not (request.game == number))
-      (λ request h. and_right (request.by == by) (request.game == number) (not-true (request.game == number) h)) shelf.requests;
-  others_off = λ by number other differs. any-filter_same (is_request by other) (λ request. not (request.game == number))
-      (λ request h. and_right (request.by == by) (request.game == other)
-      (ne_eqb request.game other (λ e. differs (sym e ∙ eqb-true request.game number (not-false (request.game == number) h))))) shelf.requests;
-  gone = λ by game. any-filter_none (is_request by game) (λ request. not (request.by == by))
-      (λ request h. and_left (request.by == by) (request.game == game) (not-true (request.by == by) h)) shelf.requests;
-  others_gone = λ by other game differs. any-filter_same (is_request other game) (λ request. not (request.by == by))
-      (λ request h. and_left (request.by == other) (request.game == game)
-      (ne_eqb request.by other (λ e. differs (sym e ∙ eqb-true request.by by (not-false (request.by == by) h))))) shelf.requests;
+  off = λ by number. any-filter_same (is_request by number) (λ request. not (request.game == number)) false
+      (λ request h. not_from_true (request.game == number) (and_parts (request.by == by) (request.game == number) h).1) shelf.requests;
+  others_off = λ by number other differs. any-filter_same (is_request by other) (λ request. not (request.game == number)) true
+      (λ request h. not_from_false (request.game == number)
+      (ne_eqb request.game number (λ e. differs (sym (eqb-true request.game other (and_parts (request.by == by) (request.game == other) h).1) ∙ e)))) shelf.requests;
+  gone = λ by game. any-filter_same (is_request by game) (λ request. not (request.by == by)) false
+      (λ request h. not_from_true (request.by == by) (and_parts (request.by == by) (request.game == game) h).0) shelf.requests;
+  others_gone = λ by other game differs. any-filter_same (is_request other game) (λ request. not (request.by == by)) true
+      (λ request h. not_from_false (request.by == by)
+      (ne_eqb request.by by (λ e. differs (sym (eqb-true request.by other (and_parts (request.by == other) (request.game == game) h).0) ∙ e)))) shelf.requests;
 }

@@ -2,7 +2,7 @@
 use Rattle.std.proofs.Common.{◌≡◌, ℕ, Bool, true, false, not, cond, List, [], ◌∷◌, ◌++◌, refl, sym, ap, subst, ◌∙◌, inl, inr}
 use Rattle.std.specs.Prelude.{◌==◌, ◌&&◌, ◌||◌}
 use Rattle.std.specs.List.{filter, list_any}
-use Rattle.std.proofs.lemmas.Bool.{eqb-true, eqb-false, eq-eqb, ne_eqb, or_from, or_parts}
+use Rattle.std.proofs.lemmas.Bool.{eqb-true, ne_eqb, or_from, or_parts}
 use Rattle.std.proofs.lemmas.List.Folds.{list_any-append}
 use Rattle.lobby_shelf.specs.declared.request.Request.{Request}
 use Rattle.lobby_shelf.specs.declared.shelved.Shelved.{Shelved}
@@ -10,30 +10,13 @@ use Rattle.lobby_shelf.specs.Facts.{AreOnce}
 use Rattle.lobby_shelf.specs.Numbers.{RiseAbove, has_number, is_used, with_game, without_game}
 use Rattle.lobby_shelf.specs.Shelf.{is_request}
 use Rattle.lobby_shelf.proofs.Rising.{with_game-behind, with_game-before, unused_on, before_or_behind}
-
--- equality of numbers, seen from the other one
-pub turned : (a b : ℕ) → (a == b) ≡ (b == a)
-turned a b =
-    elim (b == a) as (λ t. (b == a) ≡ t → (a == b) ≡ t) [
-      | true ↦ λ same. eq-eqb a b (sym (eqb-true b a same))
-      | false ↦ λ differ. ne_eqb a b (λ e. eqb-false b a differ (sym e))
-    ] refl
+pub use Rattle.collections.proofs.Numbers.{turned}
+use Rattle.collections.proofs.Tests.{list_any-filter}
 
 is_request-turned : (one other : Request) → is_request one.by one.game other ≡ is_request other.by other.game one
 is_request-turned one other =
     ap (λ (t : Bool). t && (other.game == one.game)) (turned other.by one.by)
     ∙ ap (λ (t : Bool). (one.by == other.by) && t) (turned other.game one.game)
-
-kept_none : (q : Request → Bool) (t : Bool) (x : Request) (rest : List Request) → q x ≡ false → list_any q rest ≡ false
-    → list_any q (cond t (x ∷ rest) rest) ≡ false
-kept_none q true x rest fails none = or_from (q x) (list_any q rest) fails none
-kept_none q false x rest fails none = none
-
-list_any-filter : (q p : Request → Bool) (xs : List Request) → list_any q xs ≡ false → list_any q (filter p xs) ≡ false
-list_any-filter q p [] none = refl
-list_any-filter q p (x ∷ xs) none =
-    let both = or_parts (q x) (list_any q xs) none in
-    kept_none q (p x) x (filter p xs) both.0 (list_any-filter q p xs both.1)
 
 kept : (t : Bool) (x : Request) (rest : List Request) → list_any (is_request x.by x.game) rest ≡ false → AreOnce rest → AreOnce (cond t (x ∷ rest) rest)
 kept true x rest none more = (none, more)

@@ -7,16 +7,7 @@ use Rattle.std.proofs.lemmas.Option.{none-some}
 use Rattle.std.proofs.lemmas.Bool.{eqb-true, eqb-false, eq-eqb, ne_eqb, lt-ltb, le-ltb, cases_lt, or_from, or_parts}
 use Rattle.lobby_shelf.specs.declared.shelved.Shelved.{Shelved}
 use Rattle.lobby_shelf.specs.Numbers.{AreInOrder, IsLeastUnused, RiseAbove, first_gap, has_number, is_above, is_below, is_used, next_number, with_game, without_game}
-
--- a number above another one that isn't the next
-past : (a b : ℕ) → a < b → (b ≡ a + 1 → ⊥) → a + 1 < b
-past a b above other = grind arith
-
-not_same : (a b : ℕ) → a < b → b ≡ a → ⊥
-not_same a b h e = omega arith
-
-not_same_above : (a b : ℕ) → a < b → a ≡ b → ⊥
-not_same_above a b h e = omega arith
+use Rattle.collections.proofs.Numbers.{not_same, not_same_above}
 
 rise_on : (low : ℕ) (row : Shelved) (games : List Shelved) → low < row.number → row.number < 2 ^ 64 → RiseAbove row.number games → RiseAbove low (row ∷ games)
 rise_on low row games above fits rise = (above, fits, rise)

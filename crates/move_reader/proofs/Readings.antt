@@ -8,6 +8,7 @@ use Rattle.move_reader.specs.Reading.{coordinate_of, named_of, castle_of, drop_o
 use Rattle.move_reader.proofs.ByteMeanings.{not_some}
 use Rattle.move_reader.proofs.WhatIsRead.{IsSquares, IsNamed, IsCastling, IsDrop, coordinate-sound, named-sound, castle-sound, drop-sound}
 use Rattle.move_reader.proofs.SpelledWords.{coordinate-again, named-again, castle-again, drop-again}
+use Rattle.std.proofs.lemmas.Option.{same_Some}
 
 squares_read : (text : Text) (w : MoveWord) → IsSquares text w → IsReading text w
 squares_read text w (from, to, promo, is, spells) = subst (λ (x : MoveWord). IsReading text x) is spells
@@ -20,9 +21,6 @@ castling_read text w (long, is, spells) = subst (λ (x : MoveWord). IsReading te
 
 drop_read : (text : Text) (w : MoveWord) → IsDrop text w → IsReading text w
 drop_read text w (man, to, is, spells) = subst (λ (x : MoveWord). IsReading text x) is spells
-
-same_word : (v w : MoveWord) → Some v ≡ Some w → v ≡ w
-same_word v w e = cc
 
 -- no two squares are spelled where none are read
 no_squares : (text : Text) → coordinate_of text ≡ None → SpellsSquares text → ⊥
@@ -56,4 +54,4 @@ reading-again text (Castle long) spells = castle-again text long spells
 reading-again text (Drop man to) spells = drop-again text man to spells
 
 pub one_word : HasOneReading
-one_word text a b p q = same_word a b (sym (reading-again text a p) ∙ reading-again text b q)
+one_word text a b p q = same_Some a b (sym (reading-again text a p) ∙ reading-again text b q)

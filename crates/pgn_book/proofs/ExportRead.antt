@@ -9,7 +9,6 @@ use Rattle.std.proofs.lemmas.Str.Parse.{IsDigitsTest, numerals_by_value}
 use Rattle.chess_model.specs.declared.moves.Move.{Move}
 use Rattle.chess_model.specs.declared.states.Shown.{Shown}
 use Rattle.chess_model.specs.declared.variant.Variant.TheVariants.{Chess}
-use Rattle.chess_model.specs.MoveList.{HalfMove}
 use Rattle.chess_model.specs.Position.{Position}
 use Rattle.chess_model.specs.Allowed.{Allowed, IsLegal}
 use Rattle.move_writer.specs.Pretty.{pretty_of}
@@ -28,6 +27,8 @@ use Rattle.pgn_book.proofs.PiecesRead.{telling}
 use Rattle.pgn_book.proofs.GamesTold.{one_reading}
 use Rattle.pgn_book.proofs.Laying.{allowed_at}
 use Rattle.pgn_book.proofs.PrettyWords.{IsPlain, allowed_on_squares, pretty_plain, HasHead, move_head, no_number, no_result, unpraised, plain_word}
+use Rattle.std.proofs.lemmas.List.{map-append}
+use Rattle.chess_model.proofs.SoundPositions.{legal_front}
 
 -- ---- numbers
 
@@ -247,23 +248,13 @@ record IsPrettyWord (before : List Move) (m : Move) : Type 0 where
   token : IsToken (pretty_in (position_of before) m) (Word (pretty_in (position_of before) m) ∷ [])
   move_word : IsMoveWord before (pretty_in (position_of before) m) m
 
-legal_front : (done rest : List HalfMove) → IsLegal Chess (done ++ rest) → IsLegal Chess done
-legal_front done rest legal = record {
-  each = λ before after x e.
-      legal.each before (after ++ rest) x (ap (λ (hs : List HalfMove). hs ++ rest) e ∙ append_assoc before (x ∷ after) rest);
-}
-
-map-both : (xs ys : List Move) → map on_board (xs ++ ys) ≡ map on_board xs ++ map on_board ys
-map-both [] ys = refl
-map-both (x ∷ xs) ys = ap (λ (l : List HalfMove). on_board x ∷ l) (map-both xs ys)
-
 pretty_word : (before after : List Move) (m : Move) → IsLegal Chess (map on_board (before ++ m ∷ after)) → IsPrettyWord before m
 pretty_word before after m legal =
     let p : Position = position_of before in
     let shown : Shown = shown_of p m in
     let allowed : Allowed p m = allowed_at before after m legal in
     let front : IsLegal Chess (map on_board before) =
-    legal_front (map on_board before) (map on_board (m ∷ after)) (subst (IsLegal Chess) (map-both before (m ∷ after)) legal) in
+    legal_front Chess (map on_board before) (map on_board (m ∷ after)) (subst (IsLegal Chess) (map-append on_board before (m ∷ after)) legal) in
     let plain : IsPlain (pretty_of shown) 9 = pretty_plain shown (allowed_on_squares p m allowed) in
     let head : HasHead (pretty_of shown) = move_head shown m in
     let read : IsReadAs p (pretty_of shown) m = reads_back Chess (map on_board before) 1 m front allowed in

@@ -1,6 +1,6 @@
 -- A text that is read to its end is one of games.
 use Rattle.std.proofs.Common.{arith, ◌≡◌, inl, inr, ℕ, ◌+◌, ◌<◌, ◌≤◌, Bool, true, false, ◌&&◌, not, cond, nat_lt, List, [], ◌∷◌, ◌++◌, length, Option, Some, None, Result, Ok, Err, refl, sym, ap, subst, ◌∙◌, append_assoc, append-nil, length-append}
-use Rattle.std.specs.Prelude.{◌==◌, ◌||◌, bytes_eq, codes}
+use Rattle.std.specs.Prelude.{◌||◌, ◌==◌, bytes_eq, codes}
 use Rattle.std.specs.List.{list_all, AllByRecursion}
 use Rattle.std.specs.Result.{result_ok}
 use Rattle.std.proofs.lemmas.Bool.{eqb-true, and_parts, not-true}
@@ -22,11 +22,12 @@ use Rattle.pgn_book.specs.declared.stage.Stage.{Stage}
 use Rattle.pgn_book.specs.declared.stage.Stage.TheVariants.{Before, Tags, Opened, Named, Told, Moves}
 use Rattle.pgn_book.specs.declared.row.Row.{Row}
 use Rattle.pgn_book.specs.declared.place.PlaceInText.TheVariants.{Between}
-use Rattle.pgn_book.specs.Reading.{Book, empty_row, no_book, noted, result_of, game_of, Taken, goes, fails, gives, staged, opened, closed, passed_over, quoted, named, from_word, move_read, with_move, moved, told, worded, signed, glyphed, took, Outcome, adding, is_before, all_told, state_at, read_from, first_state}
+use Rattle.pgn_book.specs.Reading.{Book, empty_row, no_book, noted, result_of, game_of, Taken, goes, fails, gives, staged, opened, closed, passed_over, quoted, named, from_word, move_read, with_move, moved, told, worded, signed, glyphed, took, Outcome, adding, is_before, all_told, state_at, read_from, first_state, tags_of}
 use Rattle.pgn_book.specs.Laws.{ReaderReads}
 use Rattle.pgn_book.proofs.PiecesRead.{telling, lexed_read, start_read}
-use Rattle.pgn_book.proofs.GamesTold.{row_from, texts_of, row_told, reads_told}
+use Rattle.pgn_book.proofs.GamesTold.{row_from, row_told, reads_told, book_at}
 use Rattle.pgn_book.proofs.PiecesFound.{FoundAt, pieces_found}
+use Rattle.fics_words.proofs.Each.{each-push}
 
 -- ---- what was told of a game so far
 
@@ -57,9 +58,6 @@ OnwardBy told (Some g) (Some book) = (book ≡ no_book) × IsGame told g
 
 abbrev Onward : List Piece → Taken → Type 0
 Onward told taken = OnwardBy told taken.given taken.on
-
-abbrev book_at : Stage → Row → List Move → Book
-book_at stage row moves = record { stage = stage; row = row; moves = moves }
 
 -- the tags before a tag, or before the moves
 abbrev IsFront : Stage → Type 0
@@ -207,7 +205,7 @@ whole_game told stage row moves word r h = record {
   tags = r.so_far.tags;
   body = r.body;
   each_tag = r.so_far.each;
-  row = ap texts_of r.so_far.row_is ∙ row_told r.so_far.tags;
+  row = ap tags_of r.so_far.row_is ∙ row_told r.so_far.tags;
   moves = r.tell;
   most = r.most;
   whole = ap (λ (l : List Piece). l ++ Word word ∷ []) r.are ∙ append_assoc (all_tag_pieces r.so_far.tags) r.body (Word word ∷ [])
@@ -296,10 +294,6 @@ tags-end : (tags : List Tag) (tag : Tag) → all_tag_pieces (tags ++ tag ∷ [])
 tags-end [] tag = refl
 tags-end (t ∷ tags) tag = ap (λ (l : List Piece). tag_pieces t ++ l) (tags-end tags tag)
 
-each-end : (tags : List Tag) (tag : Tag) → AllByRecursion IsTag tags → IsTag tag → AllByRecursion IsTag (tags ++ tag ∷ [])
-each-end [] tag h g = (g, tt)
-each-end (t ∷ tags) tag h g = (h.0, each-end tags tag h.1 g)
-
 row-end : (tags : List Tag) (tag : Tag) (row : Row) → row_from row (tags ++ tag ∷ []) ≡ noted tag.name tag.text (row_from row tags)
 unfolding row_from
 row-end [] tag row = refl
@@ -314,7 +308,7 @@ onward_closed told_so (Named name) row moves s = tt
 onward_closed told_so Told row moves (old, t, tag, are, none, is, row_is) = (
   record {
     tags = t.tags ++ tag ∷ [];
-    each = each-end t.tags tag t.each is;
+    each = each-push IsTag t.tags tag t.each is;
     row_is = row_is ∙ ap (noted tag.name tag.text) t.row_is ∙ sym (row-end t.tags tag empty_row);
   },
   ap (λ (l : List Piece). l ++ Sign 93 ∷ []) are

@@ -9,7 +9,6 @@ use Rattle.chess_model.specs.Position.{Position}
 use Rattle.rules_reading.specs.ReadsBack.{IsReadAs}
 use Rattle.pgn_book.specs.declared.game.PgnResult.{PgnResult}
 use Rattle.pgn_book.specs.declared.game.PgnResult.TheVariants.{White, Black, Draw, Open}
-use Rattle.pgn_book.specs.declared.game.TagRow.{TagRow}
 use Rattle.pgn_book.specs.declared.game.PgnGame.{PgnGame}
 use Rattle.pgn_book.specs.Bytes.{is_digit, is_name_byte}
 use Rattle.pgn_book.specs.Lexing.{Piece, Blank, Escape, Braces, Comment, Word, Glyph, Quoted, Sign, Opening, Closing, Within, at_start, unmarked}
@@ -18,11 +17,11 @@ use Rattle.pgn_book.specs.Reading as reader
 use Rattle.pgn_book.specs.declared.stage.Stage.{Stage}
 use Rattle.pgn_book.specs.declared.stage.Stage.TheVariants.{Before, Tags, Opened, Named, Told, Moves}
 use Rattle.pgn_book.specs.declared.row.Row.{Row}
-use Rattle.pgn_book.specs.Reading.{Book, empty_row, no_book, noted_as, noted, result_of, game_of, Taken, goes, fails, passed_over, from_word, move_read, with_move, told, took, Outcome, adding, all_told, read_from, first_state}
+use Rattle.pgn_book.specs.Reading.{Book, empty_row, no_book, noted_as, noted, result_of, game_of, Taken, goes, fails, passed_over, from_word, move_read, with_move, told, took, Outcome, adding, all_told, read_from, first_state, tags_of}
 use Rattle.pgn_book.proofs.PiecesRead.{telling, lexed_read, start_read}
 use Rattle.std.proofs.lemmas.Bool.{and_from}
 
-abbrev book_at : Stage → Row → List Move → Book
+abbrev pub book_at : Stage → Row → List Move → Book
 book_at stage row moves = record { stage = stage; row = row; moves = moves }
 
 -- where a tag may begin
@@ -126,17 +125,7 @@ first_kept f key h (tag ∷ tags) row =
     ∙ ap (λ (o : Option (List ℕ)). kept o (first_text key tags)) (h.keeps tag.name tag.text row)
     ∙ noted-kept key tag.name tag.text (f row) (first_text key tags)
 
-abbrev pub texts_of : Row → TagRow
-texts_of row = record {
-  event = unwrap_or row.event (codes "?");
-  site = unwrap_or row.site (codes "?");
-  date = unwrap_or row.date (codes "????.??.??");
-  round = unwrap_or row.round (codes "?");
-  white = unwrap_or row.white (codes "?");
-  black = unwrap_or row.black (codes "?");
-}
-
-pub row_told : (tags : List Tag) → texts_of (row_from empty_row tags) ≡ row_of tags
+pub row_told : (tags : List Tag) → tags_of (row_from empty_row tags) ≡ row_of tags
 row_told tags =
     let event = first_kept (λ r. r.event) (codes "Event") (record { keeps = λ n t r. refl }) tags empty_row in
     let site = first_kept (λ r. r.site) (codes "Site") (record { keeps = λ n t r. refl }) tags empty_row in
@@ -290,7 +279,7 @@ game_told first g rest h =
     let row : Row = row_from empty_row h.tags in
     let body = body_told h.body tags.at row [] g.moves behind_body (front_ready tags.at tags.front) h.moves (omega (arith, h.most)) in
     let book : Book = book_at body.at row g.moves in
-    let texts : texts_of row ≡ g.tags = row_told h.tags ∙ sym h.row in
+    let texts : tags_of row ≡ g.tags = row_told h.tags ∙ sym h.row in
     let result : result_of (result_text g.result) ≡ g.result = result_again g.result in
     let same : game_of book (result_text g.result) ≡ g =
     (λ i. record { tags = texts i; moves = g.moves; result = result i }) in

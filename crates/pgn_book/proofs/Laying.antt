@@ -1,8 +1,8 @@
 -- Tokens that are laid one behind the other.
-use Rattle.std.proofs.Common.{arith, ◌≡◌, ℕ, ◌+◌, ◌<◌, List, [], ◌∷◌, ◌++◌, length, map, take, drop, get_or, refl, sym, ap, subst, ◌∙◌, append_assoc, append-nil}
+use Rattle.std.proofs.Common.{arith, ◌≡◌, ℕ, ◌+◌, ◌<◌, List, [], ◌∷◌, ◌++◌, length, map, take, drop, get_or, sym, ap, subst, ◌∙◌, append_assoc, append-nil}
 use Rattle.std.proofs.Common.{suc}
 use Rattle.std.proofs.Math.Seq.{drop-cons}
-use Rattle.std.proofs.lemmas.List.{take_more, take-append-drop, length-take-le}
+use Rattle.std.proofs.lemmas.List.{take_more, take-append-drop, length-take-le, map-append}
 use Rattle.chess_model.specs.declared.moves.Move.{Move}
 use Rattle.chess_model.specs.declared.variant.Variant.TheVariants.{Chess}
 use Rattle.chess_model.specs.MoveList.{HalfMove}
@@ -41,17 +41,9 @@ pub stands_at : (p : Position) (moves : List Move) → p.variant ≡ Chess → S
 stands_at p moves chess stands =
     stands.same ∙ ap (λ v. position_after v (map on_board moves) 1) chess
 
-pub map-end : (xs : List Move) (m : Move) → map on_board (xs ++ m ∷ []) ≡ map on_board xs ++ on_board m ∷ []
-map-end [] m = refl
-map-end (x ∷ xs) m = ap (λ (l : List HalfMove). on_board x ∷ l) (map-end xs m)
-
-map-both : (xs ys : List Move) → map on_board (xs ++ ys) ≡ map on_board xs ++ map on_board ys
-map-both [] ys = refl
-map-both (x ∷ xs) ys = ap (λ (l : List HalfMove). on_board x ∷ l) (map-both xs ys)
-
 -- each move of a legal list is allowed in the position after those before it
 pub allowed_at : (before after : List Move) (m : Move) → IsLegal Chess (map on_board (before ++ m ∷ after)) → Allowed (position_of before) m
-allowed_at before after m legal = legal.each (map on_board before) (map on_board after) (on_board m) (map-both before (m ∷ after))
+allowed_at before after m legal = legal.each (map on_board before) (map on_board after) (on_board m) (map-append on_board before (m ∷ after))
 
 -- what holds when some moves were laid
 pub record HaveLaid (a b : Page) (p : Position) (moves : List Move) (n : ℕ) : Type 0 where
@@ -88,7 +80,7 @@ laid_next a b c p q moves n m h within e lays same stands =
       lays = subst (λ (l : List (List ℕ)). Lays a c l) (sym (ap (move_tokens []) more ∙ tokens_more [] front m))
           (lays_both a b c (move_tokens [] front) (number_at (length front) ++ pretty_in (position_of front) m ∷ []) h.lays here);
       variant = same ∙ h.variant;
-      stands = subst (λ (T : List HalfMove). Stands q T 1) (sym (ap (map on_board) more ∙ map-end front m)) (stands (map on_board front) 1 h.stands);
+      stands = subst (λ (T : List HalfMove). Stands q T 1) (sym (ap (map on_board) more ∙ map-append on_board front (m ∷ []))) (stands (map on_board front) 1 h.stands);
     }
 
 -- the text of a page that began behind whole lines

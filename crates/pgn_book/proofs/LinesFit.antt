@@ -20,15 +20,12 @@ use Rattle.pgn_book.proofs.Laying.{allowed_at}
 use Rattle.pgn_book.proofs.PrettyWords.{IsPlain, allowed_on_squares, pretty_plain, plain_word}
 use Rattle.pgn_book.proofs.ExportRead.{decimal_digits, digits_word}
 use Rattle.fics_words.proofs.HandleTests.{at_least}
-
--- a byte of a line
-abbrev is_line_byte : ℕ → Bool
-is_line_byte b = not (b == 10)
+use Rattle.pgn_book.specs.Lexing.{is_of_line}
 
 -- a token that fits a line
 record IsShort (token : List ℕ) : Type 0 where
   most : length token ≤ 79
-  bytes : list_all is_line_byte token ≡ true
+  bytes : list_all is_of_line token ≡ true
 
 abbrev AllShort : List (List ℕ) → Type 0
 AllShort tokens = AllByRecursion IsShort tokens
@@ -44,7 +41,7 @@ record FitsFrom (column : ℕ) (text : List ℕ) : Type 0 where
 end_fits : (column : ℕ) → column ≤ 79 → FitsFrom column []
 end_fits column h = record { first = []; others = []; lines = refl; fits = omega arith; short = tt }
 
-byte_fits : (column b : ℕ) (text : List ℕ) → is_line_byte b ≡ true → FitsFrom (column + 1) text → FitsFrom column (b ∷ text)
+byte_fits : (column b : ℕ) (text : List ℕ) → is_of_line b ≡ true → FitsFrom (column + 1) text → FitsFrom column (b ∷ text)
 byte_fits column b text h f =
     let most = f.fits in
     record {
@@ -55,10 +52,10 @@ byte_fits column b text h f =
       short = f.short;
     }
 
-token_fits : (column : ℕ) (token text : List ℕ) → list_all is_line_byte token ≡ true → FitsFrom (column + length token) text → FitsFrom column (token ++ text)
+token_fits : (column : ℕ) (token text : List ℕ) → list_all is_of_line token ≡ true → FitsFrom (column + length token) text → FitsFrom column (token ++ text)
 token_fits column [] text h f = subst (λ (c : ℕ). FitsFrom c text) (let e : column + 0 ≡ column = omega arith in e) f
 token_fits column (b ∷ token) text h f =
-    let parts = and_parts (is_line_byte b) (list_all is_line_byte token) h in
+    let parts = and_parts (is_of_line b) (list_all is_of_line token) h in
     let along : column + length (b ∷ token) ≡ (column + 1) + length token = omega arith in
     byte_fits column b (token ++ text) parts.0 (token_fits (column + 1) token text parts.1 (subst (λ (c : ℕ). FitsFrom c text) along f))
 
@@ -97,11 +94,11 @@ no_feed : is_word_byte 10 ≡ true → ⊥
 unfolding is_word_byte
 no_feed h = let f : false ≡ true = h in cc
 
-word_line : (text : List ℕ) → list_all is_word_byte text ≡ true → list_all is_line_byte text ≡ true
+word_line : (text : List ℕ) → list_all is_word_byte text ≡ true → list_all is_of_line text ≡ true
 word_line [] h = refl
 word_line (b ∷ text) h =
     let parts = and_parts (is_word_byte b) (list_all is_word_byte text) h in
-    ap (λ (t : Bool). not t && list_all is_line_byte text) (by (b == 10) refl parts.0) ∙ word_line text parts.1
+    ap (λ (t : Bool). not t && list_all is_of_line text) (by (b == 10) refl parts.0) ∙ word_line text parts.1
   where
     by : (t : Bool) → (b == 10) ≡ t → is_word_byte b ≡ true → (b == 10) ≡ false
     by true e g = absurd (no_feed (sym (ap is_word_byte (eqb-true b 10 e)) ∙ g))
@@ -113,11 +110,11 @@ number_short n h =
     let most : length (decimal n) ≤ 3 = length-decimal-le 3 n (omega arith) (omega arith) (omega arith) in
     record { most = omega arith; bytes = with_dot (decimal n) (word_line (decimal n) (digits_word (decimal n) (decimal_digits n h))) }
   where
-    with_dot : (text : List ℕ) → list_all is_line_byte text ≡ true → list_all is_line_byte (text ++ codes ".") ≡ true
+    with_dot : (text : List ℕ) → list_all is_of_line text ≡ true → list_all is_of_line (text ++ codes ".") ≡ true
     with_dot [] g = refl
     with_dot (b ∷ text) g =
-        let parts = and_parts (is_line_byte b) (list_all is_line_byte text) g in
-        ap (λ (t : Bool). t && list_all is_line_byte (text ++ codes ".")) parts.0 ∙ with_dot text parts.1
+        let parts = and_parts (is_of_line b) (list_all is_of_line text) g in
+        ap (λ (t : Bool). t && list_all is_of_line (text ++ codes ".")) parts.0 ∙ with_dot text parts.1
 
 pretty_short : (p : Position) (m : Move) → Allowed p m → IsShort (pretty_in p m)
 pretty_short p m allowed =

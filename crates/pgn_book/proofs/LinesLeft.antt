@@ -12,13 +12,15 @@ use Rattle.pgn_book.specs.declared.stage.Stage.{Stage}
 use Rattle.pgn_book.specs.declared.stage.Stage.TheVariants.{Before, Tags, Opened, Named, Told, Moves}
 use Rattle.pgn_book.specs.Bytes.{is_word_byte}
 use Rattle.pgn_book.specs.Games.{Reads}
-use Rattle.pgn_book.specs.Reading.{Book, took, Outcome, adding, State, state_at, begun_behind, piece_of, step, read_from, first_state, Gone, with_given, gone, adding_all}
+use Rattle.pgn_book.specs.Reading.{Book, took, Outcome, State, state_at, begun_behind, piece_of, step, read_from, first_state, Gone, with_given, gone, adding_all}
 use Rattle.pgn_book.specs.Reader.{line_behind, line_if, line_from}
 use Rattle.pgn_book.specs.BadLines.{IsBeginning, is_feed, line_of_end, IsLeftOn, OneLine}
 use Rattle.pgn_book.specs.Sound.{IsSound, IsSoundPlace, IsSoundIf}
 use Rattle.pgn_book.proofs.Cuts.{reads_in_pieces}
 use Rattle.pgn_book.proofs.GamesFound.{reader_reads}
 use Rattle.pgn_book.proofs.SoundStates.{step_sound, first_sound}
+use Rattle.pgn_book.proofs.GamesTold.{book_at}
+use Rattle.pgn_book.proofs.PiecesFound.{adding_whole}
 
 -- ---- lines
 
@@ -125,18 +127,11 @@ record CanEnd (s : State) : Type 0 where
   more : List ℕ
   whole : (read_from (Some s) more).whole ≡ true
 
-abbrev book_at : Stage → Row → List Move → Book
-book_at stage row moves = record { stage = stage; row = row; moves = moves }
-
-pub given_whole : (given : Option PgnGame) (o : Outcome) → (adding given o).whole ≡ o.whole
-given_whole None o = refl
-given_whole (Some g) o = refl
-
 -- a byte before what goes on
 led : (s t : State) (b : ℕ) → (step s b).on ≡ Some t → CanEnd t → CanEnd s
 led s t b e h = record {
   more = b ∷ h.more;
-  whole = given_whole (step s b).given (read_from (step s b).on h.more) ∙ ap (λ (on : Option State). (read_from on h.more).whole) e ∙ h.whole;
+  whole = adding_whole (step s b).given (read_from (step s b).on h.more) ∙ ap (λ (on : Option State). (read_from on h.more).whole) e ∙ h.whole;
 }
 
 -- outside of variations

@@ -19,7 +19,7 @@ Whole s text = (read_from s text).whole ≡ true
 never : {A : Type 0} → false ≡ true → A
 never e = absurd (let f : false ≡ true = e in cc)
 
-adding_whole : (given : Option PgnGame) (o : Outcome) → (adding given o).whole ≡ o.whole
+pub adding_whole : (given : Option PgnGame) (o : Outcome) → (adding given o).whole ≡ o.whole
 adding_whole None o = refl
 adding_whole (Some g) o = refl
 

@@ -14,7 +14,8 @@ use Rattle.chess_model.specs.WordAnswer.{word_answer}
 use Rattle.move_reader.specs.Reading.{reading}
 use Rattle.pgn_book.specs.Games.{on_board, position_of}
 use Rattle.pgn_book.specs.Reading.{from_word, move_read}
-use Rattle.pgn_book.proofs.Laying.{stands_at, map-end}
+use Rattle.pgn_book.proofs.Laying.{stands_at}
+use Rattle.std.proofs.lemmas.List.{map-append}
 
 pub at_moves : (p : Position) (kept moves : List Move) → p.variant ≡ Chess → Stands p (map on_board kept) 1 → kept ≡ moves → p ≡ position_of moves
 at_moves p kept moves chess stands e = stands_at p kept chess stands ∙ ap position_of e
@@ -35,4 +36,4 @@ answer_allowed p q word m is g = subst (λ (x : Position). Allowed x m) g is.cho
 pub stands_on : (p q : Position) (moves : List Move) (m : Move)
     → ((T : List HalfMove) (b : ℕ) → Stands p T b → Stands q (T ++ record { board = b; what = m } ∷ []) b)
     → Stands p (map on_board moves) 1 → Stands q (map on_board (moves ++ m ∷ [])) 1
-stands_on p q moves m f s = subst (λ (l : List HalfMove). Stands q l 1) (sym (map-end moves m)) (f (map on_board moves) 1 s)
+stands_on p q moves m f s = subst (λ (l : List HalfMove). Stands q l 1) (sym (map-append on_board moves (m ∷ []))) (f (map on_board moves) 1 s)

@@ -30,8 +30,8 @@ use Rattle.pgn_book.specs.Sound.{IsTextIfTold, IsSoundBook, IsSoundPlace, IsSoun
 use Rattle.pgn_book.specs.Laws.{ReadsExportable}
 use Rattle.pgn_book.proofs.GamesFound.{move_found}
 use Rattle.pgn_book.proofs.GamesTold.{reads_told}
-use Rattle.pgn_book.proofs.Laying.{map-end}
 use Rattle.pgn_book.proofs.PiecesRead.{each_among}
+use Rattle.std.proofs.lemmas.List.{map-append}
 
 -- ---- books
 
@@ -153,7 +153,7 @@ moving_on book text (Some m) room h e =
     let long : length (book.moves ++ m ∷ []) ≡ length book.moves + 1 = length-append book.moves (m ∷ []) in
     going (record { stage = Moves; row = book.row; moves = book.moves ++ m ∷ [] })
     (record {
-      legal = subst (λ (T : List HalfMove). IsLegal Chess T) (sym (map-end book.moves m)) (legal_lists.grows Chess (map on_board book.moves) (on_board m) h.legal allowed);
+      legal = subst (λ (T : List HalfMove). IsLegal Chess T) (sym (map-append on_board book.moves (m ∷ []))) (legal_lists.grows Chess (map on_board book.moves) (on_board m) h.legal allowed);
       most = omega arith;
       event = h.event;
       site = h.site;

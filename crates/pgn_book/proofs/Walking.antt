@@ -1,6 +1,6 @@
 -- What a byte makes of a walk, from what its piece makes of the book.
 use Rattle.std.proofs.Common.{◌≡◌, ℕ, ◌+◌, ◌-◌, Bool, true, false, ◌||◌, cond, nat_eq, nat_lt, List, [], ◌∷◌, ◌++◌, Option, Some, None, refl, sym, ap, ◌∙◌}
-use Rattle.std.specs.Prelude.{◌==◌, Result, Ok, Err, IfOk, OnErr}
+use Rattle.std.specs.Prelude.{◌==◌}
 use Rattle.pgn_book.specs.declared.book.Read.{Read}
 use Rattle.pgn_book.specs.declared.place.PlaceInText.{PlaceInText}
 use Rattle.pgn_book.specs.declared.place.PlaceInText.TheVariants.{Between, InWord, InQuotes, InStroke}
@@ -8,14 +8,6 @@ use Rattle.pgn_book.specs.Bytes.{is_among, move_signs, is_name_byte, is_word_byt
 use Rattle.pgn_book.specs.Lexing.{is_sign, is_of_text}
 use Rattle.pgn_book.specs.Reading.{Book, Taken, State, Step, silent, state_at, to_place, took, passed_over, signed, quoted, glyphed, worded, piece_of, opens, closes, outside, nested, in_quotes, longer, step, step_in}
 use Rattle.pgn_book.specs.Taking.{on_if, IsTaken, IsTakenSilently, IsStep}
-
-pub ok_from : {A E : Type 0} (P Q : A → Type 0) → ((x : A) → P x → Q x) → (r : Result A E) → IfOk r P → IfOk r Q
-ok_from P Q f (Ok x) h = f x h
-ok_from P Q f (Err e) h = h
-
-pub err_from : {A E : Type 0} (P Q : Type 0) → (P → Q) → (r : Result A E) → OnErr r P → OnErr r Q
-err_from P Q f (Ok x) h = h
-err_from P Q f (Err e) h = f h
 
 pub word_by_name : (b : ℕ) (x : Bool) → x ≡ is_name_byte b → x ≡ true → x ≡ is_word_byte b
 unfolding is_word_byte

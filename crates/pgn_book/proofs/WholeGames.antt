@@ -17,9 +17,9 @@ use Rattle.pgn_book.proofs.Cuts.{reads_in_pieces}
 use Rattle.pgn_book.proofs.GamesFound.{reader_reads}
 use Rattle.pgn_book.proofs.PiecesRead.{each_among}
 use Rattle.pgn_book.proofs.SoundStates.{step_sound, first_sound, gone_sound}
-use Rattle.pgn_book.proofs.LinesLeft.{given_whole as adding_whole}
+use Rattle.pgn_book.proofs.PiecesFound.{adding_whole}
 
-abbrev listed : Option PgnGame → List PgnGame
+abbrev pub listed : Option PgnGame → List PgnGame
 listed None = []
 listed (Some g) = g ∷ []
 

@@ -10,6 +10,7 @@ use Rattle.pgn_book.specs.BadLines.{IsLeftOn}
 use Rattle.pgn_book.specs.Runs.{outcome_of, begun_with, with_games, HasGiven, EndsSo, Call, Feed, Next, Halted, MakeAll, Ends, text_of, game_in, games_of, RunsReadTheText}
 use Rattle.pgn_book.proofs.GamesFound.{reader_reads}
 use Rattle.pgn_book.proofs.LinesLeft.{left_on}
+use Rattle.pgn_book.proofs.WholeGames.{listed}
 
 -- ---- calls
 
@@ -26,11 +27,6 @@ fed_more text piece games old new h e =
       read = λ more. ap outcome_of (append_assoc text piece more) ∙ h.read (piece ++ more) ∙ ap (λ (l : List ℕ). adding_all games (read_from old.on l)) (sym (append_assoc old.rest piece more));
       line = λ more. ap (line_from 1 (Some first_state)) (append_assoc text piece more) ∙ h.line (piece ++ more) ∙ ap (λ (l : List ℕ). line_from old.line old.on l) (sym (append_assoc old.rest piece more));
     })
-
--- a game more, if there is one
-abbrev listed : Option PgnGame → List PgnGame
-listed None = []
-listed (Some g) = g ∷ []
 
 more_begun : (games : List PgnGame) (given : Option PgnGame) (g : Gone) → with_games games (with_given given g) ≡ with_games (games ++ listed given) g
 more_begun games None g = ap (λ (l : List PgnGame). record { games = l ++ g.games; on = g.on }) (sym (append-nil games))

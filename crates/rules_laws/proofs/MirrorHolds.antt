@@ -1,7 +1,7 @@
 -- What the rules say of a position holds of its mirror.
 use Rattle.std.proofs.Common.{arith, ◌≡◌, ◌≢◌, ℕ, ◌<◌, ◌⊎◌, Bool, true, false, ◌&&◌, not, is_none, cond, nat_eq, length, refl, sym, ap, subst, ◌∙◌, inl, inr, Option, Some, None, slice_set}
 use Rattle.std.specs.Option.{option_map}
-use Rattle.std.proofs.lemmas.Bool.{cases_order}
+use Rattle.std.proofs.lemmas.Bool.{cases_eq}
 use Rattle.std.proofs.lemmas.List.{ext_get_or, length-set, get_or-set_other, get_or-set_same}
 use Rattle.chess_model.specs.declared.man.Colour.{Colour}
 use Rattle.chess_model.specs.declared.man.Colour.TheVariants.{White, Black}
@@ -154,16 +154,10 @@ set-each P Q h t man ht s hs (inr other) =
     get_or-set_other Q (turned t) (turned s) (recoloured man) None (turned-differs s t other) ∙ h.turn.each s hs ∙
     ap recoloured (sym (get_or-set_other P t s man None other))
 
-same_or : (s t : ℕ) → (s ≡ t) ⊎ (s ≢ t)
-same_or s t = elim (cases_order s t) [
-  | inl same ↦ inl same
-  | inr other ↦ inr (λ e. elim other [ inl lt ↦ omega (arith, lt, e) | inr lt ↦ omega (arith, lt, e) ])
-]
-
 set-mirrored : (P Q : Placement) → AreMirrored P Q → (t : ℕ) (man : Option Man) → t < 64 →
     AreMirrored (slice_set P t man) (slice_set Q (turned t) (recoloured man))
 set-mirrored P Q h t man ht = record {
-  turn = record { each = λ s hs. set-each P Q h t man ht s hs (same_or s t) };
+  turn = record { each = λ s hs. set-each P Q h t man ht s hs (cases_eq s t) };
   first = length-set P t man ∙ h.first;
   second = length-set Q (turned t) (recoloured man) ∙ h.second;
 }

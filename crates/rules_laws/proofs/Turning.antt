@@ -1,7 +1,7 @@
 -- Squares of a board that is turned over: files stay, ranks go to the other end, lines stay lines.
-use Rattle.std.proofs.Common.{arith, ◌≡◌, ◌≢◌, ℕ, ◌-◌, ◌<◌, ◌≤◌, ◌⊎◌, Bool, true, false, cond, max, nat_lt, refl, sym, ap, ◌∙◌, inl, inr}
+use Rattle.std.proofs.Common.{arith, ◌≡◌, ◌≢◌, ℕ, ◌-◌, ◌<◌, ◌≤◌, Bool, true, false, cond, max, nat_lt, refl, sym, ap, ◌∙◌, inl, inr}
 use Rattle.std.proofs.lemmas.Bool.Decides.{Decides-ltb}
-use Rattle.std.proofs.lemmas.Bool.{cases_order}
+use Rattle.std.proofs.lemmas.Bool.{cases_lt}
 use Rattle.chess_model.specs.Squares.{file_of, rank_of, square_at, files_apart, ranks_apart, distance, toward, along}
 use Rattle.rules_laws.specs.Mirror.{turned}
 
@@ -30,14 +30,8 @@ file-turned s h = omega (arith, h, turned-on s h)
 pub rank-turned : (s : ℕ) → s < 64 → rank_of (turned s) ≡ 7 - rank_of s
 rank-turned s h = omega (arith, h, turned-on s h)
 
-on_board : (s : ℕ) → (s < 64) ⊎ (64 ≤ s)
-on_board s = elim (cases_order s 64) [
-  | inl same ↦ inr (omega (arith, same))
-  | inr other ↦ elim other [ inl lt ↦ inl lt | inr lt ↦ inr (omega (arith, lt)) ]
-]
-
 pub turned-turned : (s : ℕ) → turned (turned s) ≡ s
-turned-turned s = elim (on_board s) [
+turned-turned s = elim (cases_lt s 64) [
   | inl h ↦ omega (arith, h, turned-on s h, turned-lt s h, turned-on (turned s) (turned-lt s h))
   | inr far ↦ ap turned (turned-off s far) ∙ turned-off s far
 ]

@@ -1,7 +1,7 @@
 -- Attacks on a square before and after a man comes or goes.
-use Rattle.std.proofs.Common.{arith, ◌≡◌, ◌≢◌, ◌⊎◌, ℕ, not, nat_eq, ◌<◌, inl, inr, length, Bool, true, false, refl, sym, ap, subst, ◌∙◌, Option, Some, None}
+use Rattle.std.proofs.Common.{arith, ◌≡◌, ◌≢◌, ◌⊎◌, ℕ, not, nat_eq, ◌<◌, inl, inr, length, true, sym, ap, subst, ◌∙◌, Option, Some, None}
 use Rattle.std.specs.Prelude.{slice_set}
-use Rattle.std.proofs.lemmas.Bool.{cases_order}
+use Rattle.std.proofs.lemmas.Bool.{cases_order, cases_eq}
 use Rattle.std.proofs.lemmas.Bool.Decides.{eqb_tells}
 use Rattle.std.proofs.lemmas.List.{get_or-set_other, get_or-set_same}
 use Rattle.std.specs.Int.{bit_at}
@@ -16,7 +16,7 @@ use Rattle.chess_model.specs.Reach.{Clear, Strikes}
 use Rattle.chess_model.specs.Attacked.{StrikesAs, StrikesFrom, IsAttacked}
 use Rattle.bitboard_core.specs.Sets.{Has}
 use Rattle.variant_rules.specs.Checks.{IsBare}
-use Rattle.variant_rules.proofs.LineLemmas.{Fills, distance-along, same_or_other, still-strikes}
+use Rattle.variant_rules.proofs.LineLemmas.{Fills, distance-along, still-strikes}
 use Rattle.chess_model.proofs.NoMoreMen.{IsStep-differs}
 use Rattle.chess_model.proofs.ChessLaws.{Strikes-back, opposite-opposite}
 use Rattle.bitboard_core.proofs.StepLemmas.{along-lt}
@@ -43,7 +43,7 @@ held-both c (Some m) own other = colours-apart c (sym own ∙ other)
 pub none-held : (c : Colour) (man : Option Man) → man ≡ None → ¬ IsHeldBy c man
 none-held c man e h = subst (λ (x : Option Man). IsHeldBy c x) e h
 
-strikes-held : (P : Placement) (c : Colour) (a s : ℕ) (man : Option Man) → StrikesAs P c a s man → IsHeldBy c man
+pub strikes-held : (P : Placement) (c : Colour) (a s : ℕ) (man : Option Man) → StrikesAs P c a s man → IsHeldBy c man
 strikes-held P c a s None h = absurd h
 strikes-held P c a s (Some m) h = h.0
 
@@ -177,7 +177,7 @@ bare-far P c s a x ls safe bare out =
 
 come-empty : (P : Placement) (c : Colour) (b t : ℕ) (man : Option Man) → length P ≡ 64 → b < 64 → IsHeldBy c man →
     man_at (slice_set P b man) t ≡ None → man_at P t ≡ None
-come-empty P c b t man size lb own free = elim (same_or_other t b) [
+come-empty P c b t man size lb own free = elim (cases_eq t b) [
   | inl same ↦ absurd (none-held c man (sym (at-written P b man size lb) ∙ ap (man_at (slice_set P b man)) (sym same) ∙ free) own)
   | inr other ↦ sym (at-unwritten P b t man other) ∙ free
 ]

@@ -11,15 +11,15 @@ use Rattle.chess_model.specs.declared.variant.Variant.{Variant}
 use Rattle.chess_model.specs.Placement.{Placement, man_at, opposite, unpromoted, IsHeldBy, IsHeldAs}
 use Rattle.chess_model.specs.Attacked.{IsKingSafe}
 use Rattle.chess_model.specs.MoveList.{is_en_passant, taking_square, landed, place_after}
-use Rattle.chess_model.specs.Holdings.{count_in}
 use Rattle.chess_model.specs.Position.{Position, hand_of_side}
 use Rattle.chess_model.specs.Allowed.{IsPromotion, HasPromotion, GoesAs}
 use Rattle.bitboard_core.specs.Sets.{Has}
 use Rattle.variant_rules.specs.declared.guard.Guard.{Guard}
 use Rattle.variant_rules.specs.Checks.{IsBare, IsUnanswered, AreWatched}
 use Rattle.variant_rules.specs.Listing.{IsUnguarded, IsGuard}
-use Rattle.variant_rules.proofs.LineLemmas.{same_or_other}
 use Rattle.variant_rules.proofs.CheckLemmas.{Eases, eased-attack, held-both, none-held, at-written, at-unwritten}
+use Rattle.std.proofs.lemmas.Bool.{cases_eq}
+use Rattle.chess_model.proofs.SoundPositions.{king_not_held}
 
 -- a plain move
 
@@ -63,16 +63,16 @@ module _ (P : Placement) (c : Colour) (a b : ℕ) (L : Option Man) (size : lengt
   -- after the move no man sees more of a king than without the man on a
   moved-bare : (s : ℕ) → IsHeldBy c L → Eases moved (slice_set P a None) (opposite c) s
   moved-bare s own = record {
-    empty = λ t lt far free. elim (same_or_other t b) [
+    empty = λ t lt far free. elim (cases_eq t b) [
       | inl here ↦ absurd (none-held c L (sym at-target ∙ ap (man_at moved) (sym here) ∙ free) own)
-      | inr apart ↦ elim (same_or_other t a) [
+      | inr apart ↦ elim (cases_eq t a) [
         | inl left ↦ ap (man_at (slice_set P a None)) left ∙ at-written P a None size la
         | inr other ↦ at-unwritten P a t None other ∙ sym (at-others t other apart) ∙ free
       ]
     ];
-    men = λ x lx far held. elim (same_or_other x b) [
+    men = λ x lx far held. elim (cases_eq x b) [
       | inl here ↦ absurd (held-both c L own (subst (λ (man : Option Man). IsHeldBy (opposite c) man) (ap (man_at moved) here ∙ at-target) held))
-      | inr apart ↦ elim (same_or_other x a) [
+      | inr apart ↦ elim (cases_eq x a) [
         | inl left ↦ absurd (none-held (opposite c) (man_at moved x) (ap (man_at moved) left ∙ at-origin (λ e. apart (left ∙ e))) held)
         | inr other ↦ at-unwritten P a x None other ∙ sym (at-others x other apart)
       ]
@@ -82,17 +82,17 @@ module _ (P : Placement) (c : Colour) (a b : ℕ) (L : Option Man) (size : lengt
   -- and none sees less of it than with the man on both squares
   moved-past : (s : ℕ) → a ≢ b → IsHeldBy c L → IsHeldBy c (man_at P a) → Eases (slice_set P b L) moved (opposite c) s
   moved-past s ab own from = record {
-    empty = λ t lt far free. elim (same_or_other t b) [
+    empty = λ t lt far free. elim (cases_eq t b) [
       | inl here ↦ absurd (none-held c L (sym (at-written P b L size lb) ∙ ap (man_at (slice_set P b L)) (sym here) ∙ free) own)
-      | inr apart ↦ elim (same_or_other t a) [
+      | inr apart ↦ elim (cases_eq t a) [
         | inl left ↦ ap (man_at moved) left ∙ at-origin ab
         | inr other ↦ at-others t other apart ∙ sym (at-unwritten P b t L apart) ∙ free
       ]
     ];
-    men = λ x lx far held. elim (same_or_other x b) [
+    men = λ x lx far held. elim (cases_eq x b) [
       | inl here ↦ absurd (held-both c L own
           (subst (λ (man : Option Man). IsHeldBy (opposite c) man) (ap (man_at (slice_set P b L)) here ∙ at-written P b L size lb) held))
-      | inr apart ↦ elim (same_or_other x a) [
+      | inr apart ↦ elim (cases_eq x a) [
         | inl left ↦ absurd (held-both c (man_at P a) from
             (subst (λ (man : Option Man). IsHeldBy (opposite c) man) (at-unwritten P b x L apart ∙ ap (man_at P) left) held))
         | inr other ↦ at-others x other apart ∙ sym (at-unwritten P b x L apart)
@@ -101,9 +101,9 @@ module _ (P : Placement) (c : Colour) (a b : ℕ) (L : Option Man) (size : lengt
   }
 
   king-before : (s : ℕ) → ¬ IsHeldAs c King L → IsHeldAs c King (man_at moved s) → IsHeldAs c King (man_at P s)
-  king-before s plain held = elim (same_or_other s b) [
+  king-before s plain held = elim (cases_eq s b) [
     | inl here ↦ absurd (plain (subst (λ (man : Option Man). IsHeldAs c King man) (ap (man_at moved) here ∙ at-target) held))
-    | inr apart ↦ elim (same_or_other s a) [
+    | inr apart ↦ elim (cases_eq s a) [
       | inl left ↦ absurd (none-held_as c King (man_at moved s) (ap (man_at moved) left ∙ at-origin (λ e. apart (left ∙ e))) held)
       | inr other ↦ subst (λ (man : Option Man). IsHeldAs c King man) (at-others s other apart) held
     ]
@@ -161,7 +161,7 @@ drop-safe v P c k to size lt free plain safe =
     let here : man_at Q to ≡ unpromoted c k = at-written P to (unpromoted c k) size lt in
     record {
       safe = λ s ls check.
-          let king : IsHeldAs c King (man_at P s) = elim (same_or_other s to) [
+          let king : IsHeldAs c King (man_at P s) = elim (cases_eq s to) [
             | inl same ↦
                 let h : IsHeldAs c King (unpromoted c k) =
                 subst (λ (man : Option Man). IsHeldAs c King man) (ap (man_at Q) same ∙ here) check.0 in
@@ -169,11 +169,11 @@ drop-safe v P c k to size lt free plain safe =
             | inr other ↦ subst (λ (man : Option Man). IsHeldAs c King man) (at-unwritten P to s (unpromoted c k) other) check.0
           ] in
           let before : Eases Q P (opposite c) s = record {
-            empty = λ t lt2 far empty. elim (same_or_other t to) [
+            empty = λ t lt2 far empty. elim (cases_eq t to) [
               | inl same ↦ ap (man_at P) same ∙ free
               | inr other ↦ sym (at-unwritten P to t (unpromoted c k) other) ∙ empty
             ];
-            men = λ x lx far held. elim (same_or_other x to) [
+            men = λ x lx far held. elim (cases_eq x to) [
               | inl same ↦ absurd (held-both c (unpromoted c k) refl
                   (subst (λ (man : Option Man). IsHeldBy (opposite c) man) (ap (man_at Q) same ∙ here) held))
               | inr other ↦ sym (at-unwritten P to x (unpromoted c k) other)
@@ -233,21 +233,13 @@ unguarded p a guard size watched out = record {
       (goes-held p a b promo (man_at p.men a) move.goes) (goes-plain p a b promo (man_at p.men a) move.goes) watched out;
 }
 
-in-hand : (p : Position) (k : Kind) → 0 < count_in (hand_of_side p p.to_move) k → k ≢ King
-in-hand p Pawn h e = cc
-in-hand p Knight h e = cc
-in-hand p Bishop h e = cc
-in-hand p Rook h e = cc
-in-hand p Queen h e = cc
-in-hand p King h e = absurd (omega arith)
-
 pub guard-is : (p : Position) (guard : Guard) → length p.men ≡ 64 → AreWatched p.men p.to_move guard → IsGuard p guard
 guard-is p guard size watched = record {
   safe = watched.safe;
   check = watched.check;
   from = λ a la out. unguarded p a guard size watched out;
   drops = λ calm k to move.
-      drop-safe p.variant p.men p.to_move k to size move.square move.free (in-hand p k move.held) (watched.safe calm);
+      drop-safe p.variant p.men p.to_move k to size move.square move.free (king_not_held (hand_of_side p p.to_move) k move.held) (watched.safe calm);
   answers = λ a b promo out move man free usual.
       plain-unsafe p.variant p.men p.to_move a b promo guard size move.from move.to usual
       (goes-held p a b promo (man_at p.men a) move.goes) man free watched out;

@@ -13,10 +13,10 @@ use Rattle.bitboard_core.specs.declared.sides.Side.{Side}
 use Rattle.bitboard_core.specs.Sets.{IsSetOf, bit_if}
 use Rattle.bitboard_core.specs.Strikers.{man_place, is_placed, AreMenOf}
 use Rattle.variant_rules.specs.Checks.{IsOnlyKing}
-use Rattle.variant_rules.proofs.LineLemmas.{same_or_other}
 use Rattle.variant_rules.proofs.CheckLemmas.{Eases, eased-attack, at-written, at-unwritten}
 use Rattle.variant_rules.proofs.GuardLemmas.{at-target, at-origin, at-others, held_by, none-held_as, target}
 use Rattle.variant_rules.proofs.LiftLemmas.{own-unplaced}
+use Rattle.std.proofs.lemmas.Bool.{cases_eq}
 
 module _ (P : Placement) (c : Colour) (a b : ℕ) (size : length P ≡ 64) (la : a < 64) (lb : b < 64) (ab : a ≢ b)
     (king : IsHeldAs c King (man_at P a)) where
@@ -37,7 +37,7 @@ module _ (P : Placement) (c : Colour) (a b : ℕ) (size : length P ≡ 64) (la :
 
   -- but for b, the placement after the move has the men of the one without the king
   alike : (t : ℕ) → t ≢ b → man_at went t ≡ man_at gone t
-  alike t nb = elim (same_or_other t a) [
+  alike t nb = elim (cases_eq t a) [
     | inl left ↦ ap (man_at went) left ∙ went-from ∙ sym (at-written P a None size la) ∙ ap (man_at gone) (sym left)
     | inr other ↦ went-others t other nb ∙ sym (at-unwritten P a t None other)
   ]
@@ -58,9 +58,9 @@ module _ (P : Placement) (c : Colour) (a b : ℕ) (size : length P ≡ 64) (la :
   went-king = subst (λ (man : Option Man). IsHeldAs c King man) (sym went-at) king
 
   went-only : IsOnlyKing P c a → (s : ℕ) → s < 64 → IsHeldAs c King (man_at went s) → s ≡ b
-  went-only only s ls held = elim (same_or_other s b) [
+  went-only only s ls held = elim (cases_eq s b) [
     | inl here ↦ here
-    | inr nb ↦ elim (same_or_other s a) [
+    | inr nb ↦ elim (cases_eq s a) [
       | inl left ↦ absurd (none-held_as c King (man_at went s) (ap (man_at went) left ∙ went-from) held)
       | inr other ↦ absurd (other (only.only s ls (subst (λ (man : Option Man). IsHeldAs c King man) (went-others s other nb) held)))
     ]
@@ -90,7 +90,7 @@ king-safe v P c a b size la lb king free usual only =
 gone-set : (f : Option Man → Bool) (P : Placement) (a set : ℕ) → length P ≡ 64 → a < 64 → f None ≡ false → f (man_at P a) ≡ false →
     IsSetOf f P set → IsSetOf f (slice_set P a None) set
 gone-set f P a set size la none out all = record {
-  each = λ t lt. elim (same_or_other t a) [
+  each = λ t lt. elim (cases_eq t a) [
     | inl same ↦
         all.each t lt ∙ ap (λ u. bit_if (f (man_at P u))) same ∙ ap bit_if (out ∙ sym none)
         ∙ ap (λ (o : Option Man). bit_if (f o)) (sym (at-written P a None size la)) ∙ ap (λ u. bit_if (f (man_at (slice_set P a None) u))) (sym same)

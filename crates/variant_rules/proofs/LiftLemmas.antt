@@ -5,7 +5,7 @@ use Rattle.std.specs.List.{range_with_len}
 use Rattle.std.specs.Int.{bit_at, bit_not}
 use Rattle.std.specs.Int.Bits.{and_lt}
 use lib.Bits.{bit_and}
-use Rattle.std.proofs.lemmas.Bool.{false_from_ne_true}
+use Rattle.std.proofs.lemmas.Bool.{false_from_ne_true, cases_eq}
 use Rattle.std.proofs.lemmas.List.FromFn.{get_or-map-range_with_len}
 use Rattle.std.proofs.lemmas.Nat.Bits.{bit_at_and, bit_at_not, bit_at-lt}
 use Rattle.chess_model.specs.declared.man.Colour.{Colour}
@@ -22,7 +22,6 @@ use Rattle.bitboard_core.specs.Strikers.{man_place, is_placed, IsOccupied, AreMe
 use Rattle.bitboard_core.proofs.SetLemmas.{Has-and, Has-and_both}
 use Rattle.variant_rules.specs.Checks.{AreSeenFrom, ArePinned}
 use Rattle.variant_rules.proofs.SightLemmas.{held-placed}
-use Rattle.variant_rules.proofs.LineLemmas.{same_or_other}
 use Rattle.variant_rules.proofs.CheckLemmas.{has_or_not, held-both, none-held, at-written, at-unwritten, Eases, eased-from, bare-from, bare-strikes, bare-near, bare-far}
 use Rattle.bitboard_core.proofs.BitsLemmas.{Has-held}
 
@@ -113,13 +112,13 @@ lifted-enemies P c set side own all = record {
 pub lifted-eases : (P : Placement) (c : Colour) (s a set : ℕ) → length P ≡ 64 → a < 64 → Has set a →
     ((t : ℕ) → t < 64 → Has set t → IsHeldBy c (man_at P t)) → Eases (slice_set P a None) (lifted P set) (opposite c) s
 lifted-eases P c s a set size la here own = record {
-  empty = λ t lt far free. elim (same_or_other t a) [
+  empty = λ t lt far free. elim (cases_eq t a) [
     | inl same ↦ ap (man_at (lifted P set)) same ∙ lifted-in P set a la here
     | inr other ↦ lifted-none P set t lt (sym (at-unwritten P a t None other) ∙ free)
   ];
   men = λ x lx far held.
       let Q : Placement = slice_set P a None in
-      elim (same_or_other x a) [
+      elim (cases_eq x a) [
         | inl same ↦ absurd (none-held (opposite c) (man_at Q x) (ap (man_at Q) same ∙ at-written P a None size la) held)
         | inr other ↦
             let there : IsHeldBy (opposite c) (man_at P x) =

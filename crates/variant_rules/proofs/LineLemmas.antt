@@ -1,22 +1,19 @@
 -- Squares along a line from a king.
 use Rattle.std.proofs.Common.{arith, ◌≡◌, ◌≢◌, ℕ, ◌<◌, ◌≤◌, ◌⊎◌, inl, inr, min, max, refl, sym, ap, subst, ◌∙◌, None}
 use Rattle.std.specs.Int.{abs_diff}
-use Rattle.std.proofs.lemmas.Bool.{cases_order}
+use Rattle.std.proofs.lemmas.Bool.{cases_eq}
 use Rattle.chess_model.specs.declared.man.Colour.{Colour}
 use Rattle.chess_model.specs.declared.man.Kind.{Kind}
 use Rattle.chess_model.specs.declared.man.Kind.TheVariants.{Pawn, Knight, Bishop, Rook, Queen, King}
 use Rattle.chess_model.specs.Squares.{file_of, rank_of, square_at, files_apart, ranks_apart, distance, toward, along}
 use Rattle.chess_model.specs.Placement.{Placement, man_at, opposite}
 use Rattle.chess_model.specs.Reach.{IsStep, Clear, IsOpen, Strikes}
-use Rattle.bitboard_core.proofs.RayLemmas.{toward-lt, file_of-square_at, rank_of-square_at}
+use Rattle.bitboard_core.proofs.RayLemmas.{toward-lt, file_of-square_at, rank_of-square_at, file-lt}
 use Rattle.bitboard_core.proofs.StepLemmas.{along-lt}
 use Rattle.chess_model.proofs.Captures.{forward-near}
 use Rattle.chess_model.proofs.ChessLaws.{Clear-near, Strikes-back, opposite-opposite}
 
 -- the coordinates of a square along the way
-
-file-lt : (s : ℕ) → file_of s < 8
-file-lt s = omega arith
 
 file-along : (s x k : ℕ) → file_of (along s x k) ≡ toward (file_of s) (file_of x) k
 file-along s x k =
@@ -96,19 +93,13 @@ pub record Fills (P Q : Placement) (c : Colour) (s a : ℕ) : Type 0 where
   pub same : (t : ℕ) → t < 64 → t ≢ a → man_at Q t ≡ None → man_at P t ≡ None
   pub left : (man_at Q a ≡ None → man_at P a ≡ None) ⊎ (¬ Strikes P c Queen s a)
 
-pub same_or_other : (s a : ℕ) → (s ≡ a) ⊎ (s ≢ a)
-same_or_other s a = elim (cases_order s a) [
-  | inl same ↦ inl same
-  | inr other ↦ inr (elim other [ inl l ↦ omega (arith, l) | inr l ↦ omega (arith, l) ])
-]
-
 still-clear : (P Q : Placement) (c : Colour) (s x a : ℕ) → s < 64 → x < 64 → Fills P Q c s a → IsStep c Queen s x → Clear Q s x →
     Clear P s x
 still-clear P Q c s x a ls lx fills step clear = record {
   empty = λ k some less.
       let u : ℕ = along s x k in
       let free : man_at Q u ≡ None = clear.empty k some less in
-      elim (same_or_other u a) [
+      elim (cases_eq u a) [
         | inr other ↦ fills.same u (along-lt s x k ls lx) other free
         | inl same ↦ elim (fills.left) [
           | inl kept ↦ ap (man_at P) same ∙ kept (ap (man_at Q) (sym same) ∙ free)

@@ -117,12 +117,6 @@ no_move : (p : Position) (k : Kind) (a set b : ℕ) → IsHeldAs p.to_move k (ma
     (promo : Option Kind) → ¬ IsMove p (Plain a b promo)
 no_move p k a set b held all lb out promo move = out ((all.each b lb).1 (move_reaches p k a b promo held move))
 
-pub same-some : (s t : ℕ) → Some s ≡ Some t → t ≡ s
-same-some s t e = let g : t ≡ s = cc in g
-
-pub none-some : (t : ℕ) → None ≡ Some t → ⊥
-none-some t e = cc
-
 -- what is left of its targets without those to which no move is allowed
 goals_of : (p : Position) (k : Kind) (a targets some : ℕ) → IsHeldAs p.to_move k (man_at p.men a) → IsTargetSet p k a targets →
     ((b : ℕ) → b < 64 → ¬ Has some b → (promo : Option Kind) → ¬ Allowed p (Plain a b promo)) → AreGoals p k a (bit_and targets some)

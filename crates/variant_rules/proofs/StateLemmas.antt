@@ -10,7 +10,6 @@ use Rattle.chess_model.specs.declared.moves.Move.TheVariants.{Plain, Castle, Dro
 use Rattle.chess_model.specs.declared.variant.Variant.TheVariants.{Chess, Crazyhouse, Bughouse, Fischer}
 use Rattle.chess_model.specs.declared.variant.Variant.{Variant}
 use Rattle.chess_model.specs.Placement.{man_at, IsHeldBy}
-use Rattle.chess_model.specs.Holdings.{count_in}
 use Rattle.chess_model.specs.Position.{Position, hand_of_side}
 use Rattle.chess_model.specs.Allowed.{IsPromotion, HasPromotion, GoesAs, HasDrops, Allowed}
 use Rattle.chess_model.specs.declared.states.State.{State}
@@ -20,6 +19,7 @@ use Rattle.bitboard_core.specs.Sets.{Has}
 use Rattle.variant_rules.specs.Listing.{AreGoals}
 use Rattle.variant_rules.specs.States.{NoneFrom, CanMove, CanDropAny, CanBeShielded}
 use Rattle.variant_rules.proofs.MoveLemmas.{no_own}
+use Rattle.chess_model.proofs.SoundPositions.{king_not_held}
 
 pub can-move : (p : Position) (a b : ℕ) (promo : Option Kind) → Allowed p (Plain a b promo) → CanMove p
 unfolding CanMove
@@ -114,15 +114,7 @@ can-drop p k to h = (k, to, h)
 
 pub none-drops : (p : Position) → ((k : Kind) (to : ℕ) → k ≢ King → to < 64 → ¬ Allowed p (Drop k to)) → ¬ CanDropAny p
 unfolding CanDropAny
-none-drops p none h = none h.0 h.1 (in-hand h.0 h.2.move.held) h.2.move.square h.2
-  where
-    in-hand : (k : Kind) → 0 < count_in (hand_of_side p p.to_move) k → k ≢ King
-    in-hand Pawn h e = cc
-    in-hand Knight h e = cc
-    in-hand Bishop h e = cc
-    in-hand Rook h e = cc
-    in-hand Queen h e = cc
-    in-hand King h e = absurd (omega arith)
+none-drops p none h = none h.0 h.1 (king_not_held (hand_of_side p p.to_move) h.0 h.2.move.held) h.2.move.square h.2
 
 pub five-kinds : (p : Position) → ((to : ℕ) → to < 64 → ¬ Allowed p (Drop Pawn to)) → ((to : ℕ) → to < 64 → ¬ Allowed p (Drop Knight to)) →
     ((to : ℕ) → to < 64 → ¬ Allowed p (Drop Bishop to)) → ((to : ℕ) → to < 64 → ¬ Allowed p (Drop Rook to)) →

@@ -1,7 +1,7 @@
 -- A half-move and its taking back, square by square.
 use Rattle.std.proofs.Common.{arith, ◌≡◌, ◌≢◌, ℕ, ◌+◌, ◌<◌, ◌≤◌, ◌⊎◌, refl, sym, ap, ◌∙◌, inl, inr, None, length}
 use Rattle.std.specs.Prelude.{slice_set}
-use Rattle.std.proofs.lemmas.Bool.{cases_order}
+use Rattle.std.proofs.lemmas.Bool.{cases_order, cases_eq}
 use Rattle.std.proofs.lemmas.List.{length-set, get_or-set_other, get_or-set_same, get_or_default, same_lists}
 use Rattle.chess_model.specs.declared.man.Colour.{Colour}
 use Rattle.chess_model.specs.declared.moves.Move.{Move}
@@ -18,7 +18,6 @@ use Rattle.chess_model.proofs.NoMoreMen.{length-place_after}
 use Rattle.variant_rules.specs.declared.make.Undo.{Undo}
 use Rattle.variant_rules.specs.Undos.{changed_squares, DifferOn, StoodIn, IsUndoOf}
 use Rattle.chess_model.proofs.ChessLaws.{opposite-opposite}
-use Rattle.variant_rules.proofs.LineLemmas.{same_or_other}
 
 pub differ-after : (v : Variant) (P : Placement) (c : Colour) (m : Move) →
     DifferOn P (place_after v P c m) (changed_squares v P c m).one (changed_squares v P c m).two (changed_squares v P c m).three (changed_squares v P c m).four
@@ -99,13 +98,13 @@ module _ (P Q : Placement) (a b c d : ℕ) (size : length P ≡ 64) (kept : leng
   at_four s ls h = set_back P three d s (omega (arith, ls, size_three)) (elim h [ inl e ↦ inr e | inr e ↦ inl e ])
 
   each_back : (s : ℕ) → s < 64 → man_at four s ≡ man_at P s
-  each_back s ls = elim (same_or_other s d) [
+  each_back s ls = elim (cases_eq s d) [
     | inl e ↦ at_four s ls (inl e)
-    | inr nd ↦ at_four s ls (inr (elim (same_or_other s c) [
+    | inr nd ↦ at_four s ls (inr (elim (cases_eq s c) [
       | inl e ↦ at_three s ls (inl e)
-      | inr nc ↦ at_three s ls (inr (elim (same_or_other s b) [
+      | inr nc ↦ at_three s ls (inr (elim (cases_eq s b) [
         | inl e ↦ at_two s ls (inl e)
-        | inr nb ↦ at_two s ls (inr (elim (same_or_other s a) [
+        | inr nb ↦ at_two s ls (inr (elim (cases_eq s a) [
           | inl e ↦ at_one s ls (inl e)
           | inr na ↦ at_one s ls (inr (differ.others s na nb nc nd))
         ]))

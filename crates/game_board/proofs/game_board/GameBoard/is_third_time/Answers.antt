@@ -1,23 +1,14 @@
-use Rattle.std.proofs.Common.{◌≡◌, ◌≢◌, ℕ, ◌<◌, true, List, length, sym, ap, subst, ◌∙◌, arith}
+use Rattle.std.proofs.Common.{◌≡◌, ◌≢◌, ℕ, ◌<◌, List, length, sym, ap, subst, ◌∙◌, arith}
 use Rattle.std.specs.Prelude.{IsTrue, IfSome, IfNone}
-use Rattle.chess_model.specs.declared.variant.Variant.{Variant}
-use Rattle.chess_model.specs.declared.variant.Variant.TheVariants.{Chess, Crazyhouse, Bughouse, Fischer}
+use Rattle.chess_model.specs.declared.variant.Variant.TheVariants.{Bughouse}
 use Rattle.chess_model.specs.MoveList.{HalfMove}
 use Rattle.chess_model.specs.Position.{Position, position_after}
 use Rattle.chess_model.specs.Claims.{is_threefold, same_position}
 use Rattle.game_board.specs.Board.{Board, half_moves, position_of}
-use Rattle.game_board.specs.Claim.{has_claims}
 use Rattle.game_board.specs.Steps.{position_at}
 use Rattle.game_board.proofs.Steps.{position_at-all}
-use Rattle.game_board.proofs.Thirds.{is_not_third, third_by}
+use Rattle.game_board.proofs.Thirds.{is_not_third, third_by, not_pair}
 use Rattle.game_board.proofs.game_board.GameBoard.is_third_time.Goals as goal
-
--- claims are of games of one board
-not_pair : (v : Variant) → has_claims v ≡ true → v ≡ Bughouse → ⊥
-not_pair Chess h e = cc
-not_pair Crazyhouse h e = cc
-not_pair Bughouse h e = cc
-not_pair (Fischer number) h e = cc
 
 pub last_same-requires-clause-stands : goal.last_same-requires-clause-stands
 unfolding position_of

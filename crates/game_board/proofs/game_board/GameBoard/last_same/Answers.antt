@@ -2,25 +2,17 @@ use Rattle.std.proofs.Common.{◌≡◌, ◌≢◌, ◌-◌, ◌<◌, inl, inr, 
 use Rattle.std.specs.Prelude.{slice_get}
 use Rattle.std.proofs.lemmas.Bool.{cases_eq}
 use Rattle.std.proofs.lemmas.Option.{slice_get-get_or}
-use Rattle.chess_model.specs.declared.variant.Variant.{Variant}
-use Rattle.chess_model.specs.declared.variant.Variant.TheVariants.{Chess, Crazyhouse, Bughouse, Fischer}
+use Rattle.chess_model.specs.declared.variant.Variant.TheVariants.{Bughouse}
 use Rattle.chess_model.specs.Position.{Position}
 use Rattle.chess_model.specs.Claims.{same_position}
 use Rattle.variant_rules.specs.Undos.{IsUndoOf}
 use Rattle.game_board.specs.declared.played.Step.{Step}
 use Rattle.game_board.specs.Board.{Board, position_of}
-use Rattle.game_board.specs.Claim.{has_claims}
 use Rattle.game_board.specs.Steps.{position_at, AreSteps}
 use Rattle.game_board.proofs.SquareTests.{unlike}
 use Rattle.game_board.proofs.Steps.{undo_at}
 use Rattle.game_board.proofs.game_board.GameBoard.last_same.Goals as goal
-
--- claims are of games of one board
-not_pair : (v : Variant) → has_claims v ≡ true → v ≡ Bughouse → ⊥
-not_pair Chess h e = cc
-not_pair Crazyhouse h e = cc
-not_pair Bughouse h e = cc
-not_pair (Fischer number) h e = cc
+use Rattle.game_board.proofs.Thirds.{not_pair}
 
 pub unmake-requires : goal.unmake-requires
 unmake-requires c =

@@ -1,10 +1,9 @@
-use Rattle.std.proofs.Common.{◌≡◌, ◌≤◌, None, Some, length, slice_get, sym, ap, subst, ◌∙◌, ltb-true, ltb-false}
+use Rattle.std.proofs.Common.{◌≡◌, ◌≤◌, None, Some, length, slice_get, sym, ap, subst, ◌∙◌, ltb-true, ltb-false, refl}
 use Rattle.std.specs.Option.{option_copied}
 use Rattle.lobby_shelf.specs.Numbers.{AreInOrder}
-use Rattle.lobby_shelf.proofs.Lists.{get_inside}
 use Rattle.lobby_shelf.proofs.Rising.{FoundAt, found_at}
 use Rattle.lobby_shelf.proofs.rack.Rack.get.Goals as goal
-use Rattle.std.proofs.lemmas.Option.{slice_get_past}
+use Rattle.std.proofs.lemmas.Option.{slice_get_past, slice_get_read}
 
 pub returns-in_err-row : goal.returns-in_err-row
 returns-in_err-row c =
@@ -25,7 +24,7 @@ returns-then-row-number c =
     let lookup = c.in_ok-row.ensures.lookup in
     let at : slice_get c.args.self.now c.place.result ≡ Some c.in_ok-row.row.now =
     subst (λ l. slice_get l c.place.result ≡ Some c.in_ok-row.row.now) same
-    (get_inside c.deref.result.now c.place.result c.in_ok-row.row.now (ltb-true _ _ (sym lookup.0)) lookup.1) in
+    (slice_get_read c.deref.result.now (length c.deref.result.now) c.place.result c.in_ok-row.row.now refl (ltb-true _ _ (sym lookup.0)) lookup.1) in
     let found = subst (λ r. FoundAt c.args.number c.args.self.now r) at
     (subst (λ k. FoundAt c.args.number c.args.self.now (slice_get c.args.self.now k)) (sym c.place.ensures.place)
     (found_at c.args.number 0 c.args.self.now rise)) in
@@ -38,7 +37,7 @@ returns-else-row-number c =
     let lookup = c.in_ok-row.ensures.lookup in
     let at : slice_get c.args.self.now c.place.result ≡ Some c.in_ok-row.row.now =
     subst (λ l. slice_get l c.place.result ≡ Some c.in_ok-row.row.now) same
-    (get_inside c.deref.result.now c.place.result c.in_ok-row.row.now (ltb-true _ _ (sym lookup.0)) lookup.1) in
+    (slice_get_read c.deref.result.now (length c.deref.result.now) c.place.result c.in_ok-row.row.now refl (ltb-true _ _ (sym lookup.0)) lookup.1) in
     let found = subst (λ r. FoundAt c.args.number c.args.self.now r) at
     (subst (λ k. FoundAt c.args.number c.args.self.now (slice_get c.args.self.now k)) (sym c.place.ensures.place)
     (found_at c.args.number 0 c.args.self.now rise)) in

@@ -1,10 +1,11 @@
-use Rattle.std.proofs.Common.{◌≡◌, true, Some, None, cond, refl}
+use Rattle.std.proofs.Common.{true, Some, None, cond, refl}
 use Rattle.std.specs.Prelude.{◌==◌}
 use Rattle.pgn_book.specs.declared.place.PlaceInText.TheVariants.{Start, AfterOne, AfterTwo, Between, InLine, InBraces, InWord, InQuotes, InStroke}
 use Rattle.pgn_book.specs.Reading.{started, state_at, begun, in_line, in_braces, in_quotes, in_stroke, step, step_in}
 use Rattle.pgn_book.specs.Taking.{IsStep}
-use Rattle.pgn_book.proofs.Walking.{ok_from, err_from, step_silent, step_loud, step_back}
+use Rattle.pgn_book.proofs.Walking.{step_silent, step_loud, step_back}
 use Rattle.pgn_book.proofs.walk.Walk.step.Goals as goal
+use Rattle.std.proofs.lemmas.Result.{IfOk-weaker, on_err_weaker}
 
 pub returns-in-Start-clause-taken : goal.returns-in-Start-clause-taken
 returns-in-Start-clause-taken c =
@@ -38,19 +39,18 @@ returns-in-InBraces-clause-taken c =
 
 pub returns-in-InWord-clause-taken : goal.returns-in-InWord-clause-taken
 returns-in-InWord-clause-taken c =
-    ok_from (λ read. IsStep read c.go_on.new.self (step_in (InWord c.in-InWord.glyph c.in-InWord.word) c.self.inside.depth c.self.inside.book c.args.byte))
+    IfOk-weaker c.go_on.result (λ read. IsStep read c.go_on.new.self (step_in (InWord c.in-InWord.glyph c.in-InWord.word) c.self.inside.depth c.self.inside.book c.args.byte))
     (λ read. IsStep read c.go_on.new.self (step c.args.self.now c.args.byte))
     (λ read h. step_loud c.self.inside.place (InWord c.in-InWord.glyph c.in-InWord.word) c.self.inside.depth c.self.inside.book c.args.self.now c.go_on.new.self c.args.byte read
     c.self.view_is c.in-InWord.ensures.value h)
-    c.go_on.result c.go_on.ensures.taken
+    c.go_on.ensures.taken
 
 pub returns-in-InWord-clause-unchanged : goal.returns-in-InWord-clause-unchanged
 returns-in-InWord-clause-unchanged c =
-    err_from (c.go_on.new.self ≡ state_at (InWord c.in-InWord.glyph c.in-InWord.word) c.self.inside.depth c.self.inside.book)
-    (c.go_on.new.self ≡ c.args.self.now)
+    on_err_weaker c.go_on.result
     (step_back c.self.inside.place (InWord c.in-InWord.glyph c.in-InWord.word) c.self.inside.depth c.self.inside.book c.args.self.now c.go_on.new.self
     c.self.view_is c.in-InWord.ensures.value)
-    c.go_on.result c.go_on.ensures.unchanged
+    c.go_on.ensures.unchanged
 
 pub returns-in-InQuotes-clause-taken : goal.returns-in-InQuotes-clause-taken
 returns-in-InQuotes-clause-taken c =
