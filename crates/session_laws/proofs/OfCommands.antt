@@ -1,5 +1,5 @@
 -- No command makes a session tell save orders as saved, nor does the round or leaving.
-use Rattle.std.proofs.Common.{ℕ, Bool, true, false, List, [], ◌∷◌, if◌then◌else◌}
+use Rattle.std.proofs.Common.{ℕ, Bool, true, false, List, [], ◌∷◌}
 use Rattle.std.specs.declared.option.Option.{Option}
 use Rattle.std.specs.declared.option.Option.TheVariants.{None, Some}
 use Rattle.chess_model.specs.declared.moves.MoveWord.{MoveWord}
@@ -21,7 +21,7 @@ use Rattle.session_core.specs.Memory.{MemoryState, is_full, observed_at, present
 use Rattle.session_core.specs.Memory.{without_observed}
 use Rattle.session_core.specs.OwnCommands.{own_answer}
 use Rattle.session_core.specs.Reactions.{in_lobby, says_no_offer}
-use Rattle.session_core.specs.Session.{answered, at_place, at_present, behind, command_course, finding, given_up}
+use Rattle.session_core.specs.Session.{answered, at_present, behind, command_course, finding, given_up}
 use Rattle.session_core.specs.Session.{leave_games, leaving_course, moving_at, reacting_at, remark_of, round, says_over}
 use Rattle.session_core.specs.Session.{to_desk, to_move, to_observe, to_react, to_remark, to_server, turns, unobserved}
 use Rattle.session_core.specs.Session.{visits, watched, way_course}
