@@ -20,7 +20,7 @@ use Rattle.command_words.specs.Blanks.{Words, first_word, rest_of, trimmed, word
 use Rattle.command_words.specs.Commands.{arguments_of, asked, command_after, command_in, command_made, command_of, move_in, move_or}
 use Rattle.command_words.specs.Match.{challenge, challenge_of, two_twelve}
 use Rattle.chess_model.specs.VariantWord.{IsNumbered}
-use Rattle.command_words.specs.Observe.{observe_from, observe_player}
+use Rattle.command_words.specs.Observe.{observe_from}
 use Rattle.command_words.specs.Seek.{five_nothing, seeking}
 use Rattle.command_words.specs.Naming.{named_by}
 use Rattle.command_words.specs.Shapes.{by_text, channel_from, named_from, nothing, numbered_from, perhaps, perhaps_from, to_perhaps}
@@ -32,7 +32,7 @@ use Rattle.command_words.specs.declared.rows.ByNumber.TheVariants.{Play}
 use Rattle.command_words.specs.declared.rows.OnChannel.{OnChannel}
 use Rattle.command_words.specs.declared.rows.OnChannel.TheVariants.{Ask}
 use Rattle.command_words.specs.declared.rows.Perhaps.{Perhaps}
-use Rattle.command_words.specs.declared.rows.Perhaps.TheVariants.{Accept, Decline}
+use Rattle.command_words.specs.declared.rows.Perhaps.TheVariants.{Accept}
 use Rattle.command_words.specs.declared.rows.Saying.{Saying}
 use Rattle.command_words.specs.declared.rows.Saying.TheVariants.{Register}
 use Rattle.command_words.specs.declared.rows.Takes.{Takes}
@@ -76,8 +76,7 @@ challenge_fits (Some name) words (Some terms) is =
     let s : Spells two_twelve words terms = (are_read_as_spelled two_twelve words terms).0 (sym is) in
     spelled_fits two_twelve s.time terms (search rules) (search rules) s.spells_time s.numbered
 challenge_fits (Some name) words None is = tt
-challenge_fits None words (Some terms) is = tt
-challenge_fits None words None is = tt
+challenge_fits None words terms is = tt
 
 challenge_of_fits : (words : Words) → FitsAnswer (challenge_of words)
 challenge_of_fits [] = tt
@@ -130,12 +129,9 @@ telling_to_fits : (channel : Option ℕ) (word text : List ℕ) → FitsAnswer (
 telling_to_fits None word text = telling_fits (handle_of word) text
 telling_to_fits (Some channel) word text = text_fits (command.TellChannel channel) text (λ short. short)
 
-observe_player_fits : (handle : Option (List ℕ)) → FitsAnswer (observe_player handle)
-observe_player_fits None = tt
-observe_player_fits (Some handle) = tt
-
 observe_fits : (number : Option ℕ) (handle : Option (List ℕ)) → FitsAnswer (observe_from number handle)
-observe_fits None handle = observe_player_fits handle
+observe_fits None None = tt
+observe_fits None (Some handle) = tt
 observe_fits (Some number) handle = tt
 
 tell_fits : (word text : List ℕ) → FitsAnswer (tell_to word text)
@@ -148,10 +144,8 @@ set_to_fits name (Some on) =
     (either_fits (bytes_eq name (codes "shout")) _ _ tt (either_fits (bytes_eq name (codes "seek")) _ _ tt tt))
 
 setting_fits : (words : Words) → FitsAnswer (setting_of words)
-setting_fits [] = tt
-setting_fits (name ∷ []) = tt
 setting_fits (name ∷ value ∷ []) = set_to_fits name (is_on value)
-setting_fits (name ∷ value ∷ more ∷ words) = tt
+setting_fits _ = tt
 
 nothing_fits : (which : Bare) (rest : List ℕ) → FitsAnswer (nothing which rest)
 nothing_fits which (b ∷ rest) = tt
@@ -165,10 +159,9 @@ named_fits _ (Some name) = tt
 
 to_perhaps_fits : (which : Perhaps) (name : Option (List ℕ)) → FitsCommand (to_perhaps which name)
 to_perhaps_fits Accept None = tt
+to_perhaps_fits _ None = tt
 to_perhaps_fits Accept (Some name) = tt
-to_perhaps_fits Decline None = tt
-to_perhaps_fits Decline (Some name) = tt
-to_perhaps_fits _ name = tt
+to_perhaps_fits _ (Some name) = tt
 
 perhaps_from_fits : (which : Perhaps) (name : Option (List ℕ)) → FitsAnswer (perhaps_from which name)
 perhaps_from_fits which None = tt

@@ -47,8 +47,8 @@ pub(crate) fn way_of(command: Command) -> Way
     match command {
         Command::Nothing => Way::Round,
         Command::Move(word) => Way::Move(word),
-        Command::Match(to, terms) => Way::Server(Act::Lobby(LobbyAct::Match {
-            to: to.key(),
+        Command::Match(name, terms) => Way::Server(Act::Lobby(LobbyAct::Match {
+            to: name.key(),
             terms,
         })),
         Command::Seek(terms) => Way::Server(Act::Lobby(LobbyAct::Post { terms })),
