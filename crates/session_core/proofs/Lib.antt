@@ -7,6 +7,7 @@ pub mod Passing
 pub mod MatchTerms
 pub mod Beginning
 pub mod OwnAnswers
+pub mod Ways
 pub mod Rounds
 pub mod Endings
 pub mod Turning

@@ -20,21 +20,21 @@ use Rattle.command_words.specs.Blanks.{Words, first_word, rest_of, trimmed, word
 use Rattle.command_words.specs.Commands.{arguments_of, asked, command_after, command_in, command_made, command_of, move_in, move_or}
 use Rattle.command_words.specs.Match.{challenge, challenge_of, two_twelve}
 use Rattle.chess_model.specs.VariantWord.{IsNumbered}
-use Rattle.command_words.specs.Observe.{observe_from, observe_player}
+use Rattle.command_words.specs.Observe.{observe_from}
 use Rattle.command_words.specs.Seek.{five_nothing, seeking}
 use Rattle.command_words.specs.Naming.{named_by}
-use Rattle.command_words.specs.Shapes.{bare, by_name, by_number, by_text, channel_from, named_from, nothing, numbered_from, perhaps, perhaps_from, to_perhaps, with_channel}
+use Rattle.command_words.specs.Shapes.{by_text, channel_from, named_from, nothing, numbered_from, perhaps, perhaps_from, to_perhaps}
 use Rattle.command_words.specs.declared.rows.Bare.{Bare}
 use Rattle.command_words.specs.declared.rows.ByName.{ByName}
-use Rattle.command_words.specs.declared.rows.ByName.TheVariants.{AddCensor, AddNoplay, DropCensor, DropNoplay, GoBoard, Resume}
+use Rattle.command_words.specs.declared.rows.ByName.TheVariants.{AddCensor}
 use Rattle.command_words.specs.declared.rows.ByNumber.{ByNumber}
-use Rattle.command_words.specs.declared.rows.ByNumber.TheVariants.{Play, Unobserve}
+use Rattle.command_words.specs.declared.rows.ByNumber.TheVariants.{Play}
 use Rattle.command_words.specs.declared.rows.OnChannel.{OnChannel}
-use Rattle.command_words.specs.declared.rows.OnChannel.TheVariants.{Ask, Join, Leave}
+use Rattle.command_words.specs.declared.rows.OnChannel.TheVariants.{Ask}
 use Rattle.command_words.specs.declared.rows.Perhaps.{Perhaps}
-use Rattle.command_words.specs.declared.rows.Perhaps.TheVariants.{Accept, Decline, Partner, Withdraw}
+use Rattle.command_words.specs.declared.rows.Perhaps.TheVariants.{Accept}
 use Rattle.command_words.specs.declared.rows.Saying.{Saying}
-use Rattle.command_words.specs.declared.rows.Saying.TheVariants.{Kibitz, Ptell, Register, Shout}
+use Rattle.command_words.specs.declared.rows.Saying.TheVariants.{Register}
 use Rattle.command_words.specs.declared.rows.Takes.{Takes}
 use Rattle.command_words.specs.declared.rows.Takes.TheVariants as takes
 use Rattle.command_words.specs.declared.rows.Bare.TheVariants as empty
@@ -49,7 +49,8 @@ use Rattle.fics_words.specs.HandleTest.{handle_of}
 use Rattle.command_words.specs.Texts.{is_text}
 use Rattle.fics_words.proofs.HandleTests.{at_least}
 use Rattle.command_words.proofs.TermParts.{are_read_as_spelled}
-use Rattle.session_core.specs.Stages.{FitsCommand}
+use Rattle.session_core.specs.Stages.{FitsWay}
+use Rattle.session_core.specs.Ways.{way_of}
 use Rattle.std.proofs.lemmas.Bool.{and_parts}
 
 -- a time that was spelled is within its bounds, where the usual one is
@@ -61,6 +62,10 @@ spelled_fits usual words terms few short (inr s) numbered = record {
   numbered = numbered;
 }
 
+-- the way of a command fits
+abbrev FitsCommand : Command → Type 0
+FitsCommand command = FitsWay (way_of command)
+
 -- what the answer of a reader asks for
 abbrev FitsAnswer : Result Command Refusal → Type 0
 FitsAnswer (Ok command) = FitsCommand command
@@ -71,8 +76,7 @@ challenge_fits (Some name) words (Some terms) is =
     let s : Spells two_twelve words terms = (are_read_as_spelled two_twelve words terms).0 (sym is) in
     spelled_fits two_twelve s.time terms (search rules) (search rules) s.spells_time s.numbered
 challenge_fits (Some name) words None is = tt
-challenge_fits None words (Some terms) is = tt
-challenge_fits None words None is = tt
+challenge_fits None words terms is = tt
 
 challenge_of_fits : (words : Words) → FitsAnswer (challenge_of words)
 challenge_of_fits [] = tt
@@ -125,12 +129,9 @@ telling_to_fits : (channel : Option ℕ) (word text : List ℕ) → FitsAnswer (
 telling_to_fits None word text = telling_fits (handle_of word) text
 telling_to_fits (Some channel) word text = text_fits (command.TellChannel channel) text (λ short. short)
 
-observe_player_fits : (handle : Option (List ℕ)) → FitsAnswer (observe_player handle)
-observe_player_fits None = tt
-observe_player_fits (Some handle) = tt
-
 observe_fits : (number : Option ℕ) (handle : Option (List ℕ)) → FitsAnswer (observe_from number handle)
-observe_fits None handle = observe_player_fits handle
+observe_fits None None = tt
+observe_fits None (Some handle) = tt
 observe_fits (Some number) handle = tt
 
 tell_fits : (word text : List ℕ) → FitsAnswer (tell_to word text)
@@ -143,49 +144,24 @@ set_to_fits name (Some on) =
     (either_fits (bytes_eq name (codes "shout")) _ _ tt (either_fits (bytes_eq name (codes "seek")) _ _ tt tt))
 
 setting_fits : (words : Words) → FitsAnswer (setting_of words)
-setting_fits [] = tt
-setting_fits (name ∷ []) = tt
 setting_fits (name ∷ value ∷ []) = set_to_fits name (is_on value)
-setting_fits (name ∷ value ∷ more ∷ words) = tt
-
-bare_fits : (which : Bare) → FitsCommand (bare which)
-bare_fits empty.Abort = tt
-bare_fits empty.Adjourn = tt
-bare_fits empty.Draw = tt
-bare_fits empty.Flag = tt
-bare_fits empty.Games = tt
-bare_fits empty.Pending = tt
-bare_fits empty.Quit = tt
-bare_fits empty.Refresh = tt
-bare_fits empty.Resign = tt
-bare_fits empty.SimNext = tt
-bare_fits empty.SimOpen = tt
-bare_fits empty.SimPrev = tt
-bare_fits empty.Sought = tt
-bare_fits empty.Stored = tt
-bare_fits empty.Who = tt
+setting_fits _ = tt
 
 nothing_fits : (which : Bare) (rest : List ℕ) → FitsAnswer (nothing which rest)
-nothing_fits which [] = bare_fits which
 nothing_fits which (b ∷ rest) = tt
-
-by_name_fits : (which : ByName) (name : List ℕ) → FitsCommand (by_name which name)
-by_name_fits AddCensor name = tt
-by_name_fits AddNoplay name = tt
-by_name_fits DropCensor name = tt
-by_name_fits DropNoplay name = tt
-by_name_fits GoBoard name = tt
-by_name_fits Resume name = tt
+nothing_fits empty.Abort [] = tt
+nothing_fits _ [] = tt
 
 named_fits : (which : ByName) (name : Option (List ℕ)) → FitsAnswer (named_from which name)
 named_fits which None = tt
-named_fits which (Some name) = by_name_fits which name
+named_fits AddCensor (Some name) = tt
+named_fits _ (Some name) = tt
 
 to_perhaps_fits : (which : Perhaps) (name : Option (List ℕ)) → FitsCommand (to_perhaps which name)
-to_perhaps_fits Accept name = tt
-to_perhaps_fits Decline name = tt
-to_perhaps_fits Partner name = tt
-to_perhaps_fits Withdraw name = tt
+to_perhaps_fits Accept None = tt
+to_perhaps_fits _ None = tt
+to_perhaps_fits Accept (Some name) = tt
+to_perhaps_fits _ (Some name) = tt
 
 perhaps_from_fits : (which : Perhaps) (name : Option (List ℕ)) → FitsAnswer (perhaps_from which name)
 perhaps_from_fits which None = tt
@@ -196,26 +172,17 @@ perhaps_fits which [] = to_perhaps_fits which None
 perhaps_fits which (b ∷ rest) = perhaps_from_fits which (handle_of (b ∷ rest))
 
 by_text_fits : (which : Saying) (text : List ℕ) → length text ≤ 800 → FitsCommand (by_text which text)
-by_text_fits Kibitz text short = short
-by_text_fits Ptell text short = short
 by_text_fits Register text short = tt
-by_text_fits Shout text short = short
-
-by_number_fits : (which : ByNumber) (number : ℕ) → FitsCommand (by_number which number)
-by_number_fits Play number = tt
-by_number_fits Unobserve number = tt
+by_text_fits _ text short = short
 
 numbered_fits : (which : ByNumber) (number : Option ℕ) → FitsAnswer (numbered_from which number)
 numbered_fits which None = tt
-numbered_fits which (Some number) = by_number_fits which number
-
-with_channel_fits : (which : OnChannel) (number : ℕ) → FitsCommand (with_channel which number)
-with_channel_fits Ask number = tt
-with_channel_fits Join number = tt
-with_channel_fits Leave number = tt
+numbered_fits Play (Some number) = tt
+numbered_fits _ (Some number) = tt
 
 channel_fits : (which : OnChannel) (asked : Result ℕ Refusal) → FitsAnswer (channel_from which asked)
-channel_fits which (Ok number) = with_channel_fits which number
+channel_fits Ask (Ok number) = tt
+channel_fits _ (Ok number) = tt
 channel_fits which (Err cause) = tt
 
 arguments_fit : (found : Takes) (rest : List ℕ) → FitsAnswer (arguments_of found rest)
@@ -260,5 +227,5 @@ after_fits (Some alias) text = made_fits (expanded alias.text (rest_of text))
 read_fits : (aliases : List Alias) (line : List ℕ) → FitsAnswer (command_in aliases line)
 read_fits aliases line = after_fits (alias_of aliases (first_word (trimmed line))) (trimmed line)
 
-pub command_read : (aliases : List Alias) (line : List ℕ) (asked : Command) → command_in aliases line ≡ Ok asked → FitsCommand asked
+pub command_read : (aliases : List Alias) (line : List ℕ) (asked : Command) → command_in aliases line ≡ Ok asked → FitsWay (way_of asked)
 command_read aliases line asked is = subst FitsAnswer is (read_fits aliases line)

@@ -10,9 +10,7 @@ use Rattle.std.proofs.lemmas.List.{length-append}
 use Rattle.std.proofs.lemmas.List.Elements.{All-append, All-contains_itself, All-cons, All-nil}
 use Rattle.chess_model.specs.declared.moves.MoveWord.{MoveWord}
 use Rattle.command_words.specs.declared.command.Command.{Command}
-use Rattle.command_words.specs.declared.command.Command.TheVariants as command
 use Rattle.fics_words.specs.Effect.{unless}
-use Rattle.fics_words.specs.Handle.{key_of}
 use Rattle.fics_words.specs.declared.refusal.Refusal.{Refusal}
 use Rattle.fics_words.specs.declared.refusal.Refusal.TheVariants as refusal
 use Rattle.histories.specs.declared.entry.Entry.{Entry}
@@ -25,7 +23,6 @@ use Rattle.lobby_state.specs.declared.acts.LobbyAct.{LobbyAct}
 use Rattle.lobby_state.specs.declared.acts.LobbyAct.TheVariants as lobby_act
 use Rattle.lobby_state.specs.declared.acts.LobbyReply.TheVariants as lobby_reply
 use Rattle.lobby_state.proofs.Lists.{All-filter_passing, Contains-filter}
-use Rattle.offer_book.specs.declared.offer.Offer.TheVariants.{Draw, Abort, Adjourn, Takeback}
 use Rattle.one_server.specs.declared.act.Act.{Act}
 use Rattle.one_server.specs.declared.act.Act.TheVariants as one_act
 use Rattle.one_server.specs.declared.act.Timed.{Timed}
@@ -38,10 +35,16 @@ use Rattle.session_core.specs.Course.{Course, Done, Asks, Writes, next_act}
 use Rattle.session_core.specs.Inputs.{asked_course, is_quit}
 use Rattle.session_core.specs.Laws.{LooksAway, LooksThere, acts_of, is_move, places_by}
 use Rattle.session_core.specs.Memory.{MemoryState, is_full, observed_at, present_in, remark_place, told, without_observed}
-use Rattle.session_core.specs.OwnCommands.{set_alias, set_style, unset_alias}
+use Rattle.session_core.specs.OwnCommands.{own_answer}
 use Rattle.session_core.specs.Reactions.{in_lobby, of_desk, says_no_offer}
-use Rattle.session_core.specs.Session.{answered, at_place, at_present, command_course, finding, is_accepted, moving_at, reacting_at, remark_of, round, to_desk, to_move, to_observe, to_react, to_remark, to_server, turns, unobserved, watched}
+use Rattle.session_core.specs.Session.{answered, at_place, at_present, finding, is_accepted, moving_at, reacting_at, remark_of, round, to_desk, to_move, to_observe, to_react, to_remark, to_server, turns, unobserved, watched, way_course}
 use Rattle.session_core.specs.Texts.{refusal_line}
+use Rattle.session_core.specs.Ways.{way_of}
+use Rattle.session_core.specs.declared.own_commands.OwnCommand.{OwnCommand}
+use Rattle.session_core.specs.declared.own_commands.OwnCommand.TheVariants as own_command
+use Rattle.session_core.specs.declared.way.Way.{Way}
+use Rattle.session_core.specs.declared.way.Way.TheVariants as way
+use Rattle.session_core.proofs.Ways.{goes_as_usual, is_leaving, makes_move}
 use Rattle.simul_control.specs.declared.place.Place.{Place}
 
 -- the session stands where another does, and looks on where that does
@@ -63,6 +66,10 @@ pub told_places : (memory : MemoryState) (r : Reply) → (told memory r).places 
 told_places memory (reply.Lobby (lobby_reply.Places places)) = refl
 told_places memory (reply.Lobby (lobby_reply.Waiting lines places)) = refl
 told_places memory _ = refl
+
+own_same : (before : MemoryState) (own : OwnCommand) (memory : MemoryState) → Same before memory → Same before (own_answer own memory).memory
+own_same before (own_command.Style style) memory s = record { stands = s.stands; looks = s.looks }
+own_same before _ memory s = record { stands = s.stands; looks = s.looks }
 
 -- what the session remembers as its round begins, behind these entries: it stands where it stood, and looks on where it
 -- did or where they have changed it
@@ -175,9 +182,9 @@ module _ (before : MemoryState) where
       (told_places memory e.reply ∙ ap (λ (l : PlaceList). places_by l e.reply) known) (told_same before memory e.reply s))
 
   -- an offer is accepted or declined
-  lobby_no_move : (reaction : Reaction) (name : Option (List ℕ)) → is_move (in_lobby reaction name) ≡ false
-  lobby_no_move Accepting name = refl
-  lobby_no_move Declining name = refl
+  lobby_no_move : (reaction : Reaction) → is_move (in_lobby reaction) ≡ false
+  lobby_no_move Accepting = refl
+  lobby_no_move Declining = refl
 
   desk_no_move : (reaction : Reaction) (place : Place) → is_move (at_place place (of_desk reaction)) ≡ false
   desk_no_move Accepting place = refl
@@ -185,18 +192,15 @@ module _ (before : MemoryState) where
 
   by_reacting : (reaction : Reaction) (place : Option Place) (memory : MemoryState) (places : PlaceList) (front : Log) → Same before memory
       → ToRound places front (reacting_at reaction place memory)
-  by_reacting reaction None memory places front s = by_server (in_lobby reaction None) memory places front (lobby_no_move reaction None) s
+  by_reacting reaction None memory places front s = by_server (in_lobby reaction) memory places front (lobby_no_move reaction) s
   by_reacting reaction (Some place) memory places front s =
       asking _ _ places front (desk_no_move reaction place) (λ e is.
-      either (says_no_offer e.reply) (to_server (in_lobby reaction None) memory) (answered e.reply memory) _ _
-      (by_server (in_lobby reaction None) memory _ _ (lobby_no_move reaction None) s) (written _ memory _ _ s))
+      either (says_no_offer e.reply) (to_server (in_lobby reaction) memory) (answered e.reply memory) _ _
+      (by_server (in_lobby reaction) memory _ _ (lobby_no_move reaction) s) (written _ memory _ _ s))
 
-  by_react : (reaction : Reaction) (name : Option (List ℕ)) (memory : MemoryState) (places : PlaceList) (front : Log) → Same before memory
-      → ToRound places front (to_react reaction name memory)
-  by_react reaction None memory places front s =
+  by_react : (reaction : Reaction) (memory : MemoryState) (places : PlaceList) (front : Log) → Same before memory → ToRound places front (to_react reaction memory)
+  by_react reaction memory places front s =
       asking _ _ places front refl (λ e is. by_reacting reaction (present_in (told memory e.reply)) (told memory e.reply) _ _ (told_same before memory e.reply s))
-  by_react reaction (Some name) memory places front s =
-      by_server (in_lobby reaction (Some (key_of name))) memory places front (lobby_no_move reaction (Some (key_of name))) s
 
   -- what was made contains its last act
   made_last : (front : Log) (e : Entry Timed Reply) (act : Act) → e.act.act ≡ act → Contains (acts_of (front ++ e ∷ [])) act
@@ -274,32 +278,23 @@ module _ (before : MemoryState) where
       asking _ _ places front refl (λ e is.
       seen_written _ (without_observed place.desk memory) _ _ (seen_without place memory (front ++ e ∷ []) (made_last front e (at_place place desk_act.Unwatch) is) s))
 
-  -- each command but `quit`
-  pub by_command : (asked : Command) (stamp : Option ℕ) (memory : MemoryState) (places : PlaceList) (front : Log) → memory.places ≡ places → Same before memory
-      → is_quit (Ok asked) ≡ false → ToRound places front (command_course asked stamp memory)
-  unfolding ToRound
-  by_command command.Nothing stamp memory places front known s goes_on = at_round memory places front s
-  by_command (command.Move word) stamp memory places front known s goes_on = by_move word stamp memory places front known s
-  by_command (command.Accept name) stamp memory places front known s goes_on = by_react Accepting name memory places front s
-  by_command (command.Decline name) stamp memory places front known s goes_on = by_react Declining name memory places front s
-  by_command command.Draw stamp memory places front known s goes_on = by_desk (desk_act.Make Draw) memory places front (λ _. refl) s
-  by_command command.Abort stamp memory places front known s goes_on = by_desk (desk_act.Make Abort) memory places front (λ _. refl) s
-  by_command command.Adjourn stamp memory places front known s goes_on = by_desk (desk_act.Make Adjourn) memory places front (λ _. refl) s
-  by_command (command.Takeback number) stamp memory places front known s goes_on = by_desk (desk_act.Make (Takeback number)) memory places front (λ _. refl) s
-  by_command command.Resign stamp memory places front known s goes_on = by_desk desk_act.Resign memory places front (λ _. refl) s
-  by_command command.Flag stamp memory places front known s goes_on = by_desk desk_act.Flag memory places front (λ _. refl) s
-  by_command command.Refresh stamp memory places front known s goes_on = by_desk desk_act.Show memory places front (λ _. refl) s
-  by_command (command.Kibitz text) stamp memory places front known s goes_on = by_remark (remark_of text memory) memory places front (λ _. refl) s
-  by_command (command.ObserveGame number) stamp memory places front known s goes_on = by_observe (lobby_act.FindGame number) memory places front s
-  by_command (command.ObservePlayer name) stamp memory places front known s goes_on = by_observe (lobby_act.Find (key_of name)) memory places front s
-  by_command (command.Unobserve number) stamp memory places front known s goes_on = by_unobserved (observed_at (desk_of_game number) memory) memory places front s
-  by_command (command.Style style) stamp memory places front known s goes_on = at_round (set_style style memory).memory places front (record { stands = s.stands; looks = s.looks })
-  by_command (command.Alias name text) stamp memory places front known s goes_on = at_round (set_alias name text memory).memory places front (record { stands = s.stands; looks = s.looks })
-  by_command (command.Unalias name) stamp memory places front known s goes_on = at_round (unset_alias name memory).memory places front (record { stands = s.stands; looks = s.looks })
-  by_command command.Quit stamp memory places front known s goes_on = absurd (let bad : true ≡ false = goes_on in cc)
-  by_command _ stamp memory places front known s goes_on = inr (λ e is. (λ move _ _. let bad : false ≡ true = move in cc, at_round memory (places_by places e.reply) (front ++ e ∷ []) s))
+  -- each way but leaving
+  by_way : (way : Way) (stamp : Option ℕ) (memory : MemoryState) (places : PlaceList) (front : Log) → makes_move way ≡ false → is_leaving way ≡ false → memory.places ≡ places
+      → Same before memory → ToRound places front (way_course way stamp memory)
+  by_way way.Round stamp memory places front still goes_on known s = at_round memory places front s
+  by_way (way.Server act) stamp memory places front still goes_on known s = by_server act memory places front still s
+  by_way (way.Desk act) stamp memory places front still goes_on known s = by_desk act memory places front (λ _. still) s
+  by_way (way.Move word) stamp memory places front still goes_on known s = by_move word stamp memory places front known s
+  by_way (way.React reaction) stamp memory places front still goes_on known s = by_react reaction memory places front s
+  by_way (way.Remark text) stamp memory places front still goes_on known s = by_remark (remark_of text memory) memory places front (λ _. refl) s
+  by_way (way.Observe act) stamp memory places front still goes_on known s = by_observe act memory places front s
+  by_way (way.Unobserve number) stamp memory places front still goes_on known s = by_unobserved (observed_at (desk_of_game number) memory) memory places front s
+  by_way (way.Own own) stamp memory places front still goes_on known s = written _ (own_answer own memory).memory places front (own_same before own memory s)
+  by_way way.Leave stamp memory places front still goes_on known s = absurd (let bad : true ≡ false = goes_on in cc)
 
   pub by_asked : (asked : Result Command Refusal) (stamp : Option ℕ) (memory : MemoryState) (places : PlaceList) (front : Log) → memory.places ≡ places → Same before memory
       → is_quit asked ≡ false → ToRound places front (asked_course asked stamp memory)
-  by_asked (Ok asked) stamp memory places front known s goes_on = by_command asked stamp memory places front known s goes_on
+  by_asked (Ok asked) stamp memory places front known s goes_on =
+      let usual = goes_as_usual asked in
+      by_way (way_of asked) stamp memory places front usual.still (usual.leaves ∙ goes_on) known s
   by_asked (Err cause) stamp memory places front known s goes_on = written _ memory places front s

@@ -5,6 +5,7 @@ pub mod Texts
 pub mod Login
 pub mod OwnCommands
 pub mod Reactions
+pub mod Ways
 pub mod Session
 pub mod Inputs
 pub mod Remembering

@@ -2,13 +2,14 @@
 use Rattle.std.specs.Prelude.{ℕ, List, Result, Ok, Err}
 use Rattle.command_words.specs.Aliases.{setting, unsetting}
 use Rattle.command_words.specs.declared.aliases.Alias.{Alias}
-use Rattle.command_words.specs.declared.style.Style.{Style}
 use Rattle.fics_words.specs.Effect.{Effect, answer_of, state_of}
 use Rattle.fics_words.specs.declared.refusal.Refusal.{Refusal}
+use Rattle.session_core.specs.declared.own_commands.OwnCommand.{OwnCommand}
+use Rattle.session_core.specs.declared.own_commands.OwnCommand.TheVariants as own
 use Rattle.session_core.specs.Memory.{MemoryState}
 use Rattle.session_core.specs.Texts.{done_line, refusal_line}
 
--- what a session does by itself: the line that it writes, and what it remembers then
+-- what comes of a command that a session carries out by itself: the line that it writes, and what it remembers then
 pub record OwnAnswer : Type 0 where
   pub line : List ℕ
   pub memory : MemoryState
@@ -25,14 +26,8 @@ aliasing effect memory = record {
   memory = record memory { aliases = state_of memory.aliases effect };
 }
 
--- a name stands for a text from now on
-abbrev pub set_alias : List ℕ → List ℕ → MemoryState → OwnAnswer
-set_alias name text memory = aliasing (setting memory.aliases name text) memory
-
--- a name stands for nothing any more
-abbrev pub unset_alias : List ℕ → MemoryState → OwnAnswer
-unset_alias name memory = aliasing (unsetting memory.aliases name) memory
-
--- boards are printed so from now on
-abbrev pub set_style : Style → MemoryState → OwnAnswer
-set_style style memory = record { line = done_line; memory = record memory { style = style } }
+-- what a session does by itself: boards are printed so from now on, and a name stands for a text, or for nothing any more
+abbrev pub own_answer : OwnCommand → MemoryState → OwnAnswer
+own_answer (own.Style style) memory = record { line = done_line; memory = record memory { style = style } }
+own_answer (own.Alias name text) memory = aliasing (setting memory.aliases name text) memory
+own_answer (own.Unalias name) memory = aliasing (unsetting memory.aliases name) memory

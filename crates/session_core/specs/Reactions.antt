@@ -1,6 +1,6 @@
--- What a session does about an offer: where it names nobody, the desk of the present place is asked first. This server's
+-- What a session does about an offer where its player names nobody: the desk of the present place is asked first. This server's
 -- own.
-use Rattle.std.specs.Prelude.{ℕ, Bool, true, false, List, Option}
+use Rattle.std.specs.Prelude.{Bool, true, false, None}
 use Rattle.fics_words.specs.declared.refusal.Refusal.{Refusal}
 use Rattle.fics_words.specs.declared.refusal.Refusal.TheVariants.{NoSuchOffer}
 use Rattle.linked_desk.specs.declared.acts.DeskAct.{DeskAct}
@@ -19,10 +19,10 @@ abbrev pub of_desk : Reaction → DeskAct
 of_desk Accepting = desk_act.Accept
 of_desk Declining = desk_act.Decline
 
--- the act in the lobby, which answers this player's challenge or the oldest one
-abbrev pub in_lobby : Reaction → Option (List ℕ) → Act
-in_lobby Accepting name = Pair (pair_act.Accept name)
-in_lobby Declining name = Lobby (lobby_act.Decline name)
+-- the act in the lobby, which answers the oldest challenge
+abbrev pub in_lobby : Reaction → Act
+in_lobby Accepting = Pair (pair_act.Accept None)
+in_lobby Declining = Lobby (lobby_act.Decline None)
 
 -- there is no offer to answer
 abbrev pub is_no_offer : Refusal → Bool

@@ -1,12 +1,9 @@
 -- What a session that has entered does: for a command, for its news, for an acknowledgement, and when it leaves. This
 -- server's own.
 use Rattle.std.specs.Prelude.{ℕ, Bool, true, false, ◌&&◌, if◌then◌else◌, List, [], ◌∷◌, Option, None, Some, codes}
-use Rattle.std.specs.Option.{option_map}
 use Rattle.chess_model.specs.declared.moves.MoveWord.{MoveWord}
 use Rattle.command_words.specs.declared.command.Command.{Command}
-use Rattle.command_words.specs.declared.command.Command.TheVariants as command
 use Rattle.fics_words.specs.declared.refusal.Refusal.TheVariants.{ListFull, NotPlaying, NotWatching}
-use Rattle.fics_words.specs.Handle.{key_of}
 use Rattle.linked_desk.specs.declared.acts.DeskAct.{DeskAct}
 use Rattle.linked_desk.specs.declared.acts.DeskAct.TheVariants as desk_act
 use Rattle.linked_desk.specs.declared.acts.DeskReply.TheVariants as desk_reply
@@ -16,11 +13,6 @@ use Rattle.lobby_state.specs.declared.acts.LobbyAct.TheVariants as lobby_act
 use Rattle.lobby_state.specs.declared.acts.LobbyReply.TheVariants.{Found}
 use Rattle.lobby_state.specs.declared.acts.PairAct.TheVariants as pair_act
 use Rattle.simul_control.specs.declared.place.Place.{Place}
-use Rattle.lobby_state.specs.declared.name_list.WhichList.{WhichList}
-use Rattle.lobby_state.specs.declared.name_list.WhichList.TheVariants.{Censor, Noplay}
-use Rattle.lobby_state.specs.declared.var.Var.{Var}
-use Rattle.lobby_state.specs.declared.var.Var.TheVariants.{Open, Shout, Seek}
-use Rattle.offer_book.specs.declared.offer.Offer.TheVariants.{Draw, Abort, Adjourn, Takeback}
 use Rattle.lobby_state.specs.FindGame.{desk_of_game}
 use Rattle.lobby_state.specs.Said.{said}
 use Rattle.one_server.specs.declared.act.Act.{Act}
@@ -28,18 +20,19 @@ use Rattle.one_server.specs.declared.act.Act.TheVariants.{Lobby, Desk, Pair}
 use Rattle.one_server.specs.declared.reply.Reply.{Reply}
 use Rattle.one_server.specs.declared.reply.Reply.TheVariants as reply
 use Rattle.session_core.specs.declared.reaction.Reaction.{Reaction}
-use Rattle.session_core.specs.declared.reaction.Reaction.TheVariants.{Accepting, Declining}
 use Rattle.session_core.specs.Course.{Course, Done, Asks, Writes}
 use Rattle.session_core.specs.Memory.{MemoryState, departed, present_in, told, is_full, is_giving, observed_at, reader_in, remark_place}
-use Rattle.session_core.specs.OwnCommands.{OwnAnswer, set_alias, unset_alias, set_style}
+use Rattle.session_core.specs.OwnCommands.{OwnAnswer, own_answer}
 use Rattle.session_core.specs.Reactions.{in_lobby, of_desk, says_no_offer}
 use Rattle.session_core.specs.Texts.{refusal_line, reply_text, news_text, waiting_text, shown_text}
 use Rattle.session_core.specs.Memory.{with_observed, without_observed}
 use Rattle.session_core.specs.Visits.{visits_in}
+use Rattle.session_core.specs.Ways.{way_of}
 use Rattle.session_core.specs.declared.standing.Standing.{Standing}
 use Rattle.session_core.specs.declared.standing.Standing.TheVariants.{In}
 use Rattle.session_core.specs.declared.visit.Visit.{Visit}
-use Rattle.sha2.specs.Sha256.{sha256}
+use Rattle.session_core.specs.declared.way.Way.{Way}
+use Rattle.session_core.specs.declared.way.Way.TheVariants as way
 
 -- nothing more will come from the game
 abbrev pub says_over : Reply → Bool
@@ -194,11 +187,11 @@ to_server act memory = Asks act (λ reply. answered reply memory)
 -- the desk has answered the act that accepts or declines: where no offer stands there, the lobby is asked
 abbrev pub reacted : Reaction → Reply → MemoryState → Course
 reacted reaction reply memory =
-    if says_no_offer reply then to_server (in_lobby reaction None) memory else answered reply memory
+    if says_no_offer reply then to_server (in_lobby reaction) memory else answered reply memory
 
 -- the desk of this place is asked first, and without a place the lobby alone
 abbrev pub reacting_at : Reaction → Option Place → MemoryState → Course
-reacting_at reaction None memory = to_server (in_lobby reaction None) memory
+reacting_at reaction None memory = to_server (in_lobby reaction) memory
 reacting_at reaction (Some place) memory =
     Asks (at_place place (of_desk reaction)) (λ reply. reacted reaction reply memory)
 
@@ -206,10 +199,9 @@ reacting_at reaction (Some place) memory =
 abbrev pub reacting : Reaction → MemoryState → Course
 reacting reaction memory = reacting_at reaction (present_in memory) memory
 
--- an offer is accepted or declined: that of a player who is named in the lobby alone
-abbrev pub to_react : Reaction → Option (List ℕ) → MemoryState → Course
-to_react reaction None memory = Asks (Lobby lobby_act.Where) (λ reply. reacting reaction (told memory reply))
-to_react reaction (Some name) memory = to_server (in_lobby reaction (Some (key_of name))) memory
+-- an offer is accepted or declined, where the player names nobody
+abbrev pub to_react : Reaction → MemoryState → Course
+to_react reaction memory = Asks (Lobby lobby_act.Where) (λ reply. reacting reaction (told memory reply))
 
 -- a command that the session carries out by itself: its line, and then the round
 abbrev pub by_itself : OwnAnswer → Course
@@ -226,67 +218,22 @@ leave_games (visit ∷ rest) memory =
 abbrev pub leaving_course : MemoryState → Course
 leaving_course memory = Asks (Lobby lobby_act.Going) (λ reply. leave_games (visits_in (told memory reply)) (told memory reply))
 
--- the setting of a variable
-abbrev pub setting : Var → Bool → Act
-setting which on = Lobby (lobby_act.Var which on)
+-- what a session does in a way; a move carries the stamp of its line, where it has one
+abbrev pub way_course : Way → Option ℕ → MemoryState → Course
+way_course way.Round stamp memory = round memory
+way_course (way.Server act) stamp memory = to_server act memory
+way_course (way.Desk act) stamp memory = to_desk act memory
+way_course (way.Move word) stamp memory = to_move word stamp memory
+way_course (way.React reaction) stamp memory = to_react reaction memory
+way_course (way.Remark text) stamp memory = to_remark (remark_of text memory) memory
+way_course (way.Observe act) stamp memory = to_observe act memory
+way_course (way.Unobserve number) stamp memory = to_unobserve number memory
+way_course (way.Own own) stamp memory = by_itself (own_answer own memory)
+way_course way.Leave stamp memory = leaving_course memory
 
--- the change of a list
-abbrev pub listing : WhichList → List ℕ → Bool → Act
-listing which key on = Lobby (lobby_act.List which key on)
-
--- what a session does for a command; a move carries the stamp of its line, where it has one
+-- what a session does for a command
 abbrev pub command_course : Command → Option ℕ → MemoryState → Course
-command_course command.Nothing stamp memory = round memory
-command_course (command.Move word) stamp memory = to_move word stamp memory
-command_course (command.Match name terms) stamp memory =
-    to_server (Lobby (lobby_act.Match (key_of name) terms)) memory
-command_course (command.Seek terms) stamp memory = to_server (Lobby (lobby_act.Post terms)) memory
-command_course (command.Unseek number) stamp memory = to_server (Lobby (lobby_act.Unpost number)) memory
-command_course command.Sought stamp memory = to_server (Lobby lobby_act.Sought) memory
-command_course (command.Play number) stamp memory = to_server (Pair (pair_act.Play number)) memory
-command_course command.Who stamp memory = to_server (Lobby lobby_act.Who) memory
-command_course (command.Accept name) stamp memory = to_react Accepting name memory
-command_course (command.Decline name) stamp memory = to_react Declining name memory
-command_course command.Pending stamp memory = to_server (Lobby lobby_act.Pending) memory
-command_course command.Games stamp memory = to_server (Lobby lobby_act.Games) memory
-command_course (command.Withdraw name) stamp memory =
-    to_server (Lobby (lobby_act.Withdraw (option_map key_of name))) memory
-command_course (command.Partner name) stamp memory =
-    to_server (Lobby (lobby_act.Partner (option_map key_of name))) memory
-command_course (command.Ptell text) stamp memory = to_server (Lobby (lobby_act.Ptell text)) memory
-command_course (command.Tell name text) stamp memory = to_server (Lobby (lobby_act.Tell (key_of name) text)) memory
-command_course (command.TellChannel channel text) stamp memory = to_server (Lobby (lobby_act.TellChannel channel text)) memory
-command_course (command.InChannel channel) stamp memory = to_server (Lobby (lobby_act.InChannel channel)) memory
-command_course (command.Channel number on) stamp memory = to_server (Lobby (lobby_act.Channel number on)) memory
-command_course (command.Censor name on) stamp memory = to_server (listing Censor (key_of name) on) memory
-command_course (command.Noplay name on) stamp memory = to_server (listing Noplay (key_of name) on) memory
-command_course (command.Shout text) stamp memory = to_server (Lobby (lobby_act.Shout text)) memory
-command_course (command.SetOpen on) stamp memory = to_server (setting Open on) memory
-command_course (command.SetShout on) stamp memory = to_server (setting Shout on) memory
-command_course (command.SetSeek on) stamp memory = to_server (setting Seek on) memory
-command_course command.Draw stamp memory = to_desk (desk_act.Make Draw) memory
-command_course command.Abort stamp memory = to_desk (desk_act.Make Abort) memory
-command_course command.Adjourn stamp memory = to_desk (desk_act.Make Adjourn) memory
-command_course (command.Takeback number) stamp memory = to_desk (desk_act.Make (Takeback number)) memory
-command_course command.Resign stamp memory = to_desk desk_act.Resign memory
-command_course command.Flag stamp memory = to_desk desk_act.Flag memory
-command_course command.Refresh stamp memory = to_desk desk_act.Show memory
-command_course (command.Kibitz text) stamp memory = to_remark (remark_of text memory) memory
-command_course (command.ObserveGame number) stamp memory = to_observe (lobby_act.FindGame number) memory
-command_course (command.ObservePlayer name) stamp memory = to_observe (lobby_act.Find (key_of name)) memory
-command_course (command.Unobserve number) stamp memory = to_unobserve number memory
-command_course command.SimOpen stamp memory = to_server (Lobby lobby_act.SimOpen) memory
-command_course command.SimNext stamp memory = to_server (Lobby lobby_act.SimNext) memory
-command_course command.SimPrev stamp memory = to_server (Lobby lobby_act.SimPrev) memory
-command_course (command.GoBoard name) stamp memory = to_server (Lobby (lobby_act.GoBoard (key_of name))) memory
-command_course command.Stored stamp memory = to_server (Lobby lobby_act.Stored) memory
-command_course (command.Resume name) stamp memory = to_server (Pair (pair_act.Resume (key_of name))) memory
-command_course (command.Style style) stamp memory = by_itself (set_style style memory)
-command_course (command.Register password) stamp memory =
-    to_server (Lobby (lobby_act.Register (sha256 password))) memory
-command_course (command.Alias name text) stamp memory = by_itself (set_alias name text memory)
-command_course (command.Unalias name) stamp memory = by_itself (unset_alias name memory)
-command_course command.Quit stamp memory = leaving_course memory
+command_course command stamp memory = way_course (way_of command) stamp memory
 
 -- an acknowledgement reaches the present place, if there is any; it prints nothing, and no round follows
 abbrev pub acked_at : ℕ → Option Place → MemoryState → Course

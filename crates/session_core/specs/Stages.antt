@@ -1,12 +1,10 @@
 -- The stages of a session: what stands between an act and its reply, and what follows. This server's own.
 use Rattle.std.specs.Prelude.{◌≡◌, ℕ, ◌+◌, ◌*◌, ◌≤◌, Bool, ◌&&◌, true, false, List, ◌++◌, length, Option, Some, IfSome, Ok, Err, Result}
 use Rattle.clock_ledger.specs.Span.{IsStamp}
-use Rattle.command_words.specs.declared.command.Command.{Command}
-use Rattle.command_words.specs.declared.command.Command.TheVariants.{Kibitz, Match, Seek, Tell, TellChannel, Shout, Ptell}
 use Rattle.linked_desk.specs.Acts.{FitsDeskAct}
 use Rattle.linked_desk.specs.declared.acts.DeskAct.TheVariants as desk_act
 use Rattle.lobby_state.specs.declared.acts.LobbyAct.TheVariants as lobby_act
-use Rattle.lobby_state.specs.Terms.{AreTerms}
+use Rattle.lobby_state.specs.Acts.{FitsLobby}
 use Rattle.lobby_state.specs.Desks.{IsDesk}
 use Rattle.memory.specs.declared.NoMemory.{NoMemory}
 use Rattle.one_server.specs.declared.act.Act.{Act}
@@ -32,6 +30,8 @@ use Rattle.session_core.specs.Session.{moved, moving, round, rounding, says_over
 use Rattle.session_core.specs.Texts.{waiting_text}
 use Rattle.session_core.specs.Visits.{visits_in}
 use Rattle.session_core.specs.declared.visit.Visit.{Visit}
+use Rattle.session_core.specs.declared.way.Way.{Way}
+use Rattle.session_core.specs.declared.way.Way.TheVariants as way
 
 -- what follows the reply to the act at which the session stands
 abbrev pub continues : Stage → MemoryState → Reply → Course
@@ -132,16 +132,19 @@ acts_to_leave leaving_next.End = 0
 abbrev pub FitsStamp : Option ℕ → Type 0
 FitsStamp stamp = IfSome stamp IsStamp
 
--- the terms of a challenge and of a seek are within their bounds, and a text has at most 800 bytes
-abbrev pub FitsCommand : Command → Type 0
-FitsCommand (Match name terms) = AreTerms terms
-FitsCommand (Seek terms) = AreTerms terms
-FitsCommand (Tell name text) = length text ≤ 800
-FitsCommand (TellChannel channel text) = length text ≤ 800
-FitsCommand (Kibitz text) = length text ≤ 800
-FitsCommand (Shout text) = length text ≤ 800
-FitsCommand (Ptell text) = length text ≤ 800
-FitsCommand _ = Unit {0}
+-- the numbers of a way's act are ones that it can have, and a remark has at most 800 bytes
+abbrev pub FitsWay : Way → Type 0
+FitsWay (way.Server act) = FitsAct act
+FitsWay (way.Desk act) = FitsDeskAct act
+FitsWay (way.Observe act) = FitsLobby act
+FitsWay (way.Remark text) = length text ≤ 800
+FitsWay _ = Unit {0}
+
+-- the act of a way asks the lobby for the places of its player
+abbrev pub way_asks_places : Way → Bool
+way_asks_places (way.Server act) = asks_places act
+way_asks_places (way.Observe act) = asks_places (Lobby act)
+way_asks_places _ = false
 
 -- a stage has what its next act needs, an act that a desk can take, a place at a desk, a stamp; and it is one of a
 -- session that hasn't entered, or of one that has

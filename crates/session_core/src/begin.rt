@@ -13,9 +13,10 @@ use crate::input::Input;
 use crate::login::{take_name, take_password, turn_away};
 use crate::next::Next;
 use crate::session_memory::SessionMemory;
-use crate::stage::{ask_place, ask_round};
+use crate::stage::{Stage, ask_round, ask_where};
 use crate::standing::{LinkMark, Standing};
 use crate::texts::put_refusal;
+use crate::way::way_of;
 use command_words::read_command;
 use fics_words::{Fail, Line, Refusal};
 use line_reader::Incoming;
@@ -150,7 +151,7 @@ fn read_text(
     ensures looks { memory.new.observed ≡ memory.old.observed }
 {
     match read_command(alloc, text, memory.aliases()) {
-        Ok(command) => begin_command(memory, command, stamp, out),
+        Ok(command) => begin_command(memory, way_of(command), stamp, out),
         Err(Fail::Refused(cause)) => {
             put_refusal(cause, out)?;
             Ok(First::Going(ask_round()))
@@ -166,7 +167,7 @@ fn begin_ack(memory: &SessionMemory, stamp: u32) -> First
     ensures ready { IsPrepared memory.now result }
 {
     match memory.standing() {
-        Standing::In(_) => First::Going(ask_place(stamp)),
+        Standing::In(_) => First::Going(ask_where(Stage::AwaitingPlace(stamp))),
         _ => First::Going(Next::End),
     }
 }

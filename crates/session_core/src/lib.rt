@@ -35,6 +35,7 @@ mod texts;
 mod visit;
 mod visiting;
 mod watching;
+mod way;
 
 pub use framing::Framing;
 pub use input::{Input, Wrote};

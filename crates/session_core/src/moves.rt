@@ -1,12 +1,10 @@
 //! How a session makes a half-move, and how who gives a simul then goes to its next place.
 ghost use Rattle.std.specs.Prelude.{◌≡◌, ◌≤◌, IfOk, true};
 ghost use Rattle.one_server.specs.Replies.{IsReply};
-ghost use Rattle.session_core.specs.Memory.{MemoryState, has_entered, told};
-ghost use Rattle.session_core.specs.Session.{is_accepted, moved, moving, to_move, turns};
-ghost use Rattle.session_core.specs.Stages.{FitsStamp, IsPosed, IsPrepared, Settles, acts_left};
-ghost use Rattle.session_core.specs.Stages.{course_of, first_course};
+ghost use Rattle.session_core.specs.Memory.{has_entered, told};
+ghost use Rattle.session_core.specs.Session.{is_accepted, moved, moving, turns};
+ghost use Rattle.session_core.specs.Stages.{FitsStamp, IsPosed, Settles, acts_left, course_of};
 
-use crate::first::First;
 use crate::next::Next;
 use crate::session_memory::SessionMemory;
 use crate::stage::{Stage, ask_round, at_place};
@@ -17,16 +15,6 @@ use linked_desk::{DeskAct, DeskReply};
 use lobby_state::LobbyAct;
 use memory::NoMemory;
 use one_server::{Act, Reply};
-
-/// A half-move at the present place, for which the lobby is asked. `stamp` is the client's own, below 10,000,000, where
-/// the line has one.
-pub(crate) fn to_move(word: MoveWord, stamp: Option<u32>) -> First
-    requires { FitsStamp stamp }
-    ensures goes { (memory : MemoryState) → first_course result memory ≡ to_move word stamp memory }
-    ensures ready { (memory : MemoryState) → has_entered memory ≡ true → IsPrepared memory result }
-{
-    First::Going(Next::Ask(Act::Lobby(LobbyAct::Where), Stage::Moving { word, stamp }))
-}
 
 /// The lobby has told the places: the half-move is made at the present one; without a place the session itself answers.
 pub(crate) fn moving(

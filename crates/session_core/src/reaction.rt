@@ -1,19 +1,21 @@
-//! What a session does about an offer that it doesn't name.
+//! What a session does about an offer where its player names nobody.
 ghost use Rattle.std.specs.Prelude.{◌≡◌, false};
 ghost use Rattle.linked_desk.specs.Acts.{FitsDeskAct};
 ghost use Rattle.one_server.specs.Acts.{FitsAct};
 ghost use Rattle.session_core.specs.Remembering.{asks_places};
 ghost use Rattle.session_core.specs.Reactions.{in_lobby, is_no_offer, of_desk, says_no_offer};
 
-use fics_words::{HandleKey, Refusal};
+use fics_words::Refusal;
 use linked_desk::DeskAct;
 use lobby_state::{LobbyAct, PairAct};
 use one_server::{Act, Reply};
 
-/// An offer is accepted or declined.
+/// What a session does about an offer.
 #[derive(Clone, Copy)]
-pub(crate) enum Reaction {
+pub enum Reaction {
+    /// It accepts it.
     Accepting,
+    /// It declines it.
     Declining,
 }
 
@@ -28,15 +30,15 @@ pub(crate) fn of_desk(reaction: Reaction) -> DeskAct
     }
 }
 
-/// The act in the lobby, which answers this player's challenge or the oldest one.
-pub(crate) fn in_lobby(reaction: Reaction, name: Option<HandleKey>) -> Act
-    ensures value { result ≡ in_lobby reaction name }
+/// The act in the lobby, which answers the oldest challenge.
+pub(crate) fn in_lobby(reaction: Reaction) -> Act
+    ensures value { result ≡ in_lobby reaction }
     ensures fits { FitsAct result }
     ensures asks { asks_places result ≡ false }
 {
     match reaction {
-        Reaction::Accepting => Act::Pair(PairAct::Accept(name)),
-        Reaction::Declining => Act::Lobby(LobbyAct::Decline { name }),
+        Reaction::Accepting => Act::Pair(PairAct::Accept(None)),
+        Reaction::Declining => Act::Lobby(LobbyAct::Decline { name: None }),
     }
 }
 

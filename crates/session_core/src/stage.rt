@@ -208,7 +208,7 @@ fn reacting(reaction: Reaction, memory: &mut SessionMemory, reply: &Reply) -> Ne
             at_place(&place, of_desk(reaction)),
             Stage::Reacted(reaction),
         ),
-        None => Next::Ask(in_lobby(reaction, None), Stage::Answering),
+        None => Next::Ask(in_lobby(reaction), Stage::Answering),
     }
 }
 
@@ -229,7 +229,7 @@ fn reacted(
     ensures stands { memory.new.standing ≡ memory.old.standing }
 {
     if says_no_offer(reply) {
-        return Ok(Next::Ask(in_lobby(reaction, None), Stage::Answering));
+        return Ok(Next::Ask(in_lobby(reaction), Stage::Answering));
     }
     answered(memory, reply, out)
 }
@@ -292,11 +292,11 @@ pub(crate) fn ask_round() -> Next
     Next::Ask(Act::Lobby(LobbyAct::Fetch), Stage::Rounding)
 }
 
-/// The act of an acknowledgement, which asks for the present place.
-pub(crate) fn ask_place(stamp: u32) -> Next
-    ensures { result ≡ Next.Ask (Act.Lobby LobbyAct.Where) (Stage.AwaitingPlace stamp) }
+/// The act that asks for the present place, before this stage.
+pub(crate) fn ask_where(stage: Stage) -> Next
+    ensures { result ≡ Next.Ask (Act.Lobby LobbyAct.Where) stage }
 {
-    Next::Ask(Act::Lobby(LobbyAct::Where), Stage::AwaitingPlace(stamp))
+    Next::Ask(Act::Lobby(LobbyAct::Where), stage)
 }
 
 /// An act at the game of a place.

@@ -1,21 +1,17 @@
 -- No command makes a session tell save orders as saved, nor does the round or leaving.
-use Rattle.std.proofs.Common.{ℕ, Bool, true, false, List, [], ◌∷◌, if◌then◌else◌}
+use Rattle.std.proofs.Common.{ℕ, Bool, true, false, List, [], ◌∷◌}
 use Rattle.std.specs.declared.option.Option.{Option}
 use Rattle.std.specs.declared.option.Option.TheVariants.{None, Some}
 use Rattle.chess_model.specs.declared.moves.MoveWord.{MoveWord}
 use Rattle.command_words.specs.declared.command.Command.{Command}
 use Rattle.command_words.specs.declared.command.Command.TheVariants as command
-use Rattle.fics_words.specs.Handle.{key_of}
 use Rattle.fics_words.specs.declared.refusal.Refusal.TheVariants as refusal
 use Rattle.linked_desk.specs.declared.acts.DeskAct.{DeskAct}
-use Rattle.linked_desk.specs.declared.acts.DeskAct.TheVariants as desk_act
 use Rattle.lobby_state.specs.FindGame.{desk_of_game}
 use Rattle.lobby_state.specs.declared.acts.LobbyAct.{LobbyAct}
 use Rattle.lobby_state.specs.declared.acts.LobbyAct.TheVariants as lobby_act
 use Rattle.lobby_state.specs.declared.acts.LobbyReply.TheVariants as lobby_reply
-use Rattle.lobby_state.specs.declared.acts.PairAct.TheVariants as pair_act
 use Rattle.lobby_store.specs.Agreeing.{TellsSaved}
-use Rattle.offer_book.specs.declared.offer.Offer.TheVariants.{Draw, Abort, Adjourn, Takeback}
 use Rattle.one_server.specs.declared.act.Act.{Act}
 use Rattle.one_server.specs.declared.act.Act.TheVariants as one_act
 use Rattle.one_server.specs.declared.reply.Reply.{Reply}
@@ -23,13 +19,19 @@ use Rattle.one_server.specs.declared.reply.Reply.TheVariants as reply
 use Rattle.session_core.specs.Course.{Course, Asks, Writes}
 use Rattle.session_core.specs.Memory.{MemoryState, is_full, observed_at, present_in, remark_place, told}
 use Rattle.session_core.specs.Memory.{without_observed}
-use Rattle.session_core.specs.OwnCommands.{set_alias, set_style, unset_alias}
-use Rattle.session_core.specs.Reactions.{says_no_offer}
-use Rattle.session_core.specs.Session.{answered, at_place, at_present, behind, command_course, finding, given_up}
-use Rattle.session_core.specs.Session.{leave_games, leaving_course, moving_at, remark_of, round, says_over, to_desk, to_move}
-use Rattle.session_core.specs.Session.{to_observe, to_remark, to_server, turns, unobserved, visits, watched}
+use Rattle.session_core.specs.OwnCommands.{own_answer}
+use Rattle.session_core.specs.Reactions.{in_lobby, says_no_offer}
+use Rattle.session_core.specs.Session.{answered, at_present, behind, command_course, finding, given_up}
+use Rattle.session_core.specs.Session.{leave_games, leaving_course, moving_at, reacting_at, remark_of, round, says_over}
+use Rattle.session_core.specs.Session.{to_desk, to_move, to_observe, to_react, to_remark, to_server, turns, unobserved}
+use Rattle.session_core.specs.Session.{visits, watched, way_course}
 use Rattle.session_core.specs.Texts.{refusal_line}
 use Rattle.session_core.specs.Visits.{visits_in}
+use Rattle.session_core.specs.Ways.{way_of}
+use Rattle.session_core.specs.declared.reaction.Reaction.{Reaction}
+use Rattle.session_core.specs.declared.reaction.Reaction.TheVariants.{Accepting, Declining}
+use Rattle.session_core.specs.declared.way.Way.{Way}
+use Rattle.session_core.specs.declared.way.Way.TheVariants as way
 use Rattle.session_laws.proofs.NeverSaving.{NeverSaves, never_either}
 use Rattle.simul_control.specs.declared.place.Place.{Place}
 use Rattle.steward_core.specs.Agreement.{SaysSaved}
@@ -86,25 +88,22 @@ never_moving word stamp (Some place) memory = (
 never_move : (word : MoveWord) (stamp : Option ℕ) (memory : MemoryState) → NeverSaves (to_move word stamp memory)
 never_move word stamp memory = (λ is. is, λ r. never_moving word stamp (present_in (told memory r)) (told memory r))
 
--- an offer is answered at the desk of the present place by this act, and by that one in the lobby
-abbrev reacting_with : DeskAct → Act → Option Place → MemoryState → Course
-reacting_with desk lobby None memory = to_server lobby memory
-reacting_with desk lobby (Some place) memory =
-    Asks (at_place place desk) (λ reply. if says_no_offer reply then to_server lobby memory else answered reply memory)
+reacts_not : (reaction : Reaction) → SaysSaved (in_lobby reaction) → ⊥
+reacts_not Accepting is = is
+reacts_not Declining is = is
 
-never_reacting : (desk : DeskAct) (lobby : Act) (place : Option Place) (memory : MemoryState) → (SaysSaved lobby → ⊥)
-    → NeverSaves (reacting_with desk lobby place memory)
-never_reacting desk lobby None memory other = never_server lobby memory other
-never_reacting desk lobby (Some place) memory other = (
+never_reacting : (reaction : Reaction) (place : Option Place) (memory : MemoryState)
+    → NeverSaves (reacting_at reaction place memory)
+never_reacting reaction None memory = never_server (in_lobby reaction) memory (reacts_not reaction)
+never_reacting reaction (Some place) memory = (
   λ is. is,
   λ r.
-      never_either (says_no_offer r) (to_server lobby memory) (answered r memory)
-      (never_server lobby memory other) (never_round memory),
+      never_either (says_no_offer r) (to_server (in_lobby reaction) memory) (answered r memory)
+      (never_server (in_lobby reaction) memory (reacts_not reaction)) (never_round memory),
 )
 
-never_reacted : (desk : DeskAct) (lobby : Act) (memory : MemoryState) → (SaysSaved lobby → ⊥)
-    → NeverSaves (reacting_with desk lobby (present_in memory) memory)
-never_reacted desk lobby memory other = never_reacting desk lobby (present_in memory) memory other
+never_react : (reaction : Reaction) (memory : MemoryState) → NeverSaves (to_react reaction memory)
+never_react reaction memory = (λ is. is, λ r. never_reacting reaction (present_in (told memory r)) (told memory r))
 
 never_finding : (r : Reply) (memory : MemoryState) → NeverSaves (finding r memory)
 never_finding (reply.Lobby (lobby_reply.Found place)) memory = (λ is. is, λ r. never_round (watched place r memory))
@@ -120,29 +119,31 @@ never_unobserved : (place : Option Place) (memory : MemoryState) → NeverSaves 
 never_unobserved None memory = never_round memory
 never_unobserved (Some place) memory = (λ is. is, λ r. never_round (without_observed place.desk memory))
 
--- 4. Each command: those that are named ask more than one act, or none, and the others the server once.
+-- 4. Each way, where its act doesn't tell orders as saved, and so each command.
+abbrev SavesBy : Way → Type 0
+SavesBy (way.Server act) = SaysSaved act
+SavesBy (way.Observe act) = TellsSaved act
+SavesBy _ = ⊥
+
+never_way : (way : Way) (stamp : Option ℕ) (memory : MemoryState) → (SavesBy way → ⊥)
+    → NeverSaves (way_course way stamp memory)
+never_way way.Round stamp memory other = never_round memory
+never_way (way.Server act) stamp memory other = never_server act memory other
+never_way (way.Desk act) stamp memory other = never_desk act memory
+never_way (way.Move word) stamp memory other = never_move word stamp memory
+never_way (way.React reaction) stamp memory other = never_react reaction memory
+never_way (way.Remark text) stamp memory other = never_remark (remark_of text memory) memory
+never_way (way.Observe act) stamp memory other = never_observe act memory other
+never_way (way.Unobserve number) stamp memory other =
+    never_unobserved (observed_at (desk_of_game number) memory) memory
+never_way (way.Own own) stamp memory other = never_round (own_answer own memory).memory
+never_way way.Leave stamp memory other = never_leaving memory
+
+saves_by_none : (asked : Command) → SavesBy (way_of asked) → ⊥
+saves_by_none (command.Accept None) is = is
+saves_by_none (command.Decline None) is = is
+saves_by_none _ is = is
+
 pub never_command : (asked : Command) (stamp : Option ℕ) (memory : MemoryState)
     → NeverSaves (command_course asked stamp memory)
-never_command command.Nothing stamp memory = never_round memory
-never_command (command.Move word) stamp memory = never_move word stamp memory
-never_command (command.Accept None) stamp memory =
-    (λ is. is, λ r. never_reacted desk_act.Accept (one_act.Pair (pair_act.Accept None)) (told memory r) (λ is. is))
-never_command (command.Decline None) stamp memory =
-    (λ is. is, λ r. never_reacted desk_act.Decline (one_act.Lobby (lobby_act.Decline None)) (told memory r) (λ is. is))
-never_command command.Draw stamp memory = never_desk (desk_act.Make Draw) memory
-never_command command.Abort stamp memory = never_desk (desk_act.Make Abort) memory
-never_command command.Adjourn stamp memory = never_desk (desk_act.Make Adjourn) memory
-never_command (command.Takeback number) stamp memory = never_desk (desk_act.Make (Takeback number)) memory
-never_command command.Resign stamp memory = never_desk desk_act.Resign memory
-never_command command.Flag stamp memory = never_desk desk_act.Flag memory
-never_command command.Refresh stamp memory = never_desk desk_act.Show memory
-never_command (command.Kibitz text) stamp memory = never_remark (remark_of text memory) memory
-never_command (command.ObserveGame number) stamp memory = never_observe (lobby_act.FindGame number) memory (λ is. is)
-never_command (command.ObservePlayer name) stamp memory = never_observe (lobby_act.Find (key_of name)) memory (λ is. is)
-never_command (command.Unobserve number) stamp memory =
-    never_unobserved (observed_at (desk_of_game number) memory) memory
-never_command (command.Style style) stamp memory = never_round (set_style style memory).memory
-never_command (command.Alias name text) stamp memory = never_round (set_alias name text memory).memory
-never_command (command.Unalias name) stamp memory = never_round (unset_alias name memory).memory
-never_command command.Quit stamp memory = never_leaving memory
-never_command _ stamp memory = (λ is. is, λ r. never_round memory)
+never_command asked stamp memory = never_way (way_of asked) stamp memory (saves_by_none asked)

@@ -5,13 +5,18 @@ use Rattle.fics_words.specs.declared.refusal.Refusal.{Refusal}
 use Rattle.session_core.specs.declared.next.Next.{Next}
 use Rattle.session_core.specs.Inputs.{asked_course}
 use Rattle.session_core.specs.Texts.{refusal_line}
-use Rattle.session_core.specs.Stages.{Settles, course_of}
+use Rattle.session_core.specs.Stages.{FitsWay, Settles, course_of, way_asks_places}
 use Rattle.session_core.proofs.MatchTerms.{command_read}
 use Rattle.session_core.proofs.OwnAnswers.{refused-answered}
+use Rattle.session_core.proofs.Ways.{goes_as_usual}
 use Rattle.session_core.proofs.begin.read_text.Goals as goal
 
 pub begin_command-requires-clause-fits : goal.begin_command-requires-clause-fits
-begin_command-requires-clause-fits c = command_read c.aliases.result.now c.args.text.now c.in-Ok.command c.in-Ok.ensures
+begin_command-requires-clause-fits c =
+    subst FitsWay (sym c.way_of.ensures) (command_read c.aliases.result.now c.args.text.now c.in-Ok.command c.in-Ok.ensures)
+
+pub begin_command-requires-clause-asks : goal.begin_command-requires-clause-asks
+begin_command-requires-clause-asks c = ap way_asks_places c.way_of.ensures ∙ (goes_as_usual c.in-Ok.command).asks
 
 pub returns-in_ok-put_refusal-in-Err-Refused-clause-settles : goal.returns-in_ok-put_refusal-in-Err-Refused-clause-settles
 returns-in_ok-put_refusal-in-Err-Refused-clause-settles c =
