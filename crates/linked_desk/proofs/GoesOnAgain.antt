@@ -28,6 +28,7 @@ use Rattle.desk_boards.proofs.SoundHalves.{all_of}
 use Rattle.linked_desk.specs.Restore.{last_place, place_on}
 use Rattle.desk_boards.proofs.GoingOn.{go_start, learnt_goes}
 use Rattle.game_board.proofs.Steps.{last_at}
+use Rattle.fics_words.proofs.Each.{each-back}
 
 -- a list is empty, or there is a last item
 from_end : {X : Type 0} (xs : List X) → (xs ≡ []) ⊎ ((front : List X) × ((x : X) × (xs ≡ front ++ x ∷ [])))
@@ -117,10 +118,6 @@ after_last t boards front h s made comes half here k b there =
           subst GoesOn (sym position) (goes_on_by t.variant front h b.number other.0 other.1 half.first half.last comes.other)
     ]
 
-last_half : (v : Variant) (front : List Half) (h : Half) → AllByRecursion (IsHalf v) (front ++ h ∷ []) → IsHalf v h
-last_half v [] h each = each.0
-last_half v (x ∷ front) h each = last_half v front h each.1
-
 each_at : (P : Board → Type 0) (boards : List Board) → ((k : ℕ) (b : Board) → slice_get boards k ≡ Some b → P b) → All P boards
 each_at P [] at = All-nil P
 each_at P (b ∷ boards) at = All-cons P b boards (at 0 b refl) (each_at P boards (λ k c there. at (suc k) c there))
@@ -140,6 +137,6 @@ replayed_go_on t halves boards each played s made here =
           let last : last_place halves ≡ Some (place_on h) =
           ap last_place some.1.1 ∙ ap (option_map place_on) (last_at front h) in
           after_last t boards front h s (made ∙ some.1.1) (by_steps.last t front h (subst (CanBePlayed t) some.1.1 played))
-          (last_half t.variant front h (subst (AllByRecursion (IsHalf t.variant)) some.1.1 each))
+          (each-back (IsHalf t.variant) front (h ∷ []) (subst (AllByRecursion (IsHalf t.variant)) some.1.1 each)).0
           (subst (GoesOnAt boards) last here)
     ])

@@ -2,10 +2,9 @@
 use Rattle.std.proofs.Common.{◌≡◌, ℕ, ◌≤◌, ◌^◌, Bool, true, false, if◌then◌else◌, List, Option, Some, None, refl, arith}
 use Rattle.std.specs.Prelude.{is_some}
 use Rattle.chess_model.specs.declared.man.Colour.{Colour}
-use Rattle.chess_model.specs.Holdings.{same_colour}
 use Rattle.clock_ledger.specs.Span.{IsStamp}
 use Rattle.game_board.specs.Acked.{acknowledged}
-use Rattle.game_board.specs.Board.{Board, to_move}
+use Rattle.game_board.specs.Board.{Board}
 use Rattle.linked_desk.specs.Acked.{acked_by, acked_effect}
 use Rattle.desk_boards.specs.Boards.{latest, boards_acked}
 use Rattle.linked_desk.specs.Desk.{GameState, seat_of, moment_at}
@@ -13,12 +12,8 @@ use Rattle.linked_desk.specs.Seats.{place_of, colour_at}
 use Rattle.linked_desk.specs.Sound.{IsSound}
 use Rattle.desk_boards.proofs.BoardLists.{latest-changed_at}
 use Rattle.linked_desk.proofs.Keeps.{Keeps, IsSound-later, timely_at}
-use Rattle.desk_boards.proofs.StaySound.{sound_acked, alike}
+use Rattle.desk_boards.proofs.StaySound.{sound_acked, same_acknowledged}
 use Rattle.desk_boards.proofs.GoingOn.{go_acked}
-
-same_acknowledged : {X : Type 0} (of : Board → X) (b : Board) (c : Colour) (stamp : ℕ) → of (record b { kept = Some stamp }) ≡ of b →
-    of (acknowledged b c stamp) ≡ of b
-same_acknowledged of b c stamp e = alike of (same_colour c (to_move b)) b (record b { kept = Some stamp }) e
 
 -- the game with these boards
 abbrev with_boards : GameState → ℕ → List Board → GameState

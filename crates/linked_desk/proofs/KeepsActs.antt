@@ -8,7 +8,7 @@ use Rattle.linked_desk.specs.declared.acts.DeskReply.{DeskReply}
 use Rattle.linked_desk.specs.Acts.{FitsDeskAct, game_effect, missing_effect, at_desk, effect_by, desk_effect, desk_answer, desk_after, needs_memory, items_told}
 use Rattle.linked_desk.specs.Desk.{GameState, DeskState, occupant_of}
 use Rattle.linked_desk.specs.Sound.{HasSoundGame, TellsWinners, AnswersSoundly}
-use Rattle.linked_desk.proofs.Causes.{none_holds}
+use Rattle.fics_words.proofs.Causes.{none_holds}
 use Rattle.linked_desk.proofs.Keeps.{Keeps}
 use Rattle.linked_desk.proofs.KeepsAcceptOffer.{Keeps-accept_effect}
 use Rattle.linked_desk.proofs.KeepsAcked.{Keeps-acked_effect}

@@ -1,6 +1,6 @@
 -- What a move at a desk keeps.
-use Rattle.std.proofs.Common.{◌≡◌, ◌≤◌, ◌^◌, ℕ, true, false, List, All, Option, Some, None, IfSome, Result, Ok, Err, refl, sym, subst, ◌∙◌, arith}
-use Rattle.std.specs.Prelude.{is_some, slice_get}
+use Rattle.std.proofs.Common.{◌≡◌, ◌≤◌, ◌^◌, ℕ, true, List, All, Option, Some, None, IfSome, Result, Ok, Err, refl, sym, subst, ◌∙◌, arith}
+use Rattle.std.specs.Prelude.{slice_get}
 use Rattle.std.specs.Option.{option_map}
 use Rattle.std.proofs.lemmas.List.Elements.{All-push}
 use Rattle.chess_model.specs.declared.man.Man.{Man}
@@ -32,6 +32,7 @@ use Rattle.linked_desk.proofs.Keeps.{Keeps, IsSound-later, timely_at, occupant-w
 use Rattle.linked_desk.proofs.Telling.{told_of, with_hands-told}
 use Rattle.desk_boards.proofs.StaySound.{sound_play}
 use Rattle.desk_boards.proofs.GoingOn.{go_played}
+use Rattle.collections.proofs.Tests.{none_found}
 
 -- who is to move thinks from no later moment than that of the act
 begin-played : (b : Board) (moment : ℕ) (stamp : Option ℕ) (answer : Result Move Refusal) → b.begin ≤ moment → (play_after b moment stamp answer).begin ≤ moment
@@ -115,10 +116,6 @@ IsSound-moved desk g moment seat word stamp timely stamped runs s =
     (IsSound-with_end desk told moment end names timely runs
     (IsSound-told_of desk after place man end (IsSound-played g moment seat word stamp end timely stamped runs names going s)))
 
-not_over : (o : Option Ended) → is_some o ≡ false → o ≡ None
-not_over None e = refl
-not_over (Some x) e = absurd cc
-
 sound_moved_by : (desk : ℕ) (g : GameState) (moment : ℕ) (seat : Option ℕ) (word : MoveWord) (stamp : Option ℕ) → moment ≤ 2 ^ 48 → IfSome stamp IsStamp → g.ended ≡ None →
     IsSound g → IsSound (moved_by desk g moment seat word stamp)
 sound_moved_by desk g moment None word stamp timely stamped runs s = s
@@ -142,7 +139,7 @@ pub Keeps-move_effect : (desk : ℕ) (g : GameState) (session moment : ℕ) (wor
     Keeps g moment (IfSome stamp IsStamp) true (move_effect desk g session moment word stamp)
 Keeps-move_effect desk g session moment word stamp = record {
   players = occupant-moved_by desk g moment (seat_of g session) word stamp;
-  sound = λ timely stamped passed. sound_moved_by desk g moment (seat_of g session) word stamp timely stamped (not_over g.ended passed.1.0);
+  sound = λ timely stamped passed. sound_moved_by desk g moment (seat_of g session) word stamp timely stamped (none_found g.ended g.ended refl passed.1.0);
   tells = λ s. tt;
   memory = refl;
 }

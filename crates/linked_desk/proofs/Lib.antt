@@ -1,4 +1,3 @@
-pub mod Causes
 pub mod ClearedOffers
 pub mod Counting
 pub mod Finishing

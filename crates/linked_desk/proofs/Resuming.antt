@@ -2,7 +2,7 @@
 use Rattle.std.proofs.Common.{◌≡◌, ℕ, List, length, All, Option, Some, None, refl, sym, ap, subst, ◌∙◌}
 use Rattle.std.proofs.lemmas.List.{length-map}
 use Rattle.std.proofs.lemmas.List.Elements.{All-weaker}
-use Rattle.std.specs.Prelude.{IsSome, slice_get}
+use Rattle.std.specs.Prelude.{slice_get}
 use Rattle.std.specs.Option.{option_map}
 use Rattle.chess_model.specs.declared.man.Colour.{Colour}
 use Rattle.chess_model.specs.declared.variant.Terms.{Terms}
@@ -31,7 +31,7 @@ use Rattle.linked_desk.specs.ShelfLaws.{Gets, GoesOnFrom, IsAsBefore, IsOnAgain,
 use Rattle.linked_desk.specs.Shelve.{names_in, shelved}
 use Rattle.linked_desk.specs.Sound.{IsSound}
 use Rattle.linked_desk.proofs.Shelved.{shelved_replays}
-use Rattle.desk_boards.proofs.Replayed.{replayed_at, replayed_exactly, replayed_fresh}
+use Rattle.desk_boards.proofs.Replayed.{replayed_at, replayed_exactly, replayed_fresh, some_is}
 use Rattle.std.proofs.lemmas.Option.{same_Some}
 
 -- an end changes neither the boards nor who plays
@@ -44,10 +44,6 @@ same-finished_at : {X : Type 0} (of : GameState → X) (desk : ℕ) (g : GameSta
     of (finished_at desk g moment place) ≡ of g
 same-finished_at of desk g moment None same = refl
 same-finished_at of desk g moment (Some place) same = same-with_end of desk g moment (end_at g place) same
-
-some_is : {X : Type 0} (o : Option X) → IsSome o → (x : X) × (o ≡ Some x)
-some_is None s = absurd cc
-some_is (Some x) s = (x, refl)
 
 -- the boards of a game that replays
 found : (g : StoredGame) (moment : ℕ) → Replays g → (boards : List Board) × (replayed g.terms g.halves moment ≡ Some boards)

@@ -1,8 +1,7 @@
 -- What is kept of a sound game replays.
-use Rattle.std.proofs.Common.{◌≡◌, ◌≢◌, Bool, true, false, ℕ, ◌*◌, List, [], ◌∷◌, map, length, refl, ap, subst, ◌∙◌}
+use Rattle.std.proofs.Common.{◌≡◌, ◌≢◌, false, ℕ, ◌*◌, List, [], ◌∷◌, map, length, refl, ap, subst, ◌∙◌}
 use Rattle.std.proofs.lemmas.List.{length-map}
 use Rattle.std.proofs.lemmas.Slice.Eq.{bytes_eq-Decides}
-use Rattle.std.specs.Bool.{Decides}
 use Rattle.std.specs.Prelude.{bytes_eq}
 use Rattle.std.specs.List.{AllByRecursion, IsDistinct}
 use Rattle.chess_model.specs.declared.variant.Terms.{Terms}
@@ -21,6 +20,7 @@ use Rattle.linked_desk.specs.Seating.{AllDiffer, NoneIs, uncoloured}
 use Rattle.linked_desk.specs.Shelve.{names_in, shelved}
 use Rattle.linked_desk.specs.Sound.{IsSound}
 use Rattle.desk_boards.proofs.SoundHalves.{bounds_of}
+use Rattle.std.proofs.lemmas.Bool.{false_from_ne_true}
 
 as_many : (v : Variant) → 2 * length (board_numbers v) ≡ seats v
 as_many Chess = refl
@@ -28,13 +28,9 @@ as_many Crazyhouse = refl
 as_many (Fischer number) = refl
 as_many Bughouse = refl
 
-decided : (b : Bool) (P : Type 0) → Decides b P → ¬ P → b ≡ false
-decided true P d differs = absurd (differs (d.0 refl))
-decided false P d differs = refl
-
 -- no two names are the same
 differ : (x y : List ℕ) → x ≢ y → bytes_eq x y ≡ false
-differ x y e = decided (bytes_eq x y) (x ≡ y) (bytes_eq-Decides x y) e
+differ x y e = false_from_ne_true (bytes_eq x y) (λ same. e ((bytes_eq-Decides x y).0 same))
 
 apart : (x : List ℕ) (ys : List (List ℕ)) → NoneIs x ys → AllByRecursion (λ y. bytes_eq x y ≡ false) ys
 apart x [] h = tt

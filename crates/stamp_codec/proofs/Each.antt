@@ -1,4 +1,4 @@
--- What holds of each byte of a list.
+-- What holds of a value that may be missing.
 use Rattle.std.specs.Prelude.{Option, Some, None, IfSome, IfNone}
 
 -- what holds of a value, if there is one
