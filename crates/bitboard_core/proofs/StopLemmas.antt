@@ -9,7 +9,6 @@ use lib.Count.{count_trailing_zeros}
 use Rattle.std.proofs.lemmas.Nat.{or_lt, and_le_l, le_or_r}
 use Rattle.std.proofs.lemmas.Nat.Bits.{bit_at-trailing_zeros, ones_shr, ones_shl}
 use Rattle.std.proofs.Math.Nat.{two-pow-succ, div-eq_of_lt}
-use lib.Bits.{or_add_and}
 use Rattle.std.proofs.Common.{pow_pos, pow_mono, div-lt_iff_lt-mul, le-div_iff_mul-le}
 use Rattle.bitboard_core.specs.Sets.{Has}
 use Rattle.bitboard_core.specs.Stops.{IsUpStop, IsDownStop}

@@ -1,5 +1,5 @@
 -- What a line asks for. This server's own.
-use Rattle.std.specs.Prelude.{◌≡◌, ℕ, nat_lt, if◌then◌else◌, true, false, List, [], ◌∷◌, length, map, Option, Some, None, Result, Ok, Err, codes, refl}
+use Rattle.std.specs.Prelude.{◌≡◌, ℕ, nat_lt, if◌then◌else◌, List, [], ◌∷◌, length, map, Option, Some, None, Result, Ok, Err, codes, refl}
 use Rattle.std.specs.Char.{to_ascii_lowercase}
 use Rattle.fics_words.specs.Line.{most_line_bytes}
 use Rattle.chess_model.specs.declared.moves.MoveWord.{MoveWord}

@@ -1,5 +1,5 @@
 -- Arguments: texts. This server's own.
-use Rattle.std.specs.Prelude.{ℕ, nat_le, ◌&&◌, Bool, List, [], length, Option, Some, None}
+use Rattle.std.specs.Prelude.{ℕ, nat_le, ◌&&◌, Bool, List, length}
 use Rattle.std.specs.List.{list_all}
 
 -- a text is 1 to 800 printable bytes

@@ -1,5 +1,5 @@
 -- What the test of a half-move at a board says where it passes: there is a board, it has room, and the half-move is allowed.
-use Rattle.std.proofs.Common.{◌<◌, true, false, Option, Some, None, refl}
+use Rattle.std.proofs.Common.{◌<◌, Option, Some, None, refl}
 use Rattle.std.specs.Prelude.{IfSome, IsSome, IsTrue}
 use Rattle.chess_model.specs.Allowed.{Allowed}
 use Rattle.game_board.specs.declared.played.Played.{Played}

@@ -1,5 +1,5 @@
 -- A line that has begun, in its field of bytes.
-use Rattle.std.proofs.Common.{◌≡◌, ℕ, ◌+◌, ◌<◌, ◌≤◌, false, List, [], ◌∷◌, ◌++◌, length, take, set, sym, ◌∙◌, arith, length-append, length-take}
+use Rattle.std.proofs.Common.{◌≡◌, ℕ, ◌+◌, ◌<◌, ◌≤◌, List, [], ◌∷◌, ◌++◌, length, take, set, sym, ◌∙◌, arith, length-append, length-take}
 use Rattle.std.proofs.lemmas.List.{take_more_set, take-append-le, take_all}
 
 pub take_short : (line : List ℕ) (n : ℕ) → length line ≤ n → take n line ≡ line

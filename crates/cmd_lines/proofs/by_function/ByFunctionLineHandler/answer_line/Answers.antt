@@ -1,4 +1,3 @@
-use Rattle.std.proofs.Common.{ℕ}
 use Rattle.cmd_lines.proofs.PlayedSteps.{AfterAnswering-begun}
 use Rattle.cmd_lines.proofs.by_function.ByFunctionLineHandler.answer_line.Goals as goal
 

@@ -1,5 +1,5 @@
-use Rattle.std.proofs.Common.{◌≡◌, ◌≤◌, ℕ, false, not, List, length, sym, ap, subst, ◌∙◌, arith, rules}
-use Rattle.std.specs.List.{filter, find, remove}
+use Rattle.std.proofs.Common.{◌≡◌, ◌≤◌, ℕ, not, List, length, sym, ap, subst, ◌∙◌, arith, rules}
+use Rattle.std.specs.List.{filter, find}
 use Rattle.std.specs.Vec.{vec_len}
 use Rattle.lobby_shelf.specs.declared.shelved.Shelved.{Shelved}
 use Rattle.lobby_shelf.specs.Numbers.{AreInOrder, has_number, is_below, without_game}
