@@ -3,7 +3,7 @@ use Rattle.std.proofs.Common.{◌≡◌, ℕ, ◌==◌, false, List, [], length,
 use Rattle.std.proofs.lemmas.List.Splits.{slice_split_none, slice_split_at}
 use Rattle.cmd_lines.specs.Lines.{HasNoLineFeed, pieces}
 use Rattle.cmd_replay.specs.Tagged.{shown, tagged_line, tagged_lines}
-use Rattle.cmd_lines.proofs.Pieces.{Begins, Begins-pieces}
+use Rattle.fics_words.proofs.Pieces.{Begins, Begins-pieces}
 
 shown-cons : (line : List ℕ) (parts : List (List ℕ)) → Begins parts → shown (line ∷ parts) ≡ line ∷ shown parts
 shown-cons line [] h = absurd (let bad = h.is in cc)
