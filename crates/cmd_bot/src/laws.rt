@@ -14,9 +14,11 @@ ghost use Rattle.cmd_bot.specs.Inputs.{Give, IsFirstBad, is_written};
 pub fn inputs()
     ensures given { (depth : ℕ) (lines : List (List ℕ)) → bad_in (bot_lines depth) lines ≡ None
         → Give depth (filter is_written lines) (last_state (bot_lines depth) lines) }
-    ensures good { (depth : ℕ) (lines : List (List ℕ)) (state : BotState) → All (λ line. length line ≤ most_line_bytes) lines
+    ensures good { (depth : ℕ) (lines : List (List ℕ)) (state : BotState)
+        → All (λ line. length line ≤ most_line_bytes) lines
         → Give depth (filter is_written lines) state → bad_in (bot_lines depth) lines ≡ None }
-    ensures state { (depth : ℕ) (lines : List (List ℕ)) (state : BotState) → All (λ line. length line ≤ most_line_bytes) lines
+    ensures state { (depth : ℕ) (lines : List (List ℕ)) (state : BotState)
+        → All (λ line. length line ≤ most_line_bytes) lines
         → Give depth (filter is_written lines) state → last_state (bot_lines depth) lines ≡ state }
     ensures first { (depth : ℕ) (lines : List (List ℕ)) (number : ℕ) → bad_in (bot_lines depth) lines ≡ Some number
         → IsFirstBad depth lines number }

@@ -19,7 +19,8 @@ begun_at command s = record command { start = s }
 -- more than 1,023 bytes is outside the grammar
 abbrev pub line_answer : {S : Type 0} → LineCommand S → S → List ℕ → Option (S × List ℕ)
 line_answer command s [] = Some (s, [])
-line_answer command s (b ∷ bytes) = if nat_lt most_line_bytes (length (b ∷ bytes)) then None else command.answer s (b ∷ bytes)
+line_answer command s (b ∷ bytes) =
+    if nat_lt most_line_bytes (length (b ∷ bytes)) then None else command.answer s (b ∷ bytes)
 
 -- what is written for lines that begin with number n: the texts of their answers, up to a line outside the grammar
 abbrev pub answers : {S : Type 0} → LineCommand S → ℕ → S → List (List ℕ) → List ℕ

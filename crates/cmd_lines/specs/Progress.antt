@@ -20,21 +20,22 @@ AfterStop reached ending taken written BadLine = HasBadLine reached ending (whol
 AfterStop reached ending taken written Memory = ⊤
 
 -- what holds after bytes were fed
-abbrev pub AfterFeed : {S A : Type 0} → Reaching S → List ℕ → List ℕ → HandlerStanding S → List ℕ → Result A Stop → Type 0
+abbrev pub AfterFeed : {S A : Type 0} → Reaching S → List ℕ → List ℕ → HandlerStanding S → List ℕ → Result A Stop
+    → Type 0
 AfterFeed reached ending taken standing written (Ok u) = Progress reached taken standing written
 AfterFeed reached ending taken standing written (Err stop) = AfterStop reached ending taken written stop
 
 -- a line ended, good: whatever the line is of which this front was kept, its answer was made
-pub record IsLineAnswered {S : Type 0} (reached : Reaching S) (old : HandlerStanding S) (out : List ℕ) (new : HandlerStanding S)
-    (out' : List ℕ) : Type 0 where
+pub record IsLineAnswered {S : Type 0} (reached : Reaching S) (old : HandlerStanding S) (out : List ℕ)
+    (new : HandlerStanding S) (out' : List ℕ) : Type 0 where
   pub answer_line : (line : List ℕ) → old.kept ≡ take 1024 line
       → AfterAnswering reached old.handler line out new.handler out' true
   pub next : new.number ≡ old.number + 1
   pub cleared : new.kept ≡ []
 
 -- a line ended: its answer was made and its text appended, or it is outside the grammar, and its number was appended
-abbrev pub AfterLine : {S A : Type 0} → Reaching S → List ℕ → HandlerStanding S → List ℕ → HandlerStanding S → List ℕ → Result A Stop
-    → Type 0
+abbrev pub AfterLine : {S A : Type 0} → Reaching S → List ℕ → HandlerStanding S → List ℕ → HandlerStanding S → List ℕ
+    → Result A Stop → Type 0
 AfterLine reached ending old out new out' (Ok u) = IsLineAnswered reached old out new out'
 AfterLine reached ending old out new out' (Err BadLine) =
     (out' ≡ out ++ bad_line ending old.number)

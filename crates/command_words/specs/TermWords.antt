@@ -25,7 +25,8 @@ OneOf (choice ∷ choices) words = (words ≡ choice) ⊎ OneOf choices words
 -- the usual one
 abbrev pub SpellsTime : Time → Words → Time → Type 0
 SpellsTime usual words time =
-    ((time.minutes ≤ most_time) × (time.increment ≤ most_time) × (words ≡ decimal time.minutes ∷ decimal time.increment ∷ []))
+    ((time.minutes ≤ most_time) × (time.increment ≤ most_time)
+    × (words ≡ decimal time.minutes ∷ decimal time.increment ∷ []))
     ⊎ ((words ≡ []) × (time ≡ usual))
 
 -- no game is rated, so `unrated` says nothing, and may be left out

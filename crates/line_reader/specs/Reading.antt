@@ -24,7 +24,8 @@ stamped_reading line = if nat_lt 1033 (length line) then TooLong else said (open
 -- another line has at most 1,023, and they are printable
 abbrev pub plain_reading : List ℕ → Incoming
 plain_reading line =
-    if nat_lt most_line_bytes (length line) then TooLong else (if list_all is_printable line then Plain line else BadByte)
+    if nat_lt most_line_bytes (length line) then TooLong
+    else (if list_all is_printable line then Plain line else BadByte)
 
 -- what a line is
 abbrev pub reading : List ℕ → Incoming

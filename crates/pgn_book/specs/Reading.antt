@@ -133,7 +133,8 @@ with_move book (Some m) = goes (record { stage = Moves; row = book.row; moves = 
 
 abbrev pub moved : Book → List ℕ → Taken
 moved book word =
-    if nat_lt (length book.moves) most_halves then with_move book (move_read (position_of book.moves) (without_praise word))
+    if nat_lt (length book.moves) most_halves
+    then with_move book (move_read (position_of book.moves) (without_praise word))
     else fails
 
 -- a number, a result or a move

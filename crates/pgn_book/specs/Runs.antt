@@ -101,9 +101,9 @@ games_of (Halted ∷ calls) = games_of calls
 -- ---- whole runs
 
 -- however a text is cut into pieces, wherever games are asked for between them, and however often memory is wanting:
--- `finish` gives More at last exactly where the grammar reads the text, and then the games that were given are those that
--- it reads; else it gives Bad with the line on which the text leaves the grammar. `next` gives More where no further game
--- is whole in what was fed and a text may go on so, and Bad where none does, whatever follows
+-- `finish` gives More at last exactly where the grammar reads the text, and then the games that were given are those
+-- that it reads; else it gives Bad with the line on which the text leaves the grammar. `next` gives More where no
+-- further game is whole in what was fed and a text may go on so, and Bad where none does, whatever follows
 pub record RunsReadTheText : Type 0 where
   pub whole : (calls : List Call) (fed : Reader) (games : List PgnGame) → MakeAll fresh_reader calls fed
       → Ends fed games More → Reads (text_of calls) (games_of calls ++ games)

@@ -26,7 +26,7 @@ aliasing effect memory = record {
   memory = record memory { aliases = state_of memory.aliases effect };
 }
 
--- what a session does by itself: boards are printed so from now on, and a name stands for a text, or for nothing any more
+-- what a session does by itself: boards are printed in that style, and a name stands for a text, or for nothing
 abbrev pub own_answer : OwnCommand → MemoryState → OwnAnswer
 own_answer (own.Style style) memory = record { line = done_line; memory = record memory { style = style } }
 own_answer (own.Alias name text) memory = aliasing (setting memory.aliases name text) memory

@@ -1,5 +1,5 @@
--- What a session does about an offer where its player names nobody: the desk of the present place is asked first. This server's
--- own.
+-- What a session does about an offer where its player names nobody: the desk of the present place is asked first. This
+-- server's own.
 use Rattle.std.specs.Prelude.{Bool, true, false, None}
 use Rattle.fics_words.specs.declared.refusal.Refusal.{Refusal}
 use Rattle.fics_words.specs.declared.refusal.Refusal.TheVariants.{NoSuchOffer}

@@ -216,7 +216,8 @@ leave_games (visit ∷ rest) memory =
 -- the acts of leaving: the places and then the games at which the session looks on. Where Going is passed over, the
 -- places are those that it remembers
 abbrev pub leaving_course : MemoryState → Course
-leaving_course memory = Asks (Lobby lobby_act.Going) (λ reply. leave_games (visits_in (told memory reply)) (told memory reply))
+leaving_course memory =
+    Asks (Lobby lobby_act.Going) (λ reply. leave_games (visits_in (told memory reply)) (told memory reply))
 
 -- what a session does in a way; a move carries the stamp of its line, where it has one
 abbrev pub way_course : Way → Option ℕ → MemoryState → Course

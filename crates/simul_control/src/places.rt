@@ -13,8 +13,9 @@ use std::mem::size_of;
 const MOST: usize = 32;
 
 /// The places of a player in the order in which they came, which of them is the present one, and whether the player
-/// gives a simul. Contracts see whether it gives, the present place's number, and the list of the places. The desks, the
-/// seats and the serials stand in columns, which takes less than half the room of rows; behind the places they have 0.
+/// gives a simul. Contracts see whether it gives, the present place's number, and the list of the places. The desks,
+/// the seats and the serials stand in columns, which takes less than half the room of rows; behind the places they
+/// have 0.
 #[derive(Clone, Copy, PartialEq, Eq)]
 pub struct Places {
     giving: bool,
