@@ -1,0 +1,200 @@
+"""A store that nobody else has: what is in it, and a change that is made whole or not at all.
+
+A change is one transaction. Before it the store is copied to a file beside it, whole and flushed, and behind it the
+server's own `check` has to find in it what should be there; else the copy comes back. The store is locked all the
+while, so that no server takes it.
+"""
+
+import contextlib
+import os
+import signal
+import sqlite3
+import subprocess
+from pathlib import Path
+
+from . import records
+
+WHO_HAS_IT = ("database is locked: a server has it open, or a sqlite3. Stop the server first, as by "
+              "`systemctl stop ficsd`, and start it again behind the change")
+
+
+class Refused(Exception):
+    """Why nothing was changed."""
+
+
+class Spoiled(Exception):
+    """A change that could neither be kept nor be taken back."""
+
+
+def words_of(error, path):
+    """What an error of SQLite means to an operator."""
+    code = getattr(error, "sqlite_errorname", "") or ""
+    if code.startswith(("SQLITE_BUSY", "SQLITE_LOCKED")):
+        return f"{path}: {WHO_HAS_IT}"
+    if code.startswith(("SQLITE_FULL", "SQLITE_IOERR")):
+        return f"{path}: {error}: the disk is full, or doesn't take what is written. `df` shows how much room there is"
+    if code.startswith(("SQLITE_READONLY", "SQLITE_CANTOPEN", "SQLITE_PERM")):
+        return f"{path}: {error}: this user may not write it or its folder; the user that serves may, and root"
+    return f"{path}: {error}"
+
+
+@contextlib.contextmanager
+def said_in_words(path):
+    """Errors of SQLite and of the system become a refusal."""
+    try:
+        yield
+    except sqlite3.Error as error:
+        raise Refused(words_of(error, path)) from None
+    except OSError as error:
+        raise Refused(f"{error.filename or path}: {error.strerror}") from None
+
+
+@contextlib.contextmanager
+def undisturbed():
+    """Lets Ctrl-C and the signals that end a program wait."""
+    before = signal.pthread_sigmask(signal.SIG_BLOCK, {signal.SIGINT, signal.SIGTERM, signal.SIGHUP})
+    try:
+        yield
+    finally:
+        signal.pthread_sigmask(signal.SIG_SETMASK, before)
+
+
+def flush(path):
+    handle = os.open(path, os.O_RDONLY)
+    try:
+        os.fsync(handle)
+    finally:
+        os.close(handle)
+
+
+class Store:
+    def __init__(self, path, checker):
+        """Opens and locks the store at the path; `checker` has the words of a program that checks one."""
+        self.path, self.checker = os.path.realpath(path), checker
+        self.copy = self.path + ".before"
+        if not os.path.isfile(self.path):
+            raise Refused(f"there is no store at {path}")
+        with said_in_words(path):
+            self.base = sqlite3.connect(Path(self.path).as_uri() + "?mode=rw", uri=True, timeout=0,
+                                        isolation_level=None)
+        try:
+            self.lock()
+        except BaseException:
+            self.base.close()
+            raise
+
+    def lock(self):
+        """Takes the lock, which is kept until the store is closed, and looks that it is a store."""
+        with said_in_words(self.path):
+            for line in ("PRAGMA locking_mode = EXCLUSIVE", "PRAGMA synchronous = FULL", "BEGIN EXCLUSIVE", "COMMIT"):
+                self.base.execute(line)
+            columns = [(name, kind) for _, name, kind, *_ in self.base.execute("PRAGMA table_info(records)")]
+        if columns != [("key", "BLOB"), ("record", "BLOB")]:
+            raise Refused(f"{self.path} isn't a store of ficsd: it has no such table of records")
+
+    def close(self):
+        """Copies the log into the file, as far as there is room, and gives the lock back."""
+        self.base.close()
+
+    def __enter__(self):
+        return self
+
+    def __exit__(self, *_):
+        self.close()
+
+    def rows(self, wanted, read, what="record", values=()):
+        """The records that a condition names, oldest first: a row keeps its place for as long as it is there."""
+        line = f"SELECT key, {what} FROM records WHERE {wanted} ORDER BY rowid"
+        with said_in_words(self.path):
+            rows = self.base.execute(line, values).fetchall()
+        try:
+            return [read(*row) for row in rows]
+        except records.BadRecord:
+            raise Refused(f"{self.path} has a bad record; `ficsd check --store` names it") from None
+
+    def accounts(self):
+        return sorted(self.rows("key < x'67'", records.read_account), key=lambda it: it.name.lower())
+
+    def games(self):
+        """The heads of the games, without their half-moves, of which a store may have a gigabyte."""
+        return self.rows("key >= x'67'", records.read_game, f"substr(record, 1, {records.MOST_OF_A_HEAD})")
+
+    def whole(self, game):
+        """The game of this head with its half-moves."""
+        return self.rows("key = ?", records.read_game, values=(game.key(),))[0]
+
+    def counts(self):
+        """What `check` says of this store where all is well."""
+        accounts, games = (self.base.execute(f"SELECT count(*) FROM records WHERE key {it} x'67'").fetchone()[0]
+                           for it in ("<", ">="))
+        return f"ok: {accounts} accounts, {games} games"
+
+    def checked(self):
+        """What `check` says."""
+        try:
+            done = subprocess.run([*self.checker, "check", "--store", self.path], stdin=subprocess.DEVNULL,
+                                  capture_output=True, text=True)
+        except OSError as error:
+            raise Refused(f"{self.checker[0]}, which checks the store, can't be run: {error.strerror}") from None
+        return done.stdout.strip() or done.stderr.strip() or f"status {done.returncode}"
+
+    def make_copy(self):
+        """Copies the store to the file beside it, which is there whole or not at all."""
+        new, like = self.copy + ".new", os.stat(self.path)
+        with contextlib.suppress(FileNotFoundError):
+            os.unlink(new)
+        try:
+            os.close(os.open(new, os.O_CREAT | os.O_EXCL | os.O_WRONLY, 0o600))
+            os.chown(new, like.st_uid, like.st_gid)
+            os.chmod(new, like.st_mode & 0o777)
+            with contextlib.closing(sqlite3.connect(new)) as copy:
+                self.base.backup(copy)
+            flush(new)
+            os.rename(new, self.copy)
+            flush(os.path.dirname(self.copy))
+        except BaseException:
+            for it in (new, new + "-wal", new + "-journal", new + "-shm"):
+                with contextlib.suppress(OSError):
+                    os.unlink(it)
+            raise
+
+    def transact(self, lines):
+        """Runs lines of SQL with their values, all of them or none."""
+        self.base.execute("BEGIN IMMEDIATE")
+        try:
+            for line, values in lines:
+                if self.base.execute(line, values).rowcount != 1:
+                    raise Refused(f"{self.path}: a record isn't as it was read; nothing was changed")
+            self.base.execute("COMMIT")
+        except BaseException:
+            if self.base.in_transaction:
+                self.base.execute("ROLLBACK")
+            raise
+
+    def change(self, lines, accounts=0, games=0):
+        """Makes a change of so many accounts and games more; refuses it, with the store as it was, where it can't be
+        made or `check` doesn't find what should be there."""
+        with undisturbed(), said_in_words(self.path):
+            before = self.counts()
+            if (said := self.checked()) != before:
+                raise Refused(f"`check` says of the store: {said}\nNothing was changed")
+            self.make_copy()
+            self.transact(lines)
+            _, had, _, shelf, _ = before.split()
+            wanted = f"ok: {int(had) + accounts} accounts, {int(shelf) + games} games"
+            if (said := self.checked()) != wanted:
+                self.take_back(before)
+                raise Refused(f"behind the change `check` says: {said}\nThe store is again as it was")
+
+    def take_back(self, before):
+        """Puts the copy back, as one transaction."""
+        try:
+            with contextlib.closing(sqlite3.connect(self.copy)) as copy:
+                copy.backup(self.base)
+            said = self.checked()
+        except (sqlite3.Error, Refused) as error:
+            said = str(error)
+        if said != before:
+            raise Spoiled(f"the change couldn't be taken back: {said}\nThe store as it was before lies in {self.copy}; "
+                          f"put it in place of {self.path}, without {os.path.basename(self.path)}-wal, while nobody "
+                          "has either")

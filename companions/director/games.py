@@ -1,0 +1,50 @@
+"""The evening's games out of the archive that fics_scribe keeps."""
+
+import os
+import re
+from datetime import datetime
+from pathlib import Path
+
+from .evening import Evening, Pair
+
+GAME = re.compile(r"((?:\[[^\n]*\]\n)+)\n((?:[^\n]+\n)+)")
+TAG = re.compile(r'^\[(\w+) "(.*)"\]$', re.MULTILINE)
+
+
+def begin(file: Path) -> None:
+    """Makes the file of the games as the evening begins, empty, so that its age says since when games count."""
+    file.touch()
+
+
+def found(archive: Path, evening: Evening, since: datetime) -> dict[Pair, str]:
+    """The games of the pairs that have a result, each the last one that began behind a moment and ended so."""
+    wanted = {(pair.white, pair.black, score): pair for pair, score in evening.results.items()}
+    games: dict[Pair, str] = {}
+    for file in sorted(archive.glob("[0-9]*/*.pgn")):
+        if file.name[:10] < f"{since:%Y-%m-%d}":
+            continue
+        for head, movetext in GAME.findall(file.read_text(encoding="utf-8", errors="replace")):
+            tags = dict(TAG.findall(head))
+            pair = wanted.get((tags.get("White", ""), tags.get("Black", ""), tags.get("Result", "")))
+            if pair and _began(tags) >= since.replace(microsecond=0):
+                games[pair] = f"{head}\n{movetext}\n"
+    return games
+
+
+def _began(tags: dict[str, str]) -> datetime:
+    try:
+        return datetime.strptime(f"{tags.get('Date', '')} {tags.get('Time', '00:00:00')}", "%Y.%m.%d %H:%M:%S")
+    except ValueError:
+        return datetime.min
+
+
+def write(file: Path, archive: Path, evening: Evening) -> int:
+    """Writes the games, in the order of the rounds; how many there are. A file that has games stays as it is."""
+    if not file.exists() or file.stat().st_size:
+        return 0
+    games = found(archive, evening, datetime.fromtimestamp(file.stat().st_mtime))
+    in_order = [games[pair] for pairs in evening.rounds for pair in pairs if pair in games]
+    new = file.with_name(file.name + ".new")
+    new.write_text("".join(in_order), encoding="utf-8")
+    os.replace(new, file)
+    return len(in_order)

@@ -1,0 +1,37 @@
+"""Who is in the hall, which the server tells who asks alone."""
+
+from ficslink.lines import GameListed, Player
+from ficslink.member import Member
+
+from .journal import say
+
+
+class Hall:
+    """The members in the hall as they were asked for last. Where it tells, each who comes or goes has a line of the
+    log, and each game of others that begins or ends."""
+
+    def __init__(self, member: Member, tells: bool) -> None:
+        self.member, self.tells = member, tells
+        self.players: frozenset[str] = frozenset()
+        self.games: frozenset[GameListed] = frozenset()
+
+    async def look(self) -> None:
+        """Asks who is there."""
+        players = frozenset(it.who for it in (await self.member.do("who")).all(Player)) - {self.member.name}
+        if self.tells:
+            for who in sorted(players - self.players):
+                say(f"{who} has come")
+            for who in sorted(self.players - players):
+                say(f"{who} has gone")
+            await self.look_at_games()
+        self.players = players
+
+    async def look_at_games(self) -> None:
+        """Asks for the games of others."""
+        listed = (await self.member.do("games")).all(GameListed)
+        games = frozenset(it for it in listed if self.member.name not in (it.white, it.black))
+        for game in sorted(games - self.games, key=lambda it: it.game):
+            say(f"game {game.game}: {game.white} plays {game.black}, {game.terms}")
+        for game in sorted(self.games - games, key=lambda it: it.game):
+            say(f"game {game.game}, {game.white} and {game.black}, is over")
+        self.games = games

@@ -1,0 +1,3 @@
+"""Tests of `fics_scribe`, each file a subject."""
+
+HELPERS = ("places", "evening")

@@ -1,0 +1,104 @@
+/** Lists of games: the newest ones, those that were looked for, of a day, of a player. */
+
+import { byId, onSubmit } from "../page.js";
+import { onLanguage, t } from "../texts.js";
+import { olderAddress, TOP } from "./addresses.js";
+import { dayInWords, dayRow, gameRow, playerRow, tallyRow, variantInWords } from "./rows.js";
+
+const VARIANTS = ["chess", "crazyhouse", "bughouse", "fischer"];
+const FIELDS = ["name", "other", "variant", "result"];
+
+/** A row of what came of each variant, and where there are several one of all together. */
+function tallyRows({ name, tally }) {
+  const kinds = VARIANTS.filter((it) => it in tally);
+  const sum = [0, 1, 2, 3].map((n) => kinds.reduce((all, it) => all + tally[it][n], 0));
+  const rows = kinds.map((it) => tallyRow(name, it, tally[it]));
+  return kinds.length > 1 ? [...rows, tallyRow(name, "", sum)] : rows;
+}
+
+function dayLink(name, day) {
+  const link = document.createElement("a");
+  link.href = TOP + day;
+  link.textContent = t(name, { day: dayInWords(day) });
+  return link;
+}
+
+export class ListView {
+  /** `place` says what is shown, `told` is what the archive told of it. */
+  constructor(place, told) {
+    this.place = place;
+    this.told = told;
+    this.asked = new URLSearchParams(location.search);
+    byId("games-view").hidden = false;
+    if (place.kind === "games") {
+      this.fillSearch();
+    }
+    onLanguage(() => this.show());
+    this.show();
+  }
+
+  get isSearch() {
+    return FIELDS.some((it) => this.asked.get(it));
+  }
+
+  fillSearch() {
+    byId("search").hidden = false;
+    FIELDS.forEach((it) => { byId(`search-${it}`).value = this.asked.get(it) ?? ""; });
+    byId("search").addEventListener("submit", () => {
+      FIELDS.map((it) => byId(`search-${it}`)).forEach((it) => { it.disabled = !it.value.trim(); });
+    });
+    window.addEventListener("pageshow", () => FIELDS.forEach((it) => { byId(`search-${it}`).disabled = false; }));
+    const { firstDay, lastDay } = this.told;
+    Object.assign(byId("day"), { min: firstDay ?? "", max: lastDay ?? "", value: lastDay ?? "" });
+    onSubmit("day-form", () => location.assign(TOP + byId("day").value));
+  }
+
+  show() {
+    const { kind } = this.place;
+    const { games, hasMore } = this.told;
+    byId("games-title").textContent = this.title();
+    document.title = this.title();
+    byId("list-title").textContent = this.listTitle();
+    byId("games-list").replaceChildren(...games.map((it) => gameRow(it, kind !== "day")));
+    if (!games.length) {
+      byId("games-list").append(Object.assign(document.createElement("li"), { textContent: t("archive.none") }));
+    }
+    byId("older").hidden = !hasMore;
+    byId("older").href = hasMore ? olderAddress(location.pathname, location.search, games.at(-1).link) : "";
+    ({ games: () => this.showFound(), day: () => this.showDay(), player: () => this.showPlayer() })[kind]();
+  }
+
+  title() {
+    const { kind, day } = this.place;
+    const { name, count } = this.told;
+    return kind === "day" ? t("archive.of-day", { day: dayInWords(day) })
+      : kind === "player" ? t("archive.of-player", { name, n: count }) : t("archive.title");
+  }
+
+  listTitle() {
+    const variant = this.asked.get("variant");
+    const isVariant = VARIANTS.includes(variant) && this.place.kind === "player";
+    return isVariant ? variantInWords(variant) : this.isSearch && this.place.kind === "games" ? t("archive.found")
+      : this.place.kind === "games" ? t("archive.newest", { n: this.told.count }) : t("archive.games");
+  }
+
+  showFound() {
+    const { players, days } = this.told;
+    byId("players-found").hidden = !players.length;
+    byId("players-list").replaceChildren(...players.map(playerRow));
+    byId("days").hidden = this.isSearch || !days.length;
+    byId("days-list").replaceChildren(...days.map(dayRow));
+  }
+
+  showDay() {
+    const { earlier, later } = this.told;
+    byId("beside-day").hidden = !earlier && !later;
+    byId("beside-day").replaceChildren(...earlier ? [dayLink("archive.day-before", earlier)] : [],
+      ...later ? [dayLink("archive.day-behind", later)] : []);
+  }
+
+  showPlayer() {
+    byId("tally").hidden = false;
+    byId("tally-rows").replaceChildren(...tallyRows(this.told));
+  }
+}

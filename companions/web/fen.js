@@ -1,0 +1,28 @@
+/** A board as a FEN, the common text for positions. */
+
+import { homesOf } from "./fischer.js";
+
+const USUAL = { short: "K", long: "Q" };
+
+function row(rank) {
+  return rank.replace(/-+/g, (empty) => String(empty.length));
+}
+
+/** The rights to castle: `KQkq`, or in Fischer random the files of the rooks. */
+function castling({ rights }, variant) {
+  const homes = homesOf(variant);
+  const letter = (wing) => (variant.startsWith("fischer") ? homes[wing].toUpperCase() : USUAL[wing]);
+  const of = (colour) => ["short", "long"].filter((wing) => rights[colour][wing]).map(letter).join("");
+  return of("w") + of("b").toLowerCase() || "-";
+}
+
+function passed({ doubled, side }) {
+  return doubled < 0 ? "-" : "abcdefgh"[doubled] + (side === "w" ? "6" : "3");
+}
+
+/** The FEN of a board line; `hands` are its men in hand, or null where the variant has none or they aren't known. */
+export function fenOf(board, variant = "chess", hands = null) {
+  const held = hands ? `[${hands.w}${hands.b.toLowerCase()}]` : "";
+  return [board.ranks.map(row).join("/") + held, board.side, castling(board, variant), passed(board), board.quiet,
+    board.move].join(" ");
+}

@@ -1,0 +1,162 @@
+/** The page: one link of the server, and the parts that show what comes by it.
+ *
+ * A reader begins with `lines.js` (the server's texts), `link.js` (a line and its answer) and `session.js` (who is
+ * told what); then `game.js` and `games.js` keep the games, `table.js` and `board.js` show one, `play.js` sends what
+ * is done there, `lobby.js` and `talk.js` are the other two views, `texts.js` has the words, and each other file is a
+ * part of the page. */
+
+import { listenForActs } from "./acts.js";
+import { Alerts } from "./alerts.js";
+import { ArchiveLinks } from "./archive/links.js";
+import { BoardView } from "./board_view.js";
+import { closeBoxes, listenForBoxes, openBy } from "./boxes.js";
+import { PartnerTalk } from "./bughouse.js";
+import { Calls } from "./calls.js";
+import { CommandLine } from "./command_line.js";
+import { listenForRefusals } from "./complaints.js";
+import { takeInDrawings } from "./drawings.js";
+import { Games } from "./games.js";
+import { Lobby } from "./lobby.js";
+import { Login } from "./login.js";
+import { listenForLooks, takeUpLooks } from "./looks.js";
+import { ask, byId, onClick, tellMember } from "./page.js";
+import { Partner } from "./partner.js";
+import { Play } from "./play.js";
+import { browserStore, listenForPreferences, Preferences } from "./preferences.js";
+import { Session } from "./session.js";
+import { Settings } from "./settings.js";
+import { Simul } from "./simul.js";
+import { SmallGames } from "./small_games.js";
+import { Sounds } from "./sounds.js";
+import { Talk } from "./talk.js";
+import { listenForTerms } from "./terms_form.js";
+import { onLanguage } from "./texts.js";
+import { Following, listenForViews, showView } from "./views.js";
+import { endInWords, keptPage, tabStore, WayBack } from "./way_back.js";
+
+const INSIDE = ["ways", "lobby", "talk", "commands-open", "leave", "member-settings"];
+
+function linkUrl() {
+  const scheme = location.protocol === "https:" ? "wss:" : "ws:";
+  return `${scheme}//${location.host}/link`;
+}
+
+/** Shows the login alone, or all but the login. */
+function showInside(session) {
+  byId("login").hidden = session.isIn;
+  INSIDE.forEach((it) => { byId(it).hidden = !session.isIn; });
+  byId("me").textContent = session.isIn ? session.me : "";
+  showView(session.isIn ? "lobby" : "login");
+}
+
+/** The parts that tell the member of what comes, whatever is seen: sounds, notes, calls and the talk. */
+function heralds({ session, games, smallGames, play, simul, preferences }) {
+  const settings = new Settings(session);
+  const sounds = new Sounds(session, games, preferences);
+  const alerts = new Alerts(session, games, preferences);
+  const calls = new Calls(session, {
+    isPlaying: () => games.running.length > 0 && !simul.isGiven, wants: (who) => settings.wants(who),
+  });
+  calls.changed = (count) => alerts.called(count);
+  const talk = new Talk(session, {
+    atGame: (line) => (games.shown ? play.act(games.shown, line) : session.act(line)),
+    isForeign: (event) => (event.game === undefined ? smallGames.isOn : !games.byNumber.has(event.game)),
+    isKeptAway: (who) => settings.isKeptAway(who),
+  });
+  return { settings, sounds, alerts, calls, talk };
+}
+
+/** Leaving is asked first where it may cost a game; a page that is left in a game asks too. */
+function listenForLeaving(session, games) {
+  onClick("leave", () => {
+    const leave = () => session.act("quit");
+    return games.running.length ? ask("leave-ask", leave) : leave();
+  });
+  window.addEventListener("beforeunload", (event) => {
+    if (games.running.length) {
+      event.preventDefault();
+    }
+  });
+}
+
+/** `data-show` names a game that the member has, which is brought to the board. */
+function listenForShowing(games) {
+  document.addEventListener("click", (event) => {
+    const button = event.target.closest("[data-show]");
+    if (button) {
+      games.choose(Number(button.dataset.show));
+    }
+  });
+}
+
+/** Somebody comes in, and all that was of another session is forgotten; or the link ends, and perhaps there is a way
+ * back. */
+function listenForComing({ session, games, forgetful, partner, lobby, wayBack, login, calls }) {
+  session.on("entered", (event) => {
+    showInside(session);
+    forgetful.forEach((it) => it.forget());
+    partner.set("");
+    lobby.begin();
+    wayBack.entered(event);
+  });
+  session.on(["creating", "continuing"], () => closeBoxes("settings"));
+  session.onEnd(async ({ code, me }) => {
+    const opponents = games.running.map((it) => it.otherThan(me));
+    games.forgetAll();
+    login.asked = "";
+    calls.forget();
+    closeBoxes("settings", "terms", "commands", "leave-ask", "resign-ask");
+    if (!wayBack.mayEnter({ code, me }) || !await wayBack.enterAgain(me, opponents)) {
+      showInside(session);
+      tellMember(endInWords(code, me !== "", opponents.length > 0));
+    }
+  });
+}
+
+function start() {
+  const isStamped = !new URLSearchParams(location.search).has("plain");
+  const store = tabStore();
+  const kept = keptPage(store);
+  const session = new Session(linkUrl(), isStamped, kept?.link ?? null);
+  listenForRefusals(session);
+  const preferences = new Preferences(browserStore());
+  listenForPreferences(preferences);
+  const hearers = []; // of what is told of games, in their order
+  const games = new Games(session, (game, event) => hearers.forEach((it) => it(game, event)));
+  session.acknowledges = (line) => games.begins(line);
+  const smallGames = new SmallGames(session, () => games.isAtOne, store);
+  session.before = (command) => smallGames.before(command);
+  games.passes = (number) => smallGames.has(number);
+  const simul = new Simul(session, games);
+  const play = new Play(session, games, simul, preferences);
+  const view = new BoardView(session, games, play);
+  const { settings, sounds, alerts, calls, talk } = heralds({ session, games, smallGames, play, simul, preferences });
+  const lobby = new Lobby(session, games, smallGames, (rows) => calls.challenged(rows));
+  const following = new Following(games);
+  hearers.push((...it) => following.told(...it), (...it) => play.told(...it), (...it) => view.changed(...it),
+    (...it) => sounds.told(...it), (...it) => alerts.told(...it), () => calls.show(), () => lobby.running.want(),
+    () => games.isAtOne && talk.game());
+  const archiveLinks = new ArchiveLinks(session);
+  hearers.push(() => archiveLinks.show(games.shown));
+  const wayBack = new WayBack(session, games, store, kept);
+  preferences.onChange(() => view.show());
+  onLanguage(() => view.rename());
+  const commandLine = new CommandLine(session, () => games.running.length > 0);
+  const forgetful = [talk, settings, commandLine, new PartnerTalk(session), simul, smallGames, lobby, calls];
+  const partner = new Partner(session);
+  const login = new Login(session);
+  listenForTerms(session);
+  listenForActs(session, (number, line) => play.act(number ? games.byNumber.get(number) : games.shown, line));
+  listenForShowing(games);
+  listenForLeaving(session, games);
+  listenForComing({ session, games, forgetful, partner, lobby, wayBack, login, calls });
+  showInside(session); // the login isn't seen before, since a form that nobody listens to loads the page anew
+}
+
+takeInDrawings();
+await takeUpLooks();
+listenForLooks();
+listenForViews();
+listenForBoxes("settings", "terms");
+openBy("settings-open", "settings");
+start();

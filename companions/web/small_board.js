@@ -1,0 +1,38 @@
+/** A small board that only shows: no square of it can be pressed, and a screen reader hears what stands beside it. */
+
+import { drawing } from "./men.js";
+
+const FILES = 8;
+
+export class SmallBoard {
+  /** A board of so many ranks, the last ones of which are the colour's own. */
+  constructor(root, ranks = 8) {
+    this.squares = [];
+    root.classList.add("small-board");
+    root.style.setProperty("--ranks", ranks);
+    for (let n = 0; n < ranks * FILES; n += 1) {
+      const square = document.createElement("span");
+      square.className = (n % FILES + Math.floor(n / FILES)) % 2 ? "dark" : "light";
+      square.dataset.letter = "-";
+      this.squares.push(square);
+    }
+    root.append(...this.squares);
+  }
+
+  /** Shows ranks from above, as a board line has them, and marks squares, as e2. */
+  show(ranks, marked = []) {
+    const letters = ranks.join("");
+    this.squares.forEach((square, n) => {
+      if (square.dataset.letter !== letters[n]) {
+        square.dataset.letter = letters[n];
+        square.replaceChildren(...manOf(letters[n]));
+      }
+      square.classList.toggle("last", marked.includes(`${"abcdefgh"[n % FILES]}${FILES - Math.floor(n / FILES)}`));
+    });
+  }
+}
+
+function manOf(letter) {
+  const kind = letter.toUpperCase();
+  return letter === "-" ? [] : [drawing((letter === kind ? "w" : "b") + kind)];
+}

@@ -1,0 +1,24 @@
+"""The games that a player plays, and those in which it waits for the opponent's move, read off the lines that pass."""
+
+from ficslink.board import THEIRS, WATCHED, Board
+from ficslink.lines import GameOver, TextTurn, parse
+
+BEGINNINGS = ("<12> ", "{Game ", "W to move, ", "B to move, ")  # of the lines that tell
+
+
+class OwnGames:
+    """The numbers of one's own games of which boards are told."""
+
+    def __init__(self):
+        self.playing = self.waiting = frozenset()
+
+    def hear(self, line):
+        """Takes a line of the server. A board in text doesn't say who of the two is to move, so it counts as none."""
+        told = parse(line) if line.startswith(BEGINNINGS) else None
+        if isinstance(told, Board) and told.relation != WATCHED:
+            game = {told.game}
+            self.playing |= game
+            self.waiting = self.waiting | game if told.relation == THEIRS else self.waiting - game
+        elif isinstance(told, (GameOver, TextTurn)):
+            self.playing -= {told.game}
+            self.waiting -= {told.game}

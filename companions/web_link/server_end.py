@@ -1,0 +1,132 @@
+"""The server's end of a link: what it wrote, as far as the tab hasn't been told it, and whether more can be written."""
+
+import asyncio
+import socket
+
+from ficslink.errors import TooLong
+
+from .asking import Asking
+from .kept import Kept
+from .questions import News
+
+PIECE = 16384
+UNSENT = 16384  # bytes that wait for the server before the tab has to
+MOST_OWED = 256  # lines that aren't answered; no more are taken of the tab then
+
+
+class ServerEnd(asyncio.BufferedProtocol):
+    """A socket to the server, read through a `Talk`. What came before the server closed is told in any case, also where
+    it closed without reading all that was written."""
+
+    room = memoryview(bytearray(PIECE))  # one for all links, since what is read is taken at once
+
+    def __init__(self, talk, tables, keeps_told=False):
+        self.talk, self.asking = talk, Asking(tables, self)
+        self.transport = None
+        self.kept = Kept(keeps_told=keeps_told)
+        self.has_reader = True
+        self.over, self.can_write = asyncio.Event(), asyncio.Event()
+        self.has_told, self.has_answered = asyncio.Event(), asyncio.Event()
+        self.can_write.set()
+
+    @property
+    def is_over(self):
+        return self.over.is_set()
+
+    # ---- what the loop calls ----
+
+    def connection_made(self, transport):
+        self.transport = transport
+        transport.get_extra_info("socket").setsockopt(socket.SOL_SOCKET, socket.SO_SNDBUF, UNSENT)
+        transport.set_write_buffer_limits(high=UNSENT)
+
+    def get_buffer(self, _hint):
+        return self.room
+
+    def buffer_updated(self, length):
+        try:
+            self.add(self.talk.from_server(bytes(self.room[:length])))
+        except TooLong:
+            self.transport.abort()
+        self.asking.look(self.talk.games)
+        self.has_answered.set()
+
+    def connection_lost(self, _why):
+        self.over.set()
+        self.asking.end()
+        self.can_write.set()
+        self.add(self.talk.left())
+        self.has_told.set()
+        self.has_answered.set()
+
+    def pause_writing(self):
+        self.can_write.clear()
+
+    def resume_writing(self):
+        self.can_write.set()
+
+    # ---- from the server ----
+
+    def add(self, texts):
+        if texts:
+            self.kept.add(texts, self.has_reader)
+            self.has_told.set()
+        if self.kept.is_full and self.has_reader:
+            self.transport.pause_reading()
+
+    async def next(self):
+        """The next message; none once the server has closed and all was told."""
+        while not self.kept.untold:
+            if self.is_over:
+                return None
+            self.has_told.clear()
+            await self.has_told.wait()
+        text = self.kept.next()
+        if not self.kept.untold:
+            self.transport.resume_reading()
+        return text
+
+    def lose_reader(self):
+        """From now on nobody is there to be told. What comes is kept as far as there is room, and read in any case."""
+        self.has_reader = False
+        self.kept.add((), False)
+        self.transport.resume_reading()
+
+    def find_reader(self, heard, begins_anew):
+        """Somebody is there to be told again, who has heard so many messages, where it is known: whether it is told
+        just what it hasn't heard. Else it knows nothing of what came before, and begins anew."""
+        self.has_reader = True
+        is_same = heard is not None and self.kept.go_back(heard) and not begins_anew
+        if not is_same:
+            self.kept = Kept(self.talk.begin_anew(self.kept.rest()), keeps_told=True)
+        self.add(())
+        return is_same
+
+    async def progress(self):
+        """Waits until the server has said something, or has closed."""
+        if not self.is_over:
+            self.has_answered.clear()
+            await self.has_answered.wait()
+
+    # ---- to the server ----
+
+    async def write(self, line):
+        """Writes a line, and waits while the server takes no more. To a server that has closed nothing is written."""
+        if not self.is_over:
+            self.transport.write(line)
+            await self.can_write.wait()
+        while len(self.talk.owed) > MOST_OWED and not self.is_over:
+            await self.progress()
+
+    def ask(self):
+        """Asks for news, where no answer is due that would bring them."""
+        if not self.talk.owed:
+            self.ask_now()
+
+    def ask_now(self, question=None):
+        """Asks a question of the go-between's own, which is for news where none is named."""
+        if not self.is_over and self.can_write.is_set():
+            self.transport.write(self.talk.ask(question or News()))
+
+    def close(self):
+        self.transport.close()

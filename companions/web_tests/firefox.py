@@ -1,0 +1,90 @@
+"""Firefox without a screen, and what only its own code does, which it runs for us: sizes, schemes, fingers, names and
+complaints."""
+
+import atexit
+import time
+
+from selenium import webdriver
+
+from .marionette import Marionette
+
+TAB = "const tab = gBrowser.selectedBrowser, page = tab.browsingContext.top;"
+# the page has the size that is wished for, however small the window around it may be
+RESIZE = TAB + """const [width, height] = arguments;
+window.resizeTo(Math.max(width, 500), height + 150);
+for (const [side, long] of [["width", width], ["height", height]]) {
+  ["min-", "max-"].forEach((it) => tab.style.setProperty(it + side, `${long}px`));
+}"""
+PREFER_SCHEME = TAB + "page.prefersColorSchemeOverride = arguments[0];"
+HAS_FINGERS = TAB + "page.touchEventsOverride = 'enabled';"
+SAVES_TO = """Services.prefs.setStringPref("browser.download.dir", arguments[0]);
+Services.prefs.setIntPref("browser.download.folderList", 2);
+Services.prefs.setBoolPref("browser.download.alwaysOpenPanel", false);"""
+# all that a screen reader finds below the page, as [role, name, what it is]; none while it isn't built
+TREE = TAB + """const service = Cc["@mozilla.org/accessibilityService;1"].getService(Ci.nsIAccessibilityService);
+const found = [];
+const walk = (it) => {
+  found.push([service.getStringRole(it.role), it.name ?? "", it.id ?? ""]);
+  for (let n = 0; n < it.childCount; n += 1) {
+    walk(it.getChildAt(n));
+  }
+};
+const root = service.getAccessibleFor(tab);
+if (root) {
+  walk(root);
+}
+return found;"""
+COMPLAINTS = """const all = Services.console.getMessageArray().filter((it) => it instanceof Ci.nsIScriptError);
+Services.console.reset();
+const isOurs = (it) => it.sourceName.startsWith("http://127.0.0.1:") && !(it.flags & Ci.nsIScriptError.warningFlag);
+return all.filter(isOurs).map((it) => `${it.category}: ${it.errorMessage}, ${it.sourceName}:${it.lineNumber}`);"""
+CONTROLS = {"pushbutton", "togglebutton", "link", "entry", "password text", "combobox", "checkbutton", "spinbutton",
+            "listbox", "radiobutton", "slider", "menuitem"}
+BUILT_IN = 0.3  # seconds between two looks at a tree that may still be built
+
+
+class Firefox:
+    """The browser; its words go to the window that the driver has in front."""
+
+    def __init__(self, size):
+        self.size = size
+        link = Marionette()
+        atexit.register(link.end)
+        options = webdriver.FirefoxOptions()
+        options.set_capability("unhandledPromptBehavior", "accept")
+        self.driver = webdriver.Remote(command_executor=link, options=options)
+
+    def inside(self, script, *words):
+        """Runs a script in the browser itself, not in the page."""
+        self.driver.execute("setContext", {"value": "chrome"})
+        try:
+            return self.driver.execute_script(script, *words)
+        finally:
+            self.driver.execute("setContext", {"value": "content"})
+
+    def open(self):
+        self.driver.switch_to.new_window("window")
+        self.resize(self.size)
+
+    def resize(self, size):
+        self.inside(RESIZE, *size)
+
+    def prefer_scheme(self, scheme):
+        self.inside(PREFER_SCHEME, scheme or "none")
+
+    def has_fingers(self):
+        self.inside(HAS_FINGERS)
+
+    def saves_to(self, folder):
+        """What pages save is put there from now on."""
+        self.inside(SAVES_TO, str(folder))
+
+    def nameless(self):
+        tree, before = self.inside(TREE), None
+        while not tree or tree != before:
+            time.sleep(BUILT_IN)
+            tree, before = self.inside(TREE), tree
+        return [it for it in tree if it[0] in CONTROLS and not it[1].strip()]
+
+    def complaints(self):
+        return self.inside(COMPLAINTS)
