@@ -1,7 +1,7 @@
 -- What a reader gives before and after a byte, and at the end.
-use Rattle.std.proofs.Common.{arith, ◌≡◌, ℕ, suc, ◌+◌, ◌-◌, ◌*◌, length, Bool, true, false, List, [], ◌∷◌, ◌++◌, ◌≤◌, drop, Option, Some, None, refl, sym, ap, subst, ◌∙◌, append_assoc, append-nil}
+use Rattle.std.proofs.Common.{arith, ◌≡◌, ℕ, suc, ◌+◌, ◌*◌, length, Bool, true, false, List, [], ◌∷◌, ◌++◌, ◌<◌, ◌≤◌, drop, get_or, add-one, Option, Some, None, refl, sym, ap, subst, ◌∙◌, append-nil}
 use Rattle.std.specs.Prelude.{is_some}
-use Rattle.std.proofs.lemmas.List.{drop-drop, length-drop}
+use Rattle.std.proofs.Math.Seq.{drop-cons}
 use Rattle.pgn_book.specs.declared.game.PgnGame.{PgnGame}
 use Rattle.pgn_book.specs.declared.book.Read.{Read}
 use Rattle.pgn_book.specs.declared.place.PlaceInText.{PlaceInText}
@@ -10,61 +10,36 @@ use Rattle.pgn_book.specs.declared.reader.PgnStep.{PgnStep}
 use Rattle.pgn_book.specs.declared.reader.PgnStep.TheVariants.{Game, More, Bad}
 use Rattle.pgn_book.specs.Reading.{State, Step, step, gone, with_given, read_from, adding}
 use Rattle.pgn_book.specs.Taking.{on_if, IsStep}
-use Rattle.pgn_book.specs.Runs.{MayCallAgain}
-use Rattle.pgn_book.specs.Reader.{Reader, line_if, line_from, GoesOn, IsRead, IsHalted, IsNext, IsLast, LeavesFewer, words_begun, words_open}
-
-abbrev shown : Option State → ℕ → List ℕ → Reader
-shown on line rest = record { on = on; line = line; rest = rest }
-
-pub rest_on : (n : ℕ) (items : List ℕ) (on : Option State) (line : ℕ) (now : Reader) → shown on line (drop n items) ≡ now
-    → drop (n + 1) items ≡ drop 1 now.rest
-rest_on n items on line now view = sym (drop-drop 1 n items) ∙ ap (λ (r : Reader). drop 1 r.rest) view
-
-pub within : (n : ℕ) (items rest : List ℕ) (byte : ℕ) → drop n items ≡ byte ∷ rest → n + 1 ≤ length items
-within n items rest byte e =
-    let left : length items - n ≡ suc (length rest) = sym (length-drop n items) ∙ ap (λ (l : List ℕ). length l) e in
-    omega (arith, left)
+use Rattle.pgn_book.specs.Reader.{Reader, Scan, facing, line_if, line_from, GoesOn, GivesLast, IsRead, IsNext, IsLast, most_left, told_at_end, words_begun, words_open}
 
 some_if : (on : Bool) (s : State) → is_some (on_if on s) ≡ on
 some_if true s = refl
 some_if false s = refl
 
-pub took_byte : (s t : State) (goes : Bool) (line byte : ℕ) (rest : List ℕ) (now new : Reader) (read : Read)
-    → on_if goes s ≡ now.on → line ≡ now.line → goes ≡ true → now.rest ≡ byte ∷ drop 1 now.rest → IsStep read t (step s byte)
-    → new.on ≡ on_if read.goes_on t → new.line ≡ line_if read.goes_on line byte → new.rest ≡ drop 1 now.rest → GoesOn now read.game new
-took_byte s t goes line byte rest now new read was lined h first st newon newline newrest =
+pub took_byte : (s t : State) (goes : Bool) (line byte : ℕ) (now new : Scan) (read : Read)
+    → on_if goes s ≡ now.on → line ≡ now.line → goes ≡ true → IsStep read t (step s byte)
+    → new.on ≡ on_if read.goes_on t → new.line ≡ line_if read.goes_on line byte
+    → (rest : List ℕ) → GoesOn (facing now (byte ∷ rest)) read.game (facing new rest)
+took_byte s t goes line byte now new read was lined h st newon newline rest =
     let on : now.on ≡ Some s = sym was ∙ ap (λ (g : Bool). on_if g s) h in
-    let all : now.rest ≡ byte ∷ new.rest = first ∙ ap (λ (l : List ℕ). byte ∷ l) (sym newrest) in
     let there : Option State = on_if read.goes_on t in
     record {
       games = λ more.
-          ap (λ (l : List ℕ). gone now.on (l ++ more)) all ∙ ap (λ (o : Option State). gone o (byte ∷ (new.rest ++ more))) on
-          ∙ ap (λ (x : Step). with_given x.given (gone x.on (new.rest ++ more))) st
-          ∙ ap (λ (o : Option State). with_given read.game (gone o (new.rest ++ more))) (sym newon);
+          ap (λ (o : Option State). gone o (byte ∷ (rest ++ more))) on
+          ∙ ap (λ (x : Step). with_given x.given (gone x.on (rest ++ more))) st
+          ∙ ap (λ (o : Option State). with_given read.game (gone o (rest ++ more))) (sym newon);
       read = λ more.
-          ap (λ (l : List ℕ). read_from now.on (l ++ more)) all ∙ ap (λ (o : Option State). read_from o (byte ∷ (new.rest ++ more))) on
-          ∙ ap (λ (x : Step). adding x.given (read_from x.on (new.rest ++ more))) st
-          ∙ ap (λ (o : Option State). adding read.game (read_from o (new.rest ++ more))) (sym newon);
+          ap (λ (o : Option State). read_from o (byte ∷ (rest ++ more))) on
+          ∙ ap (λ (x : Step). adding x.given (read_from x.on (rest ++ more))) st
+          ∙ ap (λ (o : Option State). adding read.game (read_from o (rest ++ more))) (sym newon);
       line = λ more.
-          ap (λ (l : List ℕ). line_from now.line now.on (l ++ more)) all
-          ∙ ap (λ (o : Option State). line_from now.line o (byte ∷ (new.rest ++ more))) on
-          ∙ ap (λ (x : Step). line_from (line_if (is_some x.on) now.line byte) x.on (new.rest ++ more)) st
-          ∙ ap (λ (g : Bool). line_from (line_if g now.line byte) there (new.rest ++ more)) (some_if read.goes_on t)
-          ∙ ap (λ (n : ℕ). line_from (line_if read.goes_on n byte) there (new.rest ++ more)) (sym lined)
-          ∙ ap (λ (n : ℕ). line_from n there (new.rest ++ more)) (sym newline)
-          ∙ ap (λ (o : Option State). line_from new.line o (new.rest ++ more)) (sym newon);
+          ap (λ (o : Option State). line_from now.line o (byte ∷ (rest ++ more))) on
+          ∙ ap (λ (x : Step). line_from (line_if (is_some x.on) now.line byte) x.on (rest ++ more)) st
+          ∙ ap (λ (g : Bool). line_from (line_if g now.line byte) there (rest ++ more)) (some_if read.goes_on t)
+          ∙ ap (λ (n : ℕ). line_from (line_if read.goes_on n byte) there (rest ++ more)) (sym lined)
+          ∙ ap (λ (n : ℕ). line_from n there (rest ++ more)) (sym newline)
+          ∙ ap (λ (o : Option State). line_from new.line o (rest ++ more)) (sym newon);
     }
-
-pub next_bad : (now loop new : Reader) (goes : Bool) (s : State) (line : ℕ) → GoesOn now None loop → loop.rest ≡ [] → new ≡ loop
-    → on_if goes s ≡ new.on → line ≡ new.line → goes ≡ false
-    → IsRead now new × (new.on ≡ None) × (line ≡ line_from now.line now.on now.rest) × (line ≡ new.line)
-next_bad now loop new goes s line inv empty e was lined h =
-    let on : new.on ≡ None = sym was ∙ ap (λ (g : Bool). on_if g s) h in
-    let goes_on : GoesOn now None new = subst (λ (r : Reader). GoesOn now None r) (sym e) inv in
-    let all : line_from now.line now.on now.rest ≡ new.line =
-    ap (line_from now.line now.on) (sym (append-nil now.rest)) ∙ goes_on.line []
-    ∙ ap (λ (o : Option State). line_from new.line o (new.rest ++ [])) on in
-    (record { goes_on = goes_on; all = ap (λ (r : Reader). r.rest) e ∙ empty }, on, lined ∙ sym all, lined)
 
 read_on : (now new : Reader) (given : Option PgnGame) → GoesOn now given new → read_from now.on now.rest ≡ adding given (read_from new.on new.rest)
 read_on now new given h =
@@ -75,11 +50,9 @@ lines_on : (now new : Reader) (given : Option PgnGame) → GoesOn now given new
 lines_on now new given h =
     ap (line_from now.line now.on) (sym (append-nil now.rest)) ∙ h.line [] ∙ ap (line_from new.line new.on) (append-nil new.rest)
 
-pub next_last : (now new : Reader) (step : PgnStep) → IsNext now step new → (step ≡ More → ⊥) → IsLast now step new
-next_last now new (Game g) h other = record { read = read_on now new (Some g) h; line = lines_on now new (Some g) h }
-next_last now new More h other = absurd (other refl)
-next_last now new (Bad line) h other =
-    (read_on now new None h.0.goes_on ∙ ap (λ (o : Option State). read_from o new.rest) h.1, h.1, h.2, h.3)
+-- a game that ended is the first one at the end of the text, too
+gives_last : (now new : Reader) (g : PgnGame) → GoesOn now (Some g) new → GivesLast now g new
+gives_last now new g h = record { read = read_on now new (Some g) h; line = lines_on now new (Some g) h }
 
 -- what comes behind a reader that goes on comes behind the one before it, too
 goes_on_both : (now mid new : Reader) (given : Option PgnGame) → GoesOn now None mid → GoesOn mid given new → GoesOn now given new
@@ -89,7 +62,30 @@ goes_on_both now mid new given one other = record {
   line = λ more. one.line more ∙ other.line more;
 }
 
-pub last_behind : (now mid new : Reader) (step : PgnStep) → GoesOn now None mid → IsLast mid step new → IsLast now step new
+-- all was read and no game ended: what is told of it
+told_next : (now new : Reader) (scan : Scan) → new ≡ facing scan [] → GoesOn now None new → IsNext now (told_at_end scan) new
+told_next now new scan e h = by scan.on refl
+  where
+    there : (on : Option State) → scan.on ≡ on → new.on ≡ on
+    there on is = ap (λ (r : Reader). r.on) e ∙ is
+
+    read : IsRead now new
+    read = record { goes_on = h; all = ap (λ (r : Reader). r.rest) e }
+
+    lost : scan.on ≡ None → line_from now.line now.on now.rest ≡ scan.line
+    lost is =
+        ap (line_from now.line now.on) (sym (append-nil now.rest)) ∙ h.line []
+        ∙ ap (λ (o : Option State). line_from new.line o (new.rest ++ [])) (there None is) ∙ ap (λ (r : Reader). r.line) e
+
+    by : (on : Option State) → scan.on ≡ on → IsNext now (told_at_end scan) new
+    by None is =
+        subst (λ (o : Option State). IsNext now (told_at_end (record { on = o; line = scan.line })) new) (sym is)
+        (read, there None is, sym (lost is), sym (ap (λ (r : Reader). r.line) e))
+    by (Some s) is =
+        subst (λ (o : Option State). IsNext now (told_at_end (record { on = o; line = scan.line })) new) (sym is)
+        (read, λ (none : new.on ≡ None). let f : Some s ≡ None = sym (there (Some s) is) ∙ none in cc)
+
+last_behind : (now mid new : Reader) (step : PgnStep) → GoesOn now None mid → IsLast mid step new → IsLast now step new
 last_behind now mid new (Game g) h last = record {
   read = read_on now mid None h ∙ last.read;
   line = lines_on now mid None h ∙ last.line;
@@ -98,12 +94,7 @@ last_behind now mid new More h last = read_on now mid None h ∙ last
 last_behind now mid new (Bad line) h last =
     (read_on now mid None h ∙ last.0, last.1, last.2 ∙ sym (lines_on now mid None h), last.3)
 
-pub fewer_last : (now mid new : Reader) (step : PgnStep) → LeavesFewer now More mid → LeavesFewer mid step new → LeavesFewer now step new
-fewer_last now mid new (Game g) h last = omega (arith, h, last)
-fewer_last now mid new More h last = omega (arith, h, last)
-fewer_last now mid new (Bad line) h last = tt
-
--- ---- where memory was wanting
+-- ---- bytes that are read one behind another
 
 begun_at_most : (place : PlaceInText) → words_begun place ≤ 1
 begun_at_most Start = omega arith
@@ -120,46 +111,98 @@ at_most_one : (on : Option State) → words_open on ≤ 1
 at_most_one None = omega arith
 at_most_one (Some s) = begun_at_most s.place
 
--- a byte more was passed over, and no game ended there
-pub passed_more : (now mid new : Reader) (byte : ℕ) → IsHalted now mid → mid.rest ≡ byte ∷ drop 1 mid.rest → GoesOn mid None new
-    → new.rest ≡ drop 1 mid.rest → IsHalted now new
-passed_more now mid new byte h first on newrest =
-    let all : mid.rest ≡ byte ∷ new.rest = first ∙ ap (λ (l : List ℕ). byte ∷ l) (sym newrest) in
-    let shorter : length mid.rest ≡ suc (length new.rest) = ap (λ (l : List ℕ). length l) all in
+-- no game ended in what lies between
+pub record HasPassed (old new : Reader) : Type 0 where
+  pub goes_on : GoesOn old None new
+  pub fewer : most_left new ≤ most_left old
+
+pub none_passed : (now : Reader) → HasPassed now now
+none_passed now = record {
+  goes_on = record { games = λ more. refl; read = λ more. refl; line = λ more. refl };
+  fewer = omega arith;
+}
+
+byte_at : (bytes : List ℕ) (i : ℕ) → i < length bytes → drop i bytes ≡ get_or bytes i 0 ∷ drop (i + 1) bytes
+byte_at bytes i within = drop-cons bytes i 0 within ∙ ap (λ (m : ℕ). get_or bytes i 0 ∷ drop m bytes) (sym (add-one i))
+
+-- the next byte, behind bytes in which no game ended
+behind : (old : Reader) (mid new : Scan) (bytes : List ℕ) (i : ℕ) (given : Option PgnGame) → i < length bytes
+    → HasPassed old (facing mid (drop i bytes))
+    → ((rest : List ℕ) → GoesOn (facing mid (get_or bytes i 0 ∷ rest)) given (facing new rest))
+    → GoesOn old given (facing new (drop (i + 1) bytes))
+behind old mid new bytes i given within h took =
+    goes_on_both old (facing mid (drop i bytes)) (facing new (drop (i + 1) bytes)) given h.goes_on
+    (subst (λ (l : List ℕ). GoesOn (facing mid l) given (facing new (drop (i + 1) bytes))) (sym (byte_at bytes i within))
+    (took (drop (i + 1) bytes)))
+
+fewer_by : (old : Reader) (mid new : Scan) (bytes : List ℕ) (i : ℕ) → i < length bytes
+    → HasPassed old (facing mid (drop i bytes)) → most_left (facing new (drop (i + 1) bytes)) < most_left old
+fewer_by old mid new bytes i within h =
+    let shorter : length (drop i bytes) ≡ suc (length (drop (i + 1) bytes)) =
+    ap (λ (l : List ℕ). length l) (byte_at bytes i within) in
     let begun : words_open new.on ≤ 1 = at_most_one new.on in
-    let before : 2 * length mid.rest + words_open mid.on ≤ 2 * length now.rest + words_open now.on = h.fewer in
-    let fewer : 2 * length new.rest + words_open new.on ≤ 2 * length now.rest + words_open now.on =
-    omega (arith, shorter, begun, before) in
+    let before : 2 * length (drop i bytes) + words_open mid.on ≤ 2 * length old.rest + words_open old.on = h.fewer in
+    omega (arith, shorter, begun, before)
+
+-- it ended no game
+pub passed_more : (old : Reader) (mid new : Scan) (bytes : List ℕ) (i : ℕ) → i < length bytes
+    → HasPassed old (facing mid (drop i bytes))
+    → ((rest : List ℕ) → GoesOn (facing mid (get_or bytes i 0 ∷ rest)) None (facing new rest))
+    → HasPassed old (facing new (drop (i + 1) bytes))
+passed_more old mid new bytes i within h took =
+    let less : most_left (facing new (drop (i + 1) bytes)) < most_left old = fewer_by old mid new bytes i within h in
+    record { goes_on = behind old mid new bytes i None within h took; fewer = omega (arith, less) }
+
+-- it ended a game
+pub record EndsGame (old : Reader) (g : PgnGame) (new : Reader) : Type 0 where
+  pub goes_on : GoesOn old (Some g) new
+  pub fewer : most_left new < most_left old
+
+pub game_ended : (old : Reader) (mid new : Scan) (bytes : List ℕ) (i : ℕ) (g : PgnGame) → i < length bytes
+    → HasPassed old (facing mid (drop i bytes))
+    → ((rest : List ℕ) → GoesOn (facing mid (get_or bytes i 0 ∷ rest)) (Some g) (facing new rest))
+    → EndsGame old g (facing new (drop (i + 1) bytes))
+game_ended old mid new bytes i g within h took = record {
+  goes_on = behind old mid new bytes i (Some g) within h took;
+  fewer = fewer_by old mid new bytes i within h;
+}
+
+-- ---- what the calls of a reader read of what was fed, from where it stands to where it stands then
+
+-- as much of it was read, and then the rest comes
+pub record HasRead (now : Reader) (game : Option PgnGame) (to : Scan) (rest : List ℕ) : Type 0 where
+  pub goes_on : GoesOn now game (facing to rest)
+  pub all : game ≡ None → rest ≡ []
+
+pub has_read : (now : Reader) (from to : Scan) (bytes : List ℕ) (read : ℕ) (game : Option PgnGame) → facing from now.rest ≡ now
+    → bytes ≡ now.rest → GoesOn (facing from bytes) game (facing to (drop read bytes)) → (game ≡ None → drop read bytes ≡ [])
+    → HasRead now game to (drop read now.rest)
+has_read now from to bytes read game stands are goes all =
+    let same : GoesOn (facing from now.rest) game (facing to (drop read now.rest)) =
+    subst (λ (l : List ℕ). GoesOn (facing from l) game (facing to (drop read l))) are goes in
     record {
-      passed = h.passed ++ byte ∷ [];
-      split = h.split ∙ ap (λ (l : List ℕ). h.passed ++ l) all ∙ sym (append_assoc h.passed (byte ∷ []) new.rest);
-      goes_on = goes_on_both now mid new None h.goes_on on;
-      fewer = fewer;
+      goes_on = subst (λ (r : Reader). GoesOn r game (facing to (drop read now.rest))) stands same;
+      all = λ none. ap (λ (l : List ℕ). drop read l) (sym are) ∙ all none;
     }
 
--- all was passed over, and no game ended there
-pub halted_at_end : (now mid new : Reader) → IsNext now More mid → LeavesFewer now More mid → new ≡ mid → IsHalted now new
-halted_at_end now mid new is fewer e =
-    subst (IsHalted now) (sym e) (record {
-      passed = now.rest;
-      split = sym (append-nil now.rest) ∙ ap (λ (l : List ℕ). now.rest ++ l) (sym is.0.all);
-      goes_on = is.0.goes_on;
-      fewer = fewer;
-    })
+pub none_is_next : (now new : Reader) (game : Option PgnGame) (to : Scan) (rest : List ℕ) → HasRead now game to rest → game ≡ None
+    → new ≡ facing to rest → IsNext now (told_at_end to) new
+none_is_next now new game to rest h none e =
+    let goes : GoesOn now None new =
+    subst (λ (r : Reader). GoesOn now None r) (sym e) (subst (λ (g : Option PgnGame). GoesOn now g (facing to rest)) none h.goes_on) in
+    told_next now new to (e ∙ ap (facing to) (h.all none)) goes
 
-pub next_again : (now mid new : Reader) (step : PgnStep) → IsHalted now mid → IsNext mid step new → IsNext now step new
-next_again now mid new (Game g) h is = goes_on_both now mid new (Some g) h.goes_on is
-next_again now mid new More h is =
-    (record { goes_on = goes_on_both now mid new None h.goes_on is.0.goes_on; all = is.0.all }, is.1)
-next_again now mid new (Bad line) h is = (
-  record { goes_on = goes_on_both now mid new None h.goes_on is.0.goes_on; all = is.0.all },
-  is.1,
-  is.2 ∙ sym (lines_on now mid None h.goes_on),
-  is.3,
-)
+pub game_is_last : (now new : Reader) (game : Option PgnGame) (g : PgnGame) (to : Scan) (rest : List ℕ) → HasRead now game to rest
+    → game ≡ Some g → new ≡ facing to rest → GivesLast now g new
+game_is_last now new game g to rest h some e =
+    gives_last now new g
+    (subst (λ (r : Reader). GoesOn now (Some g) r) (sym e) (subst (λ (x : Option PgnGame). GoesOn now x (facing to rest)) some h.goes_on))
 
-pub last_again : (now mid new : Reader) (step : PgnStep) → IsHalted now mid → IsLast mid step new → IsLast now step new
-last_again now mid new step h is = last_behind now mid new step h.goes_on is
-
-pub may_call_again : MayCallAgain
-may_call_again = record { next = next_again; last = last_again }
+pub end_is_last : (now new : Reader) (game : Option PgnGame) (to last : Scan) (rest : List ℕ) (step : PgnStep) → HasRead now game to rest
+    → game ≡ None → IsLast (facing to []) step (facing last []) → new ≡ facing last rest → IsLast now step new
+end_is_last now new game to last rest step h none is e =
+    let goes : GoesOn now None (facing to []) =
+    subst (λ (l : List ℕ). GoesOn now None (facing to l)) (h.all none)
+    (subst (λ (x : Option PgnGame). GoesOn now x (facing to rest)) none h.goes_on) in
+    subst (λ (r : Reader). IsLast now step r) (sym (e ∙ ap (facing last) (h.all none)))
+    (last_behind now (facing to []) (facing last []) step goes is)

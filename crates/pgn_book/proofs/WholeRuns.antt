@@ -5,7 +5,7 @@ use Rattle.pgn_book.specs.declared.reader.PgnStep.{PgnStep}
 use Rattle.pgn_book.specs.declared.reader.PgnStep.TheVariants.{Game, More, Bad}
 use Rattle.pgn_book.specs.Games.{Reads}
 use Rattle.pgn_book.specs.Reading.{State, Outcome, adding, nothing_read, read_from, first_state, Gone, with_given, gone, adding_all}
-use Rattle.pgn_book.specs.Reader.{Reader, fresh_reader, line_from, GoesOn, IsHalted, IsNext, IsLast}
+use Rattle.pgn_book.specs.Reader.{Reader, fresh_reader, line_from, GoesOn, IsNext, IsLast}
 use Rattle.pgn_book.specs.BadLines.{IsLeftOn}
 use Rattle.pgn_book.specs.Runs.{outcome_of, begun_with, with_games, HasGiven, EndsSo, Call, Feed, Next, Halted, MakeAll, Ends, text_of, game_in, games_of, RunsReadTheText}
 use Rattle.pgn_book.proofs.GamesFound.{reader_reads}
@@ -50,10 +50,6 @@ next_given text games (Game g) old new h is = given_more text games (Some g) old
 next_given text games More old new h is = given_more text games None old new h is.0.goes_on
 next_given text games (Bad line) old new h is = given_more text games None old new h is.0.goes_on
 
-halted_given : (text : List ℕ) (games : List PgnGame) (old new : Reader) → HasGiven text games old → IsHalted old new → HasGiven text games new
-halted_given text games old new h is =
-    subst (λ (l : List PgnGame). HasGiven text l new) (append-nil games) (given_more text games None old new h is.goes_on)
-
 all_given : (calls : List Call) (text : List ℕ) (games : List PgnGame) (old new : Reader) → HasGiven text games old → MakeAll old calls new →
     HasGiven (text ++ text_of calls) (games ++ games_of calls) new
 all_given [] text games old new h made =
@@ -66,7 +62,7 @@ all_given (Next step ∷ calls) text games old new h made =
     subst (λ (l : List PgnGame). HasGiven (text ++ text_of calls) l new) (append_assoc games (game_in step) (games_of calls))
     (all_given calls text (games ++ game_in step) made.0 new (next_given text games step old made.0 h made.1) made.2)
 all_given (Halted ∷ calls) text games old new h made =
-    all_given calls text games made.0 new (halted_given text games old made.0 h made.1) made.2
+    all_given calls text games made.0 new (subst (HasGiven text games) (sym made.1) h) made.2
 
 -- ---- the end
 

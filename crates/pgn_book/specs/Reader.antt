@@ -14,8 +14,20 @@ pub record Reader : Type 0 where
   pub line : ℕ
   pub rest : List ℕ
 
+-- the first two of these
+pub record Scan : Type 0 where
+  pub on : Option State
+  pub line : ℕ
+
+-- the two, before these bytes
+abbrev pub facing : Scan → List ℕ → Reader
+facing scan rest = record { on = scan.on; line = scan.line; rest = rest }
+
+abbrev pub fresh_scan : Scan
+fresh_scan = record { on = Some first_state; line = 1 }
+
 abbrev pub fresh_reader : Reader
-fresh_reader = record { on = Some first_state; line = 1; rest = [] }
+fresh_reader = facing fresh_scan []
 
 -- the line behind a byte; the count stays at the greatest number of 64 bits
 abbrev pub line_behind : ℕ → ℕ → ℕ
@@ -63,13 +75,14 @@ LeavesFewer old (Game g) new = most_left new < most_left old
 LeavesFewer old More new = most_left new ≤ most_left old
 LeavesFewer old (Bad line) new = Unit {0}
 
--- memory was wanting: some bytes of what was fed were passed over, in which no game ended, so that whatever is fed, the
--- new reader gives what the old one gives
-pub record IsHalted (old new : Reader) : Type 0 where
-  pub passed : List ℕ
-  pub split : old.rest ≡ passed ++ new.rest
-  pub goes_on : GoesOn old None new
-  pub fewer : most_left new ≤ most_left old
+-- what is told of a game that ended, or that none did
+abbrev pub step_of : Option PgnGame → PgnStep
+step_of None = More
+step_of (Some g) = Game g
+
+-- what is told where all was read and no game ended
+abbrev pub told_at_end : Scan → PgnStep
+told_at_end scan = if is_some scan.on then More else Bad scan.line
 
 -- behind the end of the text all was read and nothing of a game is left, so the end comes again
 abbrev pub StaysAtEnd : PgnStep → Reader → Type 0

@@ -7,7 +7,7 @@ use Rattle.pgn_book.specs.declared.reader.PgnStep.TheVariants.{Game, More, Bad}
 use Rattle.pgn_book.specs.Bytes.{is_space}
 use Rattle.pgn_book.specs.Games.{Reads}
 use Rattle.pgn_book.specs.Reading.{Outcome, Gone, first_state, read_from, gone, adding_all}
-use Rattle.pgn_book.specs.Reader.{Reader, fresh_reader, line_from, IsHalted, IsNext, IsLast}
+use Rattle.pgn_book.specs.Reader.{Reader, fresh_reader, line_from, IsNext, IsLast}
 use Rattle.pgn_book.specs.BadLines.{IsLeftOn}
 
 -- what is read in a whole text: the games that are whole before it leaves the grammar or ends, and whether all of it is
@@ -67,7 +67,7 @@ pub data Call : Type 0 where
 abbrev pub Makes : Reader → Call → Reader → Type 0
 Makes old (Feed piece) new = new ≡ record old { rest = old.rest ++ piece }
 Makes old (Next step) new = IsNext old step new
-Makes old Halted new = IsHalted old new
+Makes old Halted new = new ≡ old
 
 -- what calls make of a reader, one after another
 abbrev pub MakeAll : Reader → List Call → Reader → Type 0
@@ -115,10 +115,3 @@ pub record RunsReadTheText : Type 0 where
   pub lost : (calls : List Call) (fed new : Reader) (line : ℕ) → MakeAll fresh_reader calls fed
       → IsNext fed (Bad line) new → (more : List ℕ) → IsLeftOn (text_of calls ++ more) line
       × ((outcome_of (text_of calls ++ more)).games ≡ games_of calls)
-
--- a call for which memory was wanting may be made again: what is given then is what it would have given
-pub record MayCallAgain : Type 0 where
-  pub next : (old between new : Reader) (step : PgnStep) → IsHalted old between → IsNext between step new
-      → IsNext old step new
-  pub last : (old between new : Reader) (step : PgnStep) → IsHalted old between → IsLast between step new
-      → IsLast old step new

@@ -8,7 +8,7 @@ ghost use Rattle.pgn_book.specs.Taking.{IsTaken, IsTakenSilently};
 
 use crate::bytes::{are_digits, is_name, without_praise};
 use crate::game::{PgnGame, PgnResult};
-use crate::row::Row;
+use crate::row::{Row, copied};
 use crate::stage::Stage;
 use crate::text::Text;
 use chess_model::{MOST_HALVES, Move, Variant};
@@ -61,6 +61,19 @@ impl Book {
             moves: Listed::new(alloc),
             position: Position::start(Variant::Chess),
         }
+    }
+
+    /// The same once more.
+    pub(crate) fn duplicate(&self, alloc: Global) -> Result<Book, NoMemory>
+        ensures { IfOk result (λ copy. copy ≡ self.now) }
+    {
+        let moves = copied(alloc, self.moves.as_slice())?;
+        Ok(Book {
+            stage: self.stage.copy(),
+            row: self.row.copy(),
+            moves,
+            position: self.position.duplicate(),
+        })
     }
 
     /// Whether nothing of a game has come.

@@ -2,7 +2,7 @@
 ghost use Rattle.pgn_book.specs.Examples.{ExportExamples, TextExamples};
 ghost use Rattle.pgn_book.specs.Games.{OneReading};
 ghost use Rattle.pgn_book.specs.BadLines.{OneLine};
-ghost use Rattle.pgn_book.specs.Runs.{MayCallAgain, RunsReadTheText, WholeGamesAreTold};
+ghost use Rattle.pgn_book.specs.Runs.{RunsReadTheText, WholeGamesAreTold};
 ghost use Rattle.pgn_book.specs.Laws.{ExportsReadBack, LinesFit, ReaderReads, ReadsExportable, ReadsInPieces};
 
 /// The grammar reads at most one list of games in a text.
@@ -35,11 +35,6 @@ pub fn texts_are_read_in_pieces()
 pub fn runs_read_the_text()
     ensures runs { RunsReadTheText }
     ensures one_line { OneLine }
-{}
-
-/// A reader's call for which memory was wanting may be made again, and then gives what it would have given.
-pub fn calls_may_be_made_again()
-    ensures { MayCallAgain }
 {}
 
 /// The games that are told of a text, read or not, are those that are whole in it.

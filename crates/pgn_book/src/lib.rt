@@ -18,6 +18,7 @@ mod page;
 mod place;
 mod reader;
 mod row;
+mod scan;
 mod stage;
 mod stored;
 mod text;
@@ -26,9 +27,9 @@ mod walk;
 pub use export_form::export;
 pub use game::{PgnGame, PgnResult, TagRow};
 pub use laws::{
-    calls_may_be_made_again, exported_lines_fit, exports_read_back,
-    games_that_are_read_can_be_exported, runs_read_the_text, texts_are_read_from_left_to_right,
-    texts_are_read_in_pieces, texts_have_one_reading, worked_exports, worked_texts,
+    exported_lines_fit, exports_read_back, games_that_are_read_can_be_exported, runs_read_the_text,
+    texts_are_read_from_left_to_right, texts_are_read_in_pieces, texts_have_one_reading,
+    worked_exports, worked_texts,
 };
 pub use reader::{PgnReader, PgnStep};
 pub use stored::of_stored;

@@ -1,4 +1,6 @@
 //! Where the next byte stands.
+ghost use Rattle.std.specs.Prelude.{◌≡◌};
+
 use crate::text::Text;
 
 /// Where the next byte stands among the pieces of a text.
@@ -22,4 +24,26 @@ pub(crate) enum PlaceInText {
     InQuotes(Text),
     /// Behind a stroke in quotes.
     InStroke(Text),
+}
+
+impl PlaceInText {
+    /// The same place once more.
+    pub(crate) fn copy(&self) -> PlaceInText
+        ensures { result ≡ self.now }
+    {
+        match self {
+            PlaceInText::Start => PlaceInText::Start,
+            PlaceInText::AfterOne => PlaceInText::AfterOne,
+            PlaceInText::AfterTwo => PlaceInText::AfterTwo,
+            PlaceInText::Between { fresh } => PlaceInText::Between { fresh: *fresh },
+            PlaceInText::InLine => PlaceInText::InLine,
+            PlaceInText::InBraces => PlaceInText::InBraces,
+            PlaceInText::InWord { glyph, word } => PlaceInText::InWord {
+                glyph: *glyph,
+                word: word.copy(),
+            },
+            PlaceInText::InQuotes(text) => PlaceInText::InQuotes(text.copy()),
+            PlaceInText::InStroke(text) => PlaceInText::InStroke(text.copy()),
+        }
+    }
 }

@@ -35,6 +35,20 @@ impl Row {
         }
     }
 
+    /// The same texts once more.
+    pub(crate) fn copy(&self) -> Row
+        ensures { result ≡ self.now }
+    {
+        Row {
+            event: same(&self.event),
+            site: same(&self.site),
+            date: same(&self.date),
+            round: same(&self.round),
+            white: same(&self.white),
+            black: same(&self.black),
+        }
+    }
+
     /// Notes the text of a tag, where its name is one of the six and none of that name was told.
     pub(crate) fn note(&mut self, name: &[u8], text: &Text)
         ensures { self.new ≡ noted name.now text.now self.old }
@@ -68,6 +82,16 @@ impl Row {
     }
 }
 
+/// The same text once more, if there is one.
+fn same(slot: &Option<Text>) -> Option<Text>
+    ensures { result ≡ slot.now }
+{
+    match slot {
+        Some(text) => Some(text.copy()),
+        None => None,
+    }
+}
+
 /// Notes a text of that name as the one of `key`, if it is the first.
 fn note_as(slot: &mut Option<Text>, key: &[u8], name: &[u8], text: &Text)
     ensures { slot.new ≡ noted_as key.now name.now text.now slot.old }
@@ -87,21 +111,21 @@ fn text_or(slot: &Option<Text>, alloc: Global, absent: &[u8]) -> Result<Listed<u
     }
 }
 
-/// A list of these bytes.
-pub(crate) fn copied(alloc: Global, bytes: &[u8]) -> Result<Listed<u8>, NoMemory>
-    ensures { IfOk result (λ list. list ≡ bytes.now) }
+/// A list of these items.
+pub(crate) fn copied<T: Copy + Drop>(alloc: Global, items: &[T]) -> Result<Listed<T>, NoMemory>
+    ensures { IfOk result (λ list. list ≡ items.now) }
 {
     let mut list = Listed::new(alloc);
-    put_all(&mut list, bytes)?;
+    put_all(&mut list, items)?;
     Ok(list)
 }
 
-/// Puts these bytes behind the others.
-fn put_all(list: &mut Listed<u8>, bytes: &[u8]) -> Result<(), NoMemory>
-    ensures { OnOk result (list.new ≡ list.old ++ bytes.now) }
+/// Puts these items behind the others.
+fn put_all<T: Copy + Drop>(list: &mut Listed<T>, items: &[T]) -> Result<(), NoMemory>
+    ensures { OnOk result (list.new ≡ list.old ++ items.now) }
 {
-    for byte in bytes {
-        list.push(*byte)?;
+    for item in items {
+        list.push(*item)?;
     }
     Ok(())
 }

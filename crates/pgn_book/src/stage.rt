@@ -1,4 +1,6 @@
 //! What has come of a game.
+ghost use Rattle.std.specs.Prelude.{◌≡◌};
+
 use crate::text::Text;
 
 /// Where the next piece stands in a game.
@@ -16,4 +18,20 @@ pub(crate) enum Stage {
     Told,
     /// In the moves.
     Moves,
+}
+
+impl Stage {
+    /// The same stage once more.
+    pub(crate) fn copy(&self) -> Stage
+        ensures { result ≡ self.now }
+    {
+        match self {
+            Stage::Before => Stage::Before,
+            Stage::Tags => Stage::Tags,
+            Stage::Opened => Stage::Opened,
+            Stage::Named(name) => Stage::Named(name.copy()),
+            Stage::Told => Stage::Told,
+            Stage::Moves => Stage::Moves,
+        }
+    }
 }

@@ -44,6 +44,18 @@ impl Walk {
         }
     }
 
+    /// The same once more.
+    pub(crate) fn duplicate(&self, alloc: Global) -> Result<Walk, NoMemory>
+        ensures { IfOk result (λ copy. copy ≡ self.now) }
+    {
+        let book = self.book.duplicate(alloc)?;
+        Ok(Walk {
+            place: self.place.copy(),
+            depth: self.depth,
+            book,
+        })
+    }
+
     /// Takes a byte.
     pub(crate) fn step(&mut self, alloc: Global, byte: u8) -> Result<Read, NoMemory>
         ensures taken { IfOk result (λ read. IsStep read self.new (step self.old byte)) }

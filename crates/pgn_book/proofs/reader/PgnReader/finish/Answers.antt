@@ -1,29 +1,30 @@
-use Rattle.std.proofs.Common.{subst}
-use Rattle.pgn_book.specs.declared.reader.PgnStep.{PgnStep}
-use Rattle.pgn_book.specs.Reader.{IsNext, IsLast, LeavesFewer}
-use Rattle.pgn_book.proofs.ReaderSteps.{next_last, last_behind, fewer_last, halted_at_end}
+use Rattle.std.proofs.Common.{◌≡◌, None, Some, drop}
+use Rattle.pgn_book.specs.Reader.{facing}
+use Rattle.pgn_book.proofs.ReaderSteps.{has_read, game_is_last, end_is_last}
 use Rattle.pgn_book.proofs.reader.PgnReader.finish.Goals as goal
-use Rattle.std.proofs.lemmas.Result.{IfOk-weaker, on_err_weaker}
 
-pub returns-in-More-clause-last : goal.returns-in-More-clause-last
-returns-in-More-clause-last c =
-    IfOk-weaker c.end.result (λ step. IsLast c.next.new.self step c.end.new.self) (λ step. IsLast c.args.self.now step _)
-    (λ step h. last_behind c.args.self.now c.next.new.self c.end.new.self step (subst (λ (s : PgnStep). IsNext c.args.self.now s c.next.new.self) c.in-More.is c.in_ok-step.ensures.next).0.goes_on h)
-    c.end.ensures.last
+pub returns-in-Some-clause-last : goal.returns-in-Some-clause-last
+returns-in-Some-clause-last c =
+    let game = c.in_ok-game.game-is in
+    let read = c.in_ok-game.read-is in
+    let some = c.in-Some.is in
+    let advanced = c.advance.ensures in
+    let found : c.in_ok-game.field-0.game ≡ Some c.in-Some.game = cc in
+    let new_is : c.advance.new.self ≡ facing c.read.new.self (drop c.in_ok-game.field-0.read c.args.self.now.rest) = cc in
+    game_is_last c.args.self.now c.advance.new.self c.in_ok-game.field-0.game c.in-Some.game c.read.new.self (drop c.in_ok-game.field-0.read c.args.self.now.rest)
+    (has_read c.args.self.now c.in_ok-scan.scan c.read.new.self c.rest.result.now c.in_ok-game.field-0.read c.in_ok-game.field-0.game c.in_ok-scan.ensures c.rest.ensures
+    c.in_ok-game.ensures.goes_on c.in_ok-game.ensures.all)
+    found new_is
 
-pub returns-in_default-clause-last : goal.returns-in_default-clause-last
-returns-in_default-clause-last c = next_last c.args.self.now c.next.new.self c.in_ok-step.step c.in_ok-step.ensures.next c.in_default.not-More
-
-pub returns-in-More-clause-fewer : goal.returns-in-More-clause-fewer
-returns-in-More-clause-fewer c =
-    IfOk-weaker c.end.result (λ step. LeavesFewer c.next.new.self step c.end.new.self) (λ step. LeavesFewer c.args.self.now step _)
-    (λ step h. fewer_last c.args.self.now c.next.new.self c.end.new.self step (subst (λ (s : PgnStep). LeavesFewer c.args.self.now s c.next.new.self) c.in-More.is c.in_ok-step.ensures.fewer) h)
-    c.end.ensures.fewer
-
-pub returns-in-More-clause-halted : goal.returns-in-More-clause-halted
-returns-in-More-clause-halted c =
-    on_err_weaker c.end.result
-    (halted_at_end c.args.self.now c.next.new.self c.end.new.self
-    (subst (λ (s : PgnStep). IsNext c.args.self.now s c.next.new.self) c.in-More.is c.in_ok-step.ensures.next)
-    (subst (λ (s : PgnStep). LeavesFewer c.args.self.now s c.next.new.self) c.in-More.is c.in_ok-step.ensures.fewer))
-    c.end.ensures.unchanged
+pub returns-clause-last : goal.returns-clause-last
+returns-clause-last c =
+    let game = c.in_ok-game.game-is in
+    let read = c.in_ok-game.read-is in
+    let none = c.in_default.is in
+    let advanced = c.advance-2.ensures in
+    let none_found : c.in_ok-game.field-0.game ≡ None = cc in
+    let new_is : c.advance-2.new.self ≡ facing c.end.new.self (drop c.in_ok-game.field-0.read c.args.self.now.rest) = cc in
+    end_is_last c.args.self.now c.advance-2.new.self c.in_ok-game.field-0.game c.read.new.self c.end.new.self (drop c.in_ok-game.field-0.read c.args.self.now.rest) c.in_ok-step.step
+    (has_read c.args.self.now c.in_ok-scan.scan c.read.new.self c.rest.result.now c.in_ok-game.field-0.read c.in_ok-game.field-0.game c.in_ok-scan.ensures c.rest.ensures
+    c.in_ok-game.ensures.goes_on c.in_ok-game.ensures.all)
+    none_found c.in_ok-step.ensures.last new_is

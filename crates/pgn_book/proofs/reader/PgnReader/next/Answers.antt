@@ -1,19 +1,19 @@
-use Rattle.std.proofs.Common.{None, Option, ap, subst}
-use Rattle.pgn_book.specs.declared.game.PgnGame.{PgnGame}
-use Rattle.pgn_book.specs.Reader.{Reader, GoesOn}
-use Rattle.pgn_book.proofs.ReaderSteps.{next_bad, passed_more}
+use Rattle.std.proofs.Common.{◌≡◌, None, drop, subst, sym}
+use Rattle.pgn_book.specs.declared.reader.PgnStep.{PgnStep}
+use Rattle.pgn_book.specs.Reader.{IsNext, facing}
+use Rattle.pgn_book.proofs.ReaderSteps.{has_read, none_is_next}
 use Rattle.pgn_book.proofs.reader.PgnReader.next.Goals as goal
 
 pub returns-clause-next : goal.returns-clause-next
 returns-clause-next c =
-    next_bad c.args.self.now c.loop-byte.self c.forget.new.self c.self.inside.goes_on c.self.inside.walk c.self.inside.line c.loop-byte.invariant.halted.goes_on
-    (c.in_default.ensures {u = tt}).none c.forget.ensures (ap (λ (r : Reader). r.on) c.self.view_is) (ap (λ (r : Reader). r.line) c.self.view_is) c.if-self.false
-
-pub loop-byte-preserved : goal.loop-byte-preserved
-loop-byte-preserved c =
-    let goes_on : GoesOn c.loop-byte.self None c.take.new.self =
-    subst (λ (given : Option PgnGame). GoesOn c.loop-byte.self given c.take.new.self) c.in_default-2.is (c.in_ok-game.ensures {u = tt}).goes_on in
-    record {
-      halted = passed_more c.args.self.now c.loop-byte.self c.take.new.self c.in-Some.byte c.loop-byte.invariant.halted
-          (c.in-Some.ensures {u = tt}).first goes_on (c.in_ok-game.ensures {u = tt}).rest;
-    }
+    let game = c.in_ok-game.game-is in
+    let read = c.in_ok-game.read-is in
+    let none = c.in_default.is in
+    let advanced = c.advance-2.ensures in
+    let none_found : c.in_ok-game.field-0.game ≡ None = cc in
+    let new_is : c.advance-2.new.self ≡ facing c.read.new.self (drop c.in_ok-game.field-0.read c.args.self.now.rest) = cc in
+    subst (λ (step : PgnStep). IsNext c.args.self.now step c.advance-2.new.self) (sym c.told-step.ensures)
+    (none_is_next c.args.self.now c.advance-2.new.self c.in_ok-game.field-0.game c.read.new.self (drop c.in_ok-game.field-0.read c.args.self.now.rest)
+    (has_read c.args.self.now c.in_ok-scan.scan c.read.new.self c.rest.result.now c.in_ok-game.field-0.read c.in_ok-game.field-0.game c.in_ok-scan.ensures c.rest.ensures
+    c.in_ok-game.ensures.goes_on c.in_ok-game.ensures.all)
+    none_found new_is)
