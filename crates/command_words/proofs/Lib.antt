@@ -1,3 +1,4 @@
+pub mod ByFront
 pub mod CommandOfLine
 pub mod Decimals
 pub mod Digits

@@ -2,7 +2,7 @@
 
 ghost use Rattle.std.specs.Prelude.{◌≡◌, count_by, find};
 ghost use Rattle.command_words.specs.declared.rows.TheConstants.{ROWS};
-ghost use Rattle.command_words.specs.Naming.{begins, is_called, is_name, named_by, taken};
+ghost use Rattle.command_words.specs.Naming.{begins, is_called, is_name, named_by, one_by_front, taken};
 
 use crate::rows::{ROWS, Row, Takes};
 use fics_words::Refusal;
@@ -12,13 +12,20 @@ use fics_words::Refusal;
 pub(crate) fn named_by(word: &[u8]) -> Result<Takes, Refusal>
     ensures { result ≡ named_by word.now }
 {
-    if let Some(takes) = called(word) {
-        return Ok(takes);
+    match called(word) {
+        Some(takes) => Ok(takes),
+        None => one_by_front(count_begun(word), first_begun(word)),
     }
-    if count_begun(word) > 1 {
+}
+
+/// The one command whose name begins with a word, by how many there are and the first of them.
+fn one_by_front(count: usize, begun: Option<Takes>) -> Result<Takes, Refusal>
+    ensures { result ≡ one_by_front count begun }
+{
+    if count > 1 {
         return Err(Refusal::AmbiguousWord);
     }
-    match first_begun(word) {
+    match begun {
         Some(takes) => Ok(takes),
         None => Err(Refusal::Unknown),
     }

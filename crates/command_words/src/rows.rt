@@ -1,5 +1,5 @@
-//! The table of commands, a row each, and what they take. `tools/commands` prints the tables of docs/RULES.md and
-//! docs/CLIENTS.md from the comments here.
+//! The table of commands, a row each, and what they take. `tools/commands` prints the table of docs/CLIENTS.md from the
+//! comments here.
 
 /// The commands that take nothing.
 #[derive(Clone, Copy)]

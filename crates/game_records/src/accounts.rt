@@ -4,6 +4,7 @@ ghost use Rattle.fics_words.specs.Handle.{IsHandle};
 ghost use Rattle.game_records.specs.Reading.{account_in};
 ghost use Rattle.game_records.specs.Spelling.{account_text};
 
+use crate::bytes::write_bytes;
 use crate::names::{behind_name, name_in, write_name};
 use crate::numbers::behind;
 use fics_words::{Account, Digest};
@@ -16,10 +17,9 @@ const HEAD: &[u8; 2] = b"\x01\x41";
 pub(crate) fn write_account(out: &mut Vec<u8>, account: &Account) -> Result<(), NoMemory>
     ensures { OnOk result (out.new.items ≡ out.old.items ++ account_text account.now) }
 {
-    out.extend_from_slice(HEAD)?;
+    write_bytes(out, HEAD)?;
     write_name(out, &account.name)?;
-    out.extend_from_slice(&account.digest)?;
-    Ok(())
+    write_bytes(out, &account.digest)
 }
 
 /// The account that the bytes may be the record of, where the name is a handle and the digest is whole.

@@ -1,6 +1,7 @@
 //! The bytes of a key or a record.
-ghost use Rattle.std.specs.Prelude.{◌≡◌};
+ghost use Rattle.std.specs.Prelude.{◌≡◌, ◌++◌, OnOk};
 
+use memory::NoMemory;
 use std::marker::Model;
 
 /// The bytes of a key or a record, which contracts see as that list.
@@ -31,4 +32,12 @@ impl Bytes {
     {
         self.bytes.as_slice()
     }
+}
+
+/// Appends the bytes.
+pub(crate) fn write_bytes(out: &mut Vec<u8>, bytes: &[u8]) -> Result<(), NoMemory>
+    ensures { OnOk result (out.new.items ≡ out.old.items ++ bytes.now) }
+{
+    out.extend_from_slice(bytes)?;
+    Ok(())
 }

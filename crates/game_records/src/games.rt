@@ -7,6 +7,7 @@ ghost use Rattle.game_records.specs.Reading.{variant_in, behind_variant, game_be
 ghost use Rattle.game_records.specs.Spelling.{variant_text, game_text};
 
 use crate::bounds::seats;
+use crate::bytes::write_bytes;
 use crate::halves::{counted_halves, write_halves};
 use crate::names::{behind_names, names_in, write_names};
 use crate::numbers::{behind, byte_at, two_in, write_two};
@@ -39,11 +40,11 @@ fn write_variant(out: &mut Vec<u8>, variant: Variant) -> Result<(), NoMemory>
     ensures { OnOk result (out.new.items ≡ out.old.items ++ variant_text variant) }
 {
     match variant {
-        Variant::Chess => Ok(out.extend_from_slice(b"\x01\x47\x00")?),
-        Variant::Crazyhouse => Ok(out.extend_from_slice(b"\x01\x47\x01")?),
-        Variant::Bughouse => Ok(out.extend_from_slice(b"\x02\x47\x02")?),
+        Variant::Chess => write_bytes(out, b"\x01\x47\x00"),
+        Variant::Crazyhouse => write_bytes(out, b"\x01\x47\x01"),
+        Variant::Bughouse => write_bytes(out, b"\x02\x47\x02"),
         Variant::Fischer(number) => {
-            out.extend_from_slice(b"\x03\x47")?;
+            write_bytes(out, b"\x03\x47")?;
             write_two(out, number)
         }
     }

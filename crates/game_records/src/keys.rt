@@ -1,9 +1,9 @@
 //! The keys of the store.
-ghost use Rattle.std.specs.Prelude.{◌≡◌, ◌≢◌, ◌≤◌, ◌<◌, ◌^◌, ℕ, IfOk, IfSome, IfNone};
+ghost use Rattle.std.specs.Prelude.{◌≡◌, ◌≢◌, ◌∷◌, ◌≤◌, ◌<◌, ◌^◌, ℕ, IfOk, IfSome, IfNone};
 ghost use Rattle.game_records.specs.Keys.{account_key, game_key};
 
 use crate::bytes::Bytes;
-use crate::numbers::{behind, byte_at, eight_in, write_eight};
+use crate::numbers::{behind, byte_at, eight_in};
 use fics_words::HandleKey;
 use memory::NoMemory;
 use std::alloc::Global;
@@ -21,20 +21,25 @@ const GAME_KEY: usize = 9;
 pub fn account_key(alloc: Global, name: HandleKey) -> Result<Bytes, NoMemory>
     ensures { IfOk result (λ key. key ≡ account_key name) }
 {
-    let mut out = Vec::new(alloc);
-    out.push(ACCOUNT)?;
-    out.extend_from_slice(name.letters())?;
-    Ok(Bytes::of(out))
+    key_with(alloc, ACCOUNT, name.letters())
 }
 
 /// The key of the stored game of this number, which is from 1 on.
+#[tactic(auto, unfolding(crate::specs::Numbers::eight_bytes))]
 pub fn game_key(alloc: Global, number: u64) -> Result<Bytes, NoMemory>
     requires { 1 ≤ number }
     ensures { IfOk result (λ key. key ≡ game_key number) }
 {
+    key_with(alloc, GAME, &number.to_be_bytes())
+}
+
+/// The key that begins with this byte and goes on so.
+fn key_with(alloc: Global, first: u8, rest: &[u8]) -> Result<Bytes, NoMemory>
+    ensures { IfOk result (λ key. key ≡ first ∷ rest.now) }
+{
     let mut out = Vec::new(alloc);
-    out.push(GAME)?;
-    write_eight(&mut out, number)?;
+    out.push(first)?;
+    out.extend_from_slice(rest)?;
     Ok(Bytes::of(out))
 }
 

@@ -5,6 +5,7 @@ ghost use Rattle.fics_words.specs.Handle.{IsHandle};
 ghost use Rattle.game_records.specs.Reading.{name_in, behind_name, names_in, behind_names};
 ghost use Rattle.game_records.specs.Spelling.{name_text, names_text};
 
+use crate::bytes::write_bytes;
 use crate::numbers::{behind, byte_at, front};
 use collections::Listed;
 use fics_words::Handle;
@@ -17,8 +18,7 @@ pub(crate) fn write_name(out: &mut Vec<u8>, name: &Handle) -> Result<(), NoMemor
 {
     let letters = name.letters();
     out.push(letters.len() as u8)?;
-    out.extend_from_slice(letters)?;
-    Ok(())
+    write_bytes(out, letters)
 }
 
 /// Appends each name.

@@ -3,6 +3,7 @@ ghost use Rattle.std.specs.Prelude.{◌≡◌, ◌++◌, OnOk, drop, take, slice
 ghost use Rattle.game_records.specs.Numbers.{two_bytes, four_bytes, eight_bytes};
 ghost use Rattle.game_records.specs.Reading.{two_in, four_in, eight_in};
 
+use crate::bytes::write_bytes;
 use memory::NoMemory;
 
 /// The byte at a place, and 0 behind the end.
@@ -69,8 +70,7 @@ pub(crate) fn eight_in(bytes: &[u8]) -> u64
 pub(crate) fn write_two(out: &mut Vec<u8>, number: u16) -> Result<(), NoMemory>
     ensures { OnOk result (out.new.items ≡ out.old.items ++ two_bytes number) }
 {
-    out.extend_from_slice(&number.to_be_bytes())?;
-    Ok(())
+    write_bytes(out, &number.to_be_bytes())
 }
 
 /// Appends the four bytes of a number.
@@ -78,8 +78,7 @@ pub(crate) fn write_two(out: &mut Vec<u8>, number: u16) -> Result<(), NoMemory>
 pub(crate) fn write_four(out: &mut Vec<u8>, number: u32) -> Result<(), NoMemory>
     ensures { OnOk result (out.new.items ≡ out.old.items ++ four_bytes number) }
 {
-    out.extend_from_slice(&number.to_be_bytes())?;
-    Ok(())
+    write_bytes(out, &number.to_be_bytes())
 }
 
 /// Appends the eight bytes of a number.
@@ -87,6 +86,5 @@ pub(crate) fn write_four(out: &mut Vec<u8>, number: u32) -> Result<(), NoMemory>
 pub(crate) fn write_eight(out: &mut Vec<u8>, number: u64) -> Result<(), NoMemory>
     ensures { OnOk result (out.new.items ≡ out.old.items ++ eight_bytes number) }
 {
-    out.extend_from_slice(&number.to_be_bytes())?;
-    Ok(())
+    write_bytes(out, &number.to_be_bytes())
 }
