@@ -9,8 +9,8 @@ pub const LAST_MOMENT: u64 = 1 << 48;
 
 /// Time that a player spent on one half-move, from `begin` to `end`, in milliseconds of the server.
 ///
-/// `begin` is not after `end`. A charge that is made to a ledger ends at `LAST_MOMENT` at the latest, and its stamps are
-/// below `STAMP_CYCLE`.
+/// `begin` is not after `end`. A charge that is made to a ledger ends at `LAST_MOMENT` at the latest, and its stamps
+/// are below `STAMP_CYCLE`.
 ///
 /// `client` has the stamps that the player's own machine put on the board's acknowledgement and on the move, where it
 /// stamps its lines. With them the player isn't charged for the time that the lines were on their way.

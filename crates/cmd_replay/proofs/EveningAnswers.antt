@@ -16,7 +16,7 @@ use Rattle.replay_core.specs.Order.{Arrival, MayCome, left_of}
 use Rattle.replay_core.specs.Attendance.{IsAfter}
 use Rattle.replay_core.specs.SeatLine.{IsSeatLine, players_of, seat_text}
 use Rattle.session_core.specs.Memory.{MemoryState, newcomer}
-use Rattle.cmd_replay.specs.Evening.{EveningState, Does, HasDone, HasMade, AfterLeaving, AreMemories, IsClosed, IsNext, IsNoNext, IsOrdered, KeepsOrder, LeaveInOrder, MayFollow, Reached, Row, Seats, Comes, arrivals_of, history_of, is_written, last_moment, left_by, line_of, opening_parts, parts_after, quit_of, remembered, seated_by, seated_from, seating_acts}
+use Rattle.cmd_replay.specs.Evening.{EveningState, Does, HasDone, HasMade, AfterLeaving, AreMemories, IsClosed, IsNext, IsNoNext, IsOrdered, KeepsOrder, LeaveInOrder, MayFollow, Reached, Row, Seats, Comes, arrivals_of, history_of, is_written, final_moment, left_by, line_of, opening_parts, parts_after, quit_of, remembered, seated_by, seated_from, seating_acts}
 use Rattle.cmd_replay.specs.EveningLinesProof.{no_snoc, none_has, one_line_more}
 use Rattle.cmd_replay.specs.EveningsProof.{came-append, seated-push}
 use Rattle.cmd_replay.specs.FollowingProof.{legal_back}
@@ -110,14 +110,14 @@ seats_taken old new seat progress first some short spelled opening made legal or
     let none : at.rows ≡ [] = no_rows old.order at.rows at.ordered first in
     let server : new.server ≡ record { opening = opening_parts; log = history_of at.rows ++ entries } = server_more lines old due at entries new.server opening made.more in
     let own : Legal house opening_parts entries = subst (λ (rows : List Row). Legal house (parts_after rows) entries) none (legal_more at.rows entries new.server server legal) in
-    let last : old.moment ≡ 0 = at.last ∙ ap (λ (rows : List Row). last_moment (arrivals_of rows)) none in
+    let last : old.moment ≡ 0 = at.last ∙ ap (λ (rows : List Row). final_moment (arrivals_of rows)) none in
     let new_ones : AreMemories old.memories (λ session. newcomer) = subst (λ (rows : List Row). AreMemories old.memories (remembered rows)) none at.memories in
     one_line_more lines old new due at (seat_text seat) row (written_line (seat_text seat) some) refl
     (record { first = none; spelled = spelled; short = short; acts = made.acts_are; legal = own })
     server
     (subst (λ (o : Option Attendance). IsOrdered o (at.rows ++ row ∷ [])) (sym order)
     (no_snoc at.rows row, subst (λ (rows : List Row). IsAfter progress (seated_by (rows ++ row ∷ [])) (arrivals_of (rows ++ row ∷ []))) (sym none) after))
-    (moment ∙ last ∙ subst (λ (rows : List Row). 0 ≡ last_moment (arrivals_of (rows ++ row ∷ []))) (sym none) refl)
+    (moment ∙ last ∙ subst (λ (rows : List Row). 0 ≡ final_moment (arrivals_of (rows ++ row ∷ []))) (sym none) refl)
     (subst (λ (m : List MemoryState). AreMemories m (remembered (at.rows ++ row ∷ []))) (sym memories)
     (subst (λ (rows : List Row). AreMemories (seated_from 0 seat.names old.memories) (remembered (rows ++ row ∷ []))) (sym none)
     (seated_memories old.memories seat entries new_ones)))
@@ -126,7 +126,7 @@ seats_taken old new seat progress first some short spelled opening made legal or
 pub seats_answered : (old new : EveningState) (line out : List ℕ) (seat : SeatLine) → line ≡ seat_text seat → Takes Reached old (seat_text seat) new [] → AfterAnswering Reached old line out new out true
 seats_answered old new line out seat text takes = ([], sym (append-nil out), subst (λ (l : List ℕ). Takes Reached old l new []) (sym text) takes)
 
-last-push : (lines : List Arrival) (came : Arrival) → last_moment (lines ++ came ∷ []) ≡ came.line.moment
+last-push : (lines : List Arrival) (came : Arrival) → final_moment (lines ++ came ∷ []) ≡ came.line.moment
 last-push [] came = refl
 last-push (first ∷ []) came = refl
 last-push (first ∷ next ∷ lines) came = last-push (next ∷ lines) came
@@ -169,7 +169,7 @@ coming_taken old new line next progress then before kept out out' quit keeps som
         subst (λ (n : ℕ). IsAfter then n (arrivals_of (at.rows ++ row ∷ []))) (sym (seated-push at.rows next entries done.bytes kept))
             (subst (IsAfter then (seated_by at.rows)) (sym rows_came) then_after),
       ))
-      (moment ∙ sym (ap last_moment rows_came ∙ last-push (arrivals_of at.rows) came))
+      (moment ∙ sym (ap final_moment rows_came ∙ last-push (arrivals_of at.rows) came))
       (subst (λ (m : List MemoryState). AreMemories m (remembered (at.rows ++ row ∷ []))) (sym put)
       (one_memory old.memories at.rows next entries done.bytes kept is_next.spelled.first at.memories)),
 )
@@ -199,11 +199,11 @@ nobody_left = refl
 pub closed_before : (old new : EveningState) → old.order ≡ None → new.server ≡ old.server → IsClosed old new
 closed_before old new first server lines due at =
     let none : [] ≡ at.rows = sym (no_rows old.order at.rows at.ordered first) in
-    let nobody : LeaveInOrder (remembered []) (last_moment (arrivals_of [])) (left_by []) [] =
+    let nobody : LeaveInOrder (remembered []) (final_moment (arrivals_of [])) (left_by []) [] =
     subst (λ (sessions : List ℕ). LeaveInOrder (remembered []) 0 sessions []) (sym nobody_left) refl in
     record {
       entries = [];
-      leave = subst (λ (rows : List Row). LeaveInOrder (remembered rows) (last_moment (arrivals_of rows)) (left_by rows) []) none nobody;
+      leave = subst (λ (rows : List Row). LeaveInOrder (remembered rows) (final_moment (arrivals_of rows)) (left_by rows) []) none nobody;
       more = server ∙ ap (λ (l : Log). record old.server { log = l }) (sym (append-nil old.server.log));
       legal = tt;
     }

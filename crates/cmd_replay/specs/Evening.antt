@@ -232,10 +232,10 @@ LeaveInOrder remember moment (session ∷ sessions) made =
     × Follows (departing (remember session)) session moment own [] last × LeaveInOrder remember moment sessions others
 
 -- the moment of the last of some lines; 0 before any
-abbrev pub last_moment : List Arrival → ℕ
-last_moment [] = 0
-last_moment (came ∷ []) = came.line.moment
-last_moment (came ∷ next ∷ lines) = last_moment (next ∷ lines)
+abbrev pub final_moment : List Arrival → ℕ
+final_moment [] = 0
+final_moment (came ∷ []) = came.line.moment
+final_moment (came ∷ next ∷ lines) = final_moment (next ∷ lines)
 
 -- the sessions that are left after the rows
 abbrev pub left_by : List Row → List ℕ
@@ -245,7 +245,7 @@ left_by rows = left_of (seated_by rows) (arrivals_of rows)
 -- nothing else was done
 pub record HasClosed (rows : List Row) (old new : ServerState) : Type 0 where
   pub entries : Log
-  pub leave : LeaveInOrder (remembered rows) (last_moment (arrivals_of rows)) (left_by rows) entries
+  pub leave : LeaveInOrder (remembered rows) (final_moment (arrivals_of rows)) (left_by rows) entries
   pub more : new ≡ record old { log = old.log ++ entries }
   pub legal : Legal house (parts_in old) entries
 
@@ -277,7 +277,7 @@ pub record Reached (lines : List (List ℕ)) (evening : EveningState) (due : Lis
   pub text : due ≡ transcript_of rows
   pub server : evening.server ≡ record { opening = opening_parts; log = history_of rows }
   pub ordered : IsOrdered evening.order rows
-  pub last : evening.moment ≡ last_moment (arrivals_of rows)
+  pub last : evening.moment ≡ final_moment (arrivals_of rows)
   pub memories : AreMemories evening.memories (remembered rows)
 
 -- the evening has closed: whatever the rows are that brought it to where it stood, those that were left have left

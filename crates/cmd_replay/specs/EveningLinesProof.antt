@@ -9,7 +9,7 @@ use Rattle.replay_core.specs.declared.order.Attendance.{Attendance}
 use Rattle.replay_core.specs.Order.{Arrival}
 use Rattle.replay_core.specs.Attendance.{IsAfter, presence_of}
 use Rattle.session_core.specs.Memory.{MemoryState, newcomer}
-use Rattle.cmd_replay.specs.Evening.{Row, Seats, Comes, AreMemories, EveningState, IsOrdered, Reached, IsEvening, MayFollow, is_written, line_of, entries_of, text_of_row, history_of, transcript_of, arrivals_of, last_moment, opening_parts, remembered, seated_by}
+use Rattle.cmd_replay.specs.Evening.{Row, Seats, Comes, AreMemories, EveningState, IsOrdered, Reached, IsEvening, MayFollow, is_written, line_of, entries_of, text_of_row, history_of, transcript_of, arrivals_of, final_moment, opening_parts, remembered, seated_by}
 use Rattle.cmd_lines.specs.Handling.{AreLines, IsOutside}
 use Rattle.cmd_replay.specs.EveningsProof.{evening_step, history-push, transcript-push, lines-append, one_evening}
 
@@ -74,7 +74,7 @@ pub standing_of : List Row → EveningState
 standing_of rows = record {
   server = record { opening = opening_parts; log = history_of rows };
   order = order_of rows;
-  moment = last_moment (arrivals_of rows);
+  moment = final_moment (arrivals_of rows);
   memories = memories_of (remembered rows);
 }
 
@@ -129,7 +129,7 @@ empty_push lines = filter-append is_written lines ([] ∷ []) ∙ append-nil (fi
 pub one_line_more : (lines : List (List ℕ)) (evening next : EveningState) (due : List ℕ) (at : Reached lines evening due) (line : List ℕ) (row : Row)
     → is_written line ≡ true → line ≡ line_of row → MayFollow at.rows row
     → next.server ≡ record { opening = opening_parts; log = history_of at.rows ++ entries_of row } → IsOrdered next.order (at.rows ++ row ∷ [])
-    → next.moment ≡ last_moment (arrivals_of (at.rows ++ row ∷ [])) → AreMemories next.memories (remembered (at.rows ++ row ∷ []))
+    → next.moment ≡ final_moment (arrivals_of (at.rows ++ row ∷ [])) → AreMemories next.memories (remembered (at.rows ++ row ∷ []))
     → Reached (lines ++ line ∷ []) next (due ++ text_of_row row)
 one_line_more lines evening next due at line row written spelled follows server ordered last memories = record {
   rows = at.rows ++ row ∷ [];

@@ -5,7 +5,7 @@ use Rattle.histories.specs.History.{Legal}
 use Rattle.one_server.specs.House.{house}
 use Rattle.one_server.specs.Running.{Log}
 use Rattle.cmd_lines.specs.Ends.{HasRead}
-use Rattle.cmd_replay.specs.Evening.{Row, Reached, IsEvening, LeaveInOrder, is_written, line_of, history_of, transcript_of, arrivals_of, last_moment, left_by, opening_parts, remembered}
+use Rattle.cmd_replay.specs.Evening.{Row, Reached, IsEvening, LeaveInOrder, is_written, line_of, history_of, transcript_of, arrivals_of, final_moment, left_by, opening_parts, remembered}
 use Rattle.cmd_lines.specs.HandlerEnds.{ArePartAnswered, AreStopped}
 use Rattle.cmd_lines.specs.Lines.{lines_come}
 use Rattle.cmd_lines.specs.declared.end.End.{End}
@@ -34,7 +34,7 @@ pub record AreReplayed (left left' written written' : Option (List ℕ)) (ended 
 pub record IsReplayed (left left' written written' : Option (List ℕ)) : Type 0 where
   pub replayed : AreReplayed left left' written written' true
   pub leaving : Log
-  pub leave : LeaveInOrder (remembered replayed.rows) (last_moment (arrivals_of replayed.rows))
+  pub leave : LeaveInOrder (remembered replayed.rows) (final_moment (arrivals_of replayed.rows))
       (left_by replayed.rows) leaving
   pub legal : Legal house opening_parts (history_of replayed.rows ++ leaving)
 

@@ -10,7 +10,7 @@ use Rattle.chess_model.specs.Answer.{IsAnswer}
 use Rattle.fics_words.specs.Effect.{unless}
 use Rattle.fics_words.specs.declared.refusal.Refusal.{Refusal}
 use Rattle.game_board.specs.Board.{Board, position_of}
-use Rattle.game_board.specs.Play.{with_half_move}
+use Rattle.game_board.specs.Play.{next_charge, with_half_move}
 use Rattle.game_board.specs.Scoresheet.{IsTrueScore}
 use Rattle.histories.specs.Core.{after, new_first, new_second, other_of, part_at, put, reply, second_of}
 use Rattle.histories.proofs.Histories.{stays_whole}
@@ -38,7 +38,7 @@ use Rattle.one_server.specs.Whole.{IsWhole}
 use Rattle.rules_reading.specs.ReadsBack.{IsReadAs, pretty_in}
 use Rattle.rules_reading.proofs.ReadBack.{reads_back}
 use Rattle.desk_laws.specs.LegalMoves.{AcceptsLegalMoves, IsLegalMove, IsPlayed, IsToMove, TakesLegalMoves, playing}
-use Rattle.desk_laws.proofs.Boards.{board_after, boards_moved, moves_after}
+use Rattle.desk_laws.proofs.Boards.{board_after, boards_moved, charged_so}
 use Rattle.desk_laws.proofs.Words.{accepted_by, answer_is, desk_said, desk_then, nothing_refuses, refusing, said, takes_word, word_taken}
 use Rattle.desk_boards.proofs.StaySound.{played_there}
 use Rattle.rules_reading.proofs.Answered.{answer_is as is_answer}
@@ -105,7 +105,7 @@ module _ (parts : List Part) (whole : IsWhole parts) (number : ℕ) (desk : Desk
           desk_then desk game session moment word stamp plays
           ∙ (λ i. unless (none i) desk (record desk { game = Some (moved_by desk.number game moment (sits i) word stamp) }))
 
-      played_at : (b : Board) → slice_get game.boards (place_of seat) ≡ Some b → IsPlayed (after house parts session timed) number seat b m
+      played_at : (b : Board) → slice_get game.boards (place_of seat) ≡ Some b → IsPlayed (after house parts session timed) number seat (moment_at game moment) b m
       played_at b there = record {
         desk = record desk { game = Some game_then };
         stands = later_desk ∙ ap (λ (d : DeskState). Some (ADesk d)) desk_is;
@@ -116,10 +116,13 @@ module _ (parts : List Part) (whole : IsWhole parts) (number : ℕ) (desk : Desk
             ap (λ (boards : List Board). slice_get boards (place_of seat)) (boards_moved desk.number (with_cleared seat game) moment (place_of seat) stamp (seat_word game seat word))
             ∙ (λ i. slice_get (boards_after game.boards (place_of seat) (moment_at game moment) stamp (is i)) (place_of seat))
             ∙ board_after game.boards (place_of seat) (moment_at game moment) stamp b m there;
-        half_moves = moves_after b m (moment_at game moment) stamp;
+        last = record { what = m; charge = next_charge b (moment_at game moment) stamp };
+        half_moves = refl;
+        is_move = refl;
+        charged = charged_so b (moment_at game moment) stamp;
       }
 
-    accepted_at : (seat : ℕ) (sits : seat_of game session ≡ Some seat) (runs : game.ended ≡ None) (m : Move) → word_by game (seat_of game session) word ≡ Ok m → IsLegalMove parts (after house parts session timed) number session game word
+    accepted_at : (seat : ℕ) (sits : seat_of game session ≡ Some seat) (runs : game.ended ≡ None) (m : Move) → word_by game (seat_of game session) word ≡ Ok m → IsLegalMove parts (after house parts session timed) number session moment game word
     accepted_at seat sits runs m e =
         let is : seat_word game seat word ≡ Ok m = sym (ap (λ (o : Option ℕ). word_by game o word) sits) ∙ e in
         let at = played_there (slice_get game.boards (place_of seat)) (colour_at seat) word m is in
@@ -132,7 +135,7 @@ module _ (parts : List Part) (whole : IsWhole parts) (number : ℕ) (desk : Desk
           played = played_at seat sits runs m is at.0 at.1;
         }
 
-    accepted : reply house parts session timed ≡ Some (reply.Desk Done) → IsLegalMove parts (after house parts session timed) number session game word
+    accepted : reply house parts session timed ≡ Some (reply.Desk Done) → IsLegalMove parts (after house parts session timed) number session moment game word
     accepted e =
         let by = accepted_by (seat_of game session) game.ended (word_by game (seat_of game session) word) (reply_done (said (seat_of game session) game.ended (word_by game (seat_of game session) word)) (sym reply_is ∙ e)) in
         accepted_at by.0 by.1 by.2 by.3 by.4

@@ -1,14 +1,14 @@
 -- The boards of a game behind a half-move.
-use Rattle.std.proofs.Common.{◌≡◌, ◌≢◌, ℕ, ◌-◌, List, [], ◌∷◌, ◌++◌, map, Option, Some, None, Result, Ok, refl, ap, ◌∙◌, arith}
-use Rattle.std.specs.Prelude.{slice_get}
-use Rattle.std.specs.Option.{option_map}
-use Rattle.std.proofs.lemmas.List.{map-append}
+use Rattle.std.proofs.Common.{◌≡◌, ◌≢◌, ℕ, ◌-◌, Bool, true, false, if◌then◌else◌, List, Option, Some, None, Result, Ok, refl, ap, ◌∙◌, arith}
+use Rattle.std.specs.Prelude.{◌&&◌, IfSome, slice_get}
+use Rattle.std.specs.Option.{option_map, option_zip}
 use Rattle.std.proofs.lemmas.Option.{slice_get_within}
 use Rattle.chess_model.specs.declared.man.Man.{Man}
 use Rattle.chess_model.specs.declared.moves.Move.{Move}
 use Rattle.fics_words.specs.declared.refusal.Refusal.{Refusal}
-use Rattle.game_board.specs.declared.played.Played.{Played}
-use Rattle.game_board.specs.Board.{Board}
+use Rattle.game_board.specs.Charges.{is_timed}
+use Rattle.clock_ledger.specs.declared.charges.Charge.{Charge}
+use Rattle.game_board.specs.Board.{Board, has_moved, to_move}
 use Rattle.game_board.specs.Play.{next_charge, play_after, with_half_move}
 use Rattle.histories.proofs.Parts.{get_set_else, get_set_same}
 use Rattle.style12_writer.specs.declared.item.Item.{Item}
@@ -69,5 +69,13 @@ board_after boards place moment stamp b m e =
     changed_else (changed_at boards place (λ x. play_after x moment stamp (Ok m))) (other_place place) place (λ x. told_answer x (Ok m)) (other_differs place)
     ∙ changed_here boards place (λ x. play_after x moment stamp (Ok m)) b e
 
-pub moves_after : (b : Board) (m : Move) (moment : ℕ) (stamp : Option ℕ) → map (λ (p : Played). p.what) (with_half_move b m moment stamp).list ≡ map (λ (p : Played). p.what) b.list ++ m ∷ []
-moves_after b m moment stamp = map-append (λ (p : Played). p.what) b.list (record { what = m; charge = next_charge b moment stamp } ∷ [])
+-- what it is charged
+abbrev IsCharged : Board → ℕ → Option Charge → Type 0
+IsCharged b moment charge = IfSome charge (λ c. (c.begin ≡ b.begin) × (c.end ≡ moment))
+
+charged_if : (is : Bool) (b : Board) (moment : ℕ) (stamp : Option ℕ) → IsCharged b moment (if is then Some (record { begin = b.begin; end = moment; client = option_zip b.kept stamp }) else None)
+charged_if true b moment stamp = (refl, refl)
+charged_if false b moment stamp = tt
+
+pub charged_so : (b : Board) (moment : ℕ) (stamp : Option ℕ) → IsCharged b moment (next_charge b moment stamp)
+charged_so b moment stamp = charged_if (is_timed b.terms && has_moved (to_move b) b.list) b moment stamp

@@ -1,3 +1,4 @@
 pub mod Boards
 pub mod Words
 pub mod Accepting
+pub mod Refusing

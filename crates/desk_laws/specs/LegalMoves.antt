@@ -1,7 +1,7 @@
 -- Which moves a desk accepts, in every state: exactly the legal ones of those who are to move there. What is legal are
 -- the Laws of Chess (FIDE 3), by the definitions of `chess_model`; that a word has to stand for one move alone, and
 -- that 1,200 half-moves are the most on a board, is this server's own.
-use Rattle.std.specs.Prelude.{◌≡◌, ℕ, ◌<◌, List, [], ◌∷◌, ◌++◌, map, None, Some, slice_get}
+use Rattle.std.specs.Prelude.{◌≡◌, ℕ, ◌<◌, List, [], ◌∷◌, ◌++◌, None, Some, slice_get, IfSome}
 use Rattle.std.specs.declared.option.Option.{Option}
 use Rattle.chess_model.specs.Limits.{most_halves}
 use Rattle.chess_model.specs.declared.moves.Move.{Move}
@@ -13,7 +13,7 @@ use Rattle.game_board.specs.Board.{Board, position_of, to_move}
 use Rattle.histories.specs.Core.{after, reply}
 use Rattle.linked_desk.specs.declared.acts.DeskAct.TheVariants as act
 use Rattle.linked_desk.specs.declared.acts.DeskReply.TheVariants.{Done}
-use Rattle.linked_desk.specs.Desk.{DeskState, GameState, seat_of}
+use Rattle.linked_desk.specs.Desk.{DeskState, GameState, moment_at, seat_of}
 use Rattle.linked_desk.specs.Seats.{colour_at, place_of}
 use Rattle.move_reader.specs.Reading.{reading}
 use Rattle.one_server.specs.declared.act.Act.TheVariants.{Desk}
@@ -38,31 +38,38 @@ pub record IsToMove (game : GameState) (session : ℕ) (b : Board) : Type 0 wher
 abbrev pub playing : ℕ → GameState → MoveWord → Option ℕ → ℕ → Timed
 playing number game word stamp moment = record { moment = moment; act = Desk number game.serial (act.Move word stamp) }
 
--- behind the half-moves that the board of this seat had stands this one, at the desk of that number
-pub record IsPlayed (later : List Part) (number seat : ℕ) (b : Board) (m : Move) : Type 0 where
+-- behind the half-moves that the board of this seat had stands this one, at the desk of that number. If it was charged,
+-- this is from where the board's clock began to run up to this moment, that of the act
+pub record IsPlayed (later : List Part) (number seat moment : ℕ) (b : Board) (m : Move) : Type 0 where
   pub desk : DeskState
   pub stands : slice_get later number ≡ Some (ADesk desk)
   pub game : GameState
   pub plays : desk.game ≡ Some game
   pub board : Board
   pub there : slice_get game.boards (place_of seat) ≡ Some board
-  pub half_moves : map (λ (p : Played). p.what) board.list ≡ map (λ (p : Played). p.what) b.list ++ m ∷ []
+  pub last : Played
+  pub half_moves : board.list ≡ b.list ++ last ∷ []
+  pub is_move : last.what ≡ m
+  pub charged : IfSome last.charge (λ charge. (charge.begin ≡ b.begin) × (charge.end ≡ moment))
 
 -- a word that a desk accepted: it was said by who is to move, it stands for exactly one legal half-move in the
--- position on that board, and this one was played
-pub record IsLegalMove (parts later : List Part) (number session : ℕ) (game : GameState) (word : MoveWord) : Type 0 where
+-- position on that board, and this one was played at the moment of the act, which counts as no earlier than that of the
+-- act before it
+pub record IsLegalMove (parts later : List Part) (number session moment : ℕ) (game : GameState) (word : MoveWord)
+    : Type 0 where
   pub board : Board
   pub mover : IsToMove game session board
   pub half_move : Move
   pub answer : IsAnswer (position_of board) word half_move
-  pub played : IsPlayed later number mover.seat board half_move
+  pub played : IsPlayed later number mover.seat (moment_at game moment) board half_move
 
 -- the moves of a game at a desk in this state
 pub record TakesLegalMoves (parts : List Part) (number : ℕ) (game : GameState) : Type 0 where
   -- what is accepted is a legal move of who is to move
   pub accepted : (session moment : ℕ) (word : MoveWord) (stamp : Option ℕ)
       → reply house parts session (playing number game word stamp moment) ≡ Some (reply.Desk Done)
-      → IsLegalMove parts (after house parts session (playing number game word stamp moment)) number session game word
+      → IsLegalMove parts (after house parts session (playing number game word stamp moment)) number session moment
+      game word
   -- who is to move has each word accepted that stands for exactly one legal half-move
   pub taken : (session moment : ℕ) (word : MoveWord) (stamp : Option ℕ) (b : Board) (m : Move) → IsToMove game session b
       → IsAnswer (position_of b) word m

@@ -1,2 +1,3 @@
 -- What the contract of this crate cites.
 pub mod LegalMoves
+pub mod Refusals

@@ -1,5 +1,5 @@
 -- What the calls of a door do to what it tells.
-use Rattle.std.specs.Prelude.{◌≡◌, ◌≢◌, ℕ, ◌+◌, ◌<◌, ◌≤◌, ⊤, List, [], ◌∷◌, ◌++◌, length, Some, None, IfSome}
+use Rattle.std.specs.Prelude.{◌≡◌, ◌≢◌, ℕ, ◌+◌, ◌<◌, ◌≤◌, ⊤, List, [], ◌∷◌, ◌++◌, length, IfSome}
 use Rattle.std.specs.declared.option.Option.{Option}
 use Rattle.edge_traits.specs.Link.{Handed, Tale, IsFresh}
 use Rattle.edge_traits.specs.declared.doorway.Came.{Came}
@@ -13,13 +13,6 @@ pub record DoorTale : Type 0 where
   pub came : List (Option Tale)
   pub back : List (ℕ × Handed)
   pub quiets : ℕ
-
--- a relation of what a door told and of what it tells; a door that tells goes on telling, and no other begins to
-abbrev pub Goes : Option DoorTale → Option DoorTale → (DoorTale → DoorTale → Type 0) → Type 0
-Goes None None R = ⊤
-Goes None (Some new) R = ⊥
-Goes (Some old) None R = ⊥
-Goes (Some old) (Some new) R = R old new
 
 -- what an answer of a door, whose links tell this, does to what it tells
 abbrev pub Gives : {L : Type 0} → (L → Option Tale) → Came L → DoorTale → DoorTale → Type 0

@@ -6,3 +6,4 @@ pub mod Link
 pub mod Pairs
 pub mod Sink
 pub mod Source
+pub mod WhereTold

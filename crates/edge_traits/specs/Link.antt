@@ -1,5 +1,5 @@
 -- What a read, a write and a close do to what a link tells.
-use Rattle.std.specs.Prelude.{◌≡◌, ℕ, ⊤, Bool, true, false, List, [], ◌∷◌, ◌++◌, length, map, take, Some, None}
+use Rattle.std.specs.Prelude.{◌≡◌, ℕ, ⊤, Bool, true, false, List, [], ◌∷◌, ◌++◌, length, map, take, IfSome}
 use Rattle.std.specs.declared.option.Option.{Option}
 use Rattle.edge_traits.specs.declared.link.Heard.{Heard}
 use Rattle.edge_traits.specs.declared.link.Heard.TheVariants.{Bytes, Quiet, End, Failed}
@@ -38,11 +38,9 @@ IsFresh tale =
     (tale.taken ≡ []) × (tale.ended ≡ false) × (tale.written ≡ []) × (tale.closed ≡ false)
     × (tale.at_read ≡ record { taken = 0; written = 0; ended = false })
 
--- a relation of two tales, where an object tells; one that tells goes on telling
-abbrev pub Both : {T : Type 0} → Option T → Option T → (T → T → Type 0) → Type 0
-Both None new R = ⊤
-Both (Some old) None R = ⊥
-Both (Some old) (Some new) R = R old new
+-- a link that tells isn't closed
+abbrev pub IsOpen : Option Tale → Type 0
+IsOpen link = IfSome link (λ tale. tale.closed ≡ false)
 
 -- what an answer gives, of which the bytes are the beginning of the buffer
 abbrev pub signs_of : Heard → List ℕ → List Sign

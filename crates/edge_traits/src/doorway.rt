@@ -22,7 +22,8 @@ pub trait Doorway {
     ghost use Rattle.std.specs.Prelude.{◌≡◌, ℕ, ◌≤◌, IfSome};
     ghost use Rattle.std.specs.declared.option.Option.{Option};
     ghost use Rattle.edge_traits.specs.Faults.{Rose};
-    ghost use Rattle.edge_traits.specs.Door.{DoorTale, Gives, Goes, IfCame, IsNew, IsOut, TakesBack, OnDoorFailed};
+    ghost use Rattle.edge_traits.specs.WhereTold.{WhereTold};
+    ghost use Rattle.edge_traits.specs.Door.{DoorTale, Gives, IfCame, IsNew, IsOut, TakesBack, OnDoorFailed};
 
     /// A connection that this door gives.
     type Link: Link + Send + Drop;
@@ -34,7 +35,7 @@ pub trait Doorway {
     /// The next connection, which is fresh. A door that tells is closed only where it has no link left; it fails only
     /// where the count of faults rose.
     fn next(&mut self) -> Came<Self::Link>
-        ensures gives { Goes (tale self.old) (tale self.new) (Gives Self.Link.tale result) }
+        ensures gives { WhereTold (tale self.old) (tale self.new) (Gives Self.Link.tale result) }
         ensures fresh { IfCame result (λ link. IsNew (Self.Link.faults link) (Self.Link.tale link)) }
         ensures cause { OnDoorFailed result (Rose (faults self.old) (faults self.new)) }
         ensures counted { faults self.old ≤ faults self.new };
@@ -42,7 +43,7 @@ pub trait Doorway {
     /// Hands back the connection that `next` gave as the number-th, counted from 1. Takes no memory and can't fail.
     fn back(&mut self, number: u64, link: Self::Link)
         requires { IfSome (tale self.old) (IsOut number) }
-        ensures back { Goes (tale self.old) (tale self.new) (TakesBack number (record {
+        ensures back { WhereTold (tale self.old) (tale self.new) (TakesBack number (record {
           tale = Self.Link.tale link;
           faults = Self.Link.faults link;
         })) }

@@ -81,7 +81,8 @@ fn put_in(
 ) -> Result<(), KeeperFail> {
     let mut conn = taken_or_opened(rt, path, store)?;
     let outcome = put_record(&mut conn, key, bytes);
-    keep_open(store, conn, outcome)
+    keep_open(store, conn, outcome.is_ok());
+    outcome
 }
 
 fn remove_in(
@@ -92,7 +93,8 @@ fn remove_in(
 ) -> Result<(), KeeperFail> {
     let mut conn = taken_or_opened(rt, path, store)?;
     let outcome = remove_record(&mut conn, key);
-    keep_open(store, conn, outcome)
+    keep_open(store, conn, outcome.is_ok());
+    outcome
 }
 
 fn load_from(
@@ -104,7 +106,8 @@ fn load_from(
 {
     let mut conn = taken_or_opened(rt, path, store)?;
     let outcome = all_pairs(rt.alloc(), &mut conn);
-    keep_open_loaded(store, conn, outcome)
+    keep_open(store, conn, outcome.is_ok());
+    outcome
 }
 
 /// The store, taken out; opened where there is none.
@@ -127,30 +130,16 @@ fn open_store(rt: &HostRuntime, path: &str) -> Result<Store, KeeperFail> {
 }
 
 /// Puts the store back after a call that went well; else it is let go.
-fn keep_open(
-    store: &mut Option<Store>,
-    conn: Store,
-    outcome: Result<(), KeeperFail>,
-) -> Result<(), KeeperFail> {
-    if outcome.is_ok() {
-        drop(store.replace(conn));
+fn keep_open(store: &mut Option<Store>, conn: Store, went_well: bool) {
+    if went_well {
+        let_go(store.replace(conn));
+    } else {
+        let_go(Some(conn));
     }
-    outcome
 }
 
-/// The same after a load.
-fn keep_open_loaded(
-    store: &mut Option<Store>,
-    conn: Store,
-    outcome: Result<Vec<Pair>, KeeperFail>,
-) -> Result<Vec<Pair>, KeeperFail>
-    ensures { result ≡ outcome }
-{
-    if outcome.is_ok() {
-        drop(store.replace(conn));
-    }
-    outcome
-}
+/// Closes a store without a word. It alone has the destructor of a connection to prove.
+fn let_go(_store: Option<Store>) {}
 
 fn close_store(store: &mut Option<Store>) -> Result<(), KeeperFail> {
     match store.take() {

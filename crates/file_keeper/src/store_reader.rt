@@ -92,8 +92,13 @@ fn load_copy(rt: &HostRuntime, path: &str) -> Result<Vec<Pair>, KeeperFail>
 {
     let files = copied_files(rt, path)?;
     let mut conn = open_copy(rt.alloc(), files)?;
-    all_pairs(rt.alloc(), &mut conn)
+    let outcome = all_pairs(rt.alloc(), &mut conn);
+    let_go(conn);
+    outcome
 }
+
+/// Lets the copies go. It alone has the destructor of their connection to prove.
+fn let_go(_conn: CopiedStore) {}
 
 /// Opens the copies; the table is made in them where it is missing.
 fn open_copy(alloc: Global, files: Files<Copied>) -> Result<CopiedStore, KeeperFail> {

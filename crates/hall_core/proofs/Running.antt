@@ -1,5 +1,5 @@
 -- What the chain of an act says of a view, said of a pass of the hall.
-use Rattle.std.proofs.Common.{◌≡◌, ℕ, [], ◌∷◌, ◌++◌, true, false, ap, sym, subst, ◌∙◌}
+use Rattle.std.proofs.Common.{◌≡◌, ℕ, Bool, [], ◌∷◌, ◌++◌, true, false, ap, sym, subst, ◌∙◌}
 use Rattle.std.proofs.lemmas.List.{append_assoc, append-nil}
 use Rattle.std.specs.Prelude.{IfOk, OnErr}
 use Rattle.std.specs.declared.result.Result.{Result}
@@ -29,17 +29,17 @@ module _ (v w : PassStanding Part Timed Reply) (same : fixed w.view ≡ fixed v.
   opening_is : w.view.opening ≡ v.view.opening
   opening_is = ap (λ (x : View Part Timed Reply). x.opening) same
 
-  stays : runs_of (pass_state w) ≡ record (runs_of (pass_state v)) { seen = w.view.seen; made = w.view.made }
+  stays : runs_of (pass_state w false) ≡ record (runs_of (pass_state v false)) { seen = w.view.seen; made = w.view.made }
   stays i = record { number = number_is i; opening = opening_is i; mark = true; sole = false; seen = w.view.seen; made = w.view.made }
 
-  known_now : Legal house v.view.opening w.view.seen → w.view.made ≡ calls_of v.view.number w.view.seen → IsKnown (runs_of (pass_state w))
+  known_now : Legal house v.view.opening w.view.seen → w.view.made ≡ calls_of v.view.number w.view.seen → IsKnown (runs_of (pass_state w false))
   known_now legal own = record {
     legal = subst (λ xs. Legal house xs w.view.seen) (sym opening_is) legal;
     own = own ∙ ap (λ n. calls_of n w.view.seen) (sym number_is);
   }
 
   -- an act that was made
-  pub answered : IsWhole v.view.opening → (timed : Timed) (r : Reply) → HasRun house v.view timed r w.view → IsAnswered (runs_of (pass_state v)) timed r (runs_of (pass_state w))
+  pub answered : IsWhole v.view.opening → (timed : Timed) (r : Reply) → HasRun house v.view timed r w.view → IsAnswered (runs_of (pass_state v false)) timed r (runs_of (pass_state w false))
   answered whole timed r ran =
       let last : Log = entry v.view.number timed r ∷ [] in
       let begins : IsPrefix v.view.seen w.view.seen = (ran.others ++ last, sym (ran.ends ∙ append_assoc v.view.seen ran.others last)) in
@@ -51,7 +51,7 @@ module _ (v w : PassStanding Part Timed Reply) (same : fixed w.view ≡ fixed v.
       }
 
   -- an act that wasn't
-  pub unanswered : HasNotRun house v.view w.view → Made (runs_of (pass_state v)) [] (runs_of (pass_state w))
+  pub unanswered : HasNotRun house v.view w.view → Made (runs_of (pass_state v false)) [] (runs_of (pass_state w false))
   unanswered unmade = record {
     same = stays;
     begins = unmade.begins;
@@ -60,23 +60,23 @@ module _ (v w : PassStanding Part Timed Reply) (same : fixed w.view ≡ fixed v.
     only = λ e. absurd cc;
   }
 
-  pub runs : IsWhole v.view.opening → (timed : Timed) (r : Result Reply NoMemory) → IfOk r (λ x. HasRun house v.view timed x w.view) → OnErr r (HasNotRun house v.view w.view) → Runs (runs_of (pass_state v)) timed r (runs_of (pass_state w))
+  pub runs : IsWhole v.view.opening → (timed : Timed) (r : Result Reply NoMemory) → IfOk r (λ x. HasRun house v.view timed x w.view) → OnErr r (HasNotRun house v.view w.view) → Runs (runs_of (pass_state v false)) timed r (runs_of (pass_state w false))
   runs whole timed (Ok r) ran unmade = answered whole timed r ran
   runs whole timed (Err e) ran unmade = unanswered unmade
 
   -- a part that was busy
-  pub busy_part : (timed : Timed) (part : ℕ) → ViewBusy house v.view timed part w.view → FoundBusy (pass_state v) timed part (pass_state w)
-  busy_part timed part found = record {
+  pub busy_part : (short : Bool) (timed : Timed) (part : ℕ) → ViewBusy house v.view timed part w.view → FoundBusy (pass_state v short) timed part (pass_state w short)
+  busy_part short timed part found = record {
     part = subst (λ n. Touches house (state house w.view.opening w.view.seen) n timed part) (sym number_is) (subst (λ xs. Touches house (state house xs w.view.seen) v.view.number timed part) (sym opening_is) found.part);
     last = found.last;
   }
 
-  pub came : IsWhole v.view.opening → (timed : Timed) (t : Tried Timed Reply) → ViewCameTo house v.view timed t w.view → CameTo (pass_state v) timed (ran_of t) (pass_state w)
-  came whole timed (tried.Done r) ran = answered whole timed r ran
-  came whole timed (tried.Busy part act) found = (unanswered found.0, ap (λ (x : Timed). x.act) found.1, busy_part timed part found.2)
+  pub came : IsWhole v.view.opening → (short : Bool) (timed : Timed) (t : Tried Timed Reply) → ViewCameTo house v.view timed t w.view → CameTo (pass_state v short) timed (ran_of t) (pass_state w short)
+  came whole short timed (tried.Done r) ran = answered whole timed r ran
+  came whole short timed (tried.Busy part act) found = (unanswered found.0, ap (λ (x : Timed). x.act) found.1, busy_part short timed part found.2)
 
   -- the pass afterwards
-  pub hall_pass : IsHallPass v → w.view.held ≡ [] → IsKnown (runs_of (pass_state w)) → IsHallPass w
+  pub hall_pass : IsHallPass v → w.view.held ≡ [] → IsKnown (runs_of (pass_state w false)) → IsHallPass w
   hall_pass was idle known = record {
     idle = idle;
     opens = (was.opens.0, was.opens.1, opening_is ∙ was.opens.2);

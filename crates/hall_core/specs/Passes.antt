@@ -1,5 +1,5 @@
 -- What is known of every pass of the hall, and what splitting, joining and looking make of one.
-use Rattle.std.specs.Prelude.{◌≡◌, ℕ, ◌+◌, ◌<◌, true, false, List, [], ◌∷◌, ◌++◌}
+use Rattle.std.specs.Prelude.{◌≡◌, ℕ, ◌+◌, ◌<◌, Bool, true, false, List, [], ◌∷◌, ◌++◌}
 use Rattle.atomic_table.specs.Seated.{TableId}
 use Rattle.histories.specs.History.{IsPrefix, calls_of}
 use Rattle.lobby_state.specs.Lobby.{LobbyState}
@@ -13,8 +13,8 @@ use Rattle.turn_table.specs.Passes.{PassStanding}
 use Rattle.turn_table.specs.Views.{In}
 pub use Rattle.hall_core.specs.Pass.{EveryoneJoined, PassState}
 
-abbrev pub pass_state : PassStanding Part Timed Reply → PassState
-pass_state p = record {
+abbrev pub pass_state : PassStanding Part Timed Reply → Bool → PassState
+pass_state p short = record {
   home = p.home;
   number = p.view.number;
   splits = p.view.splits;
@@ -23,6 +23,7 @@ pass_state p = record {
   seen = p.view.seen;
   made = p.view.made;
   busy = p.view.busy;
+  short = short;
 }
 
 -- what is known of the pass's session while it runs its acts. Others make acts beside it, and an act that needs no
@@ -47,7 +48,7 @@ pub record IsHallPass (p : PassStanding Part Timed Reply) : Type 0 where
   pub idle : p.view.held ≡ []
   pub opens : IsOpened p.view.opening
   pub whole : IsWhole p.view.opening
-  pub known : IsKnown (runs_of (pass_state p))
+  pub known : IsKnown (runs_of (pass_state p false))
 
 -- the first pass of a hall that opens in this state
 abbrev pub first_pass : TableId → List Part → PassState
@@ -60,6 +61,7 @@ first_pass hall parts = record {
   seen = [];
   made = [];
   busy = [];
+  short = false;
 }
 
 -- a pass was split from it
@@ -74,7 +76,12 @@ new_pass pass = record pass {
   joined = [];
   made = [];
   busy = [];
+  short = false;
 }
+
+-- whether memory ran out was noted on it
+abbrev pub noted : Bool → PassState → PassState
+noted short pass = record pass { short = short }
 
 -- another pass was joined into it: its number with its calls is known, and so are those that were joined into it. What
 -- is seen then begins with what either of the two had seen, and has those calls as the entries of that number; seen by

@@ -57,7 +57,7 @@ impl Hall {
         let parts = opening_parts(alloc, lobby)?;
         let room = Vec::with_capacity(alloc, DESKS)?;
         let (turns, pass) = Turns::new(alloc, parts)?;
-        Ok((Hall { turns, room }, HallPass { pass }))
+        Ok((Hall { turns, room }, HallPass { pass, short: false }))
     }
 
     /// Splits a new pass from the first one, fewer than 2^32 - 1 times. It has seen as much and made nothing.
@@ -70,6 +70,7 @@ impl Hall {
     {
         HallPass {
             pass: self.turns.split(&mut pass.pass),
+            short: false,
         }
     }
 

@@ -2,7 +2,8 @@
 use Rattle.std.proofs.Common.{◌≡◌, ◌⊎◌, ℕ, Bool, true, false, if◌then◌else◌, List, [], ◌∷◌, ◌++◌, refl, sym, ap, subst, ◌∙◌, append_assoc, append-nil, inl, inr, Err}
 use Rattle.std.specs.declared.option.Option.{Option}
 use Rattle.edge_traits.specs.Faults.{Rose}
-use Rattle.edge_traits.specs.Link.{Both, Closes, Handed, Sign, Tale}
+use Rattle.edge_traits.specs.Link.{Closes, Handed, Sign, Tale}
+use Rattle.edge_traits.specs.WhereTold.{WhereTold}
 use Rattle.one_server.specs.declared.act.Timed.{Timed}
 use Rattle.one_server.specs.declared.reply.Reply.{Reply}
 use Rattle.histories.specs.declared.entry.Entry.{Entry}
@@ -22,7 +23,7 @@ use Rattle.link_core.specs.ServedInPart.{LeavesInPart, LeavesShort, QuitsShort, 
 use Rattle.link_core.specs.Serving.{ServesLink}
 use Rattle.link_core.specs.Steps.{Behind, EndsReading, OnFault, Stand, Stops}
 use Rattle.link_core.specs.Talk.{IsShown}
-use Rattle.link_core.proofs.Tales.{both_then}
+use Rattle.link_core.proofs.Tales.{where_then}
 use Rattle.link_core.proofs.Talking.{prefix_more}
 
 -- who followed a course passed over nothing
@@ -57,13 +58,13 @@ ended end.WriteFault talk before after e c = c
 ended end.Spent talk before after e c = e
 ended end.Memory talk before after e c = tt
 
-module _ (shows : ℕ → Bool) (start now : Stand) (new : RunnerState) (link : Option Tale) (closes : Both now.link link Closes) (faults faults' : ℕ) where
+module _ (shows : ℕ → Bool) (start now : Stand) (new : RunnerState) (link : Option Tale) (closes : WhereTold now.link link Closes) (faults faults' : ℕ) where
   read_closed : (session : ℕ) (taken : List Sign) (e : Bool) (made left : Log) (written : List ℕ) → NotRead taken e start.link now.link ⊎ LastRead shows session taken made written start.link now.link
       → NotRead taken e start.link link ⊎ LastRead shows session taken (made ++ left) written start.link link
   read_closed session taken e made left written (inl n) = inl (record {
     nothing = n.nothing;
     no_end = n.no_end;
-    same = both_then start.link now.link link n.same closes (λ x y z p q. ap (λ (t : Tale). t.at_read) q ∙ p);
+    same = where_then start.link now.link link n.same closes (λ x y z p q. ap (λ (t : Tale). t.at_read) q ∙ p);
   })
   read_closed session taken e made left written (inr l) = inr (record {
     signs = l.signs;
@@ -74,7 +75,7 @@ module _ (shows : ℕ → Bool) (start now : Stand) (new : RunnerState) (link : 
     taken_first = l.taken_first;
     made_first = prefix_more l.made made left l.made_first;
     written_first = l.written_first;
-    at = both_then start.link now.link link l.at closes (λ x y z p q. ap (λ (t : Tale). t.at_read) q ∙ p);
+    at = where_then start.link now.link link l.at closes (λ x y z p q. ap (λ (t : Tale). t.at_read) q ∙ p);
   })
 
   abbrev first : Handed
@@ -96,8 +97,8 @@ module _ (shows : ℕ → Bool) (start now : Stand) (new : RunnerState) (link : 
     written = s.written;
   }
 
-  has_taken : (end : LinkEnd) (s : Stops shows end start now) → Both start.link link (TakesFrom s.taken s.is_ended)
-  has_taken end s = both_then start.link now.link link s.tells closes (λ x y z p q. record {
+  has_taken : (end : LinkEnd) (s : Stops shows end start now) → WhereTold start.link link (TakesFrom s.taken s.is_ended)
+  has_taken end s = where_then start.link now.link link s.tells closes (λ x y z p q. record {
     left_is = p.left_is ∙ ap (λ (l : List Sign). s.taken ++ l) (sym (ap (λ (t : Tale). t.left) q));
     taken_is = ap (λ (t : Tale). t.taken) q ∙ p.taken_is;
     ended_is = ap (λ (t : Tale). t.ended) q ∙ p.ended_is;
@@ -107,11 +108,11 @@ module _ (shows : ℕ → Bool) (start now : Stand) (new : RunnerState) (link : 
   has_written : (end : LinkEnd) (s : Stops shows end start now) (left : Log) → WroteAnswers end (all_said end s left) start.link link
   has_written end s left = record {
     text = s.writes;
-    on_link = both_then start.link now.link link s.tells closes (λ x y z p q. ap (λ (t : Tale). t.written) q ∙ p.written_is);
+    on_link = where_then start.link now.link link s.tells closes (λ x y z p q. ap (λ (t : Tale). t.written) q ∙ p.written_is);
   }
 
   is_closed : (end : LinkEnd) → Stops shows end start now → HasClosed start.link link
-  is_closed end s = both_then start.link now.link link s.tells closes (λ x y z p q. ap (λ (t : Tale). t.closed) q)
+  is_closed end s = where_then start.link now.link link s.tells closes (λ x y z p q. ap (λ (t : Tale). t.closed) q)
 
   made_all : (end : LinkEnd) (s : Stops shows end start now) (left : Log) → (s.made ++ s.begun) ++ left ≡ s.made ++ (s.begun ++ left)
   made_all end s left = append_assoc s.made s.begun left

@@ -2,7 +2,8 @@
 use Rattle.std.proofs.Common.{◌≡◌, ℕ, Bool, true, List, ◌∷◌, ◌++◌, refl, sym, ap, ◌∙◌, append_assoc, inl, inr}
 use Rattle.std.specs.declared.option.Option.{Option}
 use Rattle.std.specs.declared.option.Option.TheVariants.{None, Some}
-use Rattle.edge_traits.specs.Link.{Both, Sign, Tale}
+use Rattle.edge_traits.specs.Link.{Sign, Tale}
+use Rattle.edge_traits.specs.WhereTold.{WhereTold}
 use Rattle.histories.specs.History.{IsPrefix}
 use Rattle.one_server.specs.Running.{Log}
 use Rattle.session_core.specs.Texts.{opening_text}
@@ -52,7 +53,7 @@ is_greeted shows mark session end.WriteFault entries old new before now s fault 
 is_greeted shows mark session end.Memory entries old new before now s fault short = absurd (short refl)
 
 -- a link that tells goes on handed_over
-some_told : (old : Tale) (new : Option Tale) (R : Tale → Tale → Type 0) → Both (Some old) new R → (tale : Tale) × (new ≡ Some tale)
+some_told : (old : Tale) (new : Option Tale) (R : Tale → Tale → Type 0) → WhereTold (Some old) new R → (tale : Tale) × (new ≡ Some tale)
 some_told old None R b = absurd b
 some_told old (Some tale) R b = (tale, refl)
 

@@ -5,7 +5,8 @@ use Rattle.std.proofs.Math.Bool.{or-false, or-true}
 use Rattle.std.proofs.lemmas.List.{length-map}
 use Rattle.edge_traits.specs.declared.link.Heard.{Heard}
 use Rattle.edge_traits.specs.declared.link.Heard.TheVariants as heard
-use Rattle.edge_traits.specs.Link.{Both, Byte, Extent, Pause, Reads, Sign, Tale, is_ended, signs_of}
+use Rattle.edge_traits.specs.Link.{Byte, Extent, Pause, Reads, Sign, Tale, is_ended, signs_of}
+use Rattle.edge_traits.specs.WhereTold.{WhereTold}
 use Rattle.histories.specs.History.{IsPrefix}
 use Rattle.line_reader.specs.declared.incoming.Incoming.{Incoming}
 use Rattle.line_reader.specs.Reader.{GiveSame, Gives, Reader, fresh, lines_of, rest_of}
@@ -26,7 +27,7 @@ use Rattle.link_core.specs.ServedWhole.{Covers, HasWritten, LastRead, NotRead, W
 use Rattle.link_core.specs.Steps.{AfterAnswer, AfterStep, AfterWrite, AnsweredPart, AnsweredWhole, Behind, Halfway, IsDrained, Progress, Stand, EndsReading, Stops, TellsOpen, Written, WrittenPart}
 use Rattle.link_core.specs.Talk.{Answers, IsShown, Talks, joined}
 use Rattle.link_core.proofs.Arriving.{behind_reader, bytes_more, bytes_pause, come_bytes, come_end, come_pause, fed_lines, fed_rest}
-use Rattle.link_core.proofs.Tales.{both_map, both_then, tells_more, written_none}
+use Rattle.link_core.proofs.Tales.{where_map, where_then, tells_more, written_none}
 use Rattle.link_core.proofs.Talking.{HasLast, joined_then, last_of, prefix_append, prefix_more, prefix_refl, talks_then}
 
 -- the texts that a session has written, its opening among them
@@ -58,7 +59,7 @@ module _ (shows : ℕ → Bool) (start : Stand) where
   read_more session taken e made now written put there here w (inl n) = inl (record {
     nothing = n.nothing;
     no_end = n.no_end;
-    same = both_then start.link there here n.same w (λ x y z p q. ap (λ (t : Tale). t.at_read) q ∙ p);
+    same = where_then start.link there here n.same w (λ x y z p q. ap (λ (t : Tale). t.at_read) q ∙ p);
   })
   read_more session taken e made now written put there here w (inr l) = inr (record {
     signs = l.signs;
@@ -69,7 +70,7 @@ module _ (shows : ℕ → Bool) (start : Stand) where
     taken_first = l.taken_first;
     made_first = prefix_more l.made made now l.made_first;
     written_first = prefix_more (said l.pieces) written put l.written_first;
-    at = both_then start.link there here l.at w (λ x y z p q. ap (λ (t : Tale). t.at_read) q ∙ p);
+    at = where_then start.link there here l.at w (λ x y z p q. ap (λ (t : Tale). t.at_read) q ∙ p);
   })
 
   -- the answer of a session that has made acts is one of the session that began
@@ -89,7 +90,7 @@ module _ (shows : ℕ → Bool) (start : Stand) where
         pieces = h.pieces ++ a.piece ∷ [];
         grew = made_then start.state now.state new.state h.made a.answered.made h.grew a.answered.grew;
         tells =
-            subst (λ (l : List ℕ). Both start.link new.link (TellsOpen taken e l)) (sym text)
+            subst (λ (l : List ℕ). WhereTold start.link new.link (TellsOpen taken e l)) (sym text)
             (tells_more taken e (said h.pieces) a.piece start.link now.link new.link h.tells a.wrote);
         talked =
             talks_then shows start.state.number h.inputs input newcomer now.memory new.memory h.made a.answered.made h.pieces a.piece h.talked
@@ -179,7 +180,7 @@ module _ (shows : ℕ → Bool) (start : Stand) where
         taken = taken;
         is_ended = e;
         written = said h.pieces;
-        tells = subst (λ (l : List ℕ). Both start.link new.link (TellsOpen taken e l)) text (tells_more taken e (said h.pieces) [] start.link now.link new.link h.tells wrote);
+        tells = subst (λ (l : List ℕ). WhereTold start.link new.link (TellsOpen taken e l)) text (tells_more taken e (said h.pieces) [] start.link now.link new.link h.tells wrote);
         inputs = h.inputs;
         made = h.made;
         pieces = h.pieces;
@@ -253,7 +254,7 @@ module _ (shows : ℕ → Bool) (start : Stand) where
   not_ended is = cc
 
   -- the link was read, where all that came before was answered
-  pub read_on : (now : Stand) (taken : List Sign) (what : Heard) (buf : List ℕ) (link : Option Tale) (e : Bool) (due : List Input) → Halfway shows start now taken false [] → Both now.link link (Reads what buf)
+  pub read_on : (now : Stand) (taken : List Sign) (what : Heard) (buf : List ℕ) (link : Option Tale) (e : Bool) (due : List Input) → Halfway shows start now taken false [] → WhereTold now.link link (Reads what buf)
       → ((before : Bool) → is_ended what (before || false) ≡ (before || e)) → (e ≡ true → (y z : Tale) → Reads what buf y z → z.left ≡ []) → inputs_of (taken ++ signs_of what buf) e ≡ inputs_of taken false ++ due
       → Halfway shows start (record now { link = link }) (taken ++ signs_of what buf) e due
   read_on now taken what buf link e due h r ends none comes =
@@ -264,7 +265,7 @@ module _ (shows : ℕ → Bool) (start : Stand) where
         made = h.made;
         pieces = h.pieces;
         grew = h.grew;
-        tells = both_then start.link now.link link h.tells r (λ x y z p q. record {
+        tells = where_then start.link now.link link h.tells r (λ x y z p q. record {
           taken_is = q.taken ∙ ap (λ (l : List Sign). l ++ signs) p.taken_is ∙ append_assoc x.taken taken signs;
           left_is = p.left_is ∙ ap (λ (l : List Sign). taken ++ l) q.left ∙ sym (append_assoc taken signs z.left);
           none_left = λ is. none is y z q;
@@ -283,7 +284,7 @@ module _ (shows : ℕ → Bool) (start : Stand) where
           taken_first = prefix_append taken signs;
           made_first = prefix_refl h.made;
           written_first = prefix_refl (said h.pieces);
-          at = both_then start.link now.link link h.tells r (λ x y z p q.
+          at = where_then start.link now.link link h.tells r (λ x y z p q.
               q.at_read
               ∙ extent_is (length y.taken) (length (x.taken ++ taken)) (length y.written) (length (x.written ++ said h.pieces)) y.ended x.ended
               (ap (λ (l : List Sign). length l) p.taken_is) (ap (λ (l : List ℕ). length l) p.written_is) (p.ended_is ∙ or-false x.ended));
@@ -295,7 +296,7 @@ module _ (shows : ℕ → Bool) (start : Stand) where
   drained_half now taken reader drained h = subst (λ (l : List Incoming). Halfway shows start now taken false (map Line l)) drained h
 
   -- bytes came, and were fed to the reader
-  pub progress_bytes : (now : Stand) (reader : Reader) (turns : ℕ) (n : ℕ) (buf : List ℕ) (link : Option Tale) → Progress shows start now reader turns → IsDrained reader → Both now.link link (Reads (heard.Bytes n) buf)
+  pub progress_bytes : (now : Stand) (reader : Reader) (turns : ℕ) (n : ℕ) (buf : List ℕ) (link : Option Tale) → Progress shows start now reader turns → IsDrained reader → WhereTold now.link link (Reads (heard.Bytes n) buf)
       → 0 < length (take n buf) → Progress shows start (record now { link = link }) (record reader { fed = reader.fed ++ take n buf }) (turns + 1)
   progress_bytes now reader turns n buf link p drained r some =
       let bytes = take n buf in
@@ -353,12 +354,12 @@ module _ (shows : ℕ → Bool) (start : Stand) where
   stopped_reader now reader turns p = stops_memory now p.taken false (map Line (lines_of reader [])) p.half
 
   -- a pause came
-  pause_due : (now : Stand) (reader : Reader) (turns : ℕ) (buf : List ℕ) (link : Option Tale) (p : Progress shows start now reader turns) → IsDrained reader → Both now.link link (Reads heard.Quiet buf)
+  pause_due : (now : Stand) (reader : Reader) (turns : ℕ) (buf : List ℕ) (link : Option Tale) (p : Progress shows start now reader turns) → IsDrained reader → WhereTold now.link link (Reads heard.Quiet buf)
       → Halfway shows start (record now { link = link }) (p.taken ++ Pause ∷ []) false (Quiet ∷ [])
   pause_due now reader turns buf link p drained r =
       read_on now p.taken heard.Quiet buf link false (Quiet ∷ []) (drained_half now p.taken reader drained.0 p.half) r (λ before. refl) (λ is. absurd (not_ended is)) (come_pause p.taken)
 
-  pub progress_quiet : (now new : Stand) (reader : Reader) (turns : ℕ) (buf : List ℕ) (link : Option Tale) → Progress shows start now reader turns → IsDrained reader → Both now.link link (Reads heard.Quiet buf)
+  pub progress_quiet : (now new : Stand) (reader : Reader) (turns : ℕ) (buf : List ℕ) (link : Option Tale) → Progress shows start now reader turns → IsDrained reader → WhereTold now.link link (Reads heard.Quiet buf)
       → AnsweredWhole shows Quiet now.state now.memory link new.state new.memory new.link → Progress shows start new reader (turns + 1)
   progress_quiet now new reader turns buf link p drained r a =
       let text : (more : List ℕ) → bytes_of (p.taken ++ Pause ∷ []) ++ more ≡ bytes_of p.taken ++ more = λ more. ap (λ (l : List ℕ). l ++ more) (bytes_pause p.taken) in
@@ -373,18 +374,18 @@ module _ (shows : ℕ → Bool) (start : Stand) where
         many = omega (arith, p.many, length-append p.taken (Pause ∷ []));
       }
 
-  pub stopped_quiet : (end : LinkEnd) (now new : Stand) (reader : Reader) (turns : ℕ) (buf : List ℕ) (link : Option Tale) → Progress shows start now reader turns → IsDrained reader → Both now.link link (Reads heard.Quiet buf)
+  pub stopped_quiet : (end : LinkEnd) (now new : Stand) (reader : Reader) (turns : ℕ) (buf : List ℕ) (link : Option Tale) → Progress shows start now reader turns → IsDrained reader → WhereTold now.link link (Reads heard.Quiet buf)
       → AfterAnswer shows Quiet now.state now.memory link new.state new.memory new.link (Err end) → Stops shows end start new
   stopped_quiet end now new reader turns buf link p drained r a =
       stopped_one end (record now { link = link }) new (p.taken ++ Pause ∷ []) false Quiet [] (pause_due now reader turns buf link p drained r) a
 
   pub quiet_step : (result : Result (Unit {0}) LinkEnd) (now new : Stand) (reader : Reader) (turns : ℕ) (buf : List ℕ) (link : Option Tale) → Progress shows start now reader turns → IsDrained reader
-      → Both now.link link (Reads heard.Quiet buf) → AfterAnswer shows Quiet now.state now.memory link new.state new.memory new.link result → AfterStep shows start new reader (turns + 1) result
+      → WhereTold now.link link (Reads heard.Quiet buf) → AfterAnswer shows Quiet now.state now.memory link new.state new.memory new.link result → AfterStep shows start new reader (turns + 1) result
   quiet_step (Ok u) now new reader turns buf link p drained r a = progress_quiet now new reader turns buf link p drained r a
   quiet_step (Err end) now new reader turns buf link p drained r a = stopped_quiet end now new reader turns buf link p drained r a
 
   -- the end came
-  pub end_due : (now : Stand) (reader : Reader) (turns : ℕ) (buf : List ℕ) (link : Option Tale) (p : Progress shows start now reader turns) → IsDrained reader → Both now.link link (Reads heard.End buf)
+  pub end_due : (now : Stand) (reader : Reader) (turns : ℕ) (buf : List ℕ) (link : Option Tale) (p : Progress shows start now reader turns) → IsDrained reader → WhereTold now.link link (Reads heard.End buf)
       → Halfway shows start (record now { link = link }) (p.taken ++ []) true (map Line (option_to_list (rest_of reader [])))
   end_due now reader turns buf link p drained r =
       let rest : rest_of fresh (bytes_of (p.taken ++ [])) ≡ rest_of reader [] =
@@ -399,7 +400,7 @@ module _ (shows : ℕ → Bool) (start : Stand) where
   stops_end now taken h = stops_at end.End now taken true [] h (sym (h.come ∙ append-nil h.inputs)) (refl, refl) refl refl
 
   -- the read failed
-  pub stops_failed : (now : Stand) (reader : Reader) (turns : ℕ) (buf : List ℕ) (link : Option Tale) → Progress shows start now reader turns → IsDrained reader → Both now.link link (Reads heard.Failed buf)
+  pub stops_failed : (now : Stand) (reader : Reader) (turns : ℕ) (buf : List ℕ) (link : Option Tale) → Progress shows start now reader turns → IsDrained reader → WhereTold now.link link (Reads heard.Failed buf)
       → Stops shows end.ReadFault start (record now { link = link })
   stops_failed now reader turns buf link p drained r =
       let h : Halfway shows start (record now { link = link }) (p.taken ++ []) false [] =
@@ -415,8 +416,8 @@ module _ (shows : ℕ → Bool) (start : Stand) where
 
   -- ---- the opening
 
-  opened : (put : List ℕ) (link : Option Tale) → Written put start.link link → Both start.link link (TellsOpen [] false put)
-  opened put link w = both_map start.link link w (λ x y q. record {
+  opened : (put : List ℕ) (link : Option Tale) → Written put start.link link → WhereTold start.link link (TellsOpen [] false put)
+  opened put link w = where_map start.link link w (λ x y q. record {
     taken_is = ap (λ (t : Tale). t.taken) q ∙ sym (append-nil x.taken);
     left_is = sym (ap (λ (t : Tale). t.left) q);
     none_left = λ is. absurd (not_ended is);
@@ -426,7 +427,7 @@ module _ (shows : ℕ → Bool) (start : Stand) where
   })
 
   not_read : (put : List ℕ) (link : Option Tale) → Written put start.link link → NotRead [] false start.link link
-  not_read put link w = record { nothing = refl; no_end = refl; same = both_map start.link link w (λ x y q. ap (λ (t : Tale). t.at_read) q) }
+  not_read put link w = record { nothing = refl; no_end = refl; same = where_map start.link link w (λ x y q. ap (λ (t : Tale). t.at_read) q) }
 
   -- the opening was written, and nothing has come yet
   pub progress_none : (link : Option Tale) → IsKnown start.state → start.memory ≡ newcomer → Written opening_text start.link link → Progress shows start (record start { link = link }) fresh 0
@@ -437,7 +438,7 @@ module _ (shows : ℕ → Bool) (start : Stand) where
       made = [];
       pieces = [];
       grew = made_none start.state known;
-      tells = subst (λ (l : List ℕ). Both start.link link (TellsOpen [] false l)) (sym (append-nil opening_text)) (opened opening_text link w);
+      tells = subst (λ (l : List ℕ). WhereTold start.link link (TellsOpen [] false l)) (sym (append-nil opening_text)) (opened opening_text link w);
       talked = (refl, refl, new);
       come = refl;
       read = inl (not_read opening_text link w);

@@ -2,25 +2,30 @@
 use Rattle.std.proofs.Common.{◌≡◌, ℕ, Bool, List, [], ◌++◌, take, drop, refl, sym, ap, subst, ◌∙◌, append_assoc, append-nil, take-append-drop}
 use Rattle.std.specs.declared.option.Option.{Option}
 use Rattle.std.specs.declared.option.Option.TheVariants.{None, Some}
-use Rattle.edge_traits.specs.Link.{Both, Sign, Tale, Writes}
+use Rattle.edge_traits.specs.Link.{IsOpen, Reads, Sign, Tale, Writes}
+use Rattle.edge_traits.specs.WhereTold.{WhereTold}
+use Rattle.edge_traits.specs.declared.link.Heard.{Heard}
 use Rattle.edge_traits.specs.declared.sink.Sent.TheVariants.{Failed, Memory}
 use Rattle.histories.specs.History.{IsPrefix}
 use Rattle.link_core.specs.Steps.{TellsOpen, Written, WrittenPart}
 
-pub both_then : {R S T : Tale → Tale → Type 0} (a b c : Option Tale) → Both a b R → Both b c S → ((x y z : Tale) → R x y → S y z → T x z) → Both a c T
-both_then None b c p q f = tt
-both_then (Some x) None c p q f = absurd p
-both_then (Some x) (Some y) None p q f = absurd q
-both_then (Some x) (Some y) (Some z) p q f = f x y z p q
+pub where_then : {R S T : Tale → Tale → Type 0} (a b c : Option Tale) → WhereTold a b R → WhereTold b c S → ((x y z : Tale) → R x y → S y z → T x z) → WhereTold a c T
+where_then None None None p q f = tt
+where_then None None (Some z) p q f = absurd q
+where_then None (Some y) c p q f = absurd p
+where_then (Some x) None c p q f = absurd p
+where_then (Some x) (Some y) None p q f = absurd q
+where_then (Some x) (Some y) (Some z) p q f = f x y z p q
 
-pub both_map : {R S : Tale → Tale → Type 0} (a b : Option Tale) → Both a b R → ((x y : Tale) → R x y → S x y) → Both a b S
-both_map None b p f = tt
-both_map (Some x) None p f = absurd p
-both_map (Some x) (Some y) p f = f x y p
+pub where_map : {R S : Tale → Tale → Type 0} (a b : Option Tale) → WhereTold a b R → ((x y : Tale) → R x y → S x y) → WhereTold a b S
+where_map None None p f = tt
+where_map None (Some y) p f = absurd p
+where_map (Some x) None p f = absurd p
+where_map (Some x) (Some y) p f = f x y p
 
 -- nothing was written
 pub written_none : (a b : Option Tale) → b ≡ a → Written [] a b
-written_none None b same = tt
+written_none None b same = subst (λ (o : Option Tale). Written [] None o) (sym same) tt
 written_none (Some x) b same =
     subst (λ (o : Option Tale). Written [] (Some x) o) (sym same) (ap (λ (w : List ℕ). record x { written = w }) (sym (append-nil x.written)))
 
@@ -31,16 +36,18 @@ written_some : (bytes : List ℕ) (n : ℕ) (x y : Tale) → y.written ≡ x.wri
 written_some bytes n x y is same =
     record { put = take n bytes; part_of = part_of_taken n bytes; wrote = same ∙ ap (λ (l : List ℕ). record x { written = l }) is }
 
-none_written : (bytes : List ℕ) (b : Option Tale) → WrittenPart bytes None b
-none_written bytes b = record { put = []; part_of = (bytes, refl); wrote = tt }
+none_written : (bytes : List ℕ) → WrittenPart bytes None None
+none_written bytes = record { put = []; part_of = (bytes, refl); wrote = tt }
 
-pub written_failed : (bytes : List ℕ) (a b : Option Tale) → Both a b (Writes Failed bytes) → WrittenPart bytes a b
-written_failed bytes None b w = none_written bytes b
+pub written_failed : (bytes : List ℕ) (a b : Option Tale) → WhereTold a b (Writes Failed bytes) → WrittenPart bytes a b
+written_failed bytes None None w = none_written bytes
+written_failed bytes None (Some y) w = absurd w
 written_failed bytes (Some x) None w = absurd w
 written_failed bytes (Some x) (Some y) w = written_some bytes w.0.0 x y w.0.1 w.1
 
-pub written_memory : (bytes : List ℕ) (a b : Option Tale) → Both a b (Writes Memory bytes) → WrittenPart bytes a b
-written_memory bytes None b w = none_written bytes b
+pub written_memory : (bytes : List ℕ) (a b : Option Tale) → WhereTold a b (Writes Memory bytes) → WrittenPart bytes a b
+written_memory bytes None None w = none_written bytes
+written_memory bytes None (Some y) w = absurd w
 written_memory bytes (Some x) None w = absurd w
 written_memory bytes (Some x) (Some y) w = written_some bytes w.0.0 x y w.0.1 w.1
 
@@ -49,10 +56,10 @@ pub part_none : (bytes : List ℕ) (a b : Option Tale) → b ≡ a → WrittenPa
 part_none bytes a b same = record { put = []; part_of = (bytes, refl); wrote = written_none a b same }
 
 -- what a link tells that was written more
-pub tells_more : (taken : List Sign) (is_ended : Bool) (written put : List ℕ) (a b c : Option Tale) → Both a b (TellsOpen taken is_ended written) → Written put b c
-    → Both a c (TellsOpen taken is_ended (written ++ put))
+pub tells_more : (taken : List Sign) (is_ended : Bool) (written put : List ℕ) (a b c : Option Tale) → WhereTold a b (TellsOpen taken is_ended written) → Written put b c
+    → WhereTold a c (TellsOpen taken is_ended (written ++ put))
 tells_more taken is_ended written put a b c t w =
-    both_then a b c t w
+    where_then a b c t w
     (λ x y z p q. record {
       taken_is = ap (λ (t : Tale). t.taken) q ∙ p.taken_is;
       left_is = p.left_is ∙ ap (λ (l : List Sign). taken ++ l) (sym (ap (λ (t : Tale). t.left) q));
@@ -61,3 +68,15 @@ tells_more taken is_ended written put a b c t w =
       written_is = ap (λ (t : Tale). t.written) q ∙ ap (λ (l : List ℕ). l ++ put) p.written_is ∙ append_assoc x.written written put;
       closed_is = ap (λ (t : Tale). t.closed) q ∙ p.closed_is;
     })
+
+-- ---- a link that isn't closed
+
+-- it stays so where nothing closes it
+pub open_then : {R : Tale → Tale → Type 0} (a b : Option Tale) → WhereTold a b R → ((x y : Tale) → R x y → y.closed ≡ x.closed) → IsOpen a → IsOpen b
+open_then None None p f o = tt
+open_then None (Some y) p f o = absurd p
+open_then (Some x) None p f o = absurd p
+open_then (Some x) (Some y) p f o = f x y p ∙ o
+
+pub open_read : (heard : Heard) (buf : List ℕ) (a b : Option Tale) → WhereTold a b (Reads heard buf) → IsOpen a → IsOpen b
+open_read heard buf a b r o = open_then a b r (λ x y q. q.closed) o

@@ -1,7 +1,8 @@
 -- What it is to serve a link in part, where memory ran out: the facts of a link that was served whole, but for what ran
 -- out of memory. This server's own.
 use Rattle.std.specs.Prelude.{◌≡◌, ◌⊎◌, ℕ, Bool, List, [], ◌∷◌, ◌++◌}
-use Rattle.edge_traits.specs.Link.{Both, Handed}
+use Rattle.edge_traits.specs.Link.{Handed}
+use Rattle.edge_traits.specs.WhereTold.{WhereTold}
 use Rattle.one_server.specs.Running.{Log}
 use Rattle.session_core.specs.declared.input.Input.{Input}
 use Rattle.session_core.specs.Course.{Begins, Passes}
@@ -101,7 +102,7 @@ pub record ServedInPart (shows : ℕ → Bool) (mark : Bool) (session : ℕ) (en
   pub stopped : LinkEnd
   -- such that
   -- what was taken is what the link had
-  pub took : Both old.tale new.tale (TakesFrom talk.taken talk.is_ended)
+  pub took : WhereTold old.tale new.tale (TakesFrom talk.taken talk.is_ended)
   -- the session made its acts for the inputs of that, and left, but for what ran out of memory
   pub acts : ActsInPart shows mark session stopped talk entries
   -- the link was written the opening and the answers

@@ -3,7 +3,8 @@
 use Rattle.std.specs.Prelude.{◌≡◌, ◌⊎◌, ℕ, ◌^◌, ◌≤◌, ⊤, Bool, true, false, ◌||◌, List, [], ◌∷◌, ◌++◌, length}
 use Rattle.std.specs.declared.option.Option.{Option}
 use Rattle.edge_traits.specs.Faults.{Rose}
-use Rattle.edge_traits.specs.Link.{Both, Extent, Handed, Sign, Tale}
+use Rattle.edge_traits.specs.Link.{Extent, Handed, Sign, Tale}
+use Rattle.edge_traits.specs.WhereTold.{WhereTold}
 use Rattle.histories.specs.History.{IsPrefix}
 use Rattle.one_server.specs.Running.{Log}
 use Rattle.session_core.specs.declared.input.Input.{Input}
@@ -94,7 +95,7 @@ HasWritten Memory pieces written = WritesPart pieces written
 -- the link was written the opening and then what the session said to each input, by the replies to its own acts
 pub record WroteAnswers (end : LinkEnd) (talk : Dialogue) (old new : Option Tale) : Type 0 where
   pub text : HasWritten end (opening_text ∷ talk.pieces) talk.written
-  pub on_link : Both old new (λ before after. after.written ≡ before.written ++ talk.written)
+  pub on_link : WhereTold old new (λ before after. after.written ≡ before.written ++ talk.written)
 
 -- 3. The last read.
 
@@ -107,7 +108,7 @@ extent_behind old taken written =
 pub record NotRead (taken : List Sign) (is_ended : Bool) (old new : Option Tale) : Type 0 where
   pub nothing : taken ≡ []
   pub no_end : is_ended ≡ false
-  pub same : Both old new (λ before after. after.at_read ≡ before.at_read)
+  pub same : WhereTold old new (λ before after. after.at_read ≡ before.at_read)
 
 -- as the last read began, the end hadn't been given, and the session had written its answers to all that it had taken
 pub record LastRead (shows : ℕ → Bool) (session : ℕ) (taken : List Sign) (entries : Log) (written : List ℕ)
@@ -122,7 +123,7 @@ pub record LastRead (shows : ℕ → Bool) (session : ℕ) (taken : List Sign) (
   pub taken_first : IsPrefix signs taken
   pub made_first : IsPrefix made entries
   pub written_first : IsPrefix (joined (opening_text ∷ pieces)) written
-  pub at : Both old new (λ before after. after.at_read ≡ extent_behind before signs (joined (opening_text ∷ pieces)))
+  pub at : WhereTold old new (λ before after. after.at_read ≡ extent_behind before signs (joined (opening_text ∷ pieces)))
 
 -- the link wasn't read, or all was answered as its last read began
 abbrev pub AnswersFirst : (ℕ → Bool) → ℕ → Dialogue → Log → Option Tale → Option Tale → Type 0
@@ -133,7 +134,7 @@ AnswersFirst shows session talk entries old new =
 
 -- the link is closed
 abbrev pub HasClosed : Option Tale → Option Tale → Type 0
-HasClosed old new = Both old new (λ before after. after.closed ≡ true)
+HasClosed old new = WhereTold old new (λ before after. after.closed ≡ true)
 
 -- 5. The end of the reading.
 
@@ -154,7 +155,7 @@ pub record ServedWhole (shows : ℕ → Bool) (session : ℕ) (end : LinkEnd) (e
   pub talk : Dialogue
   -- such that
   -- what was taken is what the link had
-  pub took : Both old.tale new.tale (TakesFrom talk.taken talk.is_ended)
+  pub took : WhereTold old.tale new.tale (TakesFrom talk.taken talk.is_ended)
   -- the session made its acts for the inputs of that, and left
   pub acts : ActsWhole shows session end talk entries
   -- the link was written the opening and the answers

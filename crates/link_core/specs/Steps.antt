@@ -1,7 +1,8 @@
 -- How far a link was served: on the way, and where the reading has ended.
 use Rattle.std.specs.Prelude.{◌≡◌, ◌⊎◌, ℕ, ◌^◌, ◌≤◌, Bool, true, false, ◌||◌, List, [], ◌∷◌, ◌++◌, length, map, Result, Ok, Err}
 use Rattle.std.specs.declared.option.Option.{Option}
-use Rattle.edge_traits.specs.Link.{Both, Sign, Tale}
+use Rattle.edge_traits.specs.Link.{Sign, Tale}
+use Rattle.edge_traits.specs.WhereTold.{WhereTold}
 use Rattle.histories.specs.History.{IsPrefix}
 use Rattle.line_reader.specs.declared.incoming.Incoming.{Incoming}
 use Rattle.line_reader.specs.Reader.{Reader, fresh, lines_of, rest_of}
@@ -21,7 +22,7 @@ use Rattle.link_core.specs.Talk.{Answers, IsShown, Talks, joined}
 
 -- these bytes were written, and nothing else happened to the link
 abbrev pub Written : List ℕ → Option Tale → Option Tale → Type 0
-Written put old new = Both old new (λ before after. after ≡ record before { written = before.written ++ put })
+Written put old new = WhereTold old new (λ before after. after ≡ record before { written = before.written ++ put })
 
 -- a prefix of these bytes was written
 pub record WrittenPart (bytes : List ℕ) (old new : Option Tale) : Type 0 where
@@ -107,7 +108,7 @@ pub record Halfway (shows : ℕ → Bool) (start now : Stand) (taken : List Sign
   pub made : Log
   pub pieces : List (List ℕ)
   pub grew : Made start.state made now.state
-  pub tells : Both start.link now.link (TellsOpen taken is_ended (joined (opening_text ∷ pieces)))
+  pub tells : WhereTold start.link now.link (TellsOpen taken is_ended (joined (opening_text ∷ pieces)))
   pub talked : Talks shows start.state.number inputs newcomer made pieces now.memory
   pub come : inputs_of taken is_ended ≡ inputs ++ due
   pub read : NotRead taken is_ended start.link now.link
@@ -141,7 +142,7 @@ pub record Stops (shows : ℕ → Bool) (end : LinkEnd) (start now : Stand) : Ty
   pub taken : List Sign
   pub is_ended : Bool
   pub written : List ℕ
-  pub tells : Both start.link now.link (TellsOpen taken is_ended written)
+  pub tells : WhereTold start.link now.link (TellsOpen taken is_ended written)
   pub inputs : List Input
   pub made : Log
   pub pieces : List (List ℕ)

@@ -1,6 +1,7 @@
 //! The answer to one input.
 ghost use Rattle.std.specs.Prelude.{◌≡◌, ◌≤◌, false, OnOk};
 ghost use Rattle.edge_traits.specs.Faults.{Rose};
+ghost use Rattle.edge_traits.specs.Link.{IsOpen};
 ghost use Rattle.session_core.specs.Inputs.{FitsInput};
 ghost use Rattle.session_core.specs.Memory.{is_gone};
 ghost use Rattle.link_core.specs.Steps.{AfterAnswer, AfterWrite, OnFault};
@@ -11,7 +12,7 @@ use edge_traits::{Clock, Link, Sent};
 use one_server::Runner;
 use session_core::{Input, Session};
 
-/// Makes the session answer an input, at the present moment, and writes what it says.
+/// Makes the session answer an input, at the present moment, and writes what it says to a link that isn't closed.
 pub(crate) fn answer<R: Runner, L: Link, C: Clock>(
     r: &mut R,
     link: &mut L,
@@ -21,10 +22,12 @@ pub(crate) fn answer<R: Runner, L: Link, C: Clock>(
 ) -> Result<(), LinkEnd>
     requires fits { FitsInput input }
     requires here { is_gone session.old ≡ false }
+    requires unclosed { IsOpen (L.tale link.old) }
     ensures home { R.home r.new ≡ R.home r.old }
     ensures answered { AfterAnswer (C.shows clock.now) input (R.state r.old) session.old (L.tale link.old)
         (R.state r.new) session.new (L.tale link.new) result }
     ensures here { OnOk result (is_gone session.new ≡ false) }
+    ensures unclosed { OnOk result (IsOpen (L.tale link.new)) }
     ensures cause { OnFault result (Rose (L.faults link.old) (L.faults link.new)) }
     ensures counted { L.faults link.old ≤ L.faults link.new }
 {
@@ -39,9 +42,11 @@ pub(crate) fn answer<R: Runner, L: Link, C: Clock>(
     Ok(())
 }
 
-/// Writes bytes, if there are any.
+/// Writes bytes, if there are any, to a link that isn't closed.
 pub(crate) fn write<L: Link>(link: &mut L, bytes: &[u8]) -> Result<(), LinkEnd>
+    requires unclosed { IsOpen (L.tale link.old) }
     ensures wrote { AfterWrite bytes.now (L.tale link.old) (L.tale link.new) result }
+    ensures unclosed { OnOk result (IsOpen (L.tale link.new)) }
     ensures cause { OnFault result (Rose (L.faults link.old) (L.faults link.new)) }
     ensures counted { L.faults link.old ≤ L.faults link.new }
 {

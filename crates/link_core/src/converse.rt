@@ -1,7 +1,7 @@
 //! How a link is read, and each input answered before the next read.
 ghost use Rattle.std.specs.Prelude.{◌≡◌, ◌≤◌, ◌+◌, ◌++◌, [], ℕ, List, true, false, map, option_to_list, Err, OnOk};
 ghost use Rattle.edge_traits.specs.Faults.{Rose};
-ghost use Rattle.edge_traits.specs.Link.{Sign};
+ghost use Rattle.edge_traits.specs.Link.{IsOpen, Sign};
 ghost use Rattle.line_reader.specs.Reader.{rest_of};
 ghost use Rattle.link_core.specs.Steps.{AfterStep, AfterWrite, Halfway, IsDrained, OnFault, Progress, Stand, Stops};
 ghost use Rattle.session_core.specs.Memory.{is_gone, newcomer};
@@ -31,7 +31,8 @@ pub(crate) fn converse<R: Runner, L: Link, C: Clock>(
     clock: &C,
     session: &mut Session,
 ) -> LinkEnd
-    requires { session.old ≡ newcomer }
+    requires new { session.old ≡ newcomer }
+    requires unclosed { IsOpen (L.tale link.old) }
     ensures home { R.home r.new ≡ R.home r.old }
     ensures stops { Stops (C.shows clock.now) result
         (record { state = R.state r.old; memory = session.old; link = L.tale link.old })
@@ -60,7 +61,9 @@ pub(crate) fn converse<R: Runner, L: Link, C: Clock>(
 
 /// Writes what the connection opens with.
 fn greet<L: Link>(session: &Session, link: &mut L) -> Result<(), LinkEnd>
+    requires unclosed { IsOpen (L.tale link.old) }
     ensures wrote { AfterWrite opening_text (L.tale link.old) (L.tale link.new) result }
+    ensures unclosed { OnOk result (IsOpen (L.tale link.new)) }
     ensures cause { OnFault result (Rose (L.faults link.old) (L.faults link.new)) }
     ensures counted { L.faults link.old ≤ L.faults link.new }
 {
@@ -81,6 +84,7 @@ fn take_turn<R: Runner, L: Link, C: Clock>(
 ) -> Result<(), LinkEnd>
     requires drained { IsDrained reader.old }
     requires here { is_gone session.old ≡ false }
+    requires unclosed { IsOpen (L.tale link.old) }
     ensures home { R.home r.new ≡ R.home r.old }
     ensures steps { (start : Stand) (turns : ℕ) → Progress (C.shows clock.now) start
         (record { state = R.state r.old; memory = session.old; link = L.tale link.old }) reader.old turns
@@ -88,6 +92,7 @@ fn take_turn<R: Runner, L: Link, C: Clock>(
         (record { state = R.state r.new; memory = session.new; link = L.tale link.new }) reader.new (turns + 1) result }
     ensures drained { OnOk result (IsDrained reader.new) }
     ensures here { OnOk result (is_gone session.new ≡ false) }
+    ensures unclosed { OnOk result (IsOpen (L.tale link.new)) }
     ensures cause { OnFault result (Rose (L.faults link.old) (L.faults link.new)) }
     ensures counted { L.faults link.old ≤ L.faults link.new }
 {
@@ -109,6 +114,7 @@ fn take_piece<R: Runner, L: Link, C: Clock>(
     piece: &[u8],
 ) -> Result<(), LinkEnd>
     requires here { is_gone session.old ≡ false }
+    requires unclosed { IsOpen (L.tale link.old) }
     ensures home { R.home r.new ≡ R.home r.old }
     ensures steps { (start : Stand) (turns : ℕ) → Progress (C.shows clock.now) start
         (record { state = R.state r.old; memory = session.old; link = L.tale link.old })
@@ -117,6 +123,7 @@ fn take_piece<R: Runner, L: Link, C: Clock>(
         (record { state = R.state r.new; memory = session.new; link = L.tale link.new }) reader.new turns result }
     ensures drained { OnOk result (IsDrained reader.new) }
     ensures here { OnOk result (is_gone session.new ≡ false) }
+    ensures unclosed { OnOk result (IsOpen (L.tale link.new)) }
     ensures cause { OnFault result (Rose (L.faults link.old) (L.faults link.new)) }
     ensures counted { L.faults link.old ≤ L.faults link.new }
 {
@@ -135,6 +142,7 @@ fn take_lines<R: Runner, L: Link, C: Clock>(
     reader: &mut LineReader,
 ) -> Result<(), LinkEnd>
     requires here { is_gone session.old ≡ false }
+    requires unclosed { IsOpen (L.tale link.old) }
     ensures home { R.home r.new ≡ R.home r.old }
     ensures steps { (start : Stand) (turns : ℕ) → Progress (C.shows clock.now) start
         (record { state = R.state r.old; memory = session.old; link = L.tale link.old }) reader.old turns
@@ -142,6 +150,7 @@ fn take_lines<R: Runner, L: Link, C: Clock>(
         (record { state = R.state r.new; memory = session.new; link = L.tale link.new }) reader.new turns result }
     ensures drained { OnOk result (IsDrained reader.new) }
     ensures here { OnOk result (is_gone session.new ≡ false) }
+    ensures unclosed { OnOk result (IsOpen (L.tale link.new)) }
     ensures cause { OnFault result (Rose (L.faults link.old) (L.faults link.new)) }
     ensures counted { L.faults link.old ≤ L.faults link.new }
 {
@@ -166,6 +175,7 @@ fn take_rest<R: Runner, L: Link, C: Clock>(
     reader: &LineReader,
 ) -> LinkEnd
     requires here { is_gone session.old ≡ false }
+    requires unclosed { IsOpen (L.tale link.old) }
     ensures home { R.home r.new ≡ R.home r.old }
     ensures stops { (start : Stand) (taken : List Sign) → Halfway (C.shows clock.now) start
         (record { state = R.state r.old; memory = session.old; link = L.tale link.old }) taken true

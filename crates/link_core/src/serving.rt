@@ -1,6 +1,7 @@
 //! A link from its opening to its end.
 ghost use Rattle.std.specs.Prelude.{◌≡◌, ◌≤◌};
 ghost use Rattle.edge_traits.specs.Faults.{Rose};
+ghost use Rattle.edge_traits.specs.Link.{IsOpen};
 ghost use Rattle.link_core.specs.Serving.{ServesLink};
 
 use crate::converse::converse;
@@ -12,17 +13,19 @@ use one_server::Runner;
 use session_core::Session;
 use std::alloc::Global;
 
-/// Serves a link by a session over `r`, until the player has quit, nothing more comes, the link fails or has been read
-/// 2^40 times, or memory runs out. Each input is answered, at the moment that the clock shows when it comes, cut to
-/// 2^48, and the answer is written before the link is read again. Whatever ends it, the session then leaves, where it
-/// has entered and hasn't quit, and the link is closed. Where an act of leaving runs out of memory the answer is
-/// `Memory`. A fault is answered only where the link's count rose in this call.
+/// Serves a link, which isn't closed, by a session over `r`, until the player has quit, nothing more comes, the link
+/// fails or has been read 2^40 times, or memory runs out. Each input is answered, at the moment that the clock shows
+/// when it comes, cut to 2^48, and the answer is written before the link is read again. Whatever ends it, the session
+/// then leaves, where it has entered and hasn't quit, and the link is closed, behind which it is neither read nor
+/// written. Where an act of leaving runs out of memory the answer is `Memory`. A fault is answered only where the
+/// link's count rose in this call.
 pub fn serve_link<R: Runner, L: Link, C: Clock>(
     alloc: Global,
     r: &mut R,
     link: &mut L,
     clock: &C,
 ) -> LinkEnd
+    requires unclosed { IsOpen (L.tale link.old) }
     ensures home { R.home r.new ≡ R.home r.old }
     ensures served { ServesLink (C.shows clock.now) result
         (R.state r.old) (record { tale = L.tale link.old; faults = L.faults link.old })

@@ -34,7 +34,9 @@ carries_none None = tt
 carries_none (Some table) = λ key. refl
 
 pub carries_then : (old mid new : Option Table) (first rest : List Order) → Carries old mid first → Carries mid new rest → Carries old new (first ++ rest)
-carries_then None mid new first rest p q = tt
+carries_then None None None first rest p q = tt
+carries_then None None (Some new) first rest p q = absurd q
+carries_then None (Some mid) new first rest p q = absurd p
 carries_then (Some old) None new first rest p q = absurd p
 carries_then (Some old) (Some mid) None first rest p q = absurd q
 carries_then (Some old) (Some mid) (Some new) first rest p q = λ key.
@@ -72,7 +74,8 @@ removed_held old order key is =
 -- what a keeper answers to a put and to a removal
 pub put_carries : (old new : Option Table) (order : Order) (bytes : List ℕ) (kept : Kept) → order.bytes ≡ Some bytes
     → HasPut old new order.key bytes kept → CarriesOne old new order kept
-put_carries None new order bytes Done is p = tt
+put_carries None None order bytes Done is p = tt
+put_carries None (Some new) order bytes Done is p = absurd p
 put_carries (Some old) None order bytes Done is p = absurd p
 put_carries (Some old) (Some new) order bytes Done is p = λ key.
     ap (λ (t : Table). held t key) p ∙ put_held old order bytes key is
@@ -81,7 +84,8 @@ put_carries old new order bytes Memory is p = p
 
 pub removed_carries : (old new : Option Table) (order : Order) (kept : Kept) → order.bytes ≡ None
     → HasRemoved old new order.key kept → CarriesOne old new order kept
-removed_carries None new order Done is p = tt
+removed_carries None None order Done is p = tt
+removed_carries None (Some new) order Done is p = absurd p
 removed_carries (Some old) None order Done is p = absurd p
 removed_carries (Some old) (Some new) order Done is p = λ key.
     ap (λ (t : Table). held t key) p ∙ removed_held old order key is

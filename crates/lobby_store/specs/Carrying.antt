@@ -1,9 +1,10 @@
 -- What carrying out save orders makes of a keeper's table. This server's own.
-use Rattle.std.specs.Prelude.{◌≡◌, ℕ, ⊤, List, [], ◌∷◌, None, Some}
+use Rattle.std.specs.Prelude.{◌≡◌, ℕ, List, [], ◌∷◌}
 use Rattle.std.specs.declared.option.Option.{Option}
 use Rattle.std.specs.FinMap as map
 use Rattle.edge_traits.specs.Keeper.{Stays}
 use Rattle.edge_traits.specs.Pairs.{Table}
+use Rattle.edge_traits.specs.WhereTold.{WhereTold}
 use Rattle.edge_traits.specs.declared.keeper.Kept.{Kept}
 use Rattle.edge_traits.specs.declared.keeper.Kept.TheVariants.{Done, Failed, Memory}
 use Rattle.lobby_shelf.specs.Wanted.{table_with}
@@ -15,9 +16,8 @@ held table key = map.get table key
 
 -- a table that is told holds afterwards what these orders make of it, carried out one after another
 abbrev pub Carries : Option Table → Option Table → List Order → Type 0
-Carries None new orders = ⊤
-Carries (Some old) None orders = ⊥
-Carries (Some old) (Some new) orders = (key : List ℕ) → held new key ≡ table_with (held old) orders key
+Carries old new orders =
+    WhereTold old new (λ before after. (key : List ℕ) → held after key ≡ table_with (held before) orders key)
 
 -- an order is carried out, or the table stays as it was
 abbrev pub CarriesOne : Option Table → Option Table → Order → Kept → Type 0

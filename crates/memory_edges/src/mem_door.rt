@@ -98,7 +98,8 @@ impl Doorway for MemDoor {
     ghost use Rattle.std.specs.Prelude.{◌≡◌, ◌↔◌, ◌≤◌, Some, IfSome};
     ghost use Rattle.edge_traits.specs.Faults.{Rose};
     ghost use Rattle.memory_edges.specs.Plan.{IsToFail, after_call};
-    ghost use Rattle.edge_traits.specs.Door.{Gives, Goes, IfCame, IsNew, IsOut, TakesBack, OnDoorFailed};
+    ghost use Rattle.edge_traits.specs.WhereTold.{WhereTold};
+    ghost use Rattle.edge_traits.specs.Door.{Gives, IfCame, IsNew, IsOut, TakesBack, OnDoorFailed};
     ghost use Rattle.edge_traits.specs.Answers.{IsQuiet, door_failed};
 
     type Link = MemLink;
@@ -108,7 +109,7 @@ impl Doorway for MemDoor {
     ghost faults = { λ door. door.plan.faults };
 
     fn next(&mut self) -> Came<MemLink>
-        ensures gives { Goes (Some self.old.tale) (Some self.new.tale) (Gives (λ link. Some link.tale) result) }
+        ensures gives { WhereTold (Some self.old.tale) (Some self.new.tale) (Gives (λ link. Some link.tale) result) }
         ensures fresh { IfCame result (λ link. IsNew link.plan.faults (Some link.tale)) }
         ensures cause { OnDoorFailed result (Rose self.old.plan.faults self.new.plan.faults) }
         ensures counted { self.old.plan.faults ≤ self.new.plan.faults }
@@ -129,7 +130,7 @@ impl Doorway for MemDoor {
 
     fn back(&mut self, number: u64, link: MemLink)
         requires { IfSome (Some self.old.tale) (IsOut number) }
-        ensures back { Goes (Some self.old.tale) (Some self.new.tale) (TakesBack number (record {
+        ensures back { WhereTold (Some self.old.tale) (Some self.new.tale) (TakesBack number (record {
           tale = Some link.tale;
           faults = link.plan.faults;
         })) }

@@ -10,7 +10,7 @@ use std::alloc::Global;
 use std::marker::Model;
 
 /// A link that gives known steps and keeps what it is written, and fails at the calls of `read` and `write` that it is
-/// told. A failed write leaves nothing behind.
+/// told. A failed write leaves nothing behind. Once it is closed it is neither read nor written.
 #[derive(Drop)]
 pub struct MemLink {
     steps: Vec<LinkStep>,
@@ -87,6 +87,13 @@ impl MemLink {
         self.bytes.as_slice()
     }
 
+    /// Whether it was closed, so that it is neither read nor written any more.
+    pub fn is_closed(&self) -> bool
+        ensures { result ≡ self.now.tale.closed }
+    {
+        self.closed
+    }
+
     /// The number under which a door keeps it.
     pub(crate) fn number(&self) -> u64
         ensures { result ≡ self.now.number }
@@ -109,16 +116,18 @@ impl Link for MemLink {
     ghost use Rattle.memory_edges.specs.Plan.{IsToFail, after_call};
     ghost use Rattle.edge_traits.specs.Answers.{hear_failed, write_failed};
     ghost use Rattle.edge_traits.specs.Sink.{OnWriteFailed};
-    ghost use Rattle.edge_traits.specs.Link.{Both, Reads, Writes, Closes, IfHeard, OnHearFailed};
+    ghost use Rattle.edge_traits.specs.WhereTold.{WhereTold};
+    ghost use Rattle.edge_traits.specs.Link.{IsOpen, Reads, Writes, Closes, IfHeard, OnHearFailed};
 
     ghost tale = { λ link. Some link.tale };
 
     ghost faults = { λ link. link.plan.faults };
 
     fn read(&mut self, buf: &mut [u8]) -> Heard
-        requires { 0 < length buf.old }
+        requires room { 0 < length buf.old }
+        requires open { IsOpen (Some self.old.tale) }
         ensures count { IfHeard result (λ n. (0 < n) × (n ≤ length buf.new)) }
-        ensures read { Both (Some self.old.tale) (Some self.new.tale) (Reads result buf.new) }
+        ensures read { WhereTold (Some self.old.tale) (Some self.new.tale) (Reads result buf.new) }
         ensures cause { OnHearFailed result (Rose self.old.plan.faults self.new.plan.faults) }
         ensures counted { self.old.plan.faults ≤ self.new.plan.faults }
         ensures failed { (result ≡ Heard.Failed) ↔ IsToFail self.old.plan }
@@ -137,7 +146,8 @@ impl Link for MemLink {
     }
 
     fn write(&mut self, bytes: &[u8]) -> Sent
-        ensures wrote { Both (Some self.old.tale) (Some self.new.tale) (Writes result bytes.now) }
+        requires open { IsOpen (Some self.old.tale) }
+        ensures wrote { WhereTold (Some self.old.tale) (Some self.new.tale) (Writes result bytes.now) }
         ensures cause { OnWriteFailed result (Rose self.old.plan.faults self.new.plan.faults) }
         ensures counted { self.old.plan.faults ≤ self.new.plan.faults }
         ensures failed { (result ≡ Sent.Failed) ↔ IsToFail self.old.plan }
@@ -150,7 +160,7 @@ impl Link for MemLink {
     }
 
     fn close(&mut self)
-        ensures closed { Both (Some self.old.tale) (Some self.new.tale) Closes }
+        ensures closed { WhereTold (Some self.old.tale) (Some self.new.tale) Closes }
         ensures faults { self.new.plan.faults ≡ self.old.plan.faults }
         ensures plan { self.new.plan ≡ self.old.plan }
     {

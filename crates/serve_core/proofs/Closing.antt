@@ -17,7 +17,7 @@ use Rattle.one_server.specs.declared.reply.Reply.{Reply}
 use Rattle.one_server.specs.House.{house}
 use Rattle.one_server.specs.Running.{IsKnown, Log, RunnerState}
 use Rattle.one_server.specs.Whole.{IsWhole}
-use Rattle.hall_core.specs.Passes.{EveryoneJoined, PassState, first_pass, runs_of}
+use Rattle.hall_core.specs.Passes.{EveryoneJoined, PassState, first_pass, noted, runs_of}
 use Rattle.steward_core.specs.Agreement.{IsNoOthers, NoOthersSave, StaysAgreed, state_seen}
 use Rattle.steward_core.specs.declared.turn.StewardEnd.{StewardEnd}
 use Rattle.steward_core.specs.declared.turn.StewardEnd.TheVariants as steward
@@ -31,18 +31,16 @@ use Rattle.serve_core.specs.declared.settle.Supply.TheVariants.{Enough, Short}
 use Rattle.serve_core.specs.Keeping.{Underway}
 use Rattle.serve_core.specs.Sessions.{CameAs, CameBack, HadSession}
 use Rattle.serve_core.specs.Serving.{AgreesIn, EachHadSession, HasOneHistory, HasServedAll, IsUnused, TellsAgreed}
-use Rattle.serve_core.specs.Stopping.{MayBeShort}
 use Rattle.serve_core.specs.Text.{SaysText}
 use Rattle.serve_core.specs.Outside.{Sheet, Store}
 use Rattle.serve_core.specs.Stewarding.{AreTurns, HasTended, MayEnd}
 use Rattle.serve_core.specs.Tending.{GivesQuiets, Tended, stand}
 use Rattle.serve_core.specs.Turns.{TurnsLast}
 use Rattle.serve_core.proofs.Among.{in_map_from}
-use Rattle.serve_core.proofs.Ending.{LastEnds, last_short}
 use Rattle.serve_core.proofs.Keeping.{served_then}
-use Rattle.serve_core.proofs.LastTurn.{last_home, last_is, last_joined, last_leaves, last_made, last_number, last_opening, last_splits, own_last}
-use Rattle.serve_core.proofs.Telling.{goes_same, told_and, told_as, told_then}
-use Rattle.serve_core.proofs.Tending.{looked_made, rose_after, tended_looked, tended_then}
+use Rattle.serve_core.proofs.LastTurn.{last_home, last_is, last_joined, last_leaves, last_made, last_number, last_opening, last_seen, last_splits, own_last}
+use Rattle.serve_core.proofs.Telling.{where_same, told_and, told_as, told_then}
+use Rattle.serve_core.proofs.Tending.{looked_made, tended_looked, tended_then}
 use Rattle.serve_core.proofs.Turning.{may_end, turns_as}
 
 -- ---- the table
@@ -60,16 +58,11 @@ told_agreed parts opening (Some before) (Some after) old new stays whole none wa
 
 -- ---- the turns
 
-last_may : (lack fault : Type 0) (last : StewardEnd) → (last ≡ steward.Memory → lack) → (last ≡ steward.KeeperFault → fault) → MayEnd lack fault last
-last_may lack fault (steward.Done count) f g = tt
-last_may lack fault steward.KeeperFault f g = g refl
-last_may lack fault steward.Memory f g = f refl
-
 -- what is known once all links were served: the first pass, with the passes that were joined into it, and the turns of
 -- the steward that were made, from the opening on
-module _ {C : Type 0} (shows : C → ℕ → Bool) (hall : TableId) (clock : C) (supply : Supply) (opens door : Option DoorTale) (opening : List Part) (pass new : PassState) (old mid after : Store) (last : StewardEnd)
+module _ {C : Type 0} (shows : C → ℕ → Bool) (hall : TableId) (clock : C) (supply : Supply) (opens door : Option DoorTale) (opening : List Part) (pass new : PassState) (old mid after : Store) (last : StewardEnd) (made : Supply)
     (k : Underway shows hall clock supply door pass []) (tended : Tended (stand (first_pass hall opening) Enough opens old) (stand pass supply door mid)) (unused : IfSome opens IsUnused) (whole : IsWhole opening)
-    (t : TurnsLast last mid.table after.table pass new) (fault : last ≡ steward.KeeperFault → Rose mid.faults after.faults) (counted : mid.faults ≤ after.faults) where
+    (t : TurnsLast last made mid.table after.table pass new) (fault : last ≡ steward.KeeperFault → Rose mid.faults after.faults) (counted : mid.faults ≤ after.faults) where
   abbrev start : RunnerState
   start = runs_of (first_pass hall opening)
 
@@ -84,22 +77,22 @@ module _ {C : Type 0} (shows : C → ℕ → Bool) (hall : TableId) (clock : C) 
   everyone m low high = in_joined m (k.numbers m low high)
 
   splits_are : new.splits ≡ pass.splits
-  splits_are = last_splits last mid.table after.table pass new t
+  splits_are = last_splits last made mid.table after.table pass new t
 
   is_first : new.number ≡ 0
-  is_first = last_number last mid.table after.table pass new t ∙ k.first
+  is_first = last_number last made mid.table after.table pass new t ∙ k.first
 
   opening_is : new.opening ≡ opening
-  opening_is = last_opening last mid.table after.table pass new t ∙ ap (λ (s : RunnerState). s.opening) (tended.grew start_known).same
+  opening_is = last_opening last made mid.table after.table pass new t ∙ ap (λ (s : RunnerState). s.opening) (tended.grew start_known).same
 
   opening_was : pass.opening ≡ opening
   opening_was = ap (λ (s : RunnerState). s.opening) (tended.grew start_known).same
 
   joined_are : new.joined ≡ pass.joined
-  joined_are = last_joined last mid.table after.table pass new t
+  joined_are = last_joined last made mid.table after.table pass new t
 
   own_calls : calls_of 0 new.seen ≡ new.made
-  own_calls = own_last last mid.table after.table pass new t k.first everyone
+  own_calls = own_last last made mid.table after.table pass new t k.first everyone
 
   -- up to the look before the last turn
   ready : Tended (stand (first_pass hall opening) Enough opens old) (stand t.first supply door mid)
@@ -109,7 +102,7 @@ module _ {C : Type 0} (shows : C → ℕ → Bool) (hall : TableId) (clock : C) 
   ready_made = (ready.grew start_known).more
 
   made_is : calls_of 0 new.seen ≡ ready.entries ++ t.made.turn.entries
-  made_is = own_calls ∙ last_made last mid.table after.table pass new t ∙ ap (λ (l : Log). l ++ t.made.turn.entries) ready_made
+  made_is = own_calls ∙ last_made last made mid.table after.table pass new t ∙ ap (λ (l : Log). l ++ t.made.turn.entries) ready_made
 
   known_seen : AllByRecursion (IsNoOthers 0) new.seen → NoOthersSave start (runs_of new)
   known_seen none = record { gained = new.seen; is = refl; none = none }
@@ -128,14 +121,15 @@ module _ {C : Type 0} (shows : C → ℕ → Bool) (hall : TableId) (clock : C) 
   served_session lack short m j there is =
       let calls : calls_of j.number new.seen ≡ j.calls = t.looked_again.calls j (subst (λ (xs : List (Joined Timed Reply)). In j xs) (sym joined_are) there) in
       let same : HadSession (shows clock) lack door j.number j.calls =
-      served_then (shows clock) j.number j.calls (supply ≡ Short) lack door door (λ a b. a ≡ b) (goes_same door (λ a b. a ≡ b) (λ tale. refl)) (λ n link a b e p. subst (λ (x : DoorTale). CameAs n link x) e p) (λ n link a b e p. subst (λ (x : DoorTale). CameBack n link x) e p) short (k.served j there) in
+      served_then (shows clock) j.number j.calls (supply ≡ Short) lack door door (λ a b. a ≡ b) (where_same door (λ a b. a ≡ b) (λ tale. refl)) (λ n link a b e p. subst (λ (x : DoorTale). CameAs n link x) e p) (λ n link a b e p. subst (λ (x : DoorTale). CameBack n link x) e p) short (k.served j there) in
       subst (λ n. HadSession (shows clock) lack door n (calls_of n new.seen)) (sym is) (subst (λ (l : Log). HadSession (shows clock) lack door j.number l) (sym calls) same)
 
-  module _ (end : ServeEnd) (short : supply ≡ Short → MayBeShort end) (ends : LastEnds end last) where
-    sessions_served : (m : ℕ) → 0 < m → m ≤ new.splits → HadSession (shows clock) (MayBeShort end) door m (calls_of m new.seen)
+  -- whether memory ran out is told
+  module _ (b : Bool) (short : supply ≡ Short → b ≡ true) (short_last : made ≡ Short → b ≡ true) where
+    sessions_served : (m : ℕ) → 0 < m → m ≤ new.splits → HadSession (shows clock) (b ≡ true) door m (calls_of m new.seen)
     sessions_served m low high =
         let found = in_map_from joined_number m pass.joined (everyone m low (omega (arith, high, splits_are))) in
-        served_session (MayBeShort end) short m found.0 found.1 found.2
+        served_session (b ≡ true) short m found.0 found.1 found.2
 
     nobody_else : (m : ℕ) → new.splits < m → calls_of m new.seen ≡ []
     nobody_else = t.looked_again.no_others is_first
@@ -148,17 +142,13 @@ module _ {C : Type 0} (shows : C → ℕ → Bool) (hall : TableId) (clock : C) 
       none_after = nobody_else;
     }
 
-    abbrev Ends : StewardEnd → Type 0
-    Ends = MayEnd (MayBeShort end) (Rose old.faults after.faults)
-
-    turns_before : AreTurns Ends ready.count ready.entries
-    turns_before =
-        turns_as (MayEnd (supply ≡ Short) (Rose old.faults mid.faults)) Ends (may_end (supply ≡ Short) (MayBeShort end) (Rose old.faults mid.faults) (Rose old.faults after.faults) short (rose_after old.faults mid.faults after.faults counted)) ready.count ready.entries ready.turns
+    turns_before : AreTurns (MayEnd (b ≡ true)) ready.count old.faults mid.faults ready.entries
+    turns_before = turns_as (MayEnd (supply ≡ Short)) (MayEnd (b ≡ true)) (may_end (supply ≡ Short) (b ≡ true) short) ready.count old.faults mid.faults ready.entries ready.turns
 
     quiets_then : IfSome door (λ tale. ready.count ≡ tale.quiets)
     quiets_then = told_then opens door (GivesQuiets ready.count) IsUnused (λ tale. ready.count ≡ tale.quiets) (λ a b gives none. omega (arith, gives, none.2)) ready.quiets unused
 
-    one_history : HasOneHistory opening new
+    one_history : HasOneHistory opening (noted b new)
     one_history = record {
       first = is_first;
       opens = opening_is;
@@ -168,46 +158,50 @@ module _ {C : Type 0} (shows : C → ℕ → Bool) (hall : TableId) (clock : C) 
       no_others = nobody_else;
     }
 
-    each_session : EachHadSession (shows clock) end door new
+    each_session : EachHadSession (shows clock) door (noted b new)
     each_session = record {
       sessions = sessions_served;
       came = told_as door (λ tale. length tale.came ≡ pass.splits) (λ tale. length tale.came ≡ new.splits) (λ tale n. n ∙ sym splits_are) k.came;
       back = told_and door (λ tale. length tale.came ≡ pass.splits) (λ tale. length tale.back + 0 ≡ length tale.came) (λ tale. length tale.back ≡ new.splits) (λ tale n m. omega (arith, n, m, splits_are)) k.came k.out;
     }
 
-    tended_all : HasTended Ends last door (calls_of 0 new.seen) (state house new.opening new.seen)
+    tended_all : HasTended (b ≡ true) last door old.faults after.faults new.opening new.seen
     tended_all = record {
       count = ready.count;
-      before = ready.entries;
-      turn = last_is last mid.table after.table pass new t;
+      first = ready.entries;
+      mid = mid.faults;
+      turn = last_is last made mid.table after.table pass new t;
+      earlier = t.first.seen;
       turns = turns_before;
       quiets = quiets_then;
+      counted = counted;
       ended = refl;
-      ends = last_may (MayBeShort end) (Rose old.faults after.faults) last (last_short end last ends) (λ e. let rose = fault e in let before = ready.counted in omega (arith, rose, before));
+      ends = record { fault = fault; memory = λ e. short_last (t.made.short e); clearing = λ e. short_last (t.made.short_first e) };
       made_is = made_is;
-      orders = last_leaves last mid.table after.table pass new t k.first everyone (subst IsWhole (sym opening_was) whole);
+      stands_last = last_seen last made mid.table after.table pass new t k.first everyone;
+      orders = last_leaves last made mid.table after.table pass new t k.first everyone (subst IsWhole (sym opening_was) whole);
     }
 
-    pub served_all : (before later : Sheet) → SaysText end last door pass.splits before later → HasServedAll (shows clock) opening end door before later old after new
-    served_all before later leaves = record {
+    pub served_all : (end : ServeEnd) (before later : Sheet) → SaysText end b last door pass.splits before later → HasServedAll (shows clock) opening end door before later old after (noted b new)
+    served_all end before later leaves = record {
       last = last;
       hall = one_history;
       links = each_session;
       steward = tended_all;
       store = told_agreed (state house new.opening new.seen) new.opening old.table after.table start (runs_of new) stays whole (known_seen (others_never_save new.splits new.seen others)) (sym opening_is) refl;
-      text = subst (λ n. SaysText end last door n before later) (sym splits_are) leaves;
+      text = subst (λ n. SaysText end b last door n before later) (sym splits_are) leaves;
     }
 
   pub still_here : new.home ≡ hall
-  still_here = last_home last mid.table after.table pass new t ∙ k.here
+  still_here = last_home last made mid.table after.table pass new t ∙ k.here
 
-pub all_served : {C : Type 0} (shows : C → ℕ → Bool) (hall : TableId) (clock : C) (supply : Supply) (opens door : Option DoorTale) (opening : List Part) (first pass new : PassState) (old mid after : Store) (last : StewardEnd)
+pub all_served : {C : Type 0} (shows : C → ℕ → Bool) (hall : TableId) (clock : C) (supply : Supply) (opens door : Option DoorTale) (opening : List Part) (first pass new : PassState) (old mid after : Store) (last : StewardEnd) (made : Supply)
     → Underway shows hall clock supply door pass [] → first ≡ first_pass hall opening → Tended (stand first Enough opens old) (stand pass supply door mid) → IfSome opens IsUnused → IsWhole first.opening
-    → TurnsLast last mid.table after.table pass new → (last ≡ steward.KeeperFault → Rose mid.faults after.faults) → mid.faults ≤ after.faults
-    → (end : ServeEnd) → (supply ≡ Short → MayBeShort end) → LastEnds end last → (before later : Sheet) → SaysText end last door pass.splits before later
-    → HasServedAll (shows clock) first.opening end door before later old after new
-all_served shows hall clock supply opens door opening first pass new old mid after last k is tended unused whole t fault counted end short ends before later leaves =
+    → TurnsLast last made mid.table after.table pass new → (last ≡ steward.KeeperFault → Rose mid.faults after.faults) → mid.faults ≤ after.faults
+    → (b : Bool) → (supply ≡ Short → b ≡ true) → (made ≡ Short → b ≡ true) → (end : ServeEnd) (before later : Sheet) → SaysText end b last door pass.splits before later
+    → HasServedAll (shows clock) first.opening end door before later old after (noted b new)
+all_served shows hall clock supply opens door opening first pass new old mid after last made k is tended unused whole t fault counted b short short_last end before later leaves =
     let at : first.opening ≡ opening = ap (λ (p : PassState). p.opening) is in
-    subst (λ (parts : List Part). HasServedAll (shows clock) parts end door before later old after new) (sym at)
-    (served_all shows hall clock supply opens door opening pass new old mid after last k
-    (subst (λ (p : PassState). Tended (stand p Enough opens old) (stand pass supply door mid)) is tended) unused (subst IsWhole at whole) t fault counted end short ends before later leaves)
+    subst (λ (parts : List Part). HasServedAll (shows clock) parts end door before later old after (noted b new)) (sym at)
+    (served_all shows hall clock supply opens door opening pass new old mid after last made k
+    (subst (λ (p : PassState). Tended (stand p Enough opens old) (stand pass supply door mid)) is tended) unused (subst IsWhole at whole) t fault counted b short short_last end before later leaves)

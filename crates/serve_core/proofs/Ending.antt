@@ -1,5 +1,5 @@
 -- The end of serving: its status, the text, and why no further link was taken.
-use Rattle.std.proofs.Common.{◌≡◌, ◌≢◌, ℕ, ◌⊎◌, inl, inr, refl, sym, subst, ◌∙◌}
+use Rattle.std.proofs.Common.{◌≡◌, ◌≢◌, ℕ, ◌⊎◌, Bool, true, false, inl, inr, refl, sym, subst, ◌∙◌}
 use Rattle.std.specs.declared.option.Option.{Option}
 use Rattle.edge_traits.specs.Door.{DoorTale}
 use Rattle.edge_traits.specs.Sink.{UnlessWriteFailed}
@@ -14,10 +14,31 @@ use Rattle.serve_core.specs.declared.end.ServeEnd.TheVariants.{Done, DoorFault, 
 use Rattle.serve_core.specs.declared.settle.Supply.{Supply}
 use Rattle.serve_core.specs.declared.settle.Supply.TheVariants.{Enough, Short}
 use Rattle.serve_core.specs.StewardLaws.{IsDone}
-use Rattle.serve_core.specs.Stopping.{IsClean, MayBeShort, IsStopped, end_of}
+use Rattle.serve_core.specs.Stopping.{IsClean, IsStopped, end_of, is_short}
 use Rattle.serve_core.specs.Text.{Says, SaysText, closed_text, ready_text}
 use Rattle.serve_core.specs.Outside.{Sheet}
 use Rattle.serve_core.specs.Keeping.{Stopped}
+use Rattle.serve_core.specs.Turns.{supply_then}
+
+-- ---- whether memory ran out
+
+short_write : (supply : Supply) → is_short supply sent.Memory ≡ true
+short_write Short = refl
+short_write Enough = refl
+
+-- it ran out before, or in the last turn
+pub short_before : (made supply : Supply) (s : Sent) → supply ≡ Short → is_short (supply_then made supply) s ≡ true
+short_before Short supply s e = refl
+short_before Enough supply s e = subst (λ (x : Supply). is_short x s ≡ true) (sym e) refl
+
+pub short_turn : (made supply : Supply) (s : Sent) → made ≡ Short → is_short (supply_then made supply) s ≡ true
+short_turn made supply s e = subst (λ (x : Supply). is_short (supply_then x supply) s ≡ true) (sym e) refl
+
+pub short_made : (made : Supply) (s : Sent) → made ≡ Short → is_short made s ≡ true
+short_made made s e = subst (λ (x : Supply). is_short x s ≡ true) (sym e) refl
+
+ample : (supply : Supply) (s : Sent) → s ≡ sent.All → supply ≡ Enough → is_short supply s ≡ false
+ample supply s whole enough = subst (λ (x : Sent). is_short supply x ≡ false) (sym whole) (subst (λ (x : Supply). is_short x sent.All ≡ false) (sym enough) refl)
 
 -- ---- how serving ends
 
@@ -37,69 +58,75 @@ pub record Comes (door : DoorEnd) (s : Sent) (last : StewardEnd) (supply : Suppl
   pub enough : IsClean end → supply ≡ Enough
   pub ends : LastEnds end last
   pub failed : end ≡ DoorFault → door ≡ door_end.Failed
+  pub short : end ≡ Memory → (is_short supply s ≡ true) ⊎ (last ≡ steward.Memory)
 
 by_door : (s : Sent) (last : StewardEnd) (supply : Supply) → Comes door_end.Failed s last supply DoorFault
-by_door s last supply = record { whole = λ w. absurd w; enough = λ w. absurd w; ends = tt; failed = λ e. refl }
+by_door s last supply = record { whole = λ w. absurd w; enough = λ w. absurd w; ends = tt; failed = λ e. refl; short = λ e. absurd cc }
 
 by_sink : (door : DoorEnd) (last : StewardEnd) (supply : Supply) → Comes door sent.Failed last supply WriteFault
-by_sink door last supply = record { whole = λ w. absurd w; enough = λ w. absurd w; ends = tt; failed = λ e. absurd cc }
+by_sink door last supply = record { whole = λ w. absurd w; enough = λ w. absurd w; ends = tt; failed = λ e. absurd cc; short = λ e. absurd cc }
 
 by_keeper : (door : DoorEnd) (s : Sent) (supply : Supply) → Comes door s steward.KeeperFault supply KeeperFault
-by_keeper door s supply = record { whole = λ w. absurd w; enough = λ w. absurd w; ends = refl; failed = λ e. absurd cc }
+by_keeper door s supply = record { whole = λ w. absurd w; enough = λ w. absurd w; ends = refl; failed = λ e. absurd cc; short = λ e. absurd cc }
 
-by_memory : (door : DoorEnd) (s : Sent) (last : StewardEnd) (supply : Supply) → last ≢ steward.KeeperFault → Comes door s last supply Memory
-by_memory door s last supply other = record { whole = λ w. absurd w; enough = λ w. absurd w; ends = other; failed = λ e. absurd cc }
+by_memory : (door : DoorEnd) (s : Sent) (last : StewardEnd) (supply : Supply) → last ≢ steward.KeeperFault → (is_short supply s ≡ true) ⊎ (last ≡ steward.Memory) → Comes door s last supply Memory
+by_memory door s last supply other short = record { whole = λ w. absurd w; enough = λ w. absurd w; ends = other; failed = λ e. absurd cc; short = λ e. short }
 
 by_close : (count : ℕ) → Comes door_end.Closed sent.All (steward.Done count) Enough Done
-by_close count = record { whole = λ w. refl; enough = λ w. refl; ends = tt; failed = λ e. absurd cc }
+by_close count = record { whole = λ w. refl; enough = λ w. refl; ends = tt; failed = λ e. absurd cc; short = λ e. absurd cc }
 
 by_number : (count : ℕ) → Comes door_end.Spent sent.All (steward.Done count) Enough Spent
-by_number count = record { whole = λ w. refl; enough = λ w. refl; ends = tt; failed = λ e. absurd cc }
+by_number count = record { whole = λ w. refl; enough = λ w. refl; ends = tt; failed = λ e. absurd cc; short = λ e. absurd cc }
 
 pub comes : (door : DoorEnd) (s : Sent) (last : StewardEnd) (supply : Supply) → Comes door s last supply (end_of door s last supply)
 comes door_end.Failed s last supply = by_door s last supply
 comes door_end.Closed sent.Failed last supply = by_sink door_end.Closed last supply
 comes door_end.Closed sent.All steward.KeeperFault supply = by_keeper door_end.Closed sent.All supply
 comes door_end.Closed sent.Memory steward.KeeperFault supply = by_keeper door_end.Closed sent.Memory supply
-comes door_end.Closed sent.All steward.Memory supply = by_memory door_end.Closed sent.All steward.Memory supply (λ e. cc)
-comes door_end.Closed sent.Memory steward.Memory supply = by_memory door_end.Closed sent.Memory steward.Memory supply (λ e. cc)
-comes door_end.Closed sent.Memory (steward.Done count) supply = by_memory door_end.Closed sent.Memory (steward.Done count) supply (λ e. cc)
-comes door_end.Closed sent.All (steward.Done count) Short = by_memory door_end.Closed sent.All (steward.Done count) Short (λ e. cc)
+comes door_end.Closed sent.All steward.Memory supply = by_memory door_end.Closed sent.All steward.Memory supply (λ e. cc) (inr refl)
+comes door_end.Closed sent.Memory steward.Memory supply = by_memory door_end.Closed sent.Memory steward.Memory supply (λ e. cc) (inr refl)
+comes door_end.Closed sent.Memory (steward.Done count) supply = by_memory door_end.Closed sent.Memory (steward.Done count) supply (λ e. cc) (inl (short_write supply))
+comes door_end.Closed sent.All (steward.Done count) Short = by_memory door_end.Closed sent.All (steward.Done count) Short (λ e. cc) (inl refl)
 comes door_end.Closed sent.All (steward.Done count) Enough = by_close count
 comes door_end.Spent sent.Failed last supply = by_sink door_end.Spent last supply
 comes door_end.Spent sent.All steward.KeeperFault supply = by_keeper door_end.Spent sent.All supply
 comes door_end.Spent sent.Memory steward.KeeperFault supply = by_keeper door_end.Spent sent.Memory supply
-comes door_end.Spent sent.All steward.Memory supply = by_memory door_end.Spent sent.All steward.Memory supply (λ e. cc)
-comes door_end.Spent sent.Memory steward.Memory supply = by_memory door_end.Spent sent.Memory steward.Memory supply (λ e. cc)
-comes door_end.Spent sent.Memory (steward.Done count) supply = by_memory door_end.Spent sent.Memory (steward.Done count) supply (λ e. cc)
-comes door_end.Spent sent.All (steward.Done count) Short = by_memory door_end.Spent sent.All (steward.Done count) Short (λ e. cc)
+comes door_end.Spent sent.All steward.Memory supply = by_memory door_end.Spent sent.All steward.Memory supply (λ e. cc) (inr refl)
+comes door_end.Spent sent.Memory steward.Memory supply = by_memory door_end.Spent sent.Memory steward.Memory supply (λ e. cc) (inr refl)
+comes door_end.Spent sent.Memory (steward.Done count) supply = by_memory door_end.Spent sent.Memory (steward.Done count) supply (λ e. cc) (inl (short_write supply))
+comes door_end.Spent sent.All (steward.Done count) Short = by_memory door_end.Spent sent.All (steward.Done count) Short (λ e. cc) (inl refl)
 comes door_end.Spent sent.All (steward.Done count) Enough = by_number count
 
--- ---- where memory may have run short
+-- where it ended well the last turn was done
+pub clean_last : (end : ServeEnd) (last : StewardEnd) → LastEnds end last → IsClean end → IsDone last
+clean_last Done last ends clean = ends
+clean_last Spent last ends clean = ends
+clean_last WriteFault last ends clean = absurd clean
+clean_last KeeperFault last ends clean = absurd clean
+clean_last Memory last ends clean = absurd clean
+clean_last DoorFault last ends clean = absurd clean
 
-pub may_be : (end : ServeEnd) (supply : Supply) → (IsClean end → supply ≡ Enough) → supply ≡ Short → MayBeShort end
-may_be Done supply clean e = absurd (let both : Short ≡ Enough = sym e ∙ clean tt in cc)
-may_be WriteFault supply clean e = tt
-may_be KeeperFault supply clean e = tt
-may_be Memory supply clean e = tt
-may_be DoorFault supply clean e = tt
-may_be Spent supply clean e = absurd (let both : Short ≡ Enough = sym e ∙ clean tt in cc)
+-- what is told of an end says so
+pub text_last : (end : ServeEnd) (short : Bool) (last : StewardEnd) (door : Option DoorTale) (count : ℕ) (before after : Sheet) → SaysText end short last door count before after → LastEnds end last
+text_last end short last door count before after (inl p) = subst (λ (e : ServeEnd). LastEnds e last) (sym p.ends) (comes door_end.Closed p.said last p.supply).ends
+text_last end short last door count before after (inr p) = subst (λ (e : ServeEnd). LastEnds e last) (sym p.ends) (comes p.why p.said last p.supply).ends
 
-pub last_short : (end : ServeEnd) (last : StewardEnd) → LastEnds end last → last ≡ steward.Memory → MayBeShort end
-last_short Done last ends e = subst IsDone e ends
-last_short WriteFault last ends e = tt
-last_short KeeperFault last ends e = tt
-last_short Memory last ends e = tt
-last_short DoorFault last ends e = tt
-last_short Spent last ends e = subst IsDone e ends
+pub text_enough : (end : ServeEnd) (short : Bool) (last : StewardEnd) (door : Option DoorTale) (count : ℕ) (before after : Sheet) → SaysText end short last door count before after → IsClean end → short ≡ false
+text_enough end short last door count before after (inl p) clean =
+    absurd (p.unwritten ((comes door_end.Closed p.said last p.supply).whole (subst IsClean p.ends clean)))
+text_enough end short last door count before after (inr p) clean =
+    let by = comes p.why p.said last p.supply in
+    let well : IsClean (end_of p.why p.said last p.supply) = subst IsClean p.ends clean in
+    p.shortage ∙ ample p.supply p.said (by.whole well) (by.enough well)
 
-pub never_short : (end : ServeEnd) → IsClean end → MayBeShort end → ⊥
-never_short Done clean short = short
-never_short Spent clean short = short
-never_short WriteFault clean short = clean
-never_short KeeperFault clean short = clean
-never_short Memory clean short = clean
-never_short DoorFault clean short = clean
+told_short : (short is : Bool) (last : StewardEnd) → short ≡ is → (is ≡ true) ⊎ (last ≡ steward.Memory) → (short ≡ true) ⊎ (last ≡ steward.Memory)
+told_short short is last told (inl e) = inl (told ∙ e)
+told_short short is last told (inr e) = inr e
+
+pub text_short : (end : ServeEnd) (short : Bool) (last : StewardEnd) (door : Option DoorTale) (count : ℕ) (before after : Sheet) → SaysText end short last door count before after → end ≡ Memory
+    → (short ≡ true) ⊎ (last ≡ steward.Memory)
+text_short end short last door count before after (inl p) is = told_short short (is_short p.supply p.said) last p.shortage ((comes door_end.Closed p.said last p.supply).short (sym p.ends ∙ is))
+text_short end short last door count before after (inr p) is = told_short short (is_short p.supply p.said) last p.shortage ((comes p.why p.said last p.supply).short (sym p.ends ∙ is))
 
 -- ---- the text, and why no further link was taken
 
@@ -110,7 +137,7 @@ is_stopped door_end.Spent door splits before now p = p
 
 -- `ready` was written, links were taken, and then `closed` was to be written
 pub closes_by : (why : DoorEnd) (s : Sent) (last : StewardEnd) (supply : Supply) (door : Option DoorTale) (splits before now : ℕ) (first mid after : Sheet) → Stopped why splits door before now
-    → Says ready_text sent.All first mid → Says closed_text s mid after → SaysText (end_of why s last supply) last door splits first after
+    → Says ready_text sent.All first mid → Says closed_text s mid after → SaysText (end_of why s last supply) (is_short supply s) last door splits first after
 closes_by why s last supply door splits before now first mid after p ready closed = inr (record {
   why = why;
   stopped = is_stopped why door splits before now p;
@@ -120,14 +147,21 @@ closes_by why s last supply door splits before now first mid after p ready close
   closed = closed;
   supply = supply;
   ends = refl;
+  shortage = refl;
 })
 
 -- `ready` couldn't be written
-pub closes_failed : (last : StewardEnd) (door : Option DoorTale) (splits : ℕ) (first after : Sheet) → splits ≡ 0 → Says ready_text sent.Failed first after → SaysText WriteFault last door splits first after
-closes_failed last door splits first after zero ready = inl (record { none_taken = zero; said = sent.Failed; unwritten = λ e. cc; ready = ready; ends = refl })
-
-pub closes_short : (last : StewardEnd) (door : Option DoorTale) (splits : ℕ) (first after : Sheet) → splits ≡ 0 → Says ready_text sent.Memory first after → SaysText (end_of door_end.Closed sent.Memory last Enough) last door splits first after
-closes_short last door splits first after zero ready = inl (record { none_taken = zero; said = sent.Memory; unwritten = λ e. cc; ready = ready; ends = refl })
+pub closes_unready : (s : Sent) (last : StewardEnd) (supply : Supply) (door : Option DoorTale) (splits : ℕ) (first after : Sheet) → splits ≡ 0 → s ≢ sent.All → Says ready_text s first after
+    → SaysText (end_of door_end.Closed s last supply) (is_short supply s) last door splits first after
+closes_unready s last supply door splits first after zero unwritten ready = inl (record {
+  none_taken = zero;
+  said = s;
+  supply = supply;
+  unwritten = unwritten;
+  ready = ready;
+  ends = refl;
+  shortage = refl;
+})
 
 -- ---- the count of the sink
 

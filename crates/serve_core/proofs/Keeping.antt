@@ -5,7 +5,8 @@ use Rattle.std.proofs.lemmas.Option.{slice_get_within}
 use Rattle.std.specs.declared.option.Option.{Option}
 use Rattle.atomic_table.specs.Seated.{TableId}
 use Rattle.edge_traits.specs.Link.{Handed, IsFresh, Tale}
-use Rattle.edge_traits.specs.Door.{DoorTale, Goes, IsOut, TakesBack}
+use Rattle.edge_traits.specs.Door.{DoorTale, IsOut, TakesBack}
+use Rattle.edge_traits.specs.WhereTold.{WhereTold}
 use Rattle.turn_table.specs.declared.view.Joined.{Joined}
 use Rattle.turn_table.specs.Views.{In, joined_number}
 use Rattle.one_server.specs.declared.act.Timed.{Timed}
@@ -18,7 +19,6 @@ use Rattle.link_core.specs.declared.link_end.LinkEnd.TheVariants as link_end
 use Rattle.link_core.specs.ServedInPart.{WasServed}
 use Rattle.edge_traits.specs.Pairs.{Table}
 use Rattle.steward_core.specs.declared.turn.StewardEnd.{StewardEnd}
-use Rattle.steward_core.specs.declared.turn.StewardEnd.TheVariants as steward
 use Rattle.serve_core.specs.declared.settle.Supply.{Supply}
 use Rattle.serve_core.specs.declared.settle.Supply.TheVariants.{Enough, Short}
 use Rattle.serve_core.specs.Turns.{MadeTurn, supply_then}
@@ -47,15 +47,14 @@ now_short end supply e = ap (λ x. supply_after x supply) e
 pub stays_short : (end : LinkEnd) (supply : Supply) → supply ≡ Short → supply_after end supply ≡ Short
 stays_short end supply e = ap (supply_after end) e ∙ still_short end
 
-pub then_short : (end : StewardEnd) (supply : Supply) → supply ≡ Short → supply_then end supply ≡ Short
-then_short (steward.Done count) supply e = e
-then_short steward.KeeperFault supply e = e
-then_short steward.Memory supply e = refl
+pub then_short : (made supply : Supply) → supply ≡ Short → supply_then made supply ≡ Short
+then_short Enough supply e = e
+then_short Short supply e = refl
 
 -- ---- sessions that were joined
 
 module _ (shows : ℕ → Bool) (number : ℕ) (calls : Log) where
-  pub served_then : (lack lack' : Type 0) (door door' : Option DoorTale) (R : DoorTale → DoorTale → Type 0) → Goes door door' R
+  pub served_then : (lack lack' : Type 0) (door door' : Option DoorTale) (R : DoorTale → DoorTale → Type 0) → WhereTold door door' R
       → ((k : ℕ) (link : Option Tale) (old new : DoorTale) → R old new → CameAs k link old → CameAs k link new)
       → ((k : ℕ) (link : Handed) (old new : DoorTale) → R old new → CameBack k link old → CameBack k link new)
       → (lack → lack') → HadSession shows lack door number calls → HadSession shows lack' door' number calls
@@ -87,7 +86,7 @@ module _ {C : Type 0} (shows : C → ℕ → Bool) (hall : TableId) (clock : C) 
       }
 
   -- a link came, and has a pass
-  module _ (supply : Supply) (door door' : Option DoorTale) (pass : PassState) (waiting : List (Due C)) (d : Due C) (k : Underway shows hall clock supply door pass waiting) (goes : Goes door door' (Comes d.link))
+  module _ (supply : Supply) (door door' : Option DoorTale) (pass : PassState) (waiting : List (Due C)) (d : Due C) (k : Underway shows hall clock supply door pass waiting) (goes : WhereTold door door' (Comes d.link))
       (home : d.pass.home ≡ hall) (number : d.pass.number ≡ pass.splits + 1) (same : d.clock ≡ clock) (fresh : IfSome d.link IsFresh) where
     owed_stays : (due : Due C) → IsOwed shows hall clock door due → IsOwed shows hall clock door' due
     owed_stays due p = record {
@@ -132,21 +131,21 @@ module _ {C : Type 0} (shows : C → ℕ → Bool) (hall : TableId) (clock : C) 
     }
 
   -- a Quiet, and a turn of the steward
-  pub kept_quiet : (supply : Supply) (end : StewardEnd) (before after : Option Table) (door door' : Option DoorTale) (pass new : PassState) (waiting : List (Due C)) → Underway shows hall clock supply door pass waiting
-      → Goes door door' (λ before after. after ≡ record before { quiets = before.quiets + 1 }) → MadeTurn end before after pass new → Underway shows hall clock (supply_then end supply) door' new waiting
-  kept_quiet supply end before after door door' pass new waiting k goes turn =
+  pub kept_quiet : (supply : Supply) (end : StewardEnd) (made : Supply) (before after : Option Table) (door door' : Option DoorTale) (pass new : PassState) (waiting : List (Due C)) → Underway shows hall clock supply door pass waiting
+      → WhereTold door door' (λ before after. after ≡ record before { quiets = before.quiets + 1 }) → MadeTurn end made before after pass new → Underway shows hall clock (supply_then made supply) door' new waiting
+  kept_quiet supply end made before after door door' pass new waiting k goes turn =
       let R : DoorTale → DoorTale → Type 0 = λ before after. after ≡ record before { quiets = before.quiets + 1 } in
       let joined : new.joined ≡ pass.joined = ap (λ p. p.joined) turn.shared in
-      let splits = turn_splits end before after pass new turn in
+      let splits = turn_splits end made before after pass new turn in
       let came : (m : ℕ) (link : Option Tale) (a b : DoorTale) → R a b → CameAs m link a → CameAs m link b = λ m link a b e p. subst (λ (xs : List (Option Tale)). CameAs m link (record a { came = xs })) (sym (ap (λ (t : DoorTale). t.came) e)) p in
       let back : (m : ℕ) (link : Handed) (a b : DoorTale) → R a b → CameBack m link a → CameBack m link b = λ m link a b e p. subst (λ (xs : List (ℕ × Handed)). CameBack m link (record a { back = xs })) (sym (ap (λ (t : DoorTale). t.back) e)) p in
       record {
-        here = turn_home end before after pass new turn ∙ k.here;
-        first = turn_number end before after pass new turn ∙ k.first;
+        here = turn_home end made before after pass new turn ∙ k.here;
+        first = turn_number end made before after pass new turn ∙ k.first;
         owed = λ due p.
             let o = k.owed due p in
             record { home = o.home; number = o.number; same = o.same; fresh = o.fresh; came = told_then door door' R (CameAs due.pass.number due.link) (CameAs due.pass.number due.link) (came due.pass.number due.link) goes o.came };
-        served = λ j p. served_then (shows clock) j.number j.calls (supply ≡ Short) (supply_then end supply ≡ Short) door door' R goes came back (then_short end supply) (k.served j (subst (λ (xs : List (Joined Timed Reply)). In j xs) joined p));
+        served = λ j p. served_then (shows clock) j.number j.calls (supply ≡ Short) (supply_then made supply ≡ Short) door door' R goes came back (then_short made supply) (k.served j (subst (λ (xs : List (Joined Timed Reply)). In j xs) joined p));
         numbers = λ m low high. subst (λ (xs : List (Joined Timed Reply)). In m (map joined_number xs) ⊎ In m (map due_number waiting)) (sym joined) (k.numbers m low (omega (arith, high, splits)));
         came = told_then door door' R (λ tale. length tale.came ≡ pass.splits) (λ tale. length tale.came ≡ new.splits) (λ a b e n. ap (λ (t : DoorTale). length t.came) e ∙ n ∙ sym splits) goes k.came;
         out = told_then door door' R (λ tale. length tale.back + length waiting ≡ length tale.came) (λ tale. length tale.back + length waiting ≡ length tale.came)
@@ -172,7 +171,7 @@ module _ {C : Type 0} (shows : C → ℕ → Bool) (hall : TableId) (clock : C) 
         (given_not_first, omega (arith, low, paid.number), omega (arith, n, one_less d one two)))
         owes.came k.out
 
-    module _ (joins : IsJoined pass given new) (goes : Goes door door' (TakesBack given.number link)) where
+    module _ (joins : IsJoined pass given new) (goes : WhereTold door door' (TakesBack given.number link)) where
       grown : new.joined ≡ pass.joined ++ record { number = given.number; calls = given.made } ∷ []
       grown = joins.joined ∙ ap (λ (xs : List (Joined Timed Reply)). pass.joined ++ record { number = given.number; calls = given.made } ∷ xs) paid.none_joined
 

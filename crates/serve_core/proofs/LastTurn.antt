@@ -19,6 +19,7 @@ use Rattle.one_server.specs.Whole.{IsWhole}
 use Rattle.hall_core.specs.Passes.{EveryoneJoined, PassState}
 use Rattle.steward_core.specs.declared.turn.StewardEnd.{StewardEnd}
 use Rattle.steward_core.proofs.AgreedStill.{append_cancel, legal_back}
+use Rattle.serve_core.specs.declared.settle.Supply.{Supply}
 use Rattle.serve_core.specs.Stewarding.{LeavesNoOrders, StewardTurn}
 use Rattle.serve_core.specs.Turns.{TurnsLast}
 use Rattle.serve_core.proofs.Among.{in_map_from}
@@ -56,21 +57,21 @@ all_own (e ∷ es) none =
 
 -- ---- the last turn
 
-module _ (end : StewardEnd) (before after : Option Table) (old new : PassState) (t : TurnsLast end before after old new) where
+module _ (end : StewardEnd) (supply : Supply) (before after : Option Table) (old new : PassState) (t : TurnsLast end supply before after old new) where
   pub first_home : t.first.home ≡ old.home
   first_home = ap (λ (p : PassState). p.home) t.looked.same
 
   pub last_home : new.home ≡ old.home
-  last_home = ap (λ (p : PassState). p.home) t.looked_again.same ∙ turn_home end before after t.first t.mid t.made ∙ first_home
+  last_home = ap (λ (p : PassState). p.home) t.looked_again.same ∙ turn_home end supply before after t.first t.mid t.made ∙ first_home
 
   pub last_splits : new.splits ≡ old.splits
-  last_splits = ap (λ (p : PassState). p.splits) t.looked_again.same ∙ turn_splits end before after t.first t.mid t.made ∙ ap (λ (p : PassState). p.splits) t.looked.same
+  last_splits = ap (λ (p : PassState). p.splits) t.looked_again.same ∙ turn_splits end supply before after t.first t.mid t.made ∙ ap (λ (p : PassState). p.splits) t.looked.same
 
   pub last_number : new.number ≡ old.number
-  last_number = ap (λ (p : PassState). p.number) t.looked_again.same ∙ turn_number end before after t.first t.mid t.made ∙ ap (λ (p : PassState). p.number) t.looked.same
+  last_number = ap (λ (p : PassState). p.number) t.looked_again.same ∙ turn_number end supply before after t.first t.mid t.made ∙ ap (λ (p : PassState). p.number) t.looked.same
 
   pub last_opening : new.opening ≡ old.opening
-  last_opening = ap (λ (p : PassState). p.opening) t.looked_again.same ∙ turn_opening end before after t.first t.mid t.made ∙ ap (λ (p : PassState). p.opening) t.looked.same
+  last_opening = ap (λ (p : PassState). p.opening) t.looked_again.same ∙ turn_opening end supply before after t.first t.mid t.made ∙ ap (λ (p : PassState). p.opening) t.looked.same
 
   first_joined : t.first.joined ≡ old.joined
   first_joined = ap (λ (p : PassState). p.joined) t.looked.same
@@ -79,10 +80,10 @@ module _ (end : StewardEnd) (before after : Option Table) (old new : PassState) 
   last_joined = ap (λ (p : PassState). p.joined) t.looked_again.same ∙ ap (λ p. p.joined) t.made.shared ∙ first_joined
 
   pub last_made : new.made ≡ t.first.made ++ t.made.turn.entries
-  last_made = ap (λ (p : PassState). p.made) t.looked_again.same ∙ turn_made end before after t.first t.mid t.made
+  last_made = ap (λ (p : PassState). p.made) t.looked_again.same ∙ turn_made end supply before after t.first t.mid t.made
 
   abbrev pub last_is : StewardTurn
-  last_is = turn_is end before after t.first t.mid t.made
+  last_is = turn_is end supply before after t.first t.mid t.made
 
   gained : IsPrefix t.first.seen new.seen
   gained = prefix_trans t.first.seen t.mid.seen new.seen t.made.turn.grew.begins t.looked_again.seen
@@ -118,7 +119,7 @@ module _ (end : StewardEnd) (before after : Option Table) (old new : PassState) 
         sym (all_own gained.0 none_else)
         ∙ append_cancel t.first.made (calls_of 0 gained.0) t.made.turn.entries (ap (λ (l : Log). l ++ calls_of 0 gained.0) (sym own_first) ∙ calls_grow 0 ∙ own_last ∙ last_made)
 
-    last_seen : new.seen ≡ t.first.seen ++ t.made.turn.entries
+    pub last_seen : new.seen ≡ t.first.seen ++ t.made.turn.entries
     last_seen = sym gained.1 ∙ ap (λ (l : Log). t.first.seen ++ l) gained_is
 
     pub last_leaves : IsWhole old.opening → LeavesNoOrders end (state house new.opening new.seen)

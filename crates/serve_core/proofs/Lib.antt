@@ -13,3 +13,5 @@ pub mod Writing
 pub mod Opening
 pub mod ServeEnds
 pub mod Returning
+pub mod DesksOver
+pub mod GoodEnds

@@ -14,7 +14,7 @@ use Rattle.edge_traits.specs.declared.sink.Sent.{Sent}
 use Rattle.edge_traits.specs.declared.sink.Sent.TheVariants as sent
 use Rattle.lobby_shelf.specs.declared.order.Order.{Order}
 use Rattle.lobby_shelf.specs.Wanted.{table_with}
-use Rattle.histories.specs.History.{calls_of, state}
+use Rattle.histories.specs.History.{state}
 use Rattle.lobby_load.specs.Loaded.{HasLoaded, IsAtOpening}
 use Rattle.lobby_state.specs.Lobby.{LobbyState}
 use Rattle.lobby_store.specs.Agreeing.{wanted_by}
@@ -28,14 +28,10 @@ use Rattle.steward_core.proofs.StatesLead.{one_lobby}
 use Rattle.serve_core.specs.declared.end.ServeEnd.{ServeEnd}
 use Rattle.steward_core.specs.declared.turn.StewardEnd.{StewardEnd}
 use Rattle.serve_core.specs.Opening.{IsLoaded}
-use Rattle.serve_core.specs.Serving.{AgreesIn, HasServedAll, TellsAgreed}
-use Rattle.serve_core.specs.Stopping.{MayBeShort}
+use Rattle.serve_core.specs.Serving.{AgreesIn, HasServedAll, RanShort, TellsAgreed}
 use Rattle.serve_core.specs.Text.{Says, SaysText, ready_text}
 use Rattle.serve_core.specs.Outside.{Sheet, Store}
-use Rattle.serve_core.specs.Stewarding.{MayEnd}
-use Rattle.serve_core.proofs.StewardLaws.{tended_as}
-use Rattle.serve_core.proofs.Turning.{may_end}
-use Rattle.cmd_lines.proofs.Rounds.{Rose-since}
+use Rattle.serve_core.proofs.StewardLaws.{tended_since}
 
 -- ---- nothing was written at the load
 
@@ -59,9 +55,9 @@ module _ (end : ServeEnd) (last : StewardEnd) (before mid later : Sheet) (none :
     calm = subst (λ (n : ℕ). UnlessWriteFailed said (now.faults ≡ n)) same p.calm;
   }
 
-  text_from : (count : ℕ) (door : Option DoorTale) → SaysText end last door count mid later → SaysText end last door count before later
-  text_from count door (inl p) = inl (record { none_taken = p.none_taken; said = p.said; unwritten = p.unwritten; ready = says_from ready_text p.said later p.ready; ends = p.ends })
-  text_from count door (inr p) = inr (record {
+  text_from : (short : Bool) (count : ℕ) (door : Option DoorTale) → SaysText end short last door count mid later → SaysText end short last door count before later
+  text_from short count door (inl p) = inl (record { none_taken = p.none_taken; said = p.said; supply = p.supply; unwritten = p.unwritten; ready = says_from ready_text p.said later p.ready; ends = p.ends; shortage = p.shortage })
+  text_from short count door (inr p) = inr (record {
     why = p.why;
     stopped = p.stopped;
     mid = p.mid;
@@ -70,6 +66,7 @@ module _ (end : ServeEnd) (last : StewardEnd) (before mid later : Sheet) (none :
     closed = p.closed;
     supply = p.supply;
     ends = p.ends;
+    shortage = p.shortage;
   })
 
 -- ---- the table stayed at the load
@@ -83,17 +80,13 @@ agrees_from (Some table) (Some table') now opening parts stays p = subst (λ (t 
 pub served_from : (shows : ℕ → Bool) (opening : List Part) (end : ServeEnd) (door : Option DoorTale) (before mid later : Sheet) (old loaded new : Store) (pass : PassState) → Appends before.written mid.written [] → mid.faults ≡ before.faults
     → Stays old.table loaded.table → old.faults ≤ loaded.faults → HasServedAll shows opening end door mid later loaded new pass → HasServedAll shows opening end door before later old new pass
 served_from shows opening end door before mid later old loaded new pass none same stays counted p =
-    let later_rose : Rose loaded.faults new.faults → Rose old.faults new.faults = Rose-since old.faults loaded.faults new.faults counted in
-    let Ends = MayEnd (MayBeShort end) (Rose loaded.faults new.faults) in
-    let Ends' = MayEnd (MayBeShort end) (Rose old.faults new.faults) in
-    let weaker = may_end (MayBeShort end) (MayBeShort end) (Rose loaded.faults new.faults) (Rose old.faults new.faults) (λ e. e) later_rose in
     record {
       last = p.last;
       hall = p.hall;
       links = p.links;
-      steward = tended_as Ends Ends' weaker p.last door (calls_of 0 pass.seen) (state house pass.opening pass.seen) p.steward;
+      steward = tended_since (RanShort pass) p.last door loaded.faults new.faults pass.opening pass.seen p.steward old.faults counted;
       store = agrees_from old.table loaded.table new.table pass.opening (state house pass.opening pass.seen) stays p.store;
-      text = text_from end p.last before mid later none same pass.splits door p.text;
+      text = text_from end p.last before mid later none same pass.short pass.splits door p.text;
     }
 
 -- ---- what was loaded agrees

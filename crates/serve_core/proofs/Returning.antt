@@ -1,5 +1,5 @@
--- What follows for each link that came, where serving ended well.
-use Rattle.std.proofs.Common.{◌≡◌, ◌⊎◌, ℕ, ◌≤◌, Bool, true, List, ◌++◌, refl, sym, ap, subst, ◌∙◌, arith, inl, inr}
+-- What follows for each link that came, where memory was enough.
+use Rattle.std.proofs.Common.{◌≡◌, ◌⊎◌, ℕ, ◌≤◌, Bool, true, false, List, ◌++◌, refl, sym, ap, subst, ◌∙◌, arith, inl, inr}
 use Rattle.std.specs.Prelude.{IfSome}
 use Rattle.std.specs.declared.option.Option.{Option}
 use Rattle.std.specs.declared.option.Option.TheVariants.{Some}
@@ -13,9 +13,7 @@ use Rattle.link_core.specs.ServedInPart.{WasServed}
 use Rattle.link_core.proofs.Answering.{answers_each_line}
 use Rattle.link_core.proofs.Owning.{faults_are_counted, is_greeted, keeps_its_signs, tells_on}
 use Rattle.serve_core.specs.Laws.{ComesBack, EachComesBack}
-use Rattle.serve_core.specs.Stopping.{MayBeShort}
 use Rattle.serve_core.specs.Sessions.{CameAs, CameBack, HadSession}
-use Rattle.serve_core.proofs.Ending.{never_short}
 
 module _ (shows : ℕ → Bool) (session : ℕ) (calls : Log) (came back : Tale) (faults : ℕ) (fresh : IsFresh came) where
   greeted_or_failed : (e : LinkEnd) → (e ≡ end.Memory → ⊥) → WasServed shows true session e calls (handed_over came 0) (handed_over back faults) → WasGreeted came back ⊎ (1 ≤ faults)
@@ -67,4 +65,4 @@ module _ (shows : ℕ → Bool) (lack : Type 0) (never : lack → ⊥) (door : D
       (subst (λ (r : Handed). CameBack number r door) returned_is h.back)
 
 pub each_comes_back : EachComesBack
-each_comes_back shows e door number calls came clean h known = comes_back_here shows (MayBeShort e) (never_short e clean) door number calls came h known
+each_comes_back shows short door number calls came ample h known = comes_back_here shows (short ≡ true) (λ e. let both : true ≡ false = sym e ∙ ample in cc) door number calls came h known

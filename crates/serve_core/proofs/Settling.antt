@@ -6,7 +6,8 @@ use Rattle.std.specs.List.{slice_index_or}
 use Rattle.std.specs.declared.option.Option.{Option}
 use Rattle.atomic_table.specs.Seated.{TableId}
 use Rattle.edge_traits.specs.Link.{Handed, IsFresh, Tale}
-use Rattle.edge_traits.specs.Door.{DoorTale, Goes, IsOut, TakesBack}
+use Rattle.edge_traits.specs.Door.{DoorTale, IsOut, TakesBack}
+use Rattle.edge_traits.specs.WhereTold.{WhereTold}
 use Rattle.hall_core.specs.Passes.{IsJoined, PassState, divided, new_pass}
 use Rattle.link_core.specs.declared.link_end.LinkEnd.{LinkEnd}
 use Rattle.serve_core.specs.declared.settle.Supply.{Supply}
@@ -23,7 +24,7 @@ around items i d low is =
 pub stays_then : (start pass given new : PassState) → SameHall start pass → IsJoined pass given new → SameHall start new
 stays_then start pass given new s j = (ap (λ (p : PassState). p.splits) j.same ∙ s.0, ap (λ (p : PassState). p.opening) j.same ∙ s.1)
 
-pub left_then : (start door door' : Option DoorTale) (number : ℕ) (link : Handed) → Goes start door KeepsLeft → Goes door door' (TakesBack number link) → Goes start door' KeepsLeft
+pub left_then : (start door door' : Option DoorTale) (number : ℕ) (link : Handed) → WhereTold start door KeepsLeft → WhereTold door door' (TakesBack number link) → WhereTold start door' KeepsLeft
 left_then start door door' number link p q = left_stays start door door' p (left_back number link door door' q)
 
 module _ {C : Type 0} (shows : C → ℕ → Bool) (hall : TableId) (clock : C) where
@@ -41,7 +42,7 @@ module _ {C : Type 0} (shows : C → ℕ → Bool) (hall : TableId) (clock : C) 
     pub pays_out : IfSome door (IsOut given.number)
     pays_out = given_out shows hall clock supply end door door pass pass given one two d link kept_around paid
 
-    pub pays : (supply' : Supply) (door' : Option DoorTale) (new : PassState) (rest : List (Due C)) → IsJoined pass given new → Goes door door' (TakesBack given.number link) → rest ≡ one ++ two → supply' ≡ supply_after end supply → Underway shows hall clock supply' door' new rest
+    pub pays : (supply' : Supply) (door' : Option DoorTale) (new : PassState) (rest : List (Due C)) → IsJoined pass given new → WhereTold door door' (TakesBack given.number link) → rest ≡ one ++ two → supply' ≡ supply_after end supply → Underway shows hall clock supply' door' new rest
     pays supply' door' new rest joins goes r s =
         subst (λ (x : Supply). Underway shows hall clock x door' new rest) (sym s)
         (subst (λ (xs : List (Due C)). Underway shows hall clock (supply_after end supply) door' new xs) (sym r)
@@ -49,7 +50,7 @@ module _ {C : Type 0} (shows : C → ℕ → Bool) (hall : TableId) (clock : C) 
 
   -- a link that came, and its pass
   module _ (supply : Supply) (before door : Option DoorTale) (pass mid given : PassState) (waiting : List (Due C)) (link : Option Tale) (k : Underway shows hall clock supply before pass waiting)
-      (goes : Goes before door (Comes link)) (counted : mid ≡ divided pass) (new : given ≡ new_pass pass) (fresh : IfSome link IsFresh) where
+      (goes : WhereTold before door (Comes link)) (counted : mid ≡ divided pass) (new : given ≡ new_pass pass) (fresh : IfSome link IsFresh) where
     pub due_now : Due C
     due_now = record { pass = given; link = link; clock = clock }
 

@@ -6,7 +6,8 @@ use Rattle.std.specs.List.{Contains, slice_get}
 use Rattle.std.specs.declared.option.Option.{Option}
 use Rattle.std.specs.declared.option.Option.TheVariants.{None, Some}
 use Rattle.edge_traits.specs.Link.{Handed, Tale}
-use Rattle.edge_traits.specs.Door.{DoorTale, Gives, Goes, KeepsLinks, TakesBack}
+use Rattle.edge_traits.specs.Door.{DoorTale, Gives, KeepsLinks, TakesBack}
+use Rattle.edge_traits.specs.WhereTold.{WhereTold}
 use Rattle.edge_traits.specs.declared.doorway.Came.{Came}
 use Rattle.edge_traits.specs.declared.doorway.Came.TheVariants.{Link, Quiet, Closed, Failed}
 use Rattle.serve_core.specs.Keeping.{Comes, KeepsLeft}
@@ -14,7 +15,7 @@ use Rattle.serve_core.specs.Sessions.{CameAs, CameBack}
 use Rattle.serve_core.proofs.Among.{get_left, get_last, one_longer}
 
 -- a fact goes on
-pub told_then : (door door' : Option DoorTale) (R : DoorTale → DoorTale → Type 0) (P Q : DoorTale → Type 0) → ((old new : DoorTale) → R old new → P old → Q new) → Goes door door' R → IfSome door P → IfSome door' Q
+pub told_then : (door door' : Option DoorTale) (R : DoorTale → DoorTale → Type 0) (P Q : DoorTale → Type 0) → ((old new : DoorTale) → R old new → P old → Q new) → WhereTold door door' R → IfSome door P → IfSome door' Q
 told_then None None R P Q h g p = tt
 told_then None (Some new) R P Q h g p = absurd g
 told_then (Some old) None R P Q h g p = absurd g
@@ -28,23 +29,23 @@ pub told_as : (door : Option DoorTale) (P Q : DoorTale → Type 0) → ((tale : 
 told_as None P Q h p = tt
 told_as (Some tale) P Q h p = h tale p
 
-pub goes_same : (door : Option DoorTale) (R : DoorTale → DoorTale → Type 0) → ((tale : DoorTale) → R tale tale) → Goes door door R
-goes_same None R h = tt
-goes_same (Some tale) R h = h tale
+pub where_same : (door : Option DoorTale) (R : DoorTale → DoorTale → Type 0) → ((tale : DoorTale) → R tale tale) → WhereTold door door R
+where_same None R h = tt
+where_same (Some tale) R h = h tale
 
-pub goes_then : (one two three : Option DoorTale) (R S T : DoorTale → DoorTale → Type 0) → ((a b c : DoorTale) → R a b → S b c → T a c) → Goes one two R → Goes two three S → Goes one three T
-goes_then None None None R S T h p q = tt
-goes_then None None (Some c) R S T h p q = absurd q
-goes_then None (Some b) three R S T h p q = absurd p
-goes_then (Some a) None three R S T h p q = absurd p
-goes_then (Some a) (Some b) None R S T h p q = absurd q
-goes_then (Some a) (Some b) (Some c) R S T h p q = h a b c p q
+pub where_then : (one two three : Option DoorTale) (R S T : DoorTale → DoorTale → Type 0) → ((a b c : DoorTale) → R a b → S b c → T a c) → WhereTold one two R → WhereTold two three S → WhereTold one three T
+where_then None None None R S T h p q = tt
+where_then None None (Some c) R S T h p q = absurd q
+where_then None (Some b) three R S T h p q = absurd p
+where_then (Some a) None three R S T h p q = absurd p
+where_then (Some a) (Some b) None R S T h p q = absurd q
+where_then (Some a) (Some b) (Some c) R S T h p q = h a b c p q
 
-pub goes_as : (one two : Option DoorTale) (R S : DoorTale → DoorTale → Type 0) → ((a b : DoorTale) → R a b → S a b) → Goes one two R → Goes one two S
-goes_as None None R S h p = tt
-goes_as None (Some b) R S h p = absurd p
-goes_as (Some a) None R S h p = absurd p
-goes_as (Some a) (Some b) R S h p = h a b p
+pub where_as : (one two : Option DoorTale) (R S : DoorTale → DoorTale → Type 0) → ((a b : DoorTale) → R a b → S a b) → WhereTold one two R → WhereTold one two S
+where_as None None R S h p = tt
+where_as None (Some b) R S h p = absurd p
+where_as (Some a) None R S h p = absurd p
+where_as (Some a) (Some b) R S h p = h a b p
 
 -- ---- a link comes
 
@@ -111,18 +112,18 @@ gives_links tells Quiet old new p = keeps_links old new (ap (λ (t : DoorTale). 
 gives_links tells Closed old new p = keeps_links old new (ap (λ (t : DoorTale). t.left) p.1, ap (λ (t : DoorTale). t.came) p.1)
 gives_links tells Failed old new p = keeps_links old new (ap (λ (t : DoorTale). t.left) p, ap (λ (t : DoorTale). t.came) p)
 
-pub links_stay : (one two three : Option DoorTale) → Goes one two KeepsLinks → Goes two three KeepsLeft → Goes one three KeepsLinks
-links_stay one two three p q = goes_then one two three KeepsLinks KeepsLeft KeepsLinks (λ a b c e f. e ∙ keeps_links b c f) p q
+pub links_stay : (one two three : Option DoorTale) → WhereTold one two KeepsLinks → WhereTold two three KeepsLeft → WhereTold one three KeepsLinks
+links_stay one two three p q = where_then one two three KeepsLinks KeepsLeft KeepsLinks (λ a b c e f. e ∙ keeps_links b c f) p q
 
-pub links_then : (one two three : Option DoorTale) → Goes one two KeepsLinks → Goes two three KeepsLinks → Goes one three KeepsLinks
-links_then one two three p q = goes_then one two three KeepsLinks KeepsLinks KeepsLinks (λ a b c e f. e ∙ f) p q
+pub links_then : (one two three : Option DoorTale) → WhereTold one two KeepsLinks → WhereTold two three KeepsLinks → WhereTold one three KeepsLinks
+links_then one two three p q = where_then one two three KeepsLinks KeepsLinks KeepsLinks (λ a b c e f. e ∙ f) p q
 
 -- what one answer of the door gave, once the door's thread had settled with some workers before
-pub links_came : {L : Type 0} (tells : L → Option Tale) (came : Came L) (one two three : Option DoorTale) → Goes one two KeepsLeft → Goes two three (Gives tells came) → Goes one three KeepsLinks
-links_came tells came one two three p q = goes_then one two three KeepsLeft (Gives tells came) KeepsLinks (λ a b c e f. keeps_links a b e ∙ gives_links tells came b c f) p q
+pub links_came : {L : Type 0} (tells : L → Option Tale) (came : Came L) (one two three : Option DoorTale) → WhereTold one two KeepsLeft → WhereTold two three (Gives tells came) → WhereTold one three KeepsLinks
+links_came tells came one two three p q = where_then one two three KeepsLeft (Gives tells came) KeepsLinks (λ a b c e f. keeps_links a b e ∙ gives_links tells came b c f) p q
 
-pub left_stays : (one two three : Option DoorTale) → Goes one two KeepsLeft → Goes two three KeepsLeft → Goes one three KeepsLeft
-left_stays one two three p q = goes_then one two three KeepsLeft KeepsLeft KeepsLeft (λ a b c e f. (f.0 ∙ e.0, f.1 ∙ e.1)) p q
+pub left_stays : (one two three : Option DoorTale) → WhereTold one two KeepsLeft → WhereTold two three KeepsLeft → WhereTold one three KeepsLeft
+left_stays one two three p q = where_then one two three KeepsLeft KeepsLeft KeepsLeft (λ a b c e f. (f.0 ∙ e.0, f.1 ∙ e.1)) p q
 
-pub left_back : (number : ℕ) (link : Handed) (one two : Option DoorTale) → Goes one two (TakesBack number link) → Goes one two KeepsLeft
-left_back number link one two p = goes_as one two (TakesBack number link) KeepsLeft (λ a b e. (ap (λ (t : DoorTale). t.left) e, ap (λ (t : DoorTale). t.came) e)) p
+pub left_back : (number : ℕ) (link : Handed) (one two : Option DoorTale) → WhereTold one two (TakesBack number link) → WhereTold one two KeepsLeft
+left_back number link one two p = where_as one two (TakesBack number link) KeepsLeft (λ a b e. (ap (λ (t : DoorTale). t.left) e, ap (λ (t : DoorTale). t.came) e)) p

@@ -1,7 +1,8 @@
 -- What the door's thread does for the store, from one step to the next.
 use Rattle.std.proofs.Common.{◌≡◌, ℕ, ◌+◌, ◌≤◌, [], ◌++◌, refl, sym, ap, subst, ◌∙◌, arith, append-nil}
 use Rattle.std.specs.declared.option.Option.{Option}
-use Rattle.edge_traits.specs.Door.{DoorTale, Gives, Goes, TakesBack}
+use Rattle.edge_traits.specs.Door.{DoorTale, Gives, TakesBack}
+use Rattle.edge_traits.specs.WhereTold.{WhereTold}
 use Rattle.edge_traits.specs.Answers.{IsQuiet}
 use Rattle.edge_traits.specs.Faults.{Rose}
 use Rattle.edge_traits.specs.Link.{Handed, Tale}
@@ -22,14 +23,8 @@ use Rattle.serve_core.specs.Tending.{GivesQuiets, Stand, Tended, stand}
 use Rattle.serve_core.specs.Outside.{Store}
 use Rattle.serve_core.specs.Turns.{MadeTurn, supply_then}
 use Rattle.serve_core.proofs.Keeping.{stays_short, then_short}
-use Rattle.serve_core.proofs.Telling.{goes_as, goes_same, goes_then}
+use Rattle.serve_core.proofs.Telling.{where_as, where_same, where_then}
 use Rattle.serve_core.proofs.Turning.{may_end, turn_is, turns_append, turns_as}
-use Rattle.cmd_lines.proofs.Rounds.{Rose-since}
-
--- ---- counts that never fall
-
-pub rose_after : (before now after : ℕ) → now ≤ after → Rose before now → Rose before after
-rose_after before now after n r = omega (arith, n, r)
 
 -- ---- one thing after another
 
@@ -38,25 +33,17 @@ quiets_then n m a b c p q = omega (arith, p, q)
 
 pub tended_then : (one two three : Stand) → Tended one two → Tended two three → Tended one three
 tended_then one two three p q =
-    let Ends : StewardEnd → Type 0 = MayEnd (three.supply ≡ Short) (Rose one.store.faults three.store.faults) in
-    let first : AreTurns Ends p.count p.entries =
-    turns_as (MayEnd (two.supply ≡ Short) (Rose one.store.faults two.store.faults)) Ends
-    (may_end (two.supply ≡ Short) (three.supply ≡ Short) (Rose one.store.faults two.store.faults) (Rose one.store.faults three.store.faults) q.short (rose_after one.store.faults two.store.faults three.store.faults q.counted))
-    p.count p.entries p.turns in
-    let second : AreTurns Ends q.count q.entries =
-    turns_as (MayEnd (three.supply ≡ Short) (Rose two.store.faults three.store.faults)) Ends
-    (may_end (three.supply ≡ Short) (three.supply ≡ Short) (Rose two.store.faults three.store.faults) (Rose one.store.faults three.store.faults) (λ e. e) (Rose-since one.store.faults two.store.faults three.store.faults p.counted))
-    q.count q.entries q.turns in
+    let first : AreTurns (MayEnd (three.supply ≡ Short)) p.count one.store.faults two.store.faults p.entries =
+    turns_as (MayEnd (two.supply ≡ Short)) (MayEnd (three.supply ≡ Short)) (may_end (two.supply ≡ Short) (three.supply ≡ Short) q.short) p.count one.store.faults two.store.faults p.entries p.turns in
     record {
       count = p.count + q.count;
       entries = p.entries ++ q.entries;
-      turns = turns_append Ends p.count q.count p.entries q.entries first second;
+      turns = turns_append (three.supply ≡ Short) p.count q.count one.store.faults two.store.faults three.store.faults p.entries q.entries first q.turns;
       grew = λ known.
           let grew = p.grew known in
           made_then (runs_of one.pass) (runs_of two.pass) (runs_of three.pass) p.entries q.entries grew (q.grew grew.known);
-      quiets = goes_then one.door two.door three.door (GivesQuiets p.count) (GivesQuiets q.count) (GivesQuiets (p.count + q.count)) (quiets_then p.count q.count) p.quiets q.quiets;
+      quiets = where_then one.door two.door three.door (GivesQuiets p.count) (GivesQuiets q.count) (GivesQuiets (p.count + q.count)) (quiets_then p.count q.count) p.quiets q.quiets;
       short = λ e. q.short (p.short e);
-      counted = omega (arith, p.counted, q.counted);
       agrees = λ known.
           let grew = p.grew known in
           agreed_then one.store.table two.store.table three.store.table (runs_of one.pass) (runs_of two.pass) (runs_of three.pass) p.entries q.entries grew (q.grew grew.known) (p.agrees known) (q.agrees grew.known);
@@ -65,15 +52,14 @@ tended_then one two three p q =
 -- ---- no turn at all
 
 module _ (pass pass' : PassState) (supply supply' : Supply) (door door' : Option DoorTale) (store : Store) where
-  pub tended_none : (IsKnown (runs_of pass) → Made (runs_of pass) [] (runs_of pass')) → Goes door door' (GivesQuiets 0) → (supply ≡ Short → supply' ≡ Short) → Tended (stand pass supply door store) (stand pass' supply' door' store)
+  pub tended_none : (IsKnown (runs_of pass) → Made (runs_of pass) [] (runs_of pass')) → WhereTold door door' (GivesQuiets 0) → (supply ≡ Short → supply' ≡ Short) → Tended (stand pass supply door store) (stand pass' supply' door' store)
   tended_none grew quiets short = record {
     count = 0;
     entries = [];
-    turns = refl;
+    turns = (omega arith, refl);
     grew = grew;
     quiets = quiets;
     short = short;
-    counted = omega arith;
     agrees = λ known. agreed_unsaved store.table (runs_of pass) (runs_of pass') [] known (grew known) tt;
   }
 
@@ -81,10 +67,10 @@ no_quiets : (tale : DoorTale) → GivesQuiets 0 tale tale
 no_quiets tale = omega arith
 
 pub tended_same : (it : Stand) → Tended it it
-tended_same it = tended_none it.pass it.pass it.supply it.supply it.door it.door it.store (made_none (runs_of it.pass)) (goes_same it.door (GivesQuiets 0) no_quiets) (λ e. e)
+tended_same it = tended_none it.pass it.pass it.supply it.supply it.door it.door it.store (made_none (runs_of it.pass)) (where_same it.door (GivesQuiets 0) no_quiets) (λ e. e)
 
 -- the door went on without a Quiet
-pub tended_door : (pass : PassState) (supply : Supply) (door door' : Option DoorTale) (store : Store) → Goes door door' (GivesQuiets 0) → Tended (stand pass supply door store) (stand pass supply door' store)
+pub tended_door : (pass : PassState) (supply : Supply) (door door' : Option DoorTale) (store : Store) → WhereTold door door' (GivesQuiets 0) → Tended (stand pass supply door store) (stand pass supply door' store)
 tended_door pass supply door door' store quiets = tended_none pass pass supply supply door door' store (made_none (runs_of pass)) quiets (λ e. e)
 
 -- a pass was joined
@@ -113,14 +99,14 @@ looked_made old new j =
 quiets_back : (number : ℕ) (link : Handed) (a b : DoorTale) → TakesBack number link a b → GivesQuiets 0 a b
 quiets_back number link a b e = let same : b.quiets ≡ a.quiets = ap (λ (t : DoorTale). t.quiets) e in omega (arith, same)
 
-pub tended_settled : (supply supply' : Supply) (end : LinkEnd) (door door' : Option DoorTale) (pass given new : PassState) (link : Handed) → IsJoined pass given new → Goes door door' (TakesBack given.number link)
+pub tended_settled : (supply supply' : Supply) (end : LinkEnd) (door door' : Option DoorTale) (pass given new : PassState) (link : Handed) → IsJoined pass given new → WhereTold door door' (TakesBack given.number link)
     → supply' ≡ supply_after end supply → (store : Store) → Tended (stand pass supply door store) (stand new supply' door' store)
 tended_settled supply supply' end door door' pass given new link joins goes is store =
     tended_none pass new supply supply' door door' store (λ known. joined_made pass given new joins)
-    (goes_as door door' (TakesBack given.number link) (GivesQuiets 0) (quiets_back given.number link) goes) (λ e. is ∙ stays_short end supply e)
+    (where_as door door' (TakesBack given.number link) (GivesQuiets 0) (quiets_back given.number link) goes) (λ e. is ∙ stays_short end supply e)
 
 pub settles_then : (start pass given new : PassState) (supply0 supply supply' : Supply) (end : LinkEnd) (door0 door door' : Option DoorTale) (link : Handed)
-    → ((store : Store) → Tended (stand start supply0 door0 store) (stand pass supply door store)) → IsJoined pass given new → Goes door door' (TakesBack given.number link) → supply' ≡ supply_after end supply
+    → ((store : Store) → Tended (stand start supply0 door0 store) (stand pass supply door store)) → IsJoined pass given new → WhereTold door door' (TakesBack given.number link) → supply' ≡ supply_after end supply
     → (store : Store) → Tended (stand start supply0 door0 store) (stand new supply' door' store)
 settles_then start pass given new supply0 supply supply' end door0 door door' link so_far joins goes is store =
     tended_then (stand start supply0 door0 store) (stand pass supply door store) (stand new supply' door' store) (so_far store)
@@ -130,10 +116,10 @@ settles_then start pass given new supply0 supply supply' end door0 door door' li
 pub tended_split : (pass mid : PassState) (supply : Supply) (door : Option DoorTale) (store : Store) → mid ≡ divided pass → Tended (stand pass supply door store) (stand mid supply door store)
 tended_split pass mid supply door store is =
     subst (λ (p : PassState). Tended (stand pass supply door store) (stand p supply door store)) (sym is)
-    (tended_none pass (divided pass) supply supply door door store (made_none (runs_of pass)) (goes_same door (GivesQuiets 0) no_quiets) (λ e. e))
+    (tended_none pass (divided pass) supply supply door door store (made_none (runs_of pass)) (where_same door (GivesQuiets 0) no_quiets) (λ e. e))
 
 pub tended_served : (pass mid given new : PassState) (supply supply' : Supply) (end : LinkEnd) (door door' : Option DoorTale) (link : Handed) → mid ≡ divided pass → IsJoined mid given new
-    → Goes door door' (TakesBack given.number link) → supply' ≡ supply_after end supply → (store : Store) → Tended (stand pass supply door store) (stand new supply' door' store)
+    → WhereTold door door' (TakesBack given.number link) → supply' ≡ supply_after end supply → (store : Store) → Tended (stand pass supply door store) (stand new supply' door' store)
 tended_served pass mid given new supply supply' end door door' link is joins goes s =
     settles_then pass mid given new supply supply supply' end door door door' link (λ store. tended_split pass mid supply door store is) joins goes s
 
@@ -144,8 +130,8 @@ no_quiet tells came.Quiet a b other e = absurd (other tt)
 no_quiet tells came.Closed a b other e = let same : b.quiets ≡ a.quiets = ap (λ (t : DoorTale). t.quiets) e.1 in omega (arith, same)
 no_quiet tells came.Failed a b other e = let same : b.quiets ≡ a.quiets = ap (λ (t : DoorTale). t.quiets) e in omega (arith, same)
 
-pub one_quiet : {L : Type 0} (tells : L → Option Tale) (door door' : Option DoorTale) → Goes door door' (Gives tells came.Quiet) → Goes door door' (GivesQuiets 1)
-one_quiet tells door door' goes = goes_as door door' (Gives tells came.Quiet) (GivesQuiets 1) (λ a b e. ap (λ (t : DoorTale). t.quiets) e) goes
+pub one_quiet : {L : Type 0} (tells : L → Option Tale) (door door' : Option DoorTale) → WhereTold door door' (Gives tells came.Quiet) → WhereTold door door' (GivesQuiets 1)
+one_quiet tells door door' goes = where_as door door' (Gives tells came.Quiet) (GivesQuiets 1) (λ a b e. ap (λ (t : DoorTale). t.quiets) e) goes
 
 pub same_then : (start : Stand) (pass pass' : PassState) (supply supply' : Supply) (door : Option DoorTale) (store : Store) → Tended start (stand pass supply door store) → pass' ≡ pass → supply' ≡ supply
     → Tended start (stand pass' supply' door store)
@@ -153,33 +139,39 @@ same_then start pass pass' supply supply' door store so_far p s =
     subst (λ (x : PassState). Tended start (stand x supply' door store)) (sym p) (subst (λ (x : Supply). Tended start (stand pass x door store)) (sym s) so_far)
 
 pub door_then : {L : Type 0} (tells : L → Option Tale) (answer : Came L) (start : Stand) (pass : PassState) (supply : Supply) (door door' : Option DoorTale) (store : Store) → (IsQuiet answer → ⊥)
-    → Tended start (stand pass supply door store) → Goes door door' (Gives tells answer) → Tended start (stand pass supply door' store)
+    → Tended start (stand pass supply door store) → WhereTold door door' (Gives tells answer) → Tended start (stand pass supply door' store)
 door_then tells answer start pass supply door door' store other so_far goes =
     tended_then start (stand pass supply door store) (stand pass supply door' store) so_far
-    (tended_door pass supply door door' store (goes_as door door' (Gives tells answer) (GivesQuiets 0) (λ a b. no_quiet tells answer a b other) goes))
+    (tended_door pass supply door door' store (where_as door door' (Gives tells answer) (GivesQuiets 0) (λ a b. no_quiet tells answer a b other) goes))
 
 -- the pass looked at the history
 pub tended_looked : (pass new : PassState) (supply : Supply) (door : Option DoorTale) (store : Store) → HasLooked pass new → Tended (stand pass supply door store) (stand new supply door store)
-tended_looked pass new supply door store looks = tended_none pass new supply supply door door store (λ known. looked_made pass new looks) (goes_same door (GivesQuiets 0) no_quiets) (λ e. e)
+tended_looked pass new supply door store looks = tended_none pass new supply supply door door store (λ known. looked_made pass new looks) (where_same door (GivesQuiets 0) no_quiets) (λ e. e)
 
 -- ---- a turn
 
-turn_ends : (end : StewardEnd) (supply : Supply) (fault : Type 0) → (end ≡ steward.KeeperFault → fault) → MayEnd (supply_then end supply ≡ Short) fault end
-turn_ends (steward.Done count) supply fault rose = tt
-turn_ends steward.KeeperFault supply fault rose = rose refl
-turn_ends steward.Memory supply fault rose = refl
+short_then : (made supply : Supply) → made ≡ Short → supply_then made supply ≡ Short
+short_then made supply e = subst (λ (m : Supply). supply_then m supply ≡ Short) (sym e) refl
 
-pub tended_turn : (end : StewardEnd) (pass new : PassState) (supply : Supply) (door door' : Option DoorTale) (store store' : Store) → MadeTurn end store.table store'.table pass new → Goes door door' (GivesQuiets 1)
-    → (end ≡ steward.KeeperFault → Rose store.faults store'.faults) → store.faults ≤ store'.faults → Tended (stand pass supply door store) (stand new (supply_then end supply) door' store')
-tended_turn end pass new supply door door' store store' turn quiets fault counted =
-    let last = turn_is end store.table store'.table pass new turn in
+pub tended_turn : (end : StewardEnd) (made : Supply) (pass new : PassState) (supply : Supply) (door door' : Option DoorTale) (store store' : Store) → MadeTurn end made store.table store'.table pass new
+    → WhereTold door door' (GivesQuiets 1) → (end ≡ steward.KeeperFault → Rose store.faults store'.faults) → store.faults ≤ store'.faults
+    → Tended (stand pass supply door store) (stand new (supply_then made supply) door' store')
+tended_turn end made pass new supply door door' store store' turn quiets fault counted =
+    let last = turn_is end made store.table store'.table pass new turn in
     record {
       count = 1;
       entries = turn.turn.entries;
-      turns = ([], last, refl, turn_ends end supply (Rose store.faults store'.faults) fault, refl);
+      turns = (
+        [],
+        store.faults,
+        last,
+        (omega arith, refl),
+        counted,
+        record { fault = fault; memory = λ e. short_then made supply (turn.short e); clearing = λ e. short_then made supply (turn.short_first e) },
+        refl,
+      );
       grew = λ known. turn.turn.grew;
       quiets = quiets;
-      short = then_short end supply;
-      counted = counted;
+      short = then_short made supply;
       agrees = λ known. turn.agrees;
     }

@@ -1,23 +1,27 @@
 -- A turn of the steward, and turns one after another: their acts, and what they ask.
-use Rattle.std.proofs.Common.{◌≡◌, ℕ, zero, suc, ◌+◌, ◌⊎◌, inl, inr, List, [], ◌∷◌, ◌++◌, map, refl, sym, ap, subst, ◌∙◌, arith, append_assoc, append-nil}
+use Rattle.std.proofs.Common.{◌≡◌, ℕ, zero, suc, ◌+◌, ◌≤◌, ◌⊎◌, inl, inr, List, [], ◌∷◌, ◌++◌, map, refl, sym, ap, subst, ◌∙◌, arith, append_assoc, append-nil, le_trans}
 use Rattle.std.specs.declared.option.Option.{Option}
 use Rattle.std.specs.declared.option.Option.TheVariants.{None, Some}
+use Rattle.edge_traits.specs.Faults.{Rose}
 use Rattle.edge_traits.specs.Pairs.{Table}
 use Rattle.lobby_shelf.specs.declared.order.Order.{Order}
 use Rattle.lobby_state.specs.declared.desk_in_use.DeskInUse.{DeskInUse}
 use Rattle.one_server.specs.declared.act.Timed.{Timed}
 use Rattle.one_server.specs.Running.{Log, RunnerState}
-use Rattle.hall_core.specs.Passes.{PassState, Fixed}
+use Rattle.hall_core.specs.Passes.{PassState, Fixed, fixed_of, runs_of}
 use Rattle.steward_core.specs.declared.clearing.ClearingEnd.{ClearingEnd}
 use Rattle.steward_core.specs.declared.clearing.ClearingEnd.TheVariants as clearing
 use Rattle.steward_core.specs.declared.turn.StewardEnd.{StewardEnd}
 use Rattle.steward_core.specs.declared.turn.StewardEnd.TheVariants.{Done, KeeperFault, Memory}
 use Rattle.steward_core.specs.Clearing.{AreClears, AsksAndClears, IsPartOf, IsClearing, acts_of, clears, rows_told}
 use Rattle.steward_core.specs.Saving.{AreFullRounds, EndsSaving, IsCutShort, IsSaveRound, IsSaving, last_number, says_saved, tells_upto}
-use Rattle.steward_core.specs.Turn.{end_of_turn}
+use Rattle.steward_core.specs.Agreement.{StaysAgreed}
+use Rattle.steward_core.specs.Turn.{TakesTurn, end_of_turn}
+use Rattle.serve_core.specs.declared.settle.Supply.{Supply}
+use Rattle.serve_core.specs.declared.settle.Supply.TheVariants.{Short}
 use Rattle.serve_core.specs.StewardLaws.{AreStewards, IsDone, IsStewards, times_asked, asks_once}
 use Rattle.serve_core.specs.Stewarding.{AreTurns, MayEnd, StewardTurn}
-use Rattle.serve_core.specs.Turns.{MadeTurn}
+use Rattle.serve_core.specs.Turns.{MadeTurn, supply_in}
 use Rattle.steward_core.proofs.DesksCleared.{part_of_itself}
 
 -- entries of a steward that ask so often which desks are in use
@@ -118,7 +122,7 @@ asks_ends moment KeeperFault rounds es orders p = asks_cut moment es orders p
 asks_ends moment Memory rounds es orders (inl p) = asks_cut moment es orders p
 asks_ends moment Memory rounds es orders (inr p) = asks_none es p.0
 
-asks_saving : (moment : ℕ) (end : StewardEnd) (es : Log) (carried : List Order) → IsSaving moment end es carried → Asks 0 es
+pub asks_saving : (moment : ℕ) (end : StewardEnd) (es : Log) (carried : List Order) → IsSaving moment end es carried → Asks 0 es
 asks_saving moment end es carried p =
     subst (Asks 0) (sym p.all) (asks_append 0 0 p.full p.rest (asks_full moment p.rounds p.full p.first p.are_full) (asks_ends moment end p.rounds p.rest p.last p.ends))
 
@@ -130,7 +134,7 @@ turn_stewards t =
     subst AreStewards (sym p.all) (stewards_append p.first p.rest (clearing_stewards p.cleared t.moment p.first p.clearing) (asks_saving t.moment p.saved p.rest t.carried p.saving).0)
 
 -- a turn that was done is one whose clearing was done
-cleared_whole : (end : StewardEnd) (cleared : ClearingEnd) (saved : StewardEnd) → end ≡ end_of_turn cleared saved → IsDone end → cleared ≡ clearing.Done
+pub cleared_whole : (end : StewardEnd) (cleared : ClearingEnd) (saved : StewardEnd) → end ≡ end_of_turn cleared saved → IsDone end → cleared ≡ clearing.Done
 cleared_whole end clearing.Done saved is done = refl
 cleared_whole end clearing.Memory (Done count) is done = absurd (subst IsDone is done)
 cleared_whole end clearing.Memory KeeperFault is done = absurd (subst IsDone is done)
@@ -146,46 +150,75 @@ turn_asks t done =
 
 -- ---- how turns may have ended
 
-pub may_end : (lack lack' fault fault' : Type 0) → (lack → lack') → (fault → fault') → (end : StewardEnd) → MayEnd lack fault end → MayEnd lack' fault' end
-may_end lack lack' fault fault' f g (Done count) p = tt
-may_end lack lack' fault fault' f g KeeperFault p = g p
-may_end lack lack' fault fault' f g Memory p = f p
+pub may_end : (lack lack' : Type 0) → (lack → lack') → (before now : ℕ) (turn : StewardTurn) → MayEnd lack before now turn → MayEnd lack' before now turn
+may_end lack lack' f before now turn p = record { fault = p.fault; memory = λ e. f (p.memory e); clearing = λ e. f (p.clearing e) }
 
-pub all_done : (lack fault : Type 0) → (lack → ⊥) → (fault → ⊥) → (end : StewardEnd) → MayEnd lack fault end → IsDone end
-all_done lack fault f g (Done count) p = tt
-all_done lack fault f g KeeperFault p = g p
-all_done lack fault f g Memory p = f p
+-- a count that rose rose also by what it is afterwards
+may_end_since : (lack : Type 0) (before now after : ℕ) (turn : StewardTurn) → now ≤ after → MayEnd lack before now turn → MayEnd lack before after turn
+may_end_since lack before now after turn more p = record { fault = λ e. let rose = p.fault e in omega (arith, more, rose); memory = p.memory; clearing = p.clearing }
 
-module _ (Ends : StewardEnd → Type 0) where
-  pub turns_stewards : (n : ℕ) (made : Log) → AreTurns Ends n made → AreStewards made
-  turns_stewards zero made is = subst AreStewards (sym is) tt
-  turns_stewards (suc n) made (before, last, turns, ends, is) =
-      subst AreStewards (sym is) (stewards_append before last.entries (turns_stewards n before turns) (turn_stewards last))
+is_done : (end : StewardEnd) → (end ≡ KeeperFault → ⊥) → (end ≡ Memory → ⊥) → IsDone end
+is_done (Done count) f g = tt
+is_done KeeperFault f g = f refl
+is_done Memory f g = g refl
 
-  pub turns_asked : ((end : StewardEnd) → Ends end → IsDone end) → (n : ℕ) (made : Log) → AreTurns Ends n made → times_asked made ≡ n
-  turns_asked done zero made is = ap times_asked is
-  turns_asked done (suc n) made (before, last, turns, ends, is) =
-      let so_far = turns_asked done n before turns in
-      let one = turn_asks last (done last.end ends) in
-      omega (arith, ap times_asked is, asked_append before last.entries, so_far, one)
+-- nothing ran short and no count rose
+all_done : (lack : Type 0) → (lack → ⊥) → (before now first last : ℕ) → first ≤ before → now ≤ last → (Rose first last → ⊥) → (turn : StewardTurn) → MayEnd lack before now turn → IsDone turn.end
+all_done lack f before now first last low high calm turn p = is_done turn.end (λ e. let rose = p.fault e in calm (omega (arith, low, high, rose))) (λ e. f (p.memory e))
 
-  pub turns_append : (n m : ℕ) (one two : Log) → AreTurns Ends n one → AreTurns Ends m two → AreTurns Ends (n + m) (one ++ two)
-  turns_append n zero one two p is =
-      let none : one ≡ one ++ two = sym (append-nil one) ∙ ap (λ (l : Log). one ++ l) (sym is) in
+module _ (Ends : ℕ → ℕ → StewardTurn → Type 0) where
+  pub turns_counted : (n before now : ℕ) (made : Log) → AreTurns Ends n before now made → before ≤ now
+  turns_counted zero before now made p = p.0
+  turns_counted (suc n) before now made (first, mid, last, turns, more, ends, is) = le_trans (turns_counted n before mid first turns) more
+
+  pub turns_stewards : (n before now : ℕ) (made : Log) → AreTurns Ends n before now made → AreStewards made
+  turns_stewards zero before now made p = subst AreStewards (sym p.1) tt
+  turns_stewards (suc n) before now made (first, mid, last, turns, more, ends, is) =
+      subst AreStewards (sym is) (stewards_append first last.entries (turns_stewards n before mid first turns) (turn_stewards last))
+
+  pub turns_asked : ((before now : ℕ) (turn : StewardTurn) → Ends before now turn → IsDone turn.end) → (n before now : ℕ) (made : Log) → AreTurns Ends n before now made → times_asked made ≡ n
+  turns_asked done zero before now made p = ap times_asked p.1
+  turns_asked done (suc n) before now made (first, mid, last, turns, more, ends, is) =
+      let so_far = turns_asked done n before mid first turns in
+      let one = turn_asks last (done mid now last ends) in
+      omega (arith, ap times_asked is, asked_append first last.entries, so_far, one)
+
+  -- the keeper had counted fewer before
+  pub turns_since : (n earlier before now : ℕ) (made : Log) → earlier ≤ before → AreTurns Ends n before now made → AreTurns Ends n earlier now made
+  turns_since zero earlier before now made low p = (le_trans low p.0, p.1)
+  turns_since (suc n) earlier before now made low (first, mid, last, turns, more, ends, is) = (first, mid, last, turns_since n earlier before mid first low turns, more, ends, is)
+
+pub turns_as : (Ends Ends' : ℕ → ℕ → StewardTurn → Type 0) → ((before now : ℕ) (turn : StewardTurn) → Ends before now turn → Ends' before now turn) → (n before now : ℕ) (made : Log)
+    → AreTurns Ends n before now made → AreTurns Ends' n before now made
+turns_as Ends Ends' h zero before now made p = p
+turns_as Ends Ends' h (suc n) before now made (first, mid, last, turns, more, ends, is) = (first, mid, last, turns_as Ends Ends' h n before mid first turns, more, h mid now last ends, is)
+
+module _ (lack : Type 0) where
+  -- and it counted more afterwards
+  turns_until : (n before now after : ℕ) (made : Log) → now ≤ after → AreTurns (MayEnd lack) n before now made → AreTurns (MayEnd lack) n before after made
+  turns_until zero before now after made high p = (le_trans p.0 high, p.1)
+  turns_until (suc n) before now after made high (first, mid, last, turns, more, ends, is) = (first, mid, last, turns, le_trans more high, may_end_since lack mid now after last high ends, is)
+
+  pub turns_append : (n m before mid now : ℕ) (one two : Log) → AreTurns (MayEnd lack) n before mid one → AreTurns (MayEnd lack) m mid now two → AreTurns (MayEnd lack) (n + m) before now (one ++ two)
+  turns_append n zero before mid now one two p q =
+      let none : one ≡ one ++ two = sym (append-nil one) ∙ ap (λ (l : Log). one ++ l) (sym q.1) in
       let count : n ≡ n + 0 = omega arith in
-      subst (λ (l : Log). AreTurns Ends (n + 0) l) none (subst (λ k. AreTurns Ends k one) count p)
-  turns_append n (suc m) one two p (before, last, turns, ends, is) =
+      subst (λ (l : Log). AreTurns (MayEnd lack) (n + 0) before now l) none (subst (λ k. AreTurns (MayEnd lack) k before now one) count (turns_until n before mid now one q.0 p))
+  turns_append n (suc m) before mid now one two p (first, there, last, turns, more, ends, is) =
       let count : suc (n + m) ≡ n + suc m = omega arith in
-      subst (λ k. AreTurns Ends k (one ++ two)) count
-      (one ++ before, last, turns_append n m one before p turns, ends, ap (λ (l : Log). one ++ l) is ∙ sym (append_assoc one before last.entries))
+      subst (λ k. AreTurns (MayEnd lack) k before now (one ++ two)) count
+      (one ++ first, there, last, turns_append n m before mid there one first p turns, more, ends, ap (λ (l : Log). one ++ l) is ∙ sym (append_assoc one first last.entries))
 
-pub turns_as : (Ends Ends' : StewardEnd → Type 0) → ((end : StewardEnd) → Ends end → Ends' end) → (n : ℕ) (made : Log) → AreTurns Ends n made → AreTurns Ends' n made
-turns_as Ends Ends' h zero made is = is
-turns_as Ends Ends' h (suc n) made (before, last, turns, ends, is) = (before, last, turns_as Ends Ends' h n before turns, h last.end ends, is)
+  -- where memory was enough and the keeper counted no fault each turn was done
+  pub turns_done : (lack → ⊥) → (n before now after : ℕ) (made : Log) → now ≤ after → (Rose before after → ⊥) → AreTurns (MayEnd lack) n before now made → AreTurns (λ mid later turn. IsDone turn.end) n before now made
+  turns_done ample zero before now after made high calm p = p
+  turns_done ample (suc n) before now after made high calm (first, mid, last, turns, more, ends, is) =
+      let low = turns_counted (MayEnd lack) n before mid first turns in
+      (first, mid, last, turns_done ample n before mid after first (le_trans more high) calm turns, more, all_done lack ample mid now before after low high calm last ends, is)
 
 -- ---- a turn that the first pass made
 
-module _ (end : StewardEnd) (before after : Option Table) (old new : PassState) (turn : MadeTurn end before after old new) where
+module _ (end : StewardEnd) (supply : Supply) (before after : Option Table) (old new : PassState) (turn : MadeTurn end supply before after old new) where
   pub turn_home : new.home ≡ old.home
   turn_home = ap (λ (p : Fixed). p.hall) turn.shared
 
@@ -203,3 +236,23 @@ module _ (end : StewardEnd) (before after : Option Table) (old new : PassState) 
 
   abbrev pub turn_is : StewardTurn
   turn_is = record { end = end; entries = turn.turn.entries; moment = turn.moment; carried = turn.turn.carried; turn = turn.turn.turn }
+
+-- ---- a turn whose halves are known
+
+short_end : (cleared : ClearingEnd) (end : StewardEnd) → end ≡ Memory → supply_in cleared end ≡ Short
+short_end clearing.Memory end e = refl
+short_end clearing.Done end e = subst (λ (x : StewardEnd). supply_in clearing.Done x ≡ Short) (sym e) refl
+
+short_clearing : (cleared : ClearingEnd) (end : StewardEnd) → cleared ≡ clearing.Memory → supply_in cleared end ≡ Short
+short_clearing cleared end e = subst (λ (x : ClearingEnd). supply_in x end ≡ Short) (sym e) refl
+
+pub made_halves : (moment : ℕ) (cleared : ClearingEnd) (end : StewardEnd) (before after : Option Table) (old new : PassState) → fixed_of new ≡ fixed_of old → (t : TakesTurn moment end before after (runs_of old) (runs_of new))
+    → t.turn.cleared ≡ cleared → StaysAgreed before after (runs_of old) (runs_of new) → MadeTurn end (supply_in cleared end) before after old new
+made_halves moment cleared end before after old new shared t is agrees = record {
+  moment = moment;
+  shared = shared;
+  turn = t;
+  agrees = agrees;
+  short = short_end cleared end;
+  short_first = λ e. short_clearing cleared end (sym is ∙ e);
+}

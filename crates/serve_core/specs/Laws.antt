@@ -1,11 +1,9 @@
--- What follows for each link that came, where serving ended well.
-use Rattle.std.specs.Prelude.{◌≡◌, ◌⊎◌, ℕ, ◌^◌, ◌<◌, ◌≤◌, Bool, ◌++◌, length, Some}
+-- What follows for each link that came, where memory was enough.
+use Rattle.std.specs.Prelude.{◌≡◌, ◌⊎◌, ℕ, ◌^◌, ◌<◌, ◌≤◌, Bool, true, false, ◌++◌, length, Some}
 use Rattle.edge_traits.specs.Door.{DoorTale}
 use Rattle.edge_traits.specs.Link.{Tale}
 use Rattle.one_server.specs.Running.{Log}
 use Rattle.link_core.specs.Laws.{AnswersAll, WasGreeted, handed_over}
-use Rattle.serve_core.specs.Stopping.{IsClean, MayBeShort}
-use Rattle.serve_core.specs.declared.end.ServeEnd.{ServeEnd}
 use Rattle.serve_core.specs.Sessions.{CameAs, CameBack, HadSession}
 
 -- the link came back under its number with what it had to give, taken or left; it was greeted, or counted a fault; and
@@ -20,10 +18,10 @@ pub record ComesBack (shows : ℕ → Bool) (door : DoorTale) (number : ℕ) (ca
   pub greeted : WasGreeted came link ⊎ (1 ≤ faults)
   pub answered : faults ≡ 0 → length came.left < 2 ^ 40 → AnswersAll shows number calls came link
 
--- where nothing failed and memory was enough, the link of each session came back so: none was hung up unserved, none
--- was exchanged for another, and no line was left without its answer
+-- where the pass tells that memory was enough, the link of each session came back so: none was hung up unserved, none was exchanged for
+-- another, and no line was left without its answer
 abbrev pub EachComesBack : Type 0
 EachComesBack =
-    (shows : ℕ → Bool) (end : ServeEnd) (door : DoorTale) (number : ℕ) (calls : Log) (came : Tale) → IsClean end
-    → HadSession shows (MayBeShort end) (Some door) number calls → CameAs number (Some came) door
+    (shows : ℕ → Bool) (short : Bool) (door : DoorTale) (number : ℕ) (calls : Log) (came : Tale) → short ≡ false
+    → HadSession shows (short ≡ true) (Some door) number calls → CameAs number (Some came) door
     → ComesBack shows door number calls came

@@ -1,3 +1,4 @@
+pub mod EndLaws
 pub mod Laws
 pub mod Opening
 pub mod Outside

@@ -1,6 +1,6 @@
 -- What a server promises that has served: of its hall, its links, its steward, its store and its text. This server's
 -- own.
-use Rattle.std.specs.Prelude.{◌≡◌, ℕ, ◌<◌, ◌≤◌, Bool, List, [], length, Some, slice_get, IfSome}
+use Rattle.std.specs.Prelude.{◌≡◌, ℕ, ◌<◌, ◌≤◌, Bool, true, List, [], length, Some, slice_get, IfSome}
 use Rattle.std.specs.declared.option.Option.{Option}
 use Rattle.edge_traits.specs.Door.{DoorTale}
 use Rattle.edge_traits.specs.Pairs.{Table}
@@ -17,8 +17,7 @@ use Rattle.steward_core.specs.declared.turn.StewardEnd.{StewardEnd}
 use Rattle.serve_core.specs.declared.end.ServeEnd.{ServeEnd}
 use Rattle.serve_core.specs.Outside.{Sheet, Store}
 use Rattle.serve_core.specs.Sessions.{HadSession}
-use Rattle.serve_core.specs.Stewarding.{HasTended, MayHaveEnded}
-use Rattle.serve_core.specs.Stopping.{MayBeShort}
+use Rattle.serve_core.specs.Stewarding.{HasTended}
 use Rattle.serve_core.specs.Text.{SaysText}
 
 -- nothing came through the door yet
@@ -36,10 +35,14 @@ pub record HasOneHistory (opening : List Part) (pass : PassState) : Type 0 where
   pub all_joined : EveryoneJoined pass
   pub no_others : (k : ℕ) → pass.splits < k → calls_of k pass.seen ≡ []
 
+-- memory ran out somewhere while serving, which the pass tells
+abbrev pub RanShort : PassState → Type 0
+RanShort pass = pass.short ≡ true
+
 -- the links: each session from 1 on served the link that came as the one of its number, which was handed back under
 -- that number; as many came as there are sessions, and as many were handed back
-pub record EachHadSession (shows : ℕ → Bool) (end : ServeEnd) (door : Option DoorTale) (pass : PassState) : Type 0 where
-  pub sessions : (k : ℕ) → 0 < k → k ≤ pass.splits → HadSession shows (MayBeShort end) door k (calls_of k pass.seen)
+pub record EachHadSession (shows : ℕ → Bool) (door : Option DoorTale) (pass : PassState) : Type 0 where
+  pub sessions : (k : ℕ) → 0 < k → k ≤ pass.splits → HadSession shows (RanShort pass) door k (calls_of k pass.seen)
   pub came : IfSome door (λ tale. length tale.came ≡ pass.splits)
   pub back : IfSome door (λ tale. length tale.back ≡ pass.splits)
 
@@ -59,16 +62,15 @@ KeepsAgreed old new pass =
     IfSome old (λ table. AgreesIn table pass.opening → TellsAgreed new (state house pass.opening pass.seen))
 
 -- the hall, the links, the steward, the store and the text, over a door, a sink and a keeper that stand so before and
--- after. A turn of the steward may have ended for want of memory where serving may, and with a keeper fault where the
--- keeper counted one; how the last one ended is told of the steward and of the text
+-- after. A session was served in part, and a turn of the steward ended for want of memory, only where the pass tells
+-- that memory ran out; how the last turn ended is told of the steward and of the text
 pub record HasServedAll (shows : ℕ → Bool) (opening : List Part) (end : ServeEnd) (door : Option DoorTale)
     (before after : Sheet) (old new : Store) (pass : PassState) : Type 0 where
   -- there is
   pub last : StewardEnd
   -- such that
   pub hall : HasOneHistory opening pass
-  pub links : EachHadSession shows end door pass
-  pub steward : HasTended (MayHaveEnded end old.faults new.faults) last door (calls_of 0 pass.seen)
-      (state house pass.opening pass.seen)
+  pub links : EachHadSession shows door pass
+  pub steward : HasTended (RanShort pass) last door old.faults new.faults pass.opening pass.seen
   pub store : KeepsAgreed old.table new.table pass
-  pub text : SaysText end last door pass.splits before after
+  pub text : SaysText end pass.short last door pass.splits before after

@@ -1,8 +1,9 @@
 -- What follows of the acts of session 0, where it tended the server.
-use Rattle.std.specs.Prelude.{◌≡◌, ℕ, ◌+◌, ⊤, List, [], ◌∷◌, IfSome}
+use Rattle.std.specs.Prelude.{◌≡◌, ℕ, ◌+◌, ⊤, Bool, true, false, List, [], ◌∷◌, IfSome}
 use Rattle.std.specs.declared.option.Option.{Option}
 use Rattle.edge_traits.specs.Door.{DoorTale}
 use Rattle.edge_traits.specs.Faults.{Rose}
+use Rattle.histories.specs.History.{calls_of}
 use Rattle.lobby_state.specs.declared.acts.LobbyAct.TheVariants.{InUse, Orders, Saved}
 use Rattle.lobby_state.specs.declared.acts.PairAct.TheVariants.{Clear}
 use Rattle.one_server.specs.declared.act.Act.{Act}
@@ -11,9 +12,7 @@ use Rattle.one_server.specs.declared.part.Part.{Part}
 use Rattle.one_server.specs.Running.{Log}
 use Rattle.steward_core.specs.declared.turn.StewardEnd.{StewardEnd}
 use Rattle.steward_core.specs.declared.turn.StewardEnd.TheVariants.{Done, KeeperFault, Memory}
-use Rattle.serve_core.specs.declared.end.ServeEnd.{ServeEnd}
-use Rattle.serve_core.specs.Stewarding.{AreTurns, HasTended, MayHaveEnded}
-use Rattle.serve_core.specs.Stopping.{IsClean}
+use Rattle.serve_core.specs.Stewarding.{AreTurns, HasTended, MayEnd, StewardTurn}
 
 -- an act that a steward makes: it asks which desks are in use, clears a desk, asks for save orders, or tells some as
 -- saved
@@ -46,25 +45,28 @@ IsDone KeeperFault = ⊥
 IsDone Memory = ⊥
 
 -- all entries are those of such turns, of which there is one for each Quiet of the door, and one more
-abbrev pub HasTurns : (StewardEnd → Type 0) → Option DoorTale → Log → Type 0
-HasTurns Ends door made = (n : ℕ) × AreTurns Ends n made × IfSome door (λ tale. n ≡ tale.quiets + 1)
+abbrev pub HasTurns : (ℕ → ℕ → StewardTurn → Type 0) → Option DoorTale → ℕ → ℕ → Log → Type 0
+HasTurns Ends door before now made =
+    (n : ℕ) × AreTurns Ends n before now made × IfSome door (λ tale. n ≡ tale.quiets + 1)
 
 -- all that session 0 makes are acts of a steward
 abbrev pub MakesStewardsActs : Type 0
 MakesStewardsActs =
-    (end : ServeEnd) (before now : ℕ) (last : StewardEnd) (door : Option DoorTale) (made : Log) (parts : List Part)
-    → HasTended (MayHaveEnded end before now) last door made parts → AreStewards made
+    (short : Bool) (last : StewardEnd) (door : Option DoorTale) (before now : ℕ) (opening : List Part) (seen : Log)
+    → HasTended (short ≡ true) last door before now opening seen → AreStewards (calls_of 0 seen)
 
 -- and all of it is turns, the last one among them
 abbrev pub MakesTurns : Type 0
 MakesTurns =
-    (end : ServeEnd) (before now : ℕ) (last : StewardEnd) (door : Option DoorTale) (made : Log) (parts : List Part)
-    → HasTended (MayHaveEnded end before now) last door made parts → HasTurns (MayHaveEnded end before now) door made
+    (short : Bool) (last : StewardEnd) (door : Option DoorTale) (before now : ℕ) (opening : List Part) (seen : Log)
+    → HasTended (short ≡ true) last door before now opening seen
+    → HasTurns (MayEnd (short ≡ true)) door before now (calls_of 0 seen)
 
--- where serving ended well and the keeper counted no fault, each turn was done, and in each it was asked once which
--- desks are in use
+-- where memory was enough and the keeper counted no fault, each turn was done, and in each it was asked once which desks
+-- are in use
 abbrev pub MakesEachTurn : Type 0
 MakesEachTurn =
-    (end : ServeEnd) (before now : ℕ) (last : StewardEnd) (door : Option DoorTale) (made : Log) (parts : List Part)
-    → HasTended (MayHaveEnded end before now) last door made parts → IsClean end → ¬ Rose before now
-    → HasTurns IsDone door made × IfSome door (λ tale. times_asked made ≡ tale.quiets + 1)
+    (short : Bool) (last : StewardEnd) (door : Option DoorTale) (before now : ℕ) (opening : List Part) (seen : Log)
+    → HasTended (short ≡ true) last door before now opening seen → short ≡ false → ¬ Rose before now
+    → HasTurns (λ mid later turn. IsDone turn.end) door before now (calls_of 0 seen)
+    × IfSome door (λ tale. times_asked (calls_of 0 seen) ≡ tale.quiets + 1)

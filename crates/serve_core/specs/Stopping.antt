@@ -1,5 +1,5 @@
 -- How serving ends: why no further link is taken, what decides beside that, and with which status the program ends.
-use Rattle.std.specs.Prelude.{◌≡◌, ℕ, ◌^◌, ◌<◌, ⊤, [], IfSome}
+use Rattle.std.specs.Prelude.{◌≡◌, ℕ, ◌^◌, ◌<◌, ⊤, Bool, true, false, [], IfSome}
 use Rattle.std.specs.declared.option.Option.{Option}
 use Rattle.edge_traits.specs.Door.{DoorTale}
 use Rattle.edge_traits.specs.declared.sink.Sent.{Sent}
@@ -11,7 +11,7 @@ use Rattle.serve_core.specs.declared.end.DoorEnd.TheVariants as door_end
 use Rattle.serve_core.specs.declared.end.ServeEnd.{ServeEnd}
 use Rattle.serve_core.specs.declared.end.ServeEnd.TheVariants.{Done, DoorFault, WriteFault, KeeperFault, Memory, Spent}
 use Rattle.serve_core.specs.declared.settle.Supply.{Supply}
-use Rattle.serve_core.specs.declared.settle.Supply.TheVariants.{Short}
+use Rattle.serve_core.specs.declared.settle.Supply.TheVariants.{Enough, Short}
 
 -- why no further link is taken, of so many: the door is closed and has none left, where it tells; or it failed; or 2^31
 -- came
@@ -21,7 +21,7 @@ IsStopped door_end.Failed count door = count < 2 ^ 31
 IsStopped door_end.Spent count door = count ≡ 2 ^ 31
 
 -- how serving ends: by why no further link is taken, what became of the last write, how the last turn of the steward
--- ended, and whether memory ran out before it. A fault of the door comes first, then one of the sink, then one of the
+-- ended, and whether memory ran out before that write. A fault of the door comes first, then one of the sink, then one of the
 -- keeper, then running out of memory
 abbrev pub end_of : DoorEnd → Sent → StewardEnd → Supply → ServeEnd
 end_of door_end.Failed written last supply = DoorFault
@@ -32,6 +32,12 @@ end_of door written steward.Memory supply = Memory
 end_of door written last Short = Memory
 end_of door_end.Spent written last supply = Spent
 end_of door_end.Closed written last supply = Done
+
+-- whether memory ran out while serving: before the last write, or at it
+abbrev pub is_short : Supply → Sent → Bool
+is_short Short written = true
+is_short Enough sent.Memory = true
+is_short Enough written = false
 
 -- the number with which the program ends
 abbrev pub status_of : ServeEnd → ℕ
@@ -50,13 +56,3 @@ IsClean KeeperFault = ⊥
 IsClean Memory = ⊥
 IsClean DoorFault = ⊥
 IsClean Spent = ⊤
-
--- memory may have run out: at status 6 somewhere, and at 3, 4 and 8, which stand above it, perhaps. No contract tells
--- want of memory, so at these it counts as possible wherever memory is taken
-abbrev pub MayBeShort : ServeEnd → Type 0
-MayBeShort Done = ⊥
-MayBeShort WriteFault = ⊤
-MayBeShort KeeperFault = ⊤
-MayBeShort Memory = ⊤
-MayBeShort DoorFault = ⊤
-MayBeShort Spent = ⊥

@@ -1,8 +1,8 @@
 -- What the door's thread does for the store while it takes links: it makes turns of the steward.
-use Rattle.std.specs.Prelude.{◌≡◌, ℕ, ◌+◌, ◌≤◌}
+use Rattle.std.specs.Prelude.{◌≡◌, ℕ, ◌+◌}
 use Rattle.std.specs.declared.option.Option.{Option}
-use Rattle.edge_traits.specs.Door.{DoorTale, Goes}
-use Rattle.edge_traits.specs.Faults.{Rose}
+use Rattle.edge_traits.specs.Door.{DoorTale}
+use Rattle.edge_traits.specs.WhereTold.{WhereTold}
 use Rattle.one_server.specs.Running.{IsKnown, Log, Made}
 use Rattle.hall_core.specs.Passes.{PassState, runs_of}
 use Rattle.steward_core.specs.Agreement.{StaysAgreed}
@@ -26,15 +26,14 @@ abbrev pub GivesQuiets : ℕ → DoorTale → DoorTale → Type 0
 GivesQuiets n old new = new.quiets ≡ old.quiets + n
 
 -- From one time to another the pass made no entries but those of turns of the steward, as many as the door gave Quiets.
--- None of them ended with a keeper fault unless the keeper's count rose, and none for want of memory unless it is known
--- that memory ran out. A table that agreed still agrees
+-- None of them ended with a keeper fault unless the keeper's count rose in it, and none for want of memory unless it is
+-- known that memory ran out. A table that agreed still agrees
 pub record Tended (old new : Stand) : Type 0 where
   pub count : ℕ
   pub entries : Log
-  pub turns : AreTurns (MayEnd (new.supply ≡ Short) (Rose old.store.faults new.store.faults)) count entries
+  pub turns : AreTurns (MayEnd (new.supply ≡ Short)) count old.store.faults new.store.faults entries
   pub grew : IsKnown (runs_of old.pass) → Made (runs_of old.pass) entries (runs_of new.pass)
-  pub quiets : Goes old.door new.door (GivesQuiets count)
+  pub quiets : WhereTold old.door new.door (GivesQuiets count)
   pub short : old.supply ≡ Short → new.supply ≡ Short
-  pub counted : old.store.faults ≤ new.store.faults
   pub agrees : IsKnown (runs_of old.pass)
       → StaysAgreed old.store.table new.store.table (runs_of old.pass) (runs_of new.pass)

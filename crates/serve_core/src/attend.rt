@@ -2,7 +2,8 @@
 
 ghost use Rattle.std.specs.Prelude.{◌≡◌, ◌<◌, ◌+◌, ◌^◌, OnSome, vec_len, vec_capacity};
 ghost use Rattle.std.specs.declared.option.Option.{Option};
-ghost use Rattle.edge_traits.specs.Door.{DoorTale, Goes, IsNew};
+ghost use Rattle.edge_traits.specs.Door.{DoorTale, IsNew};
+ghost use Rattle.edge_traits.specs.WhereTold.{WhereTold};
 ghost use Rattle.serve_core.specs.Keeping.{Comes, KeepsLeft, Underway};
 ghost use Rattle.serve_core.specs.Outside.{Store};
 ghost use Rattle.serve_core.specs.Tending.{Tended, stand};
@@ -37,7 +38,7 @@ where
     requires kept { (before : Option DoorTale)
         × Underway C.shows shared.now.hall.now shared.now.clock.now host.old.supply before host.old.pass
         host.old.waiting.items
-        × Goes before (D.tale door.old) (Comes (D.Link.tale link)) }
+        × WhereTold before (D.tale door.old) (Comes (D.Link.tale link)) }
     requires room { OnSome ended (vec_len host.old.waiting < vec_capacity host.old.waiting) }
     ensures kept { Underway C.shows shared.now.hall.now shared.now.clock.now host.new.supply (D.tale door.new)
         host.new.pass host.new.waiting.items }
@@ -46,7 +47,7 @@ where
     ensures tended { (store : Store) → Tended
         (stand host.old.pass host.old.supply (D.tale door.old) store)
         (stand host.new.pass host.new.supply (D.tale door.new) store) }
-    ensures left { Goes (D.tale door.old) (D.tale door.new) KeepsLeft }
+    ensures left { WhereTold (D.tale door.old) (D.tale door.new) KeepsLeft }
     ensures faults { D.faults door.new ≡ D.faults door.old }
 {
     let pass = shared.hall.split(&mut host.pass);

@@ -1,7 +1,8 @@
 //! The door's thread: it takes links until no more come, and waits for the workers.
 
 ghost use Rattle.std.specs.Prelude.{◌≡◌, ◌≤◌, []};
-ghost use Rattle.edge_traits.specs.Door.{Goes, KeepsLinks};
+ghost use Rattle.edge_traits.specs.Door.{KeepsLinks};
+ghost use Rattle.edge_traits.specs.WhereTold.{WhereTold};
 ghost use Rattle.serve_core.specs.Keeping.{KeepsLeft, SameHall, Underway, Stopped};
 ghost use Rattle.serve_core.specs.Outside.{Store};
 ghost use Rattle.serve_core.specs.Tending.{Tended, stand};
@@ -49,7 +50,7 @@ where
         (stand result.pass result.supply (D.tale door.new)
         (record { table = P.table keeper.new; faults = P.faults keeper.new })) }
     ensures opening { result.pass.opening ≡ pass.opening }
-    ensures links { Goes (D.tale door.old) (D.tale door.new) KeepsLinks }
+    ensures links { WhereTold (D.tale door.old) (D.tale door.new) KeepsLinks }
     ensures stopped { Stopped result.end result.pass.splits (D.tale door.new) (D.faults door.old) (D.faults door.new) }
     ensures counted { D.faults door.old ≤ D.faults door.new }
 {
@@ -69,7 +70,7 @@ where
                 (stand result.0.pass result.0.supply (D.tale result.1.now)
                 (record { table = P.table result.2.now; faults = P.faults result.2.now })) }
             ensures opening { result.0.pass.opening ≡ pass.opening }
-            ensures links { Goes (D.tale door.entry.now) (D.tale result.1.now) KeepsLinks }
+            ensures links { WhereTold (D.tale door.entry.now) (D.tale result.1.now) KeepsLinks }
             ensures stopped { Stopped result.0.end result.0.pass.splits (D.tale result.1.now)
                 (D.faults door.entry.now) (D.faults result.1.now) }
             ensures counted { D.faults door.entry.now ≤ D.faults result.1.now }
@@ -108,7 +109,7 @@ where
         (stand result.pass result.supply (D.tale door.new)
         (record { table = P.table keeper.new; faults = P.faults keeper.new })) }
     ensures opening { result.pass.opening ≡ pass.opening }
-    ensures links { Goes (D.tale door.old) (D.tale door.new) KeepsLinks }
+    ensures links { WhereTold (D.tale door.old) (D.tale door.new) KeepsLinks }
     ensures stopped { Stopped result.end result.pass.splits (D.tale door.new) (D.faults door.old) (D.faults door.new) }
     ensures counted { D.faults door.old ≤ D.faults door.new }
 {
@@ -149,7 +150,7 @@ where
     ensures tended { (store : Store) → Tended
         (stand host.pass host.supply (D.tale door.old) store)
         (stand result.pass result.supply (D.tale door.new) store) }
-    ensures left { Goes (D.tale door.old) (D.tale door.new) KeepsLeft }
+    ensures left { WhereTold (D.tale door.old) (D.tale door.new) KeepsLeft }
     ensures end { result.end ≡ end }
     ensures faults { D.faults door.new ≡ D.faults door.old }
 {

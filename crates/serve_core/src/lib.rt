@@ -22,7 +22,10 @@ mod turn;
 mod worker;
 
 pub use end::{DoorEnd, ServeEnd};
-pub use laws::{each_link_comes_back_as_its_own, the_steward_makes_each_turn};
+pub use laws::{
+    each_link_comes_back_as_its_own, no_game_is_lost, the_steward_makes_each_turn,
+    want_of_memory_is_told,
+};
 pub use serve_call::serve;
 pub use serving::serve_lobby;
 pub use settle::Supply;

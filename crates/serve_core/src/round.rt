@@ -1,26 +1,27 @@
 //! One answer of the door, and what is done by it.
 
 ghost use Rattle.std.specs.Prelude.{◌≡◌, ◌≤◌, ◌<◌, ◌^◌, MatchOption};
-ghost use Rattle.edge_traits.specs.Door.{Goes, KeepsLinks};
+ghost use Rattle.edge_traits.specs.Door.{KeepsLinks};
+ghost use Rattle.edge_traits.specs.WhereTold.{WhereTold};
 ghost use Rattle.edge_traits.specs.Faults.{Rose};
 ghost use Rattle.serve_core.specs.Keeping.{Underway, Stopped};
 ghost use Rattle.serve_core.specs.Tending.{Tended, stand};
 ghost use Rattle.serve_core.specs.Turns.{MadeTurn, supply_then};
 ghost use Rattle.serve_core.specs.declared.end.DoorEnd.{DoorEnd};
 ghost use Rattle.serve_core.specs.declared.end.DoorEnd.TheVariants.{Spent};
+ghost use Rattle.serve_core.specs.declared.settle.Supply.{Supply};
 ghost use Rattle.steward_core.specs.declared.turn.StewardEnd.{StewardEnd};
 ghost use Rattle.steward_core.specs.declared.turn.StewardEnd.TheVariants.{KeeperFault};
 
 use crate::attend::attend;
 use crate::end::DoorEnd;
-use crate::settle::{Host, Supply};
+use crate::settle::Host;
 use crate::shared::Shared;
 use crate::turn::turn;
 use edge_traits::{Came, Clock, Doorway, Gate, Keeper, Link};
 use hall_core::HallPass;
 use std::sync::Wait;
 use std::thread::{Scope, Threads};
-use steward_core::StewardEnd;
 
 /// How many links are taken at most.
 const MOST_LINKS: u32 = 1 << 31;
@@ -55,7 +56,7 @@ where
         (stand result.0.pass result.0.supply (D.tale door.new)
         (record { table = P.table keeper.new; faults = P.faults keeper.new })) }
     ensures opening { result.0.pass.opening ≡ host.pass.opening }
-    ensures links { Goes (D.tale door.old) (D.tale door.new) KeepsLinks }
+    ensures links { WhereTold (D.tale door.old) (D.tale door.new) KeepsLinks }
     ensures counted { D.faults door.old ≤ D.faults door.new }
     ensures ends { MatchOption result.2 (result.1 < 2 ^ 31) (λ end. Stopped end result.1 (D.tale door.new)
         (D.faults door.old) (D.faults door.new)) }
@@ -82,8 +83,9 @@ fn at_quiet<T: Threads + Wait, C: Clock, G: Gate, L: Link + Drop, P: Keeper>(
     keeper: &mut P,
 ) -> Host<L, C>
     requires here { host.pass.home ≡ shared.now.hall.now }
-    ensures turn { (end : StewardEnd) × MadeTurn end (P.table keeper.old) (P.table keeper.new) host.pass result.pass
-        × (result.supply ≡ supply_then end host.supply)
+    ensures turn { (end : StewardEnd) × (made : Supply)
+        × MadeTurn end made (P.table keeper.old) (P.table keeper.new) host.pass result.pass
+        × (result.supply ≡ supply_then made host.supply)
         × (end ≡ KeeperFault → Rose (P.faults keeper.old) (P.faults keeper.new)) }
     ensures waiting { result.waiting ≡ host.waiting }
     ensures counted { P.faults keeper.old ≤ P.faults keeper.new }
@@ -93,21 +95,11 @@ fn at_quiet<T: Threads + Wait, C: Clock, G: Gate, L: Link + Drop, P: Keeper>(
         waiting,
         supply,
     } = host;
-    let (pass, end) = turn(shared, pass, keeper);
+    let (pass, _end, made) = turn(shared, pass, keeper);
     Host {
         pass,
         waiting,
-        supply: supply_then(end, supply),
-    }
-}
-
-/// Whether something ran out of memory, once a turn of the steward ended like this.
-fn supply_then(end: StewardEnd, before: Supply) -> Supply
-    ensures { result ≡ supply_then end before }
-{
-    match end {
-        StewardEnd::Done(_) | StewardEnd::KeeperFault => before,
-        StewardEnd::Memory => Supply::Short,
+        supply: made.then(supply),
     }
 }
 

@@ -2,7 +2,8 @@
 
 ghost use Rattle.std.specs.Prelude.{◌≡◌, ◌≤◌, ◌⊎◌, ◌∷◌, [], ℕ, List, IfSome, IfNone, IfErr, OnOk, Contains};
 ghost use Rattle.std.specs.Io.KnownBytes.{Appends};
-ghost use Rattle.edge_traits.specs.Door.{Goes, KeepsLinks};
+ghost use Rattle.edge_traits.specs.Door.{KeepsLinks};
+ghost use Rattle.edge_traits.specs.WhereTold.{WhereTold};
 ghost use Rattle.edge_traits.specs.Faults.{Rose};
 ghost use Rattle.edge_traits.specs.Sink.{AppendsFront};
 ghost use Rattle.histories.specs.History.{state};
@@ -70,7 +71,7 @@ where
         (record { table = P.table keeper.new; faults = P.faults keeper.new }) h.1) }
     ensures table { IfSome result.1 (λ h. IfSome (P.table keeper.old)
         (λ _. TellsAgreed (P.table keeper.new) (state house h.1.opening h.1.seen))) }
-    ensures links { Goes (D.tale door.old) (D.tale door.new) KeepsLinks }
+    ensures links { WhereTold (D.tale door.old) (D.tale door.new) KeepsLinks }
     ensures untouched { IfNone result.1 (D.tale door.new ≡ D.tale door.old) }
     ensures no_hall { IfNone result.1 (AsksToServe words.now → (fault : StoreFault)
         × (result.0 ≡ unopened_status fault) × StaysUnopened fault
@@ -146,7 +147,7 @@ where
         (record { table = P.table keeper.new; faults = P.faults keeper.new }) h.1) }
     ensures table { IfSome result.1 (λ h. IfSome (P.table keeper.old)
         (λ _. TellsAgreed (P.table keeper.new) (state house h.1.opening h.1.seen))) }
-    ensures links { Goes (D.tale door.old) (D.tale door.new) KeepsLinks }
+    ensures links { WhereTold (D.tale door.old) (D.tale door.new) KeepsLinks }
     ensures untouched { IfNone result.1 (D.tale door.new ≡ D.tale door.old) }
     ensures no_hall { IfNone result.1 ((fault : StoreFault) × (result.0 ≡ unopened_status fault)
         × StaysUnopened fault

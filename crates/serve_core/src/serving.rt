@@ -2,14 +2,15 @@
 
 ghost use Rattle.std.specs.Prelude.{◌≡◌, ◌≤◌, ◌⊎◌, ℕ, IfSome, IfNone, List, take};
 ghost use Rattle.std.specs.Io.KnownBytes.{Appends, Keeps};
-ghost use Rattle.edge_traits.specs.Door.{Goes, KeepsLinks};
+ghost use Rattle.edge_traits.specs.Door.{KeepsLinks};
+ghost use Rattle.edge_traits.specs.WhereTold.{WhereTold};
 ghost use Rattle.edge_traits.specs.Faults.{Rose};
 ghost use Rattle.edge_traits.specs.Sink.{OnWriteFailed, UnlessWriteFailed, Wrote};
 ghost use Rattle.one_server.specs.declared.part.Part.{Part};
 ghost use Rattle.one_server.specs.Whole.{IsOpening, IsWhole, opened};
-ghost use Rattle.hall_core.specs.Passes.{first_pass};
+ghost use Rattle.hall_core.specs.Passes.{first_pass, noted};
 ghost use Rattle.serve_core.specs.Serving.{HasServedAll, IsUnused};
-ghost use Rattle.serve_core.specs.Stopping.{IsClean, end_of};
+ghost use Rattle.serve_core.specs.Stopping.{IsClean, end_of, is_short};
 ghost use Rattle.serve_core.specs.Text.{closed_text, ready_text, whole_text};
 ghost use Rattle.serve_core.specs.Turns.{TurnsLast};
 ghost use Rattle.steward_core.specs.declared.turn.StewardEnd.{StewardEnd};
@@ -65,7 +66,7 @@ where
         (record { written = K.written sink.new; faults = K.faults sink.new })
         (record { table = P.table keeper.old; faults = P.faults keeper.old })
         (record { table = P.table keeper.new; faults = P.faults keeper.new }) h.1) }
-    ensures links { Goes (D.tale door.old) (D.tale door.new) KeepsLinks }
+    ensures links { WhereTold (D.tale door.old) (D.tale door.new) KeepsLinks }
     ensures no_hall { IfNone result.1 ((result.0 ≡ ServeEnd.Memory) × Keeps (K.written sink.old) (K.written sink.new)) }
     ensures untouched { IfNone result.1 (D.tale door.new ≡ D.tale door.old) }
     ensures keeper_stays { IfNone result.1 (keeper.new ≡ keeper.old) }
@@ -121,7 +122,7 @@ where
         (record { written = K.written sink.new; faults = K.faults sink.new })
         (record { table = P.table keeper.old; faults = P.faults keeper.old })
         (record { table = P.table keeper.new; faults = P.faults keeper.new }) result.0 }
-    ensures links { Goes (D.tale door.old) (D.tale door.new) KeepsLinks }
+    ensures links { WhereTold (D.tale door.old) (D.tale door.new) KeepsLinks }
     ensures door_fault { result.1 ≡ ServeEnd.DoorFault → Rose (D.faults door.old) (D.faults door.new) }
     ensures write_fault { result.1 ≡ ServeEnd.WriteFault → Rose (K.faults sink.old) (K.faults sink.new) }
     ensures write_told { (K.faults sink.new ≡ K.faults sink.old)
@@ -134,37 +135,61 @@ where
     match say_ready(sink) {
         Sent::All => {
             let hosted = host_links(shared, pass, door, keeper);
-            let (pass, last) = last_turn(shared, hosted.pass, keeper);
+            let (pass, last, made) = last_turn(shared, hosted.pass, keeper);
             let sent = say_closed(sink);
-            (pass, end_of(hosted.end, sent, last, hosted.supply))
+            let supply = made.then(hosted.supply);
+            let end = end_of(hosted.end, sent, last, supply);
+            (noted(pass, supply, sent), end)
         }
-        Sent::Failed => (last_turn(shared, pass, keeper).0, ServeEnd::WriteFault),
+        Sent::Failed => {
+            let (pass, _last, made) = last_turn(shared, pass, keeper);
+            (noted(pass, made, Sent::Failed), ServeEnd::WriteFault)
+        }
         Sent::Memory => {
-            let (pass, last) = last_turn(shared, pass, keeper);
-            (
-                pass,
-                end_of(DoorEnd::Closed, Sent::Memory, last, Supply::Enough),
-            )
+            let (pass, last, made) = last_turn(shared, pass, keeper);
+            let end = end_of(DoorEnd::Closed, Sent::Memory, last, made);
+            (noted(pass, made, Sent::Memory), end)
         }
     }
 }
 
-/// The last turn of the steward. The pass looks at the whole history before it and behind it.
+/// The pass, on which it is noted whether memory ran out: before the last write, or at it, which the sink answered so.
+fn noted(pass: HallPass, supply: Supply, sent: Sent) -> HallPass
+    ensures { result ≡ noted (is_short supply sent) pass }
+{
+    let mut pass = pass;
+    pass.note_short(is_short(supply, sent));
+    pass
+}
+
+/// Whether memory ran out before the last write, or at it.
+fn is_short(supply: Supply, sent: Sent) -> bool
+    ensures { result ≡ is_short supply sent }
+{
+    match (supply, sent) {
+        (Supply::Short, _) => true,
+        (Supply::Enough, Sent::Memory) => true,
+        (Supply::Enough, _) => false,
+    }
+}
+
+/// The last turn of the steward, and whether memory ran out in it. The pass looks at the whole history before it and
+/// behind it.
 fn last_turn<T: Threads + Wait, C: Clock, G: Gate, P: Keeper>(
     shared: &Shared<'_, T, C, G>,
     pass: HallPass,
     keeper: &mut P,
-) -> (HallPass, StewardEnd)
+) -> (HallPass, StewardEnd, Supply)
     requires here { pass.home ≡ shared.now.hall.now }
-    ensures turn { TurnsLast result.1 (P.table keeper.old) (P.table keeper.new) pass result.0 }
+    ensures turn { TurnsLast result.1 result.2 (P.table keeper.old) (P.table keeper.new) pass result.0 }
     ensures fault { result.1 ≡ StewardEnd.KeeperFault → Rose (P.faults keeper.old) (P.faults keeper.new) }
     ensures counted { P.faults keeper.old ≤ P.faults keeper.new }
 {
     let mut pass = pass;
     shared.hall.look(&mut pass);
-    let (mut pass, end) = turn(shared, pass, keeper);
+    let (mut pass, end, made) = turn(shared, pass, keeper);
     shared.hall.look(&mut pass);
-    (pass, end)
+    (pass, end, made)
 }
 
 /// How serving ends.

@@ -1,7 +1,8 @@
 //! What the door's thread keeps of its workers, and how it settles with those that have ended.
 
 ghost use Rattle.std.specs.Prelude.{◌≡◌, ◌≢◌, [], OnSome, vec_len, vec_capacity, ◌<◌, IfSome};
-ghost use Rattle.edge_traits.specs.Door.{Goes, IsOut, TakesBack};
+ghost use Rattle.edge_traits.specs.Door.{IsOut, TakesBack};
+ghost use Rattle.edge_traits.specs.WhereTold.{WhereTold};
 ghost use Rattle.hall_core.specs.Passes.{IsJoined};
 ghost use Rattle.serve_core.specs.Keeping.{KeepsLeft, SameHall, Underway, supply_after};
 ghost use Rattle.serve_core.specs.Outside.{Store};
@@ -22,6 +23,21 @@ use std::thread::Threads;
 pub enum Supply {
     Enough,
     Short,
+}
+
+impl Supply {
+    ghost use Rattle.std.specs.Prelude.{◌≡◌};
+    ghost use Rattle.serve_core.specs.Turns.{supply_then};
+
+    /// Whether something ran out of memory, once something did or didn't that came behind.
+    pub fn then(self, before: Supply) -> Supply
+        ensures { result ≡ supply_then self before }
+    {
+        match self {
+            Supply::Enough => before,
+            Supply::Short => Supply::Short,
+        }
+    }
 }
 
 /// What the door's thread keeps: the first pass, the workers that it started and hasn't joined, and whether memory ran
@@ -53,7 +69,7 @@ impl<L: Link + Drop, C: Clock> Host<L, C> {
         requires other_not_first { returned.pass.number ≢ 0 }
         requires out { IfSome (D.tale door.old) (IsOut returned.pass.number) }
         ensures joined { IsJoined self.old.pass returned.pass self.new.pass }
-        ensures back { Goes (D.tale door.old) (D.tale door.new) (TakesBack returned.pass.number (record {
+        ensures back { WhereTold (D.tale door.old) (D.tale door.new) (TakesBack returned.pass.number (record {
           tale = L.tale returned.link;
           faults = L.faults returned.link;
         })) }
@@ -82,7 +98,7 @@ impl<L: Link + Drop, C: Clock> Host<L, C> {
         ensures tended { (store : Store) → Tended
             (stand self.old.pass self.old.supply (D.tale door.old) store)
             (stand self.new.pass self.new.supply (D.tale door.new) store) }
-        ensures left { Goes (D.tale door.old) (D.tale door.new) KeepsLeft }
+        ensures left { WhereTold (D.tale door.old) (D.tale door.new) KeepsLeft }
         ensures faults { D.faults door.new ≡ D.faults door.old }
     {
         let mut next = 0;
@@ -111,7 +127,7 @@ impl<L: Link + Drop, C: Clock> Host<L, C> {
         ensures tended { (store : Store) → Tended
             (stand self.old.pass self.old.supply (D.tale door.old) store)
             (stand self.new.pass self.new.supply (D.tale door.new) store) }
-        ensures left { Goes (D.tale door.old) (D.tale door.new) KeepsLeft }
+        ensures left { WhereTold (D.tale door.old) (D.tale door.new) KeepsLeft }
         ensures faults { D.faults door.new ≡ D.faults door.old }
     {
         while let Some(worker) = self.waiting.pop() {

@@ -3,31 +3,45 @@
 ghost use Rattle.std.specs.Prelude.{◌≡◌, ◌≤◌};
 ghost use Rattle.clock_ledger.specs.Charges.{last_moment};
 ghost use Rattle.edge_traits.specs.Faults.{Rose};
-ghost use Rattle.serve_core.specs.Turns.{MadeTurn};
+ghost use Rattle.serve_core.specs.Turns.{MadeTurn, supply_in};
 
+use crate::settle::Supply;
 use crate::shared::Shared;
 use clock_ledger::LAST_MOMENT;
 use edge_traits::{Clock, Gate, Keeper};
 use hall_core::HallPass;
 use std::sync::Wait;
 use std::thread::Threads;
-use steward_core::{StewardEnd, steward_turn};
+use steward_core::{ClearingEnd, StewardEnd, end_of_turn, turn_by_halves};
 
-/// Makes a turn of the steward with the pass over the keeper, at the present moment.
+/// Makes a turn of the steward with the pass over the keeper, at the present moment. It says how the turn ended, and
+/// whether memory ran out in it.
 pub fn turn<T: Threads + Wait, C: Clock, G: Gate, P: Keeper>(
     shared: &Shared<'_, T, C, G>,
     pass: HallPass,
     keeper: &mut P,
-) -> (HallPass, StewardEnd)
+) -> (HallPass, StewardEnd, Supply)
     requires here { pass.home ≡ shared.now.hall.now }
-    ensures turn { MadeTurn result.1 (P.table keeper.old) (P.table keeper.new) pass result.0 }
+    ensures turn { MadeTurn result.1 result.2 (P.table keeper.old) (P.table keeper.new) pass result.0 }
     ensures fault { result.1 ≡ StewardEnd.KeeperFault → Rose (P.faults keeper.old) (P.faults keeper.new) }
     ensures counted { P.faults keeper.old ≤ P.faults keeper.new }
 {
     let moment = present(shared.clock);
     let mut seat = shared.hall.seat(pass, shared.gate, shared.rt);
-    let end = steward_turn(shared.alloc, &mut seat, keeper, moment);
-    (seat.into_pass(), end)
+    let (cleared, saved) = turn_by_halves(shared.alloc, &mut seat, keeper, moment);
+    let end = end_of_turn(cleared, saved);
+    (seat.into_pass(), end, supply_in(cleared, end))
+}
+
+/// Whether memory ran out in a turn whose first half ended like this, and the whole of it like that.
+fn supply_in(cleared: ClearingEnd, end: StewardEnd) -> Supply
+    ensures { result ≡ supply_in cleared end }
+{
+    match (cleared, end) {
+        (ClearingEnd::Memory, _) => Supply::Short,
+        (ClearingEnd::Done, StewardEnd::Memory) => Supply::Short,
+        (ClearingEnd::Done, _) => Supply::Enough,
+    }
 }
 
 /// The present moment, at most 2^48.

@@ -1,6 +1,7 @@
 //! A worker: it serves one connection as a session of the hall.
 
 ghost use Rattle.std.specs.Prelude.{◌≡◌, [], IfOk, IfErr};
+ghost use Rattle.edge_traits.specs.Link.{IsOpen};
 ghost use Rattle.serve_core.specs.Working.{Due, IsPaid};
 
 use crate::shared::Shared;
@@ -78,7 +79,7 @@ impl<L: Link + Drop, C: Clock> Worker<L, C> {
     }
 }
 
-/// Serves a link, which has counted no fault, with a pass, to its end.
+/// Serves a link, which isn't closed and has counted no fault, with a pass, to its end.
 pub fn work<T: Threads + Wait, C: Clock, G: Gate, L: Link + Drop>(
     shared: &Shared<'_, T, C, G>,
     pass: HallPass,
@@ -87,6 +88,7 @@ pub fn work<T: Threads + Wait, C: Clock, G: Gate, L: Link + Drop>(
     requires here { pass.home ≡ shared.now.hall.now }
     requires new { (pass.made ≡ []) × (pass.joined ≡ []) }
     requires faults { L.faults link ≡ 0 }
+    requires unclosed { IsOpen (L.tale link) }
     ensures { IsPaid C.shows (record { pass = pass; link = L.tale link; clock = shared.now.clock.now })
         result.end result.pass (record { tale = L.tale result.link; faults = L.faults result.link }) }
 {
@@ -100,8 +102,8 @@ pub fn work<T: Threads + Wait, C: Clock, G: Gate, L: Link + Drop>(
     }
 }
 
-/// Starts a worker for a link, which has counted no fault. Where no thread can be had, the link is served here, and
-/// what the worker would have given up is the answer.
+/// Starts a worker for a link, which isn't closed and has counted no fault. Where no thread can be had, the link is
+/// served here, and what the worker would have given up is the answer.
 pub fn start<'s, 'a: 's, E, T, C, G, L>(
     scope: &Scope<'s, E>,
     shared: &'s Shared<'a, T, C, G>,
@@ -117,6 +119,7 @@ where
     requires here { pass.home ≡ shared.now.hall.now }
     requires new { (pass.made ≡ []) × (pass.joined ≡ []) }
     requires faults { L.faults link ≡ 0 }
+    requires unclosed { IsOpen (L.tale link) }
     ensures started { IfOk result (λ w. w ≡ record {
       pass = pass;
       link = L.tale link;
@@ -138,6 +141,7 @@ where
         requires here { pass.home ≡ shared.now.hall.now }
         requires new { (pass.made ≡ []) × (pass.joined ≡ []) }
         requires faults { L.faults link ≡ 0 }
+        requires unclosed { IsOpen (L.tale link) }
         ensures { IsPaid C.shows (record { pass = pass; link = L.tale link; clock = shared.entry.now.clock.now })
             result.end result.pass (record { tale = L.tale result.link; faults = L.faults result.link }) }
     {

@@ -1,13 +1,38 @@
 -- Going on in a course past acts that ran out of memory.
-use Rattle.std.proofs.Common.{◌≡◌, ℕ, Bool, [], ◌∷◌, ◌++◌, refl, sym, ap, subst, ◌∙◌, append_assoc, append-nil, inl, inr}
+use Rattle.std.proofs.Common.{◌≡◌, ℕ, Bool, true, false, [], ◌∷◌, ◌++◌, refl, sym, ap, subst, ◌∙◌, append_assoc, append-nil, inl, inr}
 use Rattle.histories.specs.History.{entry}
+use Rattle.lobby_state.specs.declared.acts.LobbyAct.{LobbyAct}
+use Rattle.lobby_state.specs.declared.acts.LobbyAct.TheVariants.{Where, Going, Bye}
+use Rattle.lobby_state.specs.Acts.{LobbyNeedsNoMemory}
+use Rattle.linked_desk.specs.Acts.{needs_memory}
 use Rattle.one_server.specs.declared.act.Act.{Act}
+use Rattle.one_server.specs.declared.act.Act.TheVariants.{Lobby, Desk, Pair}
+use Rattle.one_server.specs.Acts.{NeedsNoMemory}
 use Rattle.one_server.specs.declared.reply.Reply.{Reply}
 use Rattle.one_server.specs.Running.{IsKnown, Log, Made, Ran, RunnerState}
-use Rattle.session_core.specs.Course.{Course, Done, Asks, MayPass, Passes, nothing_told, timed}
+use Rattle.session_core.specs.Course.{Course, Done, Asks, MayPass, Passes, TakesMemory, nothing_told, timed}
 use Rattle.session_core.specs.Going.{LeftInPart, Passed}
 use Rattle.session_core.specs.Memory.{MemoryState}
 use Rattle.session_core.proofs.Going.{made_none, made_then, same_mark, same_number}
+
+taking : (act : Act) → (NeedsNoMemory act → ⊥) → TakesMemory act
+taking (Lobby act) h = of act h
+  where
+    of : (act : LobbyAct) → (LobbyNeedsNoMemory act → ⊥) → TakesMemory (Lobby act)
+    of Where h = h tt
+    of Going h = h tt
+    of Bye h = h tt
+    of _ h = tt
+taking (Desk desk serial act) h = by (needs_memory act) refl
+  where
+    by : (needs : Bool) → needs_memory act ≡ needs → needs_memory act ≡ true
+    by true e = e
+    by false e = absurd (h e)
+taking (Pair act) h = tt
+
+may_pass : (mark : Bool) (act : Act) → (mark ≡ true → NeedsNoMemory act → ⊥) → MayPass mark act
+may_pass true act h = taking act (h refl)
+may_pass false act h = tt
 
 module _ (moment : ℕ) where
   -- nothing is done yet
@@ -23,10 +48,11 @@ module _ (moment : ℕ) where
   pub passed_over : (act : Act) (rest : Reply → Course) (old new : RunnerState) → MayPass old.mark act → Made old [] new → Passed (Asks act rest) (rest nothing_told) moment old new
   passed_over act rest old new may m = record { entries = []; grew = m; passes = λ more p. inr (may, p) }
 
-  pub passed_to : (act : Act) (rest : Reply → Course) (reply : Reply) (coming : Course) (old new : RunnerState) → MayPass old.mark act → Made old [] new → reply ≡ nothing_told → coming ≡ rest reply
+  -- which it does not under the mark where it needs none
+  pub passed_to : (act : Act) (rest : Reply → Course) (reply : Reply) (coming : Course) (old new : RunnerState) → (old.mark ≡ true → NeedsNoMemory act → ⊥) → Made old [] new → reply ≡ nothing_told → coming ≡ rest reply
       → Passed (Asks act rest) coming moment old new
   passed_to act rest reply coming old new may m nothing is =
-      subst (λ (c : Course). Passed (Asks act rest) c moment old new) (sym (is ∙ ap rest nothing)) (passed_over act rest old new may m)
+      subst (λ (c : Course). Passed (Asks act rest) c moment old new) (sym (is ∙ ap rest nothing)) (passed_over act rest old new (may_pass old.mark act may) m)
 
   -- and then the next
   pub passed_then : (one two three : Course) (old mid new : RunnerState) → Passed one two moment old mid → Passed two three moment mid new → Passed one three moment old new

@@ -1,12 +1,14 @@
 -- A course: which acts a session makes, what it writes, and what it knows at the end. This server's own.
-use Rattle.std.specs.Prelude.{◌≡◌, ◌⊎◌, ℕ, Bool, true, List, [], ◌∷◌, ◌++◌, map, Option, None, Some}
+use Rattle.std.specs.Prelude.{◌≡◌, ◌⊎◌, ℕ, Bool, true, false, List, [], ◌∷◌, ◌++◌, map, Option, None, Some}
 use Rattle.histories.specs.History.{entry}
+use Rattle.lobby_state.specs.declared.acts.LobbyAct.TheVariants.{Where, Going, Bye}
 use Rattle.lobby_state.specs.declared.acts.LobbyReply.TheVariants as lobby_reply
+use Rattle.linked_desk.specs.Acts.{needs_memory}
 use Rattle.one_server.specs.declared.act.Act.{Act}
+use Rattle.one_server.specs.declared.act.Act.TheVariants.{Lobby, Desk}
 use Rattle.one_server.specs.declared.act.Timed.{Timed}
 use Rattle.one_server.specs.declared.reply.Reply.{Reply}
 use Rattle.one_server.specs.declared.reply.Reply.TheVariants as reply
-use Rattle.one_server.specs.Acts.{NeedsNoMemory}
 use Rattle.one_server.specs.Running.{Log}
 use Rattle.session_core.specs.Memory.{MemoryState}
 
@@ -66,9 +68,18 @@ Begins (Asks act rest) session moment (e ∷ made) = (e ≡ entry session (timed
 abbrev pub nothing_told : Reply
 nothing_told = reply.Lobby lobby_reply.Done
 
--- an act may be passed over: it ran out of memory, which under the mark no act does that needs none of its own
+-- an act takes memory of its own: all do but a few that end or ask for a place, and those of a desk that take none
+abbrev pub TakesMemory : Act → Type 0
+TakesMemory (Lobby Where) = ⊥
+TakesMemory (Lobby Going) = ⊥
+TakesMemory (Lobby Bye) = ⊥
+TakesMemory (Desk desk serial act) = needs_memory act ≡ true
+TakesMemory _ = Unit {0}
+
+-- an act may be passed over, since it ran out of memory: under the mark one that takes memory of its own, else any
 abbrev pub MayPass : Bool → Act → Type 0
-MayPass mark act = mark ≡ true → NeedsNoMemory act → ⊥
+MayPass true act = TakesMemory act
+MayPass false act = Unit {0}
 
 -- the session went by the course to its end with these entries, and passed over acts that ran out of memory
 abbrev pub Passes : Bool → Course → ℕ → ℕ → Log → Type 0

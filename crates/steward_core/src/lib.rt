@@ -11,4 +11,4 @@ mod saving;
 mod turn;
 
 pub use clearing::{ClearingEnd, clearing_turn};
-pub use turn::{StewardEnd, steward_turn};
+pub use turn::{StewardEnd, end_of_turn, steward_turn, turn_by_halves};

@@ -42,15 +42,35 @@ pub fn steward_turn<R: Runner, P: Keeper>(
     ensures fault { result ≡ StewardEnd.KeeperFault → Rose (P.faults keeper.old) (P.faults keeper.new) }
     ensures counted { P.faults keeper.old ≤ P.faults keeper.new }
 {
+    let (cleared, saved) = turn_by_halves(alloc, runner, keeper, moment);
+    end_of_turn(cleared, saved)
+}
+
+/// Makes a turn of the steward, as `steward_turn` does, and says how each half of it ended: where the keeper failed in
+/// the second one, the first may have run out of memory all the same.
+pub fn turn_by_halves<R: Runner, P: Keeper>(
+    alloc: Global,
+    runner: &mut R,
+    keeper: &mut P,
+    moment: u64,
+) -> (ClearingEnd, StewardEnd)
+    requires { moment ≤ last_moment }
+    ensures home { R.home runner.new ≡ R.home runner.old }
+    ensures turn { (turn : TakesTurn moment (end_of_turn result.0 result.1) (P.table keeper.old) (P.table keeper.new)
+        (R.state runner.old) (R.state runner.new)) × (turn.turn.cleared ≡ result.0) }
+    ensures agrees { StaysAgreed (P.table keeper.old) (P.table keeper.new) (R.state runner.old) (R.state runner.new) }
+    ensures fault { result.1 ≡ StewardEnd.KeeperFault → Rose (P.faults keeper.old) (P.faults keeper.new) }
+    ensures counted { P.faults keeper.old ≤ P.faults keeper.new }
+{
     // What is known of every runner is known from here on.
     let _session = runner.session();
     let cleared = clearing_turn(alloc, runner, moment);
     let saved = save_orders(alloc, runner, keeper, moment);
-    end_of_turn(cleared, saved)
+    (cleared, saved)
 }
 
 /// How a turn ended whose halves ended like this.
-fn end_of_turn(cleared: ClearingEnd, saved: StewardEnd) -> StewardEnd
+pub fn end_of_turn(cleared: ClearingEnd, saved: StewardEnd) -> StewardEnd
     ensures { result ≡ end_of_turn cleared saved }
 {
     match (cleared, saved) {

@@ -4,11 +4,9 @@ ghost use Rattle.fics_words.specs.Handle.{key_of};
 ghost use Rattle.fics_words.specs.Seats.{seat_list};
 ghost use Rattle.linked_desk.specs.Seating.{AllDiffer, HasPairsFor, names_of, sessions_of};
 
-use crate::table::{ANN, Accounts, BEN, Sitting, desk_with, player};
+use crate::table::{ANN, Accounts, BEN, Sitting, player};
 use chess_model::{Terms, Variant};
 use fics_words::{Opponents, Player, Seats};
-use linked_desk::Desk;
-use std::alloc::Global;
 use std::process::Abort;
 
 /// The session that plays White of the second board, Ben's partner.
@@ -16,14 +14,6 @@ pub const CAT: u32 = 3;
 
 /// The session that plays Black of the second board, Ann's partner.
 pub const DAN: u32 = 4;
-
-/// All four, in the order of their seats.
-pub const FOUR: &[u32] = &[ANN, BEN, CAT, DAN];
-
-/// Desk 1 with an untimed game of bughouse that began at moment 0.
-pub fn desk_with_pair(rt: &impl Abort, alloc: Global) -> Desk {
-    desk_with(rt, alloc, &four(rt, Accounts::Nobody))
-}
 
 /// Ann and Ben have White and Black of the first board, Cat and Dan those of the second, in an untimed game.
 pub fn four(rt: &impl Abort, accounts: Accounts) -> Sitting

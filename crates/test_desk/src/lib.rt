@@ -1,31 +1,21 @@
-//! Tests of the desks, one file a subject. There is nothing else here: what is tested stands in the crates below, and a
-//! crate with tests is proved twice.
+//! Tests of games at a desk, and in folders of their own of the boards below them, games that are played again, and of
+//! the texts that players see. Those of the desks stand here where no line of a player reaches: acts of another game's serial, at a vacant desk and of who has
+//! no seat, what is counted to its end, milliseconds, and games as they lie in a store. What players bring about by
+//! lines stands in `test_evenings`.
 #![tactic(auto)]
 
 #[cfg(test)]
-mod adjourned;
-#[cfg(test)]
-mod finished;
+mod boards;
 #[cfg(test)]
 mod four;
 #[cfg(test)]
-mod hands;
-#[cfg(test)]
 mod kept;
 #[cfg(test)]
-mod leaving;
-#[cfg(test)]
 mod offers;
-#[cfg(test)]
-mod pair_ends;
-#[cfg(test)]
-mod pair_hands;
 #[cfg(test)]
 mod played;
 #[cfg(test)]
 mod refused;
-#[cfg(test)]
-mod resumed;
 #[cfg(test)]
 mod shown;
 #[cfg(test)]
@@ -36,5 +26,7 @@ mod stamped;
 mod stored;
 #[cfg(test)]
 mod table;
+#[cfg(test)]
+mod text;
 #[cfg(test)]
 mod watching;

@@ -1,4 +1,4 @@
-//! Games that are played by acts alone.
+//! What a desk gives whoever asks behind the end of its game, and when it becomes vacant.
 
 use crate::stages::{Case, Stage, each_case};
 use crate::table::Given::Refused;
@@ -7,36 +7,18 @@ use chess_model::Colour;
 use fics_words::Refusal;
 use linked_desk::{Ended, Why};
 use std::test::Fail;
-use style12_writer::Viewer;
-use test_steps::boards::KNIGHT_FOR_BEN;
 
-/// What a game of 2 minutes and 12 seconds is announced by.
-const CREATED: &str = "{Game 1 (Ann vs. Ben) Creating 2 12 chess match.}";
-
-const RESIGNED: &str = "{Game 1 (Ann vs. Ben) Ben resigns} 1-0";
-
-/// Black, who is to move and sees the board from Black's side.
-const BLACK_TO_MOVE: Viewer = Viewer {
-    relation: 1,
-    flip: true,
-};
-
-const THREE_MOVES: &[Step] = &[
+const RESIGNATION: &[Step] = &[
     Step(3_000, ANN, Does::Move("e2e4"), Given::Done),
     Step(5_000, BEN, Does::Move("e7e5"), Given::Done),
     Step(5_000, BEN, Does::Fetch, Given::Items(4, false)),
-    Step(9_000, ANN, Does::Move("g1f3"), Given::Done),
-];
-
-const RESIGNATION: &[Step] = &[
-    Step(9_000, ANN, Does::Fetch, Given::Items(5, false)),
     Step(9_500, BEN, Does::Resign, Given::Done),
 ];
 
 const FAREWELLS: &[Step] = &[
-    Step(9_500, BEN, Does::Fetch, Given::Items(2, true)),
+    Step(9_500, BEN, Does::Fetch, Given::Items(1, true)),
     Step(9_500, BEN, Does::Fetch, Refused(Refusal::NotWatching)),
-    Step(9_500, ANN, Does::Fetch, Given::Items(1, true)),
+    Step(9_500, ANN, Does::Fetch, Given::Items(5, true)),
 ];
 
 /// White has left board 1, so that Black has won.
@@ -62,17 +44,12 @@ const A_GAME_THAT_IS_FLAGGED_STEPS: &[Step] = &[
 ];
 
 const CASES: &[Case] = &[
-    // the board line and the end line of a game of a few moves, from the documents of this server
     Case {
-        name: "a_game_that_is_resigned",
+        name: "a_game_that_is_over",
         opening: Opening::Chess(2, 12),
         stages: &[
-            Stage::Clocks([120_000, 120_000]),
-            Stage::Begins(CREATED),
-            Stage::Makes(THREE_MOVES),
-            Stage::ShowsBoard(BLACK_TO_MOVE, KNIGHT_FOR_BEN),
             Stage::Makes(RESIGNATION),
-            Stage::ShowsEnd(ANN, RESIGNED),
+            Stage::Stays,
             Stage::Makes(FAREWELLS),
             Stage::Clears,
         ],
@@ -95,7 +72,7 @@ const CASES: &[Case] = &[
     },
     // White has a minute and thinks from moment 0 on; an act never counts as earlier than the one before it
     Case {
-        name: "a_game_that_is_flagged",
+        name: "a_flag_at_an_earlier_moment",
         opening: Opening::Chess(1, 0),
         stages: &[
             Stage::Makes(A_GAME_THAT_IS_FLAGGED_STEPS),
@@ -105,6 +82,6 @@ const CASES: &[Case] = &[
 ];
 
 #[test]
-fn games_are_played(rt: HostRuntime) -> Result<(), Fail> {
+fn games_are_over(rt: HostRuntime) -> Result<(), Fail> {
     each_case(&rt, rt.alloc(), CASES)
 }

@@ -30,16 +30,6 @@ const AT_THE_GAME: &[Step] = &[
     Step(0, ANN, Move("e2e4"), Done),
 ];
 
-const A_PINNED_KNIGHT_STEPS: &[Step] = &[
-    Step(0, ANN, Move("e2e4"), Done),
-    Step(0, BEN, Move("e7e5"), Done),
-    Step(0, ANN, Move("b1c3"), Done),
-    Step(0, BEN, Move("f8b4"), Done),
-    Step(0, ANN, Move("d2d3"), Done),
-    Step(0, BEN, Move("a7a6"), Done),
-    Step(0, ANN, Move("c3d5"), Refused(Refusal::LeavesKing)),
-];
-
 const REFUSALS_AFTER_THE_END_STEPS: &[Step] = &[
     Step(0, BEN, Resign, Done),
     Step(0, ANN, Move("e2e4"), Refused(Refusal::GameOver)),
@@ -67,13 +57,6 @@ const CASES: &[Case] = &[
         Opening::Chess(1, 0),
         AT_ANOTHER_GAME,
         AT_THE_GAME,
-    ),
-    // a pinned man, in the order of the moves that pin it
-    Case(
-        "a_pinned_knight",
-        Opening::Chess(0, 0),
-        &[],
-        A_PINNED_KNIGHT_STEPS,
     ),
     Case(
         "refusals_after_the_end",

@@ -1,26 +1,9 @@
 //! What the items that a session hasn't been given say when they are printed.
 
-use crate::table::{Opening, SERIAL, Step, desk_of, first_failing};
 use linked_desk::{Desk, Item};
 use memory::NoMemory;
 use std::alloc::Global;
-use std::process::Abort;
-use style12_writer::{BoardView, Viewer, end_line, is_decisive, line_b1, line12};
-
-/// What stands at the desk, the steps there, and what is told of them.
-pub struct Told {
-    pub opening: Opening,
-    pub steps: &'static [Step],
-    pub rows: &'static [&'static str],
-}
-
-/// Whether the first item that a session hasn't been given is this line of text.
-pub fn begins_with_talk(desk: &Desk, session: u32, text: &str) -> bool {
-    match desk.ahead(session).first() {
-        Some(Item::Talk(line)) => line.bytes() == text.as_bytes(),
-        _ => false,
-    }
-}
+use style12_writer::{BoardView, end_line, is_decisive, line_b1};
 
 /// The board that the last item shows that a session hasn't been given.
 fn last_board(desk: &Desk, session: u32) -> Option<&BoardView> {
@@ -35,20 +18,6 @@ pub fn last_clocks(desk: &Desk, session: u32) -> Option<[i64; 2]> {
     match last_board(desk, session) {
         Some(view) => Some(view.remaining),
         None => None,
-    }
-}
-
-/// Whether the last item is a board, of which this viewer is told that line.
-pub fn ends_with_board(
-    alloc: Global,
-    desk: &Desk,
-    session: u32,
-    viewer: Viewer,
-    text: &str,
-) -> Result<bool, NoMemory> {
-    match last_board(desk, session) {
-        Some(view) => Ok(line12(alloc, view, viewer)?.bytes() == text.as_bytes()),
-        None => Ok(false),
     }
 }
 
@@ -93,48 +62,6 @@ pub fn first_told_otherwise(
     rows: &[&str],
 ) -> Result<Option<usize>, NoMemory> {
     first_otherwise(alloc, desk.ahead(session), rows)
-}
-
-/// The same of the last items alone, as many as there are rows.
-pub fn last_told_otherwise(
-    alloc: Global,
-    desk: &Desk,
-    session: u32,
-    rows: &[&str],
-) -> Result<Option<usize>, NoMemory> {
-    let items = desk.ahead(session);
-    if items.len() < rows.len() {
-        return Ok(Some(items.len()));
-    }
-    first_otherwise(alloc, &items[items.len() - rows.len()..], rows)
-}
-
-/// Whether each of these sessions is told that after the steps at a desk with that opening.
-pub fn are_told(
-    rt: &impl Abort,
-    alloc: Global,
-    told: &Told,
-    sessions: &[u32],
-) -> Result<bool, NoMemory> {
-    let mut desk = desk_of(rt, alloc, told.opening);
-    if first_failing(&mut desk, SERIAL, told.steps).is_some() {
-        return Ok(false);
-    }
-    all_are_told(alloc, &desk, told.rows, sessions)
-}
-
-fn all_are_told(
-    alloc: Global,
-    desk: &Desk,
-    rows: &[&str],
-    sessions: &[u32],
-) -> Result<bool, NoMemory> {
-    for session in sessions {
-        if first_told_otherwise(alloc, desk, *session, rows)?.is_some() {
-            return Ok(false);
-        }
-    }
-    Ok(true)
 }
 
 fn first_otherwise(

@@ -1,18 +1,12 @@
 //! Stages of a game at a desk of two, each as it has to be.
 
-use crate::shown::{
-    begins_with_talk, ends_with_board, ends_with_end, first_told_otherwise, last_clocks,
-};
-use crate::table::{
-    ANN, BEN, Does, Given, Opening, SERIAL, Step, cleared, desk_of, first_failing, is_given,
-    outcome,
-};
+use crate::shown::{ends_with_end, first_told_otherwise, last_clocks};
+use crate::table::{ANN, Opening, SERIAL, Step, cleared, desk_of, first_failing, outcome};
 use linked_desk::{Desk, Ended};
 use memory::NoMemory;
 use std::alloc::Global;
 use std::process::Abort;
 use std::test::Fail;
-use style12_writer::Viewer;
 use test_steps::first_wrong;
 
 /// A stage of a game.
@@ -20,14 +14,8 @@ use test_steps::first_wrong;
 pub enum Stage {
     /// These steps are made, each given what it has to be.
     Makes(&'static [Step]),
-    /// These half-moves are played in turn.
-    Plays(&'static [&'static str]),
     /// Ann's board shows these times of White and Black, in milliseconds.
     Clocks([i64; 2]),
-    /// The first that Ben is told is that.
-    Begins(&'static str),
-    /// The last that Ben is told is a board, of which this viewer has that line.
-    ShowsBoard(Viewer, &'static str),
     /// A session is told these rows, as `first_told_otherwise` has them, and no others.
     Tells(u32, &'static [&'static str]),
     /// The last that a session is told is an end by that line.
@@ -47,21 +35,8 @@ pub struct Case {
     pub stages: &'static [Stage],
 }
 
-/// The place of the first half-move that isn't done, if one isn't.
-fn first_refused(desk: &mut Desk, half_moves: &[&'static str]) -> Option<usize> {
-    for (place, half_move) in half_moves.iter().enumerate() {
-        let session = if place % 2 == 0 { ANN } else { BEN };
-        let step = Step(0, session, Does::Move(half_move), Given::Done);
-        if !is_given(desk, SERIAL, &step) {
-            return Some(place);
-        }
-    }
-    None
-}
-
 fn holds(alloc: Global, desk: &mut Desk, stage: Stage) -> Result<bool, NoMemory> {
     match stage {
-        Stage::ShowsBoard(viewer, line) => ends_with_board(alloc, desk, BEN, viewer, line),
         Stage::ShowsEnd(session, line) => ends_with_end(alloc, desk, session, line),
         Stage::Tells(session, rows) => is_told(alloc, desk, session, rows),
         _ => Ok(is_so(desk, stage)),
@@ -77,9 +52,7 @@ fn is_told(alloc: Global, desk: &Desk, session: u32, rows: &[&str]) -> Result<bo
 fn is_so(desk: &mut Desk, stage: Stage) -> bool {
     match stage {
         Stage::Makes(steps) => first_failing(desk, SERIAL, steps).is_none(),
-        Stage::Plays(half_moves) => first_refused(desk, half_moves).is_none(),
         Stage::Clocks(times) => last_clocks(desk, ANN) == Some(times),
-        Stage::Begins(text) => begins_with_talk(desk, BEN, text),
         Stage::Outcome(ended, viewers) => outcome(desk) == (ended, viewers),
         Stage::Stays => desk.serial() == Some(SERIAL),
         Stage::Clears => cleared(desk),

@@ -15,7 +15,7 @@ use memory::NoMemory;
 use std::alloc::Global;
 use std::process::Abort;
 use std::test::Fail;
-use test_game_steps::{Halves, halves_of};
+use test_steps::games::{Halves, halves_of};
 use test_steps::limits::MINUTES;
 
 /// What comes of a stored game.

@@ -1,15 +1,14 @@
 //! A desk with two players, and steps at it, each with what it has to be given.
-ghost use Rattle.std.specs.Prelude.{◌≡◌, IfSome, length};
+ghost use Rattle.std.specs.Prelude.{IfSome};
 ghost use Rattle.clock_ledger.specs.Span.{IsStamp};
 ghost use Rattle.linked_desk.specs.Acts.{FitsDeskAct};
-ghost use Rattle.desk_boards.specs.Boards.{board_numbers};
 ghost use Rattle.linked_desk.specs.Seating.{AllDiffer, HasPairsFor, names_of, sessions_of};
 
 use crate::four::four;
-use chess_model::{Kind, MoveWord, Square, Terms, Variant};
+use chess_model::{MoveWord, Square, Terms, Variant};
 use clock_ledger::STAMP_CYCLE;
 use fics_words::{Fail, Handle, Opponents, Player, Refusal, Seats};
-use linked_desk::{Desk, DeskAct, DeskReply, Ended, Offer};
+use linked_desk::{Desk, DeskAct, DeskReply, Ended};
 use std::alloc::Global;
 use std::process::Abort;
 use test_steps::first_wrong;
@@ -27,14 +26,12 @@ pub const STRANGER: u32 = 3;
 /// What a session does at the desk.
 #[derive(Clone, Copy)]
 pub enum Does {
-    /// Moves by two squares, as `e2e4`, or drops, as `P@e4`.
+    /// Moves by two squares, as `e2e4`.
     Move(&'static str),
     /// Moves, with the client's stamp.
     Stamped(&'static str, u32),
     /// Its client acknowledges the board with this stamp.
     Acked(u32),
-    Make(Offer),
-    Accept,
     Resign,
     Flag,
     Fetch,
@@ -61,8 +58,6 @@ pub struct Step(pub u32, pub u32, pub Does, pub Given);
 pub enum Accounts {
     Nobody,
     Everybody,
-    /// All but Ben.
-    NotBen,
 }
 
 /// The player of that session, whose account is there or not.
@@ -70,15 +65,14 @@ pub fn player(rt: &impl Abort, accounts: Accounts, session: u32, name: &str) -> 
     Player {
         session,
         name: Handle::read(name.as_bytes()).expect(rt, "a handle"),
-        registered: has_account(accounts, session),
+        registered: has_account(accounts),
     }
 }
 
-fn has_account(accounts: Accounts, session: u32) -> bool {
+fn has_account(accounts: Accounts) -> bool {
     match accounts {
         Accounts::Nobody => false,
         Accounts::Everybody => true,
-        Accounts::NotBen => session != BEN,
     }
 }
 
@@ -91,7 +85,7 @@ pub struct Sitting {
 
 /// Desk 1 with a game of chess between Ann and Ben that began at moment 0.
 pub fn desk_with_game(rt: &impl Abort, alloc: Global, minutes: u16, increment: u16) -> Desk {
-    let sitting = two(rt, Accounts::Nobody, minutes, increment, Variant::Chess);
+    let sitting = two(rt, Accounts::Nobody, minutes, increment);
     desk_with(rt, alloc, &sitting)
 }
 
@@ -107,15 +101,8 @@ pub fn desk_with(rt: &impl Abort, alloc: Global, sitting: &Sitting) -> Desk
     desk
 }
 
-/// Ann and Ben, who play at one board.
-fn two(
-    rt: &impl Abort,
-    accounts: Accounts,
-    minutes: u16,
-    increment: u16,
-    variant: Variant,
-) -> Sitting
-    requires pairs { length (board_numbers variant) ≡ 1 }
+/// Ann and Ben, who play chess.
+fn two(rt: &impl Abort, accounts: Accounts, minutes: u16, increment: u16) -> Sitting
     ensures pairs { HasPairsFor result.terms result.seats }
     ensures sessions { AllDiffer (sessions_of result.seats) }
     ensures names { AllDiffer (names_of result.seats) }
@@ -128,7 +115,7 @@ fn two(
         terms: Terms {
             minutes,
             increment,
-            variant,
+            variant: Variant::Chess,
             colour: None,
         },
         seats: Seats {
@@ -144,20 +131,12 @@ pub enum Opening {
     Vacant,
     /// A game of chess between Ann and Ben with these minutes and this increment.
     Chess(u16, u16),
-    /// An untimed game of crazyhouse between Ann and Ben.
-    House,
     /// An untimed game of bughouse of four.
     Pair,
     /// A game of chess between Ann and Ben, who have accounts, with these minutes and this increment.
     Members(u16, u16),
-    /// An untimed game of crazyhouse between the same.
-    MembersHouse,
-    /// An untimed game of chess where Ben has no account.
-    NotBen,
     /// An untimed game of bughouse of four who have accounts.
     PairOfMembers,
-    /// The same where Ben has none.
-    PairNotBen,
 }
 
 /// The desk with that, begun at moment 0.
@@ -175,19 +154,11 @@ pub fn who_sits(rt: &impl Abort, opening: Opening) -> Sitting
     ensures names { AllDiffer (names_of result.seats) }
 {
     match opening {
-        Opening::Vacant => two(rt, Accounts::Nobody, 0, 0, Variant::Chess),
-        Opening::Chess(minutes, increment) => {
-            two(rt, Accounts::Nobody, minutes, increment, Variant::Chess)
-        }
-        Opening::House => two(rt, Accounts::Nobody, 0, 0, Variant::Crazyhouse),
+        Opening::Vacant => two(rt, Accounts::Nobody, 0, 0),
+        Opening::Chess(minutes, increment) => { two(rt, Accounts::Nobody, minutes, increment) }
         Opening::Pair => four(rt, Accounts::Nobody),
-        Opening::Members(minutes, increment) => {
-            two(rt, Accounts::Everybody, minutes, increment, Variant::Chess)
-        }
-        Opening::MembersHouse => two(rt, Accounts::Everybody, 0, 0, Variant::Crazyhouse),
-        Opening::NotBen => two(rt, Accounts::NotBen, 0, 0, Variant::Chess),
+        Opening::Members(minutes, increment) => { two(rt, Accounts::Everybody, minutes, increment) }
         Opening::PairOfMembers => four(rt, Accounts::Everybody),
-        Opening::PairNotBen => four(rt, Accounts::NotBen),
     }
 }
 
@@ -197,7 +168,7 @@ pub fn first_failing(desk: &mut Desk, serial: u64, steps: &[Step]) -> Option<usi
 }
 
 /// Whether a step at the game of that serial is given what it has to be.
-pub fn is_given(desk: &mut Desk, serial: u64, step: &Step) -> bool {
+fn is_given(desk: &mut Desk, serial: u64, step: &Step) -> bool {
     what_comes(desk, serial, step) == step.3
 }
 
@@ -252,8 +223,6 @@ fn act_of(does: Does) -> Option<DeskAct>
         Does::Acked(stamp) => Some(DeskAct::Acked {
             stamp: stamp_of(stamp)?,
         }),
-        Does::Make(offer) => Some(DeskAct::Make { offer }),
-        Does::Accept => Some(DeskAct::Accept),
         Does::Resign => Some(DeskAct::Resign),
         Does::Flag => Some(DeskAct::Flag),
         Does::Fetch => Some(DeskAct::Fetch),
@@ -282,31 +251,11 @@ fn move_of(text: &[u8], stamp: Option<u32>) -> Option<DeskAct>
 
 fn word_of(text: &[u8]) -> Option<MoveWord> {
     match text {
-        [kind, b'@', file, rank] => Some(MoveWord::Drop {
-            kind: kind_of(*kind)?,
-            to: square(*file, *rank)?,
-        }),
         [a, b, c, d] => Some(MoveWord::Coordinate {
             from: square(*a, *b)?,
             to: square(*c, *d)?,
             promo: None,
         }),
-        [a, b, c, d, letter] => Some(MoveWord::Coordinate {
-            from: square(*a, *b)?,
-            to: square(*c, *d)?,
-            promo: Some(kind_of(*letter)?),
-        }),
-        _ => None,
-    }
-}
-
-fn kind_of(letter: u8) -> Option<Kind> {
-    match letter {
-        b'P' => Some(Kind::Pawn),
-        b'N' => Some(Kind::Knight),
-        b'B' => Some(Kind::Bishop),
-        b'R' => Some(Kind::Rook),
-        b'Q' => Some(Kind::Queen),
         _ => None,
     }
 }

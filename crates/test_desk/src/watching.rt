@@ -1,9 +1,9 @@
-//! Looking on at a game, and what is said there.
+//! Looking on at another game than the desk has, and at a vacant desk; and how much is said at one.
 ghost use Rattle.std.specs.Prelude.{IfSome};
 ghost use Rattle.linked_desk.specs.Acts.{FitsDeskAct};
 
 use crate::table::Given::Refused;
-use crate::table::{ANN, Given, Opening, SERIAL, STRANGER, answered, desk_of};
+use crate::table::{ANN, Given, Opening, SERIAL, answered, desk_of};
 use fics_words::{Line, Refusal};
 use linked_desk::{Desk, DeskAct};
 use std::alloc::Global;
@@ -19,8 +19,6 @@ enum Does {
     Remark,
     /// Says something so many times, and the last of them is given that.
     RemarkTimes(u16),
-    Fetch,
-    Resign,
 }
 
 /// A session, what it does, and what it has to be given.
@@ -33,39 +31,6 @@ const NOWHERE: &[Step] = &[
     Step(ANN, Does::Unwatch, Refused(Refusal::NotWatching)),
     Step(ANN, Does::Show, Refused(Refusal::NoSuchGame)),
     Step(ANN, Does::Remark, Refused(Refusal::NoSuchGame)),
-];
-
-/// A stranger looks on, says something, goes, comes again and is told the end; and comes once more after that.
-const LOOKING_ON: &[Step] = &[
-    Step(STRANGER, Does::Remark, Refused(Refusal::NotWatching)),
-    Step(STRANGER, Does::Unwatch, Refused(Refusal::NotWatching)),
-    Step(STRANGER, Does::Show, Given::Items(1, false)),
-    Step(ANN, Does::Watch, Refused(Refusal::AlreadyWatching)),
-    Step(ANN, Does::Unwatch, Refused(Refusal::NotWatching)),
-    Step(STRANGER, Does::Watch, Given::Items(1, false)),
-    Step(STRANGER, Does::Watch, Refused(Refusal::AlreadyWatching)),
-    Step(STRANGER, Does::Fetch, Given::Items(0, false)),
-    Step(STRANGER, Does::Remark, Given::Done),
-    Step(ANN, Does::Remark, Given::Done),
-    Step(STRANGER, Does::Fetch, Given::Items(2, false)),
-    // the game's line and its board come first
-    Step(ANN, Does::Fetch, Given::Items(4, false)),
-    Step(STRANGER, Does::Unwatch, Given::Done),
-    Step(STRANGER, Does::Fetch, Refused(Refusal::NotWatching)),
-    Step(STRANGER, Does::Watch, Given::Items(1, false)),
-    Step(ANN, Does::Resign, Given::Done),
-    Step(STRANGER, Does::Fetch, Given::Items(1, true)),
-    Step(STRANGER, Does::Unwatch, Refused(Refusal::NotWatching)),
-    Step(STRANGER, Does::Watch, Given::Items(1, false)),
-    Step(STRANGER, Does::Remark, Given::Done),
-    Step(STRANGER, Does::Fetch, Given::Items(1, true)),
-];
-
-/// Where there are hands, they are shown to whoever asks, and not to who begins to look on.
-const HOUSE: &[Step] = &[
-    Step(STRANGER, Does::Show, Given::Items(2, false)),
-    Step(STRANGER, Does::Watch, Given::Items(1, false)),
-    Step(ANN, Does::Show, Given::Items(2, false)),
 ];
 
 /// So many remarks are told, and then no more.
@@ -88,13 +53,6 @@ const CASES: &[(&str, Opening, u64, &[Step])] = &[
         SERIAL,
         NOWHERE,
     ),
-    (
-        "a_stranger_looks_on",
-        Opening::Chess(0, 0),
-        SERIAL,
-        LOOKING_ON,
-    ),
-    ("hands_are_shown", Opening::House, SERIAL, HOUSE),
     ("remarks_are_counted", Opening::Chess(0, 0), SERIAL, REMARKS),
 ];
 
@@ -153,8 +111,6 @@ fn act_of(alloc: Global, does: Does) -> Option<DeskAct>
         Does::Remark | Does::RemarkTimes(_) => Some(DeskAct::Remark {
             text: remark(alloc)?,
         }),
-        Does::Fetch => Some(DeskAct::Fetch),
-        Does::Resign => Some(DeskAct::Resign),
     }
 }
 

@@ -13,6 +13,9 @@ use test_server_steps::{Said, in_short};
 use test_steps::first_wrong;
 use turn_chain::{Gate, OpenGate};
 
+/// How many tries are made at the gate.
+const TRIES: usize = 4;
+
 /// What a try came to.
 #[derive(Clone, Copy, PartialEq, Eq)]
 enum Came {
@@ -20,12 +23,12 @@ enum Came {
     Done(Said),
 }
 
-/// The gate of Ann's seat: once desk 1 is out, Cat tries a Move there, a Move at desk 2, and Where.
+/// The gate of Ann's seat: once desk 1 is out, Cat tries a Move there, a Move at desk 2, Where and Who.
 #[derive(Drop)]
 struct Visit<'a, R: Wait> {
     alloc: Global,
     cat: RefCell<HallSeat<'a, OpenGate, R>>,
-    came: Cell<[Option<Came>; 3]>,
+    came: Cell<[Option<Came>; TRIES]>,
 }
 
 impl<R: Wait> Gate for Visit<'_, R> {
@@ -42,15 +45,16 @@ impl<R: Wait> Gate for Visit<'_, R> {
     }
 }
 
-/// The three tries of a session.
+/// The tries of a session.
 fn tries<R: Wait>(
     seat: &mut HallSeat<'_, OpenGate, R>,
     alloc: Global,
-) -> Result<[Option<Came>; 3], Failure> {
+) -> Result<[Option<Came>; TRIES], Failure> {
     let there = tried(seat, alloc, Game::First, Does::Move(12, 28))?;
     let here = tried(seat, alloc, Game::Second, Does::Move(12, 28))?;
     let lobby = tried(seat, alloc, Game::Second, Does::Where)?;
-    Ok([Some(there), Some(here), Some(lobby)])
+    let players = tried(seat, alloc, Game::Second, Does::Who)?;
+    Ok([Some(there), Some(here), Some(lobby), Some(players)])
 }
 
 fn tried<R: Wait>(
@@ -89,7 +93,7 @@ fn visited<R: Wait>(
     rt: &R,
     alloc: Global,
     steps: &[Step],
-) -> Result<([Option<Came>; 3], Option<usize>), Failure> {
+) -> Result<([Option<Came>; TRIES], Option<usize>), Failure> {
     let (hall, first) = hall(alloc)?;
     let (one, two, three, four) = four_passes(&hall, first);
     let open = OpenGate::new();
@@ -103,9 +107,9 @@ fn visited<R: Wait>(
 
 /// Both, where the second is one.
 fn both(
-    came: [Option<Came>; 3],
+    came: [Option<Came>; TRIES],
     differing: Result<Option<usize>, Failure>,
-) -> Result<([Option<Came>; 3], Option<usize>), Failure> {
+) -> Result<([Option<Came>; TRIES], Option<usize>), Failure> {
     Ok((came, differing?))
 }
 
@@ -114,7 +118,7 @@ fn visited_by<'a, R: Wait>(alloc: Global, cat: HallSeat<'a, OpenGate, R>) -> Vis
     Visit {
         alloc,
         cat: RefCell::new(cat),
-        came: Cell::new([None; 3]),
+        came: Cell::new([None; TRIES]),
     }
 }
 
@@ -154,6 +158,7 @@ fn a_gate_inside_the_hall(rt: HostRuntime) -> Result<(), Fail> {
         Some(Came::Busy(1)),
         Some(Came::Done(Said::Done)),
         Some(Came::Done(Said::Places(1))),
+        Some(Came::Done(Said::Lines(4))),
     ];
     assert!(rt; came == expected);
     Ok(())

@@ -32,4 +32,8 @@ mod stamps;
 #[cfg(test)]
 mod steps;
 #[cfg(test)]
+mod steward;
+#[cfg(test)]
+mod store;
+#[cfg(test)]
 mod threads;

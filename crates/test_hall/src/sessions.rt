@@ -9,7 +9,7 @@ use std::alloc::Global;
 use std::sync::Wait;
 use std::test::Fail;
 use test_server_steps::server;
-use test_talk_steps::{Comes, answered};
+use test_server_steps::talk::{Comes, answered};
 use turn_chain::OpenGate;
 
 /// The moment in milliseconds, the session, and what comes from its player.

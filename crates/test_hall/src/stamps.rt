@@ -8,8 +8,8 @@ use session_core::Session;
 use std::alloc::Global;
 use std::sync::Wait;
 use std::test::Fail;
+use test_server_steps::talk::{Row, STAMPED_GAME, answers, first_failing};
 use test_steps::first_wrong;
-use test_talk_steps::{Row, STAMPED_GAME, answers, first_failing};
 use turn_chain::OpenGate;
 
 /// The place of the first row that is answered otherwise at a hall with an empty lobby, if one is.

@@ -1,7 +1,7 @@
-//! Where a player plays, and where a game is played.
+//! Where a player plays, and where a game is played: the desk and the seat, and who isn't in.
 ghost use Rattle.lobby_state.specs.Acts.{FitsLobby};
 
-use crate::steps::{CHESS, DONE, HOUSE, STRANGE, Step, hall, is_as_expected};
+use crate::steps::{CHESS, DONE, STRANGE, Step, hall, is_as_expected};
 use fics_words::{Fail as Refused, Handle};
 use lobby_state::{Lobby, LobbyAct, LobbyReply};
 use memory::NoMemory;
@@ -25,38 +25,19 @@ enum Looking {
 
 use Looking::{Number, Other, Player};
 
-/// Two games are played: ann with ben at desk 1, and cid, who has Black, with dan at desk 2.
+/// Ann and Ben play at desk 1.
 const STEPS: &[Looking] = &[
     Other(Step::Enter(1, *b"ann", DONE)),
     Other(Step::Enter(2, *b"ben", DONE)),
-    Other(Step::Enter(3, *b"cid", DONE)),
-    Other(Step::Enter(4, *b"dan", DONE)),
-    Other(Step::Enter(5, *b"eve", DONE)),
     Other(Step::Match(1, *b"ben", CHESS, DONE)),
     Other(Step::Start(2, 1, 1, 1)),
-    Other(Step::Match(3, *b"dan", HOUSE, DONE)),
-    Other(Step::Start(4, 2, 2, 4)),
-    Number(5, 1, Found(DONE, 1, 0)),
-    Number(1, 3, Found(DONE, 2, 0)),
-    // chess and crazyhouse have one board
-    Number(5, 2, Found(46, 0, 0)),
-    Number(5, 4, Found(46, 0, 0)),
-    Number(5, 5, Found(46, 0, 0)),
-    Number(5, 0, Found(46, 0, 0)),
-    Number(5, 255, Found(46, 0, 0)),
-    Number(5, 257, Found(46, 0, 0)),
-    Number(5, 65_535, Found(46, 0, 0)),
+    Number(2, 1, Found(DONE, 1, 0)),
     Number(9, 1, Found(54, 0, 0)),
-    Player(5, *b"ann", Found(DONE, 1, 0)),
-    Player(5, *b"BEN", Found(DONE, 1, 1)),
-    Player(3, *b"cid", Found(DONE, 2, 1)),
-    Player(5, *b"dan", Found(DONE, 2, 0)),
-    Player(5, *b"eve", Found(20, 0, 0)),
-    Player(5, *b"zoe", Found(32, 0, 0)),
+    Player(1, *b"BEN", Found(DONE, 1, 1)),
     Player(9, *b"ann", Found(54, 0, 0)),
     // who is going can't be named
     Other(Step::Going(1)),
-    Player(5, *b"ann", Found(32, 0, 0)),
+    Player(2, *b"ann", Found(32, 0, 0)),
 ];
 
 /// What an act finds. It ensures nothing, so that nothing above it is proved over what an act does.

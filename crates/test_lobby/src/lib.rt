@@ -1,12 +1,11 @@
-//! Tests of the lobby: each refusal that its acts have, and a happy path of each act. The expected answers are those
-//! of the rules of the server, and the expected lines are written out by hand.
+//! Tests of the lobby's acts where no line of a player reaches; what players bring about by lines stands in
+//! `test_evenings`. The expected answers are those of the rules of the server, and the expected lines are written out by
+//! hand.
 //!
 //! A test is a table of steps with what each has to answer. The steps are carried out by functions without contracts,
 //! so a test is proved quickly: what it shows is shown by running it.
 #![tactic(auto)]
 
-#[cfg(test)]
-mod bughouse;
 #[cfg(test)]
 mod finding;
 #[cfg(test)]

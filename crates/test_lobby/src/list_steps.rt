@@ -1,9 +1,8 @@
 //! Steps of lists of names and of the lists that members ask for, each with its expected answer.
 
-use crate::seek_steps::{playing, posts, tells};
+use crate::seek_steps::tells;
 use crate::steps::{DONE, STRANGE, acted, hall, key_of, number_if_done, number_of, numbered};
 use crate::talk_steps::{Talk, answers as talks};
-use chess_model::Terms;
 use lobby_state::{Lobby, LobbyAct, WhichList};
 use memory::NoMemory;
 use std::alloc::Global;
@@ -16,10 +15,6 @@ pub enum Keeping {
     Name(u32, WhichList, [u8; 3], bool, u8),
     /// Puts so many names on the list, each of them a number's.
     Numbered(u32, WhichList, u32),
-    /// Posts a seek, which gets this number.
-    Post(u32, Terms, u16),
-    /// Asks for the plan of taking this seek.
-    Play(u32, u16, u8),
     /// The challenges are these lines.
     Pending(u32, &'static [&'static [u8]]),
     /// The games are these lines.
@@ -52,8 +47,6 @@ fn answers(alloc: Global, lobby: &mut Lobby, step: &Keeping) -> bool {
         Keeping::Numbered(session, which, count) => {
             names_numbered(lobby, *session, *which, *count)
         }
-        Keeping::Post(session, terms, number) => posts(lobby, *session, *terms, *number, 0),
-        Keeping::Play(session, number, refusal) => playing(lobby, *session, *number) == *refusal,
         Keeping::Pending(session, rows) => tells(lobby, *session, &LobbyAct::Pending, rows),
         Keeping::Games(session, rows) => tells(lobby, *session, &LobbyAct::Games, rows),
         Keeping::Outside(session) => is_outside(lobby, *session),

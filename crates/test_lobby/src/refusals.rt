@@ -1,6 +1,5 @@
-//! Each refusal that the acts of the lobby have, in the order in which their causes are tested; those of bughouse and
-//! of simuls stand in files of their own. One can't come by any acts: 35 by the count of games. 47 is tried in
-//! `test_word`, over the accounts alone.
+//! Refusals that no line of a player brings: of who isn't in the hall or is going, and where the hall, a queue or the
+//! desks are full. One can't come by any acts: 35 by the count of games. 47 is tried over the accounts alone.
 
 use crate::login_steps::{Login, Met, first_failing_login};
 use crate::seek_steps::{playing, posts};
@@ -60,24 +59,17 @@ fn entering_is_refused(rt: HostRuntime) -> Result<(), Fail> {
     Ok(())
 }
 
-const CHALLENGES_ARE_REFUSED_STEPS: &[Step] = &[
+const WHO_IS_NOT_IN_IS_REFUSED_STEPS: &[Step] = &[
     Step::Enter(1, *b"Ann", DONE),
-    Step::Enter(2, *b"Ben", DONE),
     Step::Enter(3, *b"Cid", DONE),
-    Step::Enter(4, *b"Dan", DONE),
-    Step::Enter(5, *b"Eve", DONE),
-    Step::Match(4, *b"Eve", CHESS, DONE),
-    Step::Start(5, 1, 1, 4),
+    Step::Match(1, *b"Cid", CHESS, DONE),
     Step::Going(3),
-    Step::Match(9, *b"Zoe", CHESS, 54),
-    Step::Match(1, *b"Zoe", CHESS, 32),
+    Step::Match(9, *b"Ann", CHESS, 54),
+    Step::Ask(9, None, 54),
+    Step::Ask(9, Some(*b"Ann"), 54),
+    // who is going can't be named, not even by itself
     Step::Match(1, *b"Cid", CHESS, 32),
     Step::Match(3, *b"Cid", CHESS, 32),
-    Step::Match(1, *b"ann", PAIRS, 50),
-    Step::Match(4, *b"Dan", CHESS, 50),
-    Step::Match(1, *b"Dan", PAIRS, 33),
-    Step::Match(5, *b"Ann", CHESS, 33),
-    Step::Match(1, *b"Ben", PAIRS, 37),
 ];
 
 const A_FULL_QUEUE_REFUSES_STEPS: &[Step] = &[
@@ -90,26 +82,10 @@ const A_FULL_QUEUE_REFUSES_STEPS: &[Step] = &[
     Step::Match(1, *b"Ben", CHESS, DONE),
 ];
 
-const ACCEPTANCES_ARE_REFUSED_STEPS: &[Step] = &[
-    Step::Enter(1, *b"Ann", DONE),
-    Step::Enter(2, *b"Ben", DONE),
-    Step::Enter(3, *b"Cid", DONE),
-    Step::Match(1, *b"Ben", CHESS, DONE),
-    Step::Ask(9, None, 54),
-    Step::Ask(9, Some(*b"Ann"), 54),
-    Step::Ask(1, None, 34),
-    Step::Ask(2, Some(*b"Cid"), 34),
-    Step::Ask(2, Some(*b"Zoe"), 34),
-    Step::Ask(3, Some(*b"Ann"), 34),
-    Step::Ask(2, Some(*b"ann"), DONE),
-    Step::Ask(2, None, DONE),
-];
-
 /// A name, and the steps of a lobby of its own.
 const CASES: &[(&str, &[Step])] = &[
-    ("challenges_are_refused", CHALLENGES_ARE_REFUSED_STEPS),
+    ("who_is_not_in_is_refused", WHO_IS_NOT_IN_IS_REFUSED_STEPS),
     ("a_full_queue_refuses", A_FULL_QUEUE_REFUSES_STEPS),
-    ("acceptances_are_refused", ACCEPTANCES_ARE_REFUSED_STEPS),
 ];
 
 #[test]

@@ -1,13 +1,11 @@
 //! Steps of adjourned games, each with its expected answer. No game of these steps has a half-move.
-ghost use Rattle.std.specs.Prelude.{◌≡◌, IfOk, IfSome, IsTrue, false, [], ◌∷◌, bytes_eq, map};
-ghost use Rattle.std.specs.List.{IsDistinct};
-ghost use Rattle.fics_words.specs.Handle.{key_of};
+ghost use Rattle.std.specs.Prelude.{IfOk, IfSome};
 ghost use Rattle.game_records.specs.Replays.{Replays};
 
 use crate::login_steps::registering;
 use crate::seek_steps::tells;
 use crate::steps::{
-    CHESS, DONE, PAIRS, STRANGE, Step, acted, carried_out, entering, hall, is_as_expected, key_of,
+    CHESS, DONE, STRANGE, Step, acted, carried_out, entering, hall, is_as_expected, key_of,
     lists_ahead, numbered,
 };
 use collections::Listed;
@@ -24,8 +22,6 @@ use test_steps::first_wrong;
 pub enum Resuming {
     /// A game of these two is put on the shelf under that number.
     Add(u64, [u8; 3], [u8; 3], u8),
-    /// The same of a pair of these four, in the order of their seats.
-    AddPair(u64, [[u8; 3]; 4], u8),
     /// Games of Yan and Zoe of each number up to this one are put on the shelf, and each is taken.
     Fill(u64),
     /// Names this player in a Resume, and doesn't carry its plan out.
@@ -69,9 +65,6 @@ fn answers(alloc: Global, lobby: &mut Lobby, step: &Resuming) -> bool {
     match step {
         Resuming::Add(number, white, black, refusal) => {
             adding(alloc, lobby, *number, white, black) == *refusal
-        }
-        Resuming::AddPair(number, names, refusal) => {
-            adding_pair(alloc, lobby, *number, names) == *refusal
         }
         Resuming::Fill(last) => fills(alloc, lobby, *last),
         Resuming::Plans(session, name, refusal) => plans(lobby, *session, name) == *refusal,
@@ -140,75 +133,9 @@ fn two_of(alloc: Global, white: Handle, black: Handle) -> Result<StoredGame, NoM
     })
 }
 
-/// A pair of the four without a half-move.
-#[tactic(auto, using(crate::proofs::Apart::are_distinct))]
-fn pair_of(alloc: Global, letters: &[[u8; 3]; 4]) -> Option<StoredGame>
-    ensures { IfSome result Replays }
-{
-    let Some(one) = Handle::read(&letters[0]) else {
-        return None;
-    };
-    let Some(two) = Handle::read(&letters[1]) else {
-        return None;
-    };
-    let Some(three) = Handle::read(&letters[2]) else {
-        return None;
-    };
-    let Some(four) = Handle::read(&letters[3]) else {
-        return None;
-    };
-    if !are_apart(one, two, three, four) {
-        return None;
-    }
-    four_of(alloc, one, two, three, four).ok()
-}
-
-fn four_of(
-    alloc: Global,
-    one: Handle,
-    two: Handle,
-    three: Handle,
-    four: Handle,
-) -> Result<StoredGame, NoMemory>
-    requires { IsDistinct bytes_eq (map key_of (one ∷ two ∷ three ∷ four ∷ [])) }
-    ensures { IfOk result Replays }
-{
-    played_by_steps();
-    let mut names = Listed::new(alloc);
-    names.push(one)?;
-    names.push(two)?;
-    names.push(three)?;
-    names.push(four)?;
-    Ok(StoredGame {
-        terms: PAIRS,
-        names,
-        halves: HalfList::new(alloc),
-    })
-}
-
-/// Whether the four are four players.
-fn are_apart(one: Handle, two: Handle, three: Handle, four: Handle) -> bool
-    ensures one_two { IsTrue result → bytes_eq (key_of one) (key_of two) ≡ false }
-    ensures one_three { IsTrue result → bytes_eq (key_of one) (key_of three) ≡ false }
-    ensures one_four { IsTrue result → bytes_eq (key_of one) (key_of four) ≡ false }
-    ensures two_three { IsTrue result → bytes_eq (key_of two) (key_of three) ≡ false }
-    ensures two_four { IsTrue result → bytes_eq (key_of two) (key_of four) ≡ false }
-    ensures three_four { IsTrue result → bytes_eq (key_of three) (key_of four) ≡ false }
-{
-    let [a, b, c, d] = [one.key(), two.key(), three.key(), four.key()];
-    a != b && a != c && a != d && b != c && b != d && c != d
-}
-
 /// Puts a game of the two on the shelf.
 fn adding(alloc: Global, lobby: &mut Lobby, number: u64, white: &[u8], black: &[u8]) -> u8 {
     match game_of(alloc, white, black) {
-        Some(game) => putting(lobby, number, game),
-        None => STRANGE,
-    }
-}
-
-fn adding_pair(alloc: Global, lobby: &mut Lobby, number: u64, letters: &[[u8; 3]; 4]) -> u8 {
-    match pair_of(alloc, letters) {
         Some(game) => putting(lobby, number, game),
         None => STRANGE,
     }

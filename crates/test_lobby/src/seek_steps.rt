@@ -2,13 +2,10 @@
 
 ghost use Rattle.lobby_state.specs.Acts.{FitsLobby};
 
-use crate::steps::{
-    DONE, Step, acted, are_terms, carried_out, hall, is_as_expected, is_start, lists_ahead,
-    number_of,
-};
+use crate::steps::{DONE, Step, acted, are_terms, hall, is_as_expected, lists_ahead, number_of};
 use chess_model::{Colour, Terms, Variant};
 use fics_words::{Fail, Lines, Refusal};
-use lobby_state::{Lobby, LobbyAct, LobbyReply, PairAct, Plan, Var};
+use lobby_state::{Lobby, LobbyAct, LobbyReply, PairAct, Plan};
 use memory::NoMemory;
 use std::alloc::Global;
 use test_steps::first_wrong;
@@ -36,10 +33,6 @@ pub enum Seeking {
     Outside(u32),
     /// Asks for the plan of taking this seek, and doesn't carry it out.
     Ask(u32, u16, u8),
-    /// Takes this seek: the desk, the serial and White's session.
-    Play(u32, u16, u8, u64, u32),
-    /// Doesn't want to hear of seeks from now on.
-    Deaf(u32),
     /// A step of another kind.
     Other(Step),
 }
@@ -70,10 +63,6 @@ fn answers(lobby: &mut Lobby, step: &Seeking) -> bool {
         Seeking::Who(session, rows) => tells(lobby, *session, &LobbyAct::Who, rows),
         Seeking::Outside(session) => is_outside(lobby, *session),
         Seeking::Ask(session, number, refusal) => playing(lobby, *session, *number) == *refusal,
-        Seeking::Play(session, number, desk, serial, white) => {
-            plays(lobby, *session, *number, *desk, *serial, *white)
-        }
-        Seeking::Deaf(session) => turns_deaf(lobby, *session),
         Seeking::Other(step) => is_as_expected(lobby, step),
     }
 }
@@ -101,14 +90,6 @@ fn is_posted(answer: &Result<LobbyReply, Fail>, number: u16, refusal: u8) -> boo
 
 fn unposting(lobby: &mut Lobby, session: u32, number: Option<u16>) -> u8 {
     number_of(&acted(lobby, session, &LobbyAct::Unpost { number }))
-}
-
-fn turns_deaf(lobby: &mut Lobby, session: u32) -> bool {
-    let act = LobbyAct::Var {
-        which: Var::Seek,
-        on: false,
-    };
-    acted(lobby, session, &act).is_ok()
 }
 
 /// Asks for a list, and says whether it is these lines, and those of which a copy was made before.
@@ -151,17 +132,4 @@ pub fn playing(lobby: &Lobby, session: u32, number: u16) -> u8 {
 
 fn taking(lobby: &Lobby, session: u32, number: u16) -> Result<Plan, Refusal> {
     lobby.plan(session, &PairAct::Play(number))
-}
-
-/// Takes a seek, and says whether this game starts.
-pub fn plays(
-    lobby: &mut Lobby,
-    session: u32,
-    number: u16,
-    desk: u8,
-    serial: u64,
-    white: u32,
-) -> bool {
-    let plan = carried_out(lobby, session, &PairAct::Play(number), false);
-    is_start(&plan, desk, serial, white)
 }

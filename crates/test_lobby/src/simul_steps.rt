@@ -1,14 +1,13 @@
 //! Steps of simuls, each with its expected answer.
 
 use crate::partner_steps::partnering;
-use crate::seek_steps::{playing, plays, posts};
+use crate::seek_steps::{playing, posts};
 use crate::steps::{
     CHESS, DONE, STRANGE, Step, acted, challenging, entering, hall, is_as_expected, key_of,
     number_if_done, numbered, starts,
 };
 use chess_model::Terms;
-use fics_words::Fail;
-use lobby_state::{Lobby, LobbyAct, LobbyReply};
+use lobby_state::{Lobby, LobbyAct};
 use memory::NoMemory;
 use std::alloc::Global;
 use test_steps::first_wrong;
@@ -24,14 +23,10 @@ pub enum Giving {
     Previous(u32, u8),
     /// Goes to its place against this player.
     Board(u32, [u8; 3], u8),
-    /// Whether its places tell that it gives a simul.
-    Gives(u32, bool),
     /// Posts a seek, which gets this number.
     Post(u32, Terms, u16, u8),
     /// Asks for the plan of taking this seek, and doesn't carry it out.
     AskSeek(u32, u16, u8),
-    /// Takes this seek: the desk, the serial and White's session.
-    Play(u32, u16, u8, u64, u32),
     /// Asks this player to be its partner.
     Pair(u32, [u8; 3], u8),
     /// The 32 sessions from 1 on enter, and each plays the giver, who has this handle.
@@ -62,17 +57,11 @@ fn answers(lobby: &mut Lobby, step: &Giving) -> bool {
             moving(lobby, *session, &LobbyAct::SimPrev) == *number
         }
         Giving::Board(session, name, number) => going(lobby, *session, name) == *number,
-        Giving::Gives(session, expected) => {
-            tells_giving(&acted(lobby, *session, &LobbyAct::Where), *expected)
-        }
         Giving::Post(session, terms, number, refusal) => {
             posts(lobby, *session, *terms, *number, *refusal)
         }
         Giving::AskSeek(session, number, refusal) => {
             playing(lobby, *session, *number) == *refusal
-        }
-        Giving::Play(session, number, desk, serial, white) => {
-            plays(lobby, *session, *number, *desk, *serial, *white)
         }
         Giving::Pair(session, name, number) => partnering(lobby, *session, name) == *number,
         Giving::Plays32(session, name) => plays_32(lobby, *session, name),
@@ -113,13 +102,5 @@ fn going(lobby: &mut Lobby, session: u32, letters: &[u8]) -> u8 {
     match key_of(letters) {
         Some(name) => number_if_done(&acted(lobby, session, &LobbyAct::GoBoard { name })),
         None => STRANGE,
-    }
-}
-
-/// Whether the places that the answer tells are those of one who gives a simul, or of one who gives none.
-fn tells_giving(answer: &Result<LobbyReply, Fail>, expected: bool) -> bool {
-    match answer {
-        Ok(LobbyReply::Places(places)) => places.giving() == expected,
-        _ => false,
     }
 }

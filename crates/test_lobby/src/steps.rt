@@ -356,13 +356,3 @@ fn are_rows(desks: &[DeskInUse], rows: &[(u8, u64)]) -> bool {
     }
     true
 }
-
-/// Whether White and Black of the game that an acceptance would start are registered.
-pub fn registered_seats(lobby: &mut Lobby, session: u32) -> Option<(bool, bool)> {
-    match lobby.plan(session, &PairAct::Accept(None)) {
-        Ok(Plan::Start { seats, .. }) => {
-            Some((seats.first.white.registered, seats.first.black.registered))
-        }
-        _ => None,
-    }
-}

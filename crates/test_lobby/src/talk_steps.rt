@@ -25,8 +25,6 @@ pub enum Talk {
     Set(u32, Var, bool, u8),
     /// Joins a channel, or leaves it.
     Channel(u32, u8, bool, u8),
-    /// Joins each channel from this one to the last.
-    ChannelsFrom(u32, u8),
     /// Is heard by so many in the channel, or is refused: a refusal stands for its number and 1,000.
     TellChannel(u32, u8, &'static [u8], u16),
     /// So many are in the channel, the first of them with this handle, or it is refused as above.
@@ -60,7 +58,6 @@ pub fn answers(alloc: Global, lobby: &mut Lobby, step: &Talk) -> bool {
         Talk::TellTimes(session, to, text, times) => {
             tells_times(alloc, lobby, *session, to, text, *times)
         }
-        Talk::ChannelsFrom(session, first) => joins_from(lobby, *session, *first),
         Talk::TellChannel(session, channel, text, heard) => {
             telling_channel(alloc, lobby, *session, *channel, text) == *heard
         }
@@ -138,15 +135,6 @@ fn shouting(alloc: Global, lobby: &mut Lobby, session: u32, text: &[u8]) -> u16 
 /// Joins the channel, or leaves it.
 fn joining(lobby: &mut Lobby, session: u32, channel: u8, on: bool) -> u8 {
     number_if_done(&acted(lobby, session, &LobbyAct::Channel { channel, on }))
-}
-
-fn joins_from(lobby: &mut Lobby, session: u32, first: u8) -> bool {
-    for channel in first..=255u8 {
-        if joining(lobby, session, channel, true) != DONE {
-            return false;
-        }
-    }
-    true
 }
 
 fn telling_channel(

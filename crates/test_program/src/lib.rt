@@ -1,5 +1,6 @@
-//! Tests of the program's top calls: the commands of `run` over the fakes, those
-//! over a store too, and `serve` over links in memory.
+//! Tests of the program's commands over the fakes, those over a store too: `run` as a whole, with faults of what it reads
+//! and writes, and by themselves PGN text and stored games that are gone through. Whole evenings of `replay` stand in
+//! `test_evenings`.
 #![tactic(auto)]
 
 #[cfg(test)]
@@ -11,47 +12,17 @@ mod bots;
 #[cfg(test)]
 mod demos;
 #[cfg(test)]
-mod evenings;
+mod examine;
 #[cfg(test)]
 mod known_games;
 #[cfg(test)]
-mod replay_aliases;
-#[cfg(test)]
-mod replay_clocks;
+mod pgn;
 #[cfg(test)]
 mod replay_ends;
-#[cfg(test)]
-mod replay_fischer;
-#[cfg(test)]
-mod replay_houses;
-#[cfg(test)]
-mod replay_lists;
-#[cfg(test)]
-mod replay_logins;
-#[cfg(test)]
-mod replay_offers;
-#[cfg(test)]
-mod replay_pairs;
-#[cfg(test)]
-mod replay_refusals;
-#[cfg(test)]
-mod replay_resuming;
-#[cfg(test)]
-mod replay_seeks;
-#[cfg(test)]
-mod replay_simuls;
-#[cfg(test)]
-mod replay_stamps;
-#[cfg(test)]
-mod replay_talk;
-#[cfg(test)]
-mod replay_watching;
 #[cfg(test)]
 mod replays;
 #[cfg(test)]
 mod running;
-#[cfg(test)]
-mod serves;
 #[cfg(test)]
 mod stores;
 #[cfg(test)]

@@ -1,6 +1,6 @@
 //! `replay` over the fakes: where a script is outside the grammar, and the statuses of a run.
 
-use crate::replays::{NEWS, RESIGNED, expect_text, replay, script_of, text_within};
+use crate::replays::{RESIGNED, expect_text, replay, script_of, text_within};
 use crate::running::{Case, Row, at_least_one, expect_tables};
 use std::alloc::Global;
 use std::test::Fail;
@@ -194,6 +194,56 @@ fn stops_at_a_bad_first_line(rt: HostRuntime) -> Result<(), Fail> {
     Ok(())
 }
 
+/// One session whose link has ended, and one that has quit.
+const GONE: &str = "\
+0 1 +
+  1|Free Internet Chess Server profile
+  1|login:\x20
+0 2 +
+  2|Free Internet Chess Server profile
+  2|login:\x20
+0 1 -
+0 2 > guest
+  2|Entered as GuestAAAA.
+  2|fics%\x20
+0 2 > quit
+  2|Goodbye.
+";
+
+/// Lines that may not come after `GONE`.
+const BEHIND_GONE: &[&str] = &[
+    "0 1 ?",
+    "0 1 +",
+    "0 1 -",
+    "0 1 > Ann",
+    "0 2 ?",
+    "0 2 +",
+    "0 2 -",
+    "0 2 > guest",
+    "0 2 ! 1",
+    "0 3 > Ann",
+    "seat Ann Ben 2 12 chess",
+];
+
+#[test]
+fn nothing_comes_from_a_session_that_is_gone(rt: HostRuntime) -> Result<(), Fail> {
+    let opening = script_of(rt.alloc(), GONE)?;
+    let before = text_within(rt.alloc(), GONE, opening.len())?;
+    let text = format!(in rt.alloc(); "{before}bad line 6\n")?;
+    for line in BEHIND_GONE {
+        let script = format!(in rt.alloc(); "{opening}{line}\n")?;
+        expect_text(
+            &rt,
+            rt.alloc(),
+            line,
+            &replay(script.as_bytes()),
+            7,
+            text.as_str(),
+        )?;
+    }
+    Ok(())
+}
+
 /// A word of so many letters.
 fn long_word(alloc: Global, length: usize) -> Result<String, Fail> {
     let mut word = String::new(alloc);
@@ -255,13 +305,11 @@ fn in_pieces<'a>(script: &'a str, bytes: usize, reads: &'a [u64], writes: &'a [u
 
 #[test]
 fn replays_however_the_script_is_cut(rt: HostRuntime) -> Result<(), Fail> {
-    for rows in [RESIGNED, NEWS] {
-        let script = script_of(rt.alloc(), rows)?;
-        let text = text_within(rt.alloc(), rows, script.len())?;
-        for cut in [1, 2, 3, 7] {
-            let case = in_pieces(script.as_str(), cut, &[], &[]);
-            expect_text(&rt, rt.alloc(), "in pieces", &case, 0, text.as_str())?;
-        }
+    let script = script_of(rt.alloc(), RESIGNED)?;
+    let text = text_within(rt.alloc(), RESIGNED, script.len())?;
+    for cut in [1, 2, 3] {
+        let case = in_pieces(script.as_str(), cut, &[], &[]);
+        expect_text(&rt, rt.alloc(), "in pieces", &case, 0, text.as_str())?;
     }
     Ok(())
 }

@@ -1,11 +1,16 @@
-//! Tests of the crates of the rules, one file a subject. There is nothing else here: what is tested stands in the
-//! crates below, and a crate with tests is proved twice.
+//! Tests of the crates of the rules, one file a subject: games and clocks, and in folders of their own positions as sets
+//! of squares and the house's player. There is nothing else here: what is tested stands in the crates below, and a crate
+//! with tests is proved twice.
 #![tactic(auto)]
 
 #[cfg(test)]
 mod arrays;
 #[cfg(test)]
+mod bits;
+#[cfg(test)]
 mod boards;
+#[cfg(test)]
+mod bot;
 #[cfg(test)]
 mod chess_words;
 #[cfg(test)]

@@ -1,5 +1,5 @@
-//! Steps that tests make at a server of one thread by acts alone, and what replies say in short: what the tests of the
-//! server, of the hall and of the steward share.
+//! Steps that tests make at a server of one thread by acts alone, what replies say in short, and what comes from players
+//! and is written by sessions: what the tests of the server, of sessions, of the hall and of the steward share.
 //!
 //! It promises nothing by contracts: what a step shows is shown by running it.
 #![tactic(auto)]
@@ -7,6 +7,7 @@
 mod parts;
 mod said;
 mod steps;
+pub mod talk;
 
 pub use parts::{handle, server, square};
 pub use said::{Said, in_short, of_pair};

@@ -6,7 +6,7 @@ use one_server::OneServer;
 use std::alloc::Global;
 use std::test::Fail;
 use test_server_steps::server;
-use test_talk_steps::Comes;
+use test_server_steps::talk::Comes;
 
 const AT_DESK: &[Asked] = &[Asked::Where, Asked::Move, Asked::Lines, Asked::News];
 

@@ -14,9 +14,9 @@ use one_server::OneServer;
 use session_core::Session;
 use std::alloc::Global;
 use std::test::Fail;
+use test_server_steps::talk::{Comes, input_of, taken_at};
 use test_server_steps::{handle, made, server};
 use test_steps::assert_rows;
-use test_talk_steps::{Comes, input_of, taken_at};
 
 /// Ann, whose session ends.
 const ANN: u32 = 1;

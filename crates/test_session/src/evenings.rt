@@ -11,8 +11,8 @@ use lobby_state::{LobbyAct, PairAct};
 use one_server::{Act, OneServer, Reply, Timed};
 use session_core::{Input, Session};
 use std::alloc::Global;
+use test_server_steps::talk::{Comes, input_of, taken_at};
 use test_server_steps::{handle, made, server};
-use test_talk_steps::{Comes, input_of, taken_at};
 
 /// What an entry of the history asks for, in short. An act that no test names is another one.
 #[derive(Clone, Copy, PartialEq, Eq)]

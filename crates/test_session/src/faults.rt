@@ -1,5 +1,7 @@
 //! A player's link each call of which fails once, on one evening.
 
+ghost use Rattle.std.specs.Prelude.{◌≡◌, false};
+
 use crate::calls::{end_at, written_before};
 use crate::links::{Gives, link_of};
 use crate::opponent::{OpposedSeat, Spoken};
@@ -38,8 +40,10 @@ const BOB: &[Spoken] = &[
 /// How many calls are tried, some of which her link doesn't come to.
 const TRIED: usize = 30;
 
-/// Serves Alice's link.
-fn serves(alloc: Global, server: &mut OneServer, link: &mut MemLink) -> LinkEnd {
+/// Serves Alice's link, which isn't closed.
+fn serves(alloc: Global, server: &mut OneServer, link: &mut MemLink) -> LinkEnd
+    requires { link.old.tale.closed ≡ false }
+{
     let clock = ScriptClock::new(MOMENTS);
     let mut seat = OpposedSeat::new(alloc, server, BOB);
     serve_link(alloc, &mut seat, link, &clock)

@@ -1,16 +1,16 @@
 //! An evening of forty guests from a seed: each types what is drawn for it, and what its session writes is compared,
-//! line by line, with what the plain model of `test_evening` answers.
+//! line by line, with what the plain model of the folder `guests` answers.
 
 ghost use Rattle.std.specs.Prelude.{IfOk};
 ghost use Rattle.session_core.specs.Inputs.{FitsInput};
 
+use crate::guests::{Draws, GUESTS, Model, Order, answered, drawn, name_of, typed};
 use fics_words::Line;
 use line_reader::Incoming;
 use one_server::OneServer;
 use session_core::{Input, Session};
 use std::alloc::Global;
 use std::test::Fail;
-use test_evening::{Draws, GUESTS, Model, Order, answered, drawn, name_of, typed};
 use test_server_steps::server;
 
 /// The seed of the evening.

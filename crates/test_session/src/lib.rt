@@ -1,4 +1,5 @@
-//! Tests of a session: which acts it makes in the server's history, and what it writes. Expected acts and texts are
+//! Tests of a session: which acts it makes in the server's history, and what it writes; in a folder of its own of the
+//! server of one thread, by acts alone; and forty guests beside a plain model of the lobby. Expected acts and texts are
 //! those of the rules of a session, written out by hand.
 //!
 //! A test is a table, and what it does stands in functions without contracts, so it is proved quickly: what it shows is
@@ -18,6 +19,8 @@ mod faults;
 #[cfg(test)]
 mod forty_guests;
 #[cfg(test)]
+mod guests;
+#[cfg(test)]
 mod leaving;
 #[cfg(test)]
 mod links;
@@ -29,6 +32,8 @@ mod offers;
 mod opponent;
 #[cfg(test)]
 mod script_clock;
+#[cfg(test)]
+mod server;
 #[cfg(test)]
 mod short;
 #[cfg(test)]

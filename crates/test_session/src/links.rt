@@ -1,5 +1,7 @@
 //! Links in memory: how they end, what is written to them, and how often the clock is asked.
 
+ghost use Rattle.std.specs.Prelude.{◌≡◌, false, IfOk};
+
 use edge_traits::{Clock, StillClock};
 use fics_words::Fail as Failure;
 use link_core::{LinkEnd, serve_link};
@@ -128,7 +130,9 @@ fn serves(alloc: Global, row: &Row) -> Result<bool, Failure> {
 }
 
 /// A link that gives this, and whose calls of these numbers fail.
-pub fn link_of(alloc: Global, steps: &[Gives], fails: &[u64]) -> Result<MemLink, NoMemory> {
+pub fn link_of(alloc: Global, steps: &[Gives], fails: &[u64]) -> Result<MemLink, NoMemory>
+    ensures { IfOk result (λ link. link.tale.closed ≡ false) }
+{
     let mut given = Vec::new(alloc);
     for step in steps {
         match step {

@@ -1,7 +1,7 @@
 //! Logins: what is written for each line, until a session has entered and when it quits.
 
 use std::test::Fail;
-use test_talk_steps::{Comes, Row, first_failing};
+use test_server_steps::talk::{Comes, Row, first_failing};
 
 const A_HANDLE_IS_REGISTERED_AND_ITS_PASSWORD_ASKED_FOR_ROWS: &[Row] = &[
     Row(1, 0, Comes::Line(b"zz"), b"refused 22 BadHandle\n\rlogin: "),

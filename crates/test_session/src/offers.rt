@@ -2,7 +2,7 @@
 
 use crate::evenings::{Asked, Step, first_failing_anew};
 use std::test::Fail;
-use test_talk_steps::Comes;
+use test_server_steps::talk::Comes;
 
 /// An offer at the present place, and then the round.
 const OFFERS: &[Asked] = &[Asked::Where, Asked::Offer, Asked::Lines, Asked::News];

@@ -7,7 +7,7 @@ use memory::NoMemory;
 use one_server::{Act, OneServer, Reply, Runner};
 use session_core::{Input, Session, Wrote};
 use std::alloc::Global;
-use test_talk_steps::{Comes, input_of};
+use test_server_steps::talk::{Comes, input_of};
 
 /// The session of the player.
 const PLAYER: u32 = 1;

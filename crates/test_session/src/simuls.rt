@@ -6,8 +6,8 @@ use lobby_state::LobbyAct;
 use one_server::{Act, OneServer};
 use std::alloc::Global;
 use std::test::Fail as TestFail;
+use test_server_steps::talk::Comes;
 use test_server_steps::{handle, server};
-use test_talk_steps::Comes;
 
 /// Ann, session 1, gives a simul.
 fn open(server: &mut OneServer) -> Result<Handle, Fail> {

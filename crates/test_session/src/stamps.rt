@@ -1,7 +1,7 @@
 //! Stamped links: a game, and greetings.
 
 use std::test::Fail;
-use test_talk_steps::{Comes, Row, STAMPED_GAME, first_failing};
+use test_server_steps::talk::{Comes, Row, STAMPED_GAME, first_failing};
 
 #[test]
 fn a_game_over_a_stamped_link(rt: HostRuntime) -> Result<(), Fail> {

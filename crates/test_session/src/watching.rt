@@ -7,8 +7,8 @@ use one_server::OneServer;
 use session_core::{Input, Session};
 use std::alloc::Global;
 use std::test::Fail as TestFail;
+use test_server_steps::talk::taken_at;
 use test_server_steps::{handle, made, server};
-use test_talk_steps::taken_at;
 
 /// The session that looks on.
 const CAT: u32 = 100;

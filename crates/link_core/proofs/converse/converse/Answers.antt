@@ -11,13 +11,13 @@ pub returns-in_default-clause-stops : goal.returns-in_default-clause-stops
 returns-in_default-clause-stops g c =
     let shows = g.C.Clock.shows c.args.clock.now in
     let start : Stand = record { state = g.R.Runner.state c.args.r.now; memory = c.args.session.now; link = g.L.Link.tale c.args.link.now } in
-    stops_opening_memory shows start start.link c.session-session.ensures.known c.requires (part_none opening_text start.link start.link refl)
+    stops_opening_memory shows start start.link c.session-session.ensures.known c.requires.new (part_none opening_text start.link start.link refl)
 
 pub returns-in-Err-clause-stops : goal.returns-in-Err-clause-stops
 returns-in-Err-clause-stops g c =
     let shows = g.C.Clock.shows c.args.clock.now in
     let start : Stand = record { state = g.R.Runner.state c.args.r.now; memory = c.args.session.now; link = g.L.Link.tale c.args.link.now } in
-    stops_opening shows start c.in-Err.end (g.L.Link.tale c.greet.new.link) c.session-session.ensures.known c.requires c.in-Err.ensures.wrote
+    stops_opening shows start c.in-Err.end (g.L.Link.tale c.greet.new.link) c.session-session.ensures.known c.requires.new c.in-Err.ensures.wrote
 
 pub loop-turn-init : goal.loop-turn-init
 loop-turn-init g c =
@@ -29,8 +29,9 @@ loop-turn-init g c =
       drained = subst (λ (r : Reader). IsDrained r) (sym c.in-Ok.ensures) (refl, refl);
       progress =
           subst (λ (r : Reader). Progress shows start there r 0) (sym c.in-Ok.ensures)
-          (progress_none shows start (g.L.Link.tale c.greet.new.link) c.session-session.ensures.known c.requires c.in-Ok-greet.ensures.wrote);
-      here = ap is_gone c.requires;
+          (progress_none shows start (g.L.Link.tale c.greet.new.link) c.session-session.ensures.known c.requires.new c.in-Ok-greet.ensures.wrote);
+      here = ap is_gone c.requires.new;
+      unclosed = c.in-Ok-greet.ensures.unclosed;
       counted = c.greet.ensures.counted;
     }
 
@@ -43,6 +44,7 @@ loop-turn-preserved g c =
       drained = c.in-Ok-take_turn.ensures.drained;
       progress = c.in-Ok-take_turn.ensures.steps start c.loop-turn._turn c.loop-turn.invariant.progress;
       here = c.in-Ok-take_turn.ensures.here;
+      unclosed = c.in-Ok-take_turn.ensures.unclosed;
       counted = le_trans c.loop-turn.invariant.counted c.take_turn.ensures.counted;
     }
 

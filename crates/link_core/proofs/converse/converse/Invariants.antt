@@ -1,4 +1,5 @@
 use Rattle.std.proofs.Common.{◌≡◌, ◌≤◌, false}
+use Rattle.edge_traits.specs.Link.{IsOpen}
 use Rattle.session_core.specs.Memory.{is_gone}
 use Rattle.link_core.specs.Steps.{IsDrained, Progress}
 use Rattle.link_core.proofs.converse.converse.Given as goal
@@ -10,5 +11,6 @@ invariant-loop-turn g l = record {
   progress : Progress (g.C.Clock.shows l.clock) (record { state = g.R.Runner.state l.fn.r; memory = l.fn.session; link = g.L.Link.tale l.fn.link })
       (record { state = g.R.Runner.state l.r; memory = l.session; link = g.L.Link.tale l.link }) l.reader l._turn;
   here : is_gone l.session ≡ false;
+  unclosed : IsOpen (g.L.Link.tale l.link);
   counted : g.L.Link.faults l.fn.link ≤ g.L.Link.faults l.link;
 }

@@ -24,6 +24,7 @@ loop-line-preserved g c =
       steps = λ start turns p.
           progress_line shows start here new c.loop-line.reader c.next.new.self turns c.in-Ok-Some.line (c.loop-line.invariant.steps start turns p) gives c.in-Ok.ensures.answered;
       here = c.in-Ok.ensures.here;
+      unclosed = c.in-Ok.ensures.unclosed;
       counted = le_trans c.loop-line.invariant.counted c.answer.ensures.counted;
     }
 

@@ -1,4 +1,5 @@
 use Rattle.std.proofs.Common.{◌≡◌, ◌≤◌, ℕ, [], false, length}
+use Rattle.edge_traits.specs.Link.{IsOpen}
 use Rattle.session_core.specs.Memory.{is_gone}
 use Rattle.line_reader.specs.Reader.{lines_of}
 use Rattle.link_core.specs.Steps.{Progress, Stand}
@@ -10,6 +11,7 @@ invariant-loop-line g l = record {
   steps : (start : Stand) (turns : ℕ) → Progress (g.C.Clock.shows l.clock) start (record { state = g.R.Runner.state l.fn.r; memory = l.fn.session; link = g.L.Link.tale l.fn.link }) l.fn.reader turns
       → Progress (g.C.Clock.shows l.clock) start (record { state = g.R.Runner.state l.r; memory = l.session; link = g.L.Link.tale l.link }) l.reader turns;
   here : is_gone l.session ≡ false;
+  unclosed : IsOpen (g.L.Link.tale l.link);
   counted : g.L.Link.faults l.fn.link ≤ g.L.Link.faults l.link;
 }
 

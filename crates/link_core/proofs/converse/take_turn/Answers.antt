@@ -1,5 +1,7 @@
 use Rattle.std.proofs.Common.{[], ◌+◌, ◌++◌, ◌<◌, take, length, arith, length-take}
+use Rattle.edge_traits.specs.declared.link.Heard.TheVariants as heard
 use Rattle.link_core.specs.Steps.{Stand}
+use Rattle.link_core.proofs.Tales.{open_read}
 use Rattle.link_core.proofs.Stepping.{end_due, progress_bytes, quiet_step, stops_failed}
 use Rattle.link_core.proofs.converse.take_turn.Goals as goal
 
@@ -29,3 +31,15 @@ returns-in-Failed-clause-steps g c = λ start turns p.
     let shows = g.C.Clock.shows c.args.clock.now in
     let now : Stand = record { state = g.R.Runner.state c.args.r.now; memory = c.args.session.now; link = g.L.Link.tale c.args.link.now } in
     stops_failed shows start now c.args.reader.now turns c.read.new.buf (g.L.Link.tale c.read.new.self) p c.requires.drained c.in-Failed.ensures.read
+
+pub take_piece-requires-clause-unclosed : goal.take_piece-requires-clause-unclosed
+take_piece-requires-clause-unclosed g c =
+    open_read (heard.Bytes c.in-Bytes.n) c.read.new.buf (g.L.Link.tale c.args.link.now) (g.L.Link.tale c.read.new.self) c.in-Bytes.ensures.read c.requires.unclosed
+
+pub answer-requires-clause-unclosed : goal.answer-requires-clause-unclosed
+answer-requires-clause-unclosed g c =
+    open_read heard.Quiet c.read.new.buf (g.L.Link.tale c.args.link.now) (g.L.Link.tale c.read.new.self) c.in-Quiet.ensures.read c.requires.unclosed
+
+pub take_rest-requires-clause-unclosed : goal.take_rest-requires-clause-unclosed
+take_rest-requires-clause-unclosed g c =
+    open_read heard.End c.read.new.buf (g.L.Link.tale c.args.link.now) (g.L.Link.tale c.read.new.self) c.in-End.ensures.read c.requires.unclosed

@@ -3,7 +3,7 @@ use Rattle.edge_traits.specs.Door.{KeepsLinks}
 use Rattle.serve_core.specs.Tending.{Stand, stand}
 use Rattle.serve_core.specs.Outside.{Store}
 use Rattle.serve_core.specs.declared.settle.Supply.TheVariants.{Enough}
-use Rattle.serve_core.proofs.Telling.{goes_same, links_then}
+use Rattle.serve_core.proofs.Telling.{where_same, links_then}
 use Rattle.serve_core.proofs.Tending.{tended_same, tended_then}
 use Rattle.serve_core.proofs.hosting.take_links.Goals as goal
 
@@ -18,7 +18,7 @@ loop-init g c =
       kept = rw c.new.ensures.items c.requires.kept;
       tended = tended_same (stand c.args.pass Enough door store);
       opening = refl;
-      links = goes_same door KeepsLinks (λ tale. refl);
+      links = where_same door KeepsLinks (λ tale. refl);
       counted = omega arith;
     }
 

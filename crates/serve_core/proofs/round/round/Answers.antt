@@ -17,8 +17,8 @@ returns-in-Quiet-clause-kept g c =
     let door = g.D.Doorway.tale c.settle_ended.new.door in
     let turn = c.at_quiet.ensures.turn in
     let k : Underway g.C.Clock.shows c.args.shared.now.hall.now c.args.shared.now.clock.now host.supply door host.pass host.waiting.items = rw (room.supply, room.pass, room.waiting) c.settle_ended.ensures.kept in
-    rw (turn.2, ap (λ w. w.items) c.at_quiet.ensures.waiting)
-    (kept_quiet g.C.Clock.shows c.args.shared.now.hall.now c.args.shared.now.clock.now host.supply turn.0 (g.P.Keeper.table c.args.keeper.now) (g.P.Keeper.table c.at_quiet.new.keeper) door (g.D.Doorway.tale c.next.new.self) host.pass c.at_quiet.result.pass host.waiting.items k c.in-Quiet.ensures.gives turn.1)
+    rw (turn.3, ap (λ w. w.items) c.at_quiet.ensures.waiting)
+    (kept_quiet g.C.Clock.shows c.args.shared.now.hall.now c.args.shared.now.clock.now host.supply turn.0 turn.1 (g.P.Keeper.table c.args.keeper.now) (g.P.Keeper.table c.at_quiet.new.keeper) door (g.D.Doorway.tale c.next.new.self) host.pass c.at_quiet.result.pass host.waiting.items k c.in-Quiet.ensures.gives turn.2)
 
 pub returns-in-Quiet-clause-tended : goal.returns-in-Quiet-clause-tended
 returns-in-Quiet-clause-tended g c =
@@ -31,9 +31,9 @@ returns-in-Quiet-clause-tended g c =
     let new : Store = record { table = g.P.Keeper.table c.at_quiet.new.keeper; faults = g.P.Keeper.faults c.at_quiet.new.keeper } in
     let start : Stand = stand c.args.host.pass c.args.host.supply (g.D.Doorway.tale c.args.door.now) old in
     let so_far = same_then start c.settle_ended.new.self.pass host.pass c.settle_ended.new.self.supply host.supply settled old (c.settle_ended.ensures.tended old) room.pass room.supply in
-    subst (λ (s : Supply). Tended start (stand c.at_quiet.result.pass s door new)) (sym turn.2)
-    (tended_then start (stand host.pass host.supply settled old) (stand c.at_quiet.result.pass (supply_then turn.0 host.supply) door new) so_far
-    (tended_turn turn.0 host.pass c.at_quiet.result.pass host.supply settled door old new turn.1 (one_quiet g.D.Link.Link.tale settled door c.in-Quiet.ensures.gives) turn.3 c.at_quiet.ensures.counted))
+    subst (λ (s : Supply). Tended start (stand c.at_quiet.result.pass s door new)) (sym turn.3)
+    (tended_then start (stand host.pass host.supply settled old) (stand c.at_quiet.result.pass (supply_then turn.1 host.supply) door new) so_far
+    (tended_turn turn.0 turn.1 host.pass c.at_quiet.result.pass host.supply settled door old new turn.2 (one_quiet g.D.Link.Link.tale settled door c.in-Quiet.ensures.gives) turn.4 c.at_quiet.ensures.counted))
 
 pub returns-in-Link-clause-links : goal.returns-in-Link-clause-links
 returns-in-Link-clause-links g c =

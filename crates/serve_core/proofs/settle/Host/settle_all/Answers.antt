@@ -2,7 +2,7 @@ use Rattle.std.proofs.Common.{[], refl, sym, ap, ◌∙◌, append-nil}
 use Rattle.serve_core.proofs.Settling.{left_then, pays, pays_here, pays_not_first, pays_out, stays_then}
 use Rattle.serve_core.specs.Keeping.{KeepsLeft}
 use Rattle.serve_core.specs.Tending.{stand}
-use Rattle.serve_core.proofs.Telling.{goes_same}
+use Rattle.serve_core.proofs.Telling.{where_same}
 use Rattle.serve_core.proofs.Tending.{settles_then, tended_same}
 use Rattle.serve_core.proofs.settle.Host.settle_all.Goals as goal
 
@@ -11,7 +11,7 @@ loop-worker-init g c = record {
   kept = c.requires;
   same = (refl, refl);
   tended = λ store. tended_same (stand c.args.self.now.pass c.args.self.now.supply (g.D.Doorway.tale c.args.door.now) store);
-  left = goes_same (g.D.Doorway.tale c.args.door.now) KeepsLeft (λ tale. (refl, refl));
+  left = where_same (g.D.Doorway.tale c.args.door.now) KeepsLeft (λ tale. (refl, refl));
   faults = refl;
 }
 

@@ -1,5 +1,5 @@
 use Rattle.std.proofs.Common.{◌≡◌, ◌-◌, vec_len}
-use Rattle.edge_traits.specs.Door.{Goes}
+use Rattle.edge_traits.specs.WhereTold.{WhereTold}
 use Rattle.serve_core.specs.Keeping.{KeepsLeft, SameHall, Underway}
 use Rattle.serve_core.specs.Outside.{Store}
 use Rattle.serve_core.specs.Tending.{Tended, stand}
@@ -10,7 +10,7 @@ invariant-loop-next g l = record {
   kept : Underway g.C.Clock.shows l.shared.hall.now l.shared.clock.now l.self.supply (g.D.Doorway.tale l.door) l.self.pass l.self.waiting.items;
   same : SameHall l.fn.self.pass l.self.pass;
   tended : (store : Store) → Tended (stand l.fn.self.pass l.fn.self.supply (g.D.Doorway.tale l.fn.door) store) (stand l.self.pass l.self.supply (g.D.Doorway.tale l.door) store);
-  left : Goes (g.D.Doorway.tale l.fn.door) (g.D.Doorway.tale l.door) KeepsLeft;
+  left : WhereTold (g.D.Doorway.tale l.fn.door) (g.D.Doorway.tale l.door) KeepsLeft;
   faults : g.D.Doorway.faults l.door ≡ g.D.Doorway.faults l.fn.door;
 }
 

@@ -1,0 +1,16 @@
+use Rattle.std.proofs.Common.{subst}
+use Rattle.hall_core.specs.Passes.{PassState}
+use Rattle.steward_core.specs.Turn.{end_of_turn}
+use Rattle.serve_core.specs.Turns.{MadeTurn, supply_in}
+use Rattle.serve_core.proofs.Turning.{made_halves}
+use Rattle.serve_core.proofs.turn.turn.Goals as goal
+
+pub returns-clause-turn : goal.returns-clause-turn
+returns-clause-turn g c =
+    let s = c.turn_by_halves-cleared in
+    let before = g.P.Keeper.table c.args.keeper.now in
+    let after = g.P.Keeper.table s.new.keeper in
+    let end = end_of_turn s.result.0 s.result.1 in
+    rw (c.into_pass.ensures, c.supply_in.ensures, c.end_of_turn-end.ensures)
+    (subst (λ (p : PassState). MadeTurn end (supply_in s.result.0 end) before after p s.new.runner) c.seat-seat.ensures
+    (made_halves c.present-moment.result s.result.0 end before after c.seat-seat.result s.new.runner s.ensures.home s.ensures.turn.0 s.ensures.turn.1 s.ensures.agrees))

@@ -1,8 +1,0 @@
-//! Tests of a round robin: its rounds, what it refuses, and its table. There is nothing else here: what is tested
-//! stands in the crates below, and a crate with tests is proved twice.
-#![tactic(auto)]
-
-#[cfg(test)]
-mod evenings;
-#[cfg(test)]
-mod rounds;
