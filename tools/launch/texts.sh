@@ -36,6 +36,14 @@ printf 'chess\nf3\ne5\ng4\n' | @ bot 1#answers a position with its best move and
 END
 }
 
+# where a store that is bad is written of; $1 is how the program is called
+page_of_stores() {
+  case $1 in
+    ./*) echo "docs/OPERATING.md, The store" ;;
+    *) echo "\`man ficsd\`, THE STORE" ;;
+  esac
+}
+
 # what a status of the program means and what helps; $1 is how the program is called, $2 the command, $3 the status, or
 # the signal that ended it
 meaning() {
@@ -50,7 +58,7 @@ meaning() {
     *-4) echo "there is no store at that path, or this user can't read it" ;;
     *-5)
       echo "a record of the store isn't one: \`bad record\` names its key, and nothing was changed. sqlite3 shows the" \
-        "record and takes it away (docs/OPERATING.md, The store), or start over a copy made earlier" ;;
+        "record and takes it away ($(page_of_stores "$1")), or start over a copy made earlier" ;;
     *-6) echo "memory ran out" ;;
     *-7) echo "\`bad line\` is the first line of the input that is none of this command's, counted from 1" ;;
     serve-8)

@@ -1,0 +1,121 @@
+"""In which order the crates of a first build begin, and with how many jobs.
+
+The longest chain of crates decides how long a build takes, so a crate's weight is the seconds that it takes and those
+of the longest chain that waits for it. The heaviest crate that can begin goes first.
+"""
+from pathlib import Path
+
+from seconds import SECONDS, SECONDS_A_LINE
+from sources import files_of
+
+# a build works alone while it reads and while it writes, so more jobs than processors leave fewer of them idle
+SPARE = 2
+# the chain that decides gets three jobs, one this near to it two, and one this much shorter steps back by its niceness
+LEADING, NEAR, FAR = 3, 0.9, 0.6
+# about how much faster a crate is done by so many jobs than by one
+GAIN = {1: 1, 2: 1.6, 3: 2}
+NAMES_A_LINE = 5
+
+
+def gain_of(jobs):
+    return GAIN[min(jobs, max(GAIN))]
+
+
+def seconds_of(name):
+    """About how long a first build of a crate takes on one processor."""
+    return SECONDS.get(name) or SECONDS_A_LINE * sum(Path(it).read_bytes().count(b"\n") for it in files_of(name))
+
+
+def table(seconds):
+    """The lines of the table of seconds."""
+    rows = [f'"{name}": {it},' for name, it in sorted(seconds.items())]
+    lines = [" ".join(rows[at:at + NAMES_A_LINE]) for at in range(0, len(rows), NAMES_A_LINE)]
+    return ["SECONDS = {", *(f"    {it}" for it in lines), "}"]
+
+
+class Plan:
+    """What begins next, for crates that each have those that they stand on, on so many processors."""
+
+    def __init__(self, crates, processors, seconds=None):
+        self.crates, self.processors = crates, processors
+        self.seconds = seconds or {name: seconds_of(name) for name in crates}
+        self.weights = {}
+        for name in crates:
+            self.weigh(name)
+
+    def weigh(self, name):
+        """The crate's seconds and those of the longest chain of crates that waits for it."""
+        if name not in self.weights:
+            above = [self.weigh(it) for it in self.crates if name in self.crates[it]]
+            self.weights[name] = self.seconds[name] + max(above, default=0)
+        return self.weights[name]
+
+    def ready(self, todo, done):
+        return [it for it in todo if done.issuperset(self.crates[it])]
+
+    def jobs_for(self, name, longest, running, others):
+        """How many jobs a crate gets beside others that are ready, and a longest chain of so many seconds."""
+        if self.weights[name] == longest:
+            return max(LEADING, self.processors - sum(running.values()) - others)
+        return 2 if self.weights[name] >= NEAR * longest else 1
+
+    def next(self, todo, running, done):
+        """The crate that begins now, its jobs, and whether it steps back before others; None where none is to begin.
+
+        `running` has the jobs of each crate that runs.
+        """
+        ready = self.ready(todo, done)
+        if not ready:
+            return None
+        name = max(sorted(ready), key=self.weights.get)
+        longest = max(self.weights[it] for it in todo | set(running))
+        # the chain that decides waits for nobody
+        if self.weights[name] < longest and sum(running.values()) >= self.processors + SPARE:
+            return None
+        return name, self.jobs_for(name, longest, running, len(ready) - 1), self.weights[name] < FAR * longest
+
+
+class Run:
+    """A build as the plan's seconds foretell it: where more jobs than processors are at work, each goes slower."""
+
+    def __init__(self, plan):
+        self.plan = plan
+        self.begins = []  # the second, the crate and its jobs, in the order of beginning
+        self.idle = []  # from when to when so many processors had nothing to do, and the crates that were ready then
+        self.end = 0.0
+        self.go()
+
+    def go(self):
+        todo, running, done, left = set(self.plan.crates), {}, set(), {}
+        while todo or running:
+            while begins := self.plan.next(todo, running, done):
+                name, jobs, _ = begins
+                todo.remove(name)
+                running[name], left[name] = jobs, self.plan.seconds[name]
+                self.begins.append((self.end, name, jobs))
+            self.pass_time(todo, running, done, left)
+
+    def pass_time(self, todo, running, done, left):
+        """Goes on to the moment at which the next crate is done."""
+        wanted = sum(running.values())
+        share = min(1, self.plan.processors / wanted)
+        pace = {it: gain_of(jobs) * share for it, jobs in running.items()}
+        first = min(running, key=lambda it: (left[it] / pace[it], it))
+        took = left[first] / pace[first]
+        if wanted < self.plan.processors:
+            self.idle.append((self.end, took, self.plan.processors - wanted, self.plan.ready(todo, done)))
+        for it in running:
+            left[it] -= pace[it] * took
+        self.end += took
+        del running[first]
+        done.add(first)
+
+    def told(self):
+        """A line for each crate, and the sums."""
+        width = max(map(len, self.plan.crates))
+        lines = [f"{at:6.0f} s  {name:{width}}  {self.plan.seconds[name]:4.0f} s of a processor, {jobs} jobs"
+                 for at, name, jobs in self.begins]
+        idle = sum(took * count for _, took, count, _ in self.idle)
+        work = sum(self.plan.seconds.values())
+        return [*lines, f"{self.end:6.0f} s  all are done: {work:.0f} s of a processor, "
+                        f"of {self.plan.processors} processors {idle:.0f} s idle"]
