@@ -25,7 +25,7 @@ sys.dont_write_bytecode = True
 from link import free_port, started  # noqa: E402
 from measure import machine, program_of  # noqa: E402
 
-FACE = os.path.join(HERE, "..", "..", "tools", "fics_face")
+FACE = os.path.join(HERE, "..", "..", "companions", "fics_face")
 DANCE = ("Nf3", "Nf6", "Ng1", "Ng8")
 ASK_SECONDS = 0.02
 PATIENCE = 20

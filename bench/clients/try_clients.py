@@ -31,7 +31,7 @@ from link import Link, free_port, started  # noqa: E402
 from measure import program_of  # noqa: E402
 from pairs import tries  # noqa: E402
 
-FACE = os.path.join(HERE, "..", "..", "tools", "fics_face")
+FACE = os.path.join(HERE, "..", "..", "companions", "fics_face")
 EXAMPLE = os.path.join(HERE, "example.py")
 HALF_MOVES = 40
 GAME_SECONDS = 600

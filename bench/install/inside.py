@@ -2,139 +2,49 @@
 """Runs in a Debian machine that try_install.py has booted: sets the server up as its operators do, and looks that it
 starts, stops, comes back and keeps what it has.
 
-usage: inside.py FOLDER, with the lines of docs/OPERATING.md, the packed program and link.py in that folder. Each line
-that it prints says what was tried; it ends with 1 where something came otherwise than it should.
+usage: inside.py FOLDER STOPS, with the lines of docs/OPERATING.md, the packages, older ones in the folder `older`, and
+link.py in that folder; STOPS is how many stops with a running game there are. Each line that it prints says what was
+tried; it ends with 1 where something came otherwise than it should. It reboots the machine once, and goes on behind
+that. `inside.py FOLDER play` is two people at a game, who stay.
 """
 
+import json
 import os
 import re
+import socket
 import subprocess
 import sys
 import time
 
 sys.dont_write_bytecode = True
-FOLDER = os.path.abspath(sys.argv[1])
-sys.path.insert(0, FOLDER)
-from link import Link  # noqa: E402
+sys.path.insert(0, os.path.abspath(sys.argv[1]))
+import machine  # noqa: E402
+import members  # noqa: E402
+from machine import (  # noqa: E402
+    A_MOMENT, CLUB, CLUB_PAGE, FOLDER, PATIENCE, PROGRAM, SERVER, STORE, UNITS, all_up, check, comes, journal,
+    journal_length, listening, main_process, run_lines, says, servers, shell, shown, states)
+from players import adjourn, come_in_anew, enter, enter_again, play, register, resume  # noqa: E402
 
-SERVER, FACE = 5000, 5001
-STORE = "/var/lib/ficsd/club.db"
-PROGRAM = "/usr/local/lib/ficsd/ficsd"
 WHOLE = "ok: 2 accounts, 1 games\n"  # what `check` says once two people have registered and their game is adjourned
-PATIENCE = 60
-A_MOMENT = 1  # seconds; what is new is kept about ten times in each
-wrong = []
+ALL_OF_ONE = "1 of the 1 that ran between players with accounts are among them"
+WRONG = os.path.join(FOLDER, "wrong")  # what came otherwise than it should before the machine was rebooted
 passed_over = []
-
-
-def says(name, got, wanted):
-    """Prints what came, and notes it where it isn't what was wanted."""
-    good = got == wanted
-    if not good:
-        wrong.append(name)
-    print(f"{name}: {'as it should' if good else f'{got!r}  WRONG, wanted {wanted!r}'}", flush=True)
-
-
-def shell(line):
-    """What a line writes to its standard output, and its status."""
-    done = subprocess.run(["bash", "-c", line], stdin=subprocess.DEVNULL, capture_output=True, text=True)
-    return done.stdout, done.returncode
-
-
-def run_lines(name):
-    """Runs lines of the page, one after the other, in a folder of their own."""
-    with open(os.path.join(FOLDER, f"{name}.sh"), encoding="utf-8") as file:
-        for line in file.read().splitlines():
-            says(f"{name}: {line.split('  #')[0].strip()}", shell(f"cd {FOLDER} && {line}")[1], 0)
-
-
-def listening():
-    """Which of the two ports somebody listens on."""
-    text, _ = shell(f"ss -ltnH '( sport = :{SERVER} or sport = :{FACE} )'")
-    return sorted({int(port) for port in re.findall(r":(500[01])\s", text)})
-
-
-def comes(name, found, wanted, seconds=PATIENCE):
-    """Waits until something is as wanted."""
-    deadline = time.monotonic() + seconds
-    while (got := found()) != wanted and time.monotonic() < deadline:
-        time.sleep(0.25)
-    says(name, got, wanted)
-
-
-def states():
-    return [shell(f"systemctl show -P ActiveState {it}")[0].strip() for it in ("ficsd", "fics_face")]
-
-
-def both_up(name):
-    comes(f"{name}: both are active", states, ["active", "active"])
-    comes(f"{name}: both listen", listening, [SERVER, FACE])
-
-
-def servers():
-    """The processes that run the program itself."""
-    return shell(f"pgrep -f '^{PROGRAM} serve'")[0].split()
-
-
-def main_process():
-    return shell("systemctl show -P MainPID ficsd")[0].strip()
-
-
-def check():
-    """What `check` says of the store."""
-    return shell(f"ficsd check --store {STORE}")[0]
-
-
-def enter(name, password=None):
-    link = Link(SERVER)
-    link.say(name, *([password] if password else []))
-    link.until(f"Entered as {name}", PATIENCE)
-    return link
-
-
-def come_in_anew():
-    """Ann and Ben, with accounts."""
-    links = [enter("Ann"), enter("Ben")]
-    for link, password in zip(links, ("swordfish", "knight")):
-        link.say(f"register {password}")
-        link.until("^Ok")
-    return links
-
-
-def play(ann, ben):
-    """A game of three half-moves, as the board line of the last one tells it to Ann."""
-    ann.say("match ben 2 12 white")
-    ben.until("^Challenge")
-    ben.say("accept")
-    for who, last, word in ((ann, "none", "e4"), (ben, "e4", "e5"), (ann, "e5", "Nf3")):
-        who.until(rf"^<12>.* {last} [01]$")
-        who.say(word)
-    ann.until("^<12>.* Nf3 ")
-    return "rnbqkbnr pppp-ppp -------- ----p--- ----P--- -----N-- PPPP-PPP RNBQKB-R B"
-
-
-def resume(ann, ben, board):
-    """Both go on with their game; the board that Ann is shown."""
-    ben.say("resume ann")
-    ben.until("^Asked")
-    ann.say("resume ben")
-    line = ann.until("^<12> .*").group(0)
-    says("the game goes on as it stood", line[5:5 + len(board)], board)
 
 
 def try_stop_and_start():
     shell("systemctl stop ficsd")
-    says("stop: both are inactive", states(), ["inactive", "inactive"])
+    says("stop: all are inactive", states(), ["inactive"] * 3)
     time.sleep(8)
-    says("stop: both stay inactive for longer than either rests before it starts again", states(), ["inactive"] * 2)
+    says("stop: all stay inactive for longer than any rests before it starts again", states(), ["inactive"] * 3)
     says("stop: nobody listens", listening(), [])
     says("stop: no process is left", servers(), [])
-    says("stop: it ended well", shell("systemctl show -P Result ficsd")[0].strip(), "success")
-    shell("systemctl start ficsd")
-    both_up("start")
+    says("stop: it ended well", shown("ficsd", "Result"), "success")
+    says("start: it ends well, and the server listens at once",
+         (shell("systemctl start ficsd")[1], SERVER in listening()), (0, True))
+    all_up("start")
     before = servers()
     shell("systemctl restart ficsd")
-    both_up("restart")
+    all_up("restart")
     says("restart: one server, and another one", (len(servers()), servers() != before), (1, True))
 
 
@@ -143,7 +53,7 @@ def try_kills():
         before = servers()
         os.kill(int(found()), 9)
         comes(f"kill -9 of {name}: another one serves", lambda: len(servers()) == 1 and servers() != before, True)
-        both_up(f"kill -9 of {name}")
+        all_up(f"kill -9 of {name}")
         says(f"kill -9 of {name}: the store is good", check(), WHOLE)
 
 
@@ -163,76 +73,225 @@ def cuts_links():
         link.link.close()
 
 
-def try_stop_with_game():
-    """A game that runs as the server is stopped is there afterwards."""
-    links = come_in_anew()
-    board = play(*links)
+def stop_with_game():
+    """A stop while a game runs: how it ended, what is kept, and what the journal says of it."""
+    since = journal_length()
     shell("systemctl stop ficsd")
-    says("stop with a game: it is kept", check(), WHOLE)
-    shell("systemctl start ficsd")
-    both_up("start again")
-    ann, ben = enter("Ann", "swordfish"), enter("Ben", "knight")
-    ann.say("stored")
-    says("stored", ann.until("^1 .*").group(0), "1 Ann Ben 2 12 chess")
-    resume(ann, ben, board)
-    ann.say("adjourn")
-    ben.until("offers to adjourn")
-    ben.say("accept")
-    ann.until("adjourned}")
+    said = [it for it in journal(since) if "kept" in it or "LOST" in it or "status" in it]
+    return shown("ficsd", "Result"), check(), said
+
+
+def try_stops_with_game(stops):
+    """A game that runs as the server is stopped is there afterwards, each time."""
+    ann, ben = come_in_anew()
+    play(ann, ben)
     time.sleep(A_MOMENT)
+    kept = f"ficsd: kept: 2 accounts and 1 adjourned games; {ALL_OF_ONE}"
+    for turn in range(1, stops + 1):
+        says(f"stop {turn} with a game: it ends well, the game is kept, and the journal says so", stop_with_game(),
+             ("success", WHOLE, [kept]))
+        shell("systemctl start ficsd")
+        ann, ben = enter_again()
+        ann.say("stored")
+        says("stored", ann.until("^1 .*").group(0), "1 Ann Ben 2 12 chess")
+        resume(ann, ben)
+        time.sleep(A_MOMENT)
+    adjourn(ann, ben)
+    all_up("behind the stops")
+    says("no address is in the journal", re.findall(r"127\.0\.0\.1:\d+|ESTAB", "\n".join(journal(0))), [])
 
 
 def try_backup():
     run_lines("backup")
     run_lines("hot")
-    both_up("behind the copies")
+    all_up("behind the copies")
     shell(f"systemctl stop ficsd; rm {STORE} {STORE}-wal")
     run_lines("restore")
-    both_up("behind the restoring")
+    all_up("behind the restoring")
     says("restored", check(), WHOLE)
     ann = enter("Ann", "swordfish")
     ann.say("stored")
     says("restored: stored", ann.until("^1 .*").group(0), "1 Ann Ben 2 12 chess")
 
 
-def try_words():
-    """What is said where a server can't run, by hand and in the journal."""
+def start_fails(name, status, means):
+    """A start fails and says so, and all units rest or come back as that status has it."""
+    since = journal_length()
+    says(f"{name}: `systemctl start` fails", shell("systemctl start ficsd")[1] != 0, True)
+    comes(f"{name}: the journal names the status", lambda: f"status={status}/" in "\n".join(journal(since)), True)
+    says(f"{name}: the journal says what it means", means in "\n".join(journal(since)), True)
+
+
+def try_port_in_use():
     done = subprocess.run(["ficsd", "serve", "--port", str(SERVER)], stdin=subprocess.DEVNULL, capture_output=True,
                           text=True)
     says("a second server: its status and a word", (done.returncode, "port is in use" in done.stderr), (8, True))
-    shell(f"systemctl stop ficsd; chown root:root {STORE}; chmod 600 {STORE}; systemctl start ficsd")
-    comes("a store of somebody else: the journal names the status",
-          lambda: "status=4/NOPERMISSION" in shell("journalctl -u ficsd -b")[0], True)
-    says("a store of somebody else: the journal says what it means",
-         "the store could not be opened" in shell("journalctl -u ficsd -b")[0], True)
+    shell("systemctl stop ficsd")
+    with socket.create_server(("0.0.0.0", SERVER)):
+        start_fails("a port in use", 8, "the port is in use")
+    all_up("behind a port in use")
+
+
+def try_bad_stores():
+    shell(f"systemctl stop ficsd; chown root:root {STORE}; chmod 600 {STORE}")
+    start_fails("a store of somebody else", 4, "the store could not be opened")
     shell(f"chown ficsd:ficsd {STORE}")
-    both_up("behind chown")
+    all_up("behind chown")
+    shell(f"systemctl stop ficsd; sqlite3 {STORE} \"INSERT INTO records VALUES (x'7A', x'00')\"; chown ficsd: {STORE}*")
+    start_fails("a bad record", 5, "`bad record` names its key")
+    before = [shown(it, "NRestarts") for it in UNITS]
+    time.sleep(12)
+    says("a bad record: all units rest", [it in ("failed", "inactive") for it in states()], [True] * 3)
+    says("a bad record: none was started again", [shown(it, "NRestarts") for it in UNITS], before)
+    shell(f"sqlite3 {STORE} \"DELETE FROM records WHERE key = x'7A'\"; chown ficsd: {STORE}*; systemctl start ficsd")
+    all_up("behind a bad record")
+
+
+def try_full_disk():
+    """A stop over a disk that takes nothing, nor for files of a moment, says what is kept and that some is lost."""
+    shell("systemctl stop ficsd; mount -t tmpfs -o size=2M,mode=700,uid=$(id -u ficsd),gid=$(id -g ficsd) tmpfs "
+          "/var/lib/ficsd; mount -t tmpfs -o size=2M,mode=1777 tmpfs /tmp; systemctl start ficsd")
+    ann, ben = come_in_anew()
+    play(ann, ben)
+    time.sleep(A_MOMENT)
+    shell("for it in /var/lib/ficsd /tmp; do head -c 9M /dev/zero >$it/fill; done")
+    for n in range(100):  # more than the room that the log has already
+        register(f"Guest{chr(ord('a') + n // 26)}{chr(ord('a') + n % 26)}")
+    result, _, said = stop_with_game()
+    said = [re.sub(r"\d+ accounts", "... accounts", it) for it in said if it.startswith("ficsd: ")]
+    says("a full disk: the stop fails, and the journal says what is kept and that some is lost", (result, said),
+         ("exit-code", [f"ficsd: kept: ... accounts and 0 adjourned games; {ALL_OF_ONE.replace('1', '0', 1)}",
+                        "ficsd: LOST: the disk takes nothing (No space left on device), so accounts and games that are "
+                        "new since then are lost, 1 of those that ran just now among them"]))
+    for it in (ann, ben):
+        it.link.close()
+    shell("umount /var/lib/ficsd; umount -l /tmp; systemctl reset-failed ficsd; systemctl start ficsd")
+    all_up("behind a full disk")
+    says("behind a full disk: the store", check(), WHOLE)
+
+
+def is_heard(port):
+    """Whether somebody listens there."""
+    return f":{port} " in shell("ss -ltnH")[0]
+
+
+def try_club():
+    """A second club has a port and a store of its own, and its stop is as that of the first."""
+    run_lines("club")
+    comes("a second club: it listens", lambda: is_heard(CLUB), True)
+    run_lines("club_page")
+    comes("a second club: its page", lambda: is_heard(CLUB_PAGE), True)
+    says("a second club: the first one's store is its own", check(), WHOLE)
+    shell("systemctl stop fics_server@blue")
+    says("a second club: it ends well", shown("fics_server@blue", "Result"), "success")
+    says("a second club: its page has ended too, and the first one runs on",
+         (shown("fics_web_blue", "ActiveState"), states()), ("inactive", ["active"] * 3))
+    shell("systemctl start fics_server@blue")
+    comes("a second club: its page is started with it", lambda: is_heard(CLUB_PAGE), True)
+
+
+def try_accounts():
+    words = "fics_accounts password ann"
+    says("a password while the server runs", shell(f"printf 'tuna\\ntuna\\n' | {words}")[1], 1)
+    shell("systemctl stop ficsd")
+    says("a password", shell(f"printf 'tuna\\ntuna\\n' | {words}")[1], 0)
+    says("a password: whose the store is", shell(f"stat -c %U {STORE}*")[0].split(), ["ficsd"] * 2)
+    shell("systemctl start ficsd")
+    ann = enter("Ann", "tuna")
+    ann.link.close()
+    shell(f"systemctl stop ficsd; printf 'swordfish\\nswordfish\\n' | {words}; systemctl start ficsd")
+    all_up("behind passwords")
+
+
+def try_watch():
+    says("a watch: all is well", (shell("systemctl start fics_watch")[1], shown("fics_watch", "Result")),
+         (0, "success"))
+    text, status = shell(f"fics_watch --port {SERVER} --shelf 0")
+    says("a watch: a bound is crossed", (status, "more than 0 adjourned games" in text), (3, True))
+    says("a watch: its timer is on", shown("fics_watch.timer", "ActiveState"), "active")
+
+
+def version(package):
+    return shell(f"dpkg-query -W -f '${{Version}}' {package}")[0]
 
 
 def try_update():
-    """A running program is replaced, and the next start takes the new one."""
+    """The packages are replaced while a game runs, which is kept."""
     says("cp over a running program is refused", shell(f"cp {PROGRAM} /tmp/it && cp /tmp/it {PROGRAM}")[1], 1)
+    before, games = version("ficsd"), check()
+    ann, ben = enter_again()
+    ben.say("resume ann")
+    ben.until("^Asked")
+    ann.say("resume ben")
+    ann.until("^<12>")
+    time.sleep(A_MOMENT)
+    club = shown("fics_server@blue", "MainPID")
     run_lines("update")
-    both_up("update")
+    says("update: another version", version("ficsd") != before, True)
+    all_up("update")
+    says("update: the game is kept", check(), games)
+    says("update: the second club was restarted", shown("fics_server@blue", "MainPID") not in (club, "0"), True)
+    members.members_up("update")
+
+
+def try_removal():
+    whole = check()
+    shell("apt-get remove -y ficsd ficsd-companions")
+    says("remove: nobody listens, and no process is left", (listening(), servers()), ([], []))
+    says("remove: no member is left", members.states_of_members(), ["inactive"] * 3)
+    says("remove: the second club's is gone too", (is_heard(CLUB), is_heard(CLUB_PAGE)), (False, False))
+    says("remove: the store stays", os.path.exists(STORE), True)
+    text, status = shell("apt-get purge -y ficsd ficsd-companions")
+    says("purge: it says where the store and the archive lie",
+         (status, "stay, in /var/lib/ficsd" in text, "stays, in /var/lib/private/fics_scribe" in text), (0, True, True))
+    says("purge: the store and the archive stay", (os.path.exists(STORE), members.archive() != ""), (True, True))
+    shell(f"cd {FOLDER} && apt-get install -y ./ficsd_*.deb ./ficsd-companions_*.deb")
+    all_up("installed anew")
+    says("installed anew: the store is taken up", check(), whole)
+
+
+def tell_end():
+    for it in passed_over:
+        print(f"NOT TRIED: {it}", flush=True)
+    print("\n".join(f"WRONG: {it}" for it in machine.wrong) or "all came as it should", flush=True)
+    return 1 if machine.wrong or passed_over else 0
+
+
+def begin(stops):
+    """All up to the reboot, behind which this script is started again."""
+    run_lines("setup", os.path.join(FOLDER, "older"))
+    all_up("set up")
+    says("--version says the revision", shell("ficsd --version")[0].startswith("ficsd "), True)
+    members.try_doors()
+    members.try_exposures()
+    try_stop_and_start()
+    if not cuts_links():
+        passed_over.append("stops with a game and all behind: this kernel doesn't let `ss -K` cut links")
+        return tell_end()
+    try_stops_with_game(stops)
+    for act in (try_kills, try_backup, try_port_in_use, try_bad_stores, try_full_disk, try_accounts, try_watch,
+                try_club, members.try_members, members.try_stop_with_members):
+        act()
+    with open(WRONG, "w", encoding="utf-8") as file:
+        json.dump(machine.wrong, file)
+    return members.reboot()
+
+
+def go_on():
+    """All behind the reboot."""
+    with open(WRONG, encoding="utf-8") as file:
+        machine.wrong += json.load(file)
+    all_up("behind a reboot")
+    members.behind_reboot()
+    try_update()
+    try_removal()
+    return tell_end()
 
 
 def main():
-    run_lines("setup")
-    both_up("set up")
-    says("--version says the revision", shell("ficsd --version")[0].startswith("ficsd "), True)
-    try_stop_and_start()
-    if cuts_links():
-        try_stop_with_game()
-        try_kills()
-        try_backup()
-    else:
-        passed_over.append("a stop with a game: this kernel doesn't let `ss -K` cut links")
-    try_words()
-    try_update()
-    for it in passed_over:
-        print(f"NOT TRIED: {it}", flush=True)
-    print("\n".join(f"WRONG: {it}" for it in wrong) or "all came as it should", flush=True)
-    return 1 if wrong or passed_over else 0
+    if sys.argv[2:] == ["play"]:
+        return members.play_until_the_end()
+    return go_on() if os.path.exists(WRONG) else begin(int(sys.argv[2]))
 
 
 if __name__ == "__main__":

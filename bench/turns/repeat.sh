@@ -1,10 +1,10 @@
 #!/usr/bin/env bash
-# Runs `test_race` so many times (20, or as given), and fails at the first run that doesn't print 30000 20000.
+# Runs `test_turn` so many times (20, or as given), and fails at the first run that doesn't print 30000 20000.
 set -eu
 
 top=$(cd "$(dirname "$(readlink -f "${BASH_SOURCE[0]}")")/../.." && pwd)
-crate=$top/crates/test_race
-program=$crate/out/test_race
+crate=$top/crates/test_turn
+program=$crate/out/test_turn
 
 [[ -x $program ]] || (cd "$crate" && rt run </dev/null >/dev/null)
 for ((run = 1; run <= ${1:-20}; run++)); do

@@ -1,0 +1,140 @@
+"""What runs beside the server in a booted machine, as its operator enables it: the go-betweens, and members that are
+programs. Each does what it is for, and is stopped and started with the server."""
+
+import glob
+import re
+import socket
+import time
+import urllib.request
+
+from machine import FACE, FOLDER, PATIENCE, SERVER, WEB, comes, says, shell, shown
+from players import adjourn, enter, enter_again, resume
+
+MEMBERS = ("fics_bot", "fics_director", "fics_scribe")
+WITHOUT_A_STORE = (*MEMBERS, "fics_face", "fics_web")
+MOST_EXPOSED = 2.0  # of the ten points of `systemd-analyze security`
+WORDS = 'FICS_DIRECTOR_WORDS="--server 127.0.0.1:5000 --chief Ann --channel 5"'
+EVENING = "/var/lib/fics_director/evening.tourney"
+PLAYING = f"{FOLDER}/playing"
+
+
+def archive():
+    """What the scribe's archive has."""
+    return text_of("/var/lib/private/fics_scribe/*/*.pgn")
+
+
+def states_of_members():
+    return [shown(it, "ActiveState") for it in MEMBERS]
+
+
+def members_up(name):
+    comes(f"{name}: the members are active", states_of_members, ["active"] * 3)
+
+
+def text_of(pattern):
+    """What the files that a pattern names have, one behind the other."""
+    texts = []
+    for path in glob.glob(pattern):
+        with open(path, encoding="utf-8") as file:
+            texts.append(file.read())
+    return "".join(texts)
+
+
+def try_members():
+    """The members that a club enables; Ann plays House, which the scribe keeps, and joins the director's evening."""
+    says("a director without words: it isn't started, and rests",
+         (shell("systemctl start fics_director; sleep 8")[1], shown("fics_director", "ActiveState")), (0, "failed"))
+    shell(f"echo '{WORDS}' >>/etc/default/fics_director")
+    says("members: enabled", shell("systemctl enable --now fics_bot fics_director fics_scribe")[1], 0)
+    members_up("enabled")
+    ann = enter("Ann", "swordfish")
+    comes("members: House and Director are in", lambda: are_in(ann, "House", "Director"), True)
+    says("members: nobody else reads House's password",
+         shell("stat -L -c %a /var/lib/fics_bot /var/lib/fics_bot/password")[0].split(), ["700", "600"])
+    ann.say("match house 5 0 white")
+    ann.until("^<12>.* none [01]$")
+    ann.say("e4")
+    ann.until("^<12>.* W .* [a-hNBRQKO][^ ]* [01]$")
+    ann.say("resign")
+    comes("members: the scribe has that game", lambda: re.findall(
+        r'\[White "(.*)"\]\n\[Black "(.*)"\]\n\[Result "(.*)"\]', archive()),
+        [("Ann", "House", "0-1")])
+    ann.say("tell Director join")
+    ann.until("You have joined")
+    says("members: the director has noted it", "join Ann\n" in text_of(EVENING), True)
+    ann.link.close()
+
+
+def are_in(link, *names):
+    """Whether these are in the hall."""
+    link.say("who", "zzz")
+    start = link.read
+    link.until("^refused 26 ")
+    return set(names) <= set(link.lines[start:link.read])
+
+
+def try_doors():
+    """The go-betweens let people in."""
+    with socket.create_connection(("127.0.0.1", FACE), PATIENCE) as link:
+        heard = b""
+        while b"login:" not in heard and (piece := link.recv(1000)):
+            heard += piece
+    says("fics_face: it asks for a name", b"login:" in heard, True)
+    with urllib.request.urlopen(f"http://127.0.0.1:{WEB}/", timeout=PATIENCE) as page:
+        says("fics_web: it has the page", (page.status, b"<html" in page.read()), (200, True))
+
+
+def try_stop_with_members():
+    """What runs beside the server is stopped with it, ends well, and is started with it."""
+    shell("systemctl stop ficsd")
+    says("members: they are stopped with the server, and end well",
+         [(shown(it, "ActiveState"), shown(it, "Result")) for it in WITHOUT_A_STORE],
+         [("inactive", "success")] * len(WITHOUT_A_STORE))
+    shell("systemctl start ficsd")
+    members_up("started with the server")
+
+
+def try_exposures():
+    """Each unit reaches little of the machine, as systemd counts it."""
+    for unit in (*WITHOUT_A_STORE, "fics_watch", "ficsd", "fics_server@blue"):
+        said = shell(f"systemd-analyze security --no-pager {unit}")[0]
+        level = re.search(r"Overall exposure level for \S+: ([\d.]+)", said)
+        says(f"{unit}: its exposure, {level and level[1]}, is below {MOST_EXPOSED}",
+             level is not None and float(level[1]) < MOST_EXPOSED, True)
+
+
+def play_until_the_end():
+    """Ann and Ben play and one looks on, until the machine goes down."""
+    ann, ben = enter_again()
+    resume(ann, ben)
+    other = enter("Cat")
+    other.say("observe 1")
+    other.until("^<12>")
+    with open(PLAYING, "w", encoding="utf-8"):
+        pass
+    while True:
+        time.sleep(PATIENCE)
+
+
+def reboot():
+    """Reboots the machine while people are in the hall, whose links nothing cuts but the stop of the server."""
+    shell(f"rm -f {PLAYING}; systemd-run -q --unit=players -p DefaultDependencies=no "
+          f"-p StandardOutput=append:{FOLDER}/said /usr/bin/python3 {FOLDER}/inside.py {FOLDER} play")
+    comes("a reboot: a game runs", lambda: shell(f"test -e {PLAYING}")[1], 0)
+    shell("systemctl reboot")
+    time.sleep(PATIENCE * 5)
+
+
+def behind_reboot():
+    """What the journal has of the stop before it, and that all is there again."""
+    lines = shell("journalctl -u ficsd -b -1 --output=cat")[0].splitlines()
+    last = lines[max(at for at, it in enumerate(lines) if it.startswith("Started ")):]
+    says("a reboot: the game is kept, and the journal says so",
+         [re.sub("kept: .* and 1 adj", "kept: 1 adj", it) for it in last if "kept:" in it or "LOST" in it],
+         ["ficsd: kept: 1 adjourned games; 1 of the 1 that ran between players with accounts are among them"])
+    says("a reboot: it didn't end as failed, and no status is told",
+         [it for it in last if "Failed with" in it or "status" in it], [])
+    members_up("behind a reboot")
+    ann, ben = enter_again()
+    resume(ann, ben)
+    adjourn(ann, ben)
