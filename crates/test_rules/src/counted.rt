@@ -63,11 +63,7 @@ fn lists_of_three(board: &PlainBoard) -> u32 {
 }
 
 /// How many lists of so many allowed half-moves there are.
-fn lists_by_moves(
-    alloc: Global,
-    position: &mut Position,
-    length: u8,
-) -> Result<usize, NoMemory>
+fn lists_by_moves(alloc: Global, position: &mut Position, length: u8) -> Result<usize, NoMemory>
     ensures { position.new ≡ position.old }
 {
     if length == 0 {
