@@ -3,7 +3,7 @@ pub mod CopyLemmas
 pub mod RayLemmas
 pub mod SafetyLemmas
 pub mod SetLemmas
-pub mod SquareLemmas
+pub mod NextSquares
 pub mod StepLemmas
 pub mod StopLemmas
 pub mod StrikerLemmas

@@ -1,6 +1,6 @@
--- What the fields of a `Game` keep.
+-- What the fields of a `UntimedGame` keep.
 use Rattle.std.specs.Prelude.{◌≡◌}
-use Rattle.cmd_board.specs.declared.game.Game.TheInside.{Inside}
+use Rattle.cmd_board.specs.declared.game.UntimedGame.TheInside.{Inside}
 use Rattle.cmd_board.specs.Game.{has_ended}
 
 pub record HoldsGame (game : Inside) : Type 0 where

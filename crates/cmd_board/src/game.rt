@@ -20,13 +20,13 @@ pub const END_OF_LINE: &[u8] = b"\n\r";
 
 /// A game from its start on; nobody's time runs.
 #[derive(Drop)]
-pub struct Game {
+pub struct UntimedGame {
     board: GameBoard,
     /// Whether it has ended by mate or stalemate.
     over: bool,
 }
 
-impl Model for Game {
+impl Model for UntimedGame {
     ghost use Rattle.cmd_board.specs.Game.{GameState};
     ghost use Rattle.cmd_board.specs.GameFields.{HoldsGame};
 
@@ -37,17 +37,17 @@ impl Model for Game {
     ghost invariant = { HoldsGame };
 }
 
-impl Game {
+impl UntimedGame {
     ghost use Rattle.std.specs.Prelude.{◌≡◌, ◌++◌, IfOk, OnOk, MatchOption, true, false};
     ghost use Rattle.cmd_board.specs.Game.{new_game, answer_to, made, answer_line};
 
     /// A game before its first half-move, with the room for all of them.
-    pub fn new(alloc: Global) -> Result<Game, NoMemory>
+    pub fn new(alloc: Global) -> Result<UntimedGame, NoMemory>
         ensures { IfOk result (λ game. game ≡ new_game) }
     {
         let board = GameBoard::start(alloc, 1, untimed(), 0)?;
         let over = board.state().is_end();
-        Ok(Game { board, over })
+        Ok(UntimedGame { board, over })
     }
 
     /// Makes the answer of a line, and appends what is written for it; false where the line is outside the grammar.

@@ -4,13 +4,13 @@ ghost use Rattle.edge_traits.specs.Faults.{Rose};
 ghost use Rattle.cmd_board.specs.BoardEnds.{BoardEnds};
 ghost use Rattle.cmd_lines.specs.Ends.{OnReadFault, OnWriteFault};
 
-use crate::game::{END_OF_LINE, Game};
+use crate::game::{END_OF_LINE, UntimedGame};
 use cmd_lines::{End, LineAnswerer, answer_each};
 use edge_traits::{Sink, Source};
 use memory::NoMemory;
 use std::alloc::Global;
 
-impl LineAnswerer for Game {
+impl LineAnswerer for UntimedGame {
     ghost use Rattle.cmd_board.specs.Transcript.{board_lines};
 
     ghost command = { board_lines };
@@ -30,7 +30,7 @@ pub fn board<S: Source, K: Sink>(alloc: Global, source: &mut S, sink: &mut K) ->
     ensures read_cause { OnReadFault result (Rose (S.faults source.old) (S.faults source.new)) }
     ensures write_cause { OnWriteFault result (Rose (K.faults sink.old) (K.faults sink.new)) }
 {
-    let Ok(game) = Game::new(alloc) else {
+    let Ok(game) = UntimedGame::new(alloc) else {
         return End::Memory;
     };
     answer_each(alloc, game, source, sink)

@@ -4,7 +4,7 @@ use Rattle.std.specs.Prelude.{IfSome, take}
 use Rattle.std.specs.FinMap as map
 use Rattle.std.specs.Io.KnownBytes.{Appends}
 use Rattle.std.proofs.KnownBytes.{Appends-trans}
-use Rattle.edge_traits.specs.Pairs.{Table}
+use Rattle.edge_traits.specs.Pairs.{Records}
 use Rattle.edge_traits.specs.Sink.{AppendsFront}
 use Rattle.cmd_lines.specs.declared.end.End.{End}
 use Rattle.cmd_lines.specs.declared.end.End.TheVariants.{Done, ReadFault, WriteFault, Memory, BadLine, Spent}
@@ -22,7 +22,7 @@ use Rattle.cmd_check.specs.CheckEnds.{CheckEnds, WritesLine}
 use Rattle.cmd_check.specs.Counts.{AreCounts, check_line}
 
 -- a loaded lobby has the numbers of the table's rows
-pub counted : (table : Option Table) (lobby : LobbyState) (accounts games : ℕ) → IfSome table IsGoodStore → IfSome table (λ told. HasSizes told lobby)
+pub counted : (table : Option Records) (lobby : LobbyState) (accounts games : ℕ) → IfSome table IsGoodStore → IfSome table (λ told. HasSizes told lobby)
     → accounts ≡ length lobby.accounts → games ≡ length lobby.shelf.games → AreCounts table accounts games
 counted None lobby accounts games good sized a g = tt
 counted (Some told) lobby accounts games good sized a g = (
@@ -36,7 +36,7 @@ front_behind : (a b c : Option (List ℕ)) (line : List ℕ) → Appends a b [] 
 front_behind a b c line nothing front = (front.0, Appends-trans a b c [] (take front.0 line) nothing front.1)
 
 -- the line of the counts was written, or a beginning of it
-pub told : (table : Option Table) (a b c : Option (List ℕ)) (accounts games : ℕ) (end : End) → AreCounts table accounts games → Appends a b []
+pub told : (table : Option Records) (a b c : Option (List ℕ)) (accounts games : ℕ) (end : End) → AreCounts table accounts games → Appends a b []
     → WritesLine (check_line accounts games) b c end → CheckEnds table a c (Read end)
 told table a b c accounts games Done counts nothing wrote =
     record { accounts = accounts; games = games; counts = counts; wrote = Appends-trans a b c [] (check_line accounts games) nothing wrote }
@@ -49,7 +49,7 @@ told table a b c accounts games BadLine counts nothing wrote = absurd wrote
 told table a b c accounts games Spent counts nothing wrote = absurd wrote
 
 -- the store couldn't be opened
-pub not_opened : (A : Type 0) (table : Option Table) (a b : Option (List ℕ)) (fault : StoreFault) → Tells {A = A} table a b (Err fault)
+pub not_opened : (A : Type 0) (table : Option Records) (a b : Option (List ℕ)) (fault : StoreFault) → Tells {A = A} table a b (Err fault)
     → CheckEnds table a b (outcome_of fault)
 not_opened A table a b store.BadRecord h = record { key = h.0; first = h.1; wrote = h.2 }
 not_opened A table a b store.KeeperFault h = h

@@ -2,7 +2,7 @@
 use Rattle.std.specs.Prelude.{◌≡◌, ◌⊎◌, ℕ, List, []}
 use Rattle.std.specs.declared.option.Option.{Option}
 use Rattle.std.specs.Io.KnownBytes.{Appends}
-use Rattle.edge_traits.specs.Pairs.{Table}
+use Rattle.edge_traits.specs.Pairs.{Records}
 use Rattle.edge_traits.specs.Sink.{AppendsFront}
 use Rattle.cmd_lines.specs.declared.end.End.{End}
 use Rattle.cmd_lines.specs.declared.end.End.TheVariants.{Done, ReadFault, WriteFault, Memory, BadLine, Spent}
@@ -21,31 +21,31 @@ WritesLine line written written' BadLine = ⊥
 WritesLine line written written' Spent = ⊥
 
 -- the store is good, and the line of its counts was written
-pub record IsChecked (table : Option Table) (written written' : Option (List ℕ)) : Type 0 where
+pub record IsChecked (table : Option Records) (written written' : Option (List ℕ)) : Type 0 where
   pub accounts : ℕ
   pub games : ℕ
   pub counts : AreCounts table accounts games
   pub wrote : Appends written written' (check_line accounts games)
 
 -- a record of the store is bad, and the line of the least bad key was written
-pub record IsBadTold (table : Option Table) (written written' : Option (List ℕ)) : Type 0 where
+pub record IsBadTold (table : Option Records) (written written' : Option (List ℕ)) : Type 0 where
   pub key : List ℕ
   pub first : IsFirstBad table key
   pub wrote : Appends written written' (bad_record_line key)
 
 -- what is written of the store: the line of its counts where it is good, and else that of its least bad key
-abbrev pub IsTextOf : Option Table → List ℕ → Type 0
+abbrev pub IsTextOf : Option Records → List ℕ → Type 0
 IsTextOf table text =
     ((accounts : ℕ) × (games : ℕ) × AreCounts table accounts games × (text ≡ check_line accounts games))
     ⊎ ((key : List ℕ) × IsFirstBad table key × (text ≡ bad_record_line key))
 
 -- nothing was written, or a beginning of what is written of the store
-abbrev pub IsPartTold : Option Table → Option (List ℕ) → Option (List ℕ) → Type 0
+abbrev pub IsPartTold : Option Records → Option (List ℕ) → Option (List ℕ) → Type 0
 IsPartTold table written written' =
     Appends written written' [] ⊎ ((text : List ℕ) × IsTextOf table text × AppendsFront written written' text)
 
 -- how the command ends
-abbrev pub CheckEnds : Option Table → Option (List ℕ) → Option (List ℕ) → Outcome → Type 0
+abbrev pub CheckEnds : Option Records → Option (List ℕ) → Option (List ℕ) → Outcome → Type 0
 CheckEnds table written written' (Read Done) = IsChecked table written written'
 CheckEnds table written written' (Read ReadFault) = ⊥
 CheckEnds table written written' (Read WriteFault) = IsPartTold table written written'

@@ -3,7 +3,7 @@ use Rattle.std.specs.Prelude.{◌≡◌, ℕ, List, ◌++◌, codes, decimal, If
 use Rattle.std.specs.declared.option.Option.{Option}
 use Rattle.std.specs.FinMap as map
 use Rattle.std.specs.Fmt.{digits}
-use Rattle.edge_traits.specs.Pairs.{Table}
+use Rattle.edge_traits.specs.Pairs.{Records}
 use Rattle.lobby_load.specs.BadRows.{IsAccount, IsGame, IsGoodStore}
 use Rattle.lobby_load.specs.Loaded.{HasCount}
 
@@ -13,7 +13,7 @@ check_line accounts games =
     codes "ok: " ++ decimal accounts ++ codes " accounts, " ++ decimal games ++ codes " games\n"
 
 -- each record of a table that is told is good, and so many of its rows are accounts, and so many games
-abbrev pub AreCounts : Option Table → ℕ → ℕ → Type 0
+abbrev pub AreCounts : Option Records → ℕ → ℕ → Type 0
 AreCounts table accounts games = IfSome table (λ told. IsGoodStore told
     × HasCount IsAccount accounts (map.entries told) × HasCount IsGame games (map.entries told))
 

@@ -3,7 +3,7 @@ use Rattle.std.proofs.Common.{◌≡◌, ℕ, ◌<◌, ◌^◌, List, [], Option
 use Rattle.std.specs.Prelude.{IfOk, IfSome, option_map}
 use Rattle.std.specs.Io.KnownBytes.{Appends}
 use Rattle.std.proofs.KnownBytes.{Appends-nil, Appends-trans}
-use Rattle.edge_traits.specs.Pairs.{Table}
+use Rattle.edge_traits.specs.Pairs.{Records}
 use Rattle.game_records.specs.declared.stored_game.StoredGame.{StoredGame}
 use Rattle.lobby_shelf.specs.Numbers.{stored_game}
 use Rattle.cmd_lines.specs.LineCommandEnds.{LineCommandEnds}
@@ -54,7 +54,7 @@ no_memory e left written = inr (record { unread = refl; text = (0, Appends-nil w
 
 -- ---- behind an opening of the store that wrote nothing
 
-module _ (table : Option Table) (number : ℕ) (left left' written mid written' : Option (List ℕ)) (none : Appends written mid []) where
+module _ (table : Option Records) (number : ℕ) (left left' written mid written' : Option (List ℕ)) (none : Appends written mid []) where
   answered : (e : ExamState) (end : End) → AreAnswered e left left' mid written' end → AreAnswered e left left' written written' end
   answered e end h = record { shown = h.shown; opening = Appends-trans written mid h.shown [] (shown_text e) none h.opening; answers = h.answers }
 
@@ -116,11 +116,11 @@ module _ (table : Option Table) (number : ℕ) (left left' written mid written' 
 
 -- ---- the store wasn't opened
 
-front_told : (table : Option Table) (number : ℕ) (left written written' : Option (List ℕ)) → WroteFront table written written' → IsCutOffFirst table number left left written written'
+front_told : (table : Option Records) (number : ℕ) (left written written' : Option (List ℕ)) → WroteFront table written written' → IsCutOffFirst table number left left written written'
 front_told table number left written written' h =
     record { due = bad_record_line h.0; is_due = inr (inl (h.0, h.1, refl)); cut = record { unread = refl; text = h.2 } }
 
-pub not_opened : (A : Type 0) (table : Option Table) (number : ℕ) (left written written' : Option (List ℕ)) (why : StoreFault) → Tells {A = A} table written written' (Err why)
+pub not_opened : (A : Type 0) (table : Option Records) (number : ℕ) (left written written' : Option (List ℕ)) (why : StoreFault) → Tells {A = A} table written written' (Err why)
     → ExamineEnds table number left left written written' (outcome_of why)
 not_opened A table number left written written' fault.BadRecord told = record { unread = refl; key = told.0; bad = told.1; text = told.2 }
 not_opened A table number left written written' fault.KeeperFault told = (refl, told)

@@ -5,7 +5,7 @@ use Rattle.std.specs.List.{find}
 use Rattle.std.proofs.lemmas.Bool.{eqb-true, eq-eqb}
 use Rattle.std.proofs.lemmas.List.Elements.{All-head, All-tail}
 use Rattle.std.proofs.lemmas.Slice.Eq.{bytes_eq-Decides}
-use Rattle.edge_traits.specs.Pairs.{Table}
+use Rattle.edge_traits.specs.Pairs.{Records}
 use Rattle.fics_words.specs.declared.account.Account.{Account}
 use Rattle.game_records.specs.Keys.{game_key}
 use Rattle.game_records.specs.Replays.{Replays}
@@ -71,13 +71,13 @@ no_record : (found : Option Shelved) → game_in found ≡ None → game_record 
 no_record None e = refl
 no_record (Some row) e = absurd cc
 
-module _ (table : Option Table) (lobby : LobbyState) (number : ℕ) (small : number < 2 ^ 64) (formed : IsWellFormed lobby) (spelled : AreSpelled lobby)
+module _ (table : Option Records) (lobby : LobbyState) (number : ℕ) (small : number < 2 ^ 64) (formed : IsWellFormed lobby) (spelled : AreSpelled lobby)
     (loaded : IfSome table (λ told. HasLoaded told lobby)) (good : IfSome table IsGoodStore) where
   -- it stands in the store under that number's key
   found_stands : (game : StoredGame) → stored_game lobby.shelf.games number ≡ Some game → IfSome table (StandsUnder number game)
   found_stands game e = by table loaded
     where
-      by : (t : Option Table) → IfSome t (λ told. HasLoaded told lobby) → IfSome t (StandsUnder number game)
+      by : (t : Option Records) → IfSome t (λ told. HasLoaded told lobby) → IfSome t (StandsUnder number game)
       by None h = tt
       by (Some told) h = record {
         bytes = spelling (a.Game game);
@@ -94,7 +94,7 @@ module _ (table : Option Table) (lobby : LobbyState) (number : ℕ) (small : num
   none_stands : stored_game lobby.shelf.games number ≡ None → IfSome table (λ told. held told (game_key number) ≡ None)
   none_stands e = by table loaded
     where
-      by : (t : Option Table) → IfSome t (λ told. HasLoaded told lobby) → IfSome t (λ told. held told (game_key number) ≡ None)
+      by : (t : Option Records) → IfSome t (λ told. HasLoaded told lobby) → IfSome t (λ told. held told (game_key number) ≡ None)
       by None h = tt
       by (Some told) h =
           sym (h (game_key number)) ∙ wanted_game lobby.accounts lobby.shelf.games number formed.shelf.sound.numbers small

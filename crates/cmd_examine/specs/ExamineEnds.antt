@@ -3,7 +3,7 @@
 use Rattle.std.specs.Prelude.{◌≡◌, ◌⊎◌, ℕ, List, [], codes, IfSome, None, Some, Result, Ok, Err, ⊤}
 use Rattle.std.specs.declared.option.Option.{Option}
 use Rattle.std.specs.Io.KnownBytes.{Appends}
-use Rattle.edge_traits.specs.Pairs.{Table}
+use Rattle.edge_traits.specs.Pairs.{Records}
 use Rattle.edge_traits.specs.Sink.{AppendsFront}
 use Rattle.game_records.specs.Keys.{game_key}
 use Rattle.game_records.specs.Replays.{Replays}
@@ -26,19 +26,19 @@ abbrev pub no_such_game : List ℕ
 no_such_game = codes "no such game\n"
 
 -- the game stands in the table under its number's key
-pub record StandsUnder (number : ℕ) (game : StoredGame) (table : Table) : Type 0 where
+pub record StandsUnder (number : ℕ) (game : StoredGame) (table : Records) : Type 0 where
   pub bytes : List ℕ
   pub there : held table (game_key number) ≡ Some bytes
   pub spelled : IsSpelled (Game game) bytes
 
 -- the store is good, and the game is its game of that number
-pub record IsGameOf (table : Option Table) (number : ℕ) (game : StoredGame) : Type 0 where
+pub record IsGameOf (table : Option Records) (number : ℕ) (game : StoredGame) : Type 0 where
   pub good : IfSome table IsGoodStore
   pub stands : IfSome table (StandsUnder number game)
   pub replays : Replays game
 
 -- the store is good, and has no game of that number
-pub record HasNone (table : Option Table) (number : ℕ) : Type 0 where
+pub record HasNone (table : Option Records) (number : ℕ) : Type 0 where
   pub good : IfSome table IsGoodStore
   pub none : IfSome table (λ told. held told (game_key number) ≡ None)
 
@@ -88,7 +88,7 @@ ExaminesOpened (Err want) left left' written written' end =
     (left' ≡ left) × (written' ≡ written) × (end ≡ Read Memory)
 
 -- the store's game of that number was examined, with this end
-pub record IsExamined (table : Option Table) (number : ℕ) (left left' written written' : Option (List ℕ)) (end : End)
+pub record IsExamined (table : Option Records) (number : ℕ) (left left' written written' : Option (List ℕ)) (end : End)
     : Type 0 where
   pub game : StoredGame
   pub stored : IsGameOf table number game
@@ -96,35 +96,35 @@ pub record IsExamined (table : Option Table) (number : ℕ) (left left' written 
 
 -- this text is due before anything is read: none yet, the line that tells of the least bad record, the line that tells
 -- that there is no such game, or the lines that show the game before its first half-move
-abbrev pub IsDueFirst : Option Table → ℕ → List ℕ → Type 0
+abbrev pub IsDueFirst : Option Records → ℕ → List ℕ → Type 0
 IsDueFirst table number due =
     (due ≡ []) ⊎ (((key : List ℕ) × IsFirstBad table key × (due ≡ bad_record_line key))
     ⊎ ((HasNone table number × (due ≡ no_such_game))
     ⊎ ((game : StoredGame) × IsGameOf table number game × (due ≡ shown_text (opened game)))))
 
 -- nothing was read, and a beginning was written of what is due before
-pub record IsCutOffFirst (table : Option Table) (number : ℕ)
+pub record IsCutOffFirst (table : Option Records) (number : ℕ)
     (left left' written written' : Option (List ℕ)) : Type 0 where
   pub due : List ℕ
   pub is_due : IsDueFirst table number due
   pub cut : IsCutOff due left left' written written'
 
 -- a record is bad: nothing was read, and the line that tells of the least bad key was written
-pub record IsBadTold (table : Option Table) (left left' written written' : Option (List ℕ)) : Type 0 where
+pub record IsBadTold (table : Option Records) (left left' written written' : Option (List ℕ)) : Type 0 where
   pub unread : left' ≡ left
   pub key : List ℕ
   pub bad : IsFirstBad table key
   pub text : Appends written written' (bad_record_line key)
 
 -- the store is good and has no game of the number: nothing was read, and that was told
-pub record IsNoneTold (table : Option Table) (number : ℕ) (left left' written written' : Option (List ℕ)) : Type 0 where
+pub record IsNoneTold (table : Option Records) (number : ℕ) (left left' written written' : Option (List ℕ)) : Type 0 where
   pub unread : left' ≡ left
   pub none : HasNone table number
   pub text : Appends written written' no_such_game
 
 -- how `examine` ends. Where all of the input was read and answered, exactly the lines that show the game before its
 -- first half-move were written, and then the answers of the lines
-abbrev pub ExamineEnds : Option Table → ℕ → Option (List ℕ) → Option (List ℕ) → Option (List ℕ) → Option (List ℕ)
+abbrev pub ExamineEnds : Option Records → ℕ → Option (List ℕ) → Option (List ℕ) → Option (List ℕ) → Option (List ℕ)
     → Outcome → Type 0
 ExamineEnds table number left left' written written' (Read Done) =
     IsExamined table number left left' written written' Done

@@ -3,7 +3,7 @@ use Rattle.std.proofs.Common.{ℕ, List, [], Option, inl, inr}
 use Rattle.std.specs.Prelude.{IfSome}
 use Rattle.std.specs.Io.KnownBytes.{Appends}
 use Rattle.std.proofs.KnownBytes.{Appends-trans}
-use Rattle.edge_traits.specs.Pairs.{Table}
+use Rattle.edge_traits.specs.Pairs.{Records}
 use Rattle.lobby_shelf.specs.declared.shelved.Shelved.{Shelved}
 use Rattle.cmd_lines.specs.declared.end.End.TheVariants.{Done, ReadFault, WriteFault, Memory, BadLine, Spent}
 use Rattle.cmd_lines.proofs.Sending.{AppendsFront-behind}
@@ -19,7 +19,7 @@ use Rattle.cmd_pgn.specs.PgnEnds.{PgnEnds, Writes}
 use Rattle.cmd_pgn.proofs.StoreGames.{store_games}
 
 -- the store was opened, which wrote nothing, and then its games were written
-exported : (table : Option Table) (old mid new : Option (List ℕ)) (games : List Shelved) (end : Outcome) → AreStoreGames table games → Appends old mid []
+exported : (table : Option Records) (old mid new : Option (List ℕ)) (games : List Shelved) (end : Outcome) → AreStoreGames table games → Appends old mid []
     → Writes mid new (exports games) end → PgnEnds table old new end
 exported table old mid new games (outcome.Read Done) stored none w =
     record { games = games; stored = stored; text = Appends-trans old mid new [] (exports games) none w }
@@ -34,7 +34,7 @@ exported table old mid new games outcome.BadRecord stored none w = absurd w
 exported table old mid new games outcome.KeeperFault stored none w = absurd w
 exported table old mid new games outcome.NoGame stored none w = absurd w
 
-pub store_exported : (table : Option Table) (old mid new : Option (List ℕ)) (lobby : LobbyState) (end : Outcome) → IsWellFormed lobby → AreSpelled lobby
+pub store_exported : (table : Option Records) (old mid new : Option (List ℕ)) (lobby : LobbyState) (end : Outcome) → IsWellFormed lobby → AreSpelled lobby
     → IfSome table (λ told. HasLoaded told lobby) → IfSome table IsGoodStore → Appends old mid [] → Writes mid new (exports lobby.shelf.games) end → PgnEnds table old new end
 store_exported table old mid new lobby end formed spelled loaded good none w =
     exported table old mid new lobby.shelf.games end (store_games table lobby formed spelled loaded good) none w

@@ -3,7 +3,7 @@ use Rattle.std.proofs.Common.{arith, ◌≡◌, ℕ, Bool, true, false, cond, Li
 use Rattle.std.specs.Prelude.{◌⊎◌, All, Contains, IfSome}
 use Rattle.std.specs.List.{find}
 use Rattle.std.proofs.lemmas.Slice.Eq.{bytes_eq-Decides}
-use Rattle.edge_traits.specs.Pairs.{Table}
+use Rattle.edge_traits.specs.Pairs.{Records}
 use Rattle.fics_words.specs.declared.account.Account.{Account}
 use Rattle.game_records.specs.Keys.{game_key}
 use Rattle.game_records.specs.Replays.{Replays}
@@ -94,7 +94,7 @@ some_record : (found : Option Shelved) (bytes : List ℕ) → game_record found 
 some_record None bytes e = cc
 some_record (Some row) bytes e = (row, refl, cc)
 
-module _ (table : Table) (lobby : LobbyState) (formed : IsWellFormed lobby) (spelled : AreSpelled lobby) (loaded : HasLoaded table lobby) where
+module _ (table : Records) (lobby : LobbyState) (formed : IsWellFormed lobby) (spelled : AreSpelled lobby) (loaded : HasLoaded table lobby) where
   has_game : (row : Shelved) → Contains lobby.shelf.games row → HasGame table row
   has_game row c = record {
     pair = (game_key row.number, spelling (a.Game row.game));
@@ -128,7 +128,7 @@ module _ (table : Table) (lobby : LobbyState) (formed : IsWellFormed lobby) (spe
   are_games : AreGamesOf table lobby.shelf.games
   are_games = record { order = formed.shelf.sound.numbers; exactly = λ row. (has_game row, has_row row) }
 
-pub store_games : (table : Option Table) (lobby : LobbyState) → IsWellFormed lobby → AreSpelled lobby → IfSome table (λ told. HasLoaded told lobby) → IfSome table IsGoodStore →
+pub store_games : (table : Option Records) (lobby : LobbyState) → IsWellFormed lobby → AreSpelled lobby → IfSome table (λ told. HasLoaded told lobby) → IfSome table IsGoodStore →
     AreStoreGames table lobby.shelf.games
 store_games None lobby formed spelled loaded good = record { order = formed.shelf.sound.numbers; replay = formed.shelf.sound.replay }
 store_games (Some table) lobby formed spelled loaded good = (good, are_games table lobby formed spelled loaded)

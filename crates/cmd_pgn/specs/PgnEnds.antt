@@ -2,7 +2,7 @@
 use Rattle.std.specs.Prelude.{◌⊎◌, ℕ, List, []}
 use Rattle.std.specs.declared.option.Option.{Option}
 use Rattle.std.specs.Io.KnownBytes.{Appends}
-use Rattle.edge_traits.specs.Pairs.{Table}
+use Rattle.edge_traits.specs.Pairs.{Records}
 use Rattle.edge_traits.specs.Sink.{AppendsFront}
 use Rattle.lobby_shelf.specs.declared.shelved.Shelved.{Shelved}
 use Rattle.cmd_lines.specs.declared.end.End.TheVariants.{Done, WriteFault, Memory}
@@ -13,26 +13,26 @@ use Rattle.cmd_pgn.specs.Exports.{exports}
 use Rattle.cmd_pgn.specs.Games.{AreStoreGames}
 
 -- the exports of the store's games were written, all of them
-pub record AreExported (table : Option Table) (old new : Option (List ℕ)) : Type 0 where
+pub record AreExported (table : Option Records) (old new : Option (List ℕ)) : Type 0 where
   pub games : List Shelved
   pub stored : AreStoreGames table games
   pub text : Appends old new (exports games)
 
 -- a beginning of these exports was written
-pub record AreBegun (table : Option Table) (old new : Option (List ℕ)) : Type 0 where
+pub record AreBegun (table : Option Records) (old new : Option (List ℕ)) : Type 0 where
   pub games : List Shelved
   pub stored : AreStoreGames table games
   pub text : AppendsFront old new (exports games)
 
 -- the line was written that tells of the least bad key
-pub record IsBadTold (table : Option Table) (old new : Option (List ℕ)) : Type 0 where
+pub record IsBadTold (table : Option Records) (old new : Option (List ℕ)) : Type 0 where
   pub key : List ℕ
   pub bad : IsFirstBad table key
   pub text : Appends old new (bad_record_line key)
 
 -- at its end exactly the exports of the store's chess games were written; at a fault of writing, and out of memory, a
 -- beginning of these, or of the line that tells of a bad record; at a bad record this line; and nothing else ends it
-abbrev pub PgnEnds : Option Table → Option (List ℕ) → Option (List ℕ) → Outcome → Type 0
+abbrev pub PgnEnds : Option Records → Option (List ℕ) → Option (List ℕ) → Outcome → Type 0
 PgnEnds table old new (outcome.Read Done) = AreExported table old new
 PgnEnds table old new (outcome.Read WriteFault) = AreBegun table old new ⊎ WroteFront table old new
 PgnEnds table old new (outcome.Read Memory) =

@@ -14,8 +14,8 @@ use Rattle.cmd_job.specs.declared.job.Job.{Job}
 use Rattle.cmd_job.specs.declared.job.JobFail.{JobFail}
 use Rattle.cmd_job.specs.declared.job.JobFail.TheVariants as fails
 use Rattle.cmd_run.specs.Words.{IsCommand, IsWithin, Names, command_of}
-use Rattle.cmd_run.specs.declared.command.Command.{Command}
-use Rattle.cmd_run.specs.declared.command.Command.TheVariants.{Bot, Demo, Examine}
+use Rattle.cmd_run.specs.declared.command.RunCommand.{RunCommand}
+use Rattle.cmd_run.specs.declared.command.RunCommand.TheVariants.{Bot, Demo, Examine}
 
 -- one word spells one number
 one_number : (most : ℕ) (words : List (List ℕ)) (text other : List ℕ) (n k : ℕ) → most < 2 ^ 32 → words ≡ text ∷ [] → words ≡ other ∷ [] → (text ≡ decimal n) × (n ≤ most) → (other ≡ decimal k) × (k ≤ most) → n ≡ k
@@ -56,12 +56,12 @@ one_job words one other h k =
     one_behind h.0 h.1 one other h.3 (subst (λ (w : List (List ℕ)). IsBehind h.0 w other) behind (subst (λ (c : CommandName). IsBehind c k.1 other) called k.3))
 
 -- words name one command
-pub one_command : (words : List (String Global)) (command other : Command) → Names words command → Names words other → other ≡ command
+pub one_command : (words : List (String Global)) (command other : RunCommand) → Names words command → Names words other → other ≡ command
 one_command words command other n m =
     let same : Some other ≡ Some command = sym m.2 ∙ one_job words m.0 n.0 m.1 n.1 ∙ n.2 in
     cc
 
-pub is_command : (words : List (String Global)) (command : Command) → Names words command → IsCommand words
+pub is_command : (words : List (String Global)) (command : RunCommand) → Names words command → IsCommand words
 is_command words command n = (command, n)
 
 -- words that name no job name no command
@@ -73,7 +73,7 @@ pub refused : (fail : JobFail) (words : List (String Global)) → fail ≡ fails
 refused fail words is none = subst (λ (f : JobFail). OnUsage f (IsCommand words → ⊥)) is none
 
 -- a command that there is looks no further ahead than the bot does
-abbrev IsWithinOf : Option Command → Type 0
+abbrev IsWithinOf : Option RunCommand → Type 0
 IsWithinOf None = Unit {0}
 IsWithinOf (Some command) = IsWithin command
 
@@ -89,5 +89,5 @@ within_behind name.Pgn words one h = subst (λ (j : Job). IsWithinOf (command_of
 within_behind name.Examine words one h = subst (λ (j : Job). IsWithinOf (command_of j)) (sym h.3) tt
 within_behind name.Serve words one h = subst (λ (j : Job). IsWithinOf (command_of j)) (sym h.5) tt
 
-pub is_within : (words : List (String Global)) (one : Job) (command : Command) → jobs.Names words one → command_of one ≡ Some command → IsWithin command
+pub is_within : (words : List (String Global)) (one : Job) (command : RunCommand) → jobs.Names words one → command_of one ≡ Some command → IsWithin command
 is_within words one command n is = subst IsWithinOf is (within_behind n.0 n.1 one n.3)

@@ -5,7 +5,7 @@ use Rattle.std.specs.declared.alloc.Global.{Global}
 use Rattle.std.specs.Io.KnownBytes.{Keeps}
 use Rattle.std.proofs.KnownBytes.{Appends-nil}
 use Rattle.edge_traits.specs.Keeper.{Stays}
-use Rattle.edge_traits.specs.Pairs.{Table}
+use Rattle.edge_traits.specs.Pairs.{Records}
 use Rattle.cmd_lines.specs.Ends as read
 use Rattle.cmd_job.specs.Usage.{UsageEnds}
 use Rattle.cmd_check.specs.CheckEnds.{CheckEnds}
@@ -17,8 +17,8 @@ use Rattle.cmd_lines.specs.declared.end.End.TheVariants.{Done, ReadFault, WriteF
 use Rattle.cmd_store.specs.Outcomes.{AsRead, OnKeeperFault, OnReadFault, OnWriteFault, status_of_outcome}
 use Rattle.cmd_store.specs.declared.outcome.Outcome.{Outcome}
 use Rattle.cmd_store.specs.declared.outcome.Outcome.TheVariants.{Read, BadRecord, KeeperFault, NoGame}
-use Rattle.cmd_run.specs.declared.command.Command.{Command}
-use Rattle.cmd_run.specs.declared.command.Command.TheVariants.{Board, Replay, Tourney, Tidy, Bot, Demo, Check, Pgn, Examine}
+use Rattle.cmd_run.specs.declared.command.RunCommand.{RunCommand}
+use Rattle.cmd_run.specs.declared.command.RunCommand.TheVariants.{Board, Replay, Tourney, Tidy, Bot, Demo, Check, Pgn, Examine}
 use Rattle.cmd_board.specs.Transcript.{board_lines}
 use Rattle.cmd_bot.specs.BotLines.{bot_answer, bot_lines}
 use Rattle.cmd_demo.proofs.Told.{nothing_told, told_or_cut}
@@ -77,7 +77,7 @@ status-read BadLine = (7, omega arith, refl)
 status-read Spent = (8, omega arith, refl)
 
 -- a command ends in one of them
-status-listed : (command : Command) (table : Option Table) (left left' written written' : Option (List ℕ)) (outcome : Outcome)
+status-listed : (command : RunCommand) (table : Option Records) (left left' written written' : Option (List ℕ)) (outcome : Outcome)
     → CommandEnds table left left' written written' outcome command → Contains statuses (status_of_outcome outcome)
 status-listed command table left left' written written' (Read end) h = status-read end
 status-listed command table left left' written written' KeeperFault h = (4, omega arith, refl)
@@ -92,7 +92,7 @@ status-listed Check table left left' written written' NoGame h = absurd h.1
 status-listed Pgn table left left' written written' NoGame h = absurd h.1
 status-listed (Examine game) table left left' written written' NoGame h = (9, omega arith, refl)
 
-pub listed_as : (status : ℕ) (command : Command) (table : Option Table) (left left' written written' : Option (List ℕ)) (outcome : Outcome)
+pub listed_as : (status : ℕ) (command : RunCommand) (table : Option Records) (left left' written written' : Option (List ℕ)) (outcome : Outcome)
     → CommandEnds table left left' written written' outcome command → status ≡ status_of_outcome outcome → Contains statuses status
 listed_as status command table left left' written written' outcome ends is = subst (Contains statuses) (sym is) (status-listed command table left left' written written' outcome ends)
 
@@ -104,7 +104,7 @@ usage_listed written written' status (inr (inr e, front)) = subst (Contains stat
 
 -- ---- what a status tells
 
-module _ (words : List (String Global)) (command : Command) (names : Names words command) (table : Option Table) (left left' written written' : Option (List ℕ)) (outcome : Outcome)
+module _ (words : List (String Global)) (command : RunCommand) (names : Names words command) (table : Option Records) (left left' written written' : Option (List ℕ)) (outcome : Outcome)
     (ends : CommandEnds table left left' written written' outcome command) where
   -- a status tells how the command ended
   pub does_at : (wanted : Outcome) (status : ℕ) → status ≡ status_of_outcome outcome → status ≡ status_of_outcome wanted → Does words (CommandEnds table left left' written written' wanted)
@@ -114,7 +114,7 @@ module _ (words : List (String Global)) (command : Command) (names : Names words
   pub writes_at : (wanted : Outcome) (status : ℕ) → status ≡ status_of_outcome outcome → status ≡ status_of_outcome wanted → WritesPart words table left left' written written' wanted
   writes_at wanted status is told = (
     λ other n.
-        subst (λ (j : Command). CommandEnds table left left' written written' wanted j) (sym (one_command words command other names n))
+        subst (λ (j : RunCommand). CommandEnds table left left' written written' wanted j) (sym (one_command words command other names n))
         (subst (λ (e : Outcome). CommandEnds table left left' written written' e command) (one_outcome outcome wanted status is told) ends),
     λ none. absurd (none (is_command words command names)),
   )
@@ -146,7 +146,7 @@ pub Keeps-same : (left : Option (List ℕ)) → Keeps left left
 Keeps-same None = tt
 Keeps-same (Some bytes) = refl
 
-out_of_memory : (table : Option Table) (left written : Option (List ℕ)) (command : Command) → CommandEnds table left left written written (Read Memory) command
+out_of_memory : (table : Option Records) (left written : Option (List ℕ)) (command : RunCommand) → CommandEnds table left left written written (Read Memory) command
 out_of_memory table left written Board = AnswersPart-none board_lines left written
 out_of_memory table left written Replay = ReplayEnds-none left written
 out_of_memory table left written Tourney = AnswersPart-none tourney_lines left written
@@ -158,11 +158,11 @@ out_of_memory table left written Pgn = (Keeps-same left, inl (Appends-nil writte
 out_of_memory table left written (Examine game) =
     inr (record { due = []; is_due = inl refl; cut = record { unread = refl; text = (0, Appends-nil written) } })
 
-pub memory_at_once : (words : List (String Global)) (table : Option Table) (left written : Option (List ℕ)) → WritesPart words table left left written written (Read Memory)
+pub memory_at_once : (words : List (String Global)) (table : Option Records) (left written : Option (List ℕ)) → WritesPart words table left left written written (Read Memory)
 memory_at_once words table left written = (λ command names. out_of_memory table left written command, λ none. (Keeps-same left, (0, Appends-nil written)))
 
 -- a beginning of the usage line was written
-pub usage_part : (words : List (String Global)) (table : Option Table) (left written written' : Option (List ℕ)) (outcome : Outcome) (status : ℕ) → (IsCommand words → ⊥)
+pub usage_part : (words : List (String Global)) (table : Option Records) (left written written' : Option (List ℕ)) (outcome : Outcome) (status : ℕ) → (IsCommand words → ⊥)
     → UsageEnds written written' status → (status ≡ 1 → ⊥) → WritesPart words table left left written written' outcome
 usage_part words table left written written' outcome status none (inl whole) not_whole = absurd (not_whole whole.0)
 usage_part words table left written written' outcome status none (inr front) not_whole = (λ command names. absurd (none (command, names)), λ none. (Keeps-same left, front.1))
@@ -170,7 +170,7 @@ usage_part words table left written written' outcome status none (inr front) not
 -- ---- what stays
 
 -- what stays unless the command is of this kind
-pub stays_unless : (words : List (String Global)) (command : Command) (Kind : Command → Type 0) (P : Type 0) → Names words command → ((Kind command → ⊥) → P) → (Does words Kind → ⊥) → P
+pub stays_unless : (words : List (String Global)) (command : RunCommand) (Kind : RunCommand → Type 0) (P : Type 0) → Names words command → ((Kind command → ⊥) → P) → (Does words Kind → ⊥) → P
 stays_unless words command Kind P names stays none = stays (λ of. none (command, names, of))
 
 -- the statuses that tell that the input wasn't reached
@@ -180,7 +180,7 @@ unread_at outcome P status is stays (inr (inl told)) = stays (subst EndsBeforeIn
 unread_at outcome P status is stays (inr (inr told)) = stays (subst EndsBeforeInput (sym (one_outcome outcome NoGame status is told)) tt)
 
 -- a table that isn't touched stays
-pub Stays-same : (table : Option Table) → Stays table table
+pub Stays-same : (table : Option Records) → Stays table table
 Stays-same None = tt
 Stays-same (Some held) = refl
 
@@ -195,7 +195,7 @@ lines_well Ends W P Q KeeperFault h p q well = absurd h
 lines_well Ends W P Q NoGame h p q well = absurd h
 
 -- a check of a good store
-is_complete-check : (table : Option Table) (written written' : Option (List ℕ)) (Q R : Type 0) (outcome : Outcome) → IsToldGood table → CheckEnds table written written' outcome
+is_complete-check : (table : Option Records) (written written' : Option (List ℕ)) (Q R : Type 0) (outcome : Outcome) → IsToldGood table → CheckEnds table written written' outcome
     → OnWriteFault outcome Q → OnKeeperFault outcome R → (Q → ⊥) → (R → ⊥) → (status_of_outcome outcome ≡ 0) ⊎ (status_of_outcome outcome ≡ 6)
 is_complete-check table written written' Q R (Read Done) good h q r no_write no_keeper = inl refl
 is_complete-check table written written' Q R (Read ReadFault) good h q r no_write no_keeper = absurd h
@@ -209,7 +209,7 @@ is_complete-check table written written' Q R KeeperFault good h q r no_write no_
 is_complete-check table written written' Q R NoGame good h q r no_write no_keeper = absurd h
 
 -- a pgn of a good store
-is_complete-pgn : (table : Option Table) (written written' : Option (List ℕ)) (Q R : Type 0) (outcome : Outcome) → IsToldGood table → PgnEnds table written written' outcome
+is_complete-pgn : (table : Option Records) (written written' : Option (List ℕ)) (Q R : Type 0) (outcome : Outcome) → IsToldGood table → PgnEnds table written written' outcome
     → OnWriteFault outcome Q → OnKeeperFault outcome R → (Q → ⊥) → (R → ⊥) → (status_of_outcome outcome ≡ 0) ⊎ (status_of_outcome outcome ≡ 6)
 is_complete-pgn table written written' Q R (Read Done) good h q r no_write no_keeper = inl refl
 is_complete-pgn table written written' Q R (Read ReadFault) good h q r no_write no_keeper = absurd h
@@ -223,7 +223,7 @@ is_complete-pgn table written written' Q R KeeperFault good h q r no_write no_ke
 is_complete-pgn table written written' Q R NoGame good h q r no_write no_keeper = absurd h
 
 -- under a number stands one game
-one_under : (number : ℕ) (one other : StoredGame) (told : Table) → StandsUnder number one told → StandsUnder number other told → one ≡ other
+one_under : (number : ℕ) (one other : StoredGame) (told : Records) → StandsUnder number one told → StandsUnder number other told → one ≡ other
 one_under number one other told h k =
     let bytes : Some h.bytes ≡ Some k.bytes = sym h.there ∙ k.there in
     let same : k.bytes ≡ h.bytes = sym cc in
@@ -231,16 +231,16 @@ one_under number one other told h k =
     cc
 
 -- the run of this command went well
-abbrev WentWell : Option Table → Option (List ℕ) → Command → ℕ → Type 0
+abbrev WentWell : Option Records → Option (List ℕ) → RunCommand → ℕ → Type 0
 WentWell table left command status = IfSome left (λ text. length text < 2 ^ 40 → IsGood table text command → (status ≡ 0) ⊎ (status ≡ 6))
 
 -- whatever the input
-any_input : (table : Option Table) (left : Option (List ℕ)) (command : Command) (status : ℕ) → ((text : List ℕ) → IsGood table text command → (status ≡ 0) ⊎ (status ≡ 6)) → WentWell table left command status
+any_input : (table : Option Records) (left : Option (List ℕ)) (command : RunCommand) (status : ℕ) → ((text : List ℕ) → IsGood table text command → (status ≡ 0) ⊎ (status ≡ 6)) → WentWell table left command status
 any_input table None command status f = tt
 any_input table (Some text) command status f = λ short good. f text good
 
 -- the run of `examine` went well whose lines were read well
-from_lines : (game : StoredGame) (table : Option Table) (number : ℕ) (left : Option (List ℕ)) (status : ℕ) → IfSome table (StandsUnder number game)
+from_lines : (game : StoredGame) (table : Option Records) (number : ℕ) (left : Option (List ℕ)) (status : ℕ) → IfSome table (StandsUnder number game)
     → IfSome left (λ text. length text < 2 ^ 40 → bad_in (examine_lines (opened game)) (lines_of text) ≡ None → (status ≡ 0) ⊎ (status ≡ 6)) → WentWell table left (Examine number) status
 from_lines game None number None status stands f = tt
 from_lines game None number (Some text) status stands f = λ short good. absurd good
@@ -250,7 +250,7 @@ from_lines game (Some told) number (Some text) status stands f = λ short good.
 
 -- an examination of a game that is there
 module _ (number : ℕ) (left left' written written' : Option (List ℕ)) (P Q R : Type 0) (no_read : P → ⊥) (no_write : Q → ⊥) (no_keeper : R → ⊥) where
-  is_complete-examine : (table : Option Table) (outcome : Outcome) → ExamineEnds table number left left' written written' outcome → OnReadFault outcome P → OnWriteFault outcome Q
+  is_complete-examine : (table : Option Records) (outcome : Outcome) → ExamineEnds table number left left' written written' outcome → OnReadFault outcome P → OnWriteFault outcome Q
       → OnKeeperFault outcome R → WentWell table left (Examine number) (status_of_outcome outcome)
   is_complete-examine table (Read Done) h p q r = any_input table left (Examine number) 0 (λ text good. inl refl)
   is_complete-examine table (Read ReadFault) h p q r = absurd (no_read p)
@@ -268,9 +268,9 @@ module _ (number : ℕ) (left left' written written' : Option (List ℕ)) (P Q R
       let wrong : None ≡ Some good.stands.bytes = sym h.none.none ∙ good.stands.there in
       absurd cc)
 
-module _ (table : Option Table) (left left' written written' : Option (List ℕ)) (P Q R : Type 0) (no_read : P → ⊥) (no_write : Q → ⊥) where
+module _ (table : Option Records) (left left' written written' : Option (List ℕ)) (P Q R : Type 0) (no_read : P → ⊥) (no_write : Q → ⊥) where
   -- what the status is where nothing goes wrong, for each command
-  is_complete-command : (command : Command) (outcome : Outcome) → CommandEnds table left left' written written' outcome command → OnReadFault outcome P → OnWriteFault outcome Q → OnKeeperFault outcome R
+  is_complete-command : (command : RunCommand) (outcome : Outcome) → CommandEnds table left left' written written' outcome command → OnReadFault outcome P → OnWriteFault outcome Q → OnKeeperFault outcome R
       → (IsOverStore command → R → ⊥) → WentWell table left command (status_of_outcome outcome)
   is_complete-command Board outcome h p q r no_keeper = lines_well _ (WentWell table left Board) P Q outcome h p q
       (λ end h p q. is_complete board_lines left left' written written' P Q end h p q no_read no_write)
@@ -291,11 +291,11 @@ module _ (table : Option Table) (left left' written written' : Option (List ℕ)
   is_complete-command (Examine number) outcome h p q r no_keeper =
       is_complete-examine number left left' written written' P Q R no_read no_write (no_keeper tt) table outcome h p q r
 
-  pub complete_at : (words : List (String Global)) (command other : Command) (outcome : Outcome) (status : ℕ) → Names words command → Names words other → status ≡ status_of_outcome outcome
+  pub complete_at : (words : List (String Global)) (command other : RunCommand) (outcome : Outcome) (status : ℕ) → Names words command → Names words other → status ≡ status_of_outcome outcome
       → CommandEnds table left left' written written' outcome command → OnReadFault outcome P → OnWriteFault outcome Q → OnKeeperFault outcome R → (IsOverStore other → R → ⊥)
       → WentWell table left other status
   complete_at words command other outcome status names n is h p q r no_keeper =
       let same : other ≡ command = one_command words command other names n in
       subst (WentWell table left other) (sym is)
-      (subst (λ (j : Command). WentWell table left j (status_of_outcome outcome)) (sym same)
-      (is_complete-command command outcome h p q r (subst (λ (j : Command). IsOverStore j → R → ⊥) same no_keeper)))
+      (subst (λ (j : RunCommand). WentWell table left j (status_of_outcome outcome)) (sym same)
+      (is_complete-command command outcome h p q r (subst (λ (j : RunCommand). IsOverStore j → R → ⊥) same no_keeper)))

@@ -7,7 +7,7 @@ use Rattle.cmd_bot.specs.BotEnds.{BotEnds}
 use Rattle.cmd_bot.specs.BotLines.{bot_lines}
 use Rattle.cmd_check.specs.CheckEnds.{CheckEnds}
 use Rattle.cmd_demo.specs.DemoEnds.{DemoEnds}
-use Rattle.edge_traits.specs.Pairs.{Table}
+use Rattle.edge_traits.specs.Pairs.{Records}
 use Rattle.examine_board.specs.Exam.{opened}
 use Rattle.cmd_examine.specs.ExamineEnds.{ExamineEnds, StandsUnder}
 use Rattle.cmd_examine.specs.Texts.{examine_lines}
@@ -26,12 +26,12 @@ use Rattle.cmd_tidy.specs.TidyEnds.{TidyEnds}
 use Rattle.cmd_tourney.specs.Texts.{tourney_lines}
 use Rattle.cmd_tourney.specs.TourneyEnds.{TourneyEnds}
 use Rattle.cmd_run.specs.Words.{IsCommand, Names, UsagePart}
-use Rattle.cmd_run.specs.declared.command.Command.{Command}
-use Rattle.cmd_run.specs.declared.command.Command.TheVariants.{Board, Replay, Tourney, Tidy, Bot, Demo, Check, Pgn, Examine}
+use Rattle.cmd_run.specs.declared.command.RunCommand.{RunCommand}
+use Rattle.cmd_run.specs.declared.command.RunCommand.TheVariants.{Board, Replay, Tourney, Tidy, Bot, Demo, Check, Pgn, Examine}
 
 -- how a command ends over this table, where it is told; `demo`, `check` and `pgn` leave the input as it was
-abbrev pub CommandEnds : Option Table → Option (List ℕ) → Option (List ℕ) → Option (List ℕ) → Option (List ℕ) → Outcome
-    → Command → Type 0
+abbrev pub CommandEnds : Option Records → Option (List ℕ) → Option (List ℕ) → Option (List ℕ) → Option (List ℕ) → Outcome
+    → RunCommand → Type 0
 CommandEnds table left left' written written' outcome Board = AsRead (BoardEnds left left' written written') outcome
 CommandEnds table left left' written written' outcome Replay = AsRead (ReplayEnds left left' written written') outcome
 CommandEnds table left left' written written' outcome Tourney =
@@ -50,32 +50,32 @@ CommandEnds table left left' written written' outcome (Examine game) =
 
 -- a prefix of what would have been written, at a fault of writing or when out of memory: of a command's text, or of the
 -- usage line
-abbrev pub WritesPart : List (String Global) → Option Table → Option (List ℕ) → Option (List ℕ) → Option (List ℕ)
+abbrev pub WritesPart : List (String Global) → Option Records → Option (List ℕ) → Option (List ℕ) → Option (List ℕ)
     → Option (List ℕ) → Outcome → Type 0
 WritesPart words table left left' written written' outcome =
-    ((command : Command) → Names words command → CommandEnds table left left' written written' outcome command)
+    ((command : RunCommand) → Names words command → CommandEnds table left left' written written' outcome command)
     × (¬ (IsCommand words) → UsagePart left left' written written')
 
 -- the table is told, and each of its records is good
-abbrev pub IsToldGood : Option Table → Type 0
+abbrev pub IsToldGood : Option Records → Type 0
 IsToldGood None = ⊥
 IsToldGood (Some table) = IsGoodStore table
 
 -- the table is good and has the game of that number, of which each line of the text is good
-pub record CanBeExamined (number : ℕ) (text : List ℕ) (table : Table) : Type 0 where
+pub record CanBeExamined (number : ℕ) (text : List ℕ) (table : Records) : Type 0 where
   pub good : IsGoodStore table
   pub game : StoredGame
   pub stands : StandsUnder number game table
   pub lines : each.bad_in (examine_lines (opened game)) (lines_of text) ≡ None
 
 -- the table is told, and this holds of it
-abbrev pub IsExaminable : Option Table → ℕ → List ℕ → Type 0
+abbrev pub IsExaminable : Option Records → ℕ → List ℕ → Type 0
 IsExaminable None number text = ⊥
 IsExaminable (Some table) number text = CanBeExamined number text table
 
 -- the input is in the command's grammar: none of its lines is bad, or they are those of an evening, or games are read
 -- in its text; `demo` reads none, `check` and `pgn` read a good store, and `examine` one with the game
-abbrev pub IsGood : Option Table → List ℕ → Command → Type 0
+abbrev pub IsGood : Option Records → List ℕ → RunCommand → Type 0
 IsGood table text Board = bad_in (lines_of text) ≡ None
 IsGood table text Replay = AreEvening (lines_of text)
 IsGood table text Tourney = each.bad_in tourney_lines (lines_of text) ≡ None

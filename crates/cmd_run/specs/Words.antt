@@ -7,11 +7,11 @@ use Rattle.std.specs.declared.alloc.Global.{Global}
 use Rattle.cmd_job.specs.Jobs as jobs
 use Rattle.cmd_job.specs.declared.job.Job.{Job}
 use Rattle.cmd_job.specs.declared.job.Job.TheVariants as job
-use Rattle.cmd_run.specs.declared.command.Command.{Command}
-use Rattle.cmd_run.specs.declared.command.Command.TheVariants.{Board, Replay, Tourney, Tidy, Bot, Demo, Check, Pgn, Examine}
+use Rattle.cmd_run.specs.declared.command.RunCommand.{RunCommand}
+use Rattle.cmd_run.specs.declared.command.RunCommand.TheVariants.{Board, Replay, Tourney, Tidy, Bot, Demo, Check, Pgn, Examine}
 
 -- the command that is run for a job; players are served by another call
-abbrev pub command_of : Job → Option Command
+abbrev pub command_of : Job → Option RunCommand
 command_of job.Board = Some Board
 command_of job.Replay = Some Replay
 command_of job.Tourney = Some Tourney
@@ -24,23 +24,23 @@ command_of (job.Examine store game) = Some (Examine game)
 command_of _ = None
 
 -- the words name this command
-abbrev pub Names : List (String Global) → Command → Type 0
+abbrev pub Names : List (String Global) → RunCommand → Type 0
 Names words command = (job : Job) × jobs.Names words job × (command_of job ≡ Some command)
 
 -- the bot looks 4 half-moves ahead at most
-abbrev pub IsWithin : Command → Type 0
+abbrev pub IsWithin : RunCommand → Type 0
 IsWithin (Bot depth) = depth ≤ 4
 IsWithin _ = ⊤
 
 -- the command is over a store: it calls the keeper
-abbrev pub IsOverStore : Command → Type 0
+abbrev pub IsOverStore : RunCommand → Type 0
 IsOverStore Check = ⊤
 IsOverStore Pgn = ⊤
 IsOverStore (Examine game) = ⊤
 IsOverStore _ = ⊥
 
 -- the command reads the input
-abbrev pub ReadsInput : Command → Type 0
+abbrev pub ReadsInput : RunCommand → Type 0
 ReadsInput (Demo number) = ⊥
 ReadsInput Check = ⊥
 ReadsInput Pgn = ⊥
@@ -48,11 +48,11 @@ ReadsInput _ = ⊤
 
 -- the words name a command
 abbrev pub IsCommand : List (String Global) → Type 0
-IsCommand words = (command : Command) × Names words command
+IsCommand words = (command : RunCommand) × Names words command
 
 -- the words name a command, of which this holds
-abbrev pub Does : List (String Global) → (Command → Type 0) → Type 0
-Does words P = (command : Command) × Names words command × P command
+abbrev pub Does : List (String Global) → (RunCommand → Type 0) → Type 0
+Does words P = (command : RunCommand) × Names words command × P command
 
 -- nothing was read, and a prefix of the usage line was written
 abbrev pub UsagePart : Option (List ℕ) → Option (List ℕ) → Option (List ℕ) → Option (List ℕ) → Type 0

@@ -9,7 +9,7 @@ use std::alloc::Global;
 
 /// A command of `run`.
 #[derive(Clone, Copy, Debug, PartialEq, Eq)]
-pub enum Command {
+pub enum RunCommand {
     /// Reads move words, one a line, and answers each.
     Board,
     /// Reads a script of an evening, and writes its transcript.
@@ -40,7 +40,7 @@ pub enum Command {
 }
 
 /// Reads the words. Those of a job that isn't done here are `Usage` too.
-pub(crate) fn read_command(alloc: Global, words: &[String]) -> Result<Command, JobFail>
+pub(crate) fn read_command(alloc: Global, words: &[String]) -> Result<RunCommand, JobFail>
     ensures command { IfOk result (Names words.now) }
     ensures within { IfOk result IsWithin }
     ensures usage { IfErr result (λ fail. OnUsage fail (¬ (IsCommand words.now))) }
@@ -55,19 +55,19 @@ pub(crate) fn read_command(alloc: Global, words: &[String]) -> Result<Command, J
 }
 
 /// The command that is run for a job; none where it isn't done here.
-fn command_of(job: &Job) -> Option<Command>
+fn command_of(job: &Job) -> Option<RunCommand>
     ensures { result ≡ command_of job.now }
 {
     match job {
-        Job::Board => Some(Command::Board),
-        Job::Replay => Some(Command::Replay),
-        Job::Tourney => Some(Command::Tourney),
-        Job::Tidy => Some(Command::Tidy),
-        Job::Bot { depth } => Some(Command::Bot { depth: *depth }),
-        Job::Demo { number } => Some(Command::Demo { number: *number }),
-        Job::Check { .. } => Some(Command::Check),
-        Job::Pgn { .. } => Some(Command::Pgn),
-        Job::Examine { game, .. } => Some(Command::Examine { game: *game }),
+        Job::Board => Some(RunCommand::Board),
+        Job::Replay => Some(RunCommand::Replay),
+        Job::Tourney => Some(RunCommand::Tourney),
+        Job::Tidy => Some(RunCommand::Tidy),
+        Job::Bot { depth } => Some(RunCommand::Bot { depth: *depth }),
+        Job::Demo { number } => Some(RunCommand::Demo { number: *number }),
+        Job::Check { .. } => Some(RunCommand::Check),
+        Job::Pgn { .. } => Some(RunCommand::Pgn),
+        Job::Examine { game, .. } => Some(RunCommand::Examine { game: *game }),
         _ => None,
     }
 }

@@ -15,5 +15,5 @@
 mod command;
 mod running;
 
-pub use command::Command;
+pub use command::RunCommand;
 pub use running::run;

@@ -11,9 +11,9 @@ ghost use Rattle.cmd_run.specs.Words.{Does, IsCommand, IsOverStore, IsWithin, Na
 ghost use Rattle.cmd_store.specs.Outcomes.{OnKeeperFault, OnReadFault, OnWriteFault};
 ghost use Rattle.cmd_lines.specs.declared.end.End.{End};
 ghost use Rattle.cmd_store.specs.declared.outcome.Outcome.{Outcome};
-ghost use Rattle.cmd_run.specs.declared.command.Command.{Command};
+ghost use Rattle.cmd_run.specs.declared.command.RunCommand.{RunCommand};
 
-use crate::command::{Command, read_command};
+use crate::command::{RunCommand, read_command};
 use cmd_board::board;
 use cmd_bot::bot;
 use cmd_check::check;
@@ -66,7 +66,7 @@ pub fn run<S: Source, K: Sink, P: Keeper>(
         (S.left source.new) (K.written sink.old) (K.written sink.new) (Outcome.Read End.Spent)) }
     ensures no_game { result ≡ 10 → Does words.now (CommandEnds (P.table keeper.old) (S.left source.old)
         (S.left source.new) (K.written sink.old) (K.written sink.new) Outcome.NoGame) }
-    ensures complete { (command : Command) → Names words.now command
+    ensures complete { (command : RunCommand) → Names words.now command
         → ¬ (Rose (S.faults source.old) (S.faults source.new)) → ¬ (Rose (K.faults sink.old) (K.faults sink.new))
         → (IsOverStore command → ¬ (Rose (P.faults keeper.old) (P.faults keeper.new)))
         → IfSome (S.left source.old) (λ text. length text < 2 ^ 40 → IsGood (P.table keeper.old) text command
@@ -88,7 +88,7 @@ pub fn run<S: Source, K: Sink, P: Keeper>(
 /// Runs a command.
 fn run_command<S: Source, K: Sink, P: Keeper>(
     alloc: Global,
-    command: Command,
+    command: RunCommand,
     source: &mut S,
     sink: &mut K,
     keeper: &mut P,
@@ -106,14 +106,14 @@ fn run_command<S: Source, K: Sink, P: Keeper>(
     ensures keeper_counted { P.faults keeper.old ≤ P.faults keeper.new }
 {
     match command {
-        Command::Board => Outcome::Read(board(alloc, source, sink)),
-        Command::Replay => Outcome::Read(replay(alloc, source, sink)),
-        Command::Tourney => Outcome::Read(tourney(alloc, source, sink)),
-        Command::Tidy => Outcome::Read(tidy(alloc, source, sink)),
-        Command::Bot { depth } => Outcome::Read(bot(alloc, depth, source, sink)),
-        Command::Demo { number } => Outcome::Read(demo(alloc, number, sink)),
-        Command::Check => check(alloc, sink, keeper),
-        Command::Pgn => pgn(alloc, sink, keeper),
-        Command::Examine { game } => examine(alloc, game, source, sink, keeper),
+        RunCommand::Board => Outcome::Read(board(alloc, source, sink)),
+        RunCommand::Replay => Outcome::Read(replay(alloc, source, sink)),
+        RunCommand::Tourney => Outcome::Read(tourney(alloc, source, sink)),
+        RunCommand::Tidy => Outcome::Read(tidy(alloc, source, sink)),
+        RunCommand::Bot { depth } => Outcome::Read(bot(alloc, depth, source, sink)),
+        RunCommand::Demo { number } => Outcome::Read(demo(alloc, number, sink)),
+        RunCommand::Check => check(alloc, sink, keeper),
+        RunCommand::Pgn => pgn(alloc, sink, keeper),
+        RunCommand::Examine { game } => examine(alloc, game, source, sink, keeper),
     }
 }

@@ -6,7 +6,7 @@ use Rattle.fics_words.specs.Handle.{key_of}
 use Rattle.fics_words.specs.Refusal.{name_of, number_of}
 use Rattle.fics_words.specs.declared.refusal.Refusal.{Refusal}
 use Rattle.cmd_lines.specs.LineCommand.{LineCommand}
-use Rattle.tourney_desk.specs.declared.score.Row.{Row}
+use Rattle.tourney_desk.specs.declared.score.ScoreRow.{ScoreRow}
 use Rattle.tourney_desk.specs.Tourney.{TourneyState, joining, no_tourney, pairs_told, reporting, starting, table_told}
 use Rattle.cmd_tourney.specs.Lines.{reading}
 use Rattle.cmd_tourney.specs.declared.line.TourneyLine.{TourneyLine}
@@ -33,13 +33,13 @@ abbrev pub pair_text : List (List ℕ) → ℕ × ℕ → List ℕ
 pair_text names pair = name_at names pair.0 ++ codes " - " ++ name_at names pair.1 ++ codes "\n"
 
 -- the line of a row of the table: its place, the player, the results that stand for that player, and the half-points
-abbrev pub row_text : List (List ℕ) → ℕ → Row → List ℕ
+abbrev pub row_text : List (List ℕ) → ℕ → ScoreRow → List ℕ
 row_text names place row =
     decimal place ++ codes " " ++ name_at names row.player ++ codes " " ++ decimal row.games ++ codes " "
     ++ decimal row.halves ++ codes "\n"
 
 -- the lines of rows, the first of which has this place
-abbrev pub rows_text : List (List ℕ) → ℕ → List Row → List ℕ
+abbrev pub rows_text : List (List ℕ) → ℕ → List ScoreRow → List ℕ
 rows_text names place [] = []
 rows_text names place (row ∷ rows) = row_text names place row ++ rows_text names (place + 1) rows
 

@@ -24,11 +24,11 @@ use tourney_desk::{Score, Tourney};
 
 /// The tourney of the lines that came, which contracts see as that tourney.
 #[derive(Drop)]
-struct Evening {
+struct TourneyEvening {
     tourney: Tourney,
 }
 
-impl Model for Evening {
+impl Model for TourneyEvening {
     ghost use Rattle.tourney_desk.specs.Tourney.{TourneyState};
 
     ghost Value = { TourneyState };
@@ -36,7 +36,7 @@ impl Model for Evening {
     ghost view = { λ evening. evening.tourney };
 }
 
-impl LineAnswerer for Evening {
+impl LineAnswerer for TourneyEvening {
     ghost use Rattle.cmd_tourney.specs.Texts.{tourney_lines};
 
     ghost command = { tourney_lines };
@@ -57,7 +57,7 @@ pub fn tourney<S: Source, K: Sink>(alloc: Global, source: &mut S, sink: &mut K) 
     ensures read_cause { OnReadFault result (Rose (S.faults source.old) (S.faults source.new)) }
     ensures write_cause { OnWriteFault result (Rose (K.faults sink.old) (K.faults sink.new)) }
 {
-    let evening = Evening {
+    let evening = TourneyEvening {
         tourney: Tourney::new(alloc),
     };
     answer_each(alloc, evening, source, sink)

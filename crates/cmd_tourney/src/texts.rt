@@ -7,7 +7,7 @@ ghost use Rattle.cmd_tourney.specs.Texts.{name_at, pair_text, refusal_text, roun
 
 use fics_words::{Refusal, write_number};
 use memory::NoMemory;
-use tourney_desk::{Row, Tourney};
+use tourney_desk::{ScoreRow, Tourney};
 
 /// The end of each line.
 pub(crate) const LINE_END: &[u8] = b"\n";
@@ -81,7 +81,11 @@ fn put_name(tourney: &Tourney, player: u8, out: &mut Vec<u8>) -> Result<(), NoMe
 }
 
 /// Appends the lines of the table, with places from 1 on.
-pub(crate) fn put_rows(tourney: &Tourney, rows: &[Row], out: &mut Vec<u8>) -> Result<(), NoMemory>
+pub(crate) fn put_rows(
+    tourney: &Tourney,
+    rows: &[ScoreRow],
+    out: &mut Vec<u8>,
+) -> Result<(), NoMemory>
     requires { All (λ row. row.player < length tourney.now.players) rows.now }
     ensures { OnOk result (out.new.items ≡ out.old.items ++ rows_text tourney.now.players 1 rows.now) }
 {
@@ -92,7 +96,7 @@ pub(crate) fn put_rows(tourney: &Tourney, rows: &[Row], out: &mut Vec<u8>) -> Re
 }
 
 /// Appends the line of a row of the table.
-fn put_row(tourney: &Tourney, place: u64, row: &Row, out: &mut Vec<u8>) -> Result<(), NoMemory>
+fn put_row(tourney: &Tourney, place: u64, row: &ScoreRow, out: &mut Vec<u8>) -> Result<(), NoMemory>
     requires { row.now.player < length tourney.now.players }
     ensures { OnOk result (out.new.items ≡ out.old.items ++ row_text tourney.now.players place row.now) }
 {

@@ -3,7 +3,7 @@ use Rattle.std.specs.Prelude.{◌≡◌, ℕ, nat_lt, nat_eq, bytes_eq, ◌||◌
 use Rattle.std.specs.List.{starts_with}
 use Rattle.fics_words.specs.declared.refusal.Refusal.{Refusal}
 use Rattle.fics_words.specs.declared.refusal.Refusal.TheVariants.{Unknown, AmbiguousWord}
-use Rattle.command_words.specs.declared.rows.Row.{Row}
+use Rattle.command_words.specs.declared.rows.CommandRow.{CommandRow}
 use Rattle.command_words.specs.declared.rows.Takes.{Takes}
 use Rattle.command_words.specs.declared.rows.Takes.TheVariants.{Nothing, MaybeName}
 use Rattle.command_words.specs.declared.rows.Bare.TheVariants.{Adjourn, Quit, Resign, SimOpen}
@@ -11,19 +11,19 @@ use Rattle.command_words.specs.declared.rows.Perhaps.TheVariants.{Accept}
 use Rattle.command_words.specs.declared.rows.TheConstants.{ROWS}
 
 -- the command's name begins with the word
-abbrev pub begins : List ℕ → Row → Bool
+abbrev pub begins : List ℕ → CommandRow → Bool
 begins word row = starts_with nat_eq row.0 word
 
 -- the word is the command's name, which has as many letters
-abbrev pub is_name : List ℕ → Row → Bool
+abbrev pub is_name : List ℕ → CommandRow → Bool
 is_name word row = begins word row && nat_eq (count_by (λ b. not (nat_eq b 32)) row.0) (length word)
 
 -- or its short form
-abbrev pub is_called : List ℕ → Row → Bool
+abbrev pub is_called : List ℕ → CommandRow → Bool
 is_called word row = is_name word row || bytes_eq word (row.1 ∷ [])
 
 -- the command of a row
-abbrev pub taken : Option Row → Option Takes
+abbrev pub taken : Option CommandRow → Option Takes
 taken None = None
 taken (Some row) = Some row.2
 

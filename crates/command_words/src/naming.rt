@@ -4,7 +4,7 @@ ghost use Rattle.std.specs.Prelude.{◌≡◌, count_by, find};
 ghost use Rattle.command_words.specs.declared.rows.TheConstants.{ROWS};
 ghost use Rattle.command_words.specs.Naming.{begins, is_called, is_name, named_by, one_by_front, taken};
 
-use crate::rows::{ROWS, Row, Takes};
+use crate::rows::{CommandRow, ROWS, Takes};
 use fics_words::Refusal;
 
 /// The command that a word in lower case names: the one whose name or short form it is, and else the one whose name it
@@ -55,21 +55,21 @@ fn count_begun(word: &[u8]) -> usize
 }
 
 /// Whether the word is the command's name or its short form.
-fn is_called(row: &Row, word: &[u8]) -> bool
+fn is_called(row: &CommandRow, word: &[u8]) -> bool
     ensures { result ≡ is_called word.now row.now }
 {
     is_name(row, word) || word == [row.1].as_slice()
 }
 
 /// Whether the word is the command's name.
-fn is_name(row: &Row, word: &[u8]) -> bool
+fn is_name(row: &CommandRow, word: &[u8]) -> bool
     ensures { result ≡ is_name word.now row.now }
 {
     begins(row, word) && row.0.iter().filter(|byte| **byte != b' ').count() == word.len()
 }
 
 /// Whether the command's name begins with the word.
-fn begins(row: &Row, word: &[u8]) -> bool
+fn begins(row: &CommandRow, word: &[u8]) -> bool
     ensures { result ≡ begins word.now row.now }
 {
     row.0.starts_with(word)

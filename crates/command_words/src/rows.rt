@@ -104,110 +104,110 @@ pub enum Takes {
 
 /// A command: its name, with blanks behind it; its short form, or a blank where it has none; and what it takes.
 #[derive(Clone, Copy)]
-pub struct Row(pub [u8; 9], pub u8, pub Takes);
+pub struct CommandRow(pub [u8; 9], pub u8, pub Takes);
 
 /// The commands by their letters, of which signs are none. The comment above a row is what docs/CLIENTS.md says of it.
-pub const ROWS: [Row; 44] = [
+pub const ROWS: [CommandRow; 44] = [
     // `abort`: offers to end the game without a result.
-    Row(*b"abort    ", b' ', Takes::Nothing(Bare::Abort)),
+    CommandRow(*b"abort    ", b' ', Takes::Nothing(Bare::Abort)),
     // `accept [H]`: accepts H's challenge; without H the earliest offer at the own board, and where there is none
     // the oldest challenge.
-    Row(*b"accept   ", b'a', Takes::MaybeName(Perhaps::Accept)),
+    CommandRow(*b"accept   ", b'a', Takes::MaybeName(Perhaps::Accept)),
     // `adjourn`: offers to go on another day, where all players have accounts.
-    Row(*b"adjourn  ", b' ', Takes::Nothing(Bare::Adjourn)),
+    CommandRow(*b"adjourn  ", b' ', Takes::Nothing(Bare::Adjourn)),
     // `alias NAME TEXT`: lets NAME, 1 to 15 lower-case letters, stand for TEXT at the beginning of a line; at most
     // 32.
-    Row(*b"alias    ", b' ', Takes::Alias),
+    CommandRow(*b"alias    ", b' ', Takes::Alias),
     // `+censor H`: puts H on the list of those who can't tell one anything, challenge one or take one's seek, at most
     // 100; [below](#keeping-others-away).
-    Row(*b"+censor  ", b' ', Takes::Name(ByName::AddCensor)),
+    CommandRow(*b"+censor  ", b' ', Takes::Name(ByName::AddCensor)),
     // `-censor H`: takes H off that list.
-    Row(*b"-censor  ", b' ', Takes::Name(ByName::DropCensor)),
+    CommandRow(*b"-censor  ", b' ', Takes::Name(ByName::DropCensor)),
     // `+channel N`: joins channel N, 0 to 255; at most 20.
-    Row(*b"+channel ", b' ', Takes::Channel(OnChannel::Join)),
+    CommandRow(*b"+channel ", b' ', Takes::Channel(OnChannel::Join)),
     // `-channel N`: leaves channel N.
-    Row(*b"-channel ", b' ', Takes::Channel(OnChannel::Leave)),
+    CommandRow(*b"-channel ", b' ', Takes::Channel(OnChannel::Leave)),
     // `decline [H]`: turns H's challenge down; without H the earliest offer at the own board, and where there is
     // none the oldest challenge.
-    Row(*b"decline  ", b' ', Takes::MaybeName(Perhaps::Decline)),
+    CommandRow(*b"decline  ", b' ', Takes::MaybeName(Perhaps::Decline)),
     // `draw`: offers a draw, or claims one where the rules grant it (50 moves, a third time).
-    Row(*b"draw     ", b' ', Takes::Nothing(Bare::Draw)),
+    CommandRow(*b"draw     ", b' ', Takes::Nothing(Bare::Draw)),
     // `flag`: calls the flag on the opponent.
-    Row(*b"flag     ", b' ', Takes::Nothing(Bare::Flag)),
+    CommandRow(*b"flag     ", b' ', Takes::Nothing(Bare::Flag)),
     // `games`: the games.
-    Row(*b"games    ", b' ', Takes::Nothing(Bare::Games)),
+    CommandRow(*b"games    ", b' ', Takes::Nothing(Bare::Games)),
     // `goboard H`: goes to the first of one's games in which H is the opponent at one's own board; 20 for a
     // partner, and for a partner's opponent.
-    Row(*b"goboard  ", b' ', Takes::Name(ByName::GoBoard)),
+    CommandRow(*b"goboard  ", b' ', Takes::Name(ByName::GoBoard)),
     // `inchannel N`: who is in channel N.
-    Row(*b"inchannel", b' ', Takes::Channel(OnChannel::Ask)),
+    CommandRow(*b"inchannel", b' ', Takes::Channel(OnChannel::Ask)),
     // `kibitz TEXT`: tells all players and observers of the game: the present one, or else the first at which one
     // looks on.
-    Row(*b"kibitz   ", b'k', Takes::Text(Saying::Kibitz)),
+    CommandRow(*b"kibitz   ", b'k', Takes::Text(Saying::Kibitz)),
     // `match H [M I] [unrated] [VARIANT] [COLOUR]`: challenges H; 2 12 and chess where nothing is said. For
     // bughouse both must have a partner: where H accepts, the partners sit down at a second board, each with the
     // colour that its partner doesn't have.
-    Row(*b"match    ", b'm', Takes::Challenge),
+    CommandRow(*b"match    ", b'm', Takes::Challenge),
     // `+noplay H`: puts H on the list of those who can't challenge one or take one's seek, at most 100.
-    Row(*b"+noplay  ", b' ', Takes::Name(ByName::AddNoplay)),
+    CommandRow(*b"+noplay  ", b' ', Takes::Name(ByName::AddNoplay)),
     // `-noplay H`: takes H off that list.
-    Row(*b"-noplay  ", b' ', Takes::Name(ByName::DropNoplay)),
+    CommandRow(*b"-noplay  ", b' ', Takes::Name(ByName::DropNoplay)),
     // `observe N`, `observe H`: looks on at the game of that number, or at the one that H plays: prints its boards,
     // without the men in hand, and what comes from then on is news; at most 32 games.
-    Row(*b"observe  ", b'o', Takes::Look),
+    CommandRow(*b"observe  ", b'o', Takes::Look),
     // `partner [H]`: asks H to be one's partner; without H parts with the one that one has.
-    Row(*b"partner  ", b' ', Takes::MaybeName(Perhaps::Partner)),
+    CommandRow(*b"partner  ", b' ', Takes::MaybeName(Perhaps::Partner)),
     // `pending`: the challenges to one, and then those by one.
-    Row(*b"pending  ", b' ', Takes::Nothing(Bare::Pending)),
+    CommandRow(*b"pending  ", b' ', Takes::Nothing(Bare::Pending)),
     // `play N`: takes the seek of that number, and its game starts.
-    Row(*b"play     ", b' ', Takes::Number(ByNumber::Play)),
+    CommandRow(*b"play     ", b' ', Takes::Number(ByNumber::Play)),
     // `ptell TEXT`: tells the partner.
-    Row(*b"ptell    ", b' ', Takes::Text(Saying::Ptell)),
+    CommandRow(*b"ptell    ", b' ', Takes::Text(Saying::Ptell)),
     // `quit`: leaves: `Goodbye.`, and the server closes.
-    Row(*b"quit     ", b' ', Takes::Nothing(Bare::Quit)),
+    CommandRow(*b"quit     ", b' ', Takes::Nothing(Bare::Quit)),
     // `refresh`: prints the board at the present place again, in bughouse both, and the men in hand where the
     // variant has them.
-    Row(*b"refresh  ", b' ', Takes::Nothing(Bare::Refresh)),
+    CommandRow(*b"refresh  ", b' ', Takes::Nothing(Bare::Refresh)),
     // `register TEXT`: makes an account of this session's handle, with TEXT as its password; it lives as long as
     // the server, or as its store where it has one.
-    Row(*b"register ", b' ', Takes::Text(Saying::Register)),
+    CommandRow(*b"register ", b' ', Takes::Text(Saying::Register)),
     // `resign`: gives up.
-    Row(*b"resign   ", b' ', Takes::Nothing(Bare::Resign)),
+    CommandRow(*b"resign   ", b' ', Takes::Nothing(Bare::Resign)),
     // `resume H`: goes on with the adjourned game of least number that one has with H, once each of its players has
     // asked for it; [below](#adjourned-games).
-    Row(*b"resume   ", b' ', Takes::Name(ByName::Resume)),
+    CommandRow(*b"resume   ", b' ', Takes::Name(ByName::Resume)),
     // `seek [M I] [unrated] [VARIANT] [COLOUR]`: offers a game to whoever takes it; 5 0 and chess where nothing is
     // said; no bughouse, at most 3 at a time.
-    Row(*b"seek     ", b' ', Takes::Seek),
+    CommandRow(*b"seek     ", b' ', Takes::Seek),
     // `set open 0`, `set shout 0`, `set seek 0`: can't be challenged (36 Refuses); doesn't hear shouts; doesn't
     // hear of seeks. With 1 the other way round; all are 1 at the login.
-    Row(*b"set      ", b' ', Takes::Setting),
+    CommandRow(*b"set      ", b' ', Takes::Setting),
     // `shout TEXT`: tells all others who have `shout` on.
-    Row(*b"shout    ", b' ', Takes::Text(Saying::Shout)),
+    CommandRow(*b"shout    ", b' ', Takes::Text(Saying::Shout)),
     // `simnext`: goes to the next of one's games, in a circle.
-    Row(*b"simnext  ", b' ', Takes::Nothing(Bare::SimNext)),
+    CommandRow(*b"simnext  ", b' ', Takes::Nothing(Bare::SimNext)),
     // `simopen`: gives a simul from now on, or gives none any more; [below](#simuls).
-    Row(*b"simopen  ", b' ', Takes::Nothing(Bare::SimOpen)),
+    CommandRow(*b"simopen  ", b' ', Takes::Nothing(Bare::SimOpen)),
     // `simprev`: goes to the previous of one's games, in a circle.
-    Row(*b"simprev  ", b' ', Takes::Nothing(Bare::SimPrev)),
+    CommandRow(*b"simprev  ", b' ', Takes::Nothing(Bare::SimPrev)),
     // `sought`: the seeks.
-    Row(*b"sought   ", b' ', Takes::Nothing(Bare::Sought)),
+    CommandRow(*b"sought   ", b' ', Takes::Nothing(Bare::Sought)),
     // `stored`: one's own adjourned games.
-    Row(*b"stored   ", b' ', Takes::Nothing(Bare::Stored)),
+    CommandRow(*b"stored   ", b' ', Takes::Nothing(Bare::Stored)),
     // `style 1`, `style 12`: boards are printed in text, or as board lines, as at the login.
-    Row(*b"style    ", b' ', Takes::Style),
+    CommandRow(*b"style    ", b' ', Takes::Style),
     // `takeback [N]`: offers to take N half-moves back, 1 to 1,200, 1 without N; not in bughouse.
-    Row(*b"takeback ", b' ', Takes::Takeback),
+    CommandRow(*b"takeback ", b' ', Takes::Takeback),
     // `tell H TEXT`, `tell N TEXT`: tells H, or all others in channel N.
-    Row(*b"tell     ", b't', Takes::Telling),
+    CommandRow(*b"tell     ", b't', Takes::Telling),
     // `unalias NAME`: lets NAME stand for nothing any more.
-    Row(*b"unalias  ", b' ', Takes::Unalias),
+    CommandRow(*b"unalias  ", b' ', Takes::Unalias),
     // `unobserve N`: looks on there no longer.
-    Row(*b"unobserve", b' ', Takes::Number(ByNumber::Unobserve)),
+    CommandRow(*b"unobserve", b' ', Takes::Number(ByNumber::Unobserve)),
     // `unseek [N]`: takes back the seek of that number, or all of one's seeks.
-    Row(*b"unseek   ", b' ', Takes::Unseek),
+    CommandRow(*b"unseek   ", b' ', Takes::Unseek),
     // `who`: the handles of those who are in.
-    Row(*b"who      ", b' ', Takes::Nothing(Bare::Who)),
+    CommandRow(*b"who      ", b' ', Takes::Nothing(Bare::Who)),
     // `withdraw [H]`: takes back the challenge to H, or the oldest.
-    Row(*b"withdraw ", b' ', Takes::MaybeName(Perhaps::Withdraw)),
+    CommandRow(*b"withdraw ", b' ', Takes::MaybeName(Perhaps::Withdraw)),
 ];

@@ -2,7 +2,7 @@
 use Rattle.std.specs.Prelude.{◌≡◌, ℕ, ⊤, List, Some, None, Err, Result}
 use Rattle.std.specs.declared.option.Option.{Option}
 use Rattle.std.specs.FinMap as map
-use Rattle.edge_traits.specs.Pairs.{Table, Pairs}
+use Rattle.edge_traits.specs.Pairs.{Records, Pairs}
 use Rattle.edge_traits.specs.WhereTold.{WhereTold}
 use Rattle.edge_traits.specs.declared.keeper.Kept.{Kept}
 use Rattle.edge_traits.specs.declared.keeper.Kept.TheVariants.{Done, Failed, Memory}
@@ -10,23 +10,23 @@ use Rattle.edge_traits.specs.declared.keeper.KeeperFail.{KeeperFail}
 use Rattle.edge_traits.specs.declared.keeper.KeeperFail.TheVariants as fail
 
 -- a table that is told stays as it was
-abbrev pub Stays : Option Table → Option Table → Type 0
+abbrev pub Stays : Option Records → Option Records → Type 0
 Stays old new = WhereTold old new (λ before after. after ≡ before)
 
 -- the record stands under its key, and all else is as before; or nothing changed
-abbrev pub HasPut : Option Table → Option Table → List ℕ → List ℕ → Kept → Type 0
+abbrev pub HasPut : Option Records → Option Records → List ℕ → List ℕ → Kept → Type 0
 HasPut old new key bytes Done = WhereTold old new (λ before after. after ≡ map.insert before key bytes)
 HasPut old new key bytes Failed = Stays old new
 HasPut old new key bytes Memory = Stays old new
 
 -- nothing stands under the key, and all else is as before; or nothing changed
-abbrev pub HasRemoved : Option Table → Option Table → List ℕ → Kept → Type 0
+abbrev pub HasRemoved : Option Records → Option Records → List ℕ → Kept → Type 0
 HasRemoved old new key Done = WhereTold old new (λ before after. after ≡ map.remove before key)
 HasRemoved old new key Failed = Stays old new
 HasRemoved old new key Memory = Stays old new
 
 -- the pairs are all of a table that is told, in ascending order of key
-abbrev pub AreAllOf : Option Table → Pairs → Type 0
+abbrev pub AreAllOf : Option Records → Pairs → Type 0
 AreAllOf None pairs = ⊤
 AreAllOf (Some table) pairs = pairs ≡ map.entries table
 

@@ -10,8 +10,8 @@ abbrev pub keys_order : List ℕ → List ℕ → Ordering
 keys_order = slice_cmp nat_cmp
 
 -- a finite map from keys to records
-abbrev pub Table : Type 0
-Table = FinMap keys_order (List ℕ)
+abbrev pub Records : Type 0
+Records = FinMap keys_order (List ℕ)
 
 -- keys with their records
 abbrev pub Pairs : Type 0

@@ -65,10 +65,10 @@ pub trait Keeper {
     ghost use Rattle.std.specs.Prelude.{ℕ, ◌≤◌, IfOk};
     ghost use Rattle.std.specs.declared.option.Option.{Option};
     ghost use Rattle.edge_traits.specs.Faults.{Rose};
-    ghost use Rattle.edge_traits.specs.Pairs.{Table, IsAscending};
+    ghost use Rattle.edge_traits.specs.Pairs.{Records, IsAscending};
     ghost use Rattle.edge_traits.specs.Keeper.{HasPut, HasRemoved, AreAllOf, Stays, OnKeepFailed, OnLoadFailed};
 
-    ghost table: { Self → Option Table };
+    ghost table: { Self → Option Records };
 
     ghost faults: { Self → ℕ };
 

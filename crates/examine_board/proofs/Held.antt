@@ -31,9 +31,9 @@ few_boards Bughouse n h = omega (arith, h)
 few_boards (Fischer number) n h = omega (arith, h)
 
 -- an exam that was just opened
-pub holds_opened : (g : StoredGame) (e : Inside) → Replays g → e.terms ≡ g.terms → e.names ≡ g.names → e.stored ≡ g.halves → e.shared ≡ length e.stored → e.branch ≡ [] → e.place ≡ 0
+pub holds_opened : (g : StoredGame) (e : Inside) → Replays g → e.terms ≡ g.terms → e.names ≡ g.names → e.stored ≡ g.halves → e.shared ≡ length e.stored → e.branch ≡ [] → e.point ≡ 0
     → e.boards ≡ new_boards g.terms 0 → HoldsExam e
-holds_opened g e replays terms names stored shared branch place boards =
+holds_opened g e replays terms names stored shared branch point boards =
     let game = replays.spelled in
     let laid : CanBeLaid e.terms e.stored =
     subst (λ (t : Terms). CanBeLaid t e.stored) (sym terms) (subst (CanBeLaid g.terms) (sym stored) (CanBeLaid-played g.terms g.halves game.halves.each replays.played)) in
@@ -42,8 +42,8 @@ holds_opened g e replays terms names stored shared branch place boards =
     record {
       shared = omega (arith, shared);
       few = let same = ap length stored in let few = few_boards g.terms.variant (length g.halves) game.halves.few in omega (arith, same, few);
-      place = omega (arith, place);
-      boards = boards ∙ (λ i. boards_after (sym terms i) (take (sym place i) (take e.shared e.stored ++ e.branch)));
+      point = omega (arith, point);
+      boards = boards ∙ (λ i. boards_after (sym terms i) (take (sym point i) (take e.shared e.stored ++ e.branch)));
       stored = laid;
       list = subst (CanBeLaid e.terms) (sym list) laid;
       names = ap length names ∙ players ∙ ap (λ (t : Terms). 2 * bounds.boards t.variant) (sym terms);
@@ -79,10 +79,10 @@ looked_there shared stored branch read i h within high few are is =
     ∙ slice_get_read read (length read) (i - shared) h refl (omega (arith, all, first, many, few, high)) is
 
 -- the first of them, cut before the branch or in it
-pub cut_stored : (shared place : ℕ) (stored branch : List Half) → shared ≤ length stored → place ≤ shared → take place (take shared stored ++ branch) ≡ take place stored
-cut_stored shared place stored branch within low =
+pub cut_stored : (shared point : ℕ) (stored branch : List Half) → shared ≤ length stored → point ≤ shared → take point (take shared stored ++ branch) ≡ take point stored
+cut_stored shared point stored branch within low =
     let many : length (take shared stored) ≡ shared = length-take-le shared stored within in
-    take-append-le place (take shared stored) branch (omega (arith, many, low)) ∙ take-take place shared stored low
+    take-append-le point (take shared stored) branch (omega (arith, many, low)) ∙ take-take point shared stored low
 
 pub cut_branch : {X : Type 0} (xs ys : List X) (n : ℕ) → length xs ≤ n → take n (xs ++ ys) ≡ xs ++ take (n - length xs) ys
 cut_branch [] ys n h = let all : n ≡ n - 0 = omega arith in ap (λ k. take k ys) all
@@ -92,32 +92,32 @@ cut_branch (x ∷ xs) ys (suc n) h =
     ap (λ zs. x ∷ zs) (cut_branch xs ys n (omega (arith, h))) ∙ ap (λ k. x ∷ (xs ++ take k ys)) left
 
 -- the half-moves that are looked at, without those that follow the ones on the boards
-pub cut_here : (shared place : ℕ) (stored branch none : List Half) → shared ≤ length stored → place ≤ shared → none ≡ [] →
-    take place stored ++ none ≡ take place (take shared stored ++ branch)
-cut_here shared place stored branch none within low empty =
-    ap (λ l. take place stored ++ l) empty ∙ append-nil (take place stored) ∙ sym (cut_stored shared place stored branch within low)
+pub cut_here : (shared point : ℕ) (stored branch none : List Half) → shared ≤ length stored → point ≤ shared → none ≡ [] →
+    take point stored ++ none ≡ take point (take shared stored ++ branch)
+cut_here shared point stored branch none within low empty =
+    ap (λ l. take point stored ++ l) empty ∙ append-nil (take point stored) ∙ sym (cut_stored shared point stored branch within low)
 
-pub cut_there : (shared place : ℕ) (stored branch left : List Half) → shared ≤ length stored → shared ≤ place → left ≡ take (place - shared) branch →
-    take shared stored ++ left ≡ take place (take shared stored ++ branch)
-cut_there shared place stored branch left within high are =
+pub cut_there : (shared point : ℕ) (stored branch left : List Half) → shared ≤ length stored → shared ≤ point → left ≡ take (point - shared) branch →
+    take shared stored ++ left ≡ take point (take shared stored ++ branch)
+cut_there shared point stored branch left within high are =
     let many : length (take shared stored) ≡ shared = length-take-le shared stored within in
-    ap (λ l. take shared stored ++ l) are ∙ ap (λ k. take shared stored ++ take (place - k) branch) (sym many)
-    ∙ sym (cut_branch (take shared stored) branch place (omega (arith, many, high)))
+    ap (λ l. take shared stored ++ l) are ∙ ap (λ k. take shared stored ++ take (point - k) branch) (sym many)
+    ∙ sym (cut_branch (take shared stored) branch point (omega (arith, many, high)))
 
 -- what an exam keeps of them, once that is all that is looked at
-pub record IsCut (t : Terms) (boards : List Board) (list left : List Half) (place : ℕ) : Type 0 where
-  pub within : place ≤ length left
-  pub end : place ≡ length left
-  pub are : boards ≡ boards_after t (take place left)
+pub record IsCut (t : Terms) (boards : List Board) (list left : List Half) (point : ℕ) : Type 0 where
+  pub within : point ≤ length left
+  pub end : point ≡ length left
+  pub are : boards ≡ boards_after t (take point left)
   pub laid : CanBeLaid t left
 
-pub is_cut : (t : Terms) (boards : List Board) (list left : List Half) (place : ℕ) → place ≤ length list → boards ≡ boards_after t (take place list) → CanBeLaid t list → left ≡ take place list →
-    IsCut t boards list left place
-is_cut t boards list left place within are laid cut =
-    let many : length left ≡ place = ap length cut ∙ length-take-le place list within in
+pub is_cut : (t : Terms) (boards : List Board) (list left : List Half) (point : ℕ) → point ≤ length list → boards ≡ boards_after t (take point list) → CanBeLaid t list → left ≡ take point list →
+    IsCut t boards list left point
+is_cut t boards list left point within are laid cut =
+    let many : length left ≡ point = ap length cut ∙ length-take-le point list within in
     record {
       within = omega (arith, many);
       end = sym many;
-      are = are ∙ ap (boards_after t) (sym cut ∙ sym (take_all place left (omega (arith, many))));
-      laid = subst (CanBeLaid t) (sym cut) (CanBeLaid-take t list place laid);
+      are = are ∙ ap (boards_after t) (sym cut ∙ sym (take_all point left (omega (arith, many))));
+      laid = subst (CanBeLaid t) (sym cut) (CanBeLaid-take t list point laid);
     }

@@ -177,11 +177,11 @@ take_few zero xs = omega arith
 take_few (suc k) [] = omega arith
 take_few (suc k) (x ∷ xs) = let few = take_few k xs in omega (arith, few)
 
-pub shared_low : (e : ExamState) → shared_length (present e) e.stored ≤ e.place
+pub shared_low : (e : ExamState) → shared_length (present e) e.stored ≤ e.point
 shared_low e =
     let is = share_is (present e) e.stored in
     let low = is.first in
-    let few = take_few e.place e.list in
+    let few = take_few e.point e.list in
     omega (arith, low, few)
 
 pub shared_within : (e : ExamState) → shared_length (present e) e.stored ≤ length e.stored
@@ -190,11 +190,11 @@ shared_within e = let is = share_is (present e) e.stored in is.second
 pub shared_same : (e : ExamState) → take (shared_length (present e) e.stored) e.list ≡ take (shared_length (present e) e.stored) e.stored
 shared_same e =
     let is = share_is (present e) e.stored in
-    sym (take-take (shared_length (present e) e.stored) e.place e.list (shared_low e)) ∙ is.same
+    sym (take-take (shared_length (present e) e.stored) e.point e.list (shared_low e)) ∙ is.same
 
 -- a half-move on the boards
-present_at : (e : ExamState) (n : ℕ) (g : Half) → n < e.place → slice_get e.list n ≡ Some g → slice_get (present e) n ≡ Some g
-present_at e n g low there = slice_get-first e.place e.list n low ∙ there
+present_at : (e : ExamState) (n : ℕ) (g : Half) → n < e.point → slice_get e.list n ≡ Some g → slice_get (present e) n ≡ Some g
+present_at e n g low there = slice_get-first e.point e.list n low ∙ there
 
 stored_at : (e : ExamState) (read : List Half) (n : ℕ) (h : Half) → read ≡ e.stored → n < length e.stored → h ≡ slice_index_or read n h → slice_get e.stored n ≡ Some h
 stored_at e read n h are low is =
@@ -202,17 +202,17 @@ stored_at e read n h are low is =
     ap (λ (l : List Half). slice_get l n) (sym are) ∙ slice_get_read read (length read) n h refl (omega (arith, many, low)) is
 
 -- how far the two were compared
-pub kept_until : (e : ExamState) (read : List Half) (n : ℕ) (g h : Half) → Share (present e) e.stored n → n < e.place → n < length e.stored → slice_get e.list n ≡ Some g → read ≡ e.stored
+pub kept_until : (e : ExamState) (read : List Half) (n : ℕ) (g h : Half) → Share (present e) e.stored n → n < e.point → n < length e.stored → slice_get e.list n ≡ Some g → read ≡ e.stored
     → h ≡ slice_index_or read n h → same_half g h ≡ false → n ≡ shared_length (present e) e.stored
 kept_until e read n g h s low within there are is differ =
     share_until (present e) e.stored n g h s (present_at e n g low there) (stored_at e read n h are within is) differ
 
-pub kept_next : (e : ExamState) (read : List Half) (n : ℕ) (g h : Half) → Share (present e) e.stored n → n < e.place → n < length e.stored → slice_get e.list n ≡ Some g → read ≡ e.stored
+pub kept_next : (e : ExamState) (read : List Half) (n : ℕ) (g h : Half) → Share (present e) e.stored n → n < e.point → n < length e.stored → slice_get e.list n ≡ Some g → read ≡ e.stored
     → h ≡ slice_index_or read n h → same_half g h ≡ true → Share (present e) e.stored (n + 1)
 kept_next e read n g h s low within there are is same =
     share_next (present e) e.stored n g h s (present_at e n g low there) (stored_at e read n h are within is) same
 
-pub kept_whole : (e : ExamState) (n : ℕ) → Share (present e) e.stored n → e.place ≤ length e.list → n ≡ min e.place (length e.stored) → n ≡ shared_length (present e) e.stored
+pub kept_whole : (e : ExamState) (n : ℕ) → Share (present e) e.stored n → e.point ≤ length e.list → n ≡ min e.point (length e.stored) → n ≡ shared_length (present e) e.stored
 kept_whole e n s within all =
-    let many : length (present e) ≡ e.place = length-take-le e.place e.list within in
+    let many : length (present e) ≡ e.point = length-take-le e.point e.list within in
     share_whole (present e) e.stored n s (all ∙ ap (λ (k : ℕ). min k (length e.stored)) (sym many))

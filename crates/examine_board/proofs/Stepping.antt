@@ -43,5 +43,5 @@ module _ (t : Terms) (halves : List Half) (h : Half) (boards : List Board) (lies
   laid new put = put ∙ ap (λ (bs : List Board). boards_put bs (h.board - 1) (played_of h)) are ∙ boards_laid t halves h lies.first lies.last
 
 -- the first half-moves with the next one
-pub next_first : (list : List Half) (place : ℕ) (h : Half) → slice_get list place ≡ Some h → take place list ++ h ∷ [] ≡ take (place + 1) list
-next_first list place h there = sym (take-next place list h there) ∙ ap (λ k. take k list) (sym (add-one place))
+pub next_first : (list : List Half) (point : ℕ) (h : Half) → slice_get list point ≡ Some h → take point list ++ h ∷ [] ≡ take (point + 1) list
+next_first list point h there = sym (take-next point list h there) ∙ ap (λ k. take k list) (sym (add-one point))

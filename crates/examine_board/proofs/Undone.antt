@@ -7,50 +7,50 @@ use Rattle.examine_board.specs.Exam.{ExamState}
 use Rattle.examine_board.specs.Steps.{backed, forwarded}
 
 -- a step that is refused
-pub forwarded-refused : (e : ExamState) (n : ℕ) → length e.list - e.place < n → forwarded e n ≡ Err NoMoreMoves
-forwarded-refused e n few = ap (λ (b : Bool). if b then Err NoMoreMoves else Ok (record e { place = e.place + n })) (lt-ltb (length e.list - e.place) n few)
+pub forwarded-refused : (e : ExamState) (n : ℕ) → length e.list - e.point < n → forwarded e n ≡ Err NoMoreMoves
+forwarded-refused e n few = ap (λ (b : Bool). if b then Err NoMoreMoves else Ok (record e { point = e.point + n })) (lt-ltb (length e.list - e.point) n few)
 
-pub backed-refused : (e : ExamState) (n : ℕ) → e.place < n → backed e n ≡ Err NoEarlierMoves
-backed-refused e n few = ap (λ (b : Bool). if b then Err NoEarlierMoves else Ok (record e { place = e.place - n })) (lt-ltb e.place n few)
+pub backed-refused : (e : ExamState) (n : ℕ) → e.point < n → backed e n ≡ Err NoEarlierMoves
+backed-refused e n few = ap (λ (b : Bool). if b then Err NoEarlierMoves else Ok (record e { point = e.point - n })) (lt-ltb e.point n few)
 
 -- and one that is made
-pub forwarded-made : (e : ExamState) (n : ℕ) → n ≤ length e.list - e.place → forwarded e n ≡ Ok (record e { place = e.place + n })
-forwarded-made e n many = ap (λ (b : Bool). if b then Err NoMoreMoves else Ok (record e { place = e.place + n })) (le-ltb (length e.list - e.place) n many)
+pub forwarded-made : (e : ExamState) (n : ℕ) → n ≤ length e.list - e.point → forwarded e n ≡ Ok (record e { point = e.point + n })
+forwarded-made e n many = ap (λ (b : Bool). if b then Err NoMoreMoves else Ok (record e { point = e.point + n })) (le-ltb (length e.list - e.point) n many)
 
-pub backed-made : (e : ExamState) (n : ℕ) → n ≤ e.place → backed e n ≡ Ok (record e { place = e.place - n })
-backed-made e n many = ap (λ (b : Bool). if b then Err NoEarlierMoves else Ok (record e { place = e.place - n })) (le-ltb e.place n many)
+pub backed-made : (e : ExamState) (n : ℕ) → n ≤ e.point → backed e n ≡ Ok (record e { point = e.point - n })
+backed-made e n many = ap (λ (b : Bool). if b then Err NoEarlierMoves else Ok (record e { point = e.point - n })) (le-ltb e.point n many)
 
 -- made steps
-forward_is : (e after : ExamState) (n : ℕ) → forwarded e n ≡ Ok after → (n ≤ length e.list - e.place) × (record e { place = e.place + n } ≡ after)
+forward_is : (e after : ExamState) (n : ℕ) → forwarded e n ≡ Ok after → (n ≤ length e.list - e.point) × (record e { point = e.point + n } ≡ after)
 forward_is e after n made =
-    elim (nat_lt (length e.list - e.place) n) as (λ b. nat_lt (length e.list - e.place) n ≡ b → (if b then Err NoMoreMoves else Ok (record e { place = e.place + n })) ≡ Ok after →
-    (n ≤ length e.list - e.place) × (record e { place = e.place + n } ≡ after)) [
+    elim (nat_lt (length e.list - e.point) n) as (λ b. nat_lt (length e.list - e.point) n ≡ b → (if b then Err NoMoreMoves else Ok (record e { point = e.point + n })) ≡ Ok after →
+    (n ≤ length e.list - e.point) × (record e { point = e.point + n } ≡ after)) [
       | true ↦ λ is same. absurd cc
-      | false ↦ λ is same. (ltb-false (length e.list - e.place) n is, cc)
+      | false ↦ λ is same. (ltb-false (length e.list - e.point) n is, cc)
     ] refl made
 
-back_is : (e after : ExamState) (n : ℕ) → backed e n ≡ Ok after → (n ≤ e.place) × (record e { place = e.place - n } ≡ after)
+back_is : (e after : ExamState) (n : ℕ) → backed e n ≡ Ok after → (n ≤ e.point) × (record e { point = e.point - n } ≡ after)
 back_is e after n made =
-    elim (nat_lt e.place n) as (λ b. nat_lt e.place n ≡ b → (if b then Err NoEarlierMoves else Ok (record e { place = e.place - n })) ≡ Ok after →
-    (n ≤ e.place) × (record e { place = e.place - n } ≡ after)) [
+    elim (nat_lt e.point n) as (λ b. nat_lt e.point n ≡ b → (if b then Err NoEarlierMoves else Ok (record e { point = e.point - n })) ≡ Ok after →
+    (n ≤ e.point) × (record e { point = e.point - n } ≡ after)) [
       | true ↦ λ is same. absurd cc
-      | false ↦ λ is same. (ltb-false e.place n is, cc)
+      | false ↦ λ is same. (ltb-false e.point n is, cc)
     ] refl made
 
-pub undone_back : (e : ExamState) (n : ℕ) → backed (record e { place = e.place + n }) n ≡ Ok e
+pub undone_back : (e : ExamState) (n : ℕ) → backed (record e { point = e.point + n }) n ≡ Ok e
 undone_back e n =
-    let there : e.place + n - n ≡ e.place = omega arith in
-    backed-made (record e { place = e.place + n }) n (omega arith) ∙ ap (λ (k : ℕ). Ok (record e { place = k })) there
+    let there : e.point + n - n ≡ e.point = omega arith in
+    backed-made (record e { point = e.point + n }) n (omega arith) ∙ ap (λ (k : ℕ). Ok (record e { point = k })) there
 
-pub undone_forward : (e : ExamState) (n : ℕ) → e.place ≤ length e.list → n ≤ e.place → forwarded (record e { place = e.place - n }) n ≡ Ok e
+pub undone_forward : (e : ExamState) (n : ℕ) → e.point ≤ length e.list → n ≤ e.point → forwarded (record e { point = e.point - n }) n ≡ Ok e
 undone_forward e n within many =
-    let there : e.place - n + n ≡ e.place = omega (arith, many) in
-    forwarded-made (record e { place = e.place - n }) n (omega (arith, within, many)) ∙ ap (λ (k : ℕ). Ok (record e { place = k })) there
+    let there : e.point - n + n ≡ e.point = omega (arith, many) in
+    forwarded-made (record e { point = e.point - n }) n (omega (arith, within, many)) ∙ ap (λ (k : ℕ). Ok (record e { point = k })) there
 
 pub back_undoes : (e after : ExamState) (n : ℕ) → forwarded e n ≡ Ok after → backed after n ≡ Ok e
 back_undoes e after n made = subst (λ (f : ExamState). backed f n ≡ Ok e) (forward_is e after n made).1 (undone_back e n)
 
-pub forward_undoes : (e after : ExamState) (n : ℕ) → e.place ≤ length e.list → backed e n ≡ Ok after → forwarded after n ≡ Ok e
+pub forward_undoes : (e after : ExamState) (n : ℕ) → e.point ≤ length e.list → backed e n ≡ Ok after → forwarded after n ≡ Ok e
 forward_undoes e after n within made =
     let is = back_is e after n made in
     subst (λ (f : ExamState). forwarded f n ≡ Ok e) is.1 (undone_forward e n within is.0)

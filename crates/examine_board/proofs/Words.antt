@@ -42,8 +42,8 @@ all_there t halves single laid =
     let one = one_board t.variant single in
     all_on 1 halves (λ i h e. let lies = laid.each i h e in let first = lies.first in let last = lies.last in omega (arith, first, last, one))
 
-pub present_there : (e : ExamState) → is_pair e.terms.variant ≡ false → CanBeLaid e.terms e.list → e.place ≤ length e.list → length (list_on 1 (present e)) ≡ e.place
-present_there e single laid within = all_there e.terms (present e) single (CanBeLaid-take e.terms e.list e.place laid) ∙ length-take-le e.place e.list within
+pub present_there : (e : ExamState) → is_pair e.terms.variant ≡ false → CanBeLaid e.terms e.list → e.point ≤ length e.list → length (list_on 1 (present e)) ≡ e.point
+present_there e single laid within = all_there e.terms (present e) single (CanBeLaid-take e.terms e.list e.point laid) ∙ length-take-le e.point e.list within
 
 first_in : (v : Variant) (t : Terms) (halves : List Half) (b : Board) (rest : List Board) → b ∷ rest ≡ map (board_after t halves) (board_numbers v) → b ≡ board_after t halves 1
 first_in Chess t halves b rest e = cc
@@ -64,26 +64,26 @@ position_is e b is = ap position_of is
 pub answer_pair : (e : ExamState) (w : MoveWord) → is_pair e.terms.variant ≡ true → Err NotInVariant ≡ play_answer e w
 unfolding play_answer
 answer_pair e w pair =
-    sym (ap (λ t. option_map_or Err (cond t (Some NotInVariant) (cond (is_end (result (position e))) (Some GameOver) (cond (e.place == 1200) (Some TooManyMoves) None)))
+    sym (ap (λ t. option_map_or Err (cond t (Some NotInVariant) (cond (is_end (result (position e))) (Some GameOver) (cond (e.point == 1200) (Some TooManyMoves) None)))
     (in_words (word_answer (position e) w))) pair)
 
 pub answer_over : (e : ExamState) (w : MoveWord) → is_pair e.terms.variant ≡ false → is_end (result (position e)) ≡ true → Err GameOver ≡ play_answer e w
 unfolding play_answer
 answer_over e w single over =
-    sym (λ i. option_map_or Err (cond (single i) (Some NotInVariant) (cond (over i) (Some GameOver) (cond (e.place == 1200) (Some TooManyMoves) None))) (in_words (word_answer (position e) w)))
+    sym (λ i. option_map_or Err (cond (single i) (Some NotInVariant) (cond (over i) (Some GameOver) (cond (e.point == 1200) (Some TooManyMoves) None))) (in_words (word_answer (position e) w)))
 
-board_answers : (e : ExamState) (w : MoveWord) → length (list_on 1 (present e)) ≡ e.place →
-    move_answer (board_on e 1) (to_move (board_on e 1)) w ≡ option_map_or Err (cond (e.place == 1200) (Some TooManyMoves) None) (in_words (word_answer (position e) w))
+board_answers : (e : ExamState) (w : MoveWord) → length (list_on 1 (present e)) ≡ e.point →
+    move_answer (board_on e 1) (to_move (board_on e 1)) w ≡ option_map_or Err (cond (e.point == 1200) (Some TooManyMoves) None) (in_words (word_answer (position e) w))
 unfolding move_answer position_of
 board_answers e w count =
     λ i. option_map_or Err (cond (not (same_colour-self (to_move (board_on e 1)) i)) (Some NotYourTurn) (cond (count i == 1200) (Some TooManyMoves) None)) (in_words (word_answer (position e) w))
 
 pub answer_word : (e : ExamState) (w : MoveWord) (b : Board) → is_pair e.terms.variant ≡ false → is_end (result (position e)) ≡ false → b ≡ board_on e 1 →
-    length (list_on 1 (present e)) ≡ e.place → move_answer b (to_move b) w ≡ play_answer e w
+    length (list_on 1 (present e)) ≡ e.point → move_answer b (to_move b) w ≡ play_answer e w
 unfolding play_answer
 answer_word e w b single on is count =
     ap (λ (x : Board). move_answer x (to_move x) w) is ∙ board_answers e w count
-    ∙ sym (λ i. option_map_or Err (cond (single i) (Some NotInVariant) (cond (on i) (Some GameOver) (cond (e.place == 1200) (Some TooManyMoves) None))) (in_words (word_answer (position e) w)))
+    ∙ sym (λ i. option_map_or Err (cond (single i) (Some NotInVariant) (cond (on i) (Some GameOver) (cond (e.point == 1200) (Some TooManyMoves) None))) (in_words (word_answer (position e) w)))
 
 -- ---- what the board says, where the game goes on
 
@@ -91,10 +91,10 @@ pub record Going (e : ExamState) (b : Board) : Type 0 where
   pub single : is_pair e.terms.variant ≡ false
   pub on : is_end (result (position e)) ≡ false
   pub is : b ≡ board_on e 1
-  pub count : length (list_on 1 (present e)) ≡ e.place
+  pub count : length (list_on 1 (present e)) ≡ e.point
 
 pub going : (e : ExamState) (b : Board) (rest : List Board) → is_pair e.terms.variant ≡ false → is_end (result (position_of b)) ≡ false → b ∷ rest ≡ boards_after e.terms (present e)
-    → CanBeLaid e.terms e.list → e.place ≤ length e.list → Going e b
+    → CanBeLaid e.terms e.list → e.point ≤ length e.list → Going e b
 going e b rest single on boards laid within =
     let is = first_is e.terms (present e) b rest boards in
     record {
@@ -107,12 +107,12 @@ going e b rest single on boards laid within =
 pub going_answer : (e : ExamState) (w : MoveWord) (b : Board) → Going e b → move_answer b (to_move b) w ≡ play_answer e w
 going_answer e w b g = answer_word e w b g.single g.on g.is g.count
 
-pub going_room : (e : ExamState) (b : Board) (r : Result Move Refusal) → Going e b → OnOk r (length b.list < 1200) → OnOk r (e.place < 1200)
+pub going_room : (e : ExamState) (b : Board) (r : Result Move Refusal) → Going e b → OnOk r (length b.list < 1200) → OnOk r (e.point < 1200)
 going_room e b (Ok m) g h = let same = ap (λ (x : Board). length x.list) g.is in let count = g.count in omega (arith, same, count, h)
 going_room e b (Err cause) g h = tt
 
 -- an allowed half-move may be laid there
-may_lie : (e : ExamState) (m : Move) → is_pair e.terms.variant ≡ false → length (list_on 1 (present e)) ≡ e.place → Allowed (position e) m → e.place < 1200 →
+may_lie : (e : ExamState) (m : Move) → is_pair e.terms.variant ≡ false → length (list_on 1 (present e)) ≡ e.point → Allowed (position e) m → e.point < 1200 →
     MayLie e.terms (present e) (uncharged m)
 may_lie e m single count allowed room =
     let one = one_board e.terms.variant single in

@@ -17,15 +17,15 @@ pub record ExamState : Type 0 where
   pub stored : List Half
   -- the half-moves that are looked at, and how many of them, the first ones, are on the boards
   pub list : List Half
-  pub place : ℕ
+  pub point : ℕ
 
 -- a stored game before its first half-move
 abbrev pub opened : StoredGame → ExamState
-opened g = record { terms = g.terms; names = g.names; stored = g.halves; list = g.halves; place = 0 }
+opened g = record { terms = g.terms; names = g.names; stored = g.halves; list = g.halves; point = 0 }
 
 -- the half-moves on the boards
 abbrev pub present : ExamState → List Half
-present e = take e.place e.list
+present e = take e.point e.list
 
 -- the board of that number after these half-moves, each with the charge that it has
 abbrev pub board_after : Terms → List Half → ℕ → Board

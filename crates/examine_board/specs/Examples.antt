@@ -30,12 +30,12 @@ game = king_pawn ∷ reply ∷ knight five ∷ []
 
 -- an exam of that game, of two minutes for each player, in that place
 abbrev exam : List Half → ℕ → ExamState
-exam list place = record {
+exam list point = record {
   terms = record { minutes = 2; increment = 0; variant = Chess; colour = None };
   names = codes "Ann" ∷ codes "Ben" ∷ [];
   stored = game;
   list = list;
-  place = place;
+  point = point;
 }
 
 two_forward : forwarded (exam game 0) 2 ≡ Ok (exam game 2)

@@ -10,8 +10,8 @@ pub record HoldsExam (e : Inside) : Type 0 where
   pub shared : e.shared ≤ length e.stored
   pub few : length e.stored ≤ 2400
   -- as many are on the boards as are looked at, or fewer, and the boards are those of these half-moves
-  pub place : e.place ≤ length (take e.shared e.stored ++ e.branch)
-  pub boards : e.boards ≡ boards_after e.terms (take e.place (take e.shared e.stored ++ e.branch))
+  pub point : e.point ≤ length (take e.shared e.stored ++ e.branch)
+  pub boards : e.boards ≡ boards_after e.terms (take e.point (take e.shared e.stored ++ e.branch))
   -- the half-moves of the stored game can be laid, and so can those that are looked at
   pub stored : CanBeLaid e.terms e.stored
   pub list : CanBeLaid e.terms (take e.shared e.stored ++ e.branch)

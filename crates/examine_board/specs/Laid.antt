@@ -20,4 +20,4 @@ pub record MayLie (t : Terms) (before : List Half) (h : Half) : Type 0 where
 
 -- each may be laid behind those before it
 pub record CanBeLaid (t : Terms) (halves : List Half) : Type 0 where
-  pub each : (place : ℕ) (h : Half) → slice_get halves place ≡ Some h → MayLie t (take place halves) h
+  pub each : (point : ℕ) (h : Half) → slice_get halves point ≡ Some h → MayLie t (take point halves) h

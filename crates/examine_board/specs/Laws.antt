@@ -9,7 +9,7 @@ pub record StepsAreUndone : Type 0 where
   -- n back after n forward is where the exam was
   pub back : (e after : ExamState) (n : ℕ) → forwarded e n ≡ Ok after → backed after n ≡ Ok e
   -- and so is n forward after n back; no more half-moves are on the boards than are looked at
-  pub forward : (e after : ExamState) (n : ℕ) → e.place ≤ length e.list → backed e n ≡ Ok after →
+  pub forward : (e after : ExamState) (n : ℕ) → e.point ≤ length e.list → backed e n ≡ Ok after →
       forwarded after n ≡ Ok e
   -- neither changes the half-moves
   pub forward_keeps : (e after : ExamState) (n : ℕ) → forwarded e n ≡ Ok after → after.list ≡ e.list

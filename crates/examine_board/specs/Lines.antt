@@ -26,7 +26,7 @@ shown_board e = last_board (present e)
 
 -- the name of the player in that place
 abbrev pub name_at : List (List ℕ) → ℕ → List ℕ
-name_at names place = slice_index_or names place []
+name_at names seat = slice_index_or names seat []
 
 -- all that the line of the board of that number shows: the clocks are by the charges of the half-moves on it, and the
 -- time taken is the last charge

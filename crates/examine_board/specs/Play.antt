@@ -34,7 +34,7 @@ abbrev pub play_refused : ExamState → Option Refusal
 play_refused e =
     first_cause
     ((is_pair e.terms.variant, NotInVariant) ∷ (is_end (result (position e)), GameOver)
-    ∷ (e.place == most_halves, TooManyMoves) ∷ [])
+    ∷ (e.point == most_halves, TooManyMoves) ∷ [])
 
 -- the half-move that a word stands for, or the refusal
 unfoldable pub play_answer : ExamState → MoveWord → Result Move Refusal
@@ -48,7 +48,7 @@ uncharged m = record { board = 1; what = m; charge = None }
 abbrev pub with_move : ExamState → Move → ExamState
 with_move e m = record e {
   list = present e ++ uncharged m ∷ [];
-  place = e.place + 1;
+  point = e.point + 1;
 }
 
 abbrev pub going_on : ExamState → Result Move Refusal → Result ExamState Refusal

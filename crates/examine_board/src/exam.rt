@@ -24,7 +24,7 @@ pub struct Exam {
     /// The half-moves that were played here, which are all on one board.
     pub(crate) branch: Roomy<Half, MOST_HALVES>,
     /// How many half-moves are on the boards.
-    pub(crate) place: usize,
+    pub(crate) point: usize,
     pub(crate) boards: Boards,
 }
 
@@ -40,7 +40,7 @@ impl Model for Exam {
       names = exam.names;
       stored = exam.stored;
       list = take exam.shared exam.stored ++ exam.branch;
-      place = exam.place;
+      point = exam.point;
     } };
 
     ghost invariant = { HoldsExam };
@@ -74,7 +74,7 @@ impl Exam {
             stored,
             shared,
             branch,
-            place: 0,
+            point: 0,
             boards,
         })
     }
@@ -88,16 +88,16 @@ impl Exam {
 
     /// The half-move in that place, counted from 0. There are at most 3,600: 2,400 of the stored game and 1,200 that
     /// were played here.
-    pub(crate) fn half(&self, place: usize) -> Half
-        requires { place < length self.now.list }
-        ensures half { slice_get self.now.list place ≡ Some result }
-        ensures lies { MayLie self.now.terms (take place self.now.list) result }
-        ensures few { place < 3600 }
+    pub(crate) fn half(&self, point: usize) -> Half
+        requires { point < length self.now.list }
+        ensures half { slice_get self.now.list point ≡ Some result }
+        ensures lies { MayLie self.now.terms (take point self.now.list) result }
+        ensures few { point < 3600 }
     {
-        if place < self.shared {
-            self.stored.as_slice()[place]
+        if point < self.shared {
+            self.stored.as_slice()[point]
         } else {
-            self.branch.as_slice()[place - self.shared]
+            self.branch.as_slice()[point - self.shared]
         }
     }
 }

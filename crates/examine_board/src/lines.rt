@@ -38,10 +38,10 @@ impl Exam {
         ensures first { 1 ≤ result }
         ensures last { result ≤ bounds.boards self.now.terms.variant }
     {
-        if self.place == 0 {
+        if self.point == 0 {
             return 1;
         }
-        self.half(self.place - 1).board
+        self.half(self.point - 1).board
     }
 
     /// What the line of the board of that number shows.
@@ -80,11 +80,11 @@ impl Exam {
     }
 
     /// The name of the player in that place, counted from 0.
-    fn name(&self, place: u8) -> Handle
-        requires { place < 2 * bounds.boards self.now.terms.variant }
-        ensures { result ≡ name_at self.now.names place }
+    fn name(&self, seat: u8) -> Handle
+        requires { seat < 2 * bounds.boards self.now.terms.variant }
+        ensures { result ≡ name_at self.now.names seat }
     {
-        self.names.as_slice()[usize::from(place)]
+        self.names.as_slice()[usize::from(seat)]
     }
 
     /// Adds the holdings line of each board, where the variant has men in hand.

@@ -28,7 +28,7 @@ impl Exam {
     fn resolve(&self, word: &MoveWord) -> Result<Move, Refusal>
         ensures answer { result ≡ play_answer self.now word.now }
         ensures lies { IfOk result (λ what. MayLie self.now.terms (present self.now) (uncharged what)) }
-        ensures room { OnOk result (self.now.place < most_halves) }
+        ensures room { OnOk result (self.now.point < most_halves) }
     {
         if is_pair(self.terms.variant) {
             return Err(Refusal::NotInVariant);
@@ -43,7 +43,7 @@ impl Exam {
     /// Plays a half-move that may be laid behind those on the boards.
     fn add(&mut self, what: Move)
         requires lies { MayLie self.old.terms (present self.old) (uncharged what) }
-        requires room { self.old.place < most_halves }
+        requires room { self.old.point < most_halves }
         ensures { self.new ≡ with_move self.old what }
     {
         self.cut();
@@ -54,14 +54,14 @@ impl Exam {
     /// Looks no more at the half-moves that follow those on the boards.
     fn cut(&mut self)
         ensures after { self.new ≡ record self.old { list = present self.old } }
-        ensures end { self.new.place ≡ length self.new.list }
+        ensures end { self.new.point ≡ length self.new.list }
     {
-        if self.place <= self.shared {
-            self.shared = self.place;
+        if self.point <= self.shared {
+            self.shared = self.point;
             self.branch.truncate(0);
             return;
         }
-        self.branch.truncate(self.place - self.shared);
+        self.branch.truncate(self.point - self.shared);
     }
 
     /// Looks at one half-move more, behind the others.

@@ -19,11 +19,11 @@ impl Exam {
         ensures list { self.new.list ≡ self.old.list }
     {
         let n = usize::from(n);
-        let left = self.len() - self.place;
+        let left = self.len() - self.point;
         if left < n {
             return Err(Refusal::NoMoreMoves);
         }
-        self.go_on(self.place + n);
+        self.go_on(self.point + n);
         Ok(())
     }
 
@@ -36,10 +36,10 @@ impl Exam {
         ensures list { self.new.list ≡ self.old.list }
     {
         let n = usize::from(n);
-        if self.place < n {
+        if self.point < n {
             return Err(Refusal::NoEarlierMoves);
         }
-        self.go_back(self.place - n);
+        self.go_back(self.point - n);
         Ok(())
     }
 
@@ -53,59 +53,59 @@ impl Exam {
     }
 
     /// Goes on to that place.
-    fn go_on(&mut self, place: usize)
-        requires low { self.old.place ≤ place }
-        requires high { place ≤ length self.old.list }
-        ensures { self.new ≡ record self.old { place = place } }
+    fn go_on(&mut self, point: usize)
+        requires low { self.old.point ≤ point }
+        requires high { point ≤ length self.old.list }
+        ensures { self.new ≡ record self.old { point = point } }
     {
-        for _next in self.place..place {
+        for _next in self.point..point {
             self.step();
         }
     }
 
     /// Goes back to that place.
-    fn go_back(&mut self, place: usize)
-        requires { place ≤ self.old.place }
-        ensures { self.new ≡ record self.old { place = place } }
+    fn go_back(&mut self, point: usize)
+        requires { point ≤ self.old.point }
+        ensures { self.new ≡ record self.old { point = point } }
     {
-        if place == self.place {
+        if point == self.point {
             return;
         }
         self.rewind();
-        self.go_on(place);
+        self.go_on(point);
     }
 
     /// Goes back to the start.
     fn rewind(&mut self)
-        ensures { self.new ≡ record self.old { place = 0 } }
+        ensures { self.new ≡ record self.old { point = 0 } }
     {
         self.boards.rewind();
-        self.place = 0;
+        self.point = 0;
     }
 
     /// Goes one half-move on.
     pub(crate) fn step(&mut self)
-        requires { self.old.place < length self.old.list }
-        ensures { self.new ≡ record self.old { place = self.old.place + 1 } }
+        requires { self.old.point < length self.old.list }
+        ensures { self.new ≡ record self.old { point = self.old.point + 1 } }
     {
-        let half = self.half(self.place);
+        let half = self.half(self.point);
         let played = Played {
             what: half.what,
             charge: half.charge,
         };
         self.boards.lay(half.board - 1, &played);
-        self.place += 1;
+        self.point += 1;
     }
 
     /// How many half-moves on the boards, from the first one on, are those of the stored game.
     fn kept(&self) -> usize
         ensures { result ≡ shared_length (present self.now) self.now.stored }
     {
-        let most = self.place.min(self.stored.len());
-        for place in 0..most {
-            let half = self.half(place);
-            if !is_same_half(&half, &self.stored.as_slice()[place]) {
-                return place;
+        let most = self.point.min(self.stored.len());
+        for point in 0..most {
+            let half = self.half(point);
+            if !is_same_half(&half, &self.stored.as_slice()[point]) {
+                return point;
             }
         }
         most
@@ -113,8 +113,8 @@ impl Exam {
 
     /// Looks at the stored half-moves, where those on the boards are the first of them.
     fn drop_branch(&mut self)
-        requires within { self.old.place ≤ length self.old.stored }
-        requires same { present self.old ≡ take self.old.place self.old.stored }
+        requires within { self.old.point ≤ length self.old.stored }
+        requires same { present self.old ≡ take self.old.point self.old.stored }
         ensures { self.new ≡ record self.old { list = self.old.stored } }
     {
         self.shared = self.stored.len();

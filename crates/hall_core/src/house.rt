@@ -8,9 +8,9 @@ use std::alloc::Global;
 use turn_chain::Steps;
 
 /// The server of one lobby and 128 desks, as a hall keeps it. Its rules are those of the server of one thread.
-pub struct Rooms;
+pub struct House;
 
-impl Served for Rooms {
+impl Served for House {
     ghost use Rattle.one_server.specs.House.{house};
     ghost use Rattle.one_server.specs.LawfulProof.{house_lawful};
 
@@ -25,7 +25,7 @@ impl Served for Rooms {
     ghost lawful = { house_lawful };
 }
 
-impl Steps for Rooms {
+impl Steps for House {
     ghost use Rattle.one_server.specs.Acts.{NeedsNoMemory};
 
     ghost sure = { λ timed. NeedsNoMemory timed.act };

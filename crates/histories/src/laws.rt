@@ -29,7 +29,7 @@ pub fn histories_grow<S: Served>()
 {}
 
 /// A fact of whole states that each act keeps.
-pub trait Kept<S: Served> {
+pub trait KeptFact<S: Served> {
     ghost use Rattle.std.specs.Prelude.{List};
     ghost use Rattle.histories.specs.Laws.{EachActKeeps};
 
@@ -39,7 +39,7 @@ pub trait Kept<S: Served> {
 }
 
 /// What each act keeps holds in every state of every legal history that opens with it.
-pub fn every_state<S: Served, K: Kept<S>>()
+pub fn every_state<S: Served, K: KeptFact<S>>()
     ensures { HoldsInEveryState S.core K.holds }
 {}
 

@@ -15,6 +15,6 @@ mod served;
 
 pub use entry::Entry;
 pub use laws::{
-    Kept, KeptOfParts, acts_commute, acts_locally, every_part, every_state, histories_grow,
+    KeptFact, KeptOfParts, acts_commute, acts_locally, every_part, every_state, histories_grow,
 };
 pub use served::Served;

@@ -6,17 +6,17 @@ use Rattle.line_reader.specs.Telnet.{after, is_data}
 
 -- where the next byte stands, and what has come of the line
 pub record Cutting : Type 0 where
-  pub place : Telnet
+  pub telnet : Telnet
   pub line : List ℕ
 
 -- an LF among data ends the line
 abbrev pub ends_line : Telnet → ℕ → Bool
-ends_line place byte = is_data place byte && byte == 10
+ends_line telnet byte = is_data telnet byte && byte == 10
 
 -- the line with a byte more, where it is one of a line; no more is kept than tells that it is too long
 abbrev pub grown : Telnet → List ℕ → ℕ → List ℕ
-grown place line byte = if (is_data place byte && is_kept byte) then take 1034 (line ++ byte ∷ []) else line
+grown telnet line byte = if (is_data telnet byte && is_kept byte) then take 1034 (line ++ byte ∷ []) else line
 
 -- after a byte that doesn't end the line
 abbrev pub passed : Cutting → ℕ → Cutting
-passed cutting byte = record { place = after cutting.place byte; line = grown cutting.place cutting.line byte }
+passed cutting byte = record { telnet = after cutting.telnet byte; line = grown cutting.telnet cutting.line byte }

@@ -11,21 +11,21 @@ use Rattle.line_reader.specs.Reading.{reading, rest_reading}
 -- the place in the telnet text, what has come of the line (no more of it than tells that it is too long), and the
 -- bytes that were fed and not looked at
 pub record Reader : Type 0 where
-  pub place : Telnet
+  pub telnet : Telnet
   pub line : List ℕ
   pub fed : List ℕ
 
 -- before the first byte
 abbrev pub fresh : Reader
-fresh = record { place = Data; line = []; fed = [] }
+fresh = record { telnet = Data; line = []; fed = [] }
 
 -- the bytes of lines in what comes from a place on
 abbrev pub kept_from : Telnet → List ℕ → List ℕ
-kept_from place bytes = filter is_kept (data_from place bytes)
+kept_from telnet bytes = filter is_kept (data_from telnet bytes)
 
 -- the lines to come and the rest, when `more` follows
 abbrev pub parts_of : Reader → List ℕ → List (List ℕ)
-parts_of reader more = pieces (reader.line ++ kept_from reader.place (reader.fed ++ more))
+parts_of reader more = pieces (reader.line ++ kept_from reader.telnet (reader.fed ++ more))
 
 -- the lines to come, when `more` follows
 abbrev pub lines_of : Reader → List ℕ → List Incoming
@@ -51,5 +51,5 @@ pub record IsKept (line : List ℕ) : Type 0 where
   pub unbroken : IsUnbroken line
 
 -- a reader that has come so far, with bytes to be looked at
-abbrev pub at_place : Cutting → List ℕ → Reader
-at_place cutting bytes = record { place = cutting.place; line = cutting.line; fed = bytes }
+abbrev pub reading_on : Cutting → List ℕ → Reader
+reading_on cutting bytes = record { telnet = cutting.telnet; line = cutting.line; fed = bytes }

@@ -25,6 +25,6 @@ is_data BlockCommand byte = false
 
 -- the data bytes of what comes from such a place on
 abbrev pub data_from : Telnet → List ℕ → List ℕ
-data_from place [] = []
-data_from place (byte ∷ bytes) =
-    if is_data place byte then (byte ∷ data_from (after place byte) bytes) else data_from (after place byte) bytes
+data_from telnet [] = []
+data_from telnet (byte ∷ bytes) =
+    if is_data telnet byte then (byte ∷ data_from (after telnet byte) bytes) else data_from (after telnet byte) bytes

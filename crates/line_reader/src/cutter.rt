@@ -8,7 +8,7 @@ use std::marker::Model;
 /// Where the next byte stands, and what has come of the line.
 #[derive(Drop)]
 pub(crate) struct Cutter {
-    place: Telnet,
+    telnet: Telnet,
     line: OpenLine,
 }
 
@@ -19,7 +19,7 @@ impl Model for Cutter {
 
     ghost use Rattle.line_reader.specs.Reader.{IsKept};
 
-    ghost view = { λ cutter. record { place = cutter.place; line = cutter.line } };
+    ghost view = { λ cutter. record { telnet = cutter.telnet; line = cutter.line } };
 
     ghost invariant = { λ cutter. IsKept cutter.line };
 }
@@ -31,10 +31,10 @@ impl Cutter {
 
     /// Before the first byte.
     pub(crate) fn new() -> Cutter
-        ensures { result ≡ record { place = Data; line = [] } }
+        ensures { result ≡ record { telnet = Data; line = [] } }
     {
         Cutter {
-            place: Telnet::Data,
+            telnet: Telnet::Data,
             line: OpenLine::new(),
         }
     }
@@ -44,7 +44,7 @@ impl Cutter {
         ensures { result ≡ self.now }
     {
         Cutter {
-            place: self.place,
+            telnet: self.telnet,
             line: self.line.duplicate(),
         }
     }
@@ -59,10 +59,10 @@ impl Cutter {
 
     /// Whether a byte ends the line: an LF among data.
     pub(crate) fn ends_line(&self, byte: u8) -> bool
-        ensures value { result ≡ ends_line self.now.place byte }
+        ensures value { result ≡ ends_line self.now.telnet byte }
         ensures kept { IsKept self.now.line }
     {
-        self.place.is_data(byte) && byte == b'\n'
+        self.telnet.is_data(byte) && byte == b'\n'
     }
 
     /// Begins the next line behind its LF.
@@ -74,12 +74,12 @@ impl Cutter {
 
     /// Takes a byte that doesn't end the line.
     pub(crate) fn pass(&mut self, byte: u8)
-        requires { ends_line self.old.place byte ≡ false }
+        requires { ends_line self.old.telnet byte ≡ false }
         ensures { self.new ≡ passed self.old byte }
     {
-        if self.place.is_data(byte) && byte != b'\r' && byte != 0 {
+        if self.telnet.is_data(byte) && byte != b'\r' && byte != 0 {
             self.line.push(byte);
         }
-        self.place = self.place.after(byte);
+        self.telnet = self.telnet.after(byte);
     }
 }

@@ -1,6 +1,6 @@
 //! The reader of a link's lines.
 ghost use Rattle.std.specs.Prelude.{◌≡◌, [], ◌∷◌, ◌++◌, drop, IfOk, OnOk, OnErr, IfSome, IfNone};
-ghost use Rattle.line_reader.specs.Reader.{rest_of, at_place};
+ghost use Rattle.line_reader.specs.Reader.{rest_of, reading_on};
 
 use crate::cutter::Cutter;
 use crate::incoming::{Incoming, read_line, read_rest};
@@ -27,7 +27,7 @@ impl Model for LineReader {
     ghost Value = { Reader };
 
     ghost view = { λ reader. record {
-      place = reader.cutter.place;
+      telnet = reader.cutter.telnet;
       line = reader.cutter.line;
       fed = drop reader.looked_at reader.fed.items;
     } };
@@ -103,7 +103,7 @@ impl LineReader {
 
     /// Whether a byte ends the line.
     fn ends_line(&self, byte: u8) -> bool
-        ensures value { result ≡ ends_line self.now.place byte }
+        ensures value { result ≡ ends_line self.now.telnet byte }
         ensures kept { IsKept self.now.line }
     {
         self.cutter.ends_line(byte)
@@ -128,10 +128,10 @@ impl LineReader {
     /// Takes the next byte, which doesn't end the line.
     fn pass(&mut self, byte: u8)
         requires some { 0 < length self.old.fed }
-        requires within { ends_line self.old.place byte ≡ false }
+        requires within { ends_line self.old.telnet byte ≡ false }
         ensures { self.new ≡ record {
-          place = after self.old.place byte;
-          line = grown self.old.place self.old.line byte;
+          telnet = after self.old.telnet byte;
+          line = grown self.old.telnet self.old.line byte;
           fed = drop 1 self.old.fed;
         } }
     {
@@ -154,7 +154,7 @@ impl LineReader {
 
 /// Takes all bytes, of which the whole lines are passed over.
 fn pass_all(cutter: &mut Cutter, bytes: &[u8])
-    ensures { rest_of (at_place cutter.new []) [] ≡ rest_of (at_place cutter.old bytes.now) [] }
+    ensures { rest_of (reading_on cutter.new []) [] ≡ rest_of (reading_on cutter.old bytes.now) [] }
 {
     for byte in bytes {
         if cutter.ends_line(*byte) {

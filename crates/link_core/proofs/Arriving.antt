@@ -37,21 +37,21 @@ front_byte : (t : Bool) (c : ℕ) (u v : List ℕ) → IsPrefix u v → IsPrefix
 front_byte true c u v f = (f.0, ap (λ (l : List ℕ). c ∷ l) f.1)
 front_byte false c u v f = f
 
-front_data : (place : Telnet) (a b : List ℕ) → IsPrefix (data_from place a) (data_from place (a ++ b))
-front_data place [] b = (data_from place b, refl)
-front_data place (c ∷ a) b = front_byte (is_data place c) c (data_from (after place c) a) (data_from (after place c) (a ++ b)) (front_data (after place c) a b)
+front_data : (telnet : Telnet) (a b : List ℕ) → IsPrefix (data_from telnet a) (data_from telnet (a ++ b))
+front_data telnet [] b = (data_from telnet b, refl)
+front_data telnet (c ∷ a) b = front_byte (is_data telnet c) c (data_from (after telnet c) a) (data_from (after telnet c) (a ++ b)) (front_data (after telnet c) a b)
 
-front_kept : (place : Telnet) (a b : List ℕ) → IsPrefix (kept_from place a) (kept_from place (a ++ b))
-front_kept place a b =
-    let f = front_data place a b in
-    (filter is_kept f.0, sym (filter-append is_kept (data_from place a) f.0) ∙ ap (filter is_kept) f.1)
+front_kept : (telnet : Telnet) (a b : List ℕ) → IsPrefix (kept_from telnet a) (kept_from telnet (a ++ b))
+front_kept telnet a b =
+    let f = front_data telnet a b in
+    (filter is_kept f.0, sym (filter-append is_kept (data_from telnet a) f.0) ∙ ap (filter is_kept) f.1)
 
 front_lines : (a b : List ℕ) → IsPrefix (lines_in a) (lines_in (a ++ b))
 front_lines a b =
-    let k = front_kept fresh.place a b in
-    let f = front_pieces (kept_from fresh.place a) k.0 in (
+    let k = front_kept fresh.telnet a b in
+    let f = front_pieces (kept_from fresh.telnet a) k.0 in (
       map reading f.0,
-      sym (map-append reading (but_last (pieces (kept_from fresh.place a))) f.0)
+      sym (map-append reading (but_last (pieces (kept_from fresh.telnet a))) f.0)
           ∙ ap (map reading) (f.1 ∙ ap (λ (l : List ℕ). but_last (pieces l)) k.1),
     )
 
@@ -131,11 +131,11 @@ come_end signs = ap (λ (l : List Input). l ++ map Line (option_to_list (rest_of
 -- what a reader gives that is fed more
 pub fed_lines : (reader : Reader) (bytes more : List ℕ) → lines_of (record reader { fed = reader.fed ++ bytes }) more ≡ lines_of reader (bytes ++ more)
 fed_lines reader bytes more =
-    ap (λ (l : List ℕ). map reading (but_last (pieces (reader.line ++ kept_from reader.place l)))) (append_assoc reader.fed bytes more)
+    ap (λ (l : List ℕ). map reading (but_last (pieces (reader.line ++ kept_from reader.telnet l)))) (append_assoc reader.fed bytes more)
 
 pub fed_rest : (reader : Reader) (bytes more : List ℕ) → rest_of (record reader { fed = reader.fed ++ bytes }) more ≡ rest_of reader (bytes ++ more)
 fed_rest reader bytes more =
-    ap (λ (l : List ℕ). rest_reading (last_of (pieces (reader.line ++ kept_from reader.place l)))) (append_assoc reader.fed bytes more)
+    ap (λ (l : List ℕ). rest_reading (last_of (pieces (reader.line ++ kept_from reader.telnet l)))) (append_assoc reader.fed bytes more)
 
 -- the lines that it then has are those that the bytes end
 pub behind_reader : (front bytes : List ℕ) (given : List Incoming) (reader : Reader) → ((more : List ℕ) → lines_in (front ++ more) ≡ given ++ lines_of reader more) → lines_of reader [] ≡ []

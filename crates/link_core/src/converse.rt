@@ -50,8 +50,8 @@ pub(crate) fn converse<R: Runner, L: Link, C: Clock>(
         Err(end) => return end,
     }
     let mut buf = [0; PIECE];
-    for _turn in 0..MOST_READS {
-        match take_turn(r, link, clock, session, &mut reader, &mut buf) {
+    for _read in 0..MOST_READS {
+        match take_read(r, link, clock, session, &mut reader, &mut buf) {
             Ok(()) => {}
             Err(end) => return end,
         }
@@ -74,7 +74,7 @@ fn greet<L: Link>(session: &Session, link: &mut L) -> Result<(), LinkEnd>
 }
 
 /// Reads once, into `buf`, and answers what came.
-fn take_turn<R: Runner, L: Link, C: Clock>(
+fn take_read<R: Runner, L: Link, C: Clock>(
     r: &mut R,
     link: &mut L,
     clock: &C,

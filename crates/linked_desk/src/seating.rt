@@ -18,7 +18,7 @@ use desk_boards::Boards;
 use fics_words::{Line, Opponents, Seats};
 use game_board::GameBoard;
 use memory::NoMemory;
-use observer_feed::{Feed, Told};
+use observer_feed::{Backlog, Feed};
 use offer_book::Offers;
 use std::alloc::Global;
 use style12_writer::{Item, continued_line, created_line};
@@ -221,8 +221,8 @@ fn add_pair(feed: &mut Feed<Item>, players: &Opponents) -> Result<(), NoMemory>
       viewers = feed.old.viewers ++ from_start players.now.white ∷ from_start players.now.black ∷ [];
     }) }
 {
-    feed.begin(players.white.session, Told::FromStart)?;
-    feed.begin(players.black.session, Told::FromStart)?;
+    feed.begin(players.white.session, Backlog::FromStart)?;
+    feed.begin(players.black.session, Backlog::FromStart)?;
     Ok(())
 }
 

@@ -7,7 +7,7 @@ ghost use Rattle.linked_desk.specs.Watch.{unwatch_effect, watch_effect};
 use crate::acts::DeskReply;
 use crate::game::Game;
 use fics_words::{Fail, Refusal};
-use observer_feed::Told;
+use observer_feed::Backlog;
 
 impl Game {
     /// Makes the session a viewer, who is told what comes from now on, and gives it the boards as they stand. Refused
@@ -22,7 +22,7 @@ impl Game {
             return Err(Fail::Refused(Refusal::AlreadyWatching));
         }
         let items = self.present_boards(desk)?;
-        self.feed.begin(session, Told::FromNow)?;
+        self.feed.begin(session, Backlog::FromNow)?;
         self.last = self.last.max(moment);
         Ok(DeskReply::Items { items, over: false })
     }

@@ -4,7 +4,7 @@ use Rattle.std.specs.declared.option.Option.{Option}
 use Rattle.std.specs.declared.option.Option.TheVariants.{None, Some}
 use Rattle.std.specs.FinMap as map
 use Rattle.edge_traits.specs.Keeper.{AreAllOf}
-use Rattle.edge_traits.specs.Pairs.{IsAscending, Pairs, Table}
+use Rattle.edge_traits.specs.Pairs.{IsAscending, Pairs, Records}
 use Rattle.lobby_state.specs.Lobby.{LobbyState}
 use Rattle.lobby_load.specs.BadRows.{IsGoodStore}
 use Rattle.lobby_load.specs.Filling.{HasRows, NamesKey}
@@ -16,23 +16,23 @@ use Rattle.lobby_load.proofs.Least.{made_good, made_loaded, made_sized}
 use Rattle.std.proofs.lemmas.Result.{IfOk-weaker}
 
 -- the pairs are all of the table, where it is told
-of_told : (told : Option Table) (rows : Pairs) (P : Table → Type 0) → AreAllOf told rows → ((table : Table) → rows ≡ map.entries table → P table) → IfSome told P
+of_told : (told : Option Records) (rows : Pairs) (P : Records → Type 0) → AreAllOf told rows → ((table : Records) → rows ≡ map.entries table → P table) → IfSome told P
 of_told None rows P all f = tt
 of_told (Some table) rows P all f = f table all
 
-pub loaded_told : (told : Option Table) (rows : Pairs) (r : Result LobbyState LoadRefusal) → AreAllOf told rows → IfOk r (HasRows rows)
+pub loaded_told : (told : Option Records) (rows : Pairs) (r : Result LobbyState LoadRefusal) → AreAllOf told rows → IfOk r (HasRows rows)
     → IfOk r (λ lobby. IfSome told (λ table. HasLoaded table lobby))
 loaded_told told rows r all made =
     IfOk-weaker r (HasRows rows) (λ lobby. IfSome told (λ table. HasLoaded table lobby))
     (λ lobby h. of_told told rows (λ table. HasLoaded table lobby) all (λ table e. made_loaded table lobby rows e h)) made
 
-pub sized_told : (told : Option Table) (rows : Pairs) (r : Result LobbyState LoadRefusal) → AreAllOf told rows → IfOk r (HasRows rows)
+pub sized_told : (told : Option Records) (rows : Pairs) (r : Result LobbyState LoadRefusal) → AreAllOf told rows → IfOk r (HasRows rows)
     → IfOk r (λ lobby. IfSome told (λ table. HasSizes table lobby))
 sized_told told rows r all made =
     IfOk-weaker r (HasRows rows) (λ lobby. IfSome told (λ table. HasSizes table lobby))
     (λ lobby h. of_told told rows (λ table. HasSizes table lobby) all (λ table e. made_sized table lobby rows e h)) made
 
-pub good_told : (told : Option Table) (rows : Pairs) (r : Result LobbyState LoadRefusal) → IsAscending rows → AreAllOf told rows → IfOk r (HasRows rows)
+pub good_told : (told : Option Records) (rows : Pairs) (r : Result LobbyState LoadRefusal) → IsAscending rows → AreAllOf told rows → IfOk r (HasRows rows)
     → IfOk r (λ lobby. IfSome told IsGoodStore)
 good_told told rows r rise all made =
     IfOk-weaker r (HasRows rows) (λ lobby. IfSome told IsGoodStore)

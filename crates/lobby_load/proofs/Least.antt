@@ -3,7 +3,7 @@ use Rattle.std.proofs.Common.{◌≡◌, ◌⊎◌, inl, inr, ℕ, ◌≤◌, Bo
 use Rattle.std.specs.FinMap as map
 use Rattle.std.specs.FinMap.{find, get-entries}
 use Rattle.lobby_shelf.specs.Shelf.{most_stored}
-use Rattle.edge_traits.specs.Pairs.{IsAscending, Pairs, Table, keys_order}
+use Rattle.edge_traits.specs.Pairs.{IsAscending, Pairs, Records, keys_order}
 use Rattle.lobby_state.specs.Lobby.{LobbyState, most_accounts}
 use Rattle.lobby_state.specs.ShelfRoom.{desks_used}
 use Rattle.lobby_store.specs.Carrying.{held}
@@ -66,12 +66,12 @@ not_bad done rest lobby key bytes rise h found (inr (inr (is, before))) =
     (subst (λ n. n ≤ most_stored) h.games h.few_games) before
 
 -- a lobby that was made of all pairs of a table has loaded it
-pub made_loaded : (table : Table) (lobby : LobbyState) (rows : Pairs) → rows ≡ map.entries table → HasRows rows lobby → HasLoaded table lobby
+pub made_loaded : (table : Records) (lobby : LobbyState) (rows : Pairs) → rows ≡ map.entries table → HasRows rows lobby → HasLoaded table lobby
 made_loaded table lobby rows e h key =
     h.wanted key ∙ ap (find keys_order key) e ∙ sym (get-entries table key)
 
 -- it has as many accounts and games
-pub made_sized : (table : Table) (lobby : LobbyState) (rows : Pairs) → rows ≡ map.entries table → HasRows rows lobby → HasSizes table lobby
+pub made_sized : (table : Records) (lobby : LobbyState) (rows : Pairs) → rows ≡ map.entries table → HasRows rows lobby → HasSizes table lobby
 made_sized table lobby rows e h = record {
   accounts = subst (HasCount IsAccount (length lobby.accounts)) e (record {
     pick = λ row. is_of_account row.0;
@@ -86,7 +86,7 @@ made_sized table lobby rows e h = record {
 }
 
 -- and it is a good store
-pub made_good : (table : Table) (lobby : LobbyState) (rows : Pairs) → IsAscending rows → rows ≡ map.entries table → HasRows rows lobby → IsGoodStore table
+pub made_good : (table : Records) (lobby : LobbyState) (rows : Pairs) → IsAscending rows → rows ≡ map.entries table → HasRows rows lobby → IsGoodStore table
 made_good table lobby rows rise e h = record {
   rows = subst (λ (x : Pairs). All (λ row. IsAccount row ⊎ IsGame row) x) e h.each;
   none_bad = λ key is.

@@ -1,12 +1,12 @@
 -- What a fault says once a bad record was told.
 use Rattle.std.proofs.Common.{inr, ℕ, List, Err}
 use Rattle.std.specs.declared.option.Option.{Option}
-use Rattle.edge_traits.specs.Pairs.{Table}
+use Rattle.edge_traits.specs.Pairs.{Records}
 use Rattle.lobby_load.specs.Telling.{IsFirstBad, Tells, TellsKey}
 use Rattle.lobby_load.specs.declared.refusals.StoreFault.{StoreFault}
 use Rattle.lobby_load.specs.declared.refusals.StoreFault.TheVariants.{BadRecord, KeeperFault, WriteFault, Memory}
 
-pub tells_of : (A : Type 0) (table : Option Table) (old new : Option (List ℕ)) (key : List ℕ) (fault : StoreFault) → IsFirstBad table key
+pub tells_of : (A : Type 0) (table : Option Records) (old new : Option (List ℕ)) (key : List ℕ) (fault : StoreFault) → IsFirstBad table key
     → TellsKey key old new fault → Tells {A = A} table old new (Err fault)
 tells_of A table old new key BadRecord first told = (key, first, told)
 tells_of A table old new key KeeperFault first told = absurd told

@@ -6,7 +6,7 @@ use Rattle.std.specs.declared.cmp.Ordering.TheVariants.{Less}
 use Rattle.fics_words.specs.declared.account.Account.{Account}
 use Rattle.game_records.specs.declared.stored_game.StoredGame.{StoredGame}
 use Rattle.lobby_shelf.specs.Shelf.{most_stored}
-use Rattle.edge_traits.specs.Pairs.{Pairs, Table, keys_order}
+use Rattle.edge_traits.specs.Pairs.{Pairs, Records, keys_order}
 use Rattle.lobby_state.specs.Lobby.{most_accounts}
 use Rattle.lobby_store.specs.Carrying.{held}
 use Rattle.lobby_store.specs.Rows.{IsAccountRow, IsGameRow, IsNoRow}
@@ -47,17 +47,17 @@ IsBeyond rows row = (IsAccount row × HasBefore IsAccount most_accounts rows row
     ⊎ (IsGame row × HasBefore IsGame most_stored rows row.0)
 
 -- the key is bad: its record is no row under it, or a row beyond what a server holds
-pub record IsBad (table : Table) (key : List ℕ) : Type 0 where
+pub record IsBad (table : Records) (key : List ℕ) : Type 0 where
   pub record_of : List ℕ
   pub stands : held table key ≡ Some record_of
   pub bad : IsNoRow (key, record_of) ⊎ IsBeyond (map.entries table) (key, record_of)
 
 -- the key is bad, and no key before it is
-pub record IsLeastBad (table : Table) (key : List ℕ) : Type 0 where
+pub record IsLeastBad (table : Records) (key : List ℕ) : Type 0 where
   pub bad : IsBad table key
   pub least : (other : List ℕ) → ComesBefore other key → IsBad table other → ⊥
 
 -- each pair of the table is a row, and no key is bad
-pub record IsGoodStore (table : Table) : Type 0 where
+pub record IsGoodStore (table : Records) : Type 0 where
   pub rows : All (λ row. IsAccount row ⊎ IsGame row) (map.entries table)
   pub none_bad : (key : List ℕ) → IsBad table key → ⊥

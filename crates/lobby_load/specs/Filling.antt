@@ -6,7 +6,7 @@ use Rattle.fics_words.specs.declared.account.Account.{Account}
 use Rattle.game_records.specs.declared.stored_game.StoredGame.{StoredGame}
 use Rattle.lobby_shelf.specs.Numbers.{AreInOrder}
 use Rattle.lobby_shelf.specs.Shelf.{most_stored, with_stored}
-use Rattle.edge_traits.specs.Pairs.{Pairs, Table, keys_order}
+use Rattle.edge_traits.specs.Pairs.{Pairs, Records, keys_order}
 use Rattle.lobby_state.specs.Lobby.{LobbyState, most_accounts}
 use Rattle.lobby_state.specs.Registration.{with_account}
 use Rattle.lobby_state.specs.ShelfRoom.{places_taken}
@@ -75,7 +75,7 @@ OnTaken Refused P Q = Q
 
 -- of each table that has these pairs the key is the least bad one
 abbrev pub IsLeastBadOf : Pairs → List ℕ → Type 0
-IsLeastBadOf rows key = (table : Table) → rows ≡ map.entries table → IsLeastBad table key
+IsLeastBadOf rows key = (table : Records) → rows ≡ map.entries table → IsLeastBad table key
 
 -- the refusal names this key, or is want of memory for its copy
 abbrev pub NamesKey : List ℕ → LoadRefusal → Type 0

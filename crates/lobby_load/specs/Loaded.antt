@@ -2,7 +2,7 @@
 use Rattle.std.specs.Prelude.{◌≡◌, ◌↔◌, ℕ, Bool, true, List, [], length, All, None, count_by, refl, replicate}
 use Rattle.std.specs.FinMap as map
 use Rattle.fics_words.specs.declared.account.Account.{Account}
-use Rattle.edge_traits.specs.Pairs.{Pairs, Table}
+use Rattle.edge_traits.specs.Pairs.{Pairs, Records}
 use Rattle.game_records.specs.Spelling.{IsSpelled, spelling}
 use Rattle.game_records.specs.declared.records.Record.TheVariants as a
 use Rattle.lobby_shelf.specs.Shelf.{empty}
@@ -15,7 +15,7 @@ use Rattle.lobby_load.specs.BadRows.{IsAccount, IsGame, Row}
 
 -- the lobby holds what the table holds: under each key it wants the record that stands there, and nothing where none
 -- does
-abbrev pub HasLoaded : Table → LobbyState → Type 0
+abbrev pub HasLoaded : Records → LobbyState → Type 0
 HasLoaded table lobby = (key : List ℕ) → wanted_by lobby key ≡ held table key
 
 -- a lobby at its opening that has these accounts and these stored games
@@ -45,6 +45,6 @@ pub record HasCount (IsOfKind : Row → Type 0) (count : ℕ) (rows : Pairs) : T
   pub many : count_by pick rows ≡ count
 
 -- the lobby has as many accounts, and as many stored games, as the table has rows of them
-pub record HasSizes (table : Table) (lobby : LobbyState) : Type 0 where
+pub record HasSizes (table : Records) (lobby : LobbyState) : Type 0 where
   pub accounts : HasCount IsAccount (length lobby.accounts) (map.entries table)
   pub games : HasCount IsGame (length lobby.shelf.games) (map.entries table)

@@ -3,7 +3,7 @@ use Rattle.std.specs.Prelude.{◌≡◌, ◌⊎◌, ℕ, List, [], ◌++◌, cod
 use Rattle.std.specs.declared.option.Option.{Option}
 use Rattle.std.specs.Io.KnownBytes.{Appends}
 use Rattle.hex.specs.Hex.{encode_lower, encode_with}
-use Rattle.edge_traits.specs.Pairs.{Table}
+use Rattle.edge_traits.specs.Pairs.{Records}
 use Rattle.edge_traits.specs.Sink.{AppendsFront}
 use Rattle.lobby_load.specs.BadRows.{IsLeastBad}
 use Rattle.lobby_load.specs.declared.refusals.StoreFault.{StoreFault}
@@ -14,16 +14,16 @@ abbrev pub bad_record_line : List ℕ → List ℕ
 bad_record_line key = codes "bad record " ++ (encode_lower key ++ codes "\n")
 
 -- the key is the least bad one of a table that is told
-abbrev pub IsFirstBad : Option Table → List ℕ → Type 0
+abbrev pub IsFirstBad : Option Records → List ℕ → Type 0
 IsFirstBad table key = IfSome table (λ told. IsLeastBad told key)
 
 -- a beginning of the line of the least bad key was written
-abbrev pub WroteFront : Option Table → Option (List ℕ) → Option (List ℕ) → Type 0
+abbrev pub WroteFront : Option Records → Option (List ℕ) → Option (List ℕ) → Type 0
 WroteFront table old new = (key : List ℕ) × IsFirstBad table key × AppendsFront old new (bad_record_line key)
 
 -- what was written as a store was opened: nothing, unless a record is bad; the line of the least bad key; and a
 -- beginning of that line where the write failed or memory ran out at it
-abbrev pub Tells : {A : Type 0} → Option Table → Option (List ℕ) → Option (List ℕ) → Result A StoreFault
+abbrev pub Tells : {A : Type 0} → Option Records → Option (List ℕ) → Option (List ℕ) → Result A StoreFault
     → Type 0
 Tells table old new (Ok lobby) = Appends old new []
 Tells table old new (Err BadRecord) =

@@ -8,7 +8,7 @@ use Rattle.std.proofs.lemmas.List.Elements.{All-nil, All-cons, All-append, All-c
 use Rattle.std.proofs.lemmas.List.Quantifiers.{all_pairs_push}
 use Rattle.chess_model.specs.declared.variant.Terms.{Terms}
 use Rattle.fics_words.specs.declared.seats.Opponents.{Opponents}
-use Rattle.lobby_state.specs.declared.game.Game.{Game}
+use Rattle.lobby_state.specs.declared.game.ListedGame.{ListedGame}
 use Rattle.lobby_state.specs.FindGame.{desk_of_game, first_at, first_seat, hall_desk, has_board, is_in_hall, seat_at}
 use Rattle.lobby_state.specs.Games.{board_line, game_number, games_lines, lines_at, lines_to, second_line}
 use Rattle.lobby_state.specs.GamesFound.{ListWhatIsFound}
@@ -43,7 +43,7 @@ abbrev numbers_second : ℕ → Option Opponents → List ℕ
 numbers_second desk None = []
 numbers_second desk (Some opponents) = game_number desk 2 ∷ []
 
-abbrev numbers_at : ℕ → Option Game → List ℕ
+abbrev numbers_at : ℕ → Option ListedGame → List ℕ
 numbers_at desk None = []
 numbers_at desk (Some game) = game_number desk 1 ∷ numbers_second desk game.seats.second
 
@@ -60,7 +60,7 @@ abbrev behind_second : Terms → Option Opponents → List ℕ
 behind_second terms None = []
 behind_second terms (Some players) = behind_board terms players
 
-abbrev behind_in : Bool → Option Game → List ℕ
+abbrev behind_in : Bool → Option ListedGame → List ℕ
 behind_in odd None = []
 behind_in true (Some game) = behind_board game.terms game.seats.first
 behind_in false (Some game) = behind_second game.terms game.seats.second
@@ -71,7 +71,7 @@ behind_of lobby number = behind_in (number % 2 == 1) (game_at lobby (desk_of_gam
 abbrev line_of : LobbyState → ℕ → List ℕ
 line_of lobby number = decimal number ++ codes " " ++ behind_of lobby number
 
-behind_is : (lobby : LobbyState) (number desk : ℕ) (odd : Bool) (game : Option Game) → (number % 2 == 1) ≡ odd → desk_of_game number ≡ desk
+behind_is : (lobby : LobbyState) (number desk : ℕ) (odd : Bool) (game : Option ListedGame) → (number % 2 == 1) ≡ odd → desk_of_game number ≡ desk
     → game_at lobby desk ≡ game → behind_in odd game ≡ behind_of lobby number
 behind_is lobby number desk odd game parity there e =
     sym (ap (λ (b : Bool). behind_in b (game_at lobby (desk_of_game number))) parity
@@ -91,14 +91,14 @@ line_is number terms players =
     rest_apart (decimal number ++ codes " ") players.white.name (codes " ") players.black.name (terms_words (record terms { colour = None }))
 
 -- the lines of a desk begin with these numbers
-line_second : (lobby : LobbyState) (desk : ℕ) (game : Game) (second : Option Opponents) → behind_second game.terms second ≡ behind_of lobby (game_number desk 2)
+line_second : (lobby : LobbyState) (desk : ℕ) (game : ListedGame) (second : Option Opponents) → behind_second game.terms second ≡ behind_of lobby (game_number desk 2)
     → second_line (game_number desk 2) game.terms second ≡ map (line_of lobby) (numbers_second desk second)
 line_second lobby desk game None e = refl
 line_second lobby desk game (Some players) e =
     ap (λ (line : List ℕ). line ∷ [])
     (line_is (game_number desk 2) game.terms players ∙ ap (λ (rest : List ℕ). decimal (game_number desk 2) ++ codes " " ++ rest) e)
 
-lines_at_desk : (lobby : LobbyState) (desk : ℕ) (game : Option Game) → 1 ≤ desk → game_at lobby desk ≡ game
+lines_at_desk : (lobby : LobbyState) (desk : ℕ) (game : Option ListedGame) → 1 ≤ desk → game_at lobby desk ≡ game
     → lines_at desk game ≡ map (line_of lobby) (numbers_at desk game)
 lines_at_desk lobby desk None low e = refl
 lines_at_desk lobby desk (Some game) low e =
@@ -127,14 +127,14 @@ first_seat_at lobby number desk there low high =
     ap (λ (d : ℕ). cond (is_in_hall d) (Some d) None) there ∙ ap (λ (b : Bool). cond b (Some desk) None) (in_hall desk low high) in
     ap (first_at lobby number) here
 
-is_found : (lobby : LobbyState) (number desk : ℕ) (game : Game) → desk_of_game number ≡ desk → 1 ≤ desk → desk ≤ 128 → game_at lobby desk ≡ Some game
+is_found : (lobby : LobbyState) (number desk : ℕ) (game : ListedGame) → desk_of_game number ≡ desk → 1 ≤ desk → desk ≤ 128 → game_at lobby desk ≡ Some game
     → has_board number game.terms.variant ≡ true → IsSome (first_seat lobby number)
 is_found lobby number desk game there low high e has =
     let place : Place = record { desk = desk; serial = game.serial; seat = 0 } in
     subst IsSome
     (sym (first_seat_at lobby number desk there low high ∙ ap (seat_at number desk) e ∙ ap (λ (b : Bool). cond b (Some place) None) has)) refl
 
-second_found : (lobby : LobbyState) (desk : ℕ) (game : Game) (second : Option Opponents) → 1 ≤ desk → desk ≤ 128 → game_at lobby desk ≡ Some game
+second_found : (lobby : LobbyState) (desk : ℕ) (game : ListedGame) (second : Option Opponents) → 1 ≤ desk → desk ≤ 128 → game_at lobby desk ≡ Some game
     → is_some second ≡ needs_partners game.terms.variant → All (λ n. IsSome (first_seat lobby n)) (numbers_second desk second)
 second_found lobby desk game None low high e boards = All-nil (λ n. IsSome (first_seat lobby n))
 second_found lobby desk game (Some players) low high e boards =
@@ -145,11 +145,11 @@ second_found lobby desk game (Some players) low high e boards =
     (All-nil (λ n. IsSome (first_seat lobby n)))
 
 -- the game that is listed for a desk has the boards that its variant wants
-abbrev HasBoards : Option Game → Type 0
+abbrev HasBoards : Option ListedGame → Type 0
 HasBoards None = Unit {0}
 HasBoards (Some game) = is_some game.seats.second ≡ needs_partners game.terms.variant
 
-found_at : (lobby : LobbyState) (desk : ℕ) (game : Option Game) → 1 ≤ desk → desk ≤ 128 → game_at lobby desk ≡ game → HasBoards game
+found_at : (lobby : LobbyState) (desk : ℕ) (game : Option ListedGame) → 1 ≤ desk → desk ≤ 128 → game_at lobby desk ≡ game → HasBoards game
     → All (λ n. IsSome (first_seat lobby n)) (numbers_at desk game)
 found_at lobby desk None low high e boards = All-nil (λ n. IsSome (first_seat lobby n))
 found_at lobby desk (Some game) low high e boards =
@@ -164,7 +164,7 @@ all_there P [] i h = tt
 all_there P (x ∷ xs) zero h = All-head P x xs h
 all_there P (x ∷ xs) (suc i) h = all_there P xs i (All-tail P x xs h)
 
-boards_in : (started : ℕ) (slot : Option (Option Game)) → IfSome slot (IsStarted started) → HasBoards (game_in slot)
+boards_in : (started : ℕ) (slot : Option (Option ListedGame)) → IfSome slot (IsStarted started) → HasBoards (game_in slot)
 boards_in started None h = tt
 boards_in started (Some None) h = tt
 boards_in started (Some (Some game)) h = h.boards
@@ -197,7 +197,7 @@ second_among : (desk number : ℕ) (second : Option Opponents) → is_some secon
 second_among desk number None e same = cc
 second_among desk number (Some players) e same = Contains-here number (game_number desk 2) [] same
 
-among_by : (odd : Bool) (number : ℕ) (game : Game) → (number % 2 == 1) ≡ odd → 1 ≤ desk_of_game number → HasBoards (Some game)
+among_by : (odd : Bool) (number : ℕ) (game : ListedGame) → (number % 2 == 1) ≡ odd → 1 ≤ desk_of_game number → HasBoards (Some game)
     → (odd || needs_partners game.terms.variant) ≡ true → Contains (numbers_at (desk_of_game number) (Some game)) number
 among_by true number game parity low boards has =
     let desk : ℕ = desk_of_game number in
@@ -207,7 +207,7 @@ among_by false number game parity low boards has =
     Contains-append_right (game_number desk 1 ∷ []) (numbers_second desk game.seats.second) number
     (second_among desk number game.seats.second (boards ∙ has) (second_of_desk number low parity))
 
-among_at : (number : ℕ) (game : Option Game) → IsSome (seat_at number (desk_of_game number) game) → 1 ≤ desk_of_game number → HasBoards game
+among_at : (number : ℕ) (game : Option ListedGame) → IsSome (seat_at number (desk_of_game number) game) → 1 ≤ desk_of_game number → HasBoards game
     → Contains (numbers_at (desk_of_game number) game) number
 among_at number None h low boards = absurd (let bad : false ≡ true = h in cc)
 among_at number (Some game) h low boards =
@@ -242,7 +242,7 @@ below_second : (desk : ℕ) (second : Option Opponents) → 1 ≤ desk → All (
 below_second desk None low = All-nil (Below desk)
 below_second desk (Some players) low = All-cons (Below desk) (game_number desk 2) [] (omega (arith, low)) (All-nil (Below desk))
 
-below_at : (desk : ℕ) (game : Option Game) → 1 ≤ desk → All (Below desk) (numbers_at desk game)
+below_at : (desk : ℕ) (game : Option ListedGame) → 1 ≤ desk → All (Below desk) (numbers_at desk game)
 below_at desk None low = All-nil (Below desk)
 below_at desk (Some game) low =
     All-cons (Below desk) (game_number desk 1) (numbers_second desk game.seats.second) (omega (arith, low)) (below_second desk game.seats.second low)
@@ -267,7 +267,7 @@ ascend_second : (numbers : List ℕ) (desk : ℕ) (second : Option Opponents) �
 ascend_second numbers desk None low below h = subst Ascend (sym (append-nil numbers)) h
 ascend_second numbers desk (Some players) low below h = one_above numbers (game_number desk 1) (game_number desk 2) below (omega (arith, low)) h
 
-ascend_at : (numbers : List ℕ) (count : ℕ) (game : Option Game) → All (Below count) numbers → Ascend numbers
+ascend_at : (numbers : List ℕ) (count : ℕ) (game : Option ListedGame) → All (Below count) numbers → Ascend numbers
     → Ascend (numbers ++ numbers_at (count + 1) game)
 ascend_at numbers count None below h = subst Ascend (sym (append-nil numbers)) h
 ascend_at numbers count (Some game) below h =

@@ -11,10 +11,10 @@ use Rattle.lobby_state.specs.Lobby.{LobbyState, free_slot, most_games, member_of
 use Rattle.lobby_state.specs.Pairing.{are_partners, lack_partner, pairing_of}
 use Rattle.lobby_state.specs.Planned.{IsPlanned}
 use Rattle.lobby_state.specs.ShelfRoom.{is_shelf_full}
-use Rattle.lobby_state.specs.Starting.{start_plan}
+use Rattle.lobby_state.specs.StartPlan.{start_plan}
 use Rattle.lobby_state.specs.WellFormed.{AreChallengesOf, IsWellFormed, IsBetweenMembers, sessions_of}
 use Rattle.lobby_state.proofs.Lists.{find-passes}
-use Rattle.lobby_state.proofs.Starts.{planned_where}
+use Rattle.lobby_state.proofs.StartPlans.{planned_where}
 use Rattle.lobby_state.proofs.WellFormed.{find-has}
 use Rattle.seek_match.specs.Matches.{is_between, is_to}
 

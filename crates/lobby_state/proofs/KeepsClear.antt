@@ -7,7 +7,7 @@ use Rattle.std.proofs.lemmas.List.Elements.{All-set, All-filter}
 use Rattle.std.proofs.lemmas.Option.{slice_get_within, same_Some}
 use Rattle.fics_words.specs.Handle.{key_of}
 use Rattle.lobby_state.specs.declared.acts.Plan.TheVariants.{Clear}
-use Rattle.lobby_state.specs.declared.game.Game.{Game}
+use Rattle.lobby_state.specs.declared.game.ListedGame.{ListedGame}
 use Rattle.simul_control.specs.declared.place.Place.{Place}
 use Rattle.lobby_state.specs.Clear.{clear_effect, off_desk, freed, cleared}
 use Rattle.lobby_state.specs.Keeps.{KeepsPlan, KeepsPlanned}
@@ -38,7 +38,7 @@ formed_freed lobby session desk h =
     (λ m has. All-filter (is_elsewhere desk) (IsSeatOf lobby.games m.session) m.places.rows has) h
 
 -- a place at another desk stays a seat where a desk is freed
-IsSeatOf-cleared : (games : List (Option Game)) (desk session : ℕ) (place : Place) → IsDesk desk → is_elsewhere desk place ≡ true
+IsSeatOf-cleared : (games : List (Option ListedGame)) (desk session : ℕ) (place : Place) → IsDesk desk → is_elsewhere desk place ≡ true
     → IsSeatOf games session place → IsSeatOf (set games (desk - 1) None) session place
 IsSeatOf-cleared games desk session place is_desk else h =
     let apart : place.desk ≢ desk = eqb-false place.desk desk (not-true (eqb place.desk desk) else) in
@@ -71,7 +71,7 @@ formed_cleared lobby desk is_desk h =
     (record { few = h.counted.few; room = omega (arith, fewer, room); orders = omega (arith, fewer, orders) }) h
 
 -- what a desk in use holds
-used_game : (o : Option (Option Game)) → IsSome (game_in o) → (game : Game) × (o ≡ Some (Some game))
+used_game : (o : Option (Option ListedGame)) → IsSome (game_in o) → (game : ListedGame) × (o ≡ Some (Some game))
 used_game None there = absurd (let bad : false ≡ true = there in cc)
 used_game (Some None) there = absurd (let bad : false ≡ true = there in cc)
 used_game (Some (Some game)) there = (game, refl)
@@ -123,7 +123,7 @@ others_by lobby session desk serial is_desk game true number low other =
     ∙ get-set_other lobby.games (desk - 1) (number - 1) None (λ e. other (ap Some (omega (arith, is_desk))))
 others_by lobby session desk serial is_desk game false number low other = refl
 
-own_by : (lobby : LobbyState) (session desk serial : ℕ) (game : Option StoredGame) (is_cleared : Bool) (number : ℕ) (before : Option Game) → desk ≡ number
+own_by : (lobby : LobbyState) (session desk serial : ℕ) (game : Option StoredGame) (is_cleared : Bool) (number : ℕ) (before : Option ListedGame) → desk ≡ number
     → slice_get lobby.games (number - 1) ≡ Some before
     → slice_get (committed lobby (Clear session desk serial) game is_cleared).games (number - 1)
     ≡ Some (game_after (Clear session desk serial) is_cleared before)

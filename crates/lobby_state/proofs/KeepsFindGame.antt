@@ -1,6 +1,6 @@
 -- What a FindGame keeps and tells.
 use Rattle.std.proofs.Common.{◌≡◌, ℕ, Bool, true, false, cond, Option, None, Some, IfSome, refl, arith}
-use Rattle.lobby_state.specs.declared.game.Game.{Game}
+use Rattle.lobby_state.specs.declared.game.ListedGame.{ListedGame}
 use Rattle.simul_control.specs.declared.place.Place.{Place}
 use Rattle.lobby_state.specs.Desks.{IsDesk}
 use Rattle.lobby_state.specs.FindGame.{desk_of_game, find_game_effect, first_at, first_seat, hall_desk, has_board, is_in_hall, seat_at}
@@ -15,12 +15,12 @@ hall_desk_is : (is : Bool) (desk : ℕ) → (is ≡ true → IsDesk desk) → If
 hall_desk_is true desk h = h refl
 hall_desk_is false desk h = tt
 
-board_at_desk : (is : Bool) (desk : ℕ) (game : Game) → IsDesk desk
+board_at_desk : (is : Bool) (desk : ℕ) (game : ListedGame) → IsDesk desk
     → IfSome (cond is (Some (record { desk = desk; serial = game.serial; seat = 0 })) None) (λ (p : Place). IsDesk p.desk)
 board_at_desk true desk game h = h
 board_at_desk false desk game h = tt
 
-seat_at_desk : (number desk : ℕ) (game : Option Game) → IsDesk desk → IfSome (seat_at number desk game) (λ p. IsDesk p.desk)
+seat_at_desk : (number desk : ℕ) (game : Option ListedGame) → IsDesk desk → IfSome (seat_at number desk game) (λ p. IsDesk p.desk)
 seat_at_desk number desk None h = tt
 seat_at_desk number desk (Some game) h = board_at_desk (has_board number game.terms.variant) desk game h
 

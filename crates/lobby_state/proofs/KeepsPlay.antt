@@ -10,10 +10,10 @@ use Rattle.lobby_state.specs.Pairing.{pairing_of}
 use Rattle.lobby_state.specs.Planned.{IsPlanned}
 use Rattle.lobby_state.specs.Play.{play_effect, seeking_in, terms_sought}
 use Rattle.lobby_state.specs.ShelfRoom.{is_shelf_full}
-use Rattle.lobby_state.specs.Starting.{start_plan}
+use Rattle.lobby_state.specs.StartPlan.{start_plan}
 use Rattle.lobby_state.specs.WellFormed.{IsByMember, IsWellFormed, sessions_of}
 use Rattle.lobby_state.proofs.Lists.{find-passes}
-use Rattle.lobby_state.proofs.Starts.{alone_together, planned_where}
+use Rattle.lobby_state.proofs.StartPlans.{alone_together, planned_where}
 use Rattle.lobby_state.proofs.WellFormed.{find-has}
 use Rattle.seek_match.specs.declared.seek.Seek.{Seek}
 use Rattle.seek_match.specs.Seeks.{has_number, seek_of}

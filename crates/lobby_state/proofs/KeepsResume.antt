@@ -29,7 +29,7 @@ use Rattle.lobby_state.specs.Resume.{Resuming, as_they_sat, asking, going_on, ha
 use Rattle.lobby_state.specs.WellFormed.{IsWellFormed, sessions_of}
 use Rattle.lobby_state.proofs.KeepsResumed.{used-stored}
 use Rattle.lobby_state.proofs.Lists.{find-contained, find-passes, find-step}
-use Rattle.lobby_state.proofs.Starts.{all_of_four, all_of_two, free-is, pairs_of_four, pairs_of_two}
+use Rattle.lobby_state.proofs.StartPlans.{all_of_four, all_of_two, free-is, pairs_of_four, pairs_of_two}
 use Rattle.lobby_state.proofs.WellFormed.{find-has}
 use Rattle.lobby_shelf.proofs.Leading.{same_key}
 use Rattle.login_handles.proofs.GuestNames.{bytes_eq-self}

@@ -16,7 +16,7 @@ use Rattle.fics_words.specs.declared.player.Player.{Player}
 use Rattle.fics_words.specs.declared.refusal.Refusal.TheVariants.{SimulFull}
 use Rattle.fics_words.specs.declared.seats.Seats.{Seats}
 use Rattle.lobby_state.specs.declared.acts.Plan.TheVariants.{Start}
-use Rattle.lobby_state.specs.declared.game.Game.{Game}
+use Rattle.lobby_state.specs.declared.game.ListedGame.{ListedGame}
 use Rattle.lobby_state.specs.declared.member.Member.{Member}
 use Rattle.simul_control.specs.declared.place.Place.{Place}
 use Rattle.lobby_state.specs.Keeps.{KeepsPlan}
@@ -53,7 +53,7 @@ Sits-seat_number session seats number e =
     }
 
 -- a place stays a seat where a game starts at a free desk
-IsSeatOf-started : (games : List (Option Game)) (slot : ℕ) (game : Option Game) (session : ℕ) (place : Place) → slice_get games slot ≡ Some None
+IsSeatOf-started : (games : List (Option ListedGame)) (slot : ℕ) (game : Option ListedGame) (session : ℕ) (place : Place) → slice_get games slot ≡ Some None
     → IsSeatOf games session place → IsSeatOf (set games slot game) session place
 IsSeatOf-started games slot game session place free h = record {
   desk = h.desk;
@@ -72,7 +72,7 @@ rows_by_test : (P : Place → Type 0) (b : Bool) (places : PlaceList) (place : P
 rows_by_test P true places place new h = h
 rows_by_test P false places place new h = All-push P places.rows place h new
 
-HasSeats-in_seat : (games : List (Option Game)) (desk serial : ℕ) (terms : Terms) (seats : Seats) (member : Member) (number : Option ℕ)
+HasSeats-in_seat : (games : List (Option ListedGame)) (desk serial : ℕ) (terms : Terms) (seats : Seats) (member : Member) (number : Option ℕ)
     → IsDesk desk → slice_get games (desk - 1) ≡ Some (Some (record { serial = serial; terms = terms; seats = seats }))
     → seat_number member.session (seat_list seats) ≡ number → HasSeats games member → HasSeats games (in_seat desk serial number member)
 HasSeats-in_seat games desk serial terms seats member None is_desk in_use e h = h
@@ -89,7 +89,7 @@ HasSeats-in_seat games desk serial terms seats member (Some number) is_desk in_u
       theirs = sits.theirs;
     }) h
 
-IsStarted-later : (started : ℕ) (game : Option Game) → IsStarted started game → IsStarted (started + 1) game
+IsStarted-later : (started : ℕ) (game : Option ListedGame) → IsStarted started game → IsStarted (started + 1) game
 IsStarted-later started None h = tt
 IsStarted-later started (Some game) h =
     let before = h.given_out in
@@ -117,7 +117,7 @@ pub formed_at : (lobby : LobbyState) (shelf : ShelfState) (desk serial : ℕ) (t
     → AreCounted lobby.accounts (set lobby.games (desk - 1) (Some (record { serial = serial; terms = terms; seats = seats }))) serial shelf
     → IsWellFormed lobby → IsWellFormed (seated (record lobby { shelf = shelf }) desk serial terms seats)
 formed_at lobby shelf desk serial terms seats is_desk is_free is_next are_terms fits stored counted h =
-    let game : Game = record { serial = serial; terms = terms; seats = seats } in
+    let game : ListedGame = record { serial = serial; terms = terms; seats = seats } in
     let games = set lobby.games (desk - 1) (Some game) in
     let sit : Member → Member = λ m. in_seat desk serial (seat_number m.session (seat_list seats)) m in
     let inside : desk - 1 < length lobby.games = slice_get_within lobby.games (desk - 1) None is_free in
@@ -162,7 +162,7 @@ formed_seated lobby desk serial terms seats can h =
     formed_at lobby lobby.shelf desk serial terms seats can.is_desk can.is_free can.is_next can.are_terms can.boards h.shelf
     (record { few = omega (arith, few, next); room = omega (arith, more, room); orders = omega (arith, more, next, orders) }) h
 
-pub own_started : (lobby : LobbyState) (desk number : ℕ) (game : Game) (before : Option Game) → desk ≡ number → slice_get lobby.games (number - 1) ≡ Some before
+pub own_started : (lobby : LobbyState) (desk number : ℕ) (game : ListedGame) (before : Option ListedGame) → desk ≡ number → slice_get lobby.games (number - 1) ≡ Some before
     → slice_get (set lobby.games (desk - 1) (Some game)) (number - 1) ≡ Some (Some game)
 own_started lobby desk number game before same there =
     subst (λ (n : ℕ). slice_get (set lobby.games (n - 1) (Some game)) (number - 1) ≡ Some (Some game)) (sym same)

@@ -53,7 +53,7 @@ pub mod KeepsSaved
 pub mod Listing
 pub mod KeepsActs
 pub mod DesksUsed
-pub mod Starts
+pub mod StartPlans
 pub mod KeepsAccept
 pub mod KeepsPlay
 pub mod KeepingAway

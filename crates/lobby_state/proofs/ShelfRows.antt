@@ -7,7 +7,7 @@ use Rattle.lobby_shelf.specs.Shelf.{ShelfState, account_order, ordered, without_
 use Rattle.lobby_shelf.specs.declared.order.Order.{Order}
 use Rattle.lobby_shelf.specs.declared.request.Request.{Request}
 use Rattle.lobby_shelf.proofs.Keeping.{IsShelf-fewer, IsShelf-ordered}
-use Rattle.lobby_state.specs.declared.game.Game.{Game}
+use Rattle.lobby_state.specs.declared.game.ListedGame.{ListedGame}
 use Rattle.lobby_state.specs.WellFormed.{AreCounted, IsShelfOf}
 use Rattle.lobby_state.proofs.Lists.{All-filter_passing, Contains-filter}
 
@@ -46,14 +46,14 @@ pub IsShelfOf-ordered : (sessions : List ℕ) (shelf : ShelfState) (order : Orde
 IsShelfOf-ordered sessions shelf order next h = record { sound = IsShelf-ordered shelf order next h.sound; members = h.members }
 
 -- an account comes, with an order or without
-pub AreCounted-account : (accounts : List Account) (account : Account) (games : List (Option Game)) (started : ℕ) (shelf : ShelfState)
+pub AreCounted-account : (accounts : List Account) (account : Account) (games : List (Option ListedGame)) (started : ℕ) (shelf : ShelfState)
     → AreCounted accounts games started shelf → AreCounted (accounts ++ account ∷ []) games started shelf
 AreCounted-account accounts account games started shelf h =
     let long = length-append accounts (account ∷ []) in
     let orders = h.orders in
     record { few = h.few; room = h.room; orders = omega (arith, long, orders) }
 
-pub AreCounted-new_account : (accounts : List Account) (account : Account) (games : List (Option Game)) (started : ℕ) (shelf : ShelfState)
+pub AreCounted-new_account : (accounts : List Account) (account : Account) (games : List (Option ListedGame)) (started : ℕ) (shelf : ShelfState)
     → AreCounted accounts games started shelf
     → AreCounted (accounts ++ account ∷ []) games started (ordered shelf (account_order shelf account))
 AreCounted-new_account accounts account games started shelf h =

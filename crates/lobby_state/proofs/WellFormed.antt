@@ -7,7 +7,7 @@ use Rattle.std.proofs.lemmas.List.Elements.{All-nil, All-replicate, All-weaker, 
 use Rattle.channel_feed.specs.declared.channels.Membership.{Membership}
 use Rattle.fics_words.specs.Handle.{key_of}
 use Rattle.seek_match.specs.declared.challenge.Challenge.{Challenge}
-use Rattle.lobby_state.specs.declared.game.Game.{Game}
+use Rattle.lobby_state.specs.declared.game.ListedGame.{ListedGame}
 use Rattle.lobby_state.specs.declared.member.Member.{Member}
 use Rattle.lobby_state.specs.Change.{change_first}
 use Rattle.lobby_state.specs.Places.{AreAtDesks}
@@ -29,7 +29,7 @@ length-kept : {X Y : Type 0} (g : X → Y) (xs ys : List X) → map g xs ≡ map
 length-kept g xs ys e = sym (length-map xs g) ∙ ap length e ∙ length-map ys g
 
 -- the lobby has other members and challenges, where sessions and handles are those of before
-pub kept : (lobby : LobbyState) (members : List Member) (challenges : List Challenge) (games : List (Option Game)) (started : ℕ) (shelf : ShelfState)
+pub kept : (lobby : LobbyState) (members : List Member) (challenges : List Challenge) (games : List (Option ListedGame)) (started : ℕ) (shelf : ShelfState)
     → map (λ m. m.session) members ≡ map (λ m. m.session) lobby.members
     → map (λ m. key_of m.name) members ≡ map (λ m. key_of m.name) lobby.members
     → AreChallengesOf (sessions_of lobby.members) challenges

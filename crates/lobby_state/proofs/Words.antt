@@ -16,8 +16,8 @@ use Rattle.chess_model.specs.declared.variant.Variant.TheVariants.{Chess, Crazyh
 use Rattle.chess_model.specs.VariantWord.{word_of}
 use Rattle.fics_words.specs.Handle.{IsHandle}
 use Rattle.fics_words.specs.Line.{IsLine, IsPrintable}
-use Rattle.lobby_state.specs.declared.pending.Side.{Side}
-use Rattle.lobby_state.specs.declared.pending.Side.TheVariants.{FromOthers, ToOthers}
+use Rattle.lobby_state.specs.declared.pending.ChallengeSide.{ChallengeSide}
+use Rattle.lobby_state.specs.declared.pending.ChallengeSide.TheVariants.{FromOthers, ToOthers}
 use Rattle.lobby_state.specs.Games.{board_words}
 use Rattle.lobby_state.specs.Match.{challenge_words}
 use Rattle.lobby_state.specs.Partner.{partner_words}
@@ -189,11 +189,11 @@ IsLine-said name wording text h w t =
 pub IsLine-from_printed : (most : ℕ) (text : List ℕ) → most ≤ 1023 → IsPrinted most text → IsLine text
 IsLine-from_printed most text few h = (omega (arith, few, h.short), h.shows)
 
-IsPrinted-side : (side : Side) → IsPrinted 5 (side_words side)
+IsPrinted-side : (side : ChallengeSide) → IsPrinted 5 (side_words side)
 IsPrinted-side FromOthers = IsPrinted-from_test 5 (side_words FromOthers) (omega arith) refl
 IsPrinted-side ToOthers = IsPrinted-from_test 5 (side_words ToOthers) (omega arith) refl
 
-pub IsPrinted-pending_words : (side : Side) (name : List ℕ) (terms : Terms) → IsPrinted 17 name → terms.minutes < 2 ^ 16 → terms.increment < 2 ^ 16
+pub IsPrinted-pending_words : (side : ChallengeSide) (name : List ℕ) (terms : Terms) → IsPrinted 17 name → terms.minutes < 2 ^ 16 → terms.increment < 2 ^ 16
     → IsPrinted 52 (pending_words side name terms)
 IsPrinted-pending_words side name terms h minutes increment =
     let join = IsPrinted-append in

@@ -8,7 +8,7 @@ use Rattle.lobby_state.specs.declared.member.Member.{Member}
 use Rattle.lobby_state.specs.Change.{holds}
 use Rattle.lobby_state.specs.Lobby.{LobbyState, member_of, named, free_slot}
 use Rattle.lobby_state.specs.Pairing.{are_partners, is_simul_of_four, lack_partner, pairing_of}
-use Rattle.lobby_state.specs.Starting.{start_causes, start_plan}
+use Rattle.lobby_state.specs.StartPlan.{start_causes, start_plan}
 use Rattle.seek_match.specs.declared.challenge.Challenge.{Challenge}
 use Rattle.seek_match.specs.Matches.{challenge_to}
 

@@ -4,7 +4,7 @@ use Rattle.chess_model.specs.declared.variant.Variant.{Variant}
 use Rattle.fics_words.specs.Effect.{Effect}
 use Rattle.fics_words.specs.declared.refusal.Refusal.TheVariants.{NotIn, NoSuchGame}
 use Rattle.lobby_state.specs.declared.acts.LobbyReply.{LobbyReply}
-use Rattle.lobby_state.specs.declared.game.Game.{Game}
+use Rattle.lobby_state.specs.declared.game.ListedGame.{ListedGame}
 use Rattle.simul_control.specs.declared.place.Place.{Place}
 use Rattle.lobby_state.specs.Desks.{desks}
 use Rattle.lobby_state.specs.Find.{found}
@@ -33,7 +33,7 @@ board_seat number desk serial variant =
     cond (has_board number variant) (Some (record { desk = desk; serial = serial; seat = 0 })) None
 
 -- the first seat of the game for which the desk is in use, where a board of it has this number
-abbrev pub seat_at : ℕ → ℕ → Option Game → Option Place
+abbrev pub seat_at : ℕ → ℕ → Option ListedGame → Option Place
 seat_at number desk None = None
 seat_at number desk (Some game) = board_seat number desk game.serial game.terms.variant
 

@@ -6,7 +6,7 @@ use Rattle.fics_words.specs.declared.refusal.Refusal.TheVariants.{NotIn}
 use Rattle.fics_words.specs.declared.seats.Opponents.{Opponents}
 use Rattle.lobby_state.specs.declared.acts.LobbyReply.{LobbyReply}
 use Rattle.lobby_state.specs.declared.acts.LobbyReply.TheVariants.{Lines}
-use Rattle.lobby_state.specs.declared.game.Game.{Game}
+use Rattle.lobby_state.specs.declared.game.ListedGame.{ListedGame}
 use Rattle.lobby_state.specs.Desks.{desks}
 use Rattle.lobby_state.specs.Lobby.{LobbyState, game_at, member_of}
 use Rattle.lobby_state.specs.TermsText.{terms_words}
@@ -31,7 +31,7 @@ second_line number terms None = []
 second_line number terms (Some opponents) = board_line number terms opponents ∷ []
 
 -- the lines of a desk, one a board, where it is in use
-abbrev pub lines_at : ℕ → Option Game → List (List ℕ)
+abbrev pub lines_at : ℕ → Option ListedGame → List (List ℕ)
 lines_at desk None = []
 lines_at desk (Some game) =
     board_line (game_number desk 1) game.terms game.seats.first

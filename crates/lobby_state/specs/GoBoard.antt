@@ -7,7 +7,7 @@ use Rattle.fics_words.specs.declared.player.Player.{Player}
 use Rattle.fics_words.specs.declared.refusal.Refusal.TheVariants.{NoSuchPlayer, NotGiving, NotPlaying}
 use Rattle.fics_words.specs.declared.seats.Seats.{Seats}
 use Rattle.lobby_state.specs.declared.acts.LobbyReply.{LobbyReply}
-use Rattle.lobby_state.specs.declared.game.Game.{Game}
+use Rattle.lobby_state.specs.declared.game.ListedGame.{ListedGame}
 use Rattle.lobby_state.specs.declared.member.Member.{Member}
 use Rattle.lobby_state.specs.Change.{holds}
 use Rattle.lobby_state.specs.Find.{present_of}
@@ -29,7 +29,7 @@ abbrev pub opponent_of : ℕ → Seats → Option Player
 opponent_of seat seats = slice_get (seat_list seats) (other_seat seat)
 
 -- the player of this session is the seat's opponent in the game, if there is a game
-abbrev pub plays_against : ℕ → ℕ → Option Game → Bool
+abbrev pub plays_against : ℕ → ℕ → Option ListedGame → Bool
 plays_against session seat None = false
 plays_against session seat (Some game) = holds (plays_as session) (opponent_of seat game.seats)
 

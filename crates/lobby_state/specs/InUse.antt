@@ -5,14 +5,14 @@ use Rattle.fics_words.specs.Effect.{Effect}
 use Rattle.lobby_state.specs.declared.acts.LobbyReply.{LobbyReply}
 use Rattle.lobby_state.specs.declared.acts.LobbyReply.TheVariants.{Desks}
 use Rattle.lobby_state.specs.declared.desk_in_use.DeskInUse.{DeskInUse}
-use Rattle.lobby_state.specs.declared.game.Game.{Game}
+use Rattle.lobby_state.specs.declared.game.ListedGame.{ListedGame}
 use Rattle.lobby_state.specs.Desks.{IsDesk, desks}
 use Rattle.lobby_state.specs.Lobby.{LobbyState, game_at}
 
 -- the desk is in use for a game of this serial
 pub record IsInUse (lobby : LobbyState) (row : DeskInUse) : Type 0 where
   pub is_desk : IsDesk row.desk
-  pub game : Game
+  pub game : ListedGame
   pub there : game_at lobby row.desk ≡ Some game
   pub serial : game.serial ≡ row.serial
 
@@ -22,7 +22,7 @@ pub record AreDesksInUse (lobby : LobbyState) (rows : List DeskInUse) : Type 0 w
   pub ascending : AllPairs (λ one another. one.desk < another.desk) rows
 
 -- the row of a desk, where it is in use
-abbrev pub row_of : ℕ → Option Game → List DeskInUse
+abbrev pub row_of : ℕ → Option ListedGame → List DeskInUse
 row_of desk None = []
 row_of desk (Some game) = record { desk = desk; serial = game.serial } ∷ []
 

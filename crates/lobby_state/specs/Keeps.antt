@@ -6,7 +6,7 @@ use Rattle.game_records.specs.declared.stored_game.StoredGame.{StoredGame}
 use Rattle.lobby_state.specs.declared.acts.LobbyReply.{LobbyReply}
 use Rattle.lobby_state.specs.declared.acts.LobbyReply.TheVariants.{Done, Entered, NeedPassword, Lines, Places, Waiting, Desks, Told, Number, Asked, Found, Orders}
 use Rattle.lobby_state.specs.declared.acts.Plan.{Plan}
-use Rattle.lobby_state.specs.declared.game.Game.{Game}
+use Rattle.lobby_state.specs.declared.game.ListedGame.{ListedGame}
 use Rattle.lobby_state.specs.Desks.{IsDesk}
 use Rattle.lobby_state.specs.Lobby.{LobbyState}
 use Rattle.lobby_state.specs.Places.{AreAtDesks}
@@ -52,7 +52,7 @@ pub record KeepsPlan (lobby : LobbyState) (plan : Plan) : Type 0 where
   pub is_desk : IfSome (desk_of plan) IsDesk
   pub formed : (game : Option StoredGame) (is_cleared : Bool) → CanShelve lobby plan game → IsWellFormed lobby
       → IsWellFormed (committed lobby plan game is_cleared)
-  pub own : (game : Option StoredGame) (is_cleared : Bool) (number : ℕ) (before : Option Game)
+  pub own : (game : Option StoredGame) (is_cleared : Bool) (number : ℕ) (before : Option ListedGame)
       → desk_of plan ≡ Some number → slice_get lobby.games (number - 1) ≡ Some before
       → slice_get (committed lobby plan game is_cleared).games (number - 1) ≡ Some (game_after plan is_cleared before)
   pub others : (game : Option StoredGame) (is_cleared : Bool) (number : ℕ) → 1 ≤ number → desk_of plan ≢ Some number

@@ -45,7 +45,7 @@ pub mod Orders
 pub mod Saved
 pub mod Told
 pub mod ShelfRoom
-pub mod Starting
+pub mod StartPlan
 pub mod Accept
 pub mod Play
 pub mod KeptAway

@@ -13,7 +13,7 @@ use Rattle.seek_match.specs.declared.seek.Seek.{Seek}
 use Rattle.seek_match.specs.Matches.{without_challenges_of}
 use Rattle.seek_match.specs.Seeks.{without_seeks_of}
 use Rattle.seek_match.specs.declared.challenge.Challenge.{Challenge}
-use Rattle.lobby_state.specs.declared.game.Game.{Game}
+use Rattle.lobby_state.specs.declared.game.ListedGame.{ListedGame}
 use Rattle.lobby_state.specs.declared.member.Member.{Member}
 use Rattle.lobby_state.specs.Desks.{desks}
 use Rattle.lobby_state.specs.Places.{PlaceList, no_places}
@@ -31,7 +31,7 @@ pub record LobbyState : Type 0 where
   pub channels : List Membership
   pub partners : PartnerLists
   pub shelf : ShelfState
-  pub games : List (Option Game)
+  pub games : List (Option ListedGame)
   pub started : ℕ
 
 -- the most members that the hall holds
@@ -127,12 +127,12 @@ abbrev pub free_slot : LobbyState → Option ℕ
 free_slot lobby = position is_none lobby.games
 
 -- what a slot that is there holds
-abbrev pub game_in : Option (Option Game) → Option Game
+abbrev pub game_in : Option (Option ListedGame) → Option ListedGame
 game_in None = None
 game_in (Some game) = game
 
 -- the game for which the desk is in use, if it is
-abbrev pub game_at : LobbyState → ℕ → Option Game
+abbrev pub game_at : LobbyState → ℕ → Option ListedGame
 game_at lobby desk = game_in (slice_get lobby.games (desk - 1))
 
 -- the lobby without the challenges by this session and to it

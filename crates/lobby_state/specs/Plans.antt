@@ -9,7 +9,7 @@ use Rattle.lobby_state.specs.declared.acts.PairAct.{PairAct}
 use Rattle.lobby_state.specs.declared.acts.PairAct.TheVariants.{Accept, Play, Clear, Resume}
 use Rattle.lobby_state.specs.declared.acts.Plan.{Plan}
 use Rattle.lobby_state.specs.declared.acts.Plan.TheVariants.{Start, Clear as Clearing, Resume as Resuming, Ask}
-use Rattle.lobby_state.specs.declared.game.Game.{Game}
+use Rattle.lobby_state.specs.declared.game.ListedGame.{ListedGame}
 use Rattle.lobby_state.specs.Accept.{accept_effect}
 use Rattle.lobby_state.specs.Clear.{clear_effect, freed, cleared}
 use Rattle.lobby_state.specs.Desks.{IsDesk}
@@ -51,7 +51,7 @@ committed lobby (Resuming desk serial number terms seats) game is_cleared = resu
 committed lobby (Ask from to number) game is_cleared = asked_of lobby from to number
 
 -- the game that the lobby lists for the plan's desk once the plan is carried out, by the one that it listed before
-abbrev pub game_after : Plan → Bool → Option Game → Option Game
+abbrev pub game_after : Plan → Bool → Option ListedGame → Option ListedGame
 game_after (Start desk serial terms seats) is_cleared before =
     Some (record { serial = serial; terms = terms; seats = seats })
 game_after (Clearing session desk serial) true before = None

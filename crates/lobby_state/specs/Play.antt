@@ -9,7 +9,7 @@ use Rattle.lobby_state.specs.Change.{holds}
 use Rattle.lobby_state.specs.Lobby.{LobbyState, free_slot, is_session, member_of}
 use Rattle.lobby_state.specs.NameList.{avoids}
 use Rattle.lobby_state.specs.Pairing.{are_playing, pairing_of}
-use Rattle.lobby_state.specs.Starting.{start_causes, start_plan}
+use Rattle.lobby_state.specs.StartPlan.{start_causes, start_plan}
 use Rattle.seek_match.specs.declared.seek.Seek.{Seek}
 use Rattle.seek_match.specs.Seeks.{seek_of}
 

@@ -21,7 +21,7 @@ use Rattle.lobby_state.specs.Change.{holds}
 use Rattle.lobby_state.specs.Lobby.{LobbyState, free_slot, gives, holder_of, is_busy, is_registered, is_session, member_of, named}
 use Rattle.lobby_state.specs.Match.{is_full}
 use Rattle.lobby_state.specs.Pairing.{is_crowded, needs_partners}
-use Rattle.lobby_state.specs.Starting.{has_no_desk, no_plan}
+use Rattle.lobby_state.specs.StartPlan.{has_no_desk, no_plan}
 
 -- who asks, whom it names, and which game is meant
 pub record Resuming : Type 0 where

@@ -6,7 +6,7 @@ use Rattle.fics_words.specs.declared.refusal.Refusal.TheVariants.{ShelfFull}
 use Rattle.game_records.specs.declared.stored_game.StoredGame.{StoredGame}
 use Rattle.lobby_shelf.specs.Shelf.{most_stored, with_stored}
 use Rattle.lobby_shelf.specs.declared.shelved.Shelved.{Shelved}
-use Rattle.lobby_state.specs.declared.game.Game.{Game}
+use Rattle.lobby_state.specs.declared.game.ListedGame.{ListedGame}
 use Rattle.lobby_state.specs.Lobby.{LobbyState}
 
 -- the numbers of these games, in their order
@@ -14,7 +14,7 @@ abbrev pub numbers_of : List Shelved → List ℕ
 numbers_of games = map (λ row. row.number) games
 
 -- how many desks are in use
-abbrev pub desks_used : List (Option Game) → ℕ
+abbrev pub desks_used : List (Option ListedGame) → ℕ
 desks_used games = count_by is_some games
 
 -- stored games and desks in use, together

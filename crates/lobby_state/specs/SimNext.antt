@@ -5,7 +5,7 @@ use Rattle.lobby_state.specs.declared.acts.LobbyReply.{LobbyReply}
 use Rattle.lobby_state.specs.Lobby.{LobbyState, places_of}
 use Rattle.lobby_state.specs.OwnPlaces.{changing}
 use Rattle.lobby_state.specs.Places.{turning}
-use Rattle.simul_control.specs.declared.way.Way.TheVariants.{Next}
+use Rattle.simul_control.specs.declared.direction.Direction.TheVariants.{Next}
 
 -- a SimNext is refused where the session isn't a member; and where it gives no simul, or has no place
 abbrev pub sim_next_effect : LobbyState → ℕ → Effect LobbyState LobbyReply

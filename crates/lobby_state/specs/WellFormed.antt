@@ -8,7 +8,7 @@ use Rattle.fics_words.specs.Seats.{seat_list}
 use Rattle.lobby_shelf.specs.Facts.{IsShelf}
 use Rattle.lobby_shelf.specs.Shelf.{ShelfState, most_stored}
 use Rattle.login_handles.specs.Accounts.{AreAccounts}
-use Rattle.lobby_state.specs.declared.game.Game.{Game}
+use Rattle.lobby_state.specs.declared.game.ListedGame.{ListedGame}
 use Rattle.lobby_state.specs.declared.member.Member.{Member}
 use Rattle.simul_control.specs.declared.place.Place.{Place}
 use Rattle.lobby_state.specs.Desks.{IsDesk, desks}
@@ -76,15 +76,15 @@ pub record IsShelfOf (sessions : List ℕ) (shelf : ShelfState) : Type 0 where
 -- at most 2^62 games were started; stored games and desks in use are at most 10,000 together, so that each game that runs
 -- has its place on the shelf; and a save order was made for an account at most once, and for a game at most as it was
 -- resumed and as it was adjourned, so that the numbers of orders stay below 2^64
-pub record AreCounted (accounts : List Account) (games : List (Option Game)) (started : ℕ) (shelf : ShelfState) : Type 0 where
+pub record AreCounted (accounts : List Account) (games : List (Option ListedGame)) (started : ℕ) (shelf : ShelfState) : Type 0 where
   pub few : started ≤ most_games
   pub room : length shelf.games + desks_used games ≤ most_stored
   pub orders : shelf.made + desks_used games ≤ 2 * started + length accounts
 
 -- the place is a seat of this session's, at a desk in use under that serial
-pub record IsSeatOf (games : List (Option Game)) (session : ℕ) (place : Place) : Type 0 where
+pub record IsSeatOf (games : List (Option ListedGame)) (session : ℕ) (place : Place) : Type 0 where
   pub desk : IsDesk place.desk
-  pub game : Game
+  pub game : ListedGame
   pub in_use : slice_get games (place.desk - 1) ≡ Some (Some game)
   pub serial : game.serial ≡ place.serial
   pub seat : Player
@@ -92,19 +92,19 @@ pub record IsSeatOf (games : List (Option Game)) (session : ℕ) (place : Place)
   pub theirs : seat.session ≡ session
 
 -- each place of the member is such a seat
-abbrev pub HasSeats : List (Option Game) → Member → Type 0
+abbrev pub HasSeats : List (Option ListedGame) → Member → Type 0
 HasSeats games member = All (IsSeatOf games member.session) member.places.rows
 
 -- the game has one of the serials that were given out, terms that a game can have, and a second board exactly where its
 -- variant is played by partners
-pub record IsStartedGame (started : ℕ) (game : Game) : Type 0 where
+pub record IsStartedGame (started : ℕ) (game : ListedGame) : Type 0 where
   pub positive : 1 ≤ game.serial
   pub given_out : game.serial ≤ started
   pub terms : AreTerms game.terms
   pub boards : is_some game.seats.second ≡ needs_partners game.terms.variant
 
 -- the desk is free, or in use for such a game
-abbrev pub IsStarted : ℕ → Option Game → Type 0
+abbrev pub IsStarted : ℕ → Option ListedGame → Type 0
 IsStarted started None = Unit {0}
 IsStarted started (Some game) = IsStartedGame started game
 

@@ -13,7 +13,7 @@ pub const DESKS: usize = 128;
 
 /// The game for which a desk is in use.
 #[derive(Clone, Copy)]
-pub struct Game {
+pub struct ListedGame {
     /// The number of the game among all that were started, from 1 on.
     pub serial: u64,
     pub terms: Terms,
@@ -21,7 +21,7 @@ pub struct Game {
 }
 
 /// The list of all desks, where each is free.
-pub(crate) fn no_games(alloc: Global) -> Result<Listed<Option<Game>>, NoMemory>
+pub(crate) fn no_games(alloc: Global) -> Result<Listed<Option<ListedGame>>, NoMemory>
     ensures { IfOk result (λ games. games ≡ replicate desks None) }
 {
     nothing(alloc, DESKS)

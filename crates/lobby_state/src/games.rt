@@ -5,7 +5,7 @@ ghost use Rattle.lobby_state.specs.Desks.{IsDesk};
 ghost use Rattle.lobby_state.specs.Games.{board_line, board_words, game_number, games_effect, games_lines, lines_at, second_line};
 
 use crate::acts::LobbyReply;
-use crate::game::{DESKS, Game};
+use crate::game::{DESKS, ListedGame};
 use crate::roster::Roster;
 use crate::terms::put_terms;
 use chess_model::Terms;
@@ -44,7 +44,7 @@ fn put_desk(
     lines: &mut Lines,
     text: &mut Vec<u8>,
     desk: u8,
-    game: Option<Game>,
+    game: Option<ListedGame>,
 ) -> Result<(), NoMemory>
     requires { IsDesk desk }
     ensures { OnOk result (lines.new ≡ lines.old ++ lines_at desk game) }
@@ -56,7 +56,12 @@ fn put_desk(
 }
 
 /// Appends the lines of the desk in use for that game.
-fn put_game(lines: &mut Lines, text: &mut Vec<u8>, desk: u8, game: &Game) -> Result<(), NoMemory>
+fn put_game(
+    lines: &mut Lines,
+    text: &mut Vec<u8>,
+    desk: u8,
+    game: &ListedGame,
+) -> Result<(), NoMemory>
     requires { IsDesk desk }
     ensures { OnOk result (lines.new ≡ lines.old ++ lines_at desk (Some game.now)) }
 {

@@ -62,7 +62,7 @@ mod sim_open;
 mod sim_prev;
 mod sought;
 mod start;
-mod starting;
+mod start_plan;
 mod stored;
 mod table;
 mod tell;
@@ -78,7 +78,7 @@ mod withdraw;
 
 pub use acts::{LobbyAct, LobbyReply, PairAct, Plan};
 pub use desk_in_use::DeskInUse;
-pub use game::{DESKS, Game};
+pub use game::{DESKS, ListedGame};
 pub use inbox::Inbox;
 pub use laws::{
     acts_keep, games_lists_what_is_found, guests_have_the_least_name, in_use_tells_the_desks,

@@ -14,7 +14,7 @@ ghost use Rattle.lobby_state.specs.Reserve.{CanShelve, IsReady, shelved_in};
 ghost use Rattle.lobby_state.specs.ShelfRoom.{numbers_of, storing_effect};
 
 use crate::acts::{LobbyAct, LobbyReply, PairAct, Plan};
-use crate::game::Game;
+use crate::game::ListedGame;
 use crate::reserve::Ready;
 use crate::roster::Roster;
 use crate::told::ReplyLists;
@@ -136,7 +136,7 @@ impl Lobby {
     }
 
     /// The game for which the desk, 1 to 128, is in use, if it is.
-    pub fn game(&self, desk: u8) -> Option<Game>
+    pub fn game(&self, desk: u8) -> Option<ListedGame>
         requires { IsDesk desk }
         ensures { result ≡ game_at self.now desk }
     {

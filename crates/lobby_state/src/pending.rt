@@ -13,7 +13,7 @@ use seek_match::Challenge;
 
 /// On which side of a challenge the member stands that asks.
 #[derive(Clone, Copy)]
-pub(crate) enum Side {
+pub(crate) enum ChallengeSide {
     /// Another challenges the member.
     FromOthers,
     /// The member challenges another.
@@ -39,8 +39,8 @@ impl Roster {
     {
         let mut lines = Lines::new(self.alloc);
         let mut text = Vec::new(self.alloc);
-        self.put_side(&mut lines, &mut text, session, Side::FromOthers)?;
-        self.put_side(&mut lines, &mut text, session, Side::ToOthers)?;
+        self.put_side(&mut lines, &mut text, session, ChallengeSide::FromOthers)?;
+        self.put_side(&mut lines, &mut text, session, ChallengeSide::ToOthers)?;
         Ok(lines)
     }
 
@@ -50,7 +50,7 @@ impl Roster {
         lines: &mut Lines,
         text: &mut Vec<u8>,
         session: u32,
-        side: Side,
+        side: ChallengeSide,
     ) -> Result<(), NoMemory>
         ensures { OnOk result (lines.new ≡ lines.old ++ side_lines self.now session side self.now.challenges) }
     {
@@ -66,7 +66,7 @@ impl Roster {
         lines: &mut Lines,
         text: &mut Vec<u8>,
         session: u32,
-        side: Side,
+        side: ChallengeSide,
         challenge: Challenge,
     ) -> Result<(), NoMemory>
         ensures { OnOk result (lines.new ≡ lines.old ++ side_lines self.now session side (challenge ∷ [])) }
@@ -82,7 +82,7 @@ impl Roster {
         &self,
         lines: &mut Lines,
         text: &mut Vec<u8>,
-        side: Side,
+        side: ChallengeSide,
         challenge: Challenge,
     ) -> Result<(), NoMemory>
         ensures { OnOk result (lines.new ≡ lines.old ++ pending_line self.now side challenge ∷ []) }
@@ -94,39 +94,39 @@ impl Roster {
 }
 
 /// Whether the challenge is on this side of the session.
-fn is_on_side(side: Side, session: u32, challenge: Challenge) -> bool
+fn is_on_side(side: ChallengeSide, session: u32, challenge: Challenge) -> bool
     ensures { result ≡ is_on_side side session challenge }
 {
     match side {
-        Side::FromOthers => challenge.to == session,
-        Side::ToOthers => challenge.from == session,
+        ChallengeSide::FromOthers => challenge.to == session,
+        ChallengeSide::ToOthers => challenge.from == session,
     }
 }
 
 /// The session of the other.
-fn other_of(side: Side, challenge: Challenge) -> u32
+fn other_of(side: ChallengeSide, challenge: Challenge) -> u32
     ensures { result ≡ other_of side challenge }
 {
     match side {
-        Side::FromOthers => challenge.from,
-        Side::ToOthers => challenge.to,
+        ChallengeSide::FromOthers => challenge.from,
+        ChallengeSide::ToOthers => challenge.to,
     }
 }
 
 /// How the line of such a challenge begins.
-fn side_words(side: Side) -> &'static [u8]
+fn side_words(side: ChallengeSide) -> &'static [u8]
     ensures { result.now ≡ side_words side }
 {
     match side {
-        Side::FromOthers => b"from ",
-        Side::ToOthers => b"to ",
+        ChallengeSide::FromOthers => b"from ",
+        ChallengeSide::ToOthers => b"to ",
     }
 }
 
 /// Writes the line of a challenge, where the other has these letters, in place of what the text has.
 fn write_challenge(
     text: &mut Vec<u8>,
-    side: Side,
+    side: ChallengeSide,
     letters: &[u8],
     terms: Terms,
 ) -> Result<(), NoMemory>

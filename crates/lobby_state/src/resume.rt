@@ -11,7 +11,7 @@ ghost use Rattle.lobby_state.specs.Resume.{resume_effect, resuming, seated_as, w
 use crate::acts::Plan;
 use crate::member::Member;
 use crate::roster::Roster;
-use crate::starting::MOST_GAMES;
+use crate::start_plan::MOST_GAMES;
 use chess_model::Variant;
 use fics_words::{Handle, HandleKey, Opponents, Player, Refusal, Seats};
 use lobby_shelf::Shelved;

@@ -3,7 +3,7 @@ ghost use Rattle.std.specs.Prelude.{◌≡◌, IfOk, option_copied};
 ghost use Rattle.lobby_state.specs.Desks.{IsDesk};
 ghost use Rattle.lobby_state.specs.Lobby.{holder_of, opening, member_of, named, places_of, waiting_of, free_slot, game_at, partner_in};
 
-use crate::game::{Game, no_games};
+use crate::game::{ListedGame, no_games};
 use crate::member::Member;
 use crate::members::Members;
 use channel_feed::Channels;
@@ -32,7 +32,7 @@ pub(crate) struct Roster {
     pub(crate) partners: Partners,
     pub(crate) shelf: GameShelf,
     /// The game of each desk from 1 on, where it is in use.
-    pub(crate) games: Listed<Option<Game>>,
+    pub(crate) games: Listed<Option<ListedGame>>,
     /// How many games were started, which is the last serial.
     pub(crate) started: u64,
 }
@@ -112,7 +112,7 @@ impl Roster {
     }
 
     /// The game for which the desk, 1 to 128, is in use, if it is.
-    pub(crate) fn game(&self, desk: u8) -> Option<Game>
+    pub(crate) fn game(&self, desk: u8) -> Option<ListedGame>
         requires { IsDesk desk }
         ensures { result ≡ game_at self.now desk }
     {

@@ -5,7 +5,7 @@ ghost use Rattle.lobby_state.specs.SimNext.{sim_next_effect};
 use crate::acts::LobbyReply;
 use crate::roster::Roster;
 use fics_words::{Fail, Refusal};
-use simul_control::Way;
+use simul_control::Direction;
 
 impl Roster {
     /// The next place of the session is its present one. The causes of a refusal, in order: the session isn't a member;
@@ -17,7 +17,7 @@ impl Roster {
             return Err(Fail::Refused(Refusal::NotIn));
         };
         let mut places = caller.places;
-        places.turn(Way::Next)?;
+        places.turn(Direction::Next)?;
         self.put_places(session, places);
         Ok(LobbyReply::Done)
     }

@@ -5,7 +5,7 @@ ghost use Rattle.lobby_state.specs.Desks.{IsDesk};
 ghost use Rattle.lobby_state.specs.Start.{in_seat, is_by_seated, is_settled, seated};
 
 use crate::challenges::Stays;
-use crate::game::Game;
+use crate::game::ListedGame;
 use crate::member::Member;
 use crate::members::Members;
 use crate::roster::Roster;
@@ -63,7 +63,7 @@ impl Roster {
         sit_down(&mut self.members, desk, serial, seats);
         drop_seeks(&mut self.seeks, seats);
         self.shelf.forget_seated(seats);
-        let game = Game {
+        let game = ListedGame {
             serial,
             terms,
             seats: *seats,

@@ -10,7 +10,7 @@ use Rattle.std.specs.FinMap as map
 use Rattle.std.specs.FinMap.{get-insert, get-remove, nat_cmp-IsAntisymmetric, slice_cmp-IsAntisymmetric}
 use Rattle.std.proofs.lemmas.Slice.Eq.{bytes_eq-Decides}
 use Rattle.edge_traits.specs.Keeper.{HasPut, HasRemoved}
-use Rattle.edge_traits.specs.Pairs.{Table, keys_order}
+use Rattle.edge_traits.specs.Pairs.{Records, keys_order}
 use Rattle.edge_traits.specs.declared.keeper.Kept.{Kept}
 use Rattle.edge_traits.specs.declared.keeper.Kept.TheVariants.{Done, Failed, Memory}
 use Rattle.lobby_shelf.specs.Wanted.{StoreMap as Records, table_with, with_order}
@@ -29,11 +29,11 @@ same_table one other (order ∷ orders) key same =
     same_table (with_order one order) (with_order other order) orders key (ap (λ r. cond (bytes_eq order.key key) order.bytes r) same)
 
 -- no orders, and more of them
-pub carries_none : (table : Option Table) → Carries table table []
+pub carries_none : (table : Option Records) → Carries table table []
 carries_none None = tt
 carries_none (Some table) = λ key. refl
 
-pub carries_then : (old mid new : Option Table) (first rest : List Order) → Carries old mid first → Carries mid new rest → Carries old new (first ++ rest)
+pub carries_then : (old mid new : Option Records) (first rest : List Order) → Carries old mid first → Carries mid new rest → Carries old new (first ++ rest)
 carries_then None None None first rest p q = tt
 carries_then None None (Some new) first rest p q = absurd q
 carries_then None (Some mid) new first rest p q = absurd p
@@ -57,14 +57,14 @@ same_test key order = both_ways (eq_by_cmp keys_order key order) (bytes_eq order
     (λ tied. (bytes_eq-Decides order key).1 (sym (tied_same key order tied)))
     (λ same. subst (λ k. eq_by_cmp keys_order k order ≡ true) ((bytes_eq-Decides order key).0 same) ((eq_by_cmp_equiv nat_list_cmp_total).refl order))
 
-put_held : (old : Table) (order : Order) (bytes : List ℕ) (key : List ℕ) → order.bytes ≡ Some bytes
+put_held : (old : Records) (order : Order) (bytes : List ℕ) (key : List ℕ) → order.bytes ≡ Some bytes
     → held (map.insert old order.key bytes) key ≡ table_with (held old) (order ∷ []) key
 put_held old order bytes key is =
     get-insert nat_list_cmp_total old order.key bytes key
     ∙ ap (λ t. cond t (Some bytes) (held old key)) (same_test key order.key)
     ∙ ap (λ r. cond (bytes_eq order.key key) r (held old key)) (sym is)
 
-removed_held : (old : Table) (order : Order) (key : List ℕ) → order.bytes ≡ None
+removed_held : (old : Records) (order : Order) (key : List ℕ) → order.bytes ≡ None
     → held (map.remove old order.key) key ≡ table_with (held old) (order ∷ []) key
 removed_held old order key is =
     get-remove nat_list_cmp_total old order.key key
@@ -72,22 +72,22 @@ removed_held old order key is =
     ∙ ap (λ r. cond (bytes_eq order.key key) r (held old key)) (sym is)
 
 -- what a keeper answers to a put and to a removal
-pub put_carries : (old new : Option Table) (order : Order) (bytes : List ℕ) (kept : Kept) → order.bytes ≡ Some bytes
+pub put_carries : (old new : Option Records) (order : Order) (bytes : List ℕ) (kept : Kept) → order.bytes ≡ Some bytes
     → HasPut old new order.key bytes kept → CarriesOne old new order kept
 put_carries None None order bytes Done is p = tt
 put_carries None (Some new) order bytes Done is p = absurd p
 put_carries (Some old) None order bytes Done is p = absurd p
 put_carries (Some old) (Some new) order bytes Done is p = λ key.
-    ap (λ (t : Table). held t key) p ∙ put_held old order bytes key is
+    ap (λ (t : Records). held t key) p ∙ put_held old order bytes key is
 put_carries old new order bytes Failed is p = p
 put_carries old new order bytes Memory is p = p
 
-pub removed_carries : (old new : Option Table) (order : Order) (kept : Kept) → order.bytes ≡ None
+pub removed_carries : (old new : Option Records) (order : Order) (kept : Kept) → order.bytes ≡ None
     → HasRemoved old new order.key kept → CarriesOne old new order kept
 removed_carries None None order Done is p = tt
 removed_carries None (Some new) order Done is p = absurd p
 removed_carries (Some old) None order Done is p = absurd p
 removed_carries (Some old) (Some new) order Done is p = λ key.
-    ap (λ (t : Table). held t key) p ∙ removed_held old order key is
+    ap (λ (t : Records). held t key) p ∙ removed_held old order key is
 removed_carries old new order Failed is p = p
 removed_carries old new order Memory is p = p

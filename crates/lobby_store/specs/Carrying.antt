@@ -3,7 +3,7 @@ use Rattle.std.specs.Prelude.{◌≡◌, ℕ, List, [], ◌∷◌}
 use Rattle.std.specs.declared.option.Option.{Option}
 use Rattle.std.specs.FinMap as map
 use Rattle.edge_traits.specs.Keeper.{Stays}
-use Rattle.edge_traits.specs.Pairs.{Table}
+use Rattle.edge_traits.specs.Pairs.{Records}
 use Rattle.edge_traits.specs.WhereTold.{WhereTold}
 use Rattle.edge_traits.specs.declared.keeper.Kept.{Kept}
 use Rattle.edge_traits.specs.declared.keeper.Kept.TheVariants.{Done, Failed, Memory}
@@ -11,16 +11,16 @@ use Rattle.lobby_shelf.specs.Wanted.{table_with}
 use Rattle.lobby_shelf.specs.declared.order.Order.{Order}
 
 -- what a keeper's table holds under a key, if anything
-abbrev pub held : Table → List ℕ → Option (List ℕ)
+abbrev pub held : Records → List ℕ → Option (List ℕ)
 held table key = map.get table key
 
 -- a table that is told holds afterwards what these orders make of it, carried out one after another
-abbrev pub Carries : Option Table → Option Table → List Order → Type 0
+abbrev pub Carries : Option Records → Option Records → List Order → Type 0
 Carries old new orders =
     WhereTold old new (λ before after. (key : List ℕ) → held after key ≡ table_with (held before) orders key)
 
 -- an order is carried out, or the table stays as it was
-abbrev pub CarriesOne : Option Table → Option Table → Order → Kept → Type 0
+abbrev pub CarriesOne : Option Records → Option Records → Order → Kept → Type 0
 CarriesOne old new order Done = Carries old new (order ∷ [])
 CarriesOne old new order Failed = Stays old new
 CarriesOne old new order Memory = Stays old new

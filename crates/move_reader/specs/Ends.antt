@@ -1,9 +1,9 @@
 -- What may stand at the end of a word.
 use Rattle.std.specs.Prelude.{ℕ, List, Bool}
-use Rattle.move_reader.specs.declared.parts.End.{End}
-use Rattle.move_reader.specs.declared.parts.End.TheVariants.{Nothing, Mark}
+use Rattle.move_reader.specs.declared.parts.WordEnd.{WordEnd}
+use Rattle.move_reader.specs.declared.parts.WordEnd.TheVariants.{Nothing, Mark}
 use Rattle.move_reader.specs.Reading.{is_empty, is_mark}
 
-abbrev pub is_end : End → List ℕ → Bool
+abbrev pub is_end : WordEnd → List ℕ → Bool
 is_end Nothing text = is_empty text
 is_end Mark text = is_mark text

@@ -9,7 +9,7 @@ use chess_model::{Kind, Square};
 
 /// What may stand at the end of a word.
 #[derive(Clone, Copy, Debug, PartialEq, Eq)]
-pub enum End {
+pub enum WordEnd {
     /// Nothing.
     Nothing,
     /// A mark of check or mate, or nothing.
@@ -104,12 +104,12 @@ pub(crate) fn is_mark(text: &[u8]) -> bool
 }
 
 /// Whether the text is an end of this sort.
-fn is_end(text: &[u8], end: End) -> bool
+fn is_end(text: &[u8], end: WordEnd) -> bool
     ensures { result ≡ is_end end text.now }
 {
     match end {
-        End::Nothing => text.is_empty(),
-        End::Mark => is_mark(text),
+        WordEnd::Nothing => text.is_empty(),
+        WordEnd::Mark => is_mark(text),
     }
 }
 
@@ -127,7 +127,7 @@ fn leading_promotion(text: &[u8]) -> (Option<Kind>, &[u8])
 }
 
 /// The promotion that all of the text spells, with such an end; the outer None where it spells none.
-pub(crate) fn read_promotion(text: &[u8], end: End) -> Option<Option<Kind>>
+pub(crate) fn read_promotion(text: &[u8], end: WordEnd) -> Option<Option<Kind>>
     ensures { result ≡ promotion_of (is_end end) text.now }
 {
     let (kind, rest) = leading_promotion(behind(b'=', text));

@@ -7,8 +7,8 @@ ghost use Rattle.chess_model.specs.declared.moves.MoveWord.{MoveWord};
 
 use crate::letters::droppable;
 use crate::parts::{
-    End, behind, is_mark, leading_file, leading_man, leading_rank, leading_square, read_promotion,
-    squared,
+    WordEnd, behind, is_mark, leading_file, leading_man, leading_rank, leading_square,
+    read_promotion, squared,
 };
 use chess_model::{Kind, MoveWord};
 
@@ -50,7 +50,7 @@ fn read_coordinate(text: &[u8]) -> Option<MoveWord>
     let Some((to, rest)) = leading_square(behind(b'-', rest)) else {
         return None;
     };
-    let Some(promo) = read_promotion(rest, End::Nothing) else {
+    let Some(promo) = read_promotion(rest, WordEnd::Nothing) else {
         return None;
     };
     Some(MoveWord::Coordinate { from, to, promo })
@@ -65,7 +65,7 @@ fn read_named(text: &[u8]) -> Option<MoveWord>
     let (file, rest) = leading_file(rest);
     let (rank, rest) = leading_rank(rest);
     if let Some((to, end)) = leading_square(behind(b'x', rest)) {
-        let Some(promo) = read_promotion(end, End::Mark) else {
+        let Some(promo) = read_promotion(end, WordEnd::Mark) else {
             return None;
         };
         return Some(MoveWord::Named {
@@ -79,7 +79,7 @@ fn read_named(text: &[u8]) -> Option<MoveWord>
     let Some((to, end)) = squared(file, rank, rest) else {
         return None;
     };
-    let Some(promo) = read_promotion(end, End::Mark) else {
+    let Some(promo) = read_promotion(end, WordEnd::Mark) else {
         return None;
     };
     Some(MoveWord::Named {

@@ -12,12 +12,12 @@ use std::marker::Model;
 const MOST: usize = 12;
 
 /// A move's text while it is written: at most 12 bytes that show.
-pub(crate) struct Draft {
+pub(crate) struct MoveDraft {
     bytes: [u8; 12],
     len: usize,
 }
 
-impl Model for Draft {
+impl Model for MoveDraft {
     ghost use Rattle.std.specs.Prelude.{◌≤◌, List, ℕ, All, take};
     ghost use Rattle.move_writer.specs.Blanks.{Shows};
 
@@ -28,12 +28,12 @@ impl Model for Draft {
     ghost invariant = { λ draft. (draft.len ≤ 12) × All Shows (take draft.len draft.bytes) };
 }
 
-impl Draft {
+impl MoveDraft {
     /// The empty text.
-    pub(crate) fn new() -> Draft
+    pub(crate) fn new() -> MoveDraft
         ensures { result ≡ [] }
     {
-        Draft {
+        MoveDraft {
             bytes: [0; MOST],
             len: 0,
         }
@@ -99,7 +99,7 @@ impl Draft {
         ensures text { result ≡ self }
         ensures unbroken { HasNoBlank result }
     {
-        let Draft { bytes, len } = self;
+        let MoveDraft { bytes, len } = self;
         MoveText::of(&bytes[..len]).unwrap()
     }
 }

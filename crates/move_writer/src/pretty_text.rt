@@ -3,7 +3,7 @@ ghost use Rattle.std.specs.Prelude.{◌≡◌, ◌<◌, ◌≤◌, ◌++◌, len
 ghost use Rattle.move_writer.specs.Pretty.{origin_text, pretty_move, mark_text, pretty_of};
 ghost use Rattle.move_writer.specs.Blanks.{HasNoBlank};
 
-use crate::draft::Draft;
+use crate::draft::MoveDraft;
 use crate::letters::{file_of, letter, rank_of};
 use chess_model::{Kind, Move, MoveText, Shown, Square, State};
 
@@ -14,13 +14,13 @@ pub fn pretty(s: &Shown) -> MoveText
     ensures text { result ≡ pretty_of s.now }
     ensures unbroken { HasNoBlank result }
 {
-    let mut text = Draft::new();
+    let mut text = MoveDraft::new();
     push_move(&mut text, s);
     push_mark(&mut text, s.after);
     text.finish()
 }
 
-fn push_move(text: &mut Draft, s: &Shown)
+fn push_move(text: &mut MoveDraft, s: &Shown)
     requires { length text.old ≡ 0 }
     ensures text { text.new ≡ text.old ++ pretty_move s.now s.now.what }
     ensures some { 0 < length text.new }
@@ -44,7 +44,7 @@ fn push_move(text: &mut Draft, s: &Shown)
 }
 
 /// Where the man comes from, as far as the text says so: three bytes at most.
-fn push_origin(text: &mut Draft, s: &Shown, from: Square)
+fn push_origin(text: &mut MoveDraft, s: &Shown, from: Square)
     requires { length text.old ≡ 0 }
     ensures text { text.new ≡ text.old ++ origin_text s.now from s.now.kind }
     ensures most { length text.new ≤ 3 }
@@ -58,7 +58,7 @@ fn push_origin(text: &mut Draft, s: &Shown, from: Square)
     text.push_if(s.by_rank, rank_of(from));
 }
 
-fn push_mark(text: &mut Draft, after: State)
+fn push_mark(text: &mut MoveDraft, after: State)
     requires { length text.old < 12 }
     ensures { text.new ≡ text.old ++ mark_text after }
 {

@@ -3,7 +3,7 @@ ghost use Rattle.std.specs.Prelude.{◌≡◌, ◌+◌, ◌<◌, ◌≤◌, ◌+
 ghost use Rattle.move_writer.specs.Blanks.{HasNoBlank};
 ghost use Rattle.move_writer.specs.Spelling.{lower_promotion, spelling_of};
 
-use crate::draft::Draft;
+use crate::draft::MoveDraft;
 use crate::letters::letter;
 use chess_model::{Kind, Move, MoveText};
 
@@ -12,7 +12,7 @@ pub fn spelling(m: &Move) -> MoveText
     ensures text { result ≡ spelling_of m.now }
     ensures unbroken { HasNoBlank result }
 {
-    let mut text = Draft::new();
+    let mut text = MoveDraft::new();
     match m {
         Move::Plain { from, to, promo } => {
             text.push_square(*from);
@@ -31,7 +31,7 @@ pub fn spelling(m: &Move) -> MoveText
 }
 
 /// Appends what a pawn becomes, its letter in lower case, where it becomes something.
-fn push_lower_promotion(text: &mut Draft, promo: Option<Kind>)
+fn push_lower_promotion(text: &mut MoveDraft, promo: Option<Kind>)
     requires { length text.old < 11 }
     ensures text { text.new ≡ text.old ++ lower_promotion promo }
     ensures most { length text.new ≤ length text.old + 2 }

@@ -3,7 +3,7 @@ ghost use Rattle.std.specs.Prelude.{◌≡◌};
 ghost use Rattle.move_writer.specs.Blanks.{HasNoBlank};
 ghost use Rattle.move_writer.specs.Verbose.{verbose_of};
 
-use crate::draft::Draft;
+use crate::draft::MoveDraft;
 use crate::letters::letter;
 use chess_model::{Move, MoveText, Shown};
 
@@ -12,7 +12,7 @@ pub fn verbose(s: &Shown) -> MoveText
     ensures text { result ≡ verbose_of s.now }
     ensures unbroken { HasNoBlank result }
 {
-    let mut text = Draft::new();
+    let mut text = MoveDraft::new();
     match s.what {
         Move::Plain { from, to, promo } => {
             text.push(letter(s.kind));

@@ -6,8 +6,8 @@ use Rattle.std.proofs.lemmas.Bool.{cond-false, cond_both, not_from_true}
 use Rattle.std.proofs.lemmas.List.{length-append}
 use Rattle.std.proofs.lemmas.List.Elements.{All-filter, All-map, All-push, All-weaker}
 use Rattle.observer_feed.specs.declared.cursor.Cursor.{Cursor}
-use Rattle.observer_feed.specs.declared.cursor.Told.{Told}
-use Rattle.observer_feed.specs.declared.cursor.Told.TheVariants.{FromStart, FromNow}
+use Rattle.observer_feed.specs.declared.cursor.Backlog.{Backlog}
+use Rattle.observer_feed.specs.declared.cursor.Backlog.TheVariants.{FromStart, FromNow}
 use Rattle.observer_feed.specs.Feed.{AreOnce, ArePlaces, caught_up, cursor_of, first_place, is_viewer, without}
 use Rattle.collections.proofs.Numbers.{differ_turned}
 
@@ -86,12 +86,12 @@ places_with_more items x viewers h = record {
       (λ c le. omega (arith, le, length-append items (x ∷ []))) viewers h.within;
 }
 
-first_within : (told : Told) (count : ℕ) → first_place told count ≤ count
+first_within : (told : Backlog) (count : ℕ) → first_place told count ≤ count
 first_within FromStart count = omega arith
 first_within FromNow count = omega arith
 
 -- a session begins to look on that didn't
-pub places_begun : (count : ℕ) (viewers : List Cursor) (session : ℕ) (told : Told) → is_viewer viewers session ≡ false → ArePlaces count viewers
+pub places_begun : (count : ℕ) (viewers : List Cursor) (session : ℕ) (told : Backlog) → is_viewer viewers session ≡ false → ArePlaces count viewers
     → ArePlaces count (viewers ++ record { session = session; seen = first_place told count } ∷ [])
 places_begun count viewers session told none h =
     let last : Cursor = record { session = session; seen = first_place told count } in

@@ -7,8 +7,8 @@ use Rattle.std.proofs.lemmas.List.Elements.{All-head, All-tail}
 use Rattle.fics_words.specs.declared.refusal.Refusal.TheVariants.{AlreadyWatching, NotWatching}
 use Rattle.fics_words.specs.Effect.{state_of, unless}
 use Rattle.observer_feed.specs.declared.cursor.Cursor.{Cursor}
-use Rattle.observer_feed.specs.declared.cursor.Told.{Told}
-use Rattle.observer_feed.specs.declared.cursor.Told.TheVariants.{FromStart, FromNow}
+use Rattle.observer_feed.specs.declared.cursor.Backlog.{Backlog}
+use Rattle.observer_feed.specs.declared.cursor.Backlog.TheVariants.{FromStart, FromNow}
 use Rattle.observer_feed.specs.Feed.{ArePlaces, FeedState, ahead, begun, caught_up, cursor_of, fetching, first_place, forgotten, is_viewer, past, unwatching, watching, with_all, without}
 use Rattle.observer_feed.specs.Laws.{BeginsAndEnds, Deed, Adds, Begins, Ceases, Fetches, MissesNothing, Stays, added, added_by, after_all, after_one, given, given_by}
 use Rattle.observer_feed.proofs.Keeping.{found_alike, is_viewer-caught_up, places_begun, places_caught_up, places_with_more, places_without, skipped, unfound}
@@ -96,7 +96,7 @@ goes_beside feed new viewer same cursor looks places = record {
   places = places;
 }
 
-goes_begins : {T : Type 0} (feed : FeedState T) (viewer session : ℕ) (told : Told) → is_viewer feed.viewers viewer ≡ true
+goes_begins : {T : Type 0} (feed : FeedState T) (viewer session : ℕ) (told : Backlog) → is_viewer feed.viewers viewer ≡ true
     → ArePlaces (length feed.items) feed.viewers → Goes feed (state_of feed (watching feed session told)) viewer [] []
 goes_begins feed viewer session told looks places =
     let last : Cursor = record { session = session; seen = first_place told (length feed.items) } in
@@ -217,7 +217,7 @@ others_found (c ∷ viewers) last other e =
 
 pub begins_and_ends : {T : Type 0} (feed : FeedState T) (session : ℕ) → BeginsAndEnds feed session
 begins_and_ends feed session =
-    let came : Told → Cursor = λ told. record { session = session; seen = first_place told (length feed.items) } in
+    let came : Backlog → Cursor = λ told. record { session = session; seen = first_place told (length feed.items) } in
     let itself : (session == session) ≡ true = eq-eqb session session refl in
     record {
       begins = λ told. found_last feed.viewers (came told) session itself;

@@ -4,8 +4,8 @@ use Rattle.std.specs.List.{filter, find}
 use Rattle.fics_words.specs.Effect.{Effect}
 use Rattle.fics_words.specs.declared.refusal.Refusal.TheVariants.{AlreadyWatching, NotWatching}
 use Rattle.observer_feed.specs.declared.cursor.Cursor.{Cursor}
-use Rattle.observer_feed.specs.declared.cursor.Told.{Told}
-use Rattle.observer_feed.specs.declared.cursor.Told.TheVariants.{FromStart, FromNow}
+use Rattle.observer_feed.specs.declared.cursor.Backlog.{Backlog}
+use Rattle.observer_feed.specs.declared.cursor.Backlog.TheVariants.{FromStart, FromNow}
 
 pub record FeedState (T : Type 0) : Type 0 where
   -- what viewers are told, the oldest first
@@ -37,7 +37,7 @@ abbrev pub ahead : {T : Type 0} → List T → List Cursor → ℕ → List T
 ahead items viewers session = past items (cursor_of viewers session)
 
 -- the place in a feed of so many items at which a viewer begins
-abbrev pub first_place : Told → ℕ → ℕ
+abbrev pub first_place : Backlog → ℕ → ℕ
 first_place FromStart count = 0
 first_place FromNow count = count
 
@@ -58,7 +58,7 @@ abbrev pub with_item : {T : Type 0} → T → FeedState T → FeedState T
 with_item x feed = record feed { items = feed.items ++ x ∷ []; room = feed.room - 1 }
 
 -- the feed with one viewer more
-abbrev pub begun : {T : Type 0} → ℕ → Told → FeedState T → FeedState T
+abbrev pub begun : {T : Type 0} → ℕ → Backlog → FeedState T → FeedState T
 begun session told feed =
     record feed { viewers = feed.viewers ++ record { session = session; seen = first_place told (length feed.items) } ∷ [] }
 
@@ -71,7 +71,7 @@ abbrev pub with_all : {T : Type 0} → ℕ → FeedState T → FeedState T
 with_all session feed = record feed { viewers = map (caught_up session (length feed.items)) feed.viewers }
 
 -- a session begins to look on: refused where it does
-abbrev pub watching : {T : Type 0} → FeedState T → ℕ → Told → Effect (FeedState T) (Unit {0})
+abbrev pub watching : {T : Type 0} → FeedState T → ℕ → Backlog → Effect (FeedState T) (Unit {0})
 watching feed session told = record {
   causes = (is_viewer feed.viewers session, AlreadyWatching) ∷ [];
   memory = true;

@@ -1,14 +1,14 @@
 -- What looking on means to viewers.
 use Rattle.std.specs.Prelude.{◌≡◌, ◌≢◌, ℕ, ◌==◌, true, false, if◌then◌else◌, List, [], ◌∷◌, ◌++◌}
 use Rattle.fics_words.specs.Effect.{state_of}
-use Rattle.observer_feed.specs.declared.cursor.Told.{Told}
-use Rattle.observer_feed.specs.declared.cursor.Told.TheVariants.{FromStart, FromNow}
+use Rattle.observer_feed.specs.declared.cursor.Backlog.{Backlog}
+use Rattle.observer_feed.specs.declared.cursor.Backlog.TheVariants.{FromStart, FromNow}
 use Rattle.observer_feed.specs.Feed.{FeedState, ahead, begun, fetching, forgotten, is_viewer, unwatching, watching, with_item}
 
 -- what is done to a feed: an item is added, or a session begins to look on, ceases to, or fetches
 pub data Deed (T : Type 0) : Type 0 where
   Adds : T → Deed T
-  Begins : ℕ → Told → Deed T
+  Begins : ℕ → Backlog → Deed T
   Ceases : ℕ → Deed T
   Fetches : ℕ → Deed T
 
@@ -59,11 +59,11 @@ MissesNothing {T} feed viewer = (deeds : List (Deed T)) → is_viewer feed.viewe
 -- who begins to look on is a viewer, and is to be given all items or none of those that are there; who ceases is none,
 -- and every other session is a viewer exactly where it was
 pub record BeginsAndEnds {T : Type 0} (feed : FeedState T) (session : ℕ) : Type 0 where
-  pub begins : (told : Told) → is_viewer (begun session told feed).viewers session ≡ true
+  pub begins : (told : Backlog) → is_viewer (begun session told feed).viewers session ≡ true
   pub all : is_viewer feed.viewers session ≡ false → ahead feed.items (begun session FromStart feed).viewers session ≡ feed.items
   pub none : is_viewer feed.viewers session ≡ false → ahead feed.items (begun session FromNow feed).viewers session ≡ []
   pub ends : is_viewer (forgotten session feed).viewers session ≡ false
-  pub others_begin : (told : Told) (other : ℕ) → other ≢ session
+  pub others_begin : (told : Backlog) (other : ℕ) → other ≢ session
       → is_viewer (begun session told feed).viewers other ≡ is_viewer feed.viewers other
   pub others_end : (other : ℕ) → other ≢ session
       → is_viewer (forgotten session feed).viewers other ≡ is_viewer feed.viewers other

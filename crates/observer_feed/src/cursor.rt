@@ -13,21 +13,21 @@ pub struct Cursor {
 
 /// Which items a new viewer is given.
 #[derive(Clone, Copy)]
-pub enum Told {
+pub enum Backlog {
     /// All that the feed has, and all that comes.
     FromStart,
     /// What comes from now on.
     FromNow,
 }
 
-impl Told {
+impl Backlog {
     /// The place in a feed of so many items at which a viewer begins.
     pub(crate) fn first_place(self, count: usize) -> usize
         ensures { result ≡ first_place self count }
     {
         match self {
-            Told::FromStart => 0,
-            Told::FromNow => count,
+            Backlog::FromStart => 0,
+            Backlog::FromNow => count,
         }
     }
 }

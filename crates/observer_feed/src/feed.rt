@@ -3,7 +3,7 @@ ghost use Rattle.std.specs.Prelude.{◌≡◌, ◌<◌, IfOk, OnErr, OnOk, drop,
 ghost use Rattle.fics_words.specs.Effect.{Takes, answer_of, state_of};
 ghost use Rattle.observer_feed.specs.Feed.{ahead, begun, empty_feed, fetching, forgotten, is_viewer, unwatching, watching, with_item, with_room};
 
-use crate::cursor::{CatchUp, Cursor, OfOthers, OfSession, Told};
+use crate::cursor::{Backlog, CatchUp, Cursor, OfOthers, OfSession};
 use collections::{Listed, Reserved, find};
 use fics_words::{Fail, Refusal};
 use memory::{Duplicate, NoMemory};
@@ -96,7 +96,7 @@ impl<T> Feed<T> {
     }
 
     /// Makes a session a viewer. Refused with `AlreadyWatching`.
-    pub fn watch(&mut self, session: u32, told: Told) -> Result<(), Fail>
+    pub fn watch(&mut self, session: u32, told: Backlog) -> Result<(), Fail>
         ensures { Takes (watching self.old session told) self.old self.new result }
     {
         if self.has(session) {
@@ -107,7 +107,7 @@ impl<T> Feed<T> {
     }
 
     /// Makes a session a viewer that is none, as `has` tells. Running out of memory changes nothing.
-    pub fn begin(&mut self, session: u32, told: Told) -> Result<(), NoMemory>
+    pub fn begin(&mut self, session: u32, told: Backlog) -> Result<(), NoMemory>
         requires { is_viewer self.old.viewers session ≡ false }
         ensures ok { OnOk result (self.new ≡ begun session told self.old) }
         ensures err { OnErr result (self.new ≡ self.old) }

@@ -9,6 +9,6 @@ mod cursor;
 mod feed;
 mod laws;
 
-pub use cursor::{Cursor, Told};
+pub use cursor::{Backlog, Cursor};
 pub use feed::Feed;
 pub use laws::{looking_on_begins_and_ends, viewers_have_one_place, viewers_miss_nothing};

@@ -10,7 +10,7 @@ use Rattle.histories.specs.Core.{reply, after}
 use Rattle.histories.specs.declared.entry.Entry.{Entry}
 use Rattle.histories.specs.History.{entry}
 use Rattle.histories.proofs.Histories.{grows_legally, steps_once, stays_whole}
-use Rattle.lobby_state.specs.declared.game.Game.{Game}
+use Rattle.lobby_state.specs.declared.game.ListedGame.{ListedGame}
 use Rattle.lobby_state.specs.Desks.{desks as desk_count}
 use Rattle.lobby_state.specs.Lobby.{LobbyState}
 use Rattle.lobby_state.specs.WellFormed.{IsWellFormed}
@@ -62,7 +62,7 @@ vacant_there number (suc more) (suc i) desk e =
     let n : number + suc i ≡ number + 1 + i = omega arith in
     (omega (arith, h.0), ap vacant n ∙ h.1)
 
-none_there : (n i : ℕ) → i < n → slice_get (replicate n (let x : Option Game = None in x)) i ≡ Some None
+none_there : (n i : ℕ) → i < n → slice_get (replicate n (let x : Option ListedGame = None in x)) i ≡ Some None
 none_there zero i h = absurd (omega arith)
 none_there (suc n) zero h = refl
 none_there (suc n) (suc i) h = none_there n i (omega arith)
@@ -83,7 +83,7 @@ open_desk lobby none i part (Some desk) e h =
       record {
         numbered = refl;
         sound = tt;
-        listed = ap (slice_get lobby.games) slot ∙ ap (λ (gs : List (Option Game)). slice_get gs i) none ∙ none_there desk_count i there.0;
+        listed = ap (slice_get lobby.games) slot ∙ ap (λ (gs : List (Option ListedGame)). slice_get gs i) none ∙ none_there desk_count i there.0;
       },
     )
 

@@ -18,7 +18,7 @@ use Rattle.linked_desk.specs.Sound.{IsSound}
 use Rattle.linked_desk.proofs.Shelved.{shelved_replays}
 use Rattle.lobby_state.specs.declared.acts.Plan.{Plan}
 use Rattle.lobby_state.specs.declared.acts.Plan.TheVariants.{Start, Clear, Resume, Ask}
-use Rattle.lobby_state.specs.declared.game.Game.{Game}
+use Rattle.lobby_state.specs.declared.game.ListedGame.{ListedGame}
 use Rattle.lobby_state.specs.Lobby.{LobbyState, game_at, game_in}
 use Rattle.lobby_state.specs.Planned.{IsPlanned}
 use Rattle.lobby_state.specs.Plans.{desk_of}
@@ -49,7 +49,7 @@ vacant_in : (game : Option GameState) → None ≡ option_map listing (option_ma
 vacant_in None e = refl
 vacant_in (Some g) e = absurd cc
 
-nothing_listed : (game : Option Game) → Some None ≡ Some game → None ≡ game
+nothing_listed : (game : Option ListedGame) → Some None ≡ Some game → None ≡ game
 nothing_listed game e = cc
 
 vacant_by : (desk : DeskState) → Some None ≡ Some (game_of desk) → desk.game ≡ None

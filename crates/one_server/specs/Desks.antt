@@ -1,15 +1,15 @@
 -- What the lobby and the server's rules ask of a desk. This server's own.
 use Rattle.std.specs.Prelude.{ℕ, Bool, false, ◌==◌, ◌&&◌, is_some, Option, None, Some}
 use Rattle.std.specs.Option.{option_map}
-use Rattle.lobby_state.specs.declared.game.Game.{Game}
+use Rattle.lobby_state.specs.declared.game.ListedGame.{ListedGame}
 use Rattle.linked_desk.specs.Desk.{DeskState, Occupant, occupant_of, serial_of, end_of, viewer_count}
 
 -- who plays at a desk, as the lobby lists it: the serial, the terms and the seats
-abbrev pub listing : Occupant → Game
+abbrev pub listing : Occupant → ListedGame
 listing o = record { serial = o.serial; terms = o.terms; seats = o.seats }
 
 -- the game that the desk is in use for, as the lobby lists it; none where the desk is vacant
-abbrev pub game_of : DeskState → Option Game
+abbrev pub game_of : DeskState → Option ListedGame
 game_of desk = option_map listing (occupant_of desk)
 
 -- there is a serial and it is this one

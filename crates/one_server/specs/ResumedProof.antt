@@ -21,7 +21,7 @@ use Rattle.linked_desk.proofs.KeepsRestored.{players_restored, sound_restored}
 use Rattle.linked_desk.proofs.Resuming.{resuming_restores}
 use Rattle.lobby_state.specs.declared.acts.Plan.{Plan}
 use Rattle.lobby_state.specs.declared.acts.Plan.TheVariants.{Resume}
-use Rattle.lobby_state.specs.declared.game.Game.{Game}
+use Rattle.lobby_state.specs.declared.game.ListedGame.{ListedGame}
 use Rattle.lobby_state.specs.Lobby.{LobbyState}
 use Rattle.lobby_state.specs.Planned.{IsPlanned}
 use Rattle.lobby_state.specs.Plans.{committed}
@@ -84,4 +84,4 @@ stays_resumed xs lobby number serial stored terms seats desk moment w e d p time
     let listed : game_of (resume_desk lobby desk serial stored seats moment) ≡ Some (record { serial = serial; terms = terms; seats = seats }) =
     there.listed ∙ ap (λ (t : Terms). Some (record { serial = serial; terms = t; seats = seats })) (sym own) in
     whole_both xs lobby (committed lobby plan None true) number desk (resume_desk lobby desk serial stored seats moment) w e d
-    (IsWellFormed-committed lobby plan None true p tt formed) (ap (λ (g : Option Game). set lobby.games (number - 1) g) (sym listed)) there.numbered there.sound
+    (IsWellFormed-committed lobby plan None true p tt formed) (ap (λ (g : Option ListedGame). set lobby.games (number - 1) g) (sym listed)) there.numbered there.sound

@@ -4,7 +4,7 @@ use Rattle.std.specs.List.{slice_get}
 use Rattle.std.specs.declared.option.Option.{Option}
 use Rattle.std.specs.declared.option.Option.TheVariants.{Some}
 use Rattle.histories.proofs.Parts.{get_set_same, get_set_else, get_within, slice_get_length}
-use Rattle.lobby_state.specs.declared.game.Game.{Game}
+use Rattle.lobby_state.specs.declared.game.ListedGame.{ListedGame}
 use Rattle.lobby_state.specs.Desks.{IsDesk}
 use Rattle.lobby_state.specs.Lobby.{LobbyState}
 use Rattle.lobby_state.specs.WellFormed.{IsWellFormed}
@@ -72,7 +72,7 @@ whole_lobby xs lobby new w e formed games = record {
   formed = formed;
   places = λ place part h. elim (after_write xs 0 place (TheLobby new) part h) [
     | inl here ↦ at_front new place new part here.0 here.1
-    | inr there ↦ listed_still lobby new place part (λ z. ap (λ (gs : List (Option Game)). slice_get gs (place - 1)) games) (place_is xs lobby w e place part there.1)
+    | inr there ↦ listed_still lobby new place part (λ z. ap (λ (gs : List (Option ListedGame)). slice_get gs (place - 1)) games) (place_is xs lobby w e place part there.1)
   ];
 }
 
@@ -112,13 +112,13 @@ whole_both xs lobby other number desk new w e d formed games numbered sound =
           record {
             numbered = numbered ∙ place.1.numbered;
             sound = sound;
-            listed = ap (λ (gs : List (Option Game)). slice_get gs (number - 1)) games ∙ get_set_same lobby.games (number - 1) (game_of new) inside;
+            listed = ap (λ (gs : List (Option ListedGame)). slice_get gs (number - 1)) games ∙ get_set_same lobby.games (number - 1) (game_of new) inside;
           },
         ))
         | inr there ↦ elim (after_write xs 0 at (TheLobby other) part there.1) [
           | inl front_part ↦ at_front other at other part front_part.0 front_part.1
           | inr elsewhere ↦ listed_still lobby other at part
-              (λ one. ap (λ (gs : List (Option Game)). slice_get gs (at - 1)) games
+              (λ one. ap (λ (gs : List (Option ListedGame)). slice_get gs (at - 1)) games
               ∙ get_set_else lobby.games (number - 1) (at - 1) (game_of new) (λ same. there.0 (omega (arith, place.0, same, one))))
               (place_is xs lobby w e at part elsewhere.1)
         ]

@@ -18,9 +18,9 @@ use Rattle.pgn_book.specs.declared.game.PgnGame.{PgnGame}
 use Rattle.pgn_book.specs.Bytes.{is_digit, is_name_byte}
 use Rattle.pgn_book.specs.Lexing.{Piece, Blank, Escape, Braces, Comment, Word, Glyph, Quoted, Sign, Opening, Closing, Within, is_skipped, is_sign, At, MayStand, behind, Lexes, at_start, unmarked}
 use Rattle.pgn_book.specs.Games.{result_text, is_result, position_of, Tag, IsTag, tag_pieces, all_tag_pieces, without_praise, IsPassed, IsMoveWord, Tells, TellMoves, IsGame, AreGames, Reads}
-use Rattle.pgn_book.specs.declared.stage.Stage.{Stage}
-use Rattle.pgn_book.specs.declared.stage.Stage.TheVariants.{Before, Tags, Opened, Named, Told, Moves}
-use Rattle.pgn_book.specs.declared.row.Row.{Row}
+use Rattle.pgn_book.specs.declared.stage.GameStage.{GameStage}
+use Rattle.pgn_book.specs.declared.stage.GameStage.TheVariants.{Before, Tags, Opened, Named, Told, Moves}
+use Rattle.pgn_book.specs.declared.tag_texts.TagTexts.{TagTexts}
 use Rattle.pgn_book.specs.declared.place.PlaceInText.TheVariants.{Between}
 use Rattle.pgn_book.specs.Reading.{Book, empty_row, no_book, noted, result_of, game_of, Taken, goes, fails, gives, staged, opened, closed, passed_over, quoted, named, from_word, move_read, with_move, moved, told, worded, signed, glyphed, took, Outcome, adding, is_before, all_told, state_at, read_from, first_state, tags_of}
 use Rattle.pgn_book.specs.Laws.{ReaderReads}
@@ -32,20 +32,20 @@ use Rattle.fics_words.proofs.Each.{each-push}
 -- ---- what was told of a game so far
 
 -- some whole tags
-record TagsSoFar (row : Row) : Type 0 where
+record TagsSoFar (row : TagTexts) : Type 0 where
   tags : List Tag
   each : AllByRecursion IsTag tags
   row_is : row ≡ row_from empty_row tags
 
 -- a book and the pieces that led to it
-abbrev SoFar : List Piece → Stage → Row → List Move → Type 0
+abbrev SoFar : List Piece → GameStage → TagTexts → List Move → Type 0
 SoFar told Before row moves = (told ≡ []) × (row ≡ empty_row) × (moves ≡ [])
 SoFar told Tags row moves = (t : TagsSoFar row) × (told ≡ all_tag_pieces t.tags) × (moves ≡ [])
 SoFar told Opened row moves = (t : TagsSoFar row) × (told ≡ all_tag_pieces t.tags ++ Sign 91 ∷ []) × (moves ≡ [])
 SoFar told (Named name) row moves =
     (t : TagsSoFar row) × (told ≡ all_tag_pieces t.tags ++ Sign 91 ∷ Word name ∷ []) × (moves ≡ []) × IsTag (record { name = name; text = [] })
 SoFar told Told row moves =
-    (old : Row) × (t : TagsSoFar old) × (tag : Tag) × (told ≡ all_tag_pieces t.tags ++ Sign 91 ∷ Word tag.name ∷ Quoted tag.text ∷ []) × (moves ≡ []) × IsTag tag
+    (old : TagTexts) × (t : TagsSoFar old) × (tag : Tag) × (told ≡ all_tag_pieces t.tags ++ Sign 91 ∷ Word tag.name ∷ Quoted tag.text ∷ []) × (moves ≡ []) × IsTag tag
     × (row ≡ noted tag.name tag.text old)
 SoFar told Moves row moves =
     (t : TagsSoFar row) × (body : List Piece) × (told ≡ all_tag_pieces t.tags ++ body) × TellMoves [] body moves × (length moves ≤ 1200)
@@ -60,17 +60,17 @@ abbrev Onward : List Piece → Taken → Type 0
 Onward told taken = OnwardBy told taken.given taken.on
 
 -- the tags before a tag, or before the moves
-abbrev IsFront : Stage → Type 0
+abbrev IsFront : GameStage → Type 0
 IsFront Before = Unit {0}
 IsFront Tags = Unit {0}
 IsFront _ = ⊥
 
-record FrontTags (told : List Piece) (row : Row) (moves : List Move) : Type 0 where
+record FrontTags (told : List Piece) (row : TagTexts) (moves : List Move) : Type 0 where
   so_far : TagsSoFar row
   are : told ≡ all_tag_pieces so_far.tags
   no_moves : moves ≡ []
 
-front_tags : (told : List Piece) (stage : Stage) (row : Row) (moves : List Move) → IsFront stage → SoFar told stage row moves → FrontTags told row moves
+front_tags : (told : List Piece) (stage : GameStage) (row : TagTexts) (moves : List Move) → IsFront stage → SoFar told stage row moves → FrontTags told row moves
 unfolding row_from
 front_tags told Before row moves h s = record {
   so_far = record { tags = []; each = tt; row_is = s.1 };
@@ -84,14 +84,14 @@ front_tags told Told row moves h s = absurd h
 front_tags told Moves row moves h s = absurd h
 
 -- the moves of a game that goes on, or that begin here
-record Ready (told : List Piece) (row : Row) (moves : List Move) : Type 0 where
+record Ready (told : List Piece) (row : TagTexts) (moves : List Move) : Type 0 where
   so_far : TagsSoFar row
   body : List Piece
   are : told ≡ all_tag_pieces so_far.tags ++ body
   tell : TellMoves [] body moves
   most : length moves ≤ 1200
 
-from_front : (told : List Piece) (row : Row) (moves : List Move) → FrontTags told row moves → Ready told row moves
+from_front : (told : List Piece) (row : TagTexts) (moves : List Move) → FrontTags told row moves → Ready told row moves
 from_front told row moves f = record {
   so_far = f.so_far;
   body = [];
@@ -100,13 +100,13 @@ from_front told row moves f = record {
   most = subst (λ (l : List Move). length l ≤ 1200) (sym f.no_moves) (omega arith);
 }
 
-abbrev IsReady : Stage → Type 0
+abbrev IsReady : GameStage → Type 0
 IsReady Before = Unit {0}
 IsReady Tags = Unit {0}
 IsReady Moves = Unit {0}
 IsReady _ = ⊥
 
-ready : (told : List Piece) (stage : Stage) (row : Row) (moves : List Move) → IsReady stage → SoFar told stage row moves → Ready told row moves
+ready : (told : List Piece) (stage : GameStage) (row : TagTexts) (moves : List Move) → IsReady stage → SoFar told stage row moves → Ready told row moves
 ready told Before row moves h s = from_front told row moves (front_tags told Before row moves tt s)
 ready told Tags row moves h s = from_front told row moves (front_tags told Tags row moves tt s)
 ready told Opened row moves h s = absurd h
@@ -132,7 +132,7 @@ tell-end before (x ∷ body) moves piece first h t =
     )
 
 -- a piece of the movetext more
-goes_to_moves : (told : List Piece) (row : Row) (moves first : List Move) (piece : Piece) → Ready told row moves → Tells moves piece first →
+goes_to_moves : (told : List Piece) (row : TagTexts) (moves first : List Move) (piece : Piece) → Ready told row moves → Tells moves piece first →
     length (moves ++ first) ≤ 1200 → SoFar (told ++ piece ∷ []) Moves row (moves ++ first)
 goes_to_moves told row moves first piece r t most = (
   r.so_far,
@@ -142,14 +142,14 @@ goes_to_moves told row moves first piece r t most = (
   most,
 )
 
-passes : (told : List Piece) (row : Row) (moves : List Move) (piece : Piece) → Ready told row moves → IsPassed piece →
+passes : (told : List Piece) (row : TagTexts) (moves : List Move) (piece : Piece) → Ready told row moves → IsPassed piece →
     SoFar (told ++ piece ∷ []) Moves row moves
 passes told row moves piece r is =
     let none : moves ++ [] ≡ moves = append-nil moves in
     subst (λ (l : List Move). SoFar (told ++ piece ∷ []) Moves row l) none
     (goes_to_moves told row moves [] piece r (inl (is, refl)) (subst (λ (l : List Move). length l ≤ 1200) (sym none) r.most))
 
-pass_onward : (told : List Piece) (stage : Stage) (row : Row) (moves : List Move) (piece : Piece) → SoFar told stage row moves → IsPassed piece →
+pass_onward : (told : List Piece) (stage : GameStage) (row : TagTexts) (moves : List Move) (piece : Piece) → SoFar told stage row moves → IsPassed piece →
     Onward (told ++ piece ∷ []) (passed_over stage (book_at stage row moves))
 pass_onward told Before row moves piece s is = passes told row moves piece (ready told Before row moves tt s) is
 pass_onward told Tags row moves piece s is = passes told row moves piece (ready told Tags row moves tt s) is
@@ -178,8 +178,8 @@ pub move_found : (p : Position) (text : List ℕ) (m : Move) → move_read p tex
 unfolding move_read
 move_found p text m h = read_found p text m (reading text) refl h
 
-onward_move : (told : List Piece) (row : Row) (moves : List Move) (word : List ℕ) → Ready told row moves → list_all is_digit word ≡ false → is_result word ≡ false →
-    length moves < 1200 → (stage : Stage) (m : Option Move) → move_read (position_of moves) (without_praise word) ≡ m →
+onward_move : (told : List Piece) (row : TagTexts) (moves : List Move) (word : List ℕ) → Ready told row moves → list_all is_digit word ≡ false → is_result word ≡ false →
+    length moves < 1200 → (stage : GameStage) (m : Option Move) → move_read (position_of moves) (without_praise word) ≡ m →
     Onward (told ++ Word word ∷ []) (with_move (book_at stage row moves) m)
 onward_move told row moves word r number result room stage None e = tt
 onward_move told row moves word r number result room stage (Some m) e =
@@ -199,7 +199,7 @@ result_word word h = by (bytes_eq word (codes "1-0")) (bytes_eq word (codes "0-1
     by false false false true p q r s h = (bytes_eq-Decides word (codes "*")).0 s
     by false false false false p q r s h = cc
 
-whole_game : (told : List Piece) (stage : Stage) (row : Row) (moves : List Move) (word : List ℕ) → Ready told row moves → is_result word ≡ true →
+whole_game : (told : List Piece) (stage : GameStage) (row : TagTexts) (moves : List Move) (word : List ℕ) → Ready told row moves → is_result word ≡ true →
     IsGame (told ++ Word word ∷ []) (game_of (book_at stage row moves) word)
 whole_game told stage row moves word r h = record {
   tags = r.so_far.tags;
@@ -212,7 +212,7 @@ whole_game told stage row moves word r h = record {
       ∙ ap (λ (w : List ℕ). all_tag_pieces r.so_far.tags ++ (r.body ++ Word w ∷ [])) (result_word word h);
 }
 
-onward_told : (told_so : List Piece) (stage : Stage) (row : Row) (moves : List Move) (word : List ℕ) → IsReady stage → SoFar told_so stage row moves →
+onward_told : (told_so : List Piece) (stage : GameStage) (row : TagTexts) (moves : List Move) (word : List ℕ) → IsReady stage → SoFar told_so stage row moves →
     Onward (told_so ++ Word word ∷ []) (told (book_at stage row moves) word)
 onward_told told_so stage row moves word h s =
     let book : Book = book_at stage row moves in
@@ -226,7 +226,7 @@ onward_told told_so stage row moves word h s =
     (λ e. onward_move told_so row moves word r number result (below (length moves) 1200 e) stage (move_read (position_of moves) (without_praise word)) refl)
     (λ e. tt)))
 
-onward_named : (told_so : List Piece) (row : Row) (moves : List Move) (word : List ℕ) → SoFar told_so Opened row moves →
+onward_named : (told_so : List Piece) (row : TagTexts) (moves : List Move) (word : List ℕ) → SoFar told_so Opened row moves →
     Onward (told_so ++ Word word ∷ []) (named (book_at Opened row moves) word)
 onward_named told_so row moves word s =
     let book : Book = book_at Opened row moves in
@@ -240,7 +240,7 @@ onward_named told_so row moves word s =
     ))
     (λ e. tt)
 
-onward_word : (told_so : List Piece) (stage : Stage) (row : Row) (moves : List Move) (word : List ℕ) → SoFar told_so stage row moves →
+onward_word : (told_so : List Piece) (stage : GameStage) (row : TagTexts) (moves : List Move) (word : List ℕ) → SoFar told_so stage row moves →
     Onward (told_so ++ Word word ∷ []) (worded stage (book_at stage row moves) word)
 onward_word told_so Before row moves word s = onward_told told_so Before row moves word tt s
 onward_word told_so Tags row moves word s = onward_told told_so Tags row moves word tt s
@@ -249,7 +249,7 @@ onward_word told_so (Named name) row moves word s = tt
 onward_word told_so Told row moves word s = tt
 onward_word told_so Moves row moves word s = onward_told told_so Moves row moves word tt s
 
-onward_glyph : (told_so : List Piece) (stage : Stage) (row : Row) (moves : List Move) (word : List ℕ) → SoFar told_so stage row moves →
+onward_glyph : (told_so : List Piece) (stage : GameStage) (row : TagTexts) (moves : List Move) (word : List ℕ) → SoFar told_so stage row moves →
     Onward (told_so ++ Glyph word ∷ []) (glyphed (book_at stage row moves) word)
 onward_glyph told_so stage row moves [] s = tt
 onward_glyph told_so stage row moves (b ∷ word) s =
@@ -259,7 +259,7 @@ onward_glyph told_so stage row moves (b ∷ word) s =
 
 -- ---- tags
 
-onward_text : (told_so : List Piece) (stage : Stage) (row : Row) (moves : List Move) (text : List ℕ) → SoFar told_so stage row moves →
+onward_text : (told_so : List Piece) (stage : GameStage) (row : TagTexts) (moves : List Move) (text : List ℕ) → SoFar told_so stage row moves →
     Onward (told_so ++ Quoted text ∷ []) (quoted stage (book_at stage row moves) text)
 onward_text told_so Before row moves text s = tt
 onward_text told_so Tags row moves text s = tt
@@ -276,7 +276,7 @@ onward_text told_so (Named name) row moves text s = (
 onward_text told_so Told row moves text s = tt
 onward_text told_so Moves row moves text s = tt
 
-onward_opened : (told_so : List Piece) (stage : Stage) (row : Row) (moves : List Move) → SoFar told_so stage row moves →
+onward_opened : (told_so : List Piece) (stage : GameStage) (row : TagTexts) (moves : List Move) → SoFar told_so stage row moves →
     Onward (told_so ++ Sign 91 ∷ []) (opened stage (book_at stage row moves))
 onward_opened told_so Before row moves s =
     let f = front_tags told_so Before row moves tt s in
@@ -294,12 +294,12 @@ tags-end : (tags : List Tag) (tag : Tag) → all_tag_pieces (tags ++ tag ∷ [])
 tags-end [] tag = refl
 tags-end (t ∷ tags) tag = ap (λ (l : List Piece). tag_pieces t ++ l) (tags-end tags tag)
 
-row-end : (tags : List Tag) (tag : Tag) (row : Row) → row_from row (tags ++ tag ∷ []) ≡ noted tag.name tag.text (row_from row tags)
+row-end : (tags : List Tag) (tag : Tag) (row : TagTexts) → row_from row (tags ++ tag ∷ []) ≡ noted tag.name tag.text (row_from row tags)
 unfolding row_from
 row-end [] tag row = refl
 row-end (t ∷ tags) tag row = row-end tags tag (noted t.name t.text row)
 
-onward_closed : (told_so : List Piece) (stage : Stage) (row : Row) (moves : List Move) → SoFar told_so stage row moves →
+onward_closed : (told_so : List Piece) (stage : GameStage) (row : TagTexts) (moves : List Move) → SoFar told_so stage row moves →
     Onward (told_so ++ Sign 93 ∷ []) (closed stage (book_at stage row moves))
 onward_closed told_so Before row moves s = tt
 onward_closed told_so Tags row moves s = tt
@@ -325,7 +325,7 @@ abbrev IsKnown : Piece → Type 0
 IsKnown (Sign b) = is_sign b ≡ true
 IsKnown piece = is_skipped piece ≡ false
 
-onward_sign : (told_so : List Piece) (stage : Stage) (row : Row) (moves : List Move) (b : ℕ) → is_sign b ≡ true → SoFar told_so stage row moves →
+onward_sign : (told_so : List Piece) (stage : GameStage) (row : TagTexts) (moves : List Move) (b : ℕ) → is_sign b ≡ true → SoFar told_so stage row moves →
     Onward (told_so ++ Sign b ∷ []) (signed (book_at stage row moves) b)
 onward_sign told_so stage row moves b is s =
     let book : Book = book_at stage row moves in
@@ -342,7 +342,7 @@ onward_sign told_so stage row moves b is s =
     dot b false false true e h p q = eqb-true b 46 e
     dot b false false false e h p q = cc
 
-onward : (told_so : List Piece) (stage : Stage) (row : Row) (moves : List Move) (piece : Piece) → IsKnown piece → SoFar told_so stage row moves →
+onward : (told_so : List Piece) (stage : GameStage) (row : TagTexts) (moves : List Move) (piece : Piece) → IsKnown piece → SoFar told_so stage row moves →
     Onward (told_so ++ piece ∷ []) (took (book_at stage row moves) piece)
 unfolding took
 onward told_so stage row moves (Blank b) known s = absurd (let f : true ≡ false = known in cc)
@@ -364,7 +364,7 @@ AllKnown [] = Unit {0}
 AllKnown (piece ∷ pieces) = IsKnown piece × AllKnown pieces
 
 -- the game that was begun is one of them, if one was
-rests : (told_so : List Piece) (stage : Stage) (row : Row) (moves : List Move) → SoFar told_so stage row moves → is_before stage ≡ true → told_so ≡ []
+rests : (told_so : List Piece) (stage : GameStage) (row : TagTexts) (moves : List Move) → SoFar told_so stage row moves → is_before stage ≡ true → told_so ≡ []
 rests told_so Before row moves s h = s.0
 rests told_so Tags row moves s h = absurd (let f : false ≡ true = h in cc)
 rests told_so Opened row moves s h = absurd (let f : false ≡ true = h in cc)

@@ -14,18 +14,18 @@ use Rattle.pgn_book.specs.Bytes.{is_digit, is_name_byte}
 use Rattle.pgn_book.specs.Lexing.{Piece, Blank, Escape, Braces, Comment, Word, Glyph, Quoted, Sign, Opening, Closing, Within, at_start, unmarked}
 use Rattle.pgn_book.specs.Games.{result_text, is_result, position_of, Tag, IsTag, all_tag_pieces, first_text, row_of, without_praise, IsPassed, IsMoveWord, Tells, TellMoves, IsGame, AreGames, Reads, OneReading}
 use Rattle.pgn_book.specs.Reading as reader
-use Rattle.pgn_book.specs.declared.stage.Stage.{Stage}
-use Rattle.pgn_book.specs.declared.stage.Stage.TheVariants.{Before, Tags, Opened, Named, Told, Moves}
-use Rattle.pgn_book.specs.declared.row.Row.{Row}
+use Rattle.pgn_book.specs.declared.stage.GameStage.{GameStage}
+use Rattle.pgn_book.specs.declared.stage.GameStage.TheVariants.{Before, Tags, Opened, Named, Told, Moves}
+use Rattle.pgn_book.specs.declared.tag_texts.TagTexts.{TagTexts}
 use Rattle.pgn_book.specs.Reading.{Book, empty_row, no_book, noted_as, noted, result_of, game_of, Taken, goes, fails, passed_over, from_word, move_read, with_move, told, took, Outcome, adding, all_told, read_from, first_state, tags_of}
 use Rattle.pgn_book.proofs.PiecesRead.{telling, lexed_read, start_read}
 use Rattle.std.proofs.lemmas.Bool.{and_from}
 
-abbrev pub book_at : Stage → Row → List Move → Book
+abbrev pub book_at : GameStage → TagTexts → List Move → Book
 book_at stage row moves = record { stage = stage; row = row; moves = moves }
 
 -- where a tag may begin
-abbrev IsFront : Stage → Type 0
+abbrev IsFront : GameStage → Type 0
 IsFront Before = Unit {0}
 IsFront Tags = Unit {0}
 IsFront Opened = ⊥
@@ -34,7 +34,7 @@ IsFront Told = ⊥
 IsFront Moves = ⊥
 
 -- where a move may stand
-abbrev IsReady : Stage → Type 0
+abbrev IsReady : GameStage → Type 0
 IsReady Before = Unit {0}
 IsReady Tags = Unit {0}
 IsReady Opened = ⊥
@@ -42,7 +42,7 @@ IsReady (Named name) = ⊥
 IsReady Told = ⊥
 IsReady Moves = Unit {0}
 
-front_ready : (stage : Stage) → IsFront stage → IsReady stage
+front_ready : (stage : GameStage) → IsFront stage → IsReady stage
 front_ready Before h = tt
 front_ready Tags h = tt
 front_ready Opened h = absurd h
@@ -52,7 +52,7 @@ front_ready Moves h = absurd h
 
 -- ---- tags
 
-one_tag : (stage : Stage) (row : Row) (tag : Tag) (rest : List Piece) → IsFront stage → IsTag tag →
+one_tag : (stage : GameStage) (row : TagTexts) (tag : Tag) (rest : List Piece) → IsFront stage → IsTag tag →
     all_told (Some (book_at stage row [])) (Sign 91 ∷ Word tag.name ∷ Quoted tag.text ∷ Sign 93 ∷ rest)
     ≡ all_told (Some (book_at Tags (noted tag.name tag.text row) [])) rest
 unfolding took
@@ -74,17 +74,17 @@ one_tag Told row tag rest front is = absurd front
 one_tag Moves row tag rest front is = absurd front
 
 -- the texts that are kept behind some tags
-unfoldable pub row_from : Row → List Tag → Row
+unfoldable pub row_from : TagTexts → List Tag → TagTexts
 row_from row [] = row
 row_from row (tag ∷ tags) = row_from (noted tag.name tag.text row) tags
 
 -- what is read when all tags were
-record TagsTold (stage : Stage) (row : Row) (tags : List Tag) (more : List Piece) : Type 0 where
-  at : Stage
+record TagsTold (stage : GameStage) (row : TagTexts) (tags : List Tag) (more : List Piece) : Type 0 where
+  at : GameStage
   front : IsFront at
   told_so : all_told (Some (book_at stage row [])) (all_tag_pieces tags ++ more) ≡ all_told (Some (book_at at (row_from row tags) [])) more
 
-tags_told : (tags : List Tag) (stage : Stage) (row : Row) (more : List Piece) → IsFront stage → AllByRecursion IsTag tags → TagsTold stage row tags more
+tags_told : (tags : List Tag) (stage : GameStage) (row : TagTexts) (more : List Piece) → IsFront stage → AllByRecursion IsTag tags → TagsTold stage row tags more
 unfolding row_from
 tags_told [] stage row more front each = record { at = stage; front = front; told_so = refl }
 tags_told (tag ∷ tags) stage row more front each =
@@ -113,10 +113,10 @@ noted-kept key name text None first = by (bytes_eq name key)
     by false = refl
 
 -- a place of the row is that of a name
-record IsOfName (f : Row → Option (List ℕ)) (key : List ℕ) : Type 0 where
-  keeps : (name text : List ℕ) (row : Row) → f (noted name text row) ≡ noted_as key name text (f row)
+record IsOfName (f : TagTexts → Option (List ℕ)) (key : List ℕ) : Type 0 where
+  keeps : (name text : List ℕ) (row : TagTexts) → f (noted name text row) ≡ noted_as key name text (f row)
 
-first_kept : (f : Row → Option (List ℕ)) (key : List ℕ) (h : IsOfName f key) (tags : List Tag) (row : Row) →
+first_kept : (f : TagTexts → Option (List ℕ)) (key : List ℕ) (h : IsOfName f key) (tags : List Tag) (row : TagTexts) →
     f (row_from row tags) ≡ kept (f row) (first_text key tags)
 unfolding row_from
 first_kept f key h [] row = kept-none (f row)
@@ -147,7 +147,7 @@ row_told tags =
 abbrev IsNumber : List ℕ → Type 0
 IsNumber word = list_all is_digit word ≡ true
 
-pass_by : (stage : Stage) (row : Row) (moves : List Move) → IsReady stage → passed_over stage (book_at stage row moves) ≡ goes (book_at Moves row moves)
+pass_by : (stage : GameStage) (row : TagTexts) (moves : List Move) → IsReady stage → passed_over stage (book_at stage row moves) ≡ goes (book_at Moves row moves)
 pass_by Before row moves h = refl
 pass_by Tags row moves h = refl
 pass_by Opened row moves h = absurd h
@@ -155,7 +155,7 @@ pass_by (Named name) row moves h = absurd h
 pass_by Told row moves h = absurd h
 pass_by Moves row moves h = refl
 
-word_told : (stage : Stage) (row : Row) (moves : List Move) (word : List ℕ) → IsReady stage →
+word_told : (stage : GameStage) (row : TagTexts) (moves : List Move) (word : List ℕ) → IsReady stage →
     took (book_at stage row moves) (Word word) ≡ told (book_at stage row moves) word
 unfolding took
 word_told Before row moves word h = refl
@@ -165,14 +165,14 @@ word_told (Named name) row moves word h = absurd h
 word_told Told row moves word h = absurd h
 word_told Moves row moves word h = refl
 
-glyph_passed : (stage : Stage) (row : Row) (moves : List Move) (word : List ℕ) → IsReady stage → (word ≡ [] → ⊥) → IsNumber word →
+glyph_passed : (stage : GameStage) (row : TagTexts) (moves : List Move) (word : List ℕ) → IsReady stage → (word ≡ [] → ⊥) → IsNumber word →
     took (book_at stage row moves) (Glyph word) ≡ goes (book_at Moves row moves)
 unfolding took
 glyph_passed stage row moves [] h some number = absurd (some refl)
 glyph_passed stage row moves (b ∷ word) h some number =
     ap (λ (t : Bool). cond t (passed_over stage (book_at stage row moves)) fails) number ∙ pass_by stage row moves h
 
-passed_took : (stage : Stage) (row : Row) (moves : List Move) (piece : Piece) → IsReady stage → IsPassed piece →
+passed_took : (stage : GameStage) (row : TagTexts) (moves : List Move) (piece : Piece) → IsReady stage → IsPassed piece →
     took (book_at stage row moves) piece ≡ goes (book_at Moves row moves)
 unfolding took
 passed_took stage row moves (Blank b) h is = absurd is
@@ -195,7 +195,7 @@ read_as : (p : Position) (text : List ℕ) (m : Move) → IsReadAs p text m → 
 unfolding move_read
 read_as p text m h = ap (from_word p) h.read ∙ ap result_ok h.answered
 
-move_took : (stage : Stage) (row : Row) (moves : List Move) (word : List ℕ) (m : Move) → IsReady stage → IsMoveWord moves word m → length moves < 1200 →
+move_took : (stage : GameStage) (row : TagTexts) (moves : List Move) (word : List ℕ) (m : Move) → IsReady stage → IsMoveWord moves word m → length moves < 1200 →
     took (book_at stage row moves) (Word word) ≡ goes (book_at Moves row (moves ++ m ∷ []))
 move_took stage row moves word m h is room =
     let book : Book = book_at stage row moves in
@@ -206,7 +206,7 @@ move_took stage row moves word m h is room =
     ∙ ap (with_move book) (read_as (position_of moves) (without_praise word) m is.read)
 
 -- a piece that tells these moves
-tells_took : (stage : Stage) (row : Row) (moves : List Move) (piece : Piece) (first : List Move) → IsReady stage → Tells moves piece first →
+tells_took : (stage : GameStage) (row : TagTexts) (moves : List Move) (piece : Piece) (first : List Move) → IsReady stage → Tells moves piece first →
     length moves + length first ≤ 1200 → took (book_at stage row moves) piece ≡ goes (book_at Moves row (moves ++ first))
 tells_took stage row moves piece first h (inl (is, none)) most =
     passed_took stage row moves piece h is
@@ -217,8 +217,8 @@ tells_took stage row moves piece first h (inr next) most =
     ∙ move_took stage row moves next.word next.move h next.read (omega arith)
     ∙ ap (λ (l : List Move). goes (book_at Moves row (moves ++ l))) (sym next.only)
 
-record BodyTold (stage : Stage) (row : Row) (before moves : List Move) (body more : List Piece) : Type 0 where
-  at : Stage
+record BodyTold (stage : GameStage) (row : TagTexts) (before moves : List Move) (body more : List Piece) : Type 0 where
+  at : GameStage
   ready : IsReady at
   told_so : all_told (Some (book_at stage row before)) (body ++ more) ≡ all_told (Some (book_at at row (before ++ moves))) more
 
@@ -229,7 +229,7 @@ fewer before first rest moves e most =
     let front : length (before ++ first) ≡ length before + length first = length-append before first in
     (omega arith, omega arith)
 
-body_told : (body : List Piece) (stage : Stage) (row : Row) (before moves : List Move) (more : List Piece) → IsReady stage →
+body_told : (body : List Piece) (stage : GameStage) (row : TagTexts) (before moves : List Move) (more : List Piece) → IsReady stage →
     TellMoves before body moves → length before + length moves ≤ 1200 → BodyTold stage row before moves body more
 body_told [] stage row before moves more h tells most = record {
   at = stage;
@@ -276,7 +276,7 @@ game_told first g rest h =
     ap (λ (l : List Piece). l ++ rest) h.whole ∙ append_assoc (all_tag_pieces h.tags) (h.body ++ end) rest
     ∙ ap (λ (l : List Piece). all_tag_pieces h.tags ++ l) (append_assoc h.body end rest) in
     let tags = tags_told h.tags Before empty_row (h.body ++ behind_body) tt h.each_tag in
-    let row : Row = row_from empty_row h.tags in
+    let row : TagTexts = row_from empty_row h.tags in
     let body = body_told h.body tags.at row [] g.moves behind_body (front_ready tags.at tags.front) h.moves (omega (arith, h.most)) in
     let book : Book = book_at body.at row g.moves in
     let texts : tags_of row ≡ g.tags = row_told h.tags ∙ sym h.row in

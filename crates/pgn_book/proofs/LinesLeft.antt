@@ -7,9 +7,9 @@ use Rattle.chess_model.specs.declared.moves.Move.{Move}
 use Rattle.pgn_book.specs.declared.game.PgnGame.{PgnGame}
 use Rattle.pgn_book.specs.declared.place.PlaceInText.{PlaceInText}
 use Rattle.pgn_book.specs.declared.place.PlaceInText.TheVariants.{Start, AfterOne, AfterTwo, Between, InLine, InBraces, InWord, InQuotes, InStroke}
-use Rattle.pgn_book.specs.declared.row.Row.{Row}
-use Rattle.pgn_book.specs.declared.stage.Stage.{Stage}
-use Rattle.pgn_book.specs.declared.stage.Stage.TheVariants.{Before, Tags, Opened, Named, Told, Moves}
+use Rattle.pgn_book.specs.declared.tag_texts.TagTexts.{TagTexts}
+use Rattle.pgn_book.specs.declared.stage.GameStage.{GameStage}
+use Rattle.pgn_book.specs.declared.stage.GameStage.TheVariants.{Before, Tags, Opened, Named, Told, Moves}
 use Rattle.pgn_book.specs.Bytes.{is_word_byte}
 use Rattle.pgn_book.specs.Games.{Reads}
 use Rattle.pgn_book.specs.Reading.{Book, took, Outcome, State, state_at, begun_behind, piece_of, step, read_from, first_state, Gone, with_given, gone, adding_all}
@@ -135,7 +135,7 @@ led s t b e h = record {
 }
 
 -- outside of variations
-end_outside : (stage : Stage) (fresh : Bool) (row : Row) (moves : List Move) → CanEnd (state_at (Between fresh) 0 (book_at stage row moves))
+end_outside : (stage : GameStage) (fresh : Bool) (row : TagTexts) (moves : List Move) → CanEnd (state_at (Between fresh) 0 (book_at stage row moves))
 unfolding is_word_byte took step
 end_outside Before fresh row moves = record { more = 42 ∷ []; whole = refl }
 end_outside Tags fresh row moves = record { more = 42 ∷ []; whole = refl }
@@ -145,7 +145,7 @@ end_outside Told fresh row moves = record { more = 93 ∷ 42 ∷ []; whole = ref
 end_outside Moves fresh row moves = record { more = 42 ∷ []; whole = refl }
 
 -- inside of variations, which are closed one after the other
-end_inside : (depth : ℕ) (fresh : Bool) (row : Row) (moves : List Move) → CanEnd (state_at (Between fresh) depth (book_at Moves row moves))
+end_inside : (depth : ℕ) (fresh : Bool) (row : TagTexts) (moves : List Move) → CanEnd (state_at (Between fresh) depth (book_at Moves row moves))
 unfolding is_word_byte took step
 end_inside zero fresh row moves = end_outside Moves fresh row moves
 end_inside (suc depth) fresh row moves =
@@ -158,11 +158,11 @@ end_inside (suc depth) fresh row moves =
     ∙ ap (λ (d : ℕ). Some (state_at (Between false) d (book_at Moves row moves))) less)
     (end_inside depth false row moves)
 
-end_between : (depth : ℕ) (fresh : Bool) (stage : Stage) (row : Row) (moves : List Move) → (depth ≡ 0) ⊎ (stage ≡ Moves) → CanEnd (state_at (Between fresh) depth (book_at stage row moves))
+end_between : (depth : ℕ) (fresh : Bool) (stage : GameStage) (row : TagTexts) (moves : List Move) → (depth ≡ 0) ⊎ (stage ≡ Moves) → CanEnd (state_at (Between fresh) depth (book_at stage row moves))
 end_between depth fresh stage row moves (inl e) =
     subst (λ (d : ℕ). CanEnd (state_at (Between fresh) d (book_at stage row moves))) (sym e) (end_outside stage fresh row moves)
 end_between depth fresh stage row moves (inr e) =
-    subst (λ (t : Stage). CanEnd (state_at (Between fresh) depth (book_at t row moves))) (sym e) (end_inside depth fresh row moves)
+    subst (λ (t : GameStage). CanEnd (state_at (Between fresh) depth (book_at t row moves))) (sym e) (end_inside depth fresh row moves)
 
 -- where a line may begin
 abbrev IsLineStart : PlaceInText → Type 0

@@ -8,8 +8,8 @@ use Rattle.move_reader.proofs.ByteMeanings.{is_below}
 use Rattle.pgn_book.specs.declared.game.PgnGame.{PgnGame}
 use Rattle.pgn_book.specs.Bytes.{is_among, spaces, is_space, is_word_byte, Every, StopsBefore}
 use Rattle.pgn_book.specs.Lexing.{Piece, Blank, Escape, Braces, Comment, Word, Glyph, Quoted, Sign, Opening, Closing, Within, escaped, spelling, is_of_line, is_of_braces, is_of_text, is_sign, is_reserved, At, MayStand, behind, Lexes, is_skipped, unmarked}
-use Rattle.pgn_book.specs.declared.stage.Stage.{Stage}
-use Rattle.pgn_book.specs.declared.stage.Stage.TheVariants.{Before, Tags, Opened, Named, Told, Moves}
+use Rattle.pgn_book.specs.declared.stage.GameStage.{GameStage}
+use Rattle.pgn_book.specs.declared.stage.GameStage.TheVariants.{Before, Tags, Opened, Named, Told, Moves}
 use Rattle.pgn_book.specs.declared.place.PlaceInText.TheVariants.{AfterOne, AfterTwo, Between, InLine, InBraces, InWord, InQuotes, InStroke}
 use Rattle.pgn_book.specs.Reading.{Book, no_book, Taken, opened, closed, passed_over, quoted, took, Outcome, adding, nothing_read, all_told, State, state_at, to_place, Step, silent, outside, opens, closes, nested, skipping, spaced, begun, begun_behind, piece_of, longer, word_ended, step, resting, read_from, first_state}
 use Rattle.rules_reading.proofs.Answered.{cond-both, cond-second}
@@ -272,7 +272,7 @@ first_quote fresh book = refl
 
 -- ---- only words give games
 
-passed_over-silent : (stage : Stage) (book : Book) → (passed_over stage book).given ≡ None
+passed_over-silent : (stage : GameStage) (book : Book) → (passed_over stage book).given ≡ None
 passed_over-silent Before book = refl
 passed_over-silent Tags book = refl
 passed_over-silent Opened book = refl
@@ -280,7 +280,7 @@ passed_over-silent (Named name) book = refl
 passed_over-silent Told book = refl
 passed_over-silent Moves book = refl
 
-opened-silent : (stage : Stage) (book : Book) → (opened stage book).given ≡ None
+opened-silent : (stage : GameStage) (book : Book) → (opened stage book).given ≡ None
 opened-silent Before book = refl
 opened-silent Tags book = refl
 opened-silent Opened book = refl
@@ -288,7 +288,7 @@ opened-silent (Named name) book = refl
 opened-silent Told book = refl
 opened-silent Moves book = refl
 
-closed-silent : (stage : Stage) (book : Book) → (closed stage book).given ≡ None
+closed-silent : (stage : GameStage) (book : Book) → (closed stage book).given ≡ None
 closed-silent Before book = refl
 closed-silent Tags book = refl
 closed-silent Opened book = refl
@@ -296,7 +296,7 @@ closed-silent (Named name) book = refl
 closed-silent Told book = refl
 closed-silent Moves book = refl
 
-quoted-silent : (stage : Stage) (book : Book) (text : List ℕ) → (quoted stage book text).given ≡ None
+quoted-silent : (stage : GameStage) (book : Book) (text : List ℕ) → (quoted stage book text).given ≡ None
 quoted-silent Before book text = refl
 quoted-silent Tags book text = refl
 quoted-silent Opened book text = refl

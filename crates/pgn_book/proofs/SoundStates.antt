@@ -18,8 +18,8 @@ use Rattle.pgn_book.specs.declared.game.PgnGame.{PgnGame}
 use Rattle.pgn_book.specs.declared.book.Read.{Read}
 use Rattle.pgn_book.specs.declared.place.PlaceInText.{PlaceInText}
 use Rattle.pgn_book.specs.declared.place.PlaceInText.TheVariants.{Start, AfterOne, AfterTwo, Between, InLine, InBraces, InWord, InQuotes, InStroke}
-use Rattle.pgn_book.specs.declared.stage.Stage.{Stage}
-use Rattle.pgn_book.specs.declared.stage.Stage.TheVariants.{Before, Tags, Opened, Named, Told, Moves}
+use Rattle.pgn_book.specs.declared.stage.GameStage.{GameStage}
+use Rattle.pgn_book.specs.declared.stage.GameStage.TheVariants.{Before, Tags, Opened, Named, Told, Moves}
 use Rattle.pgn_book.specs.Bytes.{is_among, is_space, is_digit, is_name_byte, is_word_byte}
 use Rattle.pgn_book.specs.Lexing.{IsText, is_sign, is_of_line, is_of_braces, is_of_text}
 use Rattle.pgn_book.specs.Games.{is_result, on_board, position_of, without_praise}
@@ -69,7 +69,7 @@ empty_book = record {
   black = tt;
 }
 
-at_stage : (stage : Stage) (book : Book) → IsSoundBook book → IsSoundBook (staged stage book)
+at_stage : (stage : GameStage) (book : Book) → IsSoundBook book → IsSoundBook (staged stage book)
 at_stage stage book h = record {
   legal = h.legal;
   most = h.most;
@@ -81,7 +81,7 @@ at_stage stage book h = record {
   black = h.black;
 }
 
-passing : (stage : Stage) (book : Book) → IsSoundBook book → IsSoundTaken (passed_over stage book)
+passing : (stage : GameStage) (book : Book) → IsSoundBook book → IsSoundTaken (passed_over stage book)
 passing Before book h = going (staged Moves book) (at_stage Moves book h)
 passing Tags book h = going (staged Moves book) (at_stage Moves book h)
 passing Opened book h = failing
@@ -89,7 +89,7 @@ passing (Named name) book h = failing
 passing Told book h = failing
 passing Moves book h = going book h
 
-opening : (stage : Stage) (book : Book) → IsSoundBook book → IsSoundTaken (opened stage book)
+opening : (stage : GameStage) (book : Book) → IsSoundBook book → IsSoundTaken (opened stage book)
 opening Before book h = going (staged Opened book) (at_stage Opened book h)
 opening Tags book h = going (staged Opened book) (at_stage Opened book h)
 opening Opened book h = failing
@@ -97,7 +97,7 @@ opening (Named name) book h = failing
 opening Told book h = failing
 opening Moves book h = failing
 
-closing : (stage : Stage) (book : Book) → IsSoundBook book → IsSoundTaken (closed stage book)
+closing : (stage : GameStage) (book : Book) → IsSoundBook book → IsSoundTaken (closed stage book)
 closing Before book h = failing
 closing Tags book h = failing
 closing Opened book h = failing
@@ -113,7 +113,7 @@ noting : (key name text : List ℕ) (old : Option (List ℕ)) → IsText text �
 noting key name text None h g = told_if (bytes_eq name key) text h
 noting key name text (Some first) h g = g
 
-quoting : (stage : Stage) (book : Book) (text : List ℕ) → IsText text → IsSoundBook book → IsSoundTaken (quoted stage book text)
+quoting : (stage : GameStage) (book : Book) (text : List ℕ) → IsText text → IsSoundBook book → IsSoundTaken (quoted stage book text)
 quoting Before book text is h = failing
 quoting Tags book text is h = failing
 quoting Opened book text is h = failing
@@ -201,7 +201,7 @@ telling book word h =
     (λ e. passing book.stage book h)
     (λ e. sound_if (is_result word) (gives (game_of book word)) (moved book word) (λ f. ending book word h) (λ f. moving book word h))
 
-wording : (stage : Stage) (book : Book) (word : List ℕ) → IsSoundBook book → IsSoundTaken (worded stage book word)
+wording : (stage : GameStage) (book : Book) (word : List ℕ) → IsSoundBook book → IsSoundTaken (worded stage book word)
 wording Before book word h = telling book word h
 wording Tags book word h = telling book word h
 wording Opened book word h = naming book word h
@@ -234,12 +234,12 @@ on_either true p q h g = h refl
 on_either false p q h g = g refl
 
 -- outside of variations any piece may follow
-behind_piece : (place : PlaceInText) (depth : ℕ) (on : Option Book) → ((stage : Stage) → IsSoundPlace place depth stage) → IsSoundBookIf on → IsSoundIf (to_place place depth on)
+behind_piece : (place : PlaceInText) (depth : ℕ) (on : Option Book) → ((stage : GameStage) → IsSoundPlace place depth stage) → IsSoundBookIf on → IsSoundIf (to_place place depth on)
 behind_piece place depth None is h = tt
 behind_piece place depth (Some book) is h = record { place = is book.stage; book = h }
 
 -- what is passed over is in the moves
-behind_passed : (depth : ℕ) (stage : Stage) (book : Book) → book.stage ≡ stage → IsSoundBook book → IsSoundIf (to_place (Between false) depth (passed_over stage book).on)
+behind_passed : (depth : ℕ) (stage : GameStage) (book : Book) → book.stage ≡ stage → IsSoundBook book → IsSoundIf (to_place (Between false) depth (passed_over stage book).on)
 behind_passed depth Before book e h = record { place = inr refl; book = at_stage Moves book h }
 behind_passed depth Tags book e h = record { place = inr refl; book = at_stage Moves book h }
 behind_passed depth Opened book e h = tt
@@ -280,7 +280,7 @@ sound_nested depth book b h =
     (λ e. on_either (b == 41) (closes depth book) behind (λ f. sound_closes depth book h)
     (λ f. on_either (nat_eq depth 0) (outside book b) within (λ g. sound_outside book b h) (λ g. behind_passed depth book.stage book refl h)))
 
-abbrev InMoves : ℕ → Stage → Type 0
+abbrev InMoves : ℕ → GameStage → Type 0
 InMoves depth stage = (depth ≡ 0) ⊎ (stage ≡ Moves)
 
 sound_skipping : (fresh : Bool) (depth : ℕ) (book : Book) (b : ℕ) → InMoves depth book.stage → IsSoundBook book → IsSoundIf (skipping fresh depth book b)

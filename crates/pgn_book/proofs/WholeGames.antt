@@ -6,8 +6,8 @@ use Rattle.chess_model.specs.declared.moves.Move.{Move}
 use Rattle.pgn_book.specs.declared.game.PgnGame.{PgnGame}
 use Rattle.pgn_book.specs.declared.place.PlaceInText.{PlaceInText}
 use Rattle.pgn_book.specs.declared.place.PlaceInText.TheVariants.{Start, AfterOne, AfterTwo, Between, InLine, InBraces, InWord, InQuotes, InStroke}
-use Rattle.pgn_book.specs.declared.stage.Stage.{Stage}
-use Rattle.pgn_book.specs.declared.stage.Stage.TheVariants.{Before, Tags, Opened, Named, Told, Moves}
+use Rattle.pgn_book.specs.declared.stage.GameStage.{GameStage}
+use Rattle.pgn_book.specs.declared.stage.GameStage.TheVariants.{Before, Tags, Opened, Named, Told, Moves}
 use Rattle.pgn_book.specs.Bytes.{is_space, spaces, is_digit, is_name_byte, is_word_byte}
 use Rattle.pgn_book.specs.Games.{Reads, is_result, position_of, without_praise}
 use Rattle.pgn_book.specs.Reading.{Book, no_book, game_of, Taken, goes, fails, gives, staged, passed_over, move_read, with_move, moved, told, worded, glyphed, took, Outcome, adding, State, state_at, piece_of, longer, silent, word_ended, step, step_in, resting, finished_in, read_from, first_state, Gone, with_given, gone, gone_both, adding_all}
@@ -40,7 +40,7 @@ leaves_if : (x : Bool) (a c : Taken) → LeavesNone a → LeavesNone c → Leave
 leaves_if true a c h g = h
 leaves_if false a c h g = g
 
-passed_leaves : (stage : Stage) (book : Book) → LeavesNone (passed_over stage book)
+passed_leaves : (stage : GameStage) (book : Book) → LeavesNone (passed_over stage book)
 passed_leaves Before book = inl refl
 passed_leaves Tags book = inl refl
 passed_leaves Opened book = inl refl
@@ -59,7 +59,7 @@ told_leaves book word =
     (leaves_if (nat_lt (length book.moves) 1200) (with_move book (move_read (position_of book.moves) (without_praise word))) fails
     (move_leaves book (move_read (position_of book.moves) (without_praise word))) (inl refl)))
 
-worded_leaves : (stage : Stage) (book : Book) (word : List ℕ) → LeavesNone (worded stage book word)
+worded_leaves : (stage : GameStage) (book : Book) (word : List ℕ) → LeavesNone (worded stage book word)
 worded_leaves Before book word = told_leaves book word
 worded_leaves Tags book word = told_leaves book word
 worded_leaves Opened book word =

@@ -12,9 +12,9 @@ use Rattle.pgn_book.specs.declared.game.PgnResult.{PgnResult}
 use Rattle.pgn_book.specs.declared.game.PgnResult.TheVariants.{White, Black, Draw, Open}
 use Rattle.pgn_book.specs.declared.game.PgnGame.{PgnGame}
 use Rattle.pgn_book.specs.declared.game.TagRow.{TagRow}
-use Rattle.pgn_book.specs.declared.stage.Stage.{Stage}
-use Rattle.pgn_book.specs.declared.stage.Stage.TheVariants.{Before, Tags, Opened, Named, Told, Moves}
-use Rattle.pgn_book.specs.declared.row.Row.{Row}
+use Rattle.pgn_book.specs.declared.stage.GameStage.{GameStage}
+use Rattle.pgn_book.specs.declared.stage.GameStage.TheVariants.{Before, Tags, Opened, Named, Told, Moves}
+use Rattle.pgn_book.specs.declared.tag_texts.TagTexts.{TagTexts}
 use Rattle.pgn_book.specs.declared.place.PlaceInText.{PlaceInText}
 use Rattle.pgn_book.specs.declared.place.PlaceInText.TheVariants.{Start, AfterOne, AfterTwo, Between, InLine, InBraces, InWord, InQuotes, InStroke}
 use Rattle.pgn_book.specs.Bytes.{is_among, is_space, is_digit, is_name_byte, is_word_byte}
@@ -24,11 +24,11 @@ use Rattle.pgn_book.specs.Games.{is_result, position_of, without_praise}
 -- ---- what has come of a game
 
 pub record Book : Type 0 where
-  pub stage : Stage
-  pub row : Row
+  pub stage : GameStage
+  pub row : TagTexts
   pub moves : List Move
 
-abbrev pub empty_row : Row
+abbrev pub empty_row : TagTexts
 empty_row = record { event = None; site = None; date = None; round = None; white = None; black = None }
 
 -- before a game
@@ -40,7 +40,7 @@ abbrev pub noted_as : List ℕ → List ℕ → List ℕ → Option (List ℕ) �
 noted_as key name text None = if bytes_eq name key then Some text else None
 noted_as key name text (Some first) = Some first
 
-abbrev pub noted : List ℕ → List ℕ → Row → Row
+abbrev pub noted : List ℕ → List ℕ → TagTexts → TagTexts
 noted name text row = record {
   event = noted_as (codes "Event") name text row.event;
   site = noted_as (codes "Site") name text row.site;
@@ -58,7 +58,7 @@ result_of word =
     else Open
 
 -- the texts of a game with that row
-abbrev pub tags_of : Row → TagRow
+abbrev pub tags_of : TagTexts → TagRow
 tags_of row = record {
   event = unwrap_or row.event (codes "?");
   site = unwrap_or row.site (codes "?");
@@ -90,26 +90,26 @@ abbrev pub gives : PgnGame → Taken
 gives g = record { given = Some g; on = Some no_book }
 
 -- the book at another stage
-abbrev pub staged : Stage → Book → Book
+abbrev pub staged : GameStage → Book → Book
 staged stage book = record { stage = stage; row = book.row; moves = book.moves }
 
-abbrev pub opened : Stage → Book → Taken
+abbrev pub opened : GameStage → Book → Taken
 opened Before book = goes (staged Opened book)
 opened Tags book = goes (staged Opened book)
 opened _ book = fails
 
-abbrev pub closed : Stage → Book → Taken
+abbrev pub closed : GameStage → Book → Taken
 closed Told book = goes (staged Tags book)
 closed _ book = fails
 
 -- a piece that is passed over begins the moves, if they haven't begun
-abbrev pub passed_over : Stage → Book → Taken
+abbrev pub passed_over : GameStage → Book → Taken
 passed_over Before book = goes (staged Moves book)
 passed_over Tags book = goes (staged Moves book)
 passed_over Moves book = goes book
 passed_over _ book = fails
 
-abbrev pub quoted : Stage → Book → List ℕ → Taken
+abbrev pub quoted : GameStage → Book → List ℕ → Taken
 quoted (Named name) book text =
     goes (record { stage = Told; row = noted name text book.row; moves = book.moves })
 quoted _ book text = fails
@@ -144,7 +144,7 @@ told book word =
     else if is_result word then gives (game_of book word)
     else moved book word
 
-abbrev pub worded : Stage → Book → List ℕ → Taken
+abbrev pub worded : GameStage → Book → List ℕ → Taken
 worded Before book word = told book word
 worded Tags book word = told book word
 worded Opened book word = named book word
@@ -192,7 +192,7 @@ adding (Some g) outcome = record { games = g ∷ outcome.games; whole = outcome.
 abbrev pub nothing_read : Outcome
 nothing_read = record { games = []; whole = false }
 
-abbrev pub is_before : Stage → Bool
+abbrev pub is_before : GameStage → Bool
 is_before Before = true
 is_before _ = false
 

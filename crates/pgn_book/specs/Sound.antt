@@ -5,8 +5,8 @@ use Rattle.chess_model.specs.declared.variant.Variant.TheVariants.{Chess}
 use Rattle.chess_model.specs.Allowed.{IsLegal}
 use Rattle.pgn_book.specs.declared.place.PlaceInText.{PlaceInText}
 use Rattle.pgn_book.specs.declared.place.PlaceInText.TheVariants.{InWord, InQuotes, InStroke}
-use Rattle.pgn_book.specs.declared.stage.Stage.{Stage}
-use Rattle.pgn_book.specs.declared.stage.Stage.TheVariants.{Moves}
+use Rattle.pgn_book.specs.declared.stage.GameStage.{GameStage}
+use Rattle.pgn_book.specs.declared.stage.GameStage.TheVariants.{Moves}
 use Rattle.pgn_book.specs.Lexing.{IsText}
 use Rattle.pgn_book.specs.Games.{on_board}
 use Rattle.pgn_book.specs.Reading.{Book, State}
@@ -28,7 +28,7 @@ pub record IsSoundBook (book : Book) : Type 0 where
   pub black : IsTextIfTold book.row.black
 
 -- words and texts stand outside of variations, and these stand in the moves; a text that has begun may stand in a tag
-abbrev pub IsSoundPlace : PlaceInText → ℕ → Stage → Type 0
+abbrev pub IsSoundPlace : PlaceInText → ℕ → GameStage → Type 0
 IsSoundPlace (InWord glyph word) depth stage = depth ≡ 0
 IsSoundPlace (InQuotes text) depth stage = (depth ≡ 0) × IsText text
 IsSoundPlace (InStroke text) depth stage = (depth ≡ 0) × IsText text

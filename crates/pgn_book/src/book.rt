@@ -1,15 +1,15 @@
 //! What has come of a game, a piece at a time.
 ghost use Rattle.std.specs.Prelude.{◌≡◌, true, [], ◌∷◌, ◌++◌, if◌then◌else◌, IfOk, IfSome, OnErr, OnOk, Option, Some, None};
 ghost use Rattle.chess_model.specs.Allowed.{Allowed};
-ghost use Rattle.pgn_book.specs.declared.stage.Stage.TheVariants.{Moves};
+ghost use Rattle.pgn_book.specs.declared.stage.GameStage.TheVariants.{Moves};
 ghost use Rattle.pgn_book.specs.Games.{is_result, position_of, without_praise};
 ghost use Rattle.pgn_book.specs.Reading.{Book, game_with, glyphed, is_before, move_read, moved, named, no_book, opened, closed, passed_over, quoted, result_of, signed, told, worded};
 ghost use Rattle.pgn_book.specs.Taking.{IsTaken, IsTakenSilently};
 
 use crate::bytes::{are_digits, is_name, without_praise};
 use crate::game::{PgnGame, PgnResult};
-use crate::row::{Row, copied};
-use crate::stage::Stage;
+use crate::stage::GameStage;
+use crate::tag_texts::{TagTexts, copied};
 use crate::text::Text;
 use chess_model::{MOST_HALVES, Move, Variant};
 use collections::Listed;
@@ -30,8 +30,8 @@ pub(crate) struct Read {
 /// The tags and the moves so far, with the position after these.
 #[derive(Drop)]
 pub(crate) struct Book {
-    stage: Stage,
-    row: Row,
+    stage: GameStage,
+    row: TagTexts,
     moves: Listed<Move>,
     position: Position,
 }
@@ -56,8 +56,8 @@ impl Book {
         ensures { result ≡ no_book }
     {
         Book {
-            stage: Stage::Before,
-            row: Row::new(),
+            stage: GameStage::Before,
+            row: TagTexts::new(),
             moves: Listed::new(alloc),
             position: Position::start(Variant::Chess),
         }
@@ -81,7 +81,7 @@ impl Book {
         ensures { result ≡ is_before self.now.stage }
     {
         match self.stage {
-            Stage::Before => true,
+            GameStage::Before => true,
             _ => false,
         }
     }
@@ -91,15 +91,15 @@ impl Book {
         ensures { IsTakenSilently result self.new (passed_over self.old.stage self.old) }
     {
         match self.stage {
-            Stage::Before => {
-                self.stage = Stage::Moves;
+            GameStage::Before => {
+                self.stage = GameStage::Moves;
                 true
             },
-            Stage::Tags => {
-                self.stage = Stage::Moves;
+            GameStage::Tags => {
+                self.stage = GameStage::Moves;
                 true
             },
-            Stage::Moves => true,
+            GameStage::Moves => true,
             _ => false,
         }
     }
@@ -121,8 +121,8 @@ impl Book {
     pub(crate) fn quote(&mut self, text: &Text) -> bool
         ensures { IsTakenSilently result self.new (quoted self.old.stage self.old text.now) }
     {
-        match mem::replace(&mut self.stage, Stage::Told) {
-            Stage::Named(name) => {
+        match mem::replace(&mut self.stage, GameStage::Told) {
+            GameStage::Named(name) => {
                 self.row.note(name.bytes(), text);
                 true
             },
@@ -149,10 +149,10 @@ impl Book {
         ensures unchanged { OnErr result (self.new ≡ self.old) }
     {
         match self.stage {
-            Stage::Before => self.tell(alloc, word.bytes()),
-            Stage::Tags => self.tell(alloc, word.bytes()),
-            Stage::Moves => self.tell(alloc, word.bytes()),
-            Stage::Opened => Ok(silent(self.name(word))),
+            GameStage::Before => self.tell(alloc, word.bytes()),
+            GameStage::Tags => self.tell(alloc, word.bytes()),
+            GameStage::Moves => self.tell(alloc, word.bytes()),
+            GameStage::Opened => Ok(silent(self.name(word))),
             _ => Ok(silent(false)),
         }
     }
@@ -161,12 +161,12 @@ impl Book {
         ensures { IsTakenSilently result self.new (opened self.old.stage self.old) }
     {
         match self.stage {
-            Stage::Before => {
-                self.stage = Stage::Opened;
+            GameStage::Before => {
+                self.stage = GameStage::Opened;
                 true
             },
-            Stage::Tags => {
-                self.stage = Stage::Opened;
+            GameStage::Tags => {
+                self.stage = GameStage::Opened;
                 true
             },
             _ => false,
@@ -177,8 +177,8 @@ impl Book {
         ensures { IsTakenSilently result self.new (closed self.old.stage self.old) }
     {
         match self.stage {
-            Stage::Told => {
-                self.stage = Stage::Tags;
+            GameStage::Told => {
+                self.stage = GameStage::Tags;
                 true
             },
             _ => false,
@@ -195,7 +195,7 @@ impl Book {
         if word.bytes() == b"FEN".as_slice() {
             return false;
         }
-        self.stage = Stage::Named(word.copy());
+        self.stage = GameStage::Named(word.copy());
         true
     }
 
@@ -220,10 +220,10 @@ impl Book {
         ensures unchanged { OnErr result (self.new ≡ self.old) }
     {
         let tags = self.row.tags(alloc)?;
-        self.row = Row::new();
+        self.row = TagTexts::new();
         let moves = self.moves.take();
         self.position = Position::start(Variant::Chess);
-        self.stage = Stage::Before;
+        self.stage = GameStage::Before;
         Ok(Read {
             game: Some(PgnGame {
                 tags,
@@ -279,7 +279,7 @@ impl Book {
         self.moves.push(kept)?;
         let made = *m;
         self.position.make(made);
-        self.stage = Stage::Moves;
+        self.stage = GameStage::Moves;
         Ok(())
     }
 }

@@ -17,10 +17,10 @@ mod laws;
 mod page;
 mod place;
 mod reader;
-mod row;
 mod scan;
 mod stage;
 mod stored;
+mod tag_texts;
 mod text;
 mod walk;
 

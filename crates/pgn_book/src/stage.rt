@@ -5,7 +5,7 @@ use crate::text::Text;
 
 /// Where the next piece stands in a game.
 #[derive(Drop)]
-pub(crate) enum Stage {
+pub(crate) enum GameStage {
     /// Before its first piece.
     Before,
     /// Behind a tag.
@@ -20,18 +20,18 @@ pub(crate) enum Stage {
     Moves,
 }
 
-impl Stage {
+impl GameStage {
     /// The same stage once more.
-    pub(crate) fn copy(&self) -> Stage
+    pub(crate) fn copy(&self) -> GameStage
         ensures { result ≡ self.now }
     {
         match self {
-            Stage::Before => Stage::Before,
-            Stage::Tags => Stage::Tags,
-            Stage::Opened => Stage::Opened,
-            Stage::Named(name) => Stage::Named(name.copy()),
-            Stage::Told => Stage::Told,
-            Stage::Moves => Stage::Moves,
+            GameStage::Before => GameStage::Before,
+            GameStage::Tags => GameStage::Tags,
+            GameStage::Opened => GameStage::Opened,
+            GameStage::Named(name) => GameStage::Named(name.copy()),
+            GameStage::Told => GameStage::Told,
+            GameStage::Moves => GameStage::Moves,
         }
     }
 }

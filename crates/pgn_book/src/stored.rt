@@ -6,7 +6,7 @@ ghost use Rattle.pgn_book.specs.Export.{IsExportable};
 ghost use Rattle.pgn_book.specs.Stored.{IsStoredChess, names_row, stored_text};
 
 use crate::game::{PgnGame, PgnResult, TagRow};
-use crate::row::copied;
+use crate::tag_texts::copied;
 use chess_model::{Move, Variant};
 use collections::Listed;
 use desk_boards::replays;

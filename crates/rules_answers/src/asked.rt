@@ -18,7 +18,7 @@ pub trait AskedBoard {
         ensures { result ≡ (position self.now).variant };
 
     /// Whose turn it is.
-    fn turn(&self) -> Colour
+    fn to_move(&self) -> Colour
         ensures { result ≡ (position self.now).to_move };
 
     /// The man on a square.

@@ -47,7 +47,7 @@ pub(crate) fn is_allowed<B: AskedBoard>(board: &B, m: &Move) -> bool
 fn is_origin<B: AskedBoard>(board: &B, w: &NamedWord, a: Square) -> bool
     ensures { IsTrue result ↔ IsOrigin (B.position board.now) w.now a }
 {
-    if !is_held_as_kind(board.turn(), w.kind, board.man_on(a)) {
+    if !is_held_as_kind(board.to_move(), w.kind, board.man_on(a)) {
         return false;
     }
     is_as_given(w.file, a.file()) && is_as_given(w.rank, a.rank())

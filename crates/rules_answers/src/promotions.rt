@@ -12,8 +12,8 @@ use chess_model::{Kind, Square};
 pub fn is_promotion<B: AskedBoard>(board: &B, from: Square, to: Square) -> bool
     ensures { result ≡ is_promotion (B.position board.now) from to }
 {
-    is_man_of(board.turn(), Kind::Pawn, board.man_on(from))
-        && to.rank() == last_rank_of(board.turn())
+    is_man_of(board.to_move(), Kind::Pawn, board.man_on(from))
+        && to.rank() == last_rank_of(board.to_move())
 }
 
 /// The promotion of a word's move: without a letter a queen, and none where no pawn is promoted.

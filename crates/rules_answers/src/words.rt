@@ -15,10 +15,10 @@ use chess_model::{Kind, Move, MoveWord, Rejection, Square};
 fn is_king_at_home<B: AskedBoard>(board: &B, s: Square) -> bool
     ensures { result ≡ is_king_at_home (B.position board.now) s }
 {
-    if !is_man_of(board.turn(), Kind::King, board.man_on(s)) {
+    if !is_man_of(board.to_move(), Kind::King, board.man_on(s)) {
         return false;
     }
-    s == home_of_king(board.rules(), board.turn()) && s.file() == 4
+    s == home_of_king(board.rules(), board.to_move()) && s.file() == 4
 }
 
 /// The castling, long or not, that two squares stand for, where the own king is at home on file e: `e1g1`,
@@ -82,7 +82,7 @@ fn squares_answer<B: AskedBoard>(
         to,
         promo: promotion_of(board, from, to, promo),
     };
-    if !is_held_by(board.turn(), board.man_on(from)) {
+    if !is_held_by(board.to_move(), board.man_on(from)) {
         return Err(Rejection::NoPiece);
     }
     if !board.goes(&m) {

@@ -15,7 +15,7 @@ impl AskedBoard for PlainBoard {
         self.variant
     }
 
-    fn turn(&self) -> Colour {
+    fn to_move(&self) -> Colour {
         self.to_move
     }
 

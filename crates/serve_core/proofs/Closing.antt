@@ -7,7 +7,7 @@ use Rattle.std.specs.List.{AllByRecursion}
 use Rattle.atomic_table.specs.Seated.{TableId}
 use Rattle.edge_traits.specs.Faults.{Rose}
 use Rattle.edge_traits.specs.Door.{DoorTale}
-use Rattle.edge_traits.specs.Pairs.{Table}
+use Rattle.edge_traits.specs.Pairs.{Records}
 use Rattle.histories.specs.History.{calls_of, state}
 use Rattle.turn_table.specs.declared.view.Joined.{Joined}
 use Rattle.turn_table.specs.Views.{In, joined_number}
@@ -46,7 +46,7 @@ use Rattle.serve_core.proofs.Turning.{may_end, turns_as}
 -- ---- the table
 
 -- a table that is told, and agreed, agrees with what was seen at the end, where no other session told orders as saved
-told_agreed : (parts opening : List Part) (before after : Option Table) (old new : RunnerState) → StaysAgreed before after old new → IsWhole old.opening → NoOthersSave old new → state_seen old ≡ opening → state_seen new ≡ parts
+told_agreed : (parts opening : List Part) (before after : Option Records) (old new : RunnerState) → StaysAgreed before after old new → IsWhole old.opening → NoOthersSave old new → state_seen old ≡ opening → state_seen new ≡ parts
     → IfSome before (λ table. AgreesIn table opening → TellsAgreed after parts)
 told_agreed parts opening None after old new stays whole none was is = tt
 told_agreed parts opening (Some before) None old new stays whole none was is = absurd stays

@@ -18,7 +18,7 @@ use Rattle.lobby_state.specs.declared.acts.LobbyAct.TheVariants.{InUse}
 use Rattle.lobby_state.specs.declared.acts.PairAct.{PairAct}
 use Rattle.lobby_state.specs.declared.acts.PairAct.TheVariants.{Accept, Clear, Play, Resume}
 use Rattle.lobby_state.specs.declared.desk_in_use.DeskInUse.{DeskInUse}
-use Rattle.lobby_state.specs.declared.game.Game.{Game}
+use Rattle.lobby_state.specs.declared.game.ListedGame.{ListedGame}
 use Rattle.lobby_state.specs.Acts.{lobby_answer, lobby_after}
 use Rattle.lobby_state.specs.Desks.{IsDesk}
 use Rattle.lobby_state.specs.InUse.{IsInUse, desks_in_use}
@@ -81,7 +81,7 @@ in_list : {T : Type 0} (x : T) (xs : List T) → Contains xs x → In x xs
 in_list x xs there = in_by x xs there.0 there.1 there.2
 
 -- the game that is listed for it has its serial
-listed_serial : (desk : DeskState) (game : Option GameState) (serial : ℕ) → desk.game ≡ game → serial_of desk ≡ Some serial → (listed : Game) × (game_of desk ≡ Some listed) × (listed.serial ≡ serial)
+listed_serial : (desk : DeskState) (game : Option GameState) (serial : ℕ) → desk.game ≡ game → serial_of desk ≡ Some serial → (listed : ListedGame) × (game_of desk ≡ Some listed) × (listed.serial ≡ serial)
 listed_serial desk None serial is s = absurd (let none : serial_of desk ≡ None = ap (λ (g : Option GameState). serial_of (record desk { game = g })) is in let both : None ≡ Some serial = sym none ∙ s in cc)
 listed_serial desk (Some g) serial is s =
     let own : serial_of desk ≡ Some g.serial = ap (λ (o : Option GameState). serial_of (record desk { game = o })) is in

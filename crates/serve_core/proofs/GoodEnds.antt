@@ -3,7 +3,7 @@ use Rattle.std.proofs.Common.{◌≡◌, ◌⊎◌, ℕ, ◌*◌, inl, inr, Bool
 use Rattle.std.specs.Prelude.{IfSome, Some, slice_get}
 use Rattle.std.specs.declared.option.Option.{Option}
 use Rattle.std.specs.declared.option.Option.TheVariants.{None}
-use Rattle.edge_traits.specs.Pairs.{Table}
+use Rattle.edge_traits.specs.Pairs.{Records}
 use Rattle.histories.specs.History.{Legal, state}
 use Rattle.histories.proofs.Histories.{legal_front, stays_whole, state-append}
 use Rattle.lobby_shelf.specs.declared.order.Order.{Order}
@@ -62,18 +62,18 @@ left_by steward.KeeperFault parts done left = absurd done
 left_by steward.Memory parts done left = absurd done
 
 -- a table that agrees holds all, where no order stands
-holds_all : (told : Option Table) (parts : List Part) → NoOrders parts → TellsAgreed told parts → HoldsAll told parts
+holds_all : (told : Option Records) (parts : List Part) → NoOrders parts → TellsAgreed told parts → HoldsAll told parts
 holds_all told parts none (table, is, agrees) = (
   table,
   is,
   λ lobby there key. sym (ap (λ (orders : List Order). table_with (held table) orders key) (none lobby there)) ∙ agrees lobby there key,
 )
 
-holds_by : (told : Option Table) (parts : List Part) (last : StewardEnd) → TellsAgreed told parts → NoOrders parts ⊎ (last ≡ steward.Done (most_answers * 16)) → HoldsAll told parts ⊎ (last ≡ steward.Done (most_answers * 16))
+holds_by : (told : Option Records) (parts : List Part) (last : StewardEnd) → TellsAgreed told parts → NoOrders parts ⊎ (last ≡ steward.Done (most_answers * 16)) → HoldsAll told parts ⊎ (last ≡ steward.Done (most_answers * 16))
 holds_by told parts last agrees (inl none) = inl (holds_all told parts none agrees)
 holds_by told parts last agrees (inr most) = inr most
 
-stores_by : (told told' : Option Table) (opening parts : List Part) (last : StewardEnd) → NoOrders parts ⊎ (last ≡ steward.Done (most_answers * 16)) → IfSome told (λ table. AgreesIn table opening → TellsAgreed told' parts)
+stores_by : (told told' : Option Records) (opening parts : List Part) (last : StewardEnd) → NoOrders parts ⊎ (last ≡ steward.Done (most_answers * 16)) → IfSome told (λ table. AgreesIn table opening → TellsAgreed told' parts)
     → IfSome told (λ table. AgreesIn table opening → HoldsAll told' parts ⊎ (last ≡ steward.Done (most_answers * 16)))
 stores_by None told' opening parts last left kept = tt
 stores_by (Some table) told' opening parts last left kept = λ agrees. holds_by told' parts last (kept agrees) left

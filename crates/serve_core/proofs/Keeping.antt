@@ -17,7 +17,7 @@ use Rattle.hall_core.specs.Passes.{IsJoined, PassState, divided, first_pass}
 use Rattle.link_core.specs.declared.link_end.LinkEnd.{LinkEnd}
 use Rattle.link_core.specs.declared.link_end.LinkEnd.TheVariants as link_end
 use Rattle.link_core.specs.ServedInPart.{WasServed}
-use Rattle.edge_traits.specs.Pairs.{Table}
+use Rattle.edge_traits.specs.Pairs.{Records}
 use Rattle.steward_core.specs.declared.turn.StewardEnd.{StewardEnd}
 use Rattle.serve_core.specs.declared.settle.Supply.{Supply}
 use Rattle.serve_core.specs.declared.settle.Supply.TheVariants.{Enough, Short}
@@ -131,7 +131,7 @@ module _ {C : Type 0} (shows : C → ℕ → Bool) (hall : TableId) (clock : C) 
     }
 
   -- a Quiet, and a turn of the steward
-  pub kept_quiet : (supply : Supply) (end : StewardEnd) (made : Supply) (before after : Option Table) (door door' : Option DoorTale) (pass new : PassState) (waiting : List (Due C)) → Underway shows hall clock supply door pass waiting
+  pub kept_quiet : (supply : Supply) (end : StewardEnd) (made : Supply) (before after : Option Records) (door door' : Option DoorTale) (pass new : PassState) (waiting : List (Due C)) → Underway shows hall clock supply door pass waiting
       → WhereTold door door' (λ before after. after ≡ record before { quiets = before.quiets + 1 }) → MadeTurn end made before after pass new → Underway shows hall clock (supply_then made supply) door' new waiting
   kept_quiet supply end made before after door door' pass new waiting k goes turn =
       let R : DoorTale → DoorTale → Type 0 = λ before after. after ≡ record before { quiets = before.quiets + 1 } in

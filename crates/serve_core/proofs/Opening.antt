@@ -8,7 +8,7 @@ use Rattle.std.proofs.KnownBytes.{Appends-trans}
 use Rattle.edge_traits.specs.Door.{DoorTale}
 use Rattle.edge_traits.specs.Faults.{Rose}
 use Rattle.edge_traits.specs.Keeper.{Stays}
-use Rattle.edge_traits.specs.Pairs.{Table}
+use Rattle.edge_traits.specs.Pairs.{Records}
 use Rattle.edge_traits.specs.Sink.{AppendsFront, OnWriteFailed, UnlessWriteFailed, Wrote}
 use Rattle.edge_traits.specs.declared.sink.Sent.{Sent}
 use Rattle.edge_traits.specs.declared.sink.Sent.TheVariants as sent
@@ -71,10 +71,10 @@ module _ (end : ServeEnd) (last : StewardEnd) (before mid later : Sheet) (none :
 
 -- ---- the table stayed at the load
 
-agrees_from : (told told' now : Option Table) (opening parts : List Part) → Stays told told' → IfSome told' (λ table. AgreesIn table opening → TellsAgreed now parts) → IfSome told (λ table. AgreesIn table opening → TellsAgreed now parts)
+agrees_from : (told told' now : Option Records) (opening parts : List Part) → Stays told told' → IfSome told' (λ table. AgreesIn table opening → TellsAgreed now parts) → IfSome told (λ table. AgreesIn table opening → TellsAgreed now parts)
 agrees_from None told' now opening parts stays p = tt
 agrees_from (Some table) None now opening parts stays p = absurd stays
-agrees_from (Some table) (Some table') now opening parts stays p = subst (λ (t : Table). AgreesIn t opening → TellsAgreed now parts) stays p
+agrees_from (Some table) (Some table') now opening parts stays p = subst (λ (t : Records). AgreesIn t opening → TellsAgreed now parts) stays p
 
 -- what was promised once the hall was open is promised from before the load on
 pub served_from : (shows : ℕ → Bool) (opening : List Part) (end : ServeEnd) (door : Option DoorTale) (before mid later : Sheet) (old loaded new : Store) (pass : PassState) → Appends before.written mid.written [] → mid.faults ≡ before.faults
@@ -95,7 +95,7 @@ first_part : (lobby : LobbyState) → slice_get (opened lobby) 0 ≡ Some (TheLo
 unfolding opened
 first_part lobby = refl
 
-loaded_agrees : (table : Table) (lobby : LobbyState) → IsAtOpening lobby → HasLoaded table lobby → AgreesIn table (opened lobby)
+loaded_agrees : (table : Records) (lobby : LobbyState) → IsAtOpening lobby → HasLoaded table lobby → AgreesIn table (opened lobby)
 loaded_agrees table lobby at loads other there key =
     let same : other ≡ lobby = one_lobby (opened lobby) other lobby there (first_part lobby) in
     let none : other.shelf.orders ≡ [] = ap (λ (l : LobbyState). l.shelf.orders) same ∙ at.no_orders in
@@ -103,7 +103,7 @@ loaded_agrees table lobby at loads other there key =
     ∙ sym (loads key)
     ∙ ap (λ (l : LobbyState). wanted_by l key) (sym same)
 
-agreed_by : (told now : Option Table) (lobby : LobbyState) (opening parts : List Part) → IsLoaded told lobby → opening ≡ opened lobby → IfSome told (λ table. AgreesIn table opening → TellsAgreed now parts) → IfSome told (λ table. TellsAgreed now parts)
+agreed_by : (told now : Option Records) (lobby : LobbyState) (opening parts : List Part) → IsLoaded told lobby → opening ≡ opened lobby → IfSome told (λ table. AgreesIn table opening → TellsAgreed now parts) → IfSome told (λ table. TellsAgreed now parts)
 agreed_by None now lobby opening parts loaded is p = tt
 agreed_by (Some table) now lobby opening parts loaded is p = p (subst (AgreesIn table) (sym is) (loaded_agrees table lobby loaded.opening loaded.holds))
 

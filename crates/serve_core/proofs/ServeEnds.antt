@@ -13,7 +13,7 @@ use Rattle.cmd_job.specs.declared.job.JobFail.{JobFail}
 use Rattle.cmd_job.specs.declared.job.JobFail.TheVariants as TheFail
 use Rattle.cmd_job.specs.Usage.{UsageEnds, usage_line}
 use Rattle.edge_traits.specs.Faults.{Rose}
-use Rattle.edge_traits.specs.Pairs.{Table}
+use Rattle.edge_traits.specs.Pairs.{Records}
 use Rattle.lobby_load.specs.BadRows.{IsGoodStore}
 use Rattle.lobby_load.specs.Telling.{IsFirstBad, Tells, bad_record_line}
 use Rattle.lobby_load.specs.declared.refusals.StoreFault.{StoreFault}
@@ -146,7 +146,7 @@ status_told end (inr e) = inr (ap status_of e)
 -- ---- a call that opened a hall, or none
 
 -- a table with a bad key is no good store
-pub first_bad : (told : Option Table) (key : List ℕ) → IsFirstBad told key → IfSome told (λ table. IsGoodStore table → ⊥)
+pub first_bad : (told : Option Records) (key : List ℕ) → IsFirstBad told key → IfSome told (λ table. IsGoodStore table → ⊥)
 first_bad None key first = tt
 first_bad (Some table) key first = λ good. good.none_bad key first.bad
 

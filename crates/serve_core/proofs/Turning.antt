@@ -3,7 +3,7 @@ use Rattle.std.proofs.Common.{◌≡◌, ℕ, zero, suc, ◌+◌, ◌≤◌, ◌
 use Rattle.std.specs.declared.option.Option.{Option}
 use Rattle.std.specs.declared.option.Option.TheVariants.{None, Some}
 use Rattle.edge_traits.specs.Faults.{Rose}
-use Rattle.edge_traits.specs.Pairs.{Table}
+use Rattle.edge_traits.specs.Pairs.{Records}
 use Rattle.lobby_shelf.specs.declared.order.Order.{Order}
 use Rattle.lobby_state.specs.declared.desk_in_use.DeskInUse.{DeskInUse}
 use Rattle.one_server.specs.declared.act.Timed.{Timed}
@@ -218,7 +218,7 @@ module _ (lack : Type 0) where
 
 -- ---- a turn that the first pass made
 
-module _ (end : StewardEnd) (supply : Supply) (before after : Option Table) (old new : PassState) (turn : MadeTurn end supply before after old new) where
+module _ (end : StewardEnd) (supply : Supply) (before after : Option Records) (old new : PassState) (turn : MadeTurn end supply before after old new) where
   pub turn_home : new.home ≡ old.home
   turn_home = ap (λ (p : Fixed). p.hall) turn.shared
 
@@ -246,7 +246,7 @@ short_end clearing.Done end e = subst (λ (x : StewardEnd). supply_in clearing.D
 short_clearing : (cleared : ClearingEnd) (end : StewardEnd) → cleared ≡ clearing.Memory → supply_in cleared end ≡ Short
 short_clearing cleared end e = subst (λ (x : ClearingEnd). supply_in x end ≡ Short) (sym e) refl
 
-pub made_halves : (moment : ℕ) (cleared : ClearingEnd) (end : StewardEnd) (before after : Option Table) (old new : PassState) → fixed_of new ≡ fixed_of old → (t : TakesTurn moment end before after (runs_of old) (runs_of new))
+pub made_halves : (moment : ℕ) (cleared : ClearingEnd) (end : StewardEnd) (before after : Option Records) (old new : PassState) → fixed_of new ≡ fixed_of old → (t : TakesTurn moment end before after (runs_of old) (runs_of new))
     → t.turn.cleared ≡ cleared → StaysAgreed before after (runs_of old) (runs_of new) → MadeTurn end (supply_in cleared end) before after old new
 made_halves moment cleared end before after old new shared t is agrees = record {
   moment = moment;

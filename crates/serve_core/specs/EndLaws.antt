@@ -2,7 +2,7 @@
 use Rattle.std.specs.Prelude.{◌≡◌, ◌⊎◌, ℕ, ◌*◌, Bool, List, Some, slice_get, IfSome}
 use Rattle.std.specs.declared.option.Option.{Option}
 use Rattle.edge_traits.specs.Door.{DoorTale}
-use Rattle.edge_traits.specs.Pairs.{Table}
+use Rattle.edge_traits.specs.Pairs.{Records}
 use Rattle.histories.specs.History.{state}
 use Rattle.linked_desk.specs.declared.ended.Ended.{Ended}
 use Rattle.linked_desk.specs.Desk.{DeskState, end_of, viewer_count}
@@ -58,8 +58,8 @@ LeavesNoGame =
     OfEveryServer (λ end last old new pass. IsClean end → NoneLeftOver (state house pass.opening pass.seen))
 
 -- the table holds the accounts and the games on the shelf of the state's lobby, each under its key, and nothing else
-abbrev pub HoldsAll : Option Table → List Part → Type 0
-HoldsAll told parts = (table : Table) × (told ≡ Some table)
+abbrev pub HoldsAll : Option Records → List Part → Type 0
+HoldsAll told parts = (table : Records) × (told ≡ Some table)
     × ((lobby : LobbyState) → slice_get parts 0 ≡ Some (TheLobby lobby)
     → (key : List ℕ) → held table key ≡ wanted_by lobby key)
 

@@ -3,7 +3,7 @@ use Rattle.std.specs.Prelude.{◌≡◌, Err, IfSome}
 use Rattle.std.specs.declared.option.Option.{Option}
 use Rattle.edge_traits.specs.Faults.{Rose}
 use Rattle.edge_traits.specs.Keeper.{Stays}
-use Rattle.edge_traits.specs.Pairs.{Table}
+use Rattle.edge_traits.specs.Pairs.{Records}
 use Rattle.lobby_load.specs.BadRows.{IsGoodStore}
 use Rattle.lobby_load.specs.Loaded.{AreSpelled, HasLoaded, IsAtOpening}
 use Rattle.lobby_load.specs.Refused.{UnlessUnwritten}
@@ -15,7 +15,7 @@ use Rattle.serve_core.specs.Outside.{Sheet, Store}
 
 -- the lobby was loaded from a store: nobody is there and no save order stands; and it holds what the store holds, where
 -- this tells its table, which is then a good one
-pub record IsLoaded (told : Option Table) (lobby : LobbyState) : Type 0 where
+pub record IsLoaded (told : Option Records) (lobby : LobbyState) : Type 0 where
   pub opening : IsAtOpening lobby
   pub spelled : AreSpelled lobby
   pub holds : IfSome told (λ table. HasLoaded table lobby)

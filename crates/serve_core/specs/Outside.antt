@@ -1,7 +1,7 @@
 -- A sink and a keeper at a time: what each tells, where it tells, and how many faults it has counted.
 use Rattle.std.specs.Prelude.{ℕ, List}
 use Rattle.std.specs.declared.option.Option.{Option}
-use Rattle.edge_traits.specs.Pairs.{Table}
+use Rattle.edge_traits.specs.Pairs.{Records}
 
 -- a sink: what it was written
 pub record Sheet : Type 0 where
@@ -10,5 +10,5 @@ pub record Sheet : Type 0 where
 
 -- a keeper: its table
 pub record Store : Type 0 where
-  pub table : Option Table
+  pub table : Option Records
   pub faults : ℕ

@@ -3,7 +3,7 @@
 use Rattle.std.specs.Prelude.{◌≡◌, ℕ, ◌<◌, ◌≤◌, Bool, true, List, [], length, Some, slice_get, IfSome}
 use Rattle.std.specs.declared.option.Option.{Option}
 use Rattle.edge_traits.specs.Door.{DoorTale}
-use Rattle.edge_traits.specs.Pairs.{Table}
+use Rattle.edge_traits.specs.Pairs.{Records}
 use Rattle.histories.specs.History.{calls_of, Legal, state}
 use Rattle.lobby_state.specs.Lobby.{LobbyState}
 use Rattle.lobby_store.specs.Agreeing.{AgreesWith}
@@ -47,17 +47,17 @@ pub record EachHadSession (shows : ℕ → Bool) (door : Option DoorTale) (pass 
   pub back : IfSome door (λ tale. length tale.back ≡ pass.splits)
 
 -- the table agrees with the lobby of this state
-abbrev pub AgreesIn : Table → List Part → Type 0
+abbrev pub AgreesIn : Records → List Part → Type 0
 AgreesIn table parts =
     (lobby : LobbyState) → slice_get parts 0 ≡ Some (TheLobby lobby) → AgreesWith (held table) lobby
 
 -- the keeper goes on telling its table, and this agrees with the lobby of the state
-abbrev pub TellsAgreed : Option Table → List Part → Type 0
-TellsAgreed told parts = (table : Table) × (told ≡ Some table) × AgreesIn table parts
+abbrev pub TellsAgreed : Option Records → List Part → Type 0
+TellsAgreed told parts = (table : Records) × (told ≡ Some table) × AgreesIn table parts
 
 -- the store: where the keeper tells its table, and this agreed with the lobby of the opening state, it agrees with that
 -- of the state of the whole history
-abbrev pub KeepsAgreed : Option Table → Option Table → PassState → Type 0
+abbrev pub KeepsAgreed : Option Records → Option Records → PassState → Type 0
 KeepsAgreed old new pass =
     IfSome old (λ table. AgreesIn table pass.opening → TellsAgreed new (state house pass.opening pass.seen))
 

@@ -1,7 +1,7 @@
 -- The turns of the steward that the door's thread makes, one by one.
 use Rattle.std.specs.Prelude.{◌≡◌, ℕ}
 use Rattle.std.specs.declared.option.Option.{Option}
-use Rattle.edge_traits.specs.Pairs.{Table}
+use Rattle.edge_traits.specs.Pairs.{Records}
 use Rattle.hall_core.specs.Passes.{HasLooked, PassState, fixed_of, runs_of}
 use Rattle.steward_core.specs.Agreement.{StaysAgreed}
 use Rattle.steward_core.specs.Turn.{TakesTurn}
@@ -14,7 +14,7 @@ use Rattle.serve_core.specs.declared.settle.Supply.TheVariants.{Enough, Short}
 
 -- the first pass made a turn of the steward, at some moment, over a keeper that told this table before and that one
 -- after; and it is known whether memory ran out in it
-pub record MadeTurn (end : StewardEnd) (supply : Supply) (before after : Option Table) (old new : PassState) : Type 0
+pub record MadeTurn (end : StewardEnd) (supply : Supply) (before after : Option Records) (old new : PassState) : Type 0
   where
     pub moment : ℕ
     pub shared : fixed_of new ≡ fixed_of old
@@ -37,7 +37,7 @@ supply_then Short before = Short
 supply_then Enough before = before
 
 -- the last turn: the pass looked at the history, made a turn, and looked again
-pub record TurnsLast (end : StewardEnd) (supply : Supply) (before after : Option Table) (old new : PassState) : Type 0
+pub record TurnsLast (end : StewardEnd) (supply : Supply) (before after : Option Records) (old new : PassState) : Type 0
   where
     pub first : PassState
     pub mid : PassState

@@ -99,14 +99,14 @@ item_text style seat (Talk line) = line ++ line_end
 item_text style seat (End view why winner on_own) = end_text view why winner on_own ++ line_end
 
 -- whether a board shows that the viewer plays and is to move: style 12's relation 1
-abbrev pub is_own_turn : ℤ → Bool
-is_own_turn (pos (suc zero)) = true
-is_own_turn _ = false
+abbrev pub is_to_move : ℤ → Bool
+is_to_move (pos (suc zero)) = true
+is_to_move _ = false
 
 -- on a stamped link the client is asked to acknowledge each board that shows its own turn, by `[G]` and a zero byte
 abbrev pub asks_back : LinkMark → Option ℕ → Item → List ℕ
 asks_back Stamped seat (Board view) =
-    if is_own_turn (sight seat (board_in view.game) view.face.to_move).relation
+    if is_to_move (sight seat (board_in view.game) view.face.to_move).relation
     then codes "[G]" ++ 0 ∷ []
     else []
 asks_back _ seat _ = []

@@ -2,7 +2,7 @@
 ghost use Rattle.std.specs.Prelude.{◌≡◌, ◌<◌, ◌++◌, [], All, OnOk, codes, decimal, length, slice_index_or};
 ghost use Rattle.linked_desk.specs.Sound.{NamesWinner};
 ghost use Rattle.one_server.specs.Replies.{IsReply};
-ghost use Rattle.session_core.specs.Texts.{asked_line, asks_back, board_text, done_line, entered_line, is_own_turn};
+ghost use Rattle.session_core.specs.Texts.{asked_line, asks_back, board_text, done_line, entered_line, is_to_move};
 ghost use Rattle.session_core.specs.Texts.{item_text, items_text, line_end, lines_text, list_text, news_text, number_line};
 ghost use Rattle.session_core.specs.Texts.{prompt_of, refusal_line, reply_text, shown_text, told_line, waiting_text};
 
@@ -252,15 +252,15 @@ fn ask_back(
     let Item::Board(view) = item else {
         return Ok(());
     };
-    if is_own_turn(viewer_of(seat, view).relation) {
+    if is_to_move(viewer_of(seat, view).relation) {
         out.extend_from_slice(b"[G]\0")?;
     }
     Ok(())
 }
 
 /// Whether a board shows that the viewer plays and is to move.
-fn is_own_turn(relation: i8) -> bool
-    ensures { result ≡ is_own_turn relation }
+fn is_to_move(relation: i8) -> bool
+    ensures { result ≡ is_to_move relation }
 {
     match relation {
         1 => true,

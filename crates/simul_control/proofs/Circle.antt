@@ -1,8 +1,8 @@
 -- Turns in a circle of places: back again, and all the way round.
 use Rattle.std.proofs.Common.{◌≡◌, ℕ, ◌+◌, ◌-◌, ◌<◌, ◌≤◌, zero, suc, cond, ap, refl, ◌∙◌, inl, inr, arith}
 use Rattle.std.proofs.lemmas.Bool.{cases_lt, lt-ltb, le-ltb, ne_eqb}
-use Rattle.simul_control.specs.declared.way.Way.{Way}
-use Rattle.simul_control.specs.declared.way.Way.TheVariants.{Next, Previous}
+use Rattle.simul_control.specs.declared.direction.Direction.{Direction}
+use Rattle.simul_control.specs.declared.direction.Direction.TheVariants.{Next, Previous}
 use Rattle.simul_control.specs.Laws.{turned_often}
 use Rattle.simul_control.specs.Places.{turned_from}
 
@@ -72,7 +72,7 @@ under (suc turns) count (suc at) h most past =
     ap (turned_often turns Previous count) (previous_inside count (suc at) (omega arith) ∙ less) ∙ under turns count at (omega arith) (omega arith) (omega arith) ∙ same
 
 -- as many turns as there are places
-pub round : (count at : ℕ) → at ≤ count - 1 → (way : Way) → turned_often count way count at ≡ at
+pub round : (count at : ℕ) → at ≤ count - 1 → (way : Direction) → turned_often count way count at ≡ at
 round zero at h way = refl
 round (suc count) at h Next =
     let same : at + suc count - suc count ≡ at = omega arith in

@@ -6,8 +6,8 @@ use Rattle.fics_words.specs.Effect.{Effect, first_cause, state_of}
 use Rattle.fics_words.specs.declared.refusal.Refusal.{Refusal}
 use Rattle.fics_words.specs.declared.refusal.Refusal.TheVariants.{NotGiving, Playing, SimulFull}
 use Rattle.simul_control.specs.declared.place.Place.{Place}
-use Rattle.simul_control.specs.declared.way.Way.{Way}
-use Rattle.simul_control.specs.declared.way.Way.TheVariants.{Next, Previous}
+use Rattle.simul_control.specs.declared.direction.Direction.{Direction}
+use Rattle.simul_control.specs.declared.direction.Direction.TheVariants.{Next, Previous}
 use Rattle.simul_control.specs.Desks.{IsDesk}
 
 -- whether the player gives a simul; and its places in the order in which they came, of which `at` counts the present
@@ -79,7 +79,7 @@ abbrev pub present_at : ℕ → PlaceList → PlaceList
 present_at at places = record places { at = at }
 
 -- the number of the next or the previous place in a circle of so many: the first follows the last
-abbrev pub turned_from : Way → ℕ → ℕ → ℕ
+abbrev pub turned_from : Direction → ℕ → ℕ → ℕ
 turned_from Next count at = cond (nat_lt (at + 1) count) (at + 1) 0
 turned_from Previous count at = cond (at == 0) (count - 1) (at - 1)
 
@@ -88,7 +88,7 @@ abbrev pub gives_nowhere : PlaceList → Bool
 gives_nowhere places = not places.giving || (length places.rows == 0)
 
 -- turning to the next or the previous place: refused where there is no board of a simul
-abbrev pub turning : Way → PlaceList → Effect PlaceList (Unit {0})
+abbrev pub turning : Direction → PlaceList → Effect PlaceList (Unit {0})
 turning way places = record {
   causes = (gives_nowhere places, NotGiving) ∷ [];
   memory = false;

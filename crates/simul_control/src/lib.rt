@@ -6,12 +6,12 @@
 //! the place where they began, and a turn back undoes a turn on.
 #![tactic(auto)]
 
+mod direction;
 mod laws;
 mod place;
 mod places;
-mod way;
 
+pub use direction::Direction;
 pub use laws::{turns_come_round, ways_undo_each_other};
 pub use place::Place;
 pub use places::Places;
-pub use way::Way;

@@ -3,8 +3,8 @@ ghost use Rattle.std.specs.Prelude.{◌≡◌, ◌-◌, ◌<◌, ◌≤◌, IfSo
 ghost use Rattle.simul_control.specs.Desks.{IsDesk};
 ghost use Rattle.simul_control.specs.Places.{AreAtDesks, is_elsewhere, is_other, most_at_switch, turned_from};
 
+use crate::direction::Direction;
 use crate::place::Place;
-use crate::way::Way;
 use fics_words::Refusal;
 use std::marker::Model;
 use std::mem::size_of;
@@ -171,7 +171,7 @@ impl Places {
 
     /// Turns to the next or the previous place, in a circle. Refuses with `NotGiving` where the player gives no simul,
     /// or has no place.
-    pub fn turn(&mut self, way: Way) -> Result<(), Refusal>
+    pub fn turn(&mut self, way: Direction) -> Result<(), Refusal>
         ensures { Makes (turning way self.old) self.old self.new result }
     {
         if self.gives_nowhere() {
@@ -237,19 +237,19 @@ fn most_at_switch(giving: bool) -> usize
 }
 
 /// The number of the next or the previous place in a circle of so many.
-fn turned_from(way: Way, count: usize, at: usize) -> usize
+fn turned_from(way: Direction, count: usize, at: usize) -> usize
     requires { at < count }
     ensures turned { result ≡ turned_from way count at }
     ensures within { result < count }
 {
     match way {
-        Way::Next => {
+        Direction::Next => {
             if at + 1 < count {
                 return at + 1;
             }
             0
         }
-        Way::Previous => {
+        Direction::Previous => {
             if at == 0 {
                 return count - 1;
             }

@@ -3,7 +3,7 @@ use Rattle.std.proofs.Common.{◌≡◌, ℕ, ◌+◌, ◌<◌, ◌≤◌, ◌==
 use Rattle.std.specs.Prelude.{nat_lt}
 use Rattle.std.specs.List.{AllByRecursion}
 use Rattle.std.proofs.lemmas.Bool.{eqb-false, lt-ltb, le-ltb}
-use Rattle.edge_traits.specs.Pairs.{Table}
+use Rattle.edge_traits.specs.Pairs.{Records}
 use Rattle.lobby_shelf.specs.Facts.{IsShelf, OrdersRise}
 use Rattle.lobby_shelf.specs.Shelf.{saved}
 use Rattle.lobby_shelf.specs.Wanted.{StoreMap as Records, table_with}
@@ -34,8 +34,8 @@ use Rattle.steward_core.specs.declared.clearing.ClearingEnd.TheVariants as clear
 use Rattle.steward_core.proofs.DesksCleared.{some_cleared}
 use Rattle.steward_core.specs.Saving.{SavesTold, TellsUpTo, last_number, says_saved}
 use Rattle.steward_core.specs.declared.saving.SaveRound.{SaveRound}
-use Rattle.steward_core.specs.declared.saving.Told.{Told}
-use Rattle.steward_core.specs.declared.saving.Told.TheVariants as told
+use Rattle.steward_core.specs.declared.saving.SavedTold.{SavedTold}
+use Rattle.steward_core.specs.declared.saving.SavedTold.TheVariants as told
 use Rattle.steward_core.proofs.OrdersTold.{StandFirst}
 use Rattle.steward_core.proofs.StatesLead.{leads_log, one_lobby, put_lobby}
 
@@ -115,7 +115,7 @@ whole_seen : (it : RunnerState) → IsWhole it.opening → IsKnown it → IsWhol
 whole_seen it whole known = stays_whole house house_lawful it.opening it.seen whole known.legal
 
 -- acts that tell no orders as saved
-agrees_gained : (table : Table) (old new : RunnerState) (entries : Log) → IsWhole old.opening → IsKnown old → Made old entries new → AllByRecursion NotSaved entries
+agrees_gained : (table : Records) (old new : RunnerState) (entries : Log) → IsWhole old.opening → IsKnown old → Made old entries new → AllByRecursion NotSaved entries
     → NoOthersSave old new → AgreesSeen table old → AgreesSeen table new
 agrees_gained table old new entries whole known made unsaved none agreed lobby there =
     let quiet = not_saved old.number none.gained (subst (AllByRecursion NotSaved) (sym (calls_gained old new entries made known none.gained none.is)) unsaved) none.none in
@@ -123,7 +123,7 @@ agrees_gained table old new entries whole known made unsaved none agreed lobby t
     let same = one_lobby (state house (state_seen old) none.gained) lobby r.new (ap (λ (l : List Part). slice_get l 0) (sym (state_gained old new entries made none.gained none.is)) ∙ there) r.there_now in
     subst (AgreesWith (held table)) (sym same) (r.leads.agrees (held table) (agreed r.old r.there))
 
-pub agreed_unsaved : (table : Option Table) (old new : RunnerState) (entries : Log) → IsKnown old → Made old entries new → AllByRecursion NotSaved entries
+pub agreed_unsaved : (table : Option Records) (old new : RunnerState) (entries : Log) → IsKnown old → Made old entries new → AllByRecursion NotSaved entries
     → StaysAgreed table table old new
 agreed_unsaved None old new entries known made unsaved = tt
 agreed_unsaved (Some table) old new entries known made unsaved = λ whole none agreed. agrees_gained table old new entries whole known made unsaved none agreed
@@ -139,7 +139,7 @@ split_none old mid new same p q none =
       record { gained = q.0; is = sym q.1; none = subst (λ (n : ℕ). AllByRecursion (IsNoOthers n) q.0) (sym same) (all_back (IsNoOthers old.number) p.0 q.0 all) },
     )
 
-pub agreed_then : (t0 t1 t2 : Option Table) (s0 s1 s2 : RunnerState) (one two : Log) → Made s0 one s1 → Made s1 two s2
+pub agreed_then : (t0 t1 t2 : Option Records) (s0 s1 s2 : RunnerState) (one two : Log) → Made s0 one s1 → Made s1 two s2
     → StaysAgreed t0 t1 s0 s1 → StaysAgreed t1 t2 s1 s2 → StaysAgreed t0 t2 s0 s2
 agreed_then None t1 t2 s0 s1 s2 one two m n p q = tt
 agreed_then (Some t0) None t2 s0 s1 s2 one two m n p q = absurd p
@@ -197,7 +197,7 @@ saved_prefix t0 t1 lobby first rest upto shelf is last holds agreed key =
     ∙ ap (λ (orders : List Order). table_with t0 orders key) (sym is)
     ∙ agreed key
 
-module _ (moment : ℕ) (orders carried left : List Order) (before after_all : Table) (old new : RunnerState) (known : IsKnown old) (whole : IsWhole old.opening)
+module _ (moment : ℕ) (orders carried left : List Order) (before after_all : Records) (old new : RunnerState) (known : IsKnown old) (whole : IsWhole old.opening)
     (all : orders ≡ carried ++ left) (first : StandFirst orders (state_seen old)) (holds : (key : List ℕ) → held after_all key ≡ table_with (held before) carried key)
     (agreed : AgreesSeen before old) where
   stand : (lobby : LobbyState) → slice_get (state_seen old) 0 ≡ Some (TheLobby lobby) → (more : List Order) × (lobby.shelf.orders ≡ carried ++ more)
@@ -237,13 +237,13 @@ module _ (moment : ℕ) (orders carried left : List Order) (before after_all : T
       subst (AgreesWith (held after_all)) (sym found)
       (saved_prefix (held before) (held after_all) r.new carried (more.0 ++ r.leads.more) upto shelf orders_now last holds (r.leads.agrees (held before) (agreed r.old r.there)))
 
-  agreed_tells : (upto : Option ℕ) (said : Told) → last_number carried ≡ upto → TellsUpTo moment upto said old new → NoOthersSave old new → AgreesSeen after_all new
+  agreed_tells : (upto : Option ℕ) (said : SavedTold) → last_number carried ≡ upto → TellsUpTo moment upto said old new → NoOthersSave old new → AgreesSeen after_all new
   agreed_tells None said last t none = subst (AgreesSeen after_all) (sym t.1) agreed_put
   agreed_tells (Some upto) told.Done last t none = agreed_said upto t.0 last t.1 none
   agreed_tells (Some upto) told.Memory last t none = agrees_gained after_all old new [] whole known t tt none agreed_put
 
 -- orders that were told are carried out and told as saved
-pub told_agrees : (moment : ℕ) (end : SaveRound) (orders : List Order) (before after_all : Option Table) (old new : RunnerState) → IsKnown old
+pub told_agrees : (moment : ℕ) (end : SaveRound) (orders : List Order) (before after_all : Option Records) (old new : RunnerState) → IsKnown old
     → SavesTold moment end orders before after_all old new → StandFirst orders (state_seen old) → StaysAgreed before after_all old new
 told_agrees moment end orders None after_all old new known s first = tt
 told_agrees moment end orders (Some before) None old new known s first = absurd s.table
@@ -251,7 +251,7 @@ told_agrees moment end orders (Some before) (Some after_all) old new known s fir
     agreed_tells moment orders s.carried s.left before after_all old new known whole s.all first s.table agreed (last_number s.carried) s.said refl s.tells none
 
 -- nothing at all
-pub agreed_still : (table : Option Table) (it : RunnerState) → StaysAgreed table table it it
+pub agreed_still : (table : Option Records) (it : RunnerState) → StaysAgreed table table it it
 agreed_still None it = tt
 agreed_still (Some table) it = λ whole none agreed. agreed
 

@@ -1,7 +1,7 @@
 -- Rounds of save orders, one after another.
 use Rattle.std.proofs.Common.{◌≡◌, ℕ, ◌+◌, ◌*◌, ◌<◌, ◌≤◌, zero, suc, inl, inr, Bool, true, false, cond, List, [], ◌∷◌, ◌++◌, Option, None, Some, length, refl, sym, ap, subst, ◌∙◌, append-nil, length-append, arith, ◌⊎◌, ◌==◌, ◌^◌, ◌-◌}
 use Rattle.std.proofs.lemmas.Bool.{eqb-true, eqb-false}
-use Rattle.edge_traits.specs.Pairs.{Table}
+use Rattle.edge_traits.specs.Pairs.{Records}
 use Rattle.edge_traits.specs.declared.keeper.Kept.{Kept}
 use Rattle.edge_traits.specs.declared.keeper.Kept.TheVariants as kept
 use Rattle.lobby_shelf.specs.declared.order.Order.{Order}
@@ -16,24 +16,24 @@ use Rattle.steward_core.specs.Clearing.{acts_of}
 use Rattle.steward_core.specs.Saving.{AreFullRounds, EndsRound, EndsSaving, IsCutShort, IsSaveRound, LeavesOne, RunsRound, SavesTold, TakesSaving, TellsUpTo, asks_orders, last_number, orders_in, round_of, says_saved, tells_upto}
 use Rattle.steward_core.specs.declared.saving.SaveRound.{SaveRound}
 use Rattle.steward_core.specs.declared.saving.SaveRound.TheVariants as round
-use Rattle.steward_core.specs.declared.saving.Told.{Told}
-use Rattle.steward_core.specs.declared.saving.Told.TheVariants as told
+use Rattle.steward_core.specs.declared.saving.SavedTold.{SavedTold}
+use Rattle.steward_core.specs.declared.saving.SavedTold.TheVariants as told
 use Rattle.steward_core.specs.declared.turn.StewardEnd.{StewardEnd}
 use Rattle.steward_core.specs.declared.turn.StewardEnd.TheVariants.{Done, KeeperFault, Memory}
 use Rattle.steward_core.proofs.DesksCleared.{made_none, made_then}
 
 -- so many full rounds were run
-pub record HasSaved (moment rounds : ℕ) (before after : Option Table) (old new : RunnerState) : Type 0 where
+pub record HasSaved (moment rounds : ℕ) (before after : Option Records) (old new : RunnerState) : Type 0 where
   pub entries : Log
   pub carried : List Order
   pub grew : Made old entries new
   pub full : AreFullRounds moment rounds entries carried
   pub kept : Carries before after carried
 
-pub none_saved : (moment : ℕ) (table : Option Table) (old : RunnerState) → IsKnown old → HasSaved moment 0 table table old old
+pub none_saved : (moment : ℕ) (table : Option Records) (old : RunnerState) → IsKnown old → HasSaved moment 0 table table old old
 none_saved moment table old known = record { entries = []; carried = []; grew = made_none old known; full = (refl, refl); kept = carries_none table }
 
-module _ (moment rounds : ℕ) (before mid after : Option Table) (old between new : RunnerState) (so_far : HasSaved moment rounds before mid old between) where
+module _ (moment rounds : ℕ) (before mid after : Option Records) (old between new : RunnerState) (so_far : HasSaved moment rounds before mid old between) where
   grown : (entries : Log) → Made between entries new → Made old (so_far.entries ++ entries) new
   grown entries grew = made_then old between new so_far.entries entries so_far.grew grew
 
@@ -72,7 +72,7 @@ module _ (moment rounds : ℕ) (before mid after : Option Table) (old between ne
   ended_short r = ended Memory r.entries r.carried r.grew r.ends tt r.kept
 
 -- the most rounds
-pub ended_most : (moment rounds : ℕ) (before after : Option Table) (old new : RunnerState) → rounds ≡ 2 ^ 28 - 1 → HasSaved moment rounds before after old new
+pub ended_most : (moment rounds : ℕ) (before after : Option Records) (old new : RunnerState) → rounds ≡ 2 ^ 28 - 1 → HasSaved moment rounds before after old new
     → TakesSaving moment (Done (rounds * 16)) before after old new
 ended_most moment rounds before after old new most s = record {
   entries = s.entries;
@@ -85,15 +85,15 @@ ended_most moment rounds before after old new most s = record {
 -- ---- one round
 
 -- what telling made, and whether it was made
-abbrev pub Said : ℕ → Option ℕ → Told → RunnerState → RunnerState → Type 0
+abbrev pub Said : ℕ → Option ℕ → SavedTold → RunnerState → RunnerState → Type 0
 Said moment upto said old new = (entries : Log) × Made old entries new × ((said ≡ told.Done → acts_of entries ≡ tells_upto moment upto) × (said ≡ told.Memory → entries ≡ []))
 
-pub said_made : (moment : ℕ) (upto : Option ℕ) (said : Told) (old new : RunnerState) → IsKnown old → TellsUpTo moment upto said old new → Said moment upto said old new
+pub said_made : (moment : ℕ) (upto : Option ℕ) (said : SavedTold) (old new : RunnerState) → IsKnown old → TellsUpTo moment upto said old new → Said moment upto said old new
 said_made moment None said old new known t = ([], subst (λ (s : RunnerState). Made old [] s) (sym t.1) (made_none old known), (λ _. refl, λ _. refl))
 said_made moment (Some upto) told.Done old new known t = (entry old.number (says_saved moment upto) t.0 ∷ [], t.1.grew, (λ _. refl, λ bad. cc))
 said_made moment (Some upto) told.Memory old new known t = ([], t, (λ bad. cc, λ _. refl))
 
-module _ (moment : ℕ) (orders : List Order) (before after : Option Table) (answer : Reply) (old mid new : RunnerState) (known : IsKnown mid)
+module _ (moment : ℕ) (orders : List Order) (before after : Option Records) (answer : Reply) (old mid new : RunnerState) (known : IsKnown mid)
     (ran : Ran old (asks_orders moment) answer mid) (tells : orders_in answer ≡ orders) (few : length orders ≤ 16) where
   asked : Entry Timed Reply
   asked = entry old.number (asks_orders moment) answer
@@ -128,7 +128,7 @@ module _ (moment : ℕ) (orders : List Order) (before after : Option Table) (ans
       let same = same_length carried left all none in
       (whole_round carried left said all none acts, let other = eqb-false (length orders) 16 full in omega (arith, same, few, other), same)
 
-  ends_by : (outcome : Kept) (said : Told) (carried left : List Order) (entries : Log) → orders ≡ carried ++ left → (outcome ≡ kept.Done → left ≡ [])
+  ends_by : (outcome : Kept) (said : SavedTold) (carried left : List Order) (entries : Log) → orders ≡ carried ++ left → (outcome ≡ kept.Done → left ≡ [])
       → (left ≡ [] → outcome ≡ kept.Done)
       → (said ≡ told.Done → acts_of entries ≡ tells_upto moment (last_number carried)) → (said ≡ told.Memory → entries ≡ [])
       → EndsRound moment (round_of outcome said (length orders)) (asked ∷ entries) carried

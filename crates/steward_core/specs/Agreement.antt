@@ -2,7 +2,7 @@
 use Rattle.std.specs.Prelude.{◌≡◌, ◌≢◌, ℕ, ⊤, List, ◌++◌, None, Some, slice_get}
 use Rattle.std.specs.declared.option.Option.{Option}
 use Rattle.std.specs.List.{AllByRecursion}
-use Rattle.edge_traits.specs.Pairs.{Table}
+use Rattle.edge_traits.specs.Pairs.{Records}
 use Rattle.histories.specs.declared.entry.Entry.{Entry}
 use Rattle.histories.specs.History.{state}
 use Rattle.lobby_state.specs.Lobby.{LobbyState}
@@ -23,7 +23,7 @@ abbrev pub state_seen : RunnerState → List Part
 state_seen it = state house it.opening it.seen
 
 -- the table agrees with the lobby of that state
-abbrev pub AgreesSeen : Table → RunnerState → Type 0
+abbrev pub AgreesSeen : Records → RunnerState → Type 0
 AgreesSeen table it =
     (lobby : LobbyState) → slice_get (state_seen it) 0 ≡ Some (TheLobby lobby) → AgreesWith (held table) lobby
 
@@ -44,7 +44,7 @@ pub record NoOthersSave (old new : RunnerState) : Type 0 where
 
 -- a table that is told, and that agreed, still agrees, where the server opened with a whole state and no other session
 -- tells orders as saved
-abbrev pub StaysAgreed : Option Table → Option Table → RunnerState → RunnerState → Type 0
+abbrev pub StaysAgreed : Option Records → Option Records → RunnerState → RunnerState → Type 0
 StaysAgreed (Some before) (Some after) old new =
     IsWhole old.opening → NoOthersSave old new → AgreesSeen before old → AgreesSeen after new
 StaysAgreed (Some before) None old new = ⊥

@@ -1,6 +1,6 @@
 -- The acts by which a steward has save orders carried out. This server's own.
 use Rattle.std.specs.Prelude.{◌≡◌, ℕ, ◌+◌, ◌-◌, ◌*◌, ◌<◌, ◌^◌, ◌==◌, ◌⊎◌, Bool, if◌then◌else◌, List, [], ◌∷◌, ◌++◌, Option, None, Some, length, zero, suc}
-use Rattle.edge_traits.specs.Pairs.{Table}
+use Rattle.edge_traits.specs.Pairs.{Records}
 use Rattle.edge_traits.specs.declared.keeper.Kept.{Kept}
 use Rattle.edge_traits.specs.declared.keeper.Kept.TheVariants as kept
 use Rattle.lobby_shelf.specs.declared.order.Order.{Order}
@@ -16,8 +16,8 @@ use Rattle.one_server.specs.Running.{Log, Made, Ran, RunnerState}
 use Rattle.steward_core.specs.Clearing.{acts_of}
 use Rattle.steward_core.specs.declared.saving.SaveRound.{SaveRound}
 use Rattle.steward_core.specs.declared.saving.SaveRound.TheVariants as round
-use Rattle.steward_core.specs.declared.saving.Told.{Told}
-use Rattle.steward_core.specs.declared.saving.Told.TheVariants as told
+use Rattle.steward_core.specs.declared.saving.SavedTold.{SavedTold}
+use Rattle.steward_core.specs.declared.saving.SavedTold.TheVariants as told
 use Rattle.steward_core.specs.declared.turn.StewardEnd.{StewardEnd}
 use Rattle.steward_core.specs.declared.turn.StewardEnd.TheVariants.{Done, KeeperFault, Memory}
 
@@ -111,7 +111,7 @@ pub record IsSaving (moment : ℕ) (end : StewardEnd) (entries : Log) (carried :
   pub orders : carried ≡ first ++ last
 
 -- a session had save orders carried out, and a keeper carried them out
-pub record TakesSaving (moment : ℕ) (end : StewardEnd) (before after : Option Table) (old new : RunnerState) : Type 0
+pub record TakesSaving (moment : ℕ) (end : StewardEnd) (before after : Option Records) (old new : RunnerState) : Type 0
   where
     pub entries : Log
     pub carried : List Order
@@ -120,17 +120,17 @@ pub record TakesSaving (moment : ℕ) (end : StewardEnd) (before after : Option 
     pub kept : Carries before after carried
 
 -- orders were told as saved, up to a number, where there is one
-abbrev pub TellsUpTo : ℕ → Option ℕ → Told → RunnerState → RunnerState → Type 0
+abbrev pub TellsUpTo : ℕ → Option ℕ → SavedTold → RunnerState → RunnerState → Type 0
 TellsUpTo moment None end old new = (end ≡ told.Done) × (new ≡ old)
 TellsUpTo moment (Some upto) told.Done old new = (answer : Reply) × Ran old (says_saved moment upto) answer new
 TellsUpTo moment (Some upto) told.Memory old new = Made old [] new
 
 -- these orders were told as saved
-abbrev pub Tells : ℕ → List Order → Told → RunnerState → RunnerState → Type 0
+abbrev pub Tells : ℕ → List Order → SavedTold → RunnerState → RunnerState → Type 0
 Tells moment orders end old new = TellsUpTo moment (last_number orders) end old new
 
 -- how a round ended in which so many orders were told
-abbrev pub round_of : Kept → Told → ℕ → SaveRound
+abbrev pub round_of : Kept → SavedTold → ℕ → SaveRound
 round_of kept.Failed end count = round.KeeperFault
 round_of kept.Memory end count = round.Memory
 round_of kept.Done told.Memory count = round.Memory
@@ -138,12 +138,12 @@ round_of kept.Done told.Done count = if count == 16 then round.Full else round.L
 
 -- the orders that were told were handed to a keeper: some were carried out, from the first one on, all exactly where
 -- that ended well, and then told as saved
-pub record SavesTold (moment : ℕ) (end : SaveRound) (orders : List Order) (before after : Option Table)
+pub record SavesTold (moment : ℕ) (end : SaveRound) (orders : List Order) (before after : Option Records)
     (old new : RunnerState) : Type 0 where
   pub carried : List Order
   pub left : List Order
   pub outcome : Kept
-  pub said : Told
+  pub said : SavedTold
   pub all : orders ≡ carried ++ left
   pub whole : outcome ≡ kept.Done → left ≡ []
   pub only_whole : left ≡ [] → outcome ≡ kept.Done
@@ -161,7 +161,7 @@ EndsRound moment round.KeeperFault entries orders =
 EndsRound moment round.Memory entries orders = IsCutShort moment entries orders ⊎ ((entries ≡ []) × (orders ≡ []))
 
 -- a session ran a round, in which a keeper carried orders out
-pub record RunsRound (moment : ℕ) (end : SaveRound) (before after : Option Table) (old new : RunnerState) : Type 0 where
+pub record RunsRound (moment : ℕ) (end : SaveRound) (before after : Option Records) (old new : RunnerState) : Type 0 where
   pub entries : Log
   pub carried : List Order
   pub grew : Made old entries new

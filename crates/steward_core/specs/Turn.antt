@@ -1,7 +1,7 @@
 -- The acts of a turn of the steward. This server's own.
 use Rattle.std.specs.Prelude.{◌≡◌, ℕ, List, ◌++◌}
 use Rattle.std.specs.declared.option.Option.{Option}
-use Rattle.edge_traits.specs.Pairs.{Table}
+use Rattle.edge_traits.specs.Pairs.{Records}
 use Rattle.lobby_shelf.specs.declared.order.Order.{Order}
 use Rattle.lobby_store.specs.Carrying.{Carries}
 use Rattle.one_server.specs.Running.{Log, Made, RunnerState}
@@ -29,7 +29,7 @@ pub record IsStewardTurn (moment : ℕ) (end : StewardEnd) (entries : Log) (carr
   pub ends : end ≡ end_of_turn cleared saved
 
 -- a session made a turn, in which a keeper carried these orders out
-pub record TakesTurn (moment : ℕ) (end : StewardEnd) (before after : Option Table) (old new : RunnerState) : Type 0
+pub record TakesTurn (moment : ℕ) (end : StewardEnd) (before after : Option Records) (old new : RunnerState) : Type 0
   where
     pub entries : Log
     pub carried : List Order

@@ -39,7 +39,7 @@ pub(crate) enum SaveRound {
 
 /// Whether orders were told as saved.
 #[derive(Clone, Copy)]
-pub(crate) enum Told {
+pub(crate) enum SavedTold {
     Done,
     /// Memory ran out, and nothing was told.
     Memory,
@@ -131,14 +131,14 @@ fn save_told<R: Runner, P: Keeper>(
 }
 
 /// How a round ended in which so many orders were told.
-fn round_of(end: Kept, told: Told, count: usize) -> SaveRound
+fn round_of(end: Kept, told: SavedTold, count: usize) -> SaveRound
     requires { count ≤ 16 }
     ensures { result ≡ round_of end told count }
 {
     match (end, told) {
         (Kept::Failed, _) => SaveRound::KeeperFault,
-        (Kept::Memory, _) | (_, Told::Memory) => SaveRound::Memory,
-        (Kept::Done, Told::Done) => {
+        (Kept::Memory, _) | (_, SavedTold::Memory) => SaveRound::Memory,
+        (Kept::Done, SavedTold::Done) => {
             if count == ORDERS_AT_ONCE {
                 SaveRound::Full
             } else {
@@ -149,17 +149,17 @@ fn round_of(end: Kept, told: Told, count: usize) -> SaveRound
 }
 
 /// Tells these orders as saved: those up to the last of them. Nothing is told where there are none.
-fn tell_saved<R: Runner>(alloc: Global, runner: &mut R, moment: u64, orders: &[Order]) -> Told
+fn tell_saved<R: Runner>(alloc: Global, runner: &mut R, moment: u64, orders: &[Order]) -> SavedTold
     requires moment { moment ≤ last_moment }
     ensures home { R.home runner.new ≡ R.home runner.old }
     ensures told { Tells moment orders.now result (R.state runner.old) (R.state runner.new) }
 {
     let Some(last) = orders.last() else {
-        return Told::Done;
+        return SavedTold::Done;
     };
     let act = Act::Lobby(LobbyAct::Saved { upto: last.number });
     match runner.run(alloc, moment, act) {
-        Ok(_) => Told::Done,
-        Err(NoMemory) => Told::Memory,
+        Ok(_) => SavedTold::Done,
+        Err(NoMemory) => SavedTold::Memory,
     }
 }

@@ -54,7 +54,7 @@ fn summary(alloc: Global, v: &BoardView) -> Result<Line, NoMemory>
     ensures { IfOk result (λ line. line ≡ summary_text v.now) }
 {
     let mut line = Draft::new();
-    put_turn(&mut line, v);
+    put_to_move(&mut line, v);
     put_clocks(&mut line, v);
     line.text(b", last ");
     line.text(v.face.pretty.bytes());
@@ -62,7 +62,7 @@ fn summary(alloc: Global, v: &BoardView) -> Result<Line, NoMemory>
 }
 
 /// Appends who is to move, and in which game.
-fn put_turn(line: &mut Draft, v: &BoardView)
+fn put_to_move(line: &mut Draft, v: &BoardView)
     requires room { HasRoom 40 line.old }
     ensures text { line.new ≡ line.old ++ turn_text v.now }
     ensures most { length line.new ≤ length line.old + 40 }

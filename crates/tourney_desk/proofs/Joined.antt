@@ -5,7 +5,7 @@ use Rattle.std.specs.List.{filter, flat_map, range_with_len}
 use Rattle.std.proofs.lemmas.List.Elements.{All-append, All-cons, All-filter, All-head, All-map, All-nil, All-tail, All-weaker}
 use Rattle.std.proofs.lemmas.List.Sorted.{All-permutation}
 use Rattle.tourney_desk.specs.declared.score.Report.{Report}
-use Rattle.tourney_desk.specs.declared.score.Row.{Row}
+use Rattle.tourney_desk.specs.declared.score.ScoreRow.{ScoreRow}
 use Rattle.tourney_desk.specs.Pairing.{IsOfPlayers, as_pair, meet, pairs_in, pairs_of, players, with_greater}
 use Rattle.tourney_desk.specs.Table.{IsTable, row_of, rows_of}
 use Rattle.tourney_desk.proofs.Fair.{of_pair}
@@ -41,8 +41,8 @@ pairs_joined n round =
     All-flat_map (IsOfPlayers n) (pairs_of n round) (players n)
     (All-weaker (λ i. i < n) (λ i. All (IsOfPlayers n) (pairs_of n round i)) (λ i q. pairs_of-joined n round i q) (players n) (players_below n))
 
-pub rows_joined : (names : List (List ℕ)) (results : List Report) (rows : List Row) → IsTable names results rows → All (λ (row : Row). row.player < length names) rows
+pub rows_joined : (names : List (List ℕ)) (results : List Report) (rows : List ScoreRow) → IsTable names results rows → All (λ (row : ScoreRow). row.player < length names) rows
 rows_joined names results rows is =
-    let P : Row → Type 0 = λ row. row.player < length names in
+    let P : ScoreRow → Type 0 = λ row. row.player < length names in
     All-permutation P (rows_of names results) rows is.all
     (All-map P (row_of results) (players (length names)) (players_below (length names)))

@@ -6,7 +6,7 @@ use Rattle.fics_words.specs.Handle.{key_of}
 use Rattle.fics_words.specs.declared.refusal.Refusal.{Refusal}
 use Rattle.fics_words.specs.declared.refusal.Refusal.TheVariants.{HandleTaken, TourneyStarted, TourneyFull, TooFewPlayers, TourneyNotStarted, NoSuchRound, NotPaired, AlreadyReported}
 use Rattle.tourney_desk.specs.declared.score.Report.{Report}
-use Rattle.tourney_desk.specs.declared.score.Row.{Row}
+use Rattle.tourney_desk.specs.declared.score.ScoreRow.{ScoreRow}
 use Rattle.tourney_desk.specs.declared.score.Score.{Score}
 use Rattle.tourney_desk.specs.Pairing.{is_paired, pairs_in, rounds_of}
 use Rattle.tourney_desk.specs.Table.{table_of}
@@ -95,5 +95,5 @@ pub record IsTourney (t : TourneyState) (space : ℕ) : Type 0 where
   pub room : t.started ≡ true → 4096 ≤ length t.results + space
 
 -- the table, which isn't told before the start
-abbrev pub table_told : TourneyState → Result (List Row) Refusal
+abbrev pub table_told : TourneyState → Result (List ScoreRow) Refusal
 table_told t = answered (first_cause ((not t.started, TourneyNotStarted) ∷ [])) (table_of t.players t.results)

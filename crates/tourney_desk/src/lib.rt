@@ -10,5 +10,5 @@ mod score;
 mod table;
 mod tourney;
 
-pub use score::{Report, Row, Score};
+pub use score::{Report, Score, ScoreRow};
 pub use tourney::Tourney;

@@ -25,7 +25,7 @@ pub struct Report {
 /// A row of the table: a player's number, how many results stand for that player, and the half-points from them, 2 for
 /// a win and 1 for a draw.
 #[derive(Clone, Copy, Debug, PartialEq, Eq)]
-pub struct Row {
+pub struct ScoreRow {
     pub player: u8,
     pub games: u8,
     pub halves: u8,

@@ -1,7 +1,7 @@
 //! The tourney: its players, its start, its rounds and its results.
 
 use crate::pairing::{is_paired, pairs_in, rounds_of};
-use crate::score::{Report, Row, Score};
+use crate::score::{Report, Score, ScoreRow};
 use crate::table::table_of;
 use collections::{Listed, Reserved};
 use fics_words::{Fail, Handle, HandleKey, Refusal};
@@ -148,7 +148,7 @@ impl Tourney {
     /// The table: a row for each player, with the results that stand for that player and the half-points from them, in
     /// descending order of half-points and then by the players' keys. Refuses with `TourneyNotStarted` before the
     /// start.
-    pub fn table(&self) -> Result<Vec<Row>, Fail>
+    pub fn table(&self) -> Result<Vec<ScoreRow>, Fail>
         ensures told { GivesList (table_told self.now) result }
         ensures sums { IfOk result (λ rows. IsTable self.now.players self.now.results rows.items) }
         ensures joined { IfOk result (λ rows. All (λ row. row.player < length self.now.players) rows.items) }

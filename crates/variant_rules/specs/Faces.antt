@@ -9,10 +9,10 @@ use Rattle.chess_model.specs.Squares.{file_of}
 use Rattle.chess_model.specs.Men.{same_kind}
 use Rattle.chess_model.specs.Holdings.{count_in, hand_of}
 use Rattle.chess_model.specs.Position.{Position, hand_of_side}
-use Rattle.variant_rules.specs.declared.position.Look.{Look}
+use Rattle.variant_rules.specs.declared.position.PositionView.{PositionView}
 
 -- the men, the side to move, the file of the last double push, the rights and the quiet count
-pub record LooksLike (p : Position) (look : Look) : Type 0 where
+pub record LooksLike (p : Position) (look : PositionView) : Type 0 where
   pub men : look.men ≡ p.men
   pub to_move : look.to_move ≡ p.to_move
   pub push : look.push ≡ option_map file_of p.en_passant

@@ -14,7 +14,7 @@ impl AskedBoard for Position {
         self.variant
     }
 
-    fn turn(&self) -> Colour {
+    fn to_move(&self) -> Colour {
         self.to_move
     }
 

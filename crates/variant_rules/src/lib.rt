@@ -20,4 +20,4 @@ mod sights;
 mod state;
 
 pub use make::Undo;
-pub use position::{Look, Position};
+pub use position::{Position, PositionView};

@@ -51,7 +51,7 @@ impl Model for Position {
 
 /// What a printed board shows of a position.
 #[derive(Clone, Copy)]
-pub struct Look {
+pub struct PositionView {
     /// The man on each square, by the square's number.
     pub men: [Option<Man>; 64],
     pub to_move: Colour,
@@ -184,10 +184,10 @@ impl Position {
 
     /// What a printed board shows: the men, the side to move, the file of the last double push, the rights and the
     /// quiet count.
-    pub fn look(&self) -> Look
+    pub fn look(&self) -> PositionView
         ensures { LooksLike self.now result }
     {
-        Look {
+        PositionView {
             men: *self.men.squares(),
             to_move: self.to_move,
             push: self.push_file(),

@@ -7,7 +7,7 @@ ghost use Rattle.chess_model.specs.Attacked.{IsKingSafe};
 ghost use Rattle.chess_model.specs.MoveList.{place_after, two_moved};
 ghost use Rattle.bitboard_core.specs.Sets.{IsSetOf};
 ghost use Rattle.bitboard_core.specs.Strikers.{man_place, is_placed, AreMenOf};
-ghost use Rattle.variant_rules.specs.Watches.{AreSightsOf};
+ghost use Rattle.variant_rules.specs.Sights.{AreSightsOf};
 
 use crate::changes::{landed_man, takes_on, unpromoted_man};
 use bitboard_core::{Bits, Side, are_safe};

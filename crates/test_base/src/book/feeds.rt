@@ -2,7 +2,7 @@
 
 use fics_words::{Fail, Refusal};
 use memory::{Duplicate, NoMemory};
-use observer_feed::{Feed, Told};
+use observer_feed::{Backlog, Feed};
 use std::test::Fail as TestFail;
 use test_steps::assert_rows;
 
@@ -32,7 +32,7 @@ enum Answer {
 #[derive(Clone, Copy)]
 enum Step {
     Add(u32),
-    Watch(u32, Told, Answer),
+    Watch(u32, Backlog, Answer),
     Unwatch(u32, Answer),
     Forget(u32),
     /// A session fetches the items from the first number on, up to the one before the second.
@@ -46,10 +46,10 @@ enum Step {
 
 const STEPS: &[Step] = &[
     Step::FetchesNothing(1, Answer::Refused(Refusal::NotWatching)),
-    Step::Watch(1, Told::FromNow, Answer::Done),
+    Step::Watch(1, Backlog::FromNow, Answer::Done),
     Step::Watch(
         1,
-        Told::FromStart,
+        Backlog::FromStart,
         Answer::Refused(Refusal::AlreadyWatching),
     ),
     Step::Fetch(1, 0, 0),
@@ -59,8 +59,8 @@ const STEPS: &[Step] = &[
     // nothing is given twice
     Step::Fetch(1, 0, 2),
     Step::Fetch(1, 2, 2),
-    Step::Watch(2, Told::FromStart, Answer::Done),
-    Step::Watch(3, Told::FromNow, Answer::Done),
+    Step::Watch(2, Backlog::FromStart, Answer::Done),
+    Step::Watch(3, Backlog::FromNow, Answer::Done),
     Step::Add(2),
     Step::Fetch(2, 0, 3),
     Step::Fetch(3, 2, 3),
@@ -72,7 +72,7 @@ const STEPS: &[Step] = &[
     Step::Add(3),
     Step::FetchesNothing(2, Answer::Refused(Refusal::NotWatching)),
     // who comes again begins anew
-    Step::Watch(2, Told::FromNow, Answer::Done),
+    Step::Watch(2, Backlog::FromNow, Answer::Done),
     Step::Add(4),
     Step::Fetch(1, 2, 5),
     Step::Fetch(3, 3, 5),
@@ -90,7 +90,7 @@ fn answer_of(answer: Result<(), Fail>) -> Answer {
     }
 }
 
-fn watched(feed: &mut Feed<Said>, session: u32, told: Told) -> Answer {
+fn watched(feed: &mut Feed<Said>, session: u32, told: Backlog) -> Answer {
     answer_of(feed.watch(session, told))
 }
 

@@ -4,7 +4,7 @@ use fics_words::{Fail, Handle, HandleKey, Refusal};
 use std::alloc::Global;
 use std::test::Fail as TestFail;
 use test_steps::first_wrong;
-use tourney_desk::{Row, Score, Tourney};
+use tourney_desk::{Score, ScoreRow, Tourney};
 
 /// What a call has to answer: nothing where it is done, and else the refusal; `TooLong` stands for want of memory.
 type Answer = Option<Refusal>;
@@ -127,7 +127,7 @@ fn paired(tourney: &Tourney, round: u8) -> Result<Vec<(u8, u8)>, Fail> {
     tourney.pairs(round)
 }
 
-fn tabled(tourney: &Tourney) -> Result<Vec<Row>, Fail> {
+fn tabled(tourney: &Tourney) -> Result<Vec<ScoreRow>, Fail> {
     tourney.table()
 }
 
@@ -138,7 +138,7 @@ fn are_pairs(told: Result<Vec<(u8, u8)>, Fail>, pairs: &[(u8, u8)]) -> bool {
     }
 }
 
-fn are_rows(told: &[Row], rows: &[(u8, u8, u8)]) -> bool {
+fn are_rows(told: &[ScoreRow], rows: &[(u8, u8, u8)]) -> bool {
     if told.len() != rows.len() {
         return false;
     }
@@ -154,7 +154,7 @@ fn is_refused<T: Drop>(told: Result<T, Fail>, cause: Refusal) -> bool {
     }
 }
 
-fn is_table(told: Result<Vec<Row>, Fail>, rows: &[(u8, u8, u8)]) -> bool {
+fn is_table(told: Result<Vec<ScoreRow>, Fail>, rows: &[(u8, u8, u8)]) -> bool {
     match told {
         Ok(told) => are_rows(told.as_slice(), rows),
         Err(_) => false,

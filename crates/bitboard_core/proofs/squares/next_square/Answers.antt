@@ -1,4 +1,4 @@
-use Rattle.bitboard_core.proofs.SquareLemmas.{next-from, next-found, next-first}
+use Rattle.bitboard_core.proofs.NextSquares.{next-from, next-found, next-first}
 use Rattle.bitboard_core.proofs.squares.next_square.Goals as goal
 
 pub returns-clause-from : goal.returns-clause-from

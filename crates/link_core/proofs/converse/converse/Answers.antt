@@ -19,8 +19,8 @@ returns-in-Err-clause-stops g c =
     let start : Stand = record { state = g.R.Runner.state c.args.r.now; memory = c.args.session.now; link = g.L.Link.tale c.args.link.now } in
     stops_opening shows start c.in-Err.end (g.L.Link.tale c.greet.new.link) c.session-session.ensures.known c.requires.new c.in-Err.ensures.wrote
 
-pub loop-turn-init : goal.loop-turn-init
-loop-turn-init g c =
+pub loop-read-init : goal.loop-read-init
+loop-read-init g c =
     let shows = g.C.Clock.shows c.args.clock.now in
     let start : Stand = record { state = g.R.Runner.state c.args.r.now; memory = c.args.session.now; link = g.L.Link.tale c.args.link.now } in
     let there : Stand = record { state = g.R.Runner.state c.args.r.now; memory = c.args.session.now; link = g.L.Link.tale c.greet.new.link } in
@@ -35,29 +35,29 @@ loop-turn-init g c =
       counted = c.greet.ensures.counted;
     }
 
-pub loop-turn-preserved : goal.loop-turn-preserved
-loop-turn-preserved g c =
+pub loop-read-preserved : goal.loop-read-preserved
+loop-read-preserved g c =
     let shows = g.C.Clock.shows c.args.clock.now in
     let start : Stand = record { state = g.R.Runner.state c.args.r.now; memory = c.args.session.now; link = g.L.Link.tale c.args.link.now } in
     record {
-      home = c.take_turn.ensures.home ∙ c.loop-turn.invariant.home;
-      drained = c.in-Ok-take_turn.ensures.drained;
-      progress = c.in-Ok-take_turn.ensures.steps start c.loop-turn._turn c.loop-turn.invariant.progress;
-      here = c.in-Ok-take_turn.ensures.here;
-      unclosed = c.in-Ok-take_turn.ensures.unclosed;
-      counted = le_trans c.loop-turn.invariant.counted c.take_turn.ensures.counted;
+      home = c.take_read.ensures.home ∙ c.loop-read.invariant.home;
+      drained = c.in-Ok-take_read.ensures.drained;
+      progress = c.in-Ok-take_read.ensures.steps start c.loop-read._read c.loop-read.invariant.progress;
+      here = c.in-Ok-take_read.ensures.here;
+      unclosed = c.in-Ok-take_read.ensures.unclosed;
+      counted = le_trans c.loop-read.invariant.counted c.take_read.ensures.counted;
     }
 
-pub returns-in-Err-take_turn-clause-stops : goal.returns-in-Err-take_turn-clause-stops
-returns-in-Err-take_turn-clause-stops g c =
+pub returns-in-Err-take_read-clause-stops : goal.returns-in-Err-take_read-clause-stops
+returns-in-Err-take_read-clause-stops g c =
     let shows = g.C.Clock.shows c.args.clock.now in
     let start : Stand = record { state = g.R.Runner.state c.args.r.now; memory = c.args.session.now; link = g.L.Link.tale c.args.link.now } in
-    c.in-Err-take_turn.ensures.steps start c.loop-turn._turn c.loop-turn.invariant.progress
+    c.in-Err-take_read.ensures.steps start c.loop-read._read c.loop-read.invariant.progress
 
 pub returns-clause-stops : goal.returns-clause-stops
 returns-clause-stops g c =
     let shows = g.C.Clock.shows c.args.clock.now in
     let start : Stand = record { state = g.R.Runner.state c.args.r.now; memory = c.args.session.now; link = g.L.Link.tale c.args.link.now } in
-    let here : Stand = record { state = g.R.Runner.state c.loop-turn.r; memory = c.loop-turn.session; link = g.L.Link.tale c.loop-turn.link } in
-    let most : 2 ^ 40 ≤ c.loop-turn._turn = omega (arith, c.loop-turn-test.false) in
-    stops_spent shows start here c.loop-turn.reader c.loop-turn._turn c.loop-turn.invariant.progress c.loop-turn.invariant.drained most
+    let here : Stand = record { state = g.R.Runner.state c.loop-read.r; memory = c.loop-read.session; link = g.L.Link.tale c.loop-read.link } in
+    let most : 2 ^ 40 ≤ c.loop-read._read = omega (arith, c.loop-read-test.false) in
+    stops_spent shows start here c.loop-read.reader c.loop-read._read c.loop-read.invariant.progress c.loop-read.invariant.drained most

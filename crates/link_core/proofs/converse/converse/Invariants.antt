@@ -4,12 +4,12 @@ use Rattle.session_core.specs.Memory.{is_gone}
 use Rattle.link_core.specs.Steps.{IsDrained, Progress}
 use Rattle.link_core.proofs.converse.converse.Given as goal
 
-abbrev pub invariant-loop-turn : goal.invariant-loop-turn
-invariant-loop-turn g l = record {
+abbrev pub invariant-loop-read : goal.invariant-loop-read
+invariant-loop-read g l = record {
   home : g.R.Runner.home l.r ≡ g.R.Runner.home l.fn.r;
   drained : IsDrained l.reader;
   progress : Progress (g.C.Clock.shows l.clock) (record { state = g.R.Runner.state l.fn.r; memory = l.fn.session; link = g.L.Link.tale l.fn.link })
-      (record { state = g.R.Runner.state l.r; memory = l.session; link = g.L.Link.tale l.link }) l.reader l._turn;
+      (record { state = g.R.Runner.state l.r; memory = l.session; link = g.L.Link.tale l.link }) l.reader l._read;
   here : is_gone l.session ≡ false;
   unclosed : IsOpen (g.L.Link.tale l.link);
   counted : g.L.Link.faults l.fn.link ≤ g.L.Link.faults l.link;

@@ -9,12 +9,12 @@ push-requires-clause-lies c = subst (λ (e : ExamState). MayLie e.terms e.list (
 
 pub push-requires-clause-room : goal.push-requires-clause-room
 push-requires-clause-room c =
-    let place = ap (λ (e : ExamState). e.place) c.cut.ensures.after in
-    omega (arith, place, c.cut.ensures.end, c.requires.room)
+    let point = ap (λ (e : ExamState). e.point) c.cut.ensures.after in
+    omega (arith, point, c.cut.ensures.end, c.requires.room)
 
 pub step-requires : goal.step-requires
 step-requires c =
-    let place = ap (λ (e : ExamState). e.place) c.push.ensures in
+    let point = ap (λ (e : ExamState). e.point) c.push.ensures in
     let many = ap (λ (e : ExamState). length e.list) c.push.ensures in
     let longer = length-append c.cut.new.self.list (uncharged c.args.what ∷ []) in
-    omega (arith, place, many, longer, c.cut.ensures.end)
+    omega (arith, point, many, longer, c.cut.ensures.end)

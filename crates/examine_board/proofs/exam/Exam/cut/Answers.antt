@@ -8,13 +8,13 @@ pub invariant_of-self : goal.invariant_of-self
 invariant_of-self c =
     let i = c.self.inside in
     let list : List Half = take i.shared i.stored ++ i.branch in
-    let left : List Half = take i.place i.stored ++ c.truncate.new.self in
-    let cut = is_cut i.terms i.boards list left i.place c.self.invariant.place c.self.invariant.boards c.self.invariant.list
-    (cut_here i.shared i.place i.stored i.branch c.truncate.new.self c.self.invariant.shared c.if-self.true c.truncate.ensures) in
+    let left : List Half = take i.point i.stored ++ c.truncate.new.self in
+    let cut = is_cut i.terms i.boards list left i.point c.self.invariant.point c.self.invariant.boards c.self.invariant.list
+    (cut_here i.shared i.point i.stored i.branch c.truncate.new.self c.self.invariant.shared c.if-self.true c.truncate.ensures) in
     record {
       shared = omega (arith, c.self.invariant.shared, c.if-self.true);
       few = c.self.invariant.few;
-      place = cut.within;
+      point = cut.within;
       boards = cut.are;
       stored = c.self.invariant.stored;
       list = cut.laid;
@@ -26,12 +26,12 @@ invariant_of-self-2 c =
     let i = c.self.inside in
     let list : List Half = take i.shared i.stored ++ i.branch in
     let left : List Half = take i.shared i.stored ++ c.truncate-2.new.self in
-    let cut = is_cut i.terms i.boards list left i.place c.self.invariant.place c.self.invariant.boards c.self.invariant.list
-    (cut_there i.shared i.place i.stored i.branch c.truncate-2.new.self c.self.invariant.shared (omega (arith, c.if-self.false)) c.truncate-2.ensures) in
+    let cut = is_cut i.terms i.boards list left i.point c.self.invariant.point c.self.invariant.boards c.self.invariant.list
+    (cut_there i.shared i.point i.stored i.branch c.truncate-2.new.self c.self.invariant.shared (omega (arith, c.if-self.false)) c.truncate-2.ensures) in
     record {
       shared = c.self.invariant.shared;
       few = c.self.invariant.few;
-      place = cut.within;
+      point = cut.within;
       boards = cut.are;
       stored = c.self.invariant.stored;
       list = cut.laid;
@@ -41,17 +41,17 @@ invariant_of-self-2 c =
 pub returns-clause-after : goal.returns-clause-after
 returns-clause-after c =
     let i = c.self.inside in
-    let left : take i.shared i.stored ++ c.truncate-2.new.self ≡ take i.place (take i.shared i.stored ++ i.branch) =
-    cut_there i.shared i.place i.stored i.branch c.truncate-2.new.self c.self.invariant.shared (omega (arith, c.if-self.false)) c.truncate-2.ensures in
-    (λ j. record { terms = i.terms; names = i.names; stored = i.stored; list = left j; place = i.place }) ∙ ap (λ (e : ExamState). record e { list = present e }) c.self.view_is
+    let left : take i.shared i.stored ++ c.truncate-2.new.self ≡ take i.point (take i.shared i.stored ++ i.branch) =
+    cut_there i.shared i.point i.stored i.branch c.truncate-2.new.self c.self.invariant.shared (omega (arith, c.if-self.false)) c.truncate-2.ensures in
+    (λ j. record { terms = i.terms; names = i.names; stored = i.stored; list = left j; point = i.point }) ∙ ap (λ (e : ExamState). record e { list = present e }) c.self.view_is
 
 pub returns-then-self-clause-end : goal.returns-then-self-clause-end
 returns-then-self-clause-end c =
     let i = c.self.inside in
     let list : List Half = take i.shared i.stored ++ i.branch in
-    let left : List Half = take i.place i.stored ++ c.truncate.new.self in
-    let cut = is_cut i.terms i.boards list left i.place c.self.invariant.place c.self.invariant.boards c.self.invariant.list
-    (cut_here i.shared i.place i.stored i.branch c.truncate.new.self c.self.invariant.shared c.if-self.true c.truncate.ensures) in
+    let left : List Half = take i.point i.stored ++ c.truncate.new.self in
+    let cut = is_cut i.terms i.boards list left i.point c.self.invariant.point c.self.invariant.boards c.self.invariant.list
+    (cut_here i.shared i.point i.stored i.branch c.truncate.new.self c.self.invariant.shared c.if-self.true c.truncate.ensures) in
     cut.end
 
 pub returns-clause-end : goal.returns-clause-end
@@ -59,6 +59,6 @@ returns-clause-end c =
     let i = c.self.inside in
     let list : List Half = take i.shared i.stored ++ i.branch in
     let left : List Half = take i.shared i.stored ++ c.truncate-2.new.self in
-    let cut = is_cut i.terms i.boards list left i.place c.self.invariant.place c.self.invariant.boards c.self.invariant.list
-    (cut_there i.shared i.place i.stored i.branch c.truncate-2.new.self c.self.invariant.shared (omega (arith, c.if-self.false)) c.truncate-2.ensures) in
+    let cut = is_cut i.terms i.boards list left i.point c.self.invariant.point c.self.invariant.boards c.self.invariant.list
+    (cut_there i.shared i.point i.stored i.branch c.truncate-2.new.self c.self.invariant.shared (omega (arith, c.if-self.false)) c.truncate-2.ensures) in
     cut.end

@@ -9,14 +9,14 @@ invariant_of-self c =
     let i = c.self.inside in
     let shared = c.len-self-inside.ensures in
     let all : take c.len-self-inside.result i.stored ++ c.truncate.new.self ≡ i.stored = (λ j. take (shared j) i.stored ++ c.truncate.ensures j) ∙ whole i.stored in
-    let within : i.place ≤ length i.stored = subst (λ (e : ExamState). e.place ≤ length e.stored) (sym c.self.view_is) c.requires.within in
-    let same : take i.place (take i.shared i.stored ++ i.branch) ≡ take i.place i.stored = subst (λ (e : ExamState). present e ≡ take e.place e.stored) (sym c.self.view_is) c.requires.same in
+    let within : i.point ≤ length i.stored = subst (λ (e : ExamState). e.point ≤ length e.stored) (sym c.self.view_is) c.requires.within in
+    let same : take i.point (take i.shared i.stored ++ i.branch) ≡ take i.point i.stored = subst (λ (e : ExamState). present e ≡ take e.point e.stored) (sym c.self.view_is) c.requires.same in
     let many = ap length all in
     record {
       shared = omega (arith, shared);
       few = c.self.invariant.few;
-      place = omega (arith, within, many);
-      boards = c.self.invariant.boards ∙ ap (boards_after i.terms) (same ∙ ap (take i.place) (sym all));
+      point = omega (arith, within, many);
+      boards = c.self.invariant.boards ∙ ap (boards_after i.terms) (same ∙ ap (take i.point) (sym all));
       stored = c.self.invariant.stored;
       list = subst (CanBeLaid i.terms) (sym all) c.self.invariant.stored;
       names = c.self.invariant.names;
@@ -26,4 +26,4 @@ pub returns : goal.returns
 returns c =
     let i = c.self.inside in
     let all : take c.len-self-inside.result i.stored ++ c.truncate.new.self ≡ i.stored = (λ j. take (c.len-self-inside.ensures j) i.stored ++ c.truncate.ensures j) ∙ whole i.stored in
-    (λ j. record { terms = i.terms; names = i.names; stored = i.stored; list = all j; place = i.place }) ∙ ap (λ (e : ExamState). record e { list = e.stored }) c.self.view_is
+    (λ j. record { terms = i.terms; names = i.names; stored = i.stored; list = all j; point = i.point }) ∙ ap (λ (e : ExamState). record e { list = e.stored }) c.self.view_is

@@ -4,14 +4,14 @@ use Rattle.examine_board.proofs.exam.Exam.go_on.Goals as goal
 
 pub loop-next-init : goal.loop-next-init
 loop-next-init c =
-    let place = ap (λ (e : ExamState). e.place) c.self.view_is in
-    λ i. record c.args.self.now { place = sym place i }
+    let point = ap (λ (e : ExamState). e.point) c.self.view_is in
+    λ i. record c.args.self.now { point = sym point i }
 
 pub step-requires : goal.step-requires
 step-requires c =
-    let place = ap (λ (e : ExamState). e.place) c.loop-next.invariant in
+    let point = ap (λ (e : ExamState). e.point) c.loop-next.invariant in
     let many = ap (λ (e : ExamState). length e.list) c.loop-next.invariant in
-    omega (arith, place, many, c.loop-next-test.true, c.requires.high)
+    omega (arith, point, many, c.loop-next-test.true, c.requires.high)
 
 pub loop-next-preserved : goal.loop-next-preserved
-loop-next-preserved c = c.step.ensures ∙ ap (λ (e : ExamState). record e { place = e.place + 1 }) c.loop-next.invariant
+loop-next-preserved c = c.step.ensures ∙ ap (λ (e : ExamState). record e { point = e.point + 1 }) c.loop-next.invariant

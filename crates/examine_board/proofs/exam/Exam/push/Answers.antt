@@ -24,8 +24,8 @@ invariant_of-self c =
     record {
       shared = c.self.invariant.shared;
       few = c.self.invariant.few;
-      place = omega (arith, many, c.self.invariant.place);
-      boards = c.self.invariant.boards ∙ ap (boards_after i.terms) (sym (take-append-le i.place list (h ∷ []) c.self.invariant.place) ∙ ap (take i.place) (sym longer));
+      point = omega (arith, many, c.self.invariant.point);
+      boards = c.self.invariant.boards ∙ ap (boards_after i.terms) (sym (take-append-le i.point list (h ∷ []) c.self.invariant.point) ∙ ap (take i.point) (sym longer));
       stored = c.self.invariant.stored;
       list = subst (CanBeLaid i.terms) (sym longer) (CanBeLaid-more i.terms list h c.self.invariant.list lies);
       names = c.self.invariant.names;
@@ -37,4 +37,4 @@ returns c =
     let h : Half = uncharged c.args.what in
     let longer : take i.shared i.stored ++ c.push.new.self ≡ (take i.shared i.stored ++ i.branch) ++ h ∷ [] =
     ap (λ (l : List Half). take i.shared i.stored ++ l) c.push.ensures ∙ sym (append_assoc (take i.shared i.stored) i.branch (h ∷ [])) in
-    (λ j. record { terms = i.terms; names = i.names; stored = i.stored; list = longer j; place = i.place }) ∙ ap (λ (e : ExamState). record e { list = e.list ++ h ∷ [] }) c.self.view_is
+    (λ j. record { terms = i.terms; names = i.names; stored = i.stored; list = longer j; point = i.point }) ∙ ap (λ (e : ExamState). record e { list = e.list ++ h ∷ [] }) c.self.view_is

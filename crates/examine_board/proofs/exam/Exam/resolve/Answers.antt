@@ -21,7 +21,7 @@ returns-then-is_end-clause-answer c =
     let single : is_pair i.terms.variant ≡ false = sym c.is_pair.ensures ∙ c.if-is_pair.false in
     let is : b ≡ board_on e 1 =
     subst (λ (x : ExamState). b ≡ board_on x 1) c.self.view_is
-    (first_is i.terms (take i.place (take i.shared i.stored ++ i.branch)) b _ (sym c.both.ensures ∙ c.self.invariant.boards)) in
+    (first_is i.terms (take i.point (take i.shared i.stored ++ i.branch)) b _ (sym c.both.ensures ∙ c.self.invariant.boards)) in
     let over : is_end (result (position e)) ≡ true =
     ap (λ p. is_end (result p)) (sym (position_is e b is)) ∙ ap is_end (sym c.state.ensures) ∙ sym c.is_end.ensures ∙ c.if-is_end.true in
     answer_over e c.args.word.now (subst (λ (x : ExamState). is_pair x.terms.variant ≡ false) c.self.view_is single) over
@@ -30,28 +30,28 @@ pub returns-clause-answer : goal.returns-clause-answer
 returns-clause-answer c =
     let i = c.self.inside in
     let b : Board = c.both.result.0.now in
-    let v : ExamState = record { terms = i.terms; names = i.names; stored = i.stored; list = take i.shared i.stored ++ i.branch; place = i.place } in
+    let v : ExamState = record { terms = i.terms; names = i.names; stored = i.stored; list = take i.shared i.stored ++ i.branch; point = i.point } in
     let single : is_pair i.terms.variant ≡ false = sym c.is_pair.ensures ∙ c.if-is_pair.false in
     let on : is_end (result (position_of b)) ≡ false = ap is_end (sym c.state.ensures) ∙ sym c.is_end.ensures ∙ c.if-is_end.false in
-    let g = subst (λ (x : ExamState). Going x b) c.self.view_is (going v b _ single on (sym c.both.ensures ∙ c.self.invariant.boards) c.self.invariant.list c.self.invariant.place) in
+    let g = subst (λ (x : ExamState). Going x b) c.self.view_is (going v b _ single on (sym c.both.ensures ∙ c.self.invariant.boards) c.self.invariant.list c.self.invariant.point) in
     c.resolve.ensures.answer ∙ ap (λ k. move_answer b k c.args.word.now) c.to_move.ensures ∙ going_answer c.args.self.now c.args.word.now b g
 
 pub returns-clause-lies : goal.returns-clause-lies
 returns-clause-lies c =
     let i = c.self.inside in
     let b : Board = c.both.result.0.now in
-    let v : ExamState = record { terms = i.terms; names = i.names; stored = i.stored; list = take i.shared i.stored ++ i.branch; place = i.place } in
+    let v : ExamState = record { terms = i.terms; names = i.names; stored = i.stored; list = take i.shared i.stored ++ i.branch; point = i.point } in
     let single : is_pair i.terms.variant ≡ false = sym c.is_pair.ensures ∙ c.if-is_pair.false in
     let on : is_end (result (position_of b)) ≡ false = ap is_end (sym c.state.ensures) ∙ sym c.is_end.ensures ∙ c.if-is_end.false in
-    let g = subst (λ (x : ExamState). Going x b) c.self.view_is (going v b _ single on (sym c.both.ensures ∙ c.self.invariant.boards) c.self.invariant.list c.self.invariant.place) in
+    let g = subst (λ (x : ExamState). Going x b) c.self.view_is (going v b _ single on (sym c.both.ensures ∙ c.self.invariant.boards) c.self.invariant.list c.self.invariant.point) in
     going_lies c.args.self.now b c.resolve.result g c.resolve.ensures.allowed c.resolve.ensures.short
 
 pub returns-clause-room : goal.returns-clause-room
 returns-clause-room c =
     let i = c.self.inside in
     let b : Board = c.both.result.0.now in
-    let v : ExamState = record { terms = i.terms; names = i.names; stored = i.stored; list = take i.shared i.stored ++ i.branch; place = i.place } in
+    let v : ExamState = record { terms = i.terms; names = i.names; stored = i.stored; list = take i.shared i.stored ++ i.branch; point = i.point } in
     let single : is_pair i.terms.variant ≡ false = sym c.is_pair.ensures ∙ c.if-is_pair.false in
     let on : is_end (result (position_of b)) ≡ false = ap is_end (sym c.state.ensures) ∙ sym c.is_end.ensures ∙ c.if-is_end.false in
-    let g = subst (λ (x : ExamState). Going x b) c.self.view_is (going v b _ single on (sym c.both.ensures ∙ c.self.invariant.boards) c.self.invariant.list c.self.invariant.place) in
+    let g = subst (λ (x : ExamState). Going x b) c.self.view_is (going v b _ single on (sym c.both.ensures ∙ c.self.invariant.boards) c.self.invariant.list c.self.invariant.point) in
     going_room c.args.self.now b c.resolve.result g c.resolve.ensures.short

@@ -12,12 +12,12 @@ invariant_of-self c =
     record {
       shared = c.self.invariant.shared;
       few = c.self.invariant.few;
-      place = omega arith;
-      boards = c.rewind.ensures ∙ ap (λ (bs : List Board). map rewound bs) c.self.invariant.boards ∙ boards_rewound i.terms (take i.place (take i.shared i.stored ++ i.branch));
+      point = omega arith;
+      boards = c.rewind.ensures ∙ ap (λ (bs : List Board). map rewound bs) c.self.invariant.boards ∙ boards_rewound i.terms (take i.point (take i.shared i.stored ++ i.branch));
       stored = c.self.invariant.stored;
       list = c.self.invariant.list;
       names = c.self.invariant.names;
     }
 
 pub returns : goal.returns
-returns c = ap (λ (e : ExamState). record e { place = 0 }) c.self.view_is
+returns c = ap (λ (e : ExamState). record e { point = 0 }) c.self.view_is

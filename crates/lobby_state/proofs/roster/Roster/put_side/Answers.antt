@@ -1,14 +1,14 @@
 use Rattle.std.proofs.Common.{◌≡◌, ℕ, ◌+◌, ◌<◌, List, [], ◌∷◌, ◌++◌, filter, get_or, length, map, take, sym, ap, ◌∙◌, append_assoc}
 use Rattle.std.proofs.lemmas.List.{map-append, take_more}
 use Rattle.std.proofs.lemmas.List.Elements.{filter-append}
-use Rattle.lobby_state.specs.declared.pending.Side.{Side}
+use Rattle.lobby_state.specs.declared.pending.ChallengeSide.{ChallengeSide}
 use Rattle.lobby_state.specs.Lobby.{LobbyState}
 use Rattle.lobby_state.specs.Pending.{is_on_side, pending_line, side_lines}
 use Rattle.lobby_state.proofs.roster.Roster.put_side.Goals as goal
 use Rattle.seek_match.specs.declared.challenge.Challenge.{Challenge}
 
 -- the lines of one challenge more
-side_lines-more : (lobby : LobbyState) (session : ℕ) (side : Side) (xs : List Challenge) (i : ℕ) (d : Challenge) → i < length xs
+side_lines-more : (lobby : LobbyState) (session : ℕ) (side : ChallengeSide) (xs : List Challenge) (i : ℕ) (d : Challenge) → i < length xs
     → side_lines lobby session side (take (i + 1) xs) ≡ side_lines lobby session side (take i xs) ++ side_lines lobby session side (get_or xs i d ∷ [])
 side_lines-more lobby session side xs i d inside =
     ap (side_lines lobby session side) (take_more xs i d inside)
@@ -16,7 +16,7 @@ side_lines-more lobby session side xs i d inside =
     ∙ map-append (pending_line lobby side) (filter (is_on_side side session) (take i xs)) (filter (is_on_side side session) (get_or xs i d ∷ []))
 
 -- once they stand behind those before
-one_put : (lobby : LobbyState) (session : ℕ) (side : Side) (xs : List Challenge) (i : ℕ) (d : Challenge) (base old new : List (List ℕ)) → i < length xs
+one_put : (lobby : LobbyState) (session : ℕ) (side : ChallengeSide) (xs : List Challenge) (i : ℕ) (d : Challenge) (base old new : List (List ℕ)) → i < length xs
     → old ≡ base ++ side_lines lobby session side (take i xs) → new ≡ old ++ side_lines lobby session side (get_or xs i d ∷ [])
     → new ≡ base ++ side_lines lobby session side (take (i + 1) xs)
 one_put lobby session side xs i d base old new inside before put =

@@ -17,13 +17,13 @@ use Rattle.fics_words.specs.declared.seats.Seats.{Seats}
 use Rattle.fics_words.specs.Seats.{seat_list}
 use Rattle.partner_link.specs.Partners.{partner_of}
 use Rattle.partner_link.proofs.Links.{partner_of-other, partner_of-partner_of}
-use Rattle.lobby_state.specs.declared.game.Game.{Game}
+use Rattle.lobby_state.specs.declared.game.ListedGame.{ListedGame}
 use Rattle.lobby_state.specs.declared.member.Member.{Member}
 use Rattle.lobby_state.specs.Change.{holds}
 use Rattle.lobby_state.specs.Lobby.{LobbyState, free_slot, most_games, gives, is_session, member_of, partner_in}
 use Rattle.lobby_state.specs.Pairing.{are_partners, beside, lack_partner, member_at, needs_partners, paired}
 use Rattle.lobby_state.specs.Planned.{AreApart, FitsVariant, IsMember, IsPlanned, SitCrosswise}
-use Rattle.lobby_state.specs.Starting.{has_white, opponents_of, player_of, second_board, start_plan}
+use Rattle.lobby_state.specs.StartPlan.{has_white, opponents_of, player_of, second_board, start_plan}
 use Rattle.lobby_state.specs.ShelfRoom.{is_shelf_full, places_taken}
 use Rattle.lobby_state.specs.Terms.{AreTerms}
 use Rattle.lobby_state.specs.WellFormed.{IsWellFormed}
@@ -36,7 +36,7 @@ none_there None e = refl
 none_there (Some x) e = cc
 
 -- the slot that was found is free
-pub free-is : (games : List (Option Game)) (slot : ℕ) → position is_none games ≡ Some slot → slice_get games slot ≡ Some None
+pub free-is : (games : List (Option ListedGame)) (slot : ℕ) → position is_none games ≡ Some slot → slice_get games slot ≡ Some None
 free-is games slot e =
     let item = at_place games slot (position-within is_none games slot e) in
     let passes = find-passes is_none games item.0 (find-found is_none games slot e ∙ item.1) in

@@ -3,7 +3,7 @@ ghost use Rattle.std.specs.Prelude.{◌≡◌};
 ghost use Rattle.fics_words.specs.Effect.{answer_of};
 ghost use Rattle.lobby_state.specs.Lobby.{gives};
 ghost use Rattle.lobby_state.specs.Pairing.{beside, paired};
-ghost use Rattle.lobby_state.specs.Starting.{has_white, offers_white, opponents_of, player_of, seats_of, second_board, starting};
+ghost use Rattle.lobby_state.specs.StartPlan.{has_white, offers_white, opponents_of, player_of, seats_of, second_board, starting};
 
 use crate::acts::Plan;
 use crate::member::Member;

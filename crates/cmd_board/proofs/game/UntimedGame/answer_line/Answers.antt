@@ -1,7 +1,7 @@
 use Rattle.std.proofs.Common.{◌≡◌, Some, sym, ◌∙◌, refl}
 use Rattle.move_reader.specs.Reading.{reading}
 use Rattle.cmd_board.proofs.LineAnswers.{answer_line-no_word, answer_line-made}
-use Rattle.cmd_board.proofs.game.Game.answer_line.Goals as goal
+use Rattle.cmd_board.proofs.game.UntimedGame.answer_line.Goals as goal
 
 pub returns-in_default : goal.returns-in_default
 returns-in_default c =

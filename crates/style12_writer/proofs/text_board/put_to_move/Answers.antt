@@ -1,5 +1,5 @@
 use Rattle.style12_writer.proofs.Spacing.{three_appended}
-use Rattle.style12_writer.proofs.text_board.put_turn.Goals as goal
+use Rattle.style12_writer.proofs.text_board.put_to_move.Goals as goal
 
 pub returns-clause-text : goal.returns-clause-text
 returns-clause-text c =

@@ -1,5 +1,5 @@
 use Rattle.std.proofs.Common.{◌≡◌, ◌++◌, take}
-use Rattle.move_writer.proofs.draft.Draft.push_all.Given as goal
+use Rattle.move_writer.proofs.draft.MoveDraft.push_all.Given as goal
 
 abbrev pub invariant-loop-byte : goal.invariant-loop-byte
 invariant-loop-byte l = l.self ≡ l.initial.self ++ take l.byte-index l.text

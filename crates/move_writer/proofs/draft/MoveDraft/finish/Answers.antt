@@ -2,7 +2,7 @@ use Rattle.std.proofs.Common.{◌≡◌, ◌<◌, List, ℕ, length, take, sym, 
 use Rattle.std.specs.Prelude.{All}
 use Rattle.move_writer.specs.Blanks.{Shows, HasNoBlank}
 use Rattle.move_writer.proofs.Shown.{IsMoveText-from_shows, HasNoBlank-from_shows}
-use Rattle.move_writer.proofs.draft.Draft.finish.Goals as goal
+use Rattle.move_writer.proofs.draft.MoveDraft.finish.Goals as goal
 
 pub unwrap-requires : goal.unwrap-requires
 unwrap-requires c =

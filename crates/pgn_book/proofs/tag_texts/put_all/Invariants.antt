@@ -1,5 +1,5 @@
 use Rattle.std.proofs.Common.{◌≡◌, ◌++◌, take}
-use Rattle.pgn_book.proofs.row.put_all.Given as goal
+use Rattle.pgn_book.proofs.tag_texts.put_all.Given as goal
 
 -- the items so far were put
 abbrev pub invariant-loop-item : goal.invariant-loop-item

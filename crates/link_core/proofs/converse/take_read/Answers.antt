@@ -3,7 +3,7 @@ use Rattle.edge_traits.specs.declared.link.Heard.TheVariants as heard
 use Rattle.link_core.specs.Steps.{Stand}
 use Rattle.link_core.proofs.Tales.{open_read}
 use Rattle.link_core.proofs.Stepping.{end_due, progress_bytes, quiet_step, stops_failed}
-use Rattle.link_core.proofs.converse.take_turn.Goals as goal
+use Rattle.link_core.proofs.converse.take_read.Goals as goal
 
 pub returns-in-Bytes-clause-steps : goal.returns-in-Bytes-clause-steps
 returns-in-Bytes-clause-steps g c = λ start turns p.

@@ -11,7 +11,7 @@ use std::alloc::Global;
 
 /// The first text of each name, if one was told.
 #[derive(Drop)]
-pub(crate) struct Row {
+pub(crate) struct TagTexts {
     event: Option<Text>,
     site: Option<Text>,
     date: Option<Text>,
@@ -20,12 +20,12 @@ pub(crate) struct Row {
     black: Option<Text>,
 }
 
-impl Row {
+impl TagTexts {
     /// No text.
-    pub(crate) fn new() -> Row
+    pub(crate) fn new() -> TagTexts
         ensures { result ≡ empty_row }
     {
-        Row {
+        TagTexts {
             event: None,
             site: None,
             date: None,
@@ -36,10 +36,10 @@ impl Row {
     }
 
     /// The same texts once more.
-    pub(crate) fn copy(&self) -> Row
+    pub(crate) fn copy(&self) -> TagTexts
         ensures { result ≡ self.now }
     {
-        Row {
+        TagTexts {
             event: same(&self.event),
             site: same(&self.site),
             date: same(&self.date),
